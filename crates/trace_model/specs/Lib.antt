@@ -1,0 +1,15 @@
+pub mod Trace
+pub mod Held
+pub mod Refusals
+pub mod Lawful
+pub mod Holders
+pub mod Lookups
+pub mod Reordering
+pub mod Walk
+pub mod Closure
+pub mod Dependencies
+pub mod Cycles
+pub mod Rows
+pub mod Laws
+pub mod EventLaws
+pub mod WorkedTraces

@@ -1,0 +1,89 @@
+//! Laws of the definitions.
+
+ghost use Rattle.trace_model.specs.Laws.{HeldIsHeld, WriterIsGreatest, ReleaseIsLeast, ClosureIsExistence, ClosureIsSmallest, ClosureIsBefore, ClosureIsStable, LesserIsReached, StandsIsStanding, HeldByOtherIsHeld, HeldAscends, DependenciesAreNumbered, ReachedIsDeadlocked, RowsAreUnique, RowsAreSound, WellFormedGrows, ReorderingIsWalk, ClosureGrows, CaughtIsEarly, ThreadsAreForked, ThreadsAreForkedOnce, NothingFollowsJoin, ReleaseIsOwn, SectionsAreApart};
+ghost use Rattle.trace_model.specs.EventLaws.{OneMoreEvent, OwnerHolds, HeldAreFew, LawfulHigher};
+
+/// The look-ups are what their words say.
+pub fn lookups_are_exact()
+    ensures held { HeldIsHeld }
+    ensures writer { WriterIsGreatest }
+    ensures release { ReleaseIsLeast }
+{}
+
+/// Places are reached by some reordering exactly where the closure holds none of them.
+pub fn closure_is_existence()
+    ensures existence { ClosureIsExistence }
+    ensures smallest { ClosureIsSmallest }
+{}
+
+/// What is reached stays so in a longer trace.
+pub fn closure_is_stable()
+    ensures before { ClosureIsBefore }
+    ensures stable { ClosureIsStable }
+{}
+
+/// Of two reached instances the lesser of the two is reached.
+pub fn lesser_is_reached()
+    ensures { LesserIsReached }
+{}
+
+/// The gate's tests and the held locks are what their words say.
+pub fn held_is_exact()
+    ensures stands { StandsIsStanding }
+    ensures other { HeldByOtherIsHeld }
+    ensures ascends { HeldAscends }
+{}
+
+/// Dependencies are numbered by first appearance.
+pub fn dependencies_are_numbered()
+    ensures { DependenciesAreNumbered }
+{}
+
+/// What reaches an instance of a cycle leaves it deadlocked.
+pub fn reached_is_deadlocked()
+    ensures { ReachedIsDeadlocked }
+{}
+
+/// There is one list of rows, and they are sound.
+pub fn rows_are_unique()
+    ensures unique { RowsAreUnique }
+    ensures sound { RowsAreSound }
+{}
+
+/// A trace stays well formed.
+pub fn well_formed_grows()
+    ensures { WellFormedGrows }
+{}
+
+/// What the gate's tests give of a well-formed trace: its threads were forked, each once, before their
+/// events; nothing of a thread follows its join.
+pub fn threads_are_ordered()
+    ensures forked { ThreadsAreForked }
+    ensures once { ThreadsAreForkedOnce }
+    ensures joined { NothingFollowsJoin }
+{}
+
+/// In a well-formed trace a critical section is ended by its own thread, before the next one of its lock.
+pub fn sections_are_apart()
+    ensures own { ReleaseIsOwn }
+    ensures apart { SectionsAreApart }
+{}
+
+/// A list is a reordering exactly where each place may come next after those before it.
+pub fn reordering_is_walk()
+    ensures { ReorderingIsWalk }
+{}
+
+/// Why moving one pointer at a time finds the least reached instance.
+pub fn pointers_move_forward()
+    ensures grows { ClosureGrows }
+    ensures caught { CaughtIsEarly }
+{}
+
+/// What gates and tables need of one more event.
+pub fn one_more_event()
+    ensures more { OneMoreEvent }
+    ensures owner { OwnerHolds }
+    ensures few { HeldAreFew }
+    ensures higher { LawfulHigher }
+{}

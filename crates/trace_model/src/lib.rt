@@ -1,0 +1,23 @@
+//! The events of a traced program, and what is said of them: held locks, lawful events, reorderings,
+//! closures, dependencies, cycles and rows, with the laws that say that these are what they should be.
+#![tactic(auto)]
+
+mod bound;
+mod event;
+mod instance;
+pub mod laws;
+mod limits;
+mod place;
+mod refusal;
+#[cfg(test)]
+mod tests;
+
+pub use bound::Bound;
+pub use event::{Event, Op};
+pub use instance::Instance;
+pub use limits::{
+    MAX_BOUND, MAX_CYCLES, MAX_EVENTS, MAX_FORKS, MAX_HELD, MAX_QUESTIONS, MAX_REPORT, MAX_THREADS,
+    MIN_BOUND,
+};
+pub use place::{Place, PlaceList};
+pub use refusal::{NoMemory, Refusal, refusal_name};

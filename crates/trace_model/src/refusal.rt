@@ -1,0 +1,106 @@
+use std::alloc::AllocError;
+use thiserror::Error;
+
+/// Why something is refused.
+#[derive(Clone, Copy, Debug, PartialEq, Eq)]
+pub enum Refusal {
+    Full,
+    Unforked,
+    Ended,
+    AlreadyForked,
+    TooManyThreads,
+    JoinsItself,
+    JoinUnknown,
+    JoinedTwice,
+    HeldByItself,
+    HeldByOther,
+    TooDeep,
+    NotHeld,
+    NoMemory,
+    BadBound,
+    TooManyQuestions,
+    NoSuchQuestion,
+    ReportTooLong,
+    NoSuchTask,
+    Double,
+    OtherBound,
+    OtherTrace,
+    BoardBusy,
+    TooManyCycles,
+}
+
+/// A growth was refused. What the allocator answers becomes this by `?`.
+#[derive(Debug, Drop, PartialEq, Eq, Error)]
+#[error("no memory")]
+pub struct NoMemory(#[from(alloc)] AllocError);
+
+impl Refusal {
+    ghost use Rattle.std.specs.Prelude.{◌≡◌};
+    ghost use Rattle.trace_model.specs.Refusals.{number_of};
+
+    /// Its number.
+    pub fn number(self) -> u8
+        ensures { result ≡ number_of self }
+    {
+        match self {
+            Refusal::Full => 1,
+            Refusal::Unforked => 2,
+            Refusal::Ended => 3,
+            Refusal::AlreadyForked => 4,
+            Refusal::TooManyThreads => 5,
+            Refusal::JoinsItself => 6,
+            Refusal::JoinUnknown => 7,
+            Refusal::JoinedTwice => 8,
+            Refusal::HeldByItself => 9,
+            Refusal::HeldByOther => 10,
+            Refusal::TooDeep => 11,
+            Refusal::NotHeld => 12,
+            Refusal::NoMemory => 13,
+            Refusal::BadBound => 20,
+            Refusal::TooManyQuestions => 21,
+            Refusal::NoSuchQuestion => 22,
+            Refusal::ReportTooLong => 23,
+            Refusal::NoSuchTask => 30,
+            Refusal::Double => 31,
+            Refusal::OtherBound => 32,
+            Refusal::OtherTrace => 33,
+            Refusal::BoardBusy => 40,
+            Refusal::TooManyCycles => 41,
+        }
+    }
+}
+
+ghost use Rattle.std.specs.Prelude.{◌≡◌, option_map};
+ghost use Rattle.trace_model.specs.Refusals.{refusal_name};
+
+/// The name of the refusal with this number, none for a number that no refusal has.
+pub fn refusal_name(number: u8) -> Option<&'static str>
+    ensures { option_map (λ s. s.now) result ≡ refusal_name number }
+{
+    match number {
+        1 => Some("Full"),
+        2 => Some("Unforked"),
+        3 => Some("Ended"),
+        4 => Some("AlreadyForked"),
+        5 => Some("TooManyThreads"),
+        6 => Some("JoinsItself"),
+        7 => Some("JoinUnknown"),
+        8 => Some("JoinedTwice"),
+        9 => Some("HeldByItself"),
+        10 => Some("HeldByOther"),
+        11 => Some("TooDeep"),
+        12 => Some("NotHeld"),
+        13 => Some("NoMemory"),
+        20 => Some("BadBound"),
+        21 => Some("TooManyQuestions"),
+        22 => Some("NoSuchQuestion"),
+        23 => Some("ReportTooLong"),
+        30 => Some("NoSuchTask"),
+        31 => Some("Double"),
+        32 => Some("OtherBound"),
+        33 => Some("OtherTrace"),
+        40 => Some("BoardBusy"),
+        41 => Some("TooManyCycles"),
+        _ => None,
+    }
+}
