@@ -1,0 +1,138 @@
+-- What the passes over the trace keep, and what the tests take from it.
+use Rattle.std.proofs.Common.{◌≡◌, ℕ, zero, suc, ◌+◌, ◌-◌, ◌<◌, ◌≤◌, Bool, true, false, not, cond, ◌==◌, List, ◌∷◌, [], ◌++◌, length, slice_get, set, Option, Some, None, refl, sym, ap, subst, ◌∙◌, inl, inr, add-one, arith}
+use Rattle.std.specs.Option.{option_and_then, option_map_or}
+use Rattle.std.specs.List.{Contains}
+use Rattle.std.proofs.lemmas.Bool.{cases_lt, eqb-true, eq-eqb, false≢true}
+use Rattle.std.proofs.lemmas.Option.{slice_get_within}
+use Rattle.trace_model.specs.declared.event.Event.{Event}
+use Rattle.trace_model.specs.declared.event.Op.{Op}
+use Rattle.trace_model.specs.declared.event.Op.TheVariants.{Acquire, Read, Release, Write}
+use Rattle.trace_model.specs.Trace.{Trace, event, OfThread, does, last_place, first_place}
+use Rattle.trace_model.specs.Lookups.{writer_of, writer, release_of, release}
+use Rattle.trace_model.specs.Walk.{Walks}
+use Rattle.trace_model.proofs.Lists.{at_index, get-push_kept, get-push_last, get-set_same, get-set_other, length-push}
+use Rattle.trace_model.proofs.Places.{last_place_some, last_place_none}
+use Rattle.replay.specs.Facts.{is_of, previous, each, of_read, of_acquire}
+use Rattle.replay.specs.Walking.{noted}
+use Rattle.replay.specs.Tests.{MissesPlace, MissesEarlier}
+use Rattle.replay.proofs.Lists.{one_thread}
+use Rattle.replay.proofs.LastPlaces.{IsPrevious, missed_by_previous}
+
+pub length-each : {X : Type 0} (f : ℕ → X) (n : ℕ) → length (each f n) ≡ n
+length-each f zero = refl
+length-each f (suc n) = length-push (each f n) (f n) ∙ ap suc (length-each f n)
+
+pub get-each : {X : Type 0} (f : ℕ → X) (n q : ℕ) → q < n → slice_get (each f n) q ≡ Some (f q)
+get-each f zero q l = absurd (omega arith)
+get-each f (suc n) q l =
+    let kept : q < n → slice_get (each f n) q ≡ Some (f q) = get-each f n q in
+    elim (cases_lt q n) [
+      | inl a ↦ get-push_kept (each f n) (f n) q (f q) (kept a)
+      | inr a ↦
+          let same : n ≡ q = omega arith in
+          subst (λ k. slice_get (each f n ++ f n ∷ []) k ≡ Some (f k)) same
+          (subst (λ k. slice_get (each f n ++ f n ∷ []) k ≡ Some (f n)) (length-each f n) (get-push_last (each f n) (f n)))
+    ]
+
+-- ---- one more place of the trace
+
+pub each_more : {X : Type 0} (f : ℕ → X) (n : ℕ) (xs : List X) (x : X) → xs ≡ each f n → x ≡ f n → xs ++ x ∷ [] ≡ each f (n + 1)
+each_more f n xs x e h = rw (add-one, e, h) refl
+
+pub thread_more : (s : Trace) (n t : ℕ) (e : Event) (old new : Option ℕ) → slice_get s n ≡ Some e → old ≡ last_place (is_of s t) n →
+    new ≡ cond (e.thread == t) (Some n) old → new ≡ last_place (is_of s t) (n + 1)
+thread_more s n t e old new at o h = h ∙ rw (add-one, at, o) refl
+
+pub does_more : (s : Trace) (kind : ℕ → Op) (n key : ℕ) (e : Event) (old new : Option ℕ) → slice_get s n ≡ Some e →
+    old ≡ last_place (does s (kind key)) n → new ≡ noted kind e.op n key old → new ≡ last_place (does s (kind key)) (n + 1)
+does_more s kind n key e old new at o h = h ∙ rw (add-one, at, o) refl
+
+pub previous_is : (s : Trace) (n : ℕ) (e : Event) → slice_get s n ≡ Some e → previous s n ≡ last_place (is_of s e.thread) n
+previous_is s n e at = ap (option_and_then (λ x. last_place (is_of s x.thread) n)) at
+
+pub writer_seen : (s : Trace) (n : ℕ) (e : Event) (table : ℕ → Option ℕ) → slice_get s n ≡ Some e →
+    ((v : ℕ) → table v ≡ last_place (does s (Write v)) n) → of_read table e.op ≡ writer s n
+writer_seen s n e table at h = go e.op ∙ sym (ap (option_and_then (λ x. writer_of s n x.op)) at)
+  where
+    go : (o : Op) → of_read table o ≡ writer_of s n o
+    go (Read v) = h v
+    go _ = refl
+
+-- ---- one more place from the end
+
+pub release_seen : (s : Trace) (n : ℕ) (e : Event) (table : ℕ → Option ℕ) → slice_get s n ≡ Some e →
+    ((l : ℕ) → table l ≡ first_place (does s (Release l)) (suc n) (length s - suc n)) → of_acquire table e.op ≡ release s n
+release_seen s n e table at h = go e.op ∙ sym (ap (option_and_then (λ x. release_of s n x.op)) at)
+  where
+    go : (o : Op) → of_acquire table o ≡ release_of s n o
+    go (Acquire l) = h l
+    go _ = refl
+
+pub release_more : (s : Trace) (n key : ℕ) (e : Event) (old new : Option ℕ) → slice_get s n ≡ Some e →
+    old ≡ first_place (does s (Release key)) (suc n) (length s - suc n) → new ≡ noted Release e.op n key old →
+    new ≡ first_place (does s (Release key)) n (length s - n)
+release_more s n key e old new at o h =
+    let within : n < length s = slice_get_within s n e at in
+    let up : length s - n ≡ suc (length s - suc n) = omega arith in
+    h ∙ rw (up, at, o) refl
+
+pub releases_more : (s : Trace) (n q : ℕ) (rs : List (Option ℕ)) (r : Option ℕ) → length rs ≡ length s → n < length s → r ≡ release s n →
+    ((q : ℕ) → suc n ≤ q → q < length s → slice_get rs q ≡ Some (release s q)) → n ≤ q → q < length s →
+    slice_get (set rs n r) q ≡ Some (release s q)
+releases_more s n q rs r sized within is h le below =
+    let (x, at) = at_index rs n (omega arith) in
+    elim (cases_lt n q) [
+      | inl a ↦ get-set_other rs n q r (λ e. omega (arith, e)) ∙ h q a below
+      | inr a ↦
+          let same : n ≡ q = omega arith in
+          subst (λ k. slice_get (set rs n r) k ≡ Some (release s k)) same (get-set_same rs n x r at ∙ ap Some is)
+    ]
+
+-- ---- what the tests take
+
+of_thread : (s : Trace) (t p : ℕ) (o : Option Event) → slice_get s p ≡ o → option_map_or (λ e. e.thread == t) o false ≡ true → OfThread s p t
+of_thread s t p None at h = absurd (false≢true h)
+of_thread s t p (Some e) at h = (e.op, at ∙ ap (λ u. Some (event u e.op)) (eqb-true e.thread t h))
+
+is_of_from : (s : Trace) (t p : ℕ) → OfThread s p t → is_of s t p ≡ true
+is_of_from s t p (o, h) = rw h (eq-eqb t t refl)
+
+is_previous : (s : Trace) (t n p : ℕ) → last_place (is_of s t) n ≡ Some p → IsPrevious s t n p
+is_previous s t n p e =
+    let k = last_place_some (is_of s t) n p e in
+    (of_thread s t p (slice_get s p) refl k.1, k.0, λ u a b o. k.2 u a b (is_of_from s t u o))
+
+-- a place of the thread below n is missed exactly where the last one is
+pub missed_by_last : (s : Trace) (front : List ℕ) → Walks s front → (t n p : ℕ) (b : Bool) → last_place (is_of s t) n ≡ Some p →
+    (b ≡ true → Contains front p) × (Contains front p → b ≡ true) →
+    (not b ≡ true → MissesPlace s front t n) × (MissesPlace s front t n → not b ≡ true)
+missed_by_last s front w t n p b e h = missed_by_previous s front w t n p b (is_previous s t n p e) h
+
+pub none_missed : (s : Trace) (front : List ℕ) (t n : ℕ) → last_place (is_of s t) n ≡ None → MissesPlace s front t n → ⊥
+none_missed s front t n e (u, l, o, m) = last_place_none (is_of s t) n e u l (is_of_from s t u o)
+
+earlier_place : (s : Trace) (front : List ℕ) (q : ℕ) (e : Event) → slice_get s q ≡ Some e →
+    (MissesPlace s front e.thread q → MissesEarlier s front q) × (MissesEarlier s front q → MissesPlace s front e.thread q)
+earlier_place s front q e at = (
+  λ (u, l, o, n). (u, (e.thread, o, (e.op, at), l), n),
+  λ (u, (t, a, b, l), n). (u, l, subst (OfThread s u) (sym (one_thread s q e t at b)) a, n),
+)
+
+pub missed_earlier : (s : Trace) (front : List ℕ) → Walks s front → (q p : ℕ) (b : Bool) → q < length s → previous s q ≡ Some p →
+    (b ≡ true → Contains front p) × (Contains front p → b ≡ true) →
+    (not b ≡ true → MissesEarlier s front q) × (MissesEarlier s front q → not b ≡ true)
+missed_earlier s front w q p b within is h =
+    let (e, at) = at_index s q within in
+    let m = missed_by_last s front w e.thread q p b (sym (previous_is s q e at) ∙ is) h in
+    let x = earlier_place s front q e at in
+    (λ t. x.0 (m.0 t), λ t. m.1 (x.1 t))
+
+pub none_missed_earlier : (s : Trace) (front : List ℕ) (q : ℕ) → q < length s → previous s q ≡ None → MissesEarlier s front q → ⊥
+none_missed_earlier s front q within is m =
+    let (e, at) = at_index s q within in
+    none_missed s front e.thread q (sym (previous_is s q e at) ∙ is) ((earlier_place s front q e at).1 m)
+
+pub previous_within : (s : Trace) (q p : ℕ) → q < length s → previous s q ≡ Some p → p < length s
+previous_within s q p within is =
+    let (e, at) = at_index s q within in
+    omega (arith, (last_place_some (is_of s e.thread) q p (sym (previous_is s q e at) ∙ is)).0)

@@ -1,0 +1,4 @@
+pub mod Lists
+pub mod Verdicts
+pub mod LastPlaces
+pub mod FactLists

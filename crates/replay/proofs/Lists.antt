@@ -1,0 +1,47 @@
+-- Lists of places, and the event at a place.
+use Rattle.std.proofs.Common.{◌≡◌, ℕ, ◌⊎◌, inl, inr, Bool, true, false, not, List, slice_get, Option, Some, refl, ap, sym, subst, ◌∙◌}
+use Rattle.std.proofs.lemmas.Bool.{false≢true}
+use Rattle.std.proofs.lemmas.Option.{same_Some}
+use Rattle.std.specs.List.{Contains}
+use Rattle.trace_model.specs.declared.event.Event.{Event}
+use Rattle.trace_model.specs.declared.event.Op.{Op}
+use Rattle.trace_model.specs.Trace.{Trace, event, Does, OfThread}
+use Rattle.trace_model.proofs.Ascending.{listed, listed_contains, contains_listed}
+
+-- it is in the list or not
+pub in_cases : (front : List ℕ) (q : ℕ) → Contains front q ⊎ (Contains front q → ⊥)
+in_cases front q = go (listed front q) refl
+  where
+    go : (b : Bool) → listed front q ≡ b → Contains front q ⊎ (Contains front q → ⊥)
+    go true e = inl (listed_contains front q e)
+    go false e = inr (λ c. false≢true (sym e ∙ contains_listed front q c))
+
+-- where it is not so that it is not in the list, it is
+pub in_unless : (front : List ℕ) (q : ℕ) → ((Contains front q → ⊥) → ⊥) → Contains front q
+in_unless front q h = elim (in_cases front q) [ inl a ↦ a | inr b ↦ absurd (h b) ]
+
+-- a test on the operation at a place decides what is said of it
+pub op_decided : (P : ℕ → Type 0) (o : ℕ → Op) → ((x y : ℕ) → o x ≡ o y → x ≡ y) → (s : Trace) (q : ℕ) (e : Event) (b : Bool) (x : ℕ) →
+    slice_get s q ≡ Some e → e.op ≡ o x → (b ≡ true → P x) × (P x → b ≡ true) →
+    (b ≡ true → (y : ℕ) × Does s q (o y) × P y) × ((y : ℕ) × Does s q (o y) × P y → b ≡ true)
+op_decided P o same s q e b x at is h = (
+  λ t. (x, (e.thread, at ∙ ap (λ y. Some (event e.thread y)) is), h.0 t),
+  λ (y, (t, k), m). h.1 (subst P (sym (same x y (sym is ∙ ap (λ z. z.op) (same_Some e (event t (o y)) (sym at ∙ k))))) m),
+)
+
+pub op_undone : (P : ℕ → Type 0) (o : ℕ → Op) (s : Trace) (q : ℕ) (e : Event) → slice_get s q ≡ Some e → ((x : ℕ) → e.op ≡ o x → ⊥) →
+    (false ≡ true → (y : ℕ) × Does s q (o y) × P y) × ((y : ℕ) × Does s q (o y) × P y → false ≡ true)
+op_undone P o s q e at n =
+    (λ h. absurd (false≢true h), λ (y, (t, k), m). absurd (n y (ap (λ z. z.op) (same_Some e (event t (o y)) (sym at ∙ k)))))
+
+-- there is one thread at a place
+pub one_thread : (s : Trace) (q : ℕ) (e : Event) (t : ℕ) → slice_get s q ≡ Some e → OfThread s q t → e.thread ≡ t
+one_thread s q e t at (o, h) = ap (λ z. z.thread) (same_Some e (event t o) (sym at ∙ h))
+
+pub not_decided : (b : Bool) (P : Type 0) → (b ≡ true → P) × (P → b ≡ true) → (not b ≡ true → P → ⊥) × ((P → ⊥) → not b ≡ true)
+not_decided true P h = (λ e. absurd (false≢true e), λ n. absurd (n (h.0 refl)))
+not_decided false P h = (λ _ p. false≢true (h.1 p), λ _. refl)
+
+-- what a table has for a place
+pub entry_is : (table items : List (Option ℕ)) (q : ℕ) (found want : Option ℕ) → table ≡ items → slice_get table q ≡ Some found → slice_get items q ≡ Some want → want ≡ found
+entry_is table items q found want e f g = same_Some want found (sym g ∙ subst (λ xs. slice_get xs q ≡ Some found) e f)

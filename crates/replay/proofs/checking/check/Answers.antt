@@ -1,0 +1,21 @@
+use Rattle.std.proofs.Common.{◌≡◌, List, ℕ, subst}
+use Rattle.std.specs.Prelude.{IfOk, Ok, Err, Result, ◌↔◌}
+use Rattle.trace_model.specs.Lawful.{IsWellFormed}
+use Rattle.trace_model.specs.Trace.{Trace}
+use Rattle.replay.specs.declared.verdict.Verdict.{Verdict}
+use Rattle.replay.specs.declared.verdict.Verdict.TheVariants.{Reaches}
+use Rattle.replay.specs.Laws.{IsWitnessFor}
+use Rattle.replay.specs.Verdict.{IsVerdict}
+use Rattle.replay.proofs.Verdicts.{reaches_law, verdict_unique}
+use Rattle.replay.proofs.checking.check.Goals as goal
+
+exact_of : {E : Type 0} (s : Trace) → IsWellFormed s → (order places : List ℕ) (r : Result Verdict E) → IfOk r (λ v. IsVerdict s order places v) →
+    IfOk r (λ v. (v ≡ Reaches) ↔ IsWitnessFor s order places)
+exact_of s wf order places (Err e) h = h
+exact_of s wf order places (Ok v) h =
+    let law = reaches_law s wf order places in
+    (λ e. law.0 (subst (λ x. IsVerdict s order places x) e h), λ w. verdict_unique s order places v Reaches h (law.1 w))
+
+pub returns-clause-exact : goal.returns-clause-exact
+returns-clause-exact c =
+    exact_of c.args.trace.now c.requires c.args.order.now c.args.instance.now c.verdict_of.result c.verdict_of.ensures

@@ -1,0 +1,52 @@
+use Rattle.std.proofs.Common.{◌≡◌, ℕ, ◌<◌, inl, length, take, get_or, slice_get, Some, ap, sym, subst, ◌∙◌, arith}
+use Rattle.std.proofs.lemmas.Option.{slice_get-get_or}
+use Rattle.trace_model.specs.declared.event.Event.{Event}
+use Rattle.trace_model.specs.declared.event.Op.TheVariants.{Fork}
+use Rattle.trace_model.specs.Trace.{Does}
+use Rattle.trace_model.proofs.OneMore.{length_well_formed}
+use Rattle.replay.specs.Verdict.{order_tests}
+use Rattle.replay.proofs.Verdicts.{follows_so, passes_more}
+use Rattle.replay.proofs.LastPlaces.{walked_empty, walked_next}
+use Rattle.replay.proofs.checking.verdict_of.Goals as goal
+
+abbrev nothing : Event
+nothing = record { thread = 0; op = Fork 0 }
+
+pub facts_of-requires : goal.facts_of-requires
+facts_of-requires c = length_well_formed c.args.trace.now c.requires
+
+pub loop-k-init : goal.loop-k-init
+loop-k-init c =
+    let e = c.in_ok-walked.ensures in
+    record {
+      passes = λ k q l e. absurd (omega arith);
+      walked = walked_empty c.args.trace.now c.in_ok-walked.walked e.inside e.forks e.writes e.acquires;
+    }
+
+pub returns-in-Some : goal.returns-in-Some
+returns-in-Some c =
+    let order = c.args.order.now in
+    let k = c.loop-k.k in
+    let p = c.index-order-k.result in
+    inl (k, slice_get-get_or order k p c.loop-k-test.true ∙ ap Some (sym c.index-order-k.is), c.loop-k.invariant.passes, c.in-Some.ensures)
+
+pub loop-k-preserved : goal.loop-k-preserved
+loop-k-preserved c =
+    let s = c.args.trace.now in
+    let order = c.args.order.now in
+    let k = c.loop-k.k in
+    let p = c.index-order-k.result in
+    let at : slice_get order k ≡ Some p = slice_get-get_or order k p c.loop-k-test.true ∙ ap Some (sym c.index-order-k.is) in
+    let fine = c.in_default.ensures in
+    let within : p < length s = (follows_so s c.requires (take k order) p fine).in_trace in
+    let o = (get_or s c.get.result nothing).op in
+    let does : Does s p o = subst (λ (q : ℕ). Does s p (get_or s q nothing).op) (sym c.get.ensures)
+    ((get_or s p nothing).thread, slice_get-get_or s p nothing within) in
+    let e = c.in_ok-push.ensures in
+    record {
+      passes = passes_more order_tests s (λ k. take k order) order k p c.loop-k.invariant.passes at fine;
+      walked = walked_next s c.requires order k p o c.loop-k.walked c.push.new.self at c.loop-k.invariant.walked fine does e.inside e.forks e.writes e.acquires;
+    }
+
+pub check_instance-requires-clause-passes : goal.check_instance-requires-clause-passes
+check_instance-requires-clause-passes c k q l e = c.loop-k.invariant.passes k q (omega arith) e

@@ -1,0 +1,11 @@
+use Rattle.std.proofs.Common.{take}
+use Rattle.replay.specs.Verdict.{order_tests, Passes}
+use Rattle.replay.specs.Walking.{IsWalked}
+use Rattle.replay.proofs.checking.verdict_of.Given as goal
+
+-- the places so far pass, and the walk went along them
+abbrev pub invariant-loop-k : goal.invariant-loop-k
+invariant-loop-k l = record {
+  passes : Passes order_tests l.trace (λ k. take k l.order) l.order l.k;
+  walked : IsWalked l.trace (take l.k l.order) l.walked;
+}

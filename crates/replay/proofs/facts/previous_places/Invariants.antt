@@ -1,0 +1,12 @@
+use Rattle.std.proofs.Common.{◌≡◌, ℕ, nat_eq}
+use Rattle.std.specs.HashMap.{get}
+use Rattle.trace_model.specs.Trace.{last_place}
+use Rattle.replay.specs.Facts.{previous, is_of, each}
+use Rattle.replay.proofs.facts.previous_places.Given as goal
+
+-- of each place so far the one before it, and the last one of each thread
+abbrev pub invariant-loop-index : goal.invariant-loop-index
+invariant-loop-index l = record {
+  previous : l.previous.items ≡ each (previous l.trace) l.index;
+  lasts : (t : ℕ) → get nat_eq l.lasts t ≡ last_place (is_of l.trace t) l.index;
+}

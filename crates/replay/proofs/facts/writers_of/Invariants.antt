@@ -1,0 +1,14 @@
+use Rattle.std.proofs.Common.{◌≡◌, ℕ, nat_eq}
+use Rattle.std.specs.HashMap.{get}
+use Rattle.trace_model.specs.declared.event.Op.TheVariants.{Write}
+use Rattle.trace_model.specs.Trace.{does, last_place}
+use Rattle.trace_model.specs.Lookups.{writer}
+use Rattle.replay.specs.Facts.{each}
+use Rattle.replay.proofs.facts.writers_of.Given as goal
+
+-- the writers so far, and the last write of each variable
+abbrev pub invariant-loop-index : goal.invariant-loop-index
+invariant-loop-index l = record {
+  writers : l.writers.items ≡ each (writer l.trace) l.index;
+  writes : (v : ℕ) → get nat_eq l.writes v ≡ last_place (does l.trace (Write v)) l.index;
+}

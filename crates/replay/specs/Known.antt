@@ -1,0 +1,8 @@
+-- What is known at a place of the list.
+use Rattle.replay.specs.declared.place_tests.Known.{Known}
+use Rattle.replay.specs.Facts.{AreFacts}
+use Rattle.replay.specs.Walking.{IsWalked}
+
+-- the facts are those of the trace, and the walk went along the places before
+abbrev pub IsKnown : Known → Type 0
+IsKnown k = AreFacts k.trace.now k.facts.now × IsWalked k.trace.now k.front.now k.walked.now

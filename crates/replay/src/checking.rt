@@ -1,0 +1,99 @@
+ghost use Rattle.std.specs.Prelude.{◌≡◌, ◌↔◌, IfOk};
+ghost use Rattle.trace_model.specs.Lawful.{IsWellFormed};
+ghost use Rattle.replay.specs.declared.verdict.Verdict.{Verdict};
+ghost use Rattle.replay.specs.Facts.{AreFacts};
+ghost use Rattle.replay.specs.Laws.{IsWitnessFor};
+ghost use Rattle.replay.specs.Walking.{IsWalked};
+ghost use Rattle.replay.specs.Verdict.{IsVerdict, OrderPasses};
+
+use crate::facts::{Facts, facts_of};
+use crate::place_tests::Known;
+use crate::verdict::Verdict;
+use crate::walked::Walked;
+use std::alloc::Global;
+use std::collections::hash_map::RandomState;
+use trace_model::{Event, Instance, NoMemory, Place};
+
+/// Walks the list over the trace, and then the places of the instance: the first test that fails, with its
+/// place, or `Reaches`.
+///
+/// `order` is the list of places to check, in its order and with whatever numbers; `instance` has the
+/// places that it is to reach. The trace must be well formed. `Reaches` is answered exactly where the list is
+/// a sync-preserving reordering of the trace that reaches the instance, whose places are in the trace. Some
+/// passes over the trace and one over the list; its time grows with both lengths alone.
+///
+/// # Errors
+///
+/// `NoMemory` where a growth was refused.
+pub fn check(
+    alloc: Global,
+    state: RandomState,
+    trace: &[Event],
+    order: &[Place],
+    instance: &Instance,
+) -> Result<Verdict, NoMemory>
+    requires { IsWellFormed trace.now }
+    ensures verdict { IfOk result (λ v. IsVerdict trace.now order.now instance.now v) }
+    ensures exact { IfOk result (λ v. (v ≡ Verdict.Reaches) ↔ IsWitnessFor trace.now order.now instance.now) }
+{
+    verdict_of(alloc, state, trace, order, instance)
+}
+
+/// The verdict, by one walk along the list.
+fn verdict_of(
+    alloc: Global,
+    state: RandomState,
+    trace: &[Event],
+    order: &[Place],
+    instance: &Instance,
+) -> Result<Verdict, NoMemory>
+    requires { IsWellFormed trace.now }
+    ensures { IfOk result (λ v. IsVerdict trace.now order.now instance.now v) }
+{
+    let facts = facts_of(alloc, state, trace)?;
+    let mut walked = Walked::new(alloc, state, trace.len())?;
+    for k in 0..order.len() {
+        let place = order[k];
+        let known = Known {
+            trace,
+            front: &order[..k],
+            facts: &facts,
+            walked: &walked,
+        };
+        if let Some(fault) = known.order_fault(place) {
+            return Ok(Verdict::Fails(fault, place));
+        }
+        walked.push(place, trace[place.get() as usize].op)?;
+    }
+    Ok(check_instance(trace, order, &facts, &walked, instance))
+}
+
+/// The first test that fails at a place of the instance, once the list was walked to its end.
+fn check_instance(
+    trace: &[Event],
+    order: &[Place],
+    facts: &Facts,
+    walked: &Walked,
+    instance: &Instance,
+) -> Verdict
+    requires facts { AreFacts trace.now facts.now }
+    requires walked { IsWalked trace.now order.now walked.now }
+    requires passes { OrderPasses trace.now order.now }
+    ensures { IsVerdict trace.now order.now instance.now result }
+{
+    let known = Known {
+        trace,
+        front: order,
+        facts,
+        walked,
+    };
+    for member in 0..instance.len() {
+        let Some(place) = instance.get(member) else {
+            unreachable!()
+        };
+        if let Some(fault) = known.instance_fault(place) {
+            return Verdict::Fails(fault, place);
+        }
+    }
+    Verdict::Reaches
+}
