@@ -19,5 +19,11 @@ pub mod Owners
 pub mod Depths
 pub mod Deadlock
 pub mod Unique
+pub mod Bytes
+pub mod Written
+pub mod Fronts
+pub mod FrontSizes
+pub mod Readings
+pub mod Texts
 pub mod Computed
 mod WorkedTraces

@@ -10,6 +10,9 @@ pub mod Closure
 pub mod Dependencies
 pub mod Cycles
 pub mod Rows
+pub mod Frames
+pub mod Replies
+pub mod Machine
 pub mod Laws
 pub mod EventLaws
 pub mod WorkedTraces

@@ -2,6 +2,7 @@
 
 ghost use Rattle.trace_model.specs.Laws.{HeldIsHeld, WriterIsGreatest, ReleaseIsLeast, ClosureIsExistence, ClosureIsSmallest, ClosureIsBefore, ClosureIsStable, LesserIsReached, StandsIsStanding, HeldByOtherIsHeld, HeldAscends, DependenciesAreNumbered, ReachedIsDeadlocked, RowsAreUnique, RowsAreSound, WellFormedGrows, ReorderingIsWalk, ClosureGrows, CaughtIsEarly, ThreadsAreForked, ThreadsAreForkedOnce, NothingFollowsJoin, ReleaseIsOwn, SectionsAreApart};
 ghost use Rattle.trace_model.specs.EventLaws.{OneMoreEvent, OwnerHolds, HeldAreFew, LawfulHigher};
+ghost use Rattle.trace_model.specs.Frames.{OneReading};
 
 /// The look-ups are what their words say.
 pub fn lookups_are_exact()
@@ -86,4 +87,9 @@ pub fn one_more_event()
     ensures owner { OwnerHolds }
     ensures few { HeldAreFew }
     ensures higher { LawfulHigher }
+{}
+
+/// Each text of bytes has one reading as requests and a fault.
+pub fn one_reading()
+    ensures { OneReading }
 {}

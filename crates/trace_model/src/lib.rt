@@ -1,5 +1,6 @@
 //! The events of a traced program, and what is said of them: held locks, lawful events, reorderings,
-//! closures, dependencies, cycles and rows, with the laws that say that these are what they should be.
+//! closures, dependencies, cycles and rows, with the laws that say that these are what they should be;
+//! what a session asks and is answered, with the bytes of both, and the machine that answers.
 #![tactic(auto)]
 
 mod bound;
@@ -9,6 +10,7 @@ pub mod laws;
 mod limits;
 mod place;
 mod refusal;
+mod session;
 #[cfg(test)]
 mod tests;
 
@@ -21,3 +23,4 @@ pub use limits::{
 };
 pub use place::{Place, PlaceList};
 pub use refusal::{NoMemory, Refusal, refusal_name};
+pub use session::{Fault, Reply, Request};

@@ -1,0 +1,4 @@
+pub mod Listing
+pub mod Paths
+pub mod Turns
+pub mod Ranked

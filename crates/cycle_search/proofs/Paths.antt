@@ -1,0 +1,286 @@
+-- How the beginning of a cycle grows, and when it is one.
+use Rattle.std.proofs.Common.{◌≡◌, ◌≢◌, ℕ, zero, suc, ◌+◌, ◌-◌, ◌<◌, ◌≤◌, ◌⊎◌, ◌↔◌, Bool, IsTrue, inl, inr, List, [], ◌∷◌, ◌++◌, length, slice_get, get_or, drop, leb, true, false, Some, refl, sym, ap, ◌∙◌, subst, arith}
+use Rattle.std.proofs.lemmas.Option.{same_Some, slice_get_within, slice_get-get_or, get_or_from_slice_get}
+use Rattle.std.proofs.lemmas.List.{length-append, length-drop, get_or-drop}
+use Rattle.std.proofs.lemmas.Bool.{cases_lt, cases_eq, leb-true, leb-false}
+use Rattle.std.proofs.lemmas.List.Kept.{AllPairs-from_increasing}
+use Rattle.std.proofs.lemmas.List.Sorted.{IsNonDecreasingBy-from_default}
+use Rattle.std.proofs.lemmas.Bool.Decides.{nat_tests}
+use Rattle.std.specs.List.{Contains, All}
+use Rattle.std.specs.List.Sorted.{IsStrictlyIncreasing, IsPartitionPoint, IsNonDecreasingBy}
+use Rattle.trace_model.specs.Dependencies.{Dependency}
+use Rattle.trace_model.specs.Cycles.{Member, next, IsCycle}
+use Rattle.trace_model.proofs.Unique.{has_contained, contains_had}
+use Rattle.trace_model.proofs.Lists.{length-push, get-push, get-push_kept}
+use Rattle.trace_model.specs.Held.{has}
+use Rattle.held_sets.proofs.Locks.{has_contains, contains_has}
+use Rattle.guards.specs.Compatible.{NumbersApart, IsCompatible}
+use Rattle.lock_graph.specs.Graph.{IsGraphOf}
+use Rattle.cycle_search.specs.Search.{IsPath, Follows, Closes, LinksTo, AboveFirst, AreNexts}
+use Rattle.cycle_search.proofs.Listing.{get-left}
+
+-- the number's dependency
+pub found : (ds : List Dependency) (m : ℕ) → m < length ds → (d : Dependency) × (slice_get ds m ≡ Some d)
+found [] m l = absurd (omega arith)
+found (d ∷ ds) zero l = (d, refl)
+found (d ∷ ds) (suc m) l = found ds m (omega arith)
+
+pub all-had : (P : ℕ → Type 0) (xs : List ℕ) → All P xs → (k m : ℕ) → slice_get xs k ≡ Some m → P m
+all-had P xs h k m e = subst P (get_or_from_slice_get xs k m 0 e) (h k 0 (slice_get_within xs k m e))
+
+pub all-from : (P : ℕ → Type 0) (xs : List ℕ) → ((k m : ℕ) → slice_get xs k ≡ Some m → P m) → All P xs
+all-from P xs h k d l = h k (get_or xs k d) (slice_get-get_or xs k d l)
+
+module _ (ds : List Dependency) (path : List ℕ) (m : ℕ) where
+  -- a member of the longer path is one of the path, or the new one
+  member-push : (i : ℕ) (a : Dependency) → Member ds (path ++ m ∷ []) i a →
+      (Member ds path i a × (i < length path)) ⊎ ((i ≡ length path) × (slice_get ds m ≡ Some a))
+  member-push i a (n, x, y) = elim (get-push path m i n x) [
+    | inl u ↦ inl ((n, u, y), slice_get_within path i n u)
+    | inr u ↦ inr (u.0, subst (λ k. slice_get ds k ≡ Some a) (sym u.1) y)
+  ]
+
+  pub path-push : IsPath ds path → Follows ds path m → IsPath ds (path ++ m ∷ [])
+  path-push p f = record {
+    begun = omega (arith, length-push path m);
+    known = all-from (λ n. n < length ds) (path ++ m ∷ []) (λ k n h. elim (get-push path m k n h) [
+      | inl u ↦ all-had (λ n. n < length ds) path p.known k n u
+      | inr u ↦ subst (λ x. x < length ds) u.1 f.known
+    ]);
+    least_first = λ first n h c.
+        let head = slice_get-get_or path 0 0 p.begun in
+        let same : get_or path 0 0 ≡ first = same_Some _ first (sym (get-push_kept path m 0 _ head) ∙ h) in
+        let at : slice_get path 0 ≡ Some first = head ∙ ap Some same in
+        let k = has_contained (path ++ m ∷ []) n c in
+        elim (get-push path m k.0 n k.1) [
+          | inl u ↦ p.least_first first n at (contains_had path n (k.0, u))
+          | inr u ↦ omega (arith, f.above first at, u.1)
+        ];
+    threads_distinct = λ i j a b l x y. elim (member-push j b y) [
+      | inl v ↦ elim (member-push i a x) [
+        | inl u ↦ p.threads_distinct i j a b l u.0 v.0
+        | inr u ↦ absurd (omega (arith, l, u.0, v.1))
+      ]
+      | inr v ↦ elim (member-push i a x) [
+        | inl u ↦ (all-had (λ n. NumbersApart ds n m) path f.compatible i u.0.0 u.0.1 a b u.0.2 v.1).0
+        | inr u ↦ absurd (omega (arith, l, u.0, v.0))
+      ]
+    ];
+    held_disjoint = λ i j a b l x y. elim (member-push j b y) [
+      | inl v ↦ elim (member-push i a x) [
+        | inl u ↦ p.held_disjoint i j a b l u.0 v.0
+        | inr u ↦ absurd (omega (arith, l, u.0, v.1))
+      ]
+      | inr v ↦ elim (member-push i a x) [
+        | inl u ↦ (all-had (λ n. NumbersApart ds n m) path f.compatible i u.0.0 u.0.1 a b u.0.2 v.1).1
+        | inr u ↦ absurd (omega (arith, l, u.0, v.0))
+      ]
+    ];
+    linked = λ i a b x y. elim (member-push (suc i) b y) [
+      | inl v ↦ elim (member-push i a x) [
+        | inl u ↦ p.linked i a b u.0 v.0
+        | inr u ↦ absurd (omega (arith, u.0, v.1))
+      ]
+      | inr v ↦ elim (member-push i a x) [
+        | inl u ↦ f.linked i a b v.0 u.0 v.1
+        | inr u ↦ absurd (omega (arith, u.0, v.0))
+      ]
+    ];
+  }
+
+pub at-end : (path : List ℕ) (m : ℕ) (rest : List ℕ) → slice_get (path ++ m ∷ rest) (length path) ≡ Some m
+at-end [] m rest = refl
+at-end (x ∷ path) m rest = at-end path m rest
+
+-- the next place of a cycle
+pub next-inside : (numbers : List ℕ) (i : ℕ) → suc i < length numbers → next numbers i ≡ suc i
+next-inside numbers i l = grind (arith, nat_tests)
+
+pub next-last : (numbers : List ℕ) (i : ℕ) → suc i ≡ length numbers → next numbers i ≡ 0
+next-last numbers i l = grind (arith, nat_tests)
+
+-- every place below the length has a member
+pub member-at : (ds : List Dependency) (path : List ℕ) → All (λ m. m < length ds) path → (i : ℕ) → i < length path → (d : Dependency) × Member ds path i d
+member-at ds path known i l =
+    let d = found ds (get_or path i 0) (known i 0 l) in
+    (d.0, (get_or path i 0, slice_get-get_or path i 0 l, d.1))
+
+module _ (ds : List Dependency) (path : List ℕ) (p : IsPath ds path) (closes : Closes ds path) where
+  -- the lock of each member is in the held set of the next
+  pub link : (i : ℕ) (a b : Dependency) → Member ds path i a → Member ds path (next path i) b → Contains b.held a.lock
+  link i a b x y = elim (cases_lt (suc i) (length path)) [
+    | inl l ↦ p.linked i a b x (subst (λ k. Member ds path k b) (next-inside path i l) y)
+    | inr l ↦
+        let e : suc i ≡ length path = omega (arith, l, slice_get_within path i x.0 x.1) in
+        closes i b a e (subst (λ k. Member ds path k b) (next-last path i e) y) x
+  ]
+
+  -- two members with one lock would have it in the held sets of both their next ones
+  pub locks-distinct : (i j : ℕ) (a b : Dependency) → i < j → Member ds path i a → Member ds path j b → a.lock ≢ b.lock
+  locks-distinct i j a b l x y same =
+      let inside : j < length path = slice_get_within path j y.0 y.1 in
+      let c = member-at ds path p.known (suc i) (omega arith) in
+      let first : Contains c.0.held a.lock = p.linked i a c.0 x c.1 in
+      elim (cases_lt (suc j) (length path)) [
+        | inl k ↦
+            let d = member-at ds path p.known (suc j) k in
+            p.held_disjoint (suc i) (suc j) c.0 d.0 (omega arith) c.1 d.1 a.lock first (subst (λ z. Contains d.0.held z) (sym same) (p.linked j b d.0 y d.1))
+        | inr k ↦
+            let d = member-at ds path p.known 0 (omega arith) in
+            let e : suc j ≡ length path = omega arith in
+            p.held_disjoint 0 (suc i) d.0 c.0 (omega arith) d.1 c.1 a.lock (subst (λ z. Contains d.0.held z) (sym same) (closes j d.0 b e d.1 y)) first
+      ]
+
+  pub cycle-from_path : (bound : ℕ) → 2 ≤ length path → length path ≤ bound → IsCycle ds bound path
+  cycle-from_path bound two most = record {
+    at_least_two = two;
+    at_most = most;
+    known = λ m h. let k = has_contained path m h in all-had (λ n. n < length ds) path p.known k.0 m k.1;
+    least_first = p.least_first;
+    threads_distinct = p.threads_distinct;
+    locks_distinct = locks-distinct;
+    held_disjoint = λ i j lock a b l x y. p.held_disjoint i j a b l x y lock;
+    linked = link;
+  }
+
+module _ (ds : List Dependency) (bound : ℕ) (path : List ℕ) (m : ℕ) (rest : List ℕ) (begun : 0 < length path) (c : IsCycle ds bound (path ++ m ∷ rest)) where
+  long : length path < length (path ++ m ∷ rest)
+  long = omega (arith, length-append path (m ∷ rest))
+
+  here : slice_get (path ++ m ∷ rest) (length path) ≡ Some m
+  here = at-end path m rest
+
+  within : (k : ℕ) (d : Dependency) → Member ds path k d → Member ds (path ++ m ∷ rest) k d
+  within k d (n, x, y) = (n, get-left path (m ∷ rest) k n x, y)
+
+  -- what comes next in a cycle follows
+  pub follows-from_cycle : Follows ds path m
+  follows-from_cycle = record {
+    known = c.known m (contains_had (path ++ m ∷ rest) m (length path, here));
+    above = λ first h.
+        let a = found ds first (c.known first (contains_had (path ++ m ∷ rest) first (0, get-left path (m ∷ rest) 0 first h))) in
+        let no : first ≡ m → ⊥ = λ e. c.threads_distinct 0 (length path) a.0 a.0 begun (first, get-left path (m ∷ rest) 0 first h, a.1)
+        (m, here, subst (λ n. slice_get ds n ≡ Some a.0) e a.1) refl in
+        elim (cases_eq first m) [
+          | inl e ↦ absurd (no e)
+          | inr e ↦ omega (arith, e, c.least_first first m (get-left path (m ∷ rest) 0 first h) (contains_had (path ++ m ∷ rest) m (length path, here)))
+        ];
+    compatible = all-from (λ n. NumbersApart ds n m) path (λ k n h a b x y.
+        let u = within k a (n, h, x) in let v : Member ds (path ++ m ∷ rest) (length path) b = (m, here, y) in
+        let l : k < length path = slice_get_within path k n h in
+        (c.threads_distinct k (length path) a b l u v, λ lock. c.held_disjoint k (length path) lock a b l u v));
+    linked = λ k a b e x y.
+        let inside : suc k < length (path ++ m ∷ rest) = omega (arith, e, long) in
+        let at : next (path ++ m ∷ rest) k ≡ length path = next-inside (path ++ m ∷ rest) k inside ∙ e in
+        c.linked k a b (within k a x) (subst (λ i. Member ds (path ++ m ∷ rest) i b) (sym at) (m, here, y));
+  }
+
+  -- a path that closes is no beginning of a longer cycle
+  pub closed-no_more : (known : All (λ n. n < length ds) path) → Closes ds path → ⊥
+  closed-no_more known closes = go (length path) refl
+    where
+      go : (k : ℕ) → length path ≡ k → ⊥
+      go zero e = omega (arith, begun, e)
+      go (suc k) e =
+          let last = member-at ds path known k (omega (arith, e)) in
+          let first = member-at ds path known 0 begun in
+          let f = follows-from_cycle in
+          let b = found ds m f.known in
+          c.held_disjoint 0 (length path) last.0.lock first.0 b.0 begun (within 0 first.0 first.1) (m, here, b.1)
+          (closes k first.0 last.0 (sym e) first.1 last.1)
+          (f.linked k last.0 b.0 (sym e) last.1 b.1)
+
+pub closes-from_cycle : (ds : List Dependency) (bound : ℕ) (path : List ℕ) → IsCycle ds bound path → Closes ds path
+closes-from_cycle ds bound path c k first last e x y = c.linked k last first y (subst (λ i. Member ds path i first) (sym (next-last path k e)) x)
+
+-- the members that the code reads
+module _ (ds : List Dependency) (path : List ℕ) (p : IsPath ds path) (last : Dependency) (at : slice_get ds (get_or path (length path - 1) 0) ≡ Some last) where
+  last-member : Member ds path (length path - 1) last
+  last-member = (get_or path (length path - 1) 0, slice_get-get_or path (length path - 1) 0 (omega (arith, p.begun)), at)
+
+  is-last : (k : ℕ) (a : Dependency) → suc k ≡ length path → Member ds path k a → last ≡ a
+  is-last k a e (n, x, y) =
+      let same : k ≡ length path - 1 = omega arith in
+      let one : get_or path (length path - 1) 0 ≡ n = ap (λ i. get_or path i 0) (sym same) ∙ get_or_from_slice_get path k n 0 x in
+      same_Some last a (sym at ∙ ap (slice_get ds) one ∙ y)
+
+  pub closes-decided : (first : Dependency) → slice_get ds (get_or path 0 0) ≡ Some first → (b : Bool) →
+      IsTrue b ↔ Contains first.held last.lock → IsTrue b ↔ Closes ds path
+  closes-decided first head b decides = (
+    (λ t k f l e x y.
+        let one : first ≡ f = same_Some first f (sym head ∙ ap (slice_get ds) (get_or_from_slice_get path 0 x.0 0 x.1) ∙ x.2) in
+        subst (λ z. Contains z.held l.lock) one (subst (λ z. Contains first.held z.lock) (is-last k l e y) (decides.0 t))),
+    (λ closes. decides.1 (closes (length path - 1) first last (omega (arith, p.begun))
+        (get_or path 0 0, slice_get-get_or path 0 0 p.begun, head) last-member)),
+  )
+
+  pub nexts-known : (graph : ℕ → List ℕ) → IsGraphOf ds graph → (first : ℕ) → get_or path 0 0 ≡ first → (all nexts : List ℕ) → all ≡ graph last.lock →
+      ((m : ℕ) → Contains nexts m ↔ ((first < m) × Contains all m)) → IsStrictlyIncreasing nexts → AreNexts ds path nexts
+  nexts-known graph g first head all nexts e exact ascends = record {
+    known = λ m h. slice_get_within ds m (holder m h).0 (holder m h).1;
+    above = λ m h f x. let l = ((exact m).0 h).0 in omega (arith, l, sym (get_or_from_slice_get path 0 f 0 x) ∙ head);
+    linked = λ m h k a b s x y.
+        let d = holder m h in
+        subst (λ z. Contains z.held a.lock) (same_Some d.0 b (sym d.1 ∙ y)) (subst (λ z. Contains d.0.held z.lock) (is-last k a s x) d.2);
+    complete = λ m l above links.
+        let d = found ds m l in
+        (exact m).1 (
+          above first (slice_get-get_or path 0 0 p.begun ∙ ap Some head),
+          subst (λ z. Contains z m) (sym e) ((g.exact last.lock m).1 (d.0, d.1, links (length path - 1) last d.0 (omega (arith, p.begun)) last-member d.1)),
+        );
+    ascends = ascends;
+  }
+    where
+      holder : (m : ℕ) → Contains nexts m → (d : Dependency) × (slice_get ds m ≡ Some d) × Contains d.held last.lock
+      holder m h = (g.exact last.lock m).0 (subst (λ z. Contains z m) e ((exact m).0 h).1)
+
+-- a number that passed the test of the code
+pub path-tested : (ds : List Dependency) (path : List ℕ) (m : ℕ) (members : List ℕ) → IsPath ds path → m < length ds → AboveFirst path m → LinksTo ds path m →
+    members ≡ path → IsCompatible ds members m → IsPath ds (path ++ m ∷ [])
+path-tested ds path m members p known above links f apart = path-push ds path m p (record {
+  known = known;
+  above = above;
+  compatible = subst (λ z. IsCompatible ds z m) f apart;
+  linked = links;
+})
+
+-- what is left of ascending numbers above one of them
+module _ (xs : List ℕ) (up : IsStrictlyIncreasing xs) (first i : ℕ) (at : IsPartitionPoint (λ y. leb y first ≡ true) (λ y. leb y first ≡ false) xs i) where
+  pub above-exact : (m : ℕ) → Contains (drop i xs) m ↔ ((first < m) × Contains xs m)
+  above-exact m = (
+    (λ (k, l, e).
+        let inside : i + k < length xs = omega (arith, l, length-drop i xs) in
+        let same : get_or xs (i + k) m ≡ m = sym (get_or-drop i xs k m) ∙ e in
+        (high (i + k) (omega arith) inside m same, (i + k, inside, same))),
+    (λ (l, (k, inside, e)). elim (cases_lt k i) [
+      | inl below ↦ absurd (low k below m e l)
+      | inr over ↦
+          let split : i + (k - i) ≡ k = omega arith in
+          (k - i, omega (arith, inside, over, length-drop i xs), get_or-drop i xs (k - i) m ∙ ap (λ n. get_or xs n m) split ∙ e)
+    ]),
+  )
+    where
+      high : (k : ℕ) → i ≤ k → k < length xs → (m : ℕ) → get_or xs k m ≡ m → first < m
+      high k over inside m e = leb-false m first (subst (λ y. leb y first ≡ false) e (at.1 k m over inside))
+
+      low : (k : ℕ) → k < i → (m : ℕ) → get_or xs k m ≡ m → first < m → ⊥
+      low k below m e l = let h = leb-true m first (subst (λ y. leb y first ≡ true) e (at.0 k m (omega arith) below)) in omega arith
+
+  pub above-ascends : IsStrictlyIncreasing (drop i xs)
+  above-ascends k l =
+      let u = up (i + k) (omega (arith, l, length-drop i xs)) in
+      let a = get_or-drop i xs k 0 in
+      let b = get_or-drop i xs (k + 1) 0 in
+      let same : get_or xs (i + (k + 1)) 0 ≡ get_or xs (i + k + 1) 0 = ap (λ n. get_or xs n 0) (omega arith) in
+      omega arith
+
+-- ascending numbers do not fall
+pub non-decreasing : (xs : List ℕ) → IsStrictlyIncreasing xs → IsNonDecreasingBy (λ y. y) xs
+non-decreasing xs up = IsNonDecreasingBy-from_default (λ y. y) xs 0 (λ j k l inside. elim (cases_lt j k) [
+  | inl less ↦ let a = AllPairs-from_increasing xs up j k 0 less inside in omega arith
+  | inr more ↦ let same : get_or xs j 0 ≡ get_or xs k 0 = ap (λ n. get_or xs n 0) (omega arith) in omega arith
+])
+
+-- the test of the held set decides
+pub has-decided : (b : Bool) (l : ℕ) (xs : List ℕ) → b ≡ has l xs → IsTrue b ↔ Contains xs l
+has-decided b l xs e = ((λ t. has_contains l xs (sym e ∙ t)), (λ c. e ∙ contains_has l xs c))

@@ -1,0 +1,7 @@
+use Rattle.dependencies.specs.Tables.{known}
+use Rattle.cycle_search.specs.Ranked.{rank_in}
+use Rattle.cycle_search.proofs.Ranked.{ranks-rise}
+use Rattle.cycle_search.proofs.ranks.Ranks.new.Goals as goal
+
+pub returns : goal.returns
+returns c = ranks-rise (known c.args.table.now) (rank_in c.rising-ranks.result) c.in_ok-numbers.numbers.items c.in_ok-numbers.ensures c.rising-ranks.ensures

@@ -1,0 +1,145 @@
+use Rattle.std.proofs.Common.{◌<◌, ◌++◌, ◌∷◌, [], length, Err, ℕ, List, get_or, sym, ap, subst, ◌∙◌, arith, true≢false}
+use Rattle.std.proofs.lemmas.Option.{slice_get-get_or}
+use Rattle.std.proofs.lemmas.Grind.{get_or_default_zero}
+use Rattle.std.proofs.lemmas.Result.{err_from_is_err_and}
+use Rattle.std.specs.List.{Contains}
+use Rattle.guards.specs.Compatible.{IsCompatible}
+use Rattle.dependencies.specs.Tables.{known}
+use Rattle.cycle_search.specs.Search.{IsPath, Closes, AboveFirst, LinksTo, AreSome, AreAll, Adds, Exceeds, CycleBeyond, CycleThrough}
+use Rattle.cycle_search.proofs.Listing.{append-nil}
+use Rattle.cycle_search.proofs.Turns.{adds-more, adds-end, exceeds-more, rejected, closed, one-closed, deeper, deeper-some, full}
+use Rattle.cycle_search.proofs.Paths.{path-tested}
+use Rattle.cycle_search.proofs.Ranked.{other-rank}
+use Rattle.cycle_search.proofs.search.+search.Goals as goal
+use Rattle.cycle_search.proofs.search.+search.Goals.{visit-then-closes+else-len-ge-MAX_CYCLES+in_ok-push, visit-else-closes+then-len-bound+in_ok-extend, visit-else-closes+else-len-bound}
+
+pub extend-visit-requires : goal.extend-visit-requires
+extend-visit-requires t c =
+    let i = c.loop-next.next-index in
+    let items = c.successors-next-items.result.now in
+    let m = get_or items i 0 in
+    let n = c.successors-next-items.ensures in
+    let here : Contains items m = (i, c.loop-next-test.true, get_or_default_zero items i m c.loop-next-test.true) in
+    let same = sym c.loop-next.invariant.same in
+    let shorter = ap (λ (p : List ℕ). length p) same in
+    (omega (arith, shorter), (c.requires.graph, (c.requires.ranks, (subst (λ p. IsPath (known c.args.table.now) p) same c.requires.path, (subst (λ (p : List ℕ). length p < c.args.bound) same c.requires.room, (c.requires.bound, (c.loop-next.invariant.few, (n.known m here, (subst (λ p. AboveFirst p m) same (n.above m here), subst (λ p. LinksTo (known c.args.table.now) p m) same (n.linked m here))))))))))
+
+pub extend-returns-in_err-visit-clause-too_many : goal.extend-returns-in_err-visit-clause-too_many
+extend-returns-in_err-visit-clause-too_many t c e =
+    let p = err_from_is_err_and c.from_residual.result c.from_residual.ensures.1 in
+    let i = c.loop-next.next-index in
+    let items = c.successors-next-items.result.now in
+    let q = c.visit.ensures.too_many (c.in_err-visit.was ∙ ap Err (sym p.2) ∙ sym p.1 ∙ e) in
+    exceeds-more (known c.args.table.now) c.args.bound c.args.path.now.items items c.successors-next-items.ensures.ascends i (get_or items i 0)
+    (slice_get-get_or items i 0 c.loop-next-test.true) _ _ c.loop-next.invariant.added
+    (subst (λ p. Exceeds (CycleThrough (known c.args.table.now) c.args.bound p (get_or items i 0)) c.loop-next.found.items) c.loop-next.invariant.same q)
+
+pub extend-loop-next-preserved : goal.extend-loop-next-preserved
+extend-loop-next-preserved t c = let e = c.in_ok-visit.ensures in
+    let i = c.loop-next.next-index in
+    let items = c.successors-next-items.result.now in
+    record {
+      same = e.path ∙ c.loop-next.invariant.same;
+      few = e.few;
+      added = adds-more (known c.args.table.now) c.args.bound c.args.path.now.items items c.successors-next-items.ensures.ascends i (get_or items i 0)
+          (slice_get-get_or items i 0 c.loop-next-test.true) _ _ _ c.loop-next.invariant.added
+          (subst (λ p. Adds (CycleThrough (known c.args.table.now) c.args.bound p (get_or items i 0)) c.loop-next.found.items c.visit.new.found.items) c.loop-next.invariant.same e.all);
+    }
+
+pub extend-returns-clause-all : goal.extend-returns-clause-all
+extend-returns-clause-all t c =
+    adds-end (known c.args.table.now) c.args.bound c.args.path.now.items c.successors-next-items.result.now c.loop-next.next-index _ _ c.requires.path.begun
+    c.successors-next-items.ensures c.loop-next-test.false c.loop-next.invariant.added
+
+pub visit-returns-then-not-compatible-clause-all : goal.visit-returns-then-not-compatible-clause-all
+visit-returns-then-not-compatible-clause-all t c = (
+  [],
+  sym (append-nil c.args.found.now.items),
+  rejected (known c.args.table.now) c.args.bound c.args.path.now.items c.args.next c.requires.path.begun
+      (λ f.
+      let yes = c.compatible.ensures.1 (subst (λ p. IsCompatible (known c.args.table.now) p c.args.next) (sym c.as_slice.ensures.value) f.compatible) in
+      true≢false (sym yes ∙ c.if-not-compatible.true)),
+)
+
+pub visit-returns-then-not-same_rank-clause-all : goal.visit-returns-then-not-same_rank-clause-all
+visit-returns-then-not-same_rank-clause-all t c = (
+  [],
+  sym (append-nil c.args.found.now.items),
+  other-rank (known c.args.table.now) c.args.bound c.args.path.now.items c.args.next c.args.ranks.now
+      c.requires.ranks c.requires.path.begun (λ e. true≢false (sym (c.same_rank.ensures.1 e) ∙ c.if-not-same_rank.true)),
+)
+
+pub visit-closes-requires : goal.visit-closes-requires
+visit-closes-requires t c = subst (λ p. IsPath (known c.args.table.now) p) (sym c.push.ensures.items)
+    (path-tested (known c.args.table.now) c.args.path.now.items c.args.next c.as_slice.result.now c.requires.path c.requires.known c.requires.above c.requires.linked
+    c.as_slice.ensures.value (c.compatible.ensures.0 c.if-not-compatible.false))
+
+pub visit-returns-then-len-ge-MAX_CYCLES-clause-too_many :
+    goal.visit-returns-then-len-ge-MAX_CYCLES-clause-too_many
+visit-returns-then-len-ge-MAX_CYCLES-clause-too_many t c e = (
+  (c.args.path.now.items ++ c.args.next ∷ []) ∷ [],
+  one-closed (known c.args.table.now) c.args.bound c.args.path.now.items c.args.next
+      (path-tested (known c.args.table.now) c.args.path.now.items c.args.next c.as_slice.result.now c.requires.path c.requires.known c.requires.above c.requires.linked
+      c.as_slice.ensures.value (c.compatible.ensures.0 c.if-not-compatible.false))
+      (subst (λ p. Closes (known c.args.table.now) p) c.push.ensures.items (c.closes.ensures.0 c.if-closes.true)) c.requires.path.begun c.requires.room,
+  omega (arith, c.len.ensures, c.if-len-ge-MAX_CYCLES.true),
+)
+
+pub visit-returns-in_err-push-clause-too_many : goal.visit-returns-in_err-push-clause-too_many
+visit-returns-in_err-push-clause-too_many t c e =
+    let p = err_from_is_err_and c.from_residual.result c.from_residual.ensures.1 in
+    let q = sym e ∙ p.1 ∙ ap Err p.2 in cc
+
+pub visit-extend-requires : goal.visit-extend-requires
+visit-extend-requires t c = let d = c.decreases in (
+  omega (arith, c.push.ensures.len),
+  (
+    c.requires.graph,
+    (
+      c.requires.ranks,
+      (
+        subst (λ p. IsPath (known c.args.table.now) p) (sym c.push.ensures.items) (path-tested (known c.args.table.now) c.args.path.now.items c.args.next c.as_slice.result.now c.requires.path c.requires.known c.requires.above c.requires.linked
+            c.as_slice.ensures.value (c.compatible.ensures.0 c.if-not-compatible.false)),
+        (omega arith, (c.requires.bound, c.requires.few)),
+      ),
+    ),
+  ),
+)
+
+pub visit-returns-in_err-extend-clause-too_many : goal.visit-returns-in_err-extend-clause-too_many
+visit-returns-in_err-extend-clause-too_many t c e =
+    let p = err_from_is_err_and c.from_residual-in_err-extend.result c.from_residual-in_err-extend.ensures.1 in
+    let q = c.extend.ensures.too_many (c.in_err-extend.was ∙ ap Err (sym p.2) ∙ sym p.1 ∙ e) in (
+      q.0,
+      deeper-some (known c.args.table.now) c.args.bound c.args.path.now.items c.args.next q.0
+          (subst (λ z. AreSome (CycleBeyond (known c.args.table.now) c.args.bound z) q.0) c.push.ensures.items q.1),
+      q.2,
+    )
+
+pub visit-returns-clause-all : goal.visit-returns-clause-all
+visit-returns-clause-all t c = elim c.if-closes.branch [
+  | visit-then-closes+else-len-ge-MAX_CYCLES+in_ok-push w ↦ let f = w.found-is in (
+    (c.args.path.now.items ++ c.args.next ∷ []) ∷ [],
+    rw f (w.in_ok-push.ensures.items ∙ ap (λ (z : List ℕ). c.args.found.now.items ++ z ∷ []) (w.cycle_of.ensures ∙ c.push.ensures.items)),
+    closed (known c.args.table.now) c.args.bound c.args.path.now.items c.args.next
+        (path-tested (known c.args.table.now) c.args.path.now.items c.args.next c.as_slice.result.now c.requires.path c.requires.known c.requires.above c.requires.linked
+        c.as_slice.ensures.value (c.compatible.ensures.0 c.if-not-compatible.false))
+        (subst (λ p. Closes (known c.args.table.now) p) c.push.ensures.items (c.closes.ensures.0 w.if-closes.true)) c.requires.path.begun c.requires.room,
+  )
+  | visit-else-closes+then-len-bound+in_ok-extend w ↦
+      let f = w.found-is in let a = w.in_ok-extend.ensures.all in (
+        a.0,
+        rw f a.1,
+        deeper (known c.args.table.now) c.args.bound c.args.path.now.items c.args.next a.0
+            (λ k. true≢false (sym (c.closes.ensures.1 (subst (λ p. Closes (known c.args.table.now) p) (sym c.push.ensures.items) k)) ∙ w.if-closes.false))
+            (subst (λ z. AreAll (CycleBeyond (known c.args.table.now) c.args.bound z) a.0) c.push.ensures.items a.2),
+      )
+  | visit-else-closes+else-len-bound w ↦
+      let f = w.found-is in (
+        [],
+        rw f (sym (append-nil c.args.found.now.items)),
+        full (known c.args.table.now) c.args.bound c.args.path.now.items c.args.next
+            (λ k. true≢false (sym (c.closes.ensures.1 (subst (λ p. Closes (known c.args.table.now) p) (sym c.push.ensures.items) k)) ∙ w.if-closes.false))
+            (omega (arith, w.if-len-bound.false, w.len-else-closes.ensures.value, ap (λ (xs : List ℕ). length xs) c.push.ensures.items)),
+      )
+]

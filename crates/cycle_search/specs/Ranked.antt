@@ -1,0 +1,19 @@
+-- Ranks of dependencies, which are equal all round a cycle.
+use Rattle.std.specs.Prelude.{◌≡◌, ◌≤◌, ℕ, List, length, slice_get, slice_index, Some, nat_eq, unwrap_or}
+use Rattle.std.specs.List.{Contains}
+use Rattle.std.specs.HashMap.{get, HashMap}
+use Rattle.trace_model.specs.Dependencies.{Dependency}
+
+-- a rank for each dependency, which does not fall from a dependency to one that holds its lock
+pub record AreRanks (ds : List Dependency) (ranks : List ℕ) : Type 0 where
+  pub each : length ranks ≡ length ds
+  pub rise : (m n : ℕ) (a b : Dependency) → slice_get ds m ≡ Some a → slice_get ds n ≡ Some b → Contains b.held a.lock →
+      slice_index ranks m ≤ slice_index ranks n
+
+-- the rank that a table has for a lock, 0 where it has none
+abbrev pub rank_in : {S : Type 0} → HashMap ℕ ℕ S → ℕ → ℕ
+rank_in table lock = unwrap_or (get nat_eq table lock) 0
+
+-- no dependency holds a lock of a higher rank than that of the lock that it takes
+abbrev pub Rises : List Dependency → (ℕ → ℕ) → Type 0
+Rises ds rank = (n lock : ℕ) (d : Dependency) → slice_get ds n ≡ Some d → Contains d.held lock → rank lock ≤ rank d.lock

@@ -1,0 +1,49 @@
+ghost use Rattle.std.specs.Prelude.{◌≡◌, ◌≤◌, ◌↔◌, List, length, ℕ, IfSome, IsSome, slice_get};
+
+use arrayvec::ArrayVec;
+use std::marker::Model;
+
+/// The most members of a cycle.
+pub(crate) const MOST: usize = 8;
+
+/// The numbers of a cycle's dependencies, the least first: two to eight.
+#[derive(Debug, Drop, Clone, PartialEq, Eq)]
+pub struct Cycle {
+    numbers: ArrayVec<u32, MOST>,
+}
+
+impl Model for Cycle {
+    ghost Value = { List ℕ };
+
+    ghost view = { λ c. c.numbers.items };
+
+    ghost invariant = { λ c. 2 ≤ length c.numbers.items };
+
+    ghost inverse = { λ numbers. record { numbers = record { items = numbers } } };
+}
+
+impl Cycle {
+    /// The cycle with these numbers, if they are two to eight. It takes no memory.
+    pub fn new(numbers: &[u32]) -> Option<Cycle>
+        ensures value { IfSome result (λ c. c ≡ numbers.now) }
+        ensures in_range { IsSome result ↔ ((2 ≤ length numbers.now) × (length numbers.now ≤ 8)) }
+    {
+        if numbers.len() < 2 {
+            return None;
+        }
+        let mut members = ArrayVec::new();
+        match members.try_extend_from_slice(numbers) {
+            Ok(()) => Some(Cycle { numbers: members }),
+            Err(_) => None,
+        }
+    }
+
+    /// Its numbers, the least first. It takes no memory.
+    pub fn numbers(&self) -> &[u32]
+        ensures value { result.now ≡ self.now }
+        ensures low { 2 ≤ length self.now }
+        ensures high { length self.now ≤ 8 }
+    {
+        self.numbers.as_slice()
+    }
+}

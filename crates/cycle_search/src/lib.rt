@@ -1,0 +1,15 @@
+//! The cycles of a table of dependencies.
+#![tactic(auto)]
+
+mod cycle;
+mod parts;
+mod ranks;
+mod refused;
+mod search;
+#[cfg(test)]
+mod tests;
+
+pub use cycle::Cycle;
+pub use ranks::Ranks;
+pub use refused::SearchRefused;
+pub use search::cycles_from;

@@ -1,0 +1,163 @@
+//! The strongly connected parts of the graph of locks, found by one walk in depth. An edge leads from a
+//! held lock to each lock that is taken while it is held.
+//!
+//! No contract says what the ranks are: whoever uses them tests them.
+
+ghost use Rattle.dependencies.specs.Tables.{known};
+ghost use Rattle.lock_graph.specs.Graph.{IsGraphOf, holders};
+
+use dependencies::DepTable;
+use lock_graph::LockGraph;
+use std::alloc::Global;
+use std::collections::HashMap;
+use std::collections::hash_map::RandomState;
+use trace_model::NoMemory;
+
+/// A rank for each lock that is taken while another is held.
+pub(crate) type LockRanks = HashMap<u32, u32, RandomState>;
+
+/// The ranks of the locks that the table's dependencies take. A lock's rank is that of its part, and no
+/// edge leads to a lower rank.
+pub(crate) fn lock_ranks(
+    alloc: Global,
+    state: RandomState,
+    table: &DepTable,
+    graph: &LockGraph,
+) -> Result<LockRanks, NoMemory>
+    requires { IsGraphOf (known table.now) (holders graph.now) }
+{
+    let mut walk = Walk {
+        met: HashMap::with_hasher(alloc, state),
+        path: Vec::new(alloc),
+        open: Vec::new(alloc),
+        ranks: HashMap::with_hasher(alloc, state),
+        rank: u32::MAX,
+    };
+    for number in 0..table.len() {
+        walk.run(table, graph, table.get(number as u32).lock)?;
+    }
+    Ok(walk.ranks)
+}
+
+/// A lock that was met: when, and the earliest lock of its part that is known.
+#[derive(Clone, Copy)]
+struct Met {
+    order: usize,
+    earliest: usize,
+}
+
+/// A lock of the path, and how many of its edges were followed.
+#[derive(Clone, Copy)]
+struct Stop {
+    lock: u32,
+    followed: usize,
+}
+
+/// A walk in depth.
+#[derive(Drop)]
+struct Walk {
+    met: HashMap<u32, Met, RandomState>,
+    path: Vec<Stop>,
+    /// The locks that were met and have no rank yet, in order.
+    open: Vec<u32>,
+    ranks: LockRanks,
+    /// The rank of the next part that is complete.
+    rank: u32,
+}
+
+impl Walk {
+    /// Walks from a lock, if it was not met before.
+    fn run(&mut self, table: &DepTable, graph: &LockGraph, lock: u32) -> Result<(), NoMemory>
+        requires { IsGraphOf (known table.now) (holders graph.now) }
+    {
+        if self.met.contains_key(&lock) {
+            return Ok(());
+        }
+        self.enter(lock)?;
+        // each turn follows an edge or leaves a lock for good
+        for _ in 0..u64::MAX {
+            if !self.step(table, graph)? {
+                break;
+            }
+        }
+        Ok(())
+    }
+
+    /// Meets a lock and goes there.
+    fn enter(&mut self, lock: u32) -> Result<(), NoMemory> {
+        let order = self.met.len();
+        let met = Met {
+            order,
+            earliest: order,
+        };
+        self.met.insert(lock, met)?;
+        self.open.push(lock)?;
+        self.path.push(Stop { lock, followed: 0 })?;
+        Ok(())
+    }
+
+    /// Follows one edge of the path's last lock, or leaves it. False where the path has no lock.
+    fn step(&mut self, table: &DepTable, graph: &LockGraph) -> Result<bool, NoMemory>
+        requires { IsGraphOf (known table.now) (holders graph.now) }
+    {
+        let Some(stop) = self.path.last_mut() else {
+            return Ok(false);
+        };
+        let lock = stop.lock;
+        match graph.successors(lock).get(stop.followed) {
+            Some(number) => {
+                stop.followed += 1;
+                self.follow(lock, table.get(*number).lock)?;
+            },
+            None => {
+                self.path.pop();
+                self.leave(lock)?;
+            },
+        }
+        Ok(true)
+    }
+
+    /// Follows the edge from a lock to the next one.
+    fn follow(&mut self, lock: u32, next: u32) -> Result<(), NoMemory> {
+        let Some(met) = self.met.get(&next).copied() else {
+            return self.enter(next);
+        };
+        if !self.ranks.contains_key(&next) {
+            self.reaches(lock, met.order);
+        }
+        Ok(())
+    }
+
+    /// A lock reaches an open one, which was met at this order.
+    fn reaches(&mut self, lock: u32, order: usize) {
+        if let Some(met) = self.met.get_mut(&lock) {
+            met.earliest = met.earliest.min(order);
+        }
+    }
+
+    /// Leaves a lock all of whose edges were followed.
+    fn leave(&mut self, lock: u32) -> Result<(), NoMemory> {
+        let Some(met) = self.met.get(&lock).copied() else {
+            return Ok(());
+        };
+        if met.earliest == met.order {
+            self.close(lock)?;
+        }
+        if let Some(before) = self.path.last().copied() {
+            self.reaches(before.lock, met.earliest);
+        }
+        Ok(())
+    }
+
+    /// Gives a rank to the part whose first lock this is: the open locks from it on.
+    fn close(&mut self, first: u32) -> Result<(), NoMemory> {
+        while let Some(lock) = self.open.pop() {
+            self.ranks.insert(lock, self.rank)?;
+            if lock == first {
+                break;
+            }
+        }
+        self.rank = self.rank.saturating_sub(1);
+        Ok(())
+    }
+}

@@ -1,0 +1,120 @@
+ghost use Rattle.std.specs.Prelude.{◌≡◌, ◌<◌, ◌≤◌, length, map, nat_eq, slice_index, IfOk, IsTrue};
+ghost use Rattle.std.specs.List.{All};
+ghost use Rattle.dependencies.specs.Tables.{known};
+ghost use Rattle.lock_graph.specs.Graph.{IsGraphOf, holders};
+ghost use Rattle.cycle_search.specs.Ranked.{AreRanks, rank_in, Rises};
+
+use crate::parts::{LockRanks, lock_ranks};
+use dependencies::DepTable;
+use lock_graph::LockGraph;
+use std::alloc::Global;
+use std::collections::HashMap;
+use std::collections::hash_map::RandomState;
+use std::marker::Model;
+use trace_model::NoMemory;
+
+/// A rank for each dependency of a table, which never falls from a dependency to one that holds its lock.
+/// So the members of a cycle have one rank, and a search leaves all others out. No answer depends on it.
+#[derive(Drop)]
+pub struct Ranks {
+    numbers: Vec<u32>,
+}
+
+impl Model for Ranks {
+    ghost use Rattle.std.specs.Prelude.{List, ℕ};
+
+    ghost Value = { List ℕ };
+
+    ghost view = { λ r. r.numbers.items };
+}
+
+impl Ranks {
+    /// The ranks of the table's dependencies, whose graph is given: the strongly connected parts of
+    /// their locks, in order. It takes time in proportion to the locks that the dependencies hold.
+    ///
+    /// # Errors
+    ///
+    /// `NoMemory` where a growth was refused.
+    pub fn new(
+        alloc: Global,
+        state: RandomState,
+        table: &DepTable,
+        graph: &LockGraph,
+    ) -> Result<Ranks, NoMemory>
+        requires { IsGraphOf (known table.now) (holders graph.now) }
+        ensures { IfOk result (λ ranks. AreRanks (known table.now) ranks) }
+    {
+        let found = lock_ranks(alloc, state, table, graph)?;
+        let ranks = rising(alloc, state, table, found);
+        let numbers = ranks_of(alloc, table, &ranks)?;
+        Ok(Ranks { numbers })
+    }
+
+    /// Whether the dependencies of two numbers have one rank.
+    pub(crate) fn are_equal(&self, first: u32, second: u32) -> bool
+        requires first { first < length self.now }
+        requires second { second < length self.now }
+        ensures { result ≡ nat_eq (slice_index self.now first) (slice_index self.now second) }
+    {
+        self.numbers[first as usize] == self.numbers[second as usize]
+    }
+}
+
+/// The ranks of the locks if they rise, else one rank for all.
+fn rising(alloc: Global, state: RandomState, table: &DepTable, ranks: LockRanks) -> LockRanks
+    ensures { Rises (known table.now) (rank_in result) }
+{
+    if rises(table, &ranks) {
+        ranks
+    } else {
+        HashMap::with_hasher(alloc, state)
+    }
+}
+
+/// Whether no dependency holds a lock of a higher rank than that of the lock that it takes.
+fn rises(table: &DepTable, ranks: &LockRanks) -> bool
+    ensures { IsTrue result → Rises (known table.now) (rank_in ranks.now) }
+{
+    for number in 0..table.len() {
+        let dependency = table.get(number as u32);
+        let most = rank_of(ranks, dependency.lock);
+        if !are_within(ranks, dependency.held.locks(), most) {
+            return false;
+        }
+    }
+    true
+}
+
+/// Whether none of the locks has a higher rank.
+fn are_within(ranks: &LockRanks, locks: &[u32], most: u32) -> bool
+    ensures { IsTrue result → All (λ lock. rank_in ranks.now lock ≤ most) locks.now }
+{
+    for lock in locks {
+        if rank_of(ranks, *lock) > most {
+            return false;
+        }
+    }
+    true
+}
+
+/// For each dependency the rank of the lock that it takes.
+fn ranks_of(alloc: Global, table: &DepTable, ranks: &LockRanks) -> Result<Vec<u32>, NoMemory>
+    ensures { IfOk result (λ numbers. numbers.items ≡ map (λ d. rank_in ranks.now d.lock) (known table.now)) }
+{
+    let mut numbers = Vec::new(alloc);
+    for number in 0..table.len() {
+        let dependency = table.get(number as u32);
+        numbers.push(rank_of(ranks, dependency.lock))?;
+    }
+    Ok(numbers)
+}
+
+/// The rank of a lock, 0 where it has none.
+fn rank_of(ranks: &LockRanks, lock: u32) -> u32
+    ensures { result ≡ rank_in ranks.now lock }
+{
+    match ranks.get(&lock) {
+        Some(rank) => *rank,
+        None => 0,
+    }
+}

@@ -1,0 +1,24 @@
+use std::alloc::AllocFailed;
+use thiserror::Error;
+
+/// Why a search gave no cycles.
+#[derive(Debug, Drop, PartialEq, Eq, Error)]
+pub enum SearchRefused {
+    /// There are more than 4,294,967,295 cycles.
+    #[error("more than 4294967295 cycles")]
+    TooMany,
+    /// A growth was refused.
+    #[error("no memory")]
+    NoMemory,
+}
+
+impl<T: Drop> From<AllocFailed<T>> for SearchRefused {
+    ghost use Rattle.std.specs.Prelude.{◌≡◌};
+    ghost use Rattle.cycle_search.specs.declared.refused.SearchRefused.TheVariants.{NoMemory};
+
+    ghost from_gives = { λ _ e. e ≡ NoMemory };
+
+    fn from(_value: AllocFailed<T>) -> SearchRefused {
+        SearchRefused::NoMemory
+    }
+}

@@ -1,0 +1,177 @@
+ghost use Rattle.std.specs.Prelude.{◌≡◌, ◌<◌, ◌≤◌, ◌↔◌, slice_index, length, IsTrue, IfOk, OnOk, Err, ℕ};
+ghost use Rattle.std.specs.List.{Contains};
+ghost use Rattle.std.specs.List.Sorted.{IsStrictlyIncreasing};
+ghost use Rattle.trace_model.specs.declared.limits.TheConstants.{MAX_CYCLES};
+ghost use Rattle.trace_model.specs.Cycles.{AreCyclesFrom};
+ghost use Rattle.dependencies.specs.Tables.{known};
+ghost use Rattle.lock_graph.specs.Graph.{IsGraphOf, holders};
+ghost use Rattle.cycle_search.specs.Ranked.{AreRanks};
+ghost use Rattle.cycle_search.specs.Search.{IsPath, Closes, AboveFirst, LinksTo, AreNexts, Adds, Exceeds, MoreThan, CycleFrom, CycleBeyond, CycleThrough};
+
+use crate::cycle::MOST;
+use crate::{Cycle, Ranks, SearchRefused};
+use arrayvec::ArrayVec;
+use dependencies::DepTable;
+use guards::compatible;
+use lock_graph::LockGraph;
+use std::alloc::Global;
+use trace_model::{Bound, MAX_CYCLES};
+
+/// The numbers of a path that may grow into a cycle.
+type Path = ArrayVec<u32, MOST>;
+
+/// All cycles up to the bound whose first number is `root`, each once, in lexicographic order.
+/// The graph and the ranks must be those of the table, and `root` one of its numbers.
+///
+/// # Errors
+///
+/// `TooMany` where there are more than 4,294,967,295, and `NoMemory` where a growth was refused.
+pub fn cycles_from(
+    alloc: Global,
+    table: &DepTable,
+    graph: &LockGraph,
+    ranks: &Ranks,
+    root: u32,
+    bound: Bound,
+) -> Result<Vec<Cycle>, SearchRefused>
+    requires graph { IsGraphOf (known table.now) (holders graph.now) }
+    requires ranks { AreRanks (known table.now) ranks.now }
+    requires root { root < length (known table.now) }
+    ensures ok { IfOk result (λ cycles. AreCyclesFrom (known table.now) bound root cycles.items) }
+    ensures few { IfOk result (λ cycles. length cycles.items ≤ MAX_CYCLES) }
+    ensures too_many { result ≡ Err SearchRefused.TooMany → MoreThan (CycleFrom (known table.now) bound root) MAX_CYCLES }
+{
+    let mut found = Vec::new(alloc);
+    let mut path = Path::new();
+    path.push(root);
+    extend(
+        table,
+        graph,
+        ranks,
+        bound.get() as usize,
+        &mut path,
+        &mut found,
+    )?;
+    Ok(found)
+}
+
+/// Adds all cycles that begin with the path and go on.
+#[cycle(search)]
+fn extend(
+    table: &DepTable,
+    graph: &LockGraph,
+    ranks: &Ranks,
+    bound: usize,
+    path: &mut Path,
+    found: &mut Vec<Cycle>,
+) -> Result<(), SearchRefused>
+    requires graph { IsGraphOf (known table.now) (holders graph.now) }
+    requires ranks { AreRanks (known table.now) ranks.now }
+    requires path { IsPath (known table.now) path.old.items }
+    requires room { length path.old.items < bound }
+    requires bound { bound ≤ 8 }
+    requires few { length found.old.items ≤ MAX_CYCLES }
+    ensures path { OnOk result (path.new.items ≡ path.old.items) }
+    ensures all { OnOk result (Adds (CycleBeyond (known table.now) bound path.old.items) found.old.items found.new.items) }
+    ensures few { OnOk result (length found.new.items ≤ MAX_CYCLES) }
+    ensures too_many { result ≡ Err SearchRefused.TooMany → Exceeds (CycleBeyond (known table.now) bound path.old.items) found.old.items }
+{
+    for next in successors(table, graph, path) {
+        visit(table, graph, ranks, bound, path, *next, found)?;
+    }
+    Ok(())
+}
+
+/// Adds all cycles that begin with the path and go on with the number.
+#[cycle(search)]
+fn visit(
+    table: &DepTable,
+    graph: &LockGraph,
+    ranks: &Ranks,
+    bound: usize,
+    path: &mut Path,
+    next: u32,
+    found: &mut Vec<Cycle>,
+) -> Result<(), SearchRefused>
+    requires graph { IsGraphOf (known table.now) (holders graph.now) }
+    requires ranks { AreRanks (known table.now) ranks.now }
+    requires path { IsPath (known table.now) path.old.items }
+    requires room { length path.old.items < bound }
+    requires bound { bound ≤ 8 }
+    requires few { length found.old.items ≤ MAX_CYCLES }
+    requires known { next < length (known table.now) }
+    requires above { AboveFirst path.old.items next }
+    requires linked { LinksTo (known table.now) path.old.items next }
+    ensures path { OnOk result (path.new.items ≡ path.old.items) }
+    ensures all { OnOk result (Adds (CycleThrough (known table.now) bound path.old.items next) found.old.items found.new.items) }
+    ensures few { OnOk result (length found.new.items ≤ MAX_CYCLES) }
+    ensures too_many { result ≡ Err SearchRefused.TooMany → Exceeds (CycleThrough (known table.now) bound path.old.items next) found.old.items }
+{
+    if !same_rank(ranks, path, next) {
+        return Ok(());
+    }
+    if !compatible(table, path.as_slice(), next) {
+        return Ok(());
+    }
+    path.push(next);
+    if closes(table, path) {
+        if found.len() >= MAX_CYCLES {
+            return Err(SearchRefused::TooMany);
+        }
+        found.push(cycle_of(path))?;
+    } else if path.len() < bound {
+        extend(table, graph, ranks, bound, path, found)?;
+    }
+    path.pop();
+    Ok(())
+}
+
+/// Whether the number has the rank of the path's first member.
+fn same_rank(ranks: &Ranks, path: &Path, next: u32) -> bool
+    requires begun { 0 < length path.now.items }
+    requires first { slice_index path.now.items 0 < length ranks.now }
+    requires next { next < length ranks.now }
+    ensures { IsTrue result ↔ (slice_index ranks.now (slice_index path.now.items 0) ≡ slice_index ranks.now next) }
+{
+    ranks.are_equal(path[0], next)
+}
+
+/// The cycle with the numbers of a path.
+fn cycle_of(path: &Path) -> Cycle
+    requires { 2 ≤ length path.now.items }
+    ensures { result ≡ path.now.items }
+{
+    let Some(cycle) = Cycle::new(path.as_slice()) else {
+        unreachable!()
+    };
+    cycle
+}
+
+/// Whether the lock of the last member is in the held set of the first.
+fn closes(table: &DepTable, path: &Path) -> bool
+    requires { IsPath (known table.now) path.now.items }
+    ensures { IsTrue result ↔ Closes (known table.now) path.now.items }
+{
+    let first = table.get(path[0]);
+    let last = table.get(path[path.len() - 1]);
+    first.held.contains(last.lock)
+}
+
+/// The dependencies above the path's first member that hold the lock of its last, ascending.
+fn successors<'a>(table: &DepTable, graph: &'a LockGraph, path: &Path) -> &'a [u32]
+    requires graph { IsGraphOf (known table.now) (holders graph.now) }
+    requires path { IsPath (known table.now) path.now.items }
+    ensures { AreNexts (known table.now) path.now.items result.now }
+{
+    let last = table.get(path[path.len() - 1]);
+    above(graph.successors(last.lock), path[0])
+}
+
+/// Those of ascending numbers that are above `first`.
+fn above(numbers: &[u32], first: u32) -> &[u32]
+    requires { IsStrictlyIncreasing numbers.now }
+    ensures exact { (m : ℕ) → Contains result.now m ↔ ((first < m) × Contains numbers.now m) }
+    ensures ascends { IsStrictlyIncreasing result.now }
+{
+    &numbers[numbers.partition_point(|number| *number <= first)..]
+}

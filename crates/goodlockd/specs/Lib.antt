@@ -1,0 +1,5 @@
+pub mod CommandLine
+pub mod EventFile
+pub mod Outcome
+pub mod Script
+pub mod Replay

@@ -1,0 +1,104 @@
+//! Event files: lines of event words.
+ghost use Rattle.std.specs.Prelude.{◌≡◌, ◌<◌, ◌^◌, ℕ, IfSome, Some, decimal};
+ghost use Rattle.std.specs.List.{position};
+ghost use Rattle.trace_model.specs.Frames.{IsRequest, object_of};
+ghost use Rattle.trace_model.specs.declared.event.Event.{Event};
+ghost use Rattle.trace_model.specs.declared.event.Op.{Op};
+ghost use Rattle.trace_model.specs.declared.session.Request.TheVariants.{Offer};
+ghost use Rattle.goodlockd.specs.EventFile.{is_no_digit, letter_of, event_word};
+
+use crate::outcome::Stopped;
+use itoa::Buffer;
+use std::alloc::Global;
+use std::str;
+use trace_model::{Event, NoMemory, Op};
+
+/// The number that is written so in decimal.
+pub fn number(digits: &[u8]) -> Option<u32>
+    ensures sound { IfSome result (λ n. digits.now ≡ decimal n) }
+    ensures complete { (n : ℕ) → n < 2 ^ 32 → digits.now ≡ decimal n → result ≡ Some n }
+{
+    let Ok(text) = str::from_utf8(digits) else {
+        return None;
+    };
+    let Ok(value) = text.parse::<u32>() else {
+        return None;
+    };
+    if Buffer::new().format(value).as_bytes() == digits {
+        Some(value)
+    } else {
+        None
+    }
+}
+
+/// The operation of a letter.
+fn op_of(letter: u8, object: u32) -> Option<Op>
+    ensures sound { IfSome result (λ op. (letter ≡ letter_of op) × (object_of op ≡ object)) }
+    ensures complete { (op : Op) → letter ≡ letter_of op → object_of op ≡ object → result ≡ Some op }
+{
+    match letter {
+        b'f' => Some(Op::Fork(object)),
+        b'j' => Some(Op::Join(object)),
+        b'a' => Some(Op::Acquire(object)),
+        b'r' => Some(Op::Release(object)),
+        b'd' => Some(Op::Read(object)),
+        b'w' => Some(Op::Write(object)),
+        _ => None,
+    }
+}
+
+/// The place of the first byte that is no digit.
+fn letter_place(word: &[u8]) -> Option<usize>
+    ensures { result ≡ position is_no_digit word.now }
+{
+    word.iter().position(|byte| !byte.is_ascii_digit())
+}
+
+/// The event that is written so: its thread, the letter of its operation, and its object.
+pub fn event(word: &[u8]) -> Option<Event>
+    ensures sound { IfSome result (λ e. word.now ≡ event_word e) }
+    ensures complete { (e : Event) → IsRequest (Offer e) → word.now ≡ event_word e → result ≡ Some e }
+{
+    let place = letter_place(word)?;
+    let thread = number(&word[..place])?;
+    let object = number(&word[place + 1..])?;
+    let op = op_of(word[place], object)?;
+    Some(Event { thread, op })
+}
+
+/// Adds the events of a line, which is skipped if it has no word or its first word begins with `#`. It answers
+/// whether the line is understood.
+pub fn push_events(events: &mut Vec<Event>, line: &[u8]) -> Result<bool, NoMemory> {
+    let mut first = true;
+    for word in line.split(|byte| *byte == b' ') {
+        if word.is_empty() {
+            continue;
+        }
+        if first && word[0] == b'#' {
+            return Ok(true);
+        }
+        first = false;
+        let Some(event) = event(word) else {
+            return Ok(false);
+        };
+        events.push(event)?;
+    }
+    Ok(true)
+}
+
+/// The events of a file, in their order.
+///
+/// # Errors
+///
+/// The first line that is not understood, or `Memory`.
+pub fn read_events(alloc: Global, file: &[u8]) -> Result<Vec<Event>, Stopped> {
+    let mut events = Vec::new(alloc);
+    let mut number = 0usize;
+    for line in file.split(|byte| *byte == b'\n') {
+        number = number.saturating_add(1);
+        if !push_events(&mut events, line)? {
+            return Err(Stopped::Line(number));
+        }
+    }
+    Ok(events)
+}

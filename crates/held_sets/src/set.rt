@@ -1,0 +1,109 @@
+ghost use Rattle.std.specs.Prelude.{◌≡◌, ℕ, ◌<◌, ◌≤◌, ◌↔◌, ◌==◌, [], length, false, slice_index, IsTrue};
+ghost use Rattle.std.specs.List.{list_any};
+ghost use Rattle.std.specs.List.Sorted.{IsStrictlyIncreasing};
+ghost use Rattle.trace_model.specs.declared.limits.TheConstants.{MAX_HELD};
+ghost use Rattle.trace_model.specs.Held.{has, with_lock, without_lock};
+ghost use Rattle.held_sets.specs.Tables.{AreDisjoint};
+
+use arrayvec::ArrayVec;
+use std::marker::Model;
+use trace_model::MAX_HELD;
+
+/// Some locks in ascending order, each once: at most as many as a thread may hold.
+#[derive(Debug, Drop, Clone, PartialEq, Eq, Hash)]
+pub struct HeldSet {
+    locks: ArrayVec<u32, MAX_HELD>,
+}
+
+impl Model for HeldSet {
+    ghost use Rattle.std.specs.Prelude.{List, ℕ};
+    ghost use Rattle.std.specs.List.Sorted.{IsStrictlyIncreasing};
+
+    ghost Value = { List ℕ };
+
+    ghost view = { λ s. s.locks.items };
+
+    ghost invariant = { λ s. IsStrictlyIncreasing s.locks.items };
+
+    ghost inverse = { λ locks. record { locks = record { items = locks } } };
+}
+
+impl HeldSet {
+    /// No lock.
+    pub fn new() -> HeldSet
+        ensures { result ≡ [] }
+    {
+        HeldSet {
+            locks: ArrayVec::new(),
+        }
+    }
+
+    /// The locks, ascending.
+    pub fn locks(&self) -> &[u32]
+        ensures value { result.now ≡ self.now }
+        ensures ascends { IsStrictlyIncreasing result.now }
+        ensures few { length result.now ≤ MAX_HELD }
+    {
+        self.locks.as_slice()
+    }
+
+    /// Whether the lock is one of them.
+    pub fn contains(&self, lock: u32) -> bool
+        ensures { result ≡ has lock self.now }
+    {
+        self.locks().contains(&lock)
+    }
+
+    /// Whether the two sets have no lock in common.
+    pub fn is_disjoint(&self, other: &HeldSet) -> bool
+        ensures { IsTrue result ↔ AreDisjoint self.now other.now }
+    {
+        for lock in self.locks() {
+            if other.contains(*lock) {
+                return false;
+            }
+        }
+        true
+    }
+
+    /// The same locks. It takes no memory.
+    pub fn copied(&self) -> HeldSet
+        ensures { result ≡ self.now }
+    {
+        let Ok(copy) = self.clone() else {
+            unreachable!()
+        };
+        copy
+    }
+
+    /// Puts a lock in, which must be a new one, with fewer than `MAX_HELD` there before.
+    pub fn insert(&mut self, lock: u32)
+        requires new { has lock self.old ≡ false }
+        requires room { length self.old < MAX_HELD }
+        ensures { self.new ≡ with_lock lock self.old }
+    {
+        let index = index_above(self.locks.as_slice(), lock);
+        self.locks.insert(index, lock);
+    }
+
+    /// Takes a lock out. One that is not there changes nothing.
+    pub fn remove(&mut self, lock: u32)
+        ensures { self.new ≡ without_lock lock self.old }
+    {
+        self.locks.retain(|other| *other != lock);
+    }
+}
+
+/// The index of the first lock above this one, or the length if none is.
+fn index_above(locks: &[u32], lock: u32) -> usize
+    ensures within { result ≤ length locks.now }
+    ensures below { (k : ℕ) → k < result → slice_index locks.now k ≤ lock }
+    ensures above { result < length locks.now → lock < slice_index locks.now result }
+{
+    for (index, other) in locks.iter().enumerate() {
+        if lock < *other {
+            return index;
+        }
+    }
+    locks.len()
+}

@@ -1,0 +1,95 @@
+ghost use Rattle.std.specs.Prelude.{◌≡◌, ℕ, ◌<◌, [], length, false, OnOk, OnErr};
+ghost use Rattle.trace_model.specs.declared.event.Op.TheVariants.{Acquire, Release};
+ghost use Rattle.trace_model.specs.declared.limits.TheConstants.{MAX_HELD};
+ghost use Rattle.trace_model.specs.Held.{has};
+ghost use Rattle.held_sets.specs.Tables.{held_in, HasEntry, IsAfter};
+
+use crate::set::HeldSet;
+use std::alloc::Global;
+use std::collections::HashMap;
+use std::collections::hash_map::RandomState;
+use std::marker::Model;
+use trace_model::NoMemory;
+
+/// The locks that each thread holds.
+#[derive(Drop)]
+pub struct HeldTable {
+    threads: HashMap<u32, HeldSet, RandomState>,
+}
+
+impl Model for HeldTable {
+    ghost use Rattle.held_sets.specs.Tables.{Table};
+
+    ghost Value = { Table };
+
+    ghost view = { λ t. t.threads.entries };
+}
+
+impl HeldTable {
+    /// No thread holds a lock. It takes no memory.
+    pub fn new(alloc: Global, state: RandomState) -> HeldTable
+        ensures { (t : ℕ) → held_in result t ≡ [] }
+    {
+        HeldTable {
+            threads: HashMap::with_hasher(alloc, state),
+        }
+    }
+
+    /// The locks that the thread holds. It takes no memory.
+    pub fn held(&self, thread: u32) -> HeldSet
+        ensures { result ≡ held_in self.now thread }
+    {
+        match self.threads.get(&thread) {
+            Some(locks) => locks.copied(),
+            None => HeldSet::new(),
+        }
+    }
+
+    /// The thread acquires a lock that it does not hold, while it holds fewer than `MAX_HELD`.
+    ///
+    /// # Errors
+    ///
+    /// `NoMemory` where a growth was refused. What each thread holds is then as before.
+    pub fn acquire(&mut self, thread: u32, lock: u32) -> Result<(), NoMemory>
+        requires new { has lock (held_in self.old thread) ≡ false }
+        requires room { length (held_in self.old thread) < MAX_HELD }
+        ensures ok { OnOk result (IsAfter self.old thread (Acquire lock) self.new) }
+        ensures err { OnErr result ((t : ℕ) → held_in self.new t ≡ held_in self.old t) }
+    {
+        self.reserve(thread)?;
+        self.record(thread, lock);
+        Ok(())
+    }
+
+    /// The thread releases a lock. One that it does not hold changes nothing. It takes no memory.
+    pub fn release(&mut self, thread: u32, lock: u32)
+        ensures { IsAfter self.old thread (Release lock) self.new }
+    {
+        if let Some(locks) = self.threads.get_mut(&thread) {
+            locks.remove(lock);
+        }
+    }
+
+    /// Makes an entry for a thread that is about to acquire a lock. What each thread holds stays as it was.
+    fn reserve(&mut self, thread: u32) -> Result<(), NoMemory>
+        ensures shown { (t : ℕ) → held_in self.new t ≡ held_in self.old t }
+        ensures ok { OnOk result (HasEntry self.new thread) }
+    {
+        if !self.threads.contains_key(&thread) {
+            self.threads.insert(thread, HeldSet::new())?;
+        }
+        Ok(())
+    }
+
+    /// The thread, which has an entry, acquires a lock. It takes no memory.
+    fn record(&mut self, thread: u32, lock: u32)
+        requires entry { HasEntry self.old thread }
+        requires new { has lock (held_in self.old thread) ≡ false }
+        requires room { length (held_in self.old thread) < MAX_HELD }
+        ensures { IsAfter self.old thread (Acquire lock) self.new }
+    {
+        if let Some(locks) = self.threads.get_mut(&thread) {
+            locks.insert(lock);
+        }
+    }
+}

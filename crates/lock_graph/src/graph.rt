@@ -1,0 +1,71 @@
+ghost use Rattle.std.specs.Prelude.{◌≡◌, ℕ, List, [], ◌∷◌, ◌++◌, length, OnOk, OnErr};
+ghost use Rattle.trace_model.specs.Dependencies.{Dependency as Triple};
+ghost use Rattle.lock_graph.specs.Lists.{listed_with};
+ghost use Rattle.lock_graph.specs.Graph.{IsGraphOf, HasRoom, holders};
+
+use crate::lists::{Lists, record, reserve};
+use dependencies::Dependency;
+use std::alloc::Global;
+use std::collections::HashMap;
+use std::collections::hash_map::RandomState;
+use trace_model::NoMemory;
+
+/// For each lock the numbers of the dependencies that hold it.
+#[derive(Drop)]
+pub struct LockGraph {
+    lists: Lists,
+    alloc: Global,
+}
+
+impl LockGraph {
+    /// No dependency. It takes no memory.
+    pub fn new(alloc: Global, state: RandomState) -> LockGraph
+        ensures { IsGraphOf [] (holders result) }
+    {
+        LockGraph {
+            lists: HashMap::with_hasher(alloc, state),
+            alloc,
+        }
+    }
+
+    /// Adds a dependency at each lock that it holds. Dependencies are to be added by number, from 0 on.
+    ///
+    /// # Errors
+    ///
+    /// `NoMemory` where a growth was refused. What each lock has is then as before.
+    pub fn add(&mut self, number: u32, dependency: &Dependency) -> Result<(), NoMemory>
+        ensures lists { OnOk result ((lock : ℕ) → holders self.new lock ≡ listed_with dependency.now.held number lock (holders self.old lock)) }
+        ensures graph { OnOk result ((ds : List Triple) → number ≡ length ds → IsGraphOf ds (holders self.old) → IsGraphOf (ds ++ dependency.now ∷ []) (holders self.new)) }
+        ensures err { OnErr result ((lock : ℕ) → holders self.new lock ≡ holders self.old lock) }
+    {
+        self.reserve(dependency)?;
+        self.record(number, dependency);
+        Ok(())
+    }
+
+    /// The numbers of the dependencies that hold the lock, ascending. It takes no memory.
+    pub fn successors(&self, lock: u32) -> &[u32]
+        ensures { result.now ≡ holders self.now lock }
+    {
+        match self.lists.get(&lock) {
+            Some(list) => list.as_slice(),
+            None => &[],
+        }
+    }
+
+    /// Makes room for one more number at each lock that the dependency holds. What each lock has stays as it was.
+    fn reserve(&mut self, dependency: &Dependency) -> Result<(), NoMemory>
+        ensures shown { (lock : ℕ) → holders self.new lock ≡ holders self.old lock }
+        ensures ok { OnOk result (HasRoom self.new dependency.now.held) }
+    {
+        reserve(&mut self.lists, self.alloc, dependency.held.locks())
+    }
+
+    /// Adds a dependency at each lock that it holds, where there is room. It takes no memory.
+    fn record(&mut self, number: u32, dependency: &Dependency)
+        requires { HasRoom self.old dependency.now.held }
+        ensures { (lock : ℕ) → holders self.new lock ≡ listed_with dependency.now.held number lock (holders self.old lock) }
+    {
+        record(&mut self.lists, dependency.held.locks(), number);
+    }
+}

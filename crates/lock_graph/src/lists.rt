@@ -1,0 +1,60 @@
+ghost use Rattle.std.specs.Prelude.{◌≡◌, ℕ, ◌++◌, ◌∷◌, [], nat_eq, cond, OnOk, false};
+ghost use Rattle.std.specs.HashMap.{get};
+ghost use Rattle.std.specs.List.Sorted.{IsStrictlyIncreasing};
+ghost use Rattle.lock_graph.specs.Lists.{listed, listed_with, HasRoomAt, HaveRoom};
+
+use std::alloc::Global;
+use std::collections::HashMap;
+use std::collections::hash_map::RandomState;
+use trace_model::NoMemory;
+
+/// The numbers listed for each lock.
+pub(crate) type Lists = HashMap<u32, Vec<u32>, RandomState>;
+
+/// Makes room for one more number at each of the locks.
+pub(crate) fn reserve(lists: &mut Lists, alloc: Global, locks: &[u32]) -> Result<(), NoMemory>
+    ensures shown { (other : ℕ) → listed lists.new other ≡ listed lists.old other }
+    ensures ok { OnOk result (HaveRoom lists.new locks.now) }
+{
+    for lock in locks {
+        reserve_one(lists, alloc, *lock)?;
+    }
+    Ok(())
+}
+
+/// Adds a number at each of the locks, which ascend and have room.
+pub(crate) fn record(lists: &mut Lists, locks: &[u32], number: u32)
+    requires room { HaveRoom lists.old locks.now }
+    requires ascends { IsStrictlyIncreasing locks.now }
+    ensures { (other : ℕ) → listed lists.new other ≡ listed_with locks.now number other (listed lists.old other) }
+{
+    for lock in locks {
+        record_one(lists, *lock, number);
+    }
+}
+
+/// Makes room for one more number at a lock.
+fn reserve_one(lists: &mut Lists, alloc: Global, lock: u32) -> Result<(), NoMemory>
+    ensures shown { (other : ℕ) → listed lists.new other ≡ listed lists.old other }
+    ensures ok { OnOk result (HasRoomAt lists.new lock) }
+    ensures kept { (other : ℕ) → HasRoomAt lists.old other → HasRoomAt lists.new other }
+{
+    if !lists.contains_key(&lock) {
+        lists.insert(lock, Vec::new(alloc))?;
+    }
+    if let Some(list) = lists.get_mut(&lock) {
+        list.reserve(1)?;
+    }
+    Ok(())
+}
+
+/// Adds a number at a lock, whose list has room.
+fn record_one(lists: &mut Lists, lock: u32, number: u32)
+    requires { HasRoomAt lists.old lock }
+    ensures shown { (other : ℕ) → listed lists.new other ≡ (cond (nat_eq lock other) (listed lists.old other ++ number ∷ []) (listed lists.old other)) }
+    ensures others { (other : ℕ) → nat_eq lock other ≡ false → get nat_eq lists.new other ≡ get nat_eq lists.old other }
+{
+    if let Some(list) = lists.get_mut(&lock) {
+        list.push_reserved(number);
+    }
+}

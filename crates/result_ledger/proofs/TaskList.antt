@@ -1,0 +1,140 @@
+-- What the marks say of the tasks.
+use Rattle.std.proofs.Common.{◌≡◌, ℕ, zero, suc, ◌+◌, ◌++◌, ◌^◌, inl, inr, replicate, ◌<◌, ◌≤◌, Bool, true, false, List, [], ◌∷◌, length, map, slice_get, slice_set, Option, Some, None, is_some, count_by, refl, sym, ap, ◌∙◌, subst, cond, arith}
+use Rattle.std.proofs.lemmas.List.Sums.{sum_by-cons}
+use Rattle.std.proofs.lemmas.List.Folds.{sum_by-replicate}
+use Rattle.std.proofs.lemmas.Bool.{cases_lt}
+use Rattle.std.proofs.lemmas.List.{length-replicate}
+use Rattle.std.proofs.Math.ListN.{length-set}
+use Rattle.std.proofs.Math.Nat.{mul-zero}
+use Rattle.witness.specs.Printed.{Printed}
+use Rattle.result_ledger.specs.Inside.{task_of, tasks_of, IsInOrder}
+use Rattle.result_ledger.specs.Tasks.{IsMissing, IsLeastMissing}
+
+pub told : (ms : List Bool) (rs : List (List Printed)) (k : ℕ) (m : Bool) → length ms ≡ length rs → slice_get ms k ≡ Some m →
+    (r : List Printed) × (slice_get (tasks_of ms rs) k ≡ Some (task_of m r))
+told [] rs k m e h = absurd (cc)
+told (x ∷ ms) [] k m e h = absurd (omega arith)
+told (x ∷ ms) (r ∷ rs) zero m e h = let same : x ≡ m = cc in (r, ap (λ b. Some (task_of b r)) same)
+told (x ∷ ms) (r ∷ rs) (suc k) m e h = told ms rs k m (omega arith) h
+
+pub beyond : (ms : List Bool) (rs : List (List Printed)) (k : ℕ) → slice_get ms k ≡ None → slice_get (tasks_of ms rs) k ≡ None
+beyond [] rs k h = refl
+beyond (x ∷ ms) [] k h = refl
+beyond (x ∷ ms) (r ∷ rs) zero h = absurd (cc)
+beyond (x ∷ ms) (r ∷ rs) (suc k) h = beyond ms rs k h
+
+pub unmarked : (ms : List Bool) (rs : List (List Printed)) (k : ℕ) → length ms ≡ length rs → IsMissing (tasks_of ms rs) k → slice_get ms k ≡ Some false
+unmarked ms rs k e h = go (slice_get ms k) refl
+  where
+    go : (o : Option Bool) → slice_get ms k ≡ o → o ≡ Some false
+    go None f = let b = beyond ms rs k f in absurd (cc)
+    go (Some true) f = let t = told ms rs k true e f in let u = t.1 in absurd (cc)
+    go (Some false) f = refl
+
+pub counted : (ms : List Bool) (rs : List (List Printed)) → length ms ≡ length rs → count_by is_some (tasks_of ms rs) ≡ count_by (λ m. m) ms
+counted [] rs e = refl
+counted (x ∷ ms) [] e = absurd (omega arith)
+counted (true ∷ ms) (r ∷ rs) e = sum_by-cons (λ t. cond (is_some t) 1 0) (Some r) (tasks_of ms rs) ∙ ap (λ n. 1 + n) (counted ms rs (omega arith)) ∙ sym (sum_by-cons (λ m. cond m 1 0) true ms)
+counted (false ∷ ms) (r ∷ rs) e = sum_by-cons (λ t. cond (is_some t) 1 0) None (tasks_of ms rs) ∙ ap (λ n. 0 + n) (counted ms rs (omega arith)) ∙ sym (sum_by-cons (λ m. cond m 1 0) false ms)
+
+pub all_told : {X : Type 0} (g : X → List Printed) (ms : List Bool) (rs : List X) → length ms ≡ length rs → ((k : ℕ) → k < length ms → slice_get ms k ≡ Some true) →
+    tasks_of ms (map g rs) ≡ map (λ r. Some (g r)) rs
+all_told g [] [] e h = refl
+all_told g [] (r ∷ rs) e h = absurd (omega arith)
+all_told g (x ∷ ms) [] e h = absurd (omega arith)
+all_told g (x ∷ ms) (r ∷ rs) e h =
+    let here : Some x ≡ Some true = h 0 (omega arith) in
+    let same : x ≡ true = cc in
+    let rest = all_told g ms rs (omega arith) (λ k l. h (suc k) (omega arith)) in
+    λ i. task_of (same i) (g r) ∷ rest i
+
+pub told_more : {X : Type 0} (g : X → List Printed) (ms : List Bool) (rs : List X) (i : ℕ) (r : X) → length ms ≡ length rs →
+    tasks_of (slice_set ms i true) (map g (slice_set rs i r)) ≡ slice_set (tasks_of ms (map g rs)) i (Some (g r))
+told_more g [] [] i r e = refl
+told_more g [] (y ∷ rs) i r e = absurd (omega arith)
+told_more g (x ∷ ms) [] i r e = absurd (omega arith)
+told_more g (x ∷ ms) (y ∷ rs) zero r e = refl
+told_more g (x ∷ ms) (y ∷ rs) (suc i) r e = ap (λ ts. task_of x (g y) ∷ ts) (told_more g ms rs i r (omega arith))
+
+pub counted_more : (ms : List Bool) (i : ℕ) → slice_get ms i ≡ Some false → count_by (λ m. m) (slice_set ms i true) ≡ count_by (λ m. m) ms + 1
+counted_more [] i h = absurd (cc)
+counted_more (x ∷ ms) zero h =
+    let same : x ≡ false = cc in
+    sum_by-cons (λ m. cond m 1 0) true ms ∙ (let last : 1 + count_by (λ m. m) ms ≡ (0 + count_by (λ m. m) ms) + 1 = omega arith in last)
+    ∙ ap (λ n. n + 1) (sym (sum_by-cons (λ m. cond m 1 0) false ms)) ∙ ap (λ b. count_by (λ m. m) (b ∷ ms) + 1) (sym same)
+counted_more (x ∷ ms) (suc i) h =
+    omega (arith, sum_by-cons (λ m. cond m 1 0) x (slice_set ms i true), sum_by-cons (λ m. cond m 1 0) x ms, counted_more ms i h)
+
+pub still_marked : (ms : List Bool) (i k : ℕ) → slice_get ms k ≡ Some true → slice_get (slice_set ms i true) k ≡ Some true
+still_marked [] i k h = absurd (cc)
+still_marked (x ∷ ms) zero zero h = refl
+still_marked (x ∷ ms) zero (suc k) h = h
+still_marked (x ∷ ms) (suc i) zero h = h
+still_marked (x ∷ ms) (suc i) (suc k) h = still_marked ms i k h
+
+clash : (o : Option Bool) → o ≡ Some true → o ≡ Some false → ⊥
+clash o e f = cc
+
+pub least_missing : (ms : List Bool) (rs : List (List Printed)) (n m : ℕ) → IsInOrder ms rs n m → m < length ms → IsLeastMissing (tasks_of ms rs) m
+least_missing ms rs n m order l = (
+  (told ms rs m false order.long (order.first l)).1,
+  λ other h. elim (cases_lt other m) [
+    | inl e ↦ absurd (clash (slice_get ms other) (order.before other e) (unmarked ms rs other order.long h))
+    | inr e ↦ e
+  ],
+)
+
+pub within_list : (ms : List Bool) (k : ℕ) (m : Bool) → slice_get ms k ≡ Some m → k < length ms
+within_list [] k m h = absurd (cc)
+within_list (x ∷ ms) zero m h = omega arith
+within_list (x ∷ ms) (suc k) m h = omega (arith, within_list ms k m h)
+
+pub none_missing : (ms : List Bool) (rs : List (List Printed)) (n m : ℕ) → IsInOrder ms rs n m → length ms ≤ m → (task : ℕ) → IsMissing (tasks_of ms rs) task → ⊥
+none_missing ms rs n m order l task h =
+    let gone = unmarked ms rs task order.long h in
+    clash (slice_get ms task) (order.before task (omega (arith, within_list ms task false gone))) gone
+
+pub map_long : {X : Type 0} (g : X → List Printed) (xs : List X) → length (map g xs) ≡ length xs
+map_long g [] = refl
+map_long g (x ∷ xs) = ap (λ n. suc n) (map_long g xs)
+
+pub marked_more : {X : Type 0} (g : X → List Printed) (ms : List Bool) (rs : List X) (n m i last : ℕ) (r : X) → IsInOrder ms (map g rs) n m → slice_get ms i ≡ Some false →
+    m ≤ last → last ≤ length (slice_set ms i true) → ((k : ℕ) → m ≤ k → k < last → slice_get (slice_set ms i true) k ≡ Some true) →
+    (last < length (slice_set ms i true) → slice_get (slice_set ms i true) last ≡ Some false) →
+    IsInOrder (slice_set ms i true) (map g (slice_set rs i r)) (n + 1) last
+marked_more g ms rs n m i last r order h from within before first = record {
+  long = length-set ms i true ∙ order.long ∙ map_long g rs ∙ sym (length-set rs i r) ∙ sym (map_long g (slice_set rs i r));
+  short = omega (arith, order.short, map_long g rs, length-set rs i r, map_long g (slice_set rs i r));
+  counted = ap (λ k. k + 1) order.counted ∙ sym (counted_more ms i h);
+  within = within;
+  before = λ k l. elim (cases_lt k m) [ inl e ↦ still_marked ms i k (order.before k e) | inr e ↦ before k e l ];
+  first = first;
+}
+
+pub none_told : (n : ℕ) (rs : List (List Printed)) → length rs ≡ n → tasks_of (replicate n false) rs ≡ replicate n None
+none_told zero rs e = refl
+none_told (suc n) [] e = absurd (omega arith)
+none_told (suc n) (r ∷ rs) e = ap (λ ts. None ∷ ts) (none_told n rs (omega arith))
+
+head_of : (n : ℕ) → 0 < n → slice_get (replicate n false) 0 ≡ Some false
+head_of zero l = absurd (omega arith)
+head_of (suc n) l = refl
+
+pub opened : (n : ℕ) (ms : List Bool) (rs : List (List Printed)) → ms ≡ replicate n false → length rs ≡ n → n < 2 ^ 32 → IsInOrder ms rs 0 0
+opened n ms rs e f l = subst (λ xs. IsInOrder xs rs 0 0) (sym e) (record {
+  long = length-replicate n false ∙ sym f;
+  short = omega arith;
+  counted = sym (sum_by-replicate (λ m. cond m 1 0) n false ∙ mul-zero n);
+  within = omega arith;
+  before = λ k h. absurd (omega arith);
+  first = λ h. head_of n (omega (arith, length-replicate n false));
+})
+
+-- the same, where the marks stand in a list of their own
+pub marked_at : {X : Type 0} (g : X → List Printed) (ms : List Bool) (rs : List X) (n m i last : ℕ) (r : X) (now : List Bool) → IsInOrder ms (map g rs) n m → slice_get ms i ≡ Some false →
+    now ≡ slice_set ms i true → (m ≤ last) × (last ≤ length now) → ((k : ℕ) → m ≤ k → k < last → slice_get now k ≡ Some true) →
+    (last < length now → slice_get now last ≡ Some false) → IsInOrder (slice_set ms i true) (map g (slice_set rs i r)) (n + 1) last
+marked_at g ms rs n m i last r now order h e w b f = marked_more g ms rs n m i last r order h w.0
+    (subst (λ xs. last ≤ length xs) e w.1)
+    (λ k x y. subst (λ xs. slice_get xs k ≡ Some true) e (b k x y))
+    (λ l. subst (λ xs. slice_get xs last ≡ Some false) e (f (subst (λ xs. last < length xs) (sym e) l)))

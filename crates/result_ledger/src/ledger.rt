@@ -1,0 +1,149 @@
+//! The rows of a question's tasks.
+
+ghost use Rattle.std.specs.Prelude.{◌≡◌, ℕ, ◌<◌, ◌≤◌, ◌^◌, Some, None, replicate, length, map, slice_get, slice_set, is_some, count_by, true, false, IfOk, MatchResult, MatchOption};
+
+use std::alloc::Global;
+use std::marker::Model;
+use thiserror::Error;
+use trace_model::NoMemory;
+use witness::Row;
+
+/// Why the rows of a task are not taken.
+#[derive(Clone, Copy, Debug, PartialEq, Eq, Error)]
+pub enum LedgerRefused {
+    /// The question has no task with this number.
+    #[error("no such task")]
+    NoSuchTask,
+    /// The task was delivered before.
+    #[error("delivered before")]
+    Double,
+}
+
+/// The tasks of a question, numbered from 0, with the rows of those that are delivered.
+///
+/// All its room is made by `open`; no other call takes memory.
+#[derive(Drop)]
+pub struct Ledger {
+    // the rows of each task, none where it is not delivered
+    rows: Vec<Vec<Row>>,
+    // whether each task is delivered
+    marks: Vec<bool>,
+    // how many are
+    delivered: u32,
+    // the least that is not, or how many tasks there are
+    missing: u32,
+}
+
+impl Model for Ledger {
+    ghost use Rattle.std.specs.Prelude.{List, Option, map};
+    ghost use Rattle.witness.specs.Printed.{Printed};
+    ghost use Rattle.result_ledger.specs.Inside.{IsInOrder, tasks_of};
+
+    ghost Value = { List (Option (List Printed)) };
+
+    ghost view = { λ l. tasks_of l.marks.items (map (λ rows. rows.items) l.rows.items) };
+
+    ghost invariant = { λ l. IsInOrder l.marks.items (map (λ rows. rows.items) l.rows.items) l.delivered l.missing };
+}
+
+impl Ledger {
+    ghost use Rattle.result_ledger.specs.Tasks.{IsMissing, IsLeastMissing, IsRefused};
+
+    /// A ledger of so many tasks, none of them delivered. NoMemory where a growth was refused.
+    pub fn open(alloc: Global, total: u32) -> Result<Ledger, NoMemory>
+        ensures { IfOk result (λ ledger. ledger ≡ replicate total None) }
+    {
+        let mut rows = Vec::with_capacity(alloc, total as usize)?;
+        let mut marks = Vec::with_capacity(alloc, total as usize)?;
+        for _task in 0..total {
+            rows.push(Vec::new(alloc))?;
+            marks.push(false)?;
+        }
+        Ok(Ledger {
+            rows,
+            marks,
+            delivered: 0,
+            missing: 0,
+        })
+    }
+
+    /// What `accept` would answer for rows of the task.
+    pub fn test(&self, task: u32) -> Result<(), LedgerRefused>
+        ensures { MatchResult result (λ _. IsMissing self.now task) (IsRefused self.now task) }
+    {
+        match mark_of(self.marks.as_slice(), task) {
+            None => Err(LedgerRefused::NoSuchTask),
+            Some(true) => Err(LedgerRefused::Double),
+            Some(false) => Ok(()),
+        }
+    }
+
+    /// How many tasks are delivered.
+    pub fn delivered(&self) -> u32
+        ensures { result ≡ count_by is_some self.now }
+    {
+        self.delivered
+    }
+
+    /// The least task that is not delivered; none where all are.
+    pub fn missing(&self) -> Option<u32>
+        ensures { MatchOption result ((task : ℕ) → IsMissing self.now task → ⊥) (IsLeastMissing self.now) }
+    {
+        if (self.missing as usize) < self.marks.len() {
+            Some(self.missing)
+        } else {
+            None
+        }
+    }
+
+    /// The rows of each task, in the order of the tasks, once none is missing.
+    pub fn settled(&self) -> Option<&[Vec<Row>]>
+        ensures { MatchOption result ((task : ℕ) × IsMissing self.now task) (λ rows. self.now ≡ map (λ task. Some task.items) rows.now) }
+    {
+        if self.missing as usize == self.rows.len() {
+            Some(self.rows.as_slice())
+        } else {
+            None
+        }
+    }
+
+    /// Takes the rows of a task. Refused: NoSuchTask where there is no such task, Double where it was
+    /// delivered before; the rows are then handed back, and nothing changed.
+    pub fn accept(&mut self, task: u32, rows: Vec<Row>) -> Result<(), (LedgerRefused, Vec<Row>)>
+        ensures { MatchResult result
+            (λ _. IsMissing self.old task × (self.new ≡ slice_set self.old task (Some rows.items)))
+            (λ refused. IsRefused self.old task refused.0 × (refused.1 ≡ rows) × (self.new ≡ self.old)) }
+    {
+        match self.test(task) {
+            Err(refused) => Err((refused, rows)),
+            Ok(()) => {
+                self.rows[task as usize] = rows;
+                self.marks[task as usize] = true;
+                self.delivered += 1;
+                self.missing = first_false(self.marks.as_slice(), self.missing);
+                Ok(())
+            }
+        }
+    }
+}
+
+/// The first mark from this place on that is not set, or how many there are.
+fn first_false(marks: &[bool], from: u32) -> u32
+    requires from { from ≤ length marks.now }
+    requires long { length marks.now < 2 ^ 32 }
+    ensures within { (from ≤ result) × (result ≤ length marks.now) }
+    ensures before { (k : ℕ) → from ≤ k → k < result → slice_get marks.now k ≡ Some true }
+    ensures first { result < length marks.now → slice_get marks.now result ≡ Some false }
+{
+    let mut place = from;
+    while (place as usize) < marks.len() && marks[place as usize] {
+        place += 1;
+    }
+    place
+}
+
+fn mark_of(marks: &[bool], task: u32) -> Option<bool>
+    ensures { result ≡ slice_get marks.now task }
+{
+    marks.get(task as usize).copied()
+}

@@ -1,0 +1,8 @@
+//! The rows of a question's tasks, as they come in, each task once.
+#![tactic(auto)]
+
+mod ledger;
+#[cfg(test)]
+mod tests;
+
+pub use ledger::{Ledger, LedgerRefused};

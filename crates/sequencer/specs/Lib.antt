@@ -1,0 +1,4 @@
+pub mod Book
+pub mod Sessions
+pub mod Drains
+pub mod Played

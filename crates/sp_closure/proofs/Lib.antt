@@ -1,0 +1,9 @@
+pub mod Counts
+pub mod FrontLemmas
+pub mod ThreadLemmas
+pub mod GrowingLemmas
+pub mod ClosingLemmas
+pub mod PointerLemmas
+pub mod NeedsLemmas
+pub mod WorkLemmas
+pub mod TableLemmas

@@ -1,0 +1,4 @@
+pub mod Gate
+pub mod Owners
+pub mod Threads
+pub mod Tables

@@ -1,0 +1,11 @@
+//! The gate: which events may follow the recorded ones.
+#![tactic(auto)]
+
+mod entries;
+mod gate;
+mod owners;
+#[cfg(test)]
+mod tests;
+mod threads;
+
+pub use gate::Gate;

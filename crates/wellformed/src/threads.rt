@@ -1,0 +1,61 @@
+//! What is known of each thread.
+ghost use Rattle.std.specs.Prelude.{◌≡◌, ℕ, nat_eq, cond, OnOk};
+ghost use Rattle.wellformed.specs.Threads.{thread_in, unknown, HasThread};
+
+use std::alloc::Global;
+use std::collections::HashMap;
+use std::hash::RandomState;
+use trace_model::NoMemory;
+
+/// What is known of a thread: whether it was forked and joined, and how many locks it holds.
+#[derive(Clone, Copy, Debug, PartialEq, Eq)]
+pub struct ThreadEntry {
+    pub forked: bool,
+    pub joined: bool,
+    pub held: u32,
+}
+
+/// What is known of each thread. An entry may show nothing.
+pub type Threads = HashMap<u32, ThreadEntry, RandomState>;
+
+const UNKNOWN: ThreadEntry = ThreadEntry {
+    forked: false,
+    joined: false,
+    held: 0,
+};
+
+/// An empty table.
+pub fn no_threads(alloc: Global, state: RandomState) -> Threads
+    ensures { (t : ℕ) → thread_in result t ≡ unknown }
+{
+    HashMap::with_hasher(alloc, state)
+}
+
+/// What is known of a thread.
+pub fn known(threads: &Threads, thread: u32) -> ThreadEntry
+    ensures { result ≡ thread_in threads.now thread }
+{
+    threads.get(&thread).copied().unwrap_or(UNKNOWN)
+}
+
+/// Makes an entry for a thread, which shows nothing until it is written.
+pub fn reserve_thread(threads: &mut Threads, thread: u32) -> Result<(), NoMemory>
+    ensures shown { (t : ℕ) → thread_in threads.new t ≡ thread_in threads.old t }
+    ensures ok { OnOk result (HasThread threads.new thread) }
+    ensures kept { (t : ℕ) → HasThread threads.old t → HasThread threads.new t }
+{
+    if !threads.contains_key(&thread) {
+        threads.insert(thread, UNKNOWN)?;
+    }
+    Ok(())
+}
+
+/// Writes what is known of a thread, which must have an entry.
+pub fn set_thread(threads: &mut Threads, thread: u32, entry: ThreadEntry)
+    requires { HasThread threads.old thread }
+    ensures { (t : ℕ) → thread_in threads.new t ≡ cond (nat_eq thread t) entry (thread_in threads.old t) }
+{
+    if let Some(place) = threads.get_mut(&thread) {
+        *place = entry;
+    }
+}

@@ -1,0 +1,7 @@
+use Rattle.std.proofs.Common.{◌≡◌}
+use Rattle.trace_model.specs.Closure.{ascending}
+use Rattle.sp_closure.specs.State.{places_in}
+use Rattle.witness.proofs.order.write_witness.Given as goal
+
+abbrev pub invariant-loop-p : goal.invariant-loop-p
+invariant-loop-p l = l.places.items ≡ ascending (places_in l.index l.fronts) l.p

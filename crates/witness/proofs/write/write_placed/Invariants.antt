@@ -1,0 +1,7 @@
+use Rattle.std.proofs.Common.{◌≡◌, ◌++◌, take, flat_map}
+use Rattle.std.specs.List.{zip}
+use Rattle.witness.specs.Text.{placed_line}
+use Rattle.witness.proofs.write.write_placed.Given as goal
+
+abbrev pub invariant-loop-i : goal.invariant-loop-i
+invariant-loop-i l = l.text.items ≡ l.initial.text.items ++ flat_map placed_line (take l.i (zip l.dependencies l.places))

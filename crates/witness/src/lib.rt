@@ -1,0 +1,20 @@
+//! Rows of a report: the cycle, its members' dependencies, and for a confirmed one the instance with its
+//! witness; and the report's text.
+#![tactic(auto)]
+
+mod measure;
+#[cfg(test)]
+mod oracle;
+mod order;
+mod report;
+mod row;
+#[cfg(test)]
+mod tests;
+#[cfg(test)]
+mod traces;
+mod write;
+
+pub use measure::confirmed_in;
+pub use order::write_witness;
+pub use report::{TextRefused, report_text};
+pub use row::{Found, Row};

@@ -1,0 +1,36 @@
+//! The witness of an instance, from the fronts of its closure.
+
+ghost use Rattle.std.specs.Prelude.{◌≡◌, List, ℕ, length, IfOk};
+ghost use Rattle.trace_model.specs.Closure.{IsClosure, ascending};
+ghost use Rattle.trace_model.specs.Reordering.{Reached};
+ghost use Rattle.trace_model.specs.Rows.{IsWitness};
+ghost use Rattle.sp_closure.specs.State.{places_in};
+
+use sp_closure::Fronts;
+use std::alloc::Global;
+use trace_index::TraceIndex;
+use trace_model::{NoMemory, Place};
+
+/// The places of the fronts, ascending. Where the fronts are the closure of what reached places need, this
+/// is a reordering that reaches them, and its places are in every other one.
+///
+/// The caller owes the index of the trace that the fronts were made over. NoMemory where a growth was
+/// refused.
+pub fn write_witness(
+    alloc: Global,
+    index: &TraceIndex,
+    fronts: &Fronts,
+) -> Result<Vec<Place>, NoMemory>
+    ensures ascends { IfOk result (λ order. order.items ≡ ascending (places_in index.now fronts.now) (length index.now)) }
+    ensures smallest { IfOk result (λ order. (places : List ℕ) → IsClosure index.now places (places_in index.now fronts.now) → Reached index.now places →
+        IsWitness index.now places order.items) }
+{
+    let mut places = Vec::new(alloc);
+    for p in 0..index.len() {
+        let place = Place::new(p as u32);
+        if fronts.has(index, place) {
+            places.push(place)?;
+        }
+    }
+    Ok(places)
+}
