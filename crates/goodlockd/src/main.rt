@@ -13,6 +13,8 @@ mod script;
 #[cfg(test)]
 mod tests;
 mod witness_file;
+#[cfg(test)]
+mod witness_tests;
 
 ghost use Rattle.sequencer.specs.Book.{IsLimit};
 
