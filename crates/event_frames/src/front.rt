@@ -9,7 +9,7 @@ use trace_model::{Event, Fault, Op, Request};
 fn is_kind(kind: u8) -> bool
     ensures { result ≡ is_kind kind }
 {
-    1 <= kind && kind <= 6
+    1 <= kind && kind <= 9
 }
 
 /// The length of a body of this kind.
@@ -19,6 +19,8 @@ fn length_of(kind: u8) -> u16
 {
     match kind {
         1..=6 => 9,
+        7 => 2,
+        8 | 9 => 5,
         _ => unreachable!(),
     }
 }
@@ -63,7 +65,8 @@ fn word(bytes: &[u8]) -> u32
 }
 
 fn op_of(kind: u8, object: u32) -> Op
-    requires { is_kind kind ≡ true }
+    requires low { 1 ≤ kind }
+    requires high { kind ≤ 6 }
     ensures { result ≡ op_of kind object }
 {
     match kind {
@@ -89,6 +92,9 @@ fn request_of(kind: u8, fields: &[u8]) -> Request
             thread: word(fields),
             op: op_of(kind, word(&fields[4..])),
         }),
+        7 => Request::Ask(fields[0]),
+        8 => Request::Answer(word(fields)),
+        9 => Request::Status(word(fields)),
         _ => unreachable!(),
     }
 }

@@ -1,6 +1,7 @@
 //! Replies as bytes.
 ghost use Rattle.std.specs.Prelude.{◌≡◌, ◌+◌, ◌++◌, ◌≤◌, ◌<◌, length, OnOk, OnErr, IfOk, IsOk, vec_len, vec_capacity};
-ghost use Rattle.trace_model.specs.Replies.{reply_body, reply_frame, fault_number};
+ghost use Rattle.std.specs.Int.{w32, w64, to_be_bytes};
+ghost use Rattle.trace_model.specs.Replies.{reply_body, reply_frame, fault_number, three_words, status_fields, IsReply};
 
 use std::alloc::{AllocError, Global};
 use trace_model::{Fault, NoMemory, Reply};
@@ -15,18 +16,82 @@ fn fault_number(fault: Fault) -> u8
     }
 }
 
+#[tactic(auto, unfolding(trace_model::specs::Replies::three_words, trace_model::specs::Replies::status_fields))]
 fn body_len(reply: &Reply) -> u32
+    requires { IsReply reply.now }
     ensures { result ≡ length (reply_body reply.now) }
 {
     match reply {
         Reply::Placed(_) => 5,
         Reply::Refused(_) => 2,
+        Reply::Opened { .. } => 13,
+        Reply::Pending { .. } => 13,
+        Reply::Report { text, .. } => 5 + text.as_slice().len() as u32,
+        Reply::Status { .. } => 42,
         Reply::Fault(_) => 2,
     }
 }
 
+/// Adds three numbers at the end.
+#[tactic(auto, unfolding(trace_model::specs::Replies::three_words))]
+fn put_words(out: &mut Vec<u8>, first: u32, second: u32, third: u32) -> Result<(), AllocError>
+    ensures ok { OnOk result (out.new.items ≡ out.old.items ++ three_words first second third) }
+    ensures room { vec_len out.old + 12 ≤ vec_capacity out.old → IsOk result }
+    ensures kept { vec_capacity out.old ≤ vec_capacity out.new }
+    ensures len { OnOk result (vec_len out.new ≡ vec_len out.old + 12) }
+{
+    out.extend_from_slice(&first.to_be_bytes())?;
+    out.extend_from_slice(&second.to_be_bytes())?;
+    out.extend_from_slice(&third.to_be_bytes())?;
+    Ok(())
+}
+
+/// Adds what was counted of a question at the end.
+fn put_counts(
+    out: &mut Vec<u8>,
+    total: u32,
+    delivered: u32,
+    cycles: u64,
+    confirmed: u64,
+) -> Result<(), AllocError>
+    ensures ok { OnOk result (out.new.items ≡ out.old.items ++ (to_be_bytes w32 total ++ to_be_bytes w32 delivered ++ to_be_bytes w64 cycles ++ to_be_bytes w64 confirmed)) }
+    ensures room { vec_len out.old + 24 ≤ vec_capacity out.old → IsOk result }
+{
+    out.extend_from_slice(&total.to_be_bytes())?;
+    out.extend_from_slice(&delivered.to_be_bytes())?;
+    out.extend_from_slice(&cycles.to_be_bytes())?;
+    out.extend_from_slice(&confirmed.to_be_bytes())?;
+    Ok(())
+}
+
+/// Adds the fields of a status at the end.
+#[tactic(auto, unfolding(trace_model::specs::Replies::status_fields))]
+fn put_status(
+    out: &mut Vec<u8>,
+    question: u32,
+    accepted: u32,
+    opened: u32,
+    length: u32,
+    bound: u8,
+    total: u32,
+    delivered: u32,
+    cycles: u64,
+    confirmed: u64,
+) -> Result<(), AllocError>
+    ensures ok { OnOk result (out.new.items ≡ out.old.items ++ status_fields question accepted opened length bound total delivered cycles confirmed) }
+    ensures room { vec_len out.old + 41 ≤ vec_capacity out.old → IsOk result }
+{
+    put_words(out, question, accepted, opened)?;
+    out.extend_from_slice(&length.to_be_bytes())?;
+    out.push(bound)?;
+    put_counts(out, total, delivered, cycles, confirmed)?;
+    Ok(())
+}
+
 /// Adds the body of a reply's frame at the end.
+#[tactic(auto, unfolding(trace_model::specs::Replies::three_words, trace_model::specs::Replies::status_fields))]
 fn put_body(out: &mut Vec<u8>, reply: &Reply) -> Result<(), AllocError>
+    requires { IsReply reply.now }
     ensures ok { OnOk result (out.new.items ≡ out.old.items ++ reply_body reply.now) }
     ensures room { vec_len out.old + length (reply_body reply.now) ≤ vec_capacity out.old → IsOk result }
 {
@@ -41,6 +106,45 @@ fn put_body(out: &mut Vec<u8>, reply: &Reply) -> Result<(), AllocError>
             out.push(refusal.number())?;
             Ok(())
         }
+        Reply::Opened {
+            question,
+            length,
+            total,
+        } => {
+            out.push(67)?;
+            put_words(out, *question, *length, *total)
+        }
+        Reply::Pending {
+            question,
+            delivered,
+            total,
+        } => {
+            out.push(68)?;
+            put_words(out, *question, *delivered, *total)
+        }
+        Reply::Report { question, text } => {
+            out.push(69)?;
+            out.extend_from_slice(&question.to_be_bytes())?;
+            out.extend_from_slice(text.as_slice())?;
+            Ok(())
+        }
+        Reply::Status {
+            question,
+            accepted,
+            opened,
+            length,
+            bound,
+            total,
+            delivered,
+            cycles,
+            confirmed,
+        } => {
+            out.push(70)?;
+            put_status(
+                out, *question, *accepted, *opened, *length, *bound, *total, *delivered, *cycles,
+                *confirmed,
+            )
+        }
         Reply::Fault(fault) => {
             out.push(71)?;
             out.push(fault_number(*fault))?;
@@ -51,6 +155,7 @@ fn put_body(out: &mut Vec<u8>, reply: &Reply) -> Result<(), AllocError>
 
 #[tactic(auto, unfolding(trace_model::specs::Replies::reply_frame))]
 fn put_frame(out: &mut Vec<u8>, reply: &Reply) -> Result<(), AllocError>
+    requires { IsReply reply.now }
     ensures ok { OnOk result (out.new.items ≡ out.old.items ++ reply_frame reply.now) }
     ensures room { vec_len out.old + length (reply_frame reply.now) ≤ vec_capacity out.old → IsOk result }
 {
@@ -58,13 +163,14 @@ fn put_frame(out: &mut Vec<u8>, reply: &Reply) -> Result<(), AllocError>
     put_body(out, reply)
 }
 
-/// Adds a reply's frame at the end of the bytes.
+/// Adds a reply's frame at the end of the bytes. A report's text must have at most `MAX_REPORT` bytes.
 ///
 /// # Errors
 ///
 /// `NoMemory`, and the bytes are as before.
 #[tactic(auto, unfolding(trace_model::specs::Replies::reply_frame))]
 pub fn push_reply(out: &mut Vec<u8>, reply: &Reply) -> Result<(), NoMemory>
+    requires { IsReply reply.now }
     ensures ok { OnOk result (out.new.items ≡ out.old.items ++ reply_frame reply.now) }
     ensures err { OnErr result (out.new.items ≡ out.old.items) }
     ensures full { OnErr result (vec_capacity out.old < vec_len out.old + length (reply_frame reply.now)) }
@@ -76,12 +182,13 @@ pub fn push_reply(out: &mut Vec<u8>, reply: &Reply) -> Result<(), NoMemory>
     Ok(())
 }
 
-/// The frame of a reply.
+/// The frame of a reply. A report's text must have at most `MAX_REPORT` bytes.
 ///
 /// # Errors
 ///
 /// `NoMemory`.
 pub fn encode_reply(alloc: Global, reply: &Reply) -> Result<Vec<u8>, NoMemory>
+    requires { IsReply reply.now }
     ensures { IfOk result (λ bytes. bytes.items ≡ reply_frame reply.now) }
 {
     let mut out = Vec::new(alloc);

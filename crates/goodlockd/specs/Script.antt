@@ -3,14 +3,46 @@ use Rattle.std.specs.Prelude.{ℕ, List, [], ◌++◌, codes, decimal}
 use Rattle.trace_model.specs.Refusals.{number_of, name_of}
 use Rattle.trace_model.specs.declared.refusal.Refusal.{Refusal}
 use Rattle.trace_model.specs.declared.session.Reply.{Reply}
-use Rattle.trace_model.specs.declared.session.Reply.TheVariants.{Placed, Refused, Fault as FaultReply}
+use Rattle.trace_model.specs.declared.session.Reply.TheVariants.{Placed, Refused, Opened, Pending, Report, Status, Fault as FaultReply}
 
 -- the words that tell a refusal: its number and its name
 abbrev pub refusal_words : Refusal → List ℕ
 refusal_words r = codes "refused " ++ decimal (number_of r) ++ codes " " ++ name_of r
 
--- the line of a reply; no request of a script has a fault
-abbrev pub reply_line : Reply → List ℕ
-reply_line (Placed place) = codes "placed " ++ decimal place ++ codes "\n"
-reply_line (Refused refusal) = refusal_words refusal ++ codes "\n"
-reply_line (FaultReply fault) = []
+-- a number after these words
+abbrev pub told : List ℕ → ℕ → List ℕ
+told words number = words ++ decimal number
+
+abbrev pub told_line : List ℕ → ℕ → List ℕ
+told_line words number = told words number ++ codes "\n"
+
+abbrev pub opened_line : ℕ → ℕ → ℕ → List ℕ
+opened_line question len total = told (codes "opened ") question ++ told (codes " length ") len ++ told_line (codes " total ") total
+
+abbrev pub pending_line : ℕ → ℕ → ℕ → List ℕ
+pending_line question delivered total = told (codes "pending ") question ++ told (codes " delivered ") delivered ++ told_line (codes " total ") total
+
+-- what a status tells of the book, and of the question before its tasks
+abbrev pub book_words : ℕ → ℕ → ℕ → ℕ → ℕ → List ℕ
+book_words question accepted opened len bound =
+    told (codes "status ") question ++ told (codes " accepted ") accepted ++ told (codes " opened ") opened
+    ++ told (codes " length ") len ++ told (codes " bound ") bound
+
+-- what it tells of the tasks
+abbrev pub task_words : ℕ → ℕ → List ℕ
+task_words total delivered = told (codes " total ") total ++ told (codes " delivered ") delivered
+
+-- what it tells of their rows
+abbrev pub row_words : ℕ → ℕ → List ℕ
+row_words cycles confirmed = told (codes " cycles ") cycles ++ told_line (codes " confirmed ") confirmed
+
+-- what a script prints of a reply: one line, or the text of a report; no request of a script has a fault
+abbrev pub reply_text : Reply → List ℕ
+reply_text (Placed place) = told_line (codes "placed ") place
+reply_text (Refused refusal) = refusal_words refusal ++ codes "\n"
+reply_text (Opened question len total) = opened_line question len total
+reply_text (Pending question delivered total) = pending_line question delivered total
+reply_text (Report question text) = text
+reply_text (Status question accepted opened len bound total delivered cycles confirmed) =
+    book_words question accepted opened len bound ++ (task_words total delivered ++ row_words cycles confirmed)
+reply_text (FaultReply fault) = []

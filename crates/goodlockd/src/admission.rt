@@ -1,7 +1,7 @@
 //! Event files through the gate.
 use crate::event_file::read_events;
 use crate::outcome::Stopped;
-use crate::script::push_refusal;
+use crate::script_text::push_refusal;
 use itoa::Buffer;
 use std::alloc::Global;
 use std::hash::RandomState;

@@ -66,6 +66,21 @@ pub fn event(word: &[u8]) -> Option<Event>
     Some(Event { thread, op })
 }
 
+/// The words of a line, which are separated by spaces; none where the line is skipped.
+pub fn words_of(alloc: Global, line: &[u8]) -> Result<Vec<&[u8]>, NoMemory> {
+    let mut words = Vec::new(alloc);
+    for word in line.split(|byte| *byte == b' ') {
+        if word.is_empty() {
+            continue;
+        }
+        if words.is_empty() && word[0] == b'#' {
+            return Ok(words);
+        }
+        words.push(word)?;
+    }
+    Ok(words)
+}
+
 /// Adds the events of a line, which is skipped if it has no word or its first word begins with `#`. It answers
 /// whether the line is understood.
 pub fn push_events(events: &mut Vec<Event>, line: &[u8]) -> Result<bool, NoMemory> {

@@ -3,6 +3,7 @@
 
 mod admission;
 mod command_line;
+mod commands;
 mod event_file;
 mod outcome;
 mod replay_command;
@@ -10,6 +11,7 @@ mod replay_command;
 mod replay_tests;
 mod requests;
 mod script;
+mod script_text;
 #[cfg(test)]
 mod tests;
 mod witness_file;

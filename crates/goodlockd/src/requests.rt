@@ -1,7 +1,7 @@
 //! Requests as bytes.
 ghost use Rattle.std.specs.Prelude.{◌≡◌};
 ghost use Rattle.trace_model.specs.Frames.{frame, kind_of, object_of};
-ghost use Rattle.trace_model.specs.declared.session.Request.TheVariants.{Offer};
+ghost use Rattle.trace_model.specs.declared.session.Request.TheVariants.{Offer, Ask, Answer, Status};
 
 use trace_model::{Event, Op};
 
@@ -39,4 +39,30 @@ pub fn offer_frame(event: &Event) -> [u8; 11]
     let [a, b, c, d] = event.thread.to_be_bytes();
     let [e, f, g, h] = object_of(event.op).to_be_bytes();
     [0, 9, kind_of(event.op), a, b, c, d, e, f, g, h]
+}
+
+/// The frame that asks a question with this bound.
+#[tactic(auto, unfolding(trace_model::specs::Frames::frame))]
+pub fn ask_frame(bound: u8) -> [u8; 4]
+    ensures { result ≡ frame (Ask bound) }
+{
+    [0, 2, 7, bound]
+}
+
+/// The frame that wants the answer of the question.
+#[tactic(auto, unfolding(trace_model::specs::Frames::frame))]
+pub fn answer_frame(question: u32) -> [u8; 7]
+    ensures { result ≡ frame (Answer question) }
+{
+    let [a, b, c, d] = question.to_be_bytes();
+    [0, 5, 8, a, b, c, d]
+}
+
+/// The frame that wants the status of the question.
+#[tactic(auto, unfolding(trace_model::specs::Frames::frame))]
+pub fn status_frame(question: u32) -> [u8; 7]
+    ensures { result ≡ frame (Status question) }
+{
+    let [a, b, c, d] = question.to_be_bytes();
+    [0, 5, 9, a, b, c, d]
 }

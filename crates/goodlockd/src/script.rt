@@ -1,89 +1,152 @@
-//! Scripts: lines that are run over one book.
-ghost use Rattle.std.specs.Prelude.{◌≡◌, ◌++◌, false, OnOk};
+//! Scripts: commands that are run over one book.
+ghost use Rattle.std.specs.Prelude.{◌≡◌, false};
 ghost use Rattle.sequencer.specs.Book.{IsLimit};
-ghost use Rattle.trace_model.specs.Refusals.{name_of};
-ghost use Rattle.goodlockd.specs.Script.{refusal_words, reply_line};
 
-use crate::event_file::read_events;
+use crate::commands::{Command, read_script};
 use crate::outcome::{Status, Stopped};
-use crate::requests::offer_frame;
+use crate::requests::{answer_frame, ask_frame, offer_frame, status_frame};
+use crate::script_text::{push_last, push_reply};
 use event_frames::FrameReader;
-use itoa::Buffer;
+use findings::{ComputeRefused, Finding, Snapshot};
 use sequencer::Book;
 use std::alloc::Global;
 use std::hash::RandomState;
 use std::io::Write;
-use trace_model::{Event, NoMemory, Refusal, Reply, refusal_name};
+use std::sync::Arc;
+use trace_model::{Bound, MAX_EVENTS, Refusal, Reply};
+
+/// What the tasks of a question are computed from.
+#[derive(Drop)]
+struct Job {
+    question: u32,
+    bound: Bound,
+    snapshot: Arc<Snapshot, Global>,
+}
 
 /// The one session of a script, over its book.
 #[derive(Drop)]
 struct ScriptSession {
+    alloc: Global,
     reader: FrameReader,
     book: Book,
-    line: Vec<u8>,
+    text: Vec<u8>,
     ghost open: { reader.ended ≡ false },
 }
 
-#[tactic(auto, using(crate::proofs::Names::named))]
-fn name_of(refusal: Refusal) -> &'static str
-    ensures { result.now ≡ name_of refusal }
-{
-    let Some(name) = refusal_name(refusal.number()) else {
-        unreachable!()
-    };
-    name
-}
-
-/// Adds the words that tell a refusal.
-pub fn push_refusal(text: &mut Vec<u8>, refusal: Refusal) -> Result<(), NoMemory>
-    ensures { OnOk result (text.new.items ≡ text.old.items ++ refusal_words refusal) }
-{
-    text.extend_from_slice(b"refused ")?;
-    text.extend_from_slice(Buffer::new().format(refusal.number()).as_bytes())?;
-    text.push(b' ')?;
-    text.extend_from_slice(name_of(refusal).as_bytes())?;
-    Ok(())
-}
-
-/// Adds the line of a reply.
-fn push_line(text: &mut Vec<u8>, reply: &Reply) -> Result<(), NoMemory>
-    ensures { OnOk result (text.new.items ≡ text.old.items ++ reply_line reply.now) }
-{
-    match reply {
-        Reply::Placed(place) => {
-            text.extend_from_slice(b"placed ")?;
-            text.extend_from_slice(Buffer::new().format(place.get()).as_bytes())?;
-            text.push(b'\n')?;
-            Ok(())
-        }
-        Reply::Refused(refusal) => {
-            push_refusal(text, *refusal)?;
-            text.push(b'\n')?;
-            Ok(())
-        }
-        Reply::Fault(_) => Ok(()),
-    }
-}
-
 impl ScriptSession {
-    /// Sends an event as a frame, and writes the line of its reply.
-    fn offer<O: Write>(&mut self, event: &Event, out: &mut O) -> Result<(), Stopped> {
-        self.reader.feed(&offer_frame(event))?;
+    /// Runs a command and writes what it prints.
+    fn run<O: Write>(&mut self, command: Command, out: &mut O) -> Result<(), Stopped> {
+        match command {
+            Command::Offer(event) => self.request(&offer_frame(&event), out),
+            Command::Ask(bound) => self.request(&ask_frame(bound), out),
+            Command::Work(question) => {
+                let worked = self.work(question);
+                self.tell(b"worked ", worked, out)
+            }
+            Command::Deliver { question, task } => {
+                let delivered = self.deliver(question, task);
+                self.tell(b"delivered ", delivered, out)
+            }
+            Command::Answer(question) => self.request(&answer_frame(question), out),
+            Command::Status(question) => self.request(&status_frame(question), out),
+        }
+    }
+
+    /// Sends the frame of a request, and writes what is printed of its reply.
+    fn request<O: Write>(&mut self, frame: &[u8], out: &mut O) -> Result<(), Stopped> {
+        self.reader.feed(frame)?;
         while let Ok(Some(request)) = self.reader.next() {
             let reply = match self.book.call(&request) {
                 Ok(reply) => reply,
                 Err(_) => Reply::Refused(Refusal::NoMemory),
             };
-            self.line.clear();
-            push_line(&mut self.line, &reply)?;
-            out.write_all(&self.line)?;
+            self.write(&reply, out)?;
         }
         Ok(())
+    }
+
+    /// Writes what is printed of a reply.
+    fn write<O: Write>(&mut self, reply: &Reply, out: &mut O) -> Result<(), Stopped>
+        ensures { self.new.reader ≡ self.old.reader }
+    {
+        self.text.clear();
+        push_reply(&mut self.text, reply)?;
+        out.write_all(&self.text)?;
+        Ok(())
+    }
+
+    /// Writes the number after these words, or the refusal.
+    fn tell<O: Write>(
+        &mut self,
+        words: &[u8],
+        told: Result<u32, Refusal>,
+        out: &mut O,
+    ) -> Result<(), Stopped> {
+        match told {
+            Ok(number) => {
+                self.text.clear();
+                push_last(&mut self.text, words, number as u64)?;
+                out.write_all(&self.text)?;
+                Ok(())
+            }
+            Err(refusal) => self.write(&Reply::Refused(refusal), out),
+        }
+    }
+
+    /// What the tasks of the question are computed from.
+    fn job(&self, question: u32) -> Result<Job, Refusal> {
+        let snapshot = self.book.snapshot(question)?;
+        let Ok(status) = self.book.status(question) else {
+            return Err(Refusal::NoSuchQuestion);
+        };
+        let Some(bound) = Bound::new(status.bound) else {
+            return Err(Refusal::BadBound);
+        };
+        Ok(Job {
+            question,
+            bound,
+            snapshot,
+        })
+    }
+
+    /// Computes a task and delivers it.
+    fn deliver_task(&mut self, job: &Job, task: u32) -> Result<(), Refusal> {
+        let Ok(snapshot) = Arc::clone(&job.snapshot) else {
+            return Err(Refusal::NoMemory);
+        };
+        match Finding::compute(self.alloc, snapshot, job.question, job.bound, task) {
+            Ok(finding) => match self.book.deliver(finding) {
+                Ok(()) => Ok(()),
+                Err((refusal, _)) => Err(refusal),
+            },
+            Err(ComputeRefused::TooManyCycles) => Err(Refusal::TooManyCycles),
+            Err(ComputeRefused::NoMemory) => Err(Refusal::NoMemory),
+        }
+    }
+
+    /// Computes a task of the question and delivers it. It answers the task.
+    fn deliver(&mut self, question: u32, task: u32) -> Result<u32, Refusal> {
+        let job = self.job(question)?;
+        self.deliver_task(&job, task)?;
+        Ok(task)
+    }
+
+    /// Computes and delivers the least missing task of the question until none is missing, and answers how many
+    /// these were. A question has no more tasks than a trace has events.
+    fn work(&mut self, question: u32) -> Result<u32, Refusal> {
+        let job = self.job(question)?;
+        for worked in 0..MAX_EVENTS as u32 {
+            let Ok(Some(task)) = self.book.missing(question) else {
+                return Ok(worked);
+            };
+            self.deliver_task(&job, task)?;
+        }
+        Ok(MAX_EVENTS as u32)
     }
 }
 
 /// Reads the script whole, and then runs it.
-fn run_lines<O: Write>(
+fn run_commands<O: Write>(
     alloc: Global,
     state: RandomState,
     file: &[u8],
@@ -92,24 +155,25 @@ fn run_lines<O: Write>(
 ) -> Result<(), Stopped>
     requires { IsLimit limit }
 {
-    let events = read_events(alloc, file)?;
+    let commands = read_script(alloc, file)?;
     let Ok(book) = Book::new(alloc, state, limit) else {
         unreachable!()
     };
     let mut session = ScriptSession {
+        alloc,
         reader: FrameReader::new(alloc),
         book,
-        line: Vec::new(alloc),
+        text: Vec::new(alloc),
     };
-    for event in &events {
-        session.offer(event, out)?;
+    for command in &commands {
+        session.run(*command, out)?;
     }
     Ok(())
 }
 
 /// Runs the script in the bytes of the file of this name, over a book that accepts at most `limit` events, which
-/// is 1 to `MAX_EVENTS`. The whole file is understood before anything is run. A line for each reply is written to
-/// `out`, and what ended the script early is told to `err`.
+/// is 1 to `MAX_EVENTS`. The whole file is understood before anything is run. What each command prints is written
+/// to `out`, and what ended the script early is told to `err`.
 pub fn run_script<O: Write, E: Write>(
     alloc: Global,
     state: RandomState,
@@ -121,7 +185,7 @@ pub fn run_script<O: Write, E: Write>(
 ) -> Status
     requires { IsLimit limit }
 {
-    let ran = run_lines(alloc, state, file, limit, out);
+    let ran = run_commands(alloc, state, file, limit, out);
     let written = out.flush().map_err(|_| Stopped::Output);
     match ran.and(written) {
         Ok(()) => Status::Done,

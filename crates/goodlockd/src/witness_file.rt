@@ -1,5 +1,5 @@
 //! Witness files: the places of an instance, and a list of places.
-use crate::event_file::number;
+use crate::event_file::{number, words_of};
 use crate::outcome::Stopped;
 use std::alloc::Global;
 use trace_model::{Instance, NoMemory, Place};
@@ -9,21 +9,6 @@ use trace_model::{Instance, NoMemory, Place};
 pub struct WitnessFile {
     pub instance: Instance,
     pub order: Vec<Place>,
-}
-
-/// The words of a line, which are separated by spaces; none where the line is skipped.
-fn words_of(alloc: Global, line: &[u8]) -> Result<Vec<&[u8]>, NoMemory> {
-    let mut words = Vec::new(alloc);
-    for word in line.split(|byte| *byte == b' ') {
-        if word.is_empty() {
-            continue;
-        }
-        if words.is_empty() && word[0] == b'#' {
-            return Ok(words);
-        }
-        words.push(word)?;
-    }
-    Ok(words)
 }
 
 /// The places that follow the keyword, or none where the words are not that and numbers.

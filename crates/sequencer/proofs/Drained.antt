@@ -9,15 +9,16 @@ use Rattle.trace_model.specs.Frames.{frame, requests_in, fault_in, fault_at}
 use Rattle.trace_model.specs.Replies.{reply_frame}
 use Rattle.trace_model.proofs.Readings.{frame_turn}
 use Rattle.event_frames.specs.Reader.{Reading, HasRead, TakesRequest, AwaitsMore, TellsFault, Tells}
-use Rattle.trace_model.specs.Machine.{State, step, state_after}
+use Rattle.trace_model.specs.Machine.{State, step}
+use Rattle.sequencer.specs.Printing.{printing}
 use Rattle.sequencer.specs.Sessions.{fault_frames}
-use Rattle.sequencer.specs.Drains.{Drains, answer_to}
+use Rattle.sequencer.specs.Drains.{Drains, state_called, answer_to}
 
 -- what is done and what is left are all
 pub record IsDrained (book : State) (reader : Reading) (sent : List ℕ) (now : State) (left : Reading) (out : List ℕ) : Type 0 where
   pub untold : left.told ≡ None
   pub ended : left.ended ≡ reader.ended
-  pub state : state_after now (requests_in left.rest) ≡ state_after book (requests_in reader.rest)
+  pub state : state_called now (requests_in left.rest) ≡ state_called book (requests_in reader.rest)
   pub answers : out ++ answer_to now (requests_in left.rest) ≡ sent ++ answer_to book (requests_in reader.rest)
   pub fault : fault_in left.rest left.ended ≡ fault_in reader.rest reader.ended
   pub whole : (text : List ℕ) (given : List Request) → HasRead text given reader → (now_given : List Request) × HasRead text now_given left
@@ -25,17 +26,17 @@ pub record IsDrained (book : State) (reader : Reading) (sent : List ℕ) (now : 
 pub starts : (book : State) (reader : Reading) (sent : List ℕ) → reader.told ≡ None → IsDrained book reader sent book reader sent
 starts book reader sent e = record { untold = e; ended = refl; state = refl; answers = refl; fault = refl; whole = λ text given h. (given, h) }
 
-pub goes_on : (book : State) (reader : Reading) (sent : List ℕ) (now : State) (left : Reading) (out : List ℕ) (request : Request) (after : Reading) (next : State) (reply : Reply) (longer : List ℕ) → IsDrained book reader sent now left out → TakesRequest left request after → ((text : List ℕ) (given : List Request) → HasRead text given left → HasRead text (given ++ request ∷ []) after) → step now request ≡ (reply, next) → longer ≡ out ++ reply_frame reply → IsDrained book reader sent next after longer
+pub goes_on : (book : State) (reader : Reading) (sent : List ℕ) (now : State) (left : Reading) (out : List ℕ) (request : Request) (after : Reading) (next : State) (reply : Reply) (longer : List ℕ) → IsDrained book reader sent now left out → TakesRequest left request after → ((text : List ℕ) (given : List Request) → HasRead text given left → HasRead text (given ++ request ∷ []) after) → step printing now request ≡ (reply, next) → longer ≡ out ++ reply_frame reply → IsDrained book reader sent next after longer
 goes_on book reader sent now left out request after next reply longer d t w s l =
     let turn = frame_turn request after.rest t.fits in
     let requests_are : requests_in left.rest ≡ request ∷ requests_in after.rest = ap requests_in t.front ∙ turn.requests in
-    let next_is : next ≡ (step now request).1 = sym (ap (λ (p : Reply × State). p.1) s) in
-    let reply_is : reply ≡ (step now request).0 = sym (ap (λ (p : Reply × State). p.0) s) in
+    let next_is : next ≡ (step printing now request).1 = sym (ap (λ (p : Reply × State). p.1) s) in
+    let reply_is : reply ≡ (step printing now request).0 = sym (ap (λ (p : Reply × State). p.0) s) in
     let fault_is : fault_in left.rest left.ended ≡ fault_in after.rest left.ended = ap (λ (x : List ℕ). fault_in x left.ended) t.front ∙ ap (λ (x : List ℕ). fault_at x left.ended) turn.after in
     record {
       untold = t.same.0;
       ended = t.same.1 ∙ d.ended;
-      state = ap (λ (x : State). state_after x (requests_in after.rest)) next_is ∙ (ap (state_after now) (sym requests_are) ∙ d.state);
+      state = ap (λ (x : State). state_called x (requests_in after.rest)) next_is ∙ (ap (state_called now) (sym requests_are) ∙ d.state);
       answers =
           ap (λ (x : List ℕ). x ++ answer_to next (requests_in after.rest)) l
           ∙ (append_assoc out (reply_frame reply) (answer_to next (requests_in after.rest))
@@ -50,7 +51,7 @@ pub stops : (book : State) (reader : Reading) (sent : List ℕ) (now : State) (l
 stops book reader sent now left out after d a w =
     let no_fault : fault_in reader.rest reader.ended ≡ None = sym d.fault ∙ a.fault in
     record {
-      state = ap (state_after now) (sym a.requests) ∙ d.state;
+      state = ap (state_called now) (sym a.requests) ∙ d.state;
       out = sym (append-nil out) ∙ (ap (λ (x : List Request). out ++ answer_to now x) (sym a.requests) ∙ (d.answers ∙ (ap (λ (x : List ℕ). sent ++ x) (sym (append-nil (answer_to book (requests_in reader.rest)))) ∙ ap (λ (f : Option Fault). sent ++ (answer_to book (requests_in reader.rest) ++ fault_frames f)) (sym no_fault))));
       told = a.same.1 ∙ sym no_fault;
       ended = a.same.2 ∙ d.ended;
@@ -64,7 +65,7 @@ fails book reader sent now left out fault after longer d a w l =
     let a_fault : fault_in reader.rest reader.ended ≡ Some fault = sym d.fault ∙ s.1 in
     let all_answered : out ≡ sent ++ answer_to book (requests_in reader.rest) = sym (append-nil out) ∙ (ap (λ (x : List Request). out ++ answer_to now x) (sym s.0) ∙ d.answers) in
     record {
-      state = ap (state_after now) (sym s.0) ∙ d.state;
+      state = ap (state_called now) (sym s.0) ∙ d.state;
       out = l ∙ (ap (λ (x : List ℕ). x ++ reply_frame (FaultReply fault)) all_answered ∙ (append_assoc sent (answer_to book (requests_in reader.rest)) (reply_frame (FaultReply fault)) ∙ ap (λ (f : Option Fault). sent ++ (answer_to book (requests_in reader.rest) ++ fault_frames f)) (sym a_fault)));
       told = a.told ∙ sym a_fault;
       ended = a.same ∙ d.ended;

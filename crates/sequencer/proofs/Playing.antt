@@ -1,112 +1,151 @@
 -- What the loop over the inputs keeps.
-use Rattle.std.proofs.Common.{◌≡◌, ◌≢◌, ℕ, ◌+◌, ◌<◌, ◌≤◌, Bool, false, List, [], ◌∷◌, ◌++◌, length, take, get_or, map, slice_get, Option, Some, sym, ap, subst, ◌∙◌, arith, inl, inr}
+use Rattle.std.proofs.Common.{◌≡◌, ◌≢◌, ℕ, ◌<◌, Bool, false, List, [], ◌∷◌, ◌++◌, length, get_or, map, slice_get, Option, Some, Result, Ok, Err, refl, sym, ap, subst, ◌∙◌, arith, inl, inr}
+use Rattle.std.specs.Prelude.{option_map, IfErr, OnOk}
+use Rattle.trace_model.specs.declared.refusal.Refusal.{Refusal}
 use Rattle.std.proofs.Math.ListN.{set, length-set}
-use Rattle.std.proofs.lemmas.List.{get_or-set_same, get_or-set_other, length-map, take_all, take_more}
+use Rattle.std.proofs.lemmas.List.{get_or-set_same, get_or-set_other, length-map}
+use Rattle.std.proofs.lemmas.Option.{same_Some, slice_get-map, get_or_from_slice_get}
 use Rattle.std.proofs.lemmas.Bool.Decides.{eqb_tells}
 use Rattle.trace_model.specs.declared.session.Request.{Request}
 use Rattle.trace_model.specs.declared.session.Fault.{Fault}
 use Rattle.trace_model.specs.Frames.{requests_in, fault_in}
+use Rattle.trace_model.specs.Machine.{State}
+use Rattle.trace_model.proofs.Lists.{at_index}
 use Rattle.event_frames.specs.Reader.{HasRead}
 use Rattle.event_frames.proofs.Wholes.{nothing_read}
+use Rattle.findings.specs.Found.{FoundRows, AreRowsOf}
 use Rattle.sequencer.specs.declared.input.Input.{Input}
+use Rattle.sequencer.specs.declared.input.Input.TheVariants.{Finding}
 use Rattle.sequencer.specs.declared.session.Slot.{Slot}
-use Rattle.trace_model.specs.Machine.{State}
-use Rattle.sequencer.specs.Sessions.{session_of, text_of, has_ended, fault_of, calls, frames_to, fault_frames, final_state, sent_to}
-use Rattle.sequencer.specs.Drains.{AreReadAt, SlotsAreSent, IsReadAt, IsTaken, IsNew}
-use Rattle.std.specs.Prelude.{option_map}
-use Rattle.std.proofs.lemmas.Option.{slice_get-map, get_or_from_slice_get}
-use Rattle.trace_model.proofs.Lists.{at_index}
+use Rattle.sequencer.specs.declared.session.Run.{Run}
+use Rattle.sequencer.specs.Book.{outcome}
+use Rattle.sequencer.specs.Sessions.{session_of, text_of, has_ended, fault_of, fresh, actions_of, actions, frames_to, fault_frames, Delivered, handed_back, delivery, deliveries_of, final_state, sent_to}
+use Rattle.sequencer.specs.Drains.{IsPlayed, IsReadAt, IsServed, IsAnswered, IsNew}
+use Rattle.sequencer.specs.Exact.{IsAlwaysExact}
 use Rattle.sequencer.specs.Played.{AreSent}
-use Rattle.sequencer.proofs.Sent.{text_other, ended_other, other_more}
+use Rattle.sequencer.proofs.Exact.{fits_brought, always_called, always_brought, always_nothing, always_append, always_last}
+use Rattle.sequencer.proofs.Sent.{Other, actions_more, actions_own, text_other, ended_other, other_more, state_found, deliveries_own, deliveries_found}
 
-pub record IsPlayed (start book : State) (slots : List Slot) (past : List Input) : Type 0 where
-  pub read : AreReadAt slots past
-  pub sent : SlotsAreSent slots start past
-  pub state : book ≡ final_state start past
+-- ---- the beginning
 
-new_read : (s : ℕ) (slot : Slot) → IsNew slot → IsReadAt s [] slot
-new_read s slot h =
+new_served : (s : ℕ) (start : State) (slot : Slot) → IsNew slot → IsServed s start [] slot
+new_served s start slot h =
     let n = nothing_read false in
     record {
-      read = subst (λ (g : List Request). HasRead [] g slot.reader) (sym n.requests) h.read;
-      ended = λ _. h.not_ended;
-      not_ended = λ _. h.not_ended;
-      told = h.untold ∙ sym n.fault;
+      read = record {
+        read = subst (λ (g : List Request). HasRead [] g slot.reader) (sym n.requests) h.read;
+        ended = λ _. h.not_ended;
+        not_ended = λ _. h.not_ended;
+        told = h.untold ∙ sym n.fault;
+      };
+      sent = h.unsent ∙ ap fault_frames (sym n.fault);
     }
 
-pub starts_played : (start book : State) (slots : List Slot) → book ≡ start → length slots ≡ 64 → ((s : ℕ) (d : Slot) → s < 64 → IsNew (get_or slots s d)) → IsPlayed start book slots []
-starts_played start book slots b n h =
+pub starts_played : (run : Run) → length run.slots.items ≡ 64 → ((s : ℕ) (d : Slot) → s < length run.slots.items → IsNew (get_or run.slots.items s d)) → run.deliveries.items ≡ [] → IsPlayed run.book.state [] run
+starts_played run n h none =
     record {
-      read = record { count = n; each = λ s d l. new_read s (get_or slots s d) (h s d l) };
-      sent = λ s d l. (h s d l).unsent ∙ ap fault_frames (sym (nothing_read false).fault);
-      state = b;
+      count = n;
+      each = λ s d l. new_served s run.book.state (get_or run.slots.items s d) (h s d (omega (arith, n)));
+      deliveries = none;
+      state = refl;
+      exact = λ h. always_nothing run.book.state h;
     }
+
+always_more : (start : State) (past : List Input) (input : Input) → IsAlwaysExact start (actions past) → IsAlwaysExact (final_state start past) (actions_of past input) → IsAlwaysExact start (actions (past ++ input ∷ []))
+always_more start past input before now =
+    subst (IsAlwaysExact start) (sym (actions_more past input)) (always_append start (actions past) (actions_of past input) before now)
+
+-- ---- an input of a session
 
 -- a session to which the input does not belong
-read_other : (s : ℕ) (input : Input) (past : List Input) (slot : Slot) → s ≢ session_of input → IsReadAt s past slot → IsReadAt s (past ++ input ∷ []) slot
-read_other s input past slot h r =
+served_other : (s : ℕ) (start : State) (input : Input) (past : List Input) (slot : Slot) → Other s input → IsServed s start past slot → IsServed s start (past ++ input ∷ []) slot
+served_other s start input past slot h v =
+    let r = v.read in
     let text = text_other s past input h in
     let ended = ended_other s past input h in
-    record {
-      read = subst (λ (x : List ℕ). HasRead x (requests_in x) slot.reader) (sym text) r.read;
-      ended = λ u. r.ended u ∙ sym ended;
-      not_ended = λ e. r.not_ended (sym ended ∙ e);
-      told = r.told ∙ (ap (λ (x : List ℕ). fault_in x (has_ended s past)) (sym text) ∙ ap (λ (x : Bool). fault_in (text_of s (past ++ input ∷ [])) x) (sym ended));
-    }
-
-sent_other : (s : ℕ) (start : State) (past : List Input) (input : Input) → s ≢ session_of input → sent_to s start past ≡ sent_to s start (past ++ input ∷ [])
-sent_other s start past input h =
-    ap (λ (x : List ℕ). x ++ fault_frames (fault_of s past)) (sym (other_more s start past input h))
-    ∙ ap (λ (f : Option Fault). frames_to s start (calls (past ++ input ∷ [])) ++ fault_frames f)
-    (ap (λ (x : List ℕ). fault_in x (has_ended s past)) (sym (text_other s past input h)) ∙ ap (λ (x : Bool). fault_in (text_of s (past ++ input ∷ [])) x) (sym (ended_other s past input h)))
-
--- one session after one input, whichever session it is
-record IsRight (s : ℕ) (start : State) (past : List Input) (slot : Slot) : Type 0 where
-  read : IsReadAt s past slot
-  sent : slot.sent.items ≡ sent_to s start past
-
-right_after : (start book next : State) (slots : List Slot) (past : List Input) (input : Input) (new : Slot) → IsPlayed start book slots past → session_of input < 64 → IsTaken input past start next new → (s : ℕ) (d : Slot) → s < 64 → IsRight s start (past ++ input ∷ []) (get_or (set slots (session_of input) new) s d)
-right_after start book next slots past input new p lt t s d l =
-    elim (eqb_tells s (session_of input)) [
-      | inl e ↦ subst (λ (x : ℕ). IsRight x start (past ++ input ∷ []) (get_or (set slots (session_of input) new) x d)) (sym e.1) own
-      | inr h ↦ other h.1
-    ]
-  where
-    own : IsRight (session_of input) start (past ++ input ∷ []) (get_or (set slots (session_of input) new) (session_of input) d)
-    own = subst (λ (x : Slot). IsRight (session_of input) start (past ++ input ∷ []) x) (sym (get_or-set_same slots (session_of input) new d (omega (arith, p.read.count)))) (record { read = t.read; sent = t.sent })
-
-    other : s ≢ session_of input → IsRight s start (past ++ input ∷ []) (get_or (set slots (session_of input) new) s d)
-    other h = subst (λ (x : Slot). IsRight s start (past ++ input ∷ []) x) (sym (get_or-set_other slots (session_of input) s new d h)) (record { read = read_other s input past (get_or slots s d) h (p.read.each s d l); sent = p.sent s d l ∙ sent_other s start past input h })
-
-pub goes_on_played : (start book next : State) (slots : List Slot) (past : List Input) (input : Input) (new : Slot) → IsPlayed start book slots past → session_of input < 64 → IsTaken input past start next new → IsPlayed start next (set slots (session_of input) new) (past ++ input ∷ [])
-goes_on_played start book next slots past input new p lt t =
+    let fault : fault_of s past ≡ fault_of s (past ++ input ∷ []) = ap (λ (x : List ℕ). fault_in x (has_ended s past)) (sym text) ∙ ap (λ (x : Bool). fault_in (text_of s (past ++ input ∷ [])) x) (sym ended) in
     record {
       read = record {
-        count = length-set slots (session_of input) new ∙ p.read.count;
-        each = λ s d l. (right_after start book next slots past input new p lt t s d l).read;
+        read = subst (λ (x : List ℕ). HasRead x (requests_in x) slot.reader) (sym text) r.read;
+        ended = λ u. r.ended u ∙ sym ended;
+        not_ended = λ e. r.not_ended (sym ended ∙ e);
+        told = r.told ∙ fault;
       };
-      sent = λ s d l. (right_after start book next slots past input new p lt t s d l).sent;
-      state = t.state;
+      sent = v.sent ∙ (ap (λ (x : List ℕ). x ++ fault_frames (fault_of s past)) (sym (other_more s start past input h))
+          ∙ ap (λ (f : Option Fault). frames_to s start (actions (past ++ input ∷ [])) ++ fault_frames f) fault);
     }
 
--- one turn of the loop
-pub played_turn : (start book next : State) (slots : List Slot) (inputs : List Input) (n : ℕ) (input : Input) (i : ℕ) (old new : Slot) → IsPlayed start book slots (take n inputs) → n < length inputs → input ≡ get_or inputs n input → i ≡ session_of input → i < 64 → old ≡ get_or slots i old → ((past : List Input) (start : State) → IsReadAt (session_of input) past old → book ≡ final_state start past → old.sent.items ≡ sent_to (session_of input) start past → IsTaken input past start next new) → IsPlayed start next (set slots i new) (take (n + 1) inputs)
-played_turn start book next slots inputs n input i old new p lt is at below was t =
-    let past = take n inputs in
-    let bound : session_of input < 64 = omega arith in
-    let same : old ≡ get_or slots (session_of input) old = was ∙ ap (λ (k : ℕ). get_or slots k old) at in
-    let read = subst (λ (x : Slot). IsReadAt (session_of input) past x) (sym same) (p.read.each (session_of input) old bound) in
-    let sent = subst (λ (x : Slot). x.sent.items ≡ sent_to (session_of input) start past) (sym same) (p.sent (session_of input) old bound) in
-    let taken = t past start read p.state sent in
-    let more : take (n + 1) inputs ≡ past ++ input ∷ [] = take_more inputs n input lt ∙ ap (λ (x : Input). past ++ x ∷ []) (sym is) in
-    subst (λ (x : List Input). IsPlayed start next (set slots i new) x) (sym more) (subst (λ (k : ℕ). IsPlayed start next (set slots k new) (past ++ input ∷ [])) (sym at) (goes_on_played start book next slots past input new p bound taken))
+-- each session after an input of one of them
+served_after : (start : State) (slots : List Slot) (past : List Input) (input : Input) (i : ℕ) (new : Slot) → session_of input ≡ Some i → length slots ≡ 64 → ((s : ℕ) (d : Slot) → s < 64 → IsServed s start past (get_or slots s d)) → IsServed i start (past ++ input ∷ []) new → (s : ℕ) (d : Slot) → s < 64 → IsServed s start (past ++ input ∷ []) (get_or (set slots i new) s d)
+served_after start slots past input i new own count each v s d l = elim (eqb_tells s i) [ inl e ↦ its e.1 | inr h ↦ others h.1 ]
+  where
+    its : s ≡ i → IsServed s start (past ++ input ∷ []) (get_or (set slots i new) s d)
+    its e =
+        let lt : i < length slots = omega (arith, e, l, count) in
+        subst (λ (x : ℕ). IsServed x start (past ++ input ∷ []) (get_or (set slots i new) x d)) (sym e)
+        (subst (λ (x : Slot). IsServed i start (past ++ input ∷ []) x) (sym (get_or-set_same slots i new d lt)) v)
+
+    others : s ≢ i → IsServed s start (past ++ input ∷ []) (get_or (set slots i new) s d)
+    others h =
+        subst (λ (x : Slot). IsServed s start (past ++ input ∷ []) x) (sym (get_or-set_other slots i s new d h))
+        (served_other s start input past (get_or slots s d) (λ o. h (sym (same_Some i s (sym own ∙ o)))) (each s d l))
+
+pub session_played : (start : State) (past : List Input) (input : Input) (i j : ℕ) (old new : Slot) (run after : Run) → session_of input ≡ Some i → j < 64 → j ≡ i → old ≡ get_or run.slots.items j old → after.slots.items ≡ set run.slots.items j new → after.deliveries.items ≡ run.deliveries.items → (IsAnswered i start past run.book.state old → IsAnswered i start (past ++ input ∷ []) after.book.state new) → IsPlayed start past run → IsPlayed start (past ++ input ∷ []) after
+session_played start past input i j old new run after own below at was slots same t p =
+    let here : old ≡ get_or run.slots.items i old = was ∙ ap (λ (k : ℕ). get_or run.slots.items k old) at in
+    let served : IsServed i start past old = subst (λ (x : Slot). IsServed i start past x) (sym here) (p.each i old (omega (arith, below, at))) in
+    let a = t (record { served = served; state = p.state }) in
+    let slots_are : after.slots.items ≡ set run.slots.items i new = slots ∙ ap (λ (k : ℕ). set run.slots.items k new) at in
+    record {
+      count = ap length slots_are ∙ (length-set run.slots.items i new ∙ p.count);
+      each = λ s d l. subst (λ (x : List Slot). IsServed s start (past ++ input ∷ []) (get_or x s d)) (sym slots_are) (served_after start run.slots.items past input i new own p.count p.each a.served s d l);
+      deliveries = same ∙ (p.deliveries ∙ sym (deliveries_own i start past input own));
+      state = a.state;
+      exact = λ h.
+          let final = final_state start past in
+          let before = p.exact h in
+          let called_now = always_called final i (fresh i past input) (always_last start (actions past) before) in
+          always_more start past input before (subst (IsAlwaysExact final) (sym (actions_own i past input own)) called_now);
+    }
+
+-- ---- a finding
+
+handed : (finding : FoundRows) (delivered : Delivered) → IfErr delivered (λ refused. refused.1 ≡ finding) → delivered ≡ handed_back finding (outcome delivered)
+handed finding (Ok taken) back = refl
+handed finding (Err (refusal, other)) back = ap (λ (f : FoundRows). Err (refusal, f)) back
+
+pub finding_played : (start : State) (past : List Input) (finding : FoundRows) (delivered : Delivered) (run after : Run) → delivery run.book.state finding ≡ (outcome delivered, after.book.state) → IfErr delivered (λ refused. refused.1 ≡ finding) → OnOk delivered (AreRowsOf finding.events finding.bound finding.task finding.rows) → after.slots.items ≡ run.slots.items → after.deliveries.items ≡ run.deliveries.items ++ delivered ∷ [] → IsPlayed start past run → IsPlayed start (past ++ Finding finding ∷ []) after
+finding_played start past finding delivered run after told back taken same more p =
+    let here : delivery (final_state start past) finding ≡ (outcome delivered, after.book.state) = ap (λ (x : State). delivery x finding) (sym p.state) ∙ told in
+    let none : (s : ℕ) → Other s (Finding finding) = λ s e. absurd cc in
+    record {
+      count = ap length same ∙ p.count;
+      each = λ s d l. subst (λ (v : List Slot). IsServed s start (past ++ Finding finding ∷ []) (get_or v s d)) (sym same)
+          (served_other s start (Finding finding) past (get_or run.slots.items s d) (none s) (p.each s d l));
+      deliveries =
+          more
+          ∙ (ap (λ (x : List Delivered). x ++ delivered ∷ []) p.deliveries
+          ∙ (ap (λ (x : Delivered). deliveries_of start past ++ x ∷ []) (handed finding delivered back ∙ ap (λ (x : Option Refusal × State). handed_back finding x.0) (sym here))
+          ∙ sym (deliveries_found start past finding)));
+      state = sym (state_found start past finding ∙ ap (λ (x : Option Refusal × State). x.1) here);
+      exact = λ h.
+          let before = p.exact h in
+          let last = always_last start (actions past) before in
+          let next = fits_brought (final_state start past) finding delivered (ap (λ (x : Option Refusal × State). x.0) here) taken last in
+          always_more start past (Finding finding) before (always_brought (final_state start past) finding last next);
+    }
+
+-- ---- the end
 
 -- what each session was sent, once all inputs came
-pub all_sent : (start book : State) (slots : List Slot) (inputs : List Input) (n : ℕ) → IsPlayed start book slots (take n inputs) → length inputs ≤ n → AreSent (map (λ slot. slot.sent.items) slots) start inputs
-all_sent start book slots inputs n p le = (length-map slots (λ slot. slot.sent.items) ∙ p.read.count, λ s l. each s l (at_index slots s (omega (arith, p.read.count))))
+pub all_sent : (start : State) (inputs : List Input) (run : Run) → IsPlayed start inputs run → AreSent (map (λ slot. slot.sent.items) run.slots.items) start inputs
+all_sent start inputs run p = (length-map slots (λ slot. slot.sent.items) ∙ p.count, λ s l. each s l (at_index slots s (omega (arith, p.count))))
   where
+    slots : List Slot
+    slots = run.slots.items
+
     each : (s : ℕ) → s < 64 → (x : Slot) × (slice_get slots s ≡ Some x) → slice_get (map (λ slot. slot.sent.items) slots) s ≡ Some (sent_to s start inputs)
     each s l (slot, at) =
         slice_get-map (λ slot. slot.sent.items) slots s
         ∙ (ap (option_map (λ (x : Slot). x.sent.items)) at
-        ∙ ap Some (ap (λ (x : Slot). x.sent.items) (sym (get_or_from_slice_get slots s slot slot at)) ∙ (p.sent s slot l ∙ ap (sent_to s start) (take_all n inputs le))))
+        ∙ ap Some (ap (λ (x : Slot). x.sent.items) (sym (get_or_from_slice_get slots s slot slot at)) ∙ (p.each s slot l).sent))

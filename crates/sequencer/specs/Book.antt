@@ -1,26 +1,52 @@
 -- What a book keeps, and what it does with a request.
-use Rattle.std.specs.Prelude.{◌≡◌, ℕ, ◌≤◌, ◌⊎◌, Option, Some, None}
+use Rattle.std.specs.Prelude.{◌≡◌, ℕ, ◌<◌, ◌≤◌, ◌⊎◌, List, length, map, replicate, slice_get, take, Option, Some, None, Result, Ok, Err}
 use Rattle.trace_model.specs.declared.event.Event.{Event}
 use Rattle.trace_model.specs.declared.limits.TheConstants.{MAX_EVENTS}
 use Rattle.trace_model.specs.declared.refusal.Refusal.{Refusal}
-use Rattle.trace_model.specs.declared.refusal.Refusal.TheVariants.{NoMemory}
+use Rattle.trace_model.specs.declared.refusal.Refusal.TheVariants.{NoMemory, BadBound, TooManyQuestions, NoSuchQuestion, ReportTooLong}
 use Rattle.trace_model.specs.declared.session.Request.{Request}
-use Rattle.trace_model.specs.declared.session.Request.TheVariants.{Offer}
+use Rattle.trace_model.specs.declared.session.Request.TheVariants.{Offer, Ask, Answer as AskAnswer, Status as AskStatus}
 use Rattle.trace_model.specs.declared.session.Reply.{Reply}
-use Rattle.trace_model.specs.declared.session.Reply.TheVariants.{Refused}
+use Rattle.trace_model.specs.declared.session.Reply.TheVariants.{Refused, Opened as OpenedReply, Pending as PendingReply, Report, Status as StatusReply}
+use Rattle.trace_model.specs.Trace.{Trace}
 use Rattle.trace_model.specs.Lawful.{refusal_of}
-use Rattle.trace_model.specs.Machine.{State, step}
-use Rattle.sequencer.specs.declared.book.Change.{Change}
-use Rattle.sequencer.specs.declared.book.Change.TheVariants.{Accept}
+use Rattle.trace_model.specs.Dependencies.{dependencies}
+use Rattle.trace_model.specs.Rows.{Row, AreRows}
+use Rattle.trace_model.specs.Machine.{Question, State, ask_refused, answer, step}
+use Rattle.trace_model.specs.Bounds.{StateFits}
+use Rattle.findings.specs.Found.{FoundRows}
+use Rattle.sequencer.specs.Asked.{Told, question_of, rows_in, TellsNamed}
+use Rattle.sequencer.specs.Printing.{printing}
+use Rattle.sequencer.specs.declared.answering.Answer.{Answer}
+use Rattle.sequencer.specs.declared.answering.Answer.TheVariants.{Pending, Settled}
+use Rattle.sequencer.specs.declared.answering.Status.{Status}
+use Rattle.sequencer.specs.declared.answering.AnswerRefused.{AnswerRefused}
+use Rattle.sequencer.specs.declared.answering.AnswerRefused.TheVariants as NoAnswer
+use Rattle.sequencer.specs.declared.asking.AskRefused.{AskRefused}
+use Rattle.sequencer.specs.declared.asking.AskRefused.TheVariants as NoOpening
+use Rattle.sequencer.specs.declared.asking.Opened.{Opened}
+use Rattle.sequencer.specs.declared.step.Change.{Change}
+use Rattle.sequencer.specs.declared.step.Change.TheVariants.{Accept, Open, Tell, Show}
 
 -- a book may be made with this limit
 abbrev pub IsLimit : ℕ → Type 0
 IsLimit limit = (1 ≤ limit) × (limit ≤ MAX_EVENTS)
 
--- the state that replies show, and the event that there is room for
+-- the state that replies show, the event that there is room for, and how many questions there is room for
 pub record Kept : Type 0 where
   pub state : State
   pub reserved : Option Event
+  pub room : ℕ
+
+-- the machine's state, of what a book keeps
+abbrev pub state_of : ℕ → Trace → List Told → State
+state_of limit events asked = record { limit = limit; accepted = events; questions = map question_of asked }
+
+-- the events are lawful, and the rows of each question are those of its first events, with their dependencies
+pub record IsKept (admitted limit : ℕ) (events : Trace) (asked : List Told) : Type 0 where
+  pub same_limit : admitted ≡ limit
+  pub fits : StateFits AreRows (state_of limit events asked)
+  pub named : (k : ℕ) (told : Told) → slice_get asked k ≡ Some told → TellsNamed (take told.length events) told
 
 -- what a step adds, and the reply that it will get
 pub record Planned : Type 0 where
@@ -30,10 +56,19 @@ pub record Planned : Type 0 where
 -- the request that asks for a change
 abbrev pub request_of : Change → Request
 request_of (Accept e) = Offer e
+request_of (Open asked) = Ask asked.bound
+request_of (Tell question) = AskAnswer question
+request_of (Show question) = AskStatus question
 
--- there is room for what the change adds
+-- a question about the present events, none of whose tasks is delivered
+abbrev pub fresh : State → ℕ → Told
+fresh s bound = record { length = length s.accepted; bound = bound; tasks = replicate (length (dependencies s.accepted)) None }
+
+-- there is room for what the change adds, and it brings what was made for it
 abbrev pub HasRoom : Kept → Change → Type 0
 HasRoom b (Accept e) = b.reserved ≡ Some e
+HasRoom b (Open asked) = (0 < b.room) × (asked ≡ fresh b.state asked.bound)
+HasRoom b _ = Unit {0}
 
 -- the reply does not refuse
 abbrev pub IsAccepted : Reply → Type 0
@@ -42,7 +77,7 @@ IsAccepted _ = Unit {0}
 
 -- the machine accepts the request with this reply, and there is room for what it adds
 pub record IsPrepared (b : Kept) (planned : Planned) : Type 0 where
-  pub reply_is : (step b.state (request_of planned.change)).0 ≡ planned.reply
+  pub reply_is : (step printing b.state (request_of planned.change)).0 ≡ planned.reply
   pub accepted : IsAccepted planned.reply
   pub room : HasRoom b planned.change
 
@@ -51,7 +86,59 @@ abbrev pub RefusesOffer : State → Event → Refusal → Type 0
 RefusesOffer s e r =
     (refusal_of s.limit s.accepted e ≡ Some r) ⊎ ((r ≡ NoMemory) × (refusal_of s.limit s.accepted e ≡ None))
 
+-- the refusals of a question and of an answer, among all
+abbrev pub ask_refusal : AskRefused → Refusal
+ask_refusal NoOpening.BadBound = BadBound
+ask_refusal NoOpening.TooManyQuestions = TooManyQuestions
+ask_refusal NoOpening.NoMemory = NoMemory
+
+abbrev pub answer_refusal : AnswerRefused → Refusal
+answer_refusal NoAnswer.NoSuchQuestion = NoSuchQuestion
+answer_refusal NoAnswer.ReportTooLong = ReportTooLong
+answer_refusal NoAnswer.NoMemory = NoMemory
+
+-- the same of a question with this bound
+abbrev pub RefusesAsk : State → ℕ → AskRefused → Type 0
+RefusesAsk s bound r = (ask_refused s bound ≡ Some (ask_refusal r)) ⊎ ((r ≡ NoOpening.NoMemory) × (ask_refused s bound ≡ None))
+
+-- the same of an answer
+abbrev pub RefusesAnswer : State → ℕ → AnswerRefused → Type 0
+RefusesAnswer s number r =
+    (answer printing s number ≡ Refused (answer_refusal r)) ⊎ ((r ≡ NoAnswer.NoMemory) × IsAccepted (answer printing s number))
+
 -- the request is refused by the machine, or for want of memory where the machine accepts it
 abbrev pub Refuses : State → Request → Reply → Type 0
 Refuses s request reply =
-    (step s request ≡ (reply, s)) ⊎ ((reply ≡ Refused NoMemory) × IsAccepted (step s request).0)
+    (step printing s request ≡ (reply, s)) ⊎ ((reply ≡ Refused NoMemory) × IsAccepted (step printing s request).0)
+
+-- there is no such question, or no memory for what is asked of it
+abbrev pub RefusesSnapshot : State → ℕ → Refusal → Type 0
+RefusesSnapshot s number r =
+    ((r ≡ NoSuchQuestion) × (slice_get s.questions number ≡ None))
+    ⊎ ((r ≡ NoMemory) × ((q : Question) × (slice_get s.questions number ≡ Some q)))
+
+-- the least task that is not delivered
+abbrev pub IsLeastMissing : Question → ℕ → Type 0
+IsLeastMissing q task =
+    (slice_get q.tasks task ≡ Some None) × ((other : ℕ) → slice_get q.tasks other ≡ Some None → task ≤ other)
+
+-- the reply that an opened question gets
+abbrev pub opened_reply : Opened → Reply
+opened_reply o = OpenedReply o.question o.length o.total
+
+-- the reply that an answer about the question gets
+abbrev pub answer_reply : ℕ → Answer → Reply
+answer_reply question (Pending delivered total) = PendingReply question delivered total
+answer_reply question (Settled text) = Report question text
+
+-- the reply that the status of the question gets
+abbrev pub status_reply : ℕ → Status → Reply
+status_reply question s = StatusReply question s.accepted s.opened s.length s.bound s.total s.delivered s.cycles s.confirmed
+
+-- what refuses a finding, and the rows of a finding
+abbrev pub outcome : Result Unit (Refusal × FoundRows) → Option Refusal
+outcome (Ok u) = None
+outcome (Err refused) = Some refused.0
+
+abbrev pub findings_rows : FoundRows → List Row
+findings_rows f = rows_in f.rows

@@ -1,21 +1,31 @@
--- What it is to answer all that a reader has.
+-- What it is to answer all that a reader has, and what a run keeps of the inputs so far.
 use Rattle.std.specs.Prelude.{◌≡◌, ℕ, ◌<◌, length, slice_index_or, false, List, [], ◌∷◌, ◌++◌, None}
-use Rattle.std.specs.List.{flat_map}
 use Rattle.trace_model.specs.declared.session.Request.{Request}
 use Rattle.trace_model.specs.Frames.{requests_in, fault_in}
 use Rattle.trace_model.specs.Replies.{reply_frame}
 use Rattle.event_frames.specs.Reader.{Reading, HasRead}
-use Rattle.trace_model.specs.Machine.{State, state_after, replies_to}
+use Rattle.trace_model.specs.Rows.{AreRows}
+use Rattle.trace_model.specs.Machine.{State, step}
+use Rattle.trace_model.specs.Bounds.{StateFits}
 use Rattle.sequencer.specs.declared.input.Input.{Input}
 use Rattle.sequencer.specs.declared.session.Slot.{Slot}
-use Rattle.sequencer.specs.Sessions.{fault_frames, session_of, text_of, has_ended, requests_of, fault_of, final_state, sent_to}
+use Rattle.sequencer.specs.declared.session.Run.{Run}
+use Rattle.sequencer.specs.Printing.{printing}
+use Rattle.sequencer.specs.Exact.{IsAlwaysExact}
+use Rattle.sequencer.specs.Sessions.{actions, fault_frames, text_of, has_ended, requests_of, fault_of, deliveries_of, final_state, sent_to}
 
--- the frames of the replies to these requests, and of the fault
+-- the machine after these requests
+abbrev pub state_called : State → List Request → State
+state_called state [] = state
+state_called state (request ∷ requests) = state_called (step printing state request).1 requests
+
+-- the frames of the replies to these requests
 abbrev pub answer_to : State → List Request → List ℕ
-answer_to state requests = flat_map reply_frame (replies_to state requests)
+answer_to state [] = []
+answer_to state (request ∷ requests) = reply_frame (step printing state request).0 ++ answer_to (step printing state request).1 requests
 
 pub record Drains (book : State) (reader : Reading) (sent : List ℕ) (book' : State) (reader' : Reading) (sent' : List ℕ) : Type 0 where
-  pub state : book' ≡ state_after book (requests_in reader.rest)
+  pub state : book' ≡ state_called book (requests_in reader.rest)
   pub out : sent' ≡ sent ++ (answer_to book (requests_in reader.rest) ++ fault_frames (fault_in reader.rest reader.ended))
   pub told : reader'.told ≡ fault_in reader.rest reader.ended
   pub ended : reader'.ended ≡ reader.ended
@@ -28,11 +38,15 @@ pub record IsReadAt (s : ℕ) (past : List Input) (slot : Slot) : Type 0 where
   pub not_ended : has_ended s past ≡ false → slot.reader.ended ≡ false
   pub told : slot.reader.told ≡ fault_of s past
 
--- the session and the machine after one input more
-pub record IsTaken (input : Input) (past : List Input) (start : State) (book : State) (slot : Slot) : Type 0 where
-  pub read : IsReadAt (session_of input) (past ++ input ∷ []) slot
-  pub state : book ≡ final_state start (past ++ input ∷ [])
-  pub sent : slot.sent.items ≡ sent_to (session_of input) start (past ++ input ∷ [])
+-- the session has also been sent what it is to be sent
+pub record IsServed (s : ℕ) (start : State) (past : List Input) (slot : Slot) : Type 0 where
+  pub read : IsReadAt s past slot
+  pub sent : slot.sent.items ≡ sent_to s start past
+
+-- a session and the machine after the inputs so far
+pub record IsAnswered (s : ℕ) (start : State) (past : List Input) (book : State) (slot : Slot) : Type 0 where
+  pub served : IsServed s start past slot
+  pub state : book ≡ final_state start past
 
 -- a session that nothing came for
 pub record IsNew (slot : Slot) : Type 0 where
@@ -44,11 +58,10 @@ pub record IsNew (slot : Slot) : Type 0 where
 abbrev pub AreNew : List Slot → Type 0
 AreNew slots = (s : ℕ) (d : Slot) → s < length slots → IsNew (slice_index_or slots s d)
 
--- the 64 sessions
-pub record AreReadAt (slots : List Slot) (past : List Input) : Type 0 where
-  pub count : length slots ≡ 64
-  pub each : (s : ℕ) (d : Slot) → s < 64 → IsReadAt s past (slice_index_or slots s d)
-
--- each session was sent what it is to be sent
-abbrev pub SlotsAreSent : List Slot → State → List Input → Type 0
-SlotsAreSent slots start inputs = (s : ℕ) (d : Slot) → s < 64 → (slice_index_or slots s d).sent.items ≡ sent_to s start inputs
+-- a run after the inputs so far
+pub record IsPlayed (start : State) (past : List Input) (run : Run) : Type 0 where
+  pub count : length run.slots.items ≡ 64
+  pub each : (s : ℕ) (d : Slot) → s < 64 → IsServed s start past (slice_index_or run.slots.items s d)
+  pub deliveries : run.deliveries.items ≡ deliveries_of start past
+  pub state : run.book.state ≡ final_state start past
+  pub exact : StateFits AreRows start → IsAlwaysExact start (actions past)

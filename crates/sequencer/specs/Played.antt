@@ -5,11 +5,12 @@ use Rattle.sequencer.specs.declared.input.Input.{Input}
 use Rattle.sequencer.specs.declared.session.PlayRefused.{PlayRefused}
 use Rattle.sequencer.specs.declared.session.PlayRefused.TheVariants.{BadLimit, NoMemory}
 use Rattle.sequencer.specs.Book.{Kept, IsLimit}
-use Rattle.sequencer.specs.Sessions.{sent_to}
+use Rattle.sequencer.specs.Sessions.{Delivered, sent_to}
 
--- the bytes that each session was sent, and the book
-pub record Outcome : Type 0 where
+-- the bytes that each session was sent, what became of each finding, and the book
+pub record Left : Type 0 where
   pub sent : List (List ℕ)
+  pub deliveries : List Delivered
   pub book : Kept
 
 -- each of the 64 sessions was sent what it is to be sent

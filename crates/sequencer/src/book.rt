@@ -1,16 +1,23 @@
-ghost use Rattle.std.specs.Prelude.{◌≡◌, ◌↔◌, length, IfErr, IfOk, IsOk, OnOk, OnErr, Some, None};
+//! The book: its events and its questions.
+
+ghost use Rattle.std.specs.Prelude.{◌≡◌, ◌<◌, ◌≤◌, ◌↔◌, length, take, slice_get, option_map, IfSome, IfErr, IfOk, IsOk, MatchOption, OnOk, Some, None};
 ghost use Rattle.trace_model.specs.Lawful.{refusal_of};
-ghost use Rattle.trace_model.specs.Machine.{opening, step};
+ghost use Rattle.trace_model.specs.Rows.{AreRows};
+ghost use Rattle.trace_model.specs.Machine.{ask_refused, opening, step, with_event, with_question};
+ghost use Rattle.trace_model.specs.Bounds.{StateFits};
 ghost use Rattle.trace_model.specs.declared.session.Request.TheVariants.{Offer};
 ghost use Rattle.trace_model.specs.declared.session.Reply.TheVariants.{Placed};
 ghost use Rattle.sequencer.specs.declared.book.BookRefused.TheVariants.{BadLimit};
-ghost use Rattle.sequencer.specs.Book.{IsAccepted, IsLimit, IsPrepared, RefusesOffer, Refuses, request_of};
+ghost use Rattle.sequencer.specs.Asked.{question_of, TellsNamed};
+ghost use Rattle.sequencer.specs.Book.{IsLimit, RefusesOffer, fresh};
+ghost use Rattle.sequencer.specs.Printing.{printing};
 
-use std::alloc::{AllocError, Global};
+use crate::asked::Asked;
+use std::alloc::Global;
 use std::hash::RandomState;
 use std::marker::Model;
 use thiserror::Error;
-use trace_model::{Event, MAX_EVENTS, NoMemory, Place, Refusal, Reply, Request};
+use trace_model::{Event, MAX_EVENTS, Place, Refusal};
 use wellformed::Gate;
 
 /// Why a book is not made.
@@ -22,57 +29,34 @@ pub enum BookRefused {
     NoMemory,
 }
 
-/// What a step adds to the book.
-#[derive(Debug, Drop)]
-pub enum Change {
-    Accept(Event),
-}
+/// No question has this number.
+#[derive(Clone, Copy, Debug, PartialEq, Eq, Error)]
+#[error("no such question")]
+pub struct NoSuchQuestion;
 
-/// A request that was tested and has its room, with the reply that it will get.
-#[derive(Debug, Drop)]
-pub struct Step {
-    change: Change,
-    reply: Reply,
-}
-
-impl Model for Step {
-    ghost use Rattle.sequencer.specs.Book.{Planned};
-
-    ghost Value = { Planned };
-
-    ghost view = { λ s. record { change = s.change; reply = s.reply } };
-}
-
-impl Step {
-    /// The reply that the commit will give. It takes no memory.
-    pub fn reply(&self) -> &Reply
-        ensures { result.now ≡ self.now.reply }
-    {
-        &self.reply
-    }
-}
-
-/// The accepted events.
+/// The accepted events, and the questions about their beginnings with the rows of their tasks.
 #[derive(Drop)]
 pub struct Book {
-    limit: u32,
-    gate: Gate,
+    pub(crate) alloc: Global,
+    pub(crate) state: RandomState,
+    pub(crate) limit: u32,
+    pub(crate) gate: Gate,
+    pub(crate) questions: Vec<Asked>,
 }
 
 impl Model for Book {
-    ghost use Rattle.std.specs.Prelude.{◌≡◌, ◌≤◌};
-    ghost use Rattle.sequencer.specs.Book.{Kept};
-    ghost use Rattle.trace_model.specs.declared.limits.TheConstants.{MAX_EVENTS};
+    ghost use Rattle.std.specs.Prelude.{◌-◌, vec_len, vec_capacity};
+    ghost use Rattle.sequencer.specs.Book.{Kept, IsKept, state_of};
 
     ghost Value = { Kept };
 
-    ghost view = { λ b. record { state = record { limit = b.limit; accepted = b.gate.events }; reserved = b.gate.reserved } };
+    ghost view = { λ b. record { state = state_of b.limit b.gate.events b.questions.items; reserved = b.gate.reserved; room = vec_capacity b.questions - vec_len b.questions } };
 
-    ghost invariant = { λ b. (b.gate.limit ≡ b.limit) × (b.limit ≤ MAX_EVENTS) };
+    ghost invariant = { λ b. IsKept b.gate.limit b.limit b.gate.events b.questions.items };
 }
 
 impl Book {
-    /// A book without events, which accepts at most `max_events`.
+    /// A book without events and questions, which accepts at most `max_events` events.
     ///
     /// # Errors
     ///
@@ -86,13 +70,42 @@ impl Book {
             return Err(BookRefused::BadLimit);
         }
         Ok(Book {
+            alloc,
+            state,
             limit: max_events,
             gate: Gate::new(alloc, state, max_events as usize),
+            questions: Vec::new(alloc),
         })
     }
 
+    /// The accepted events. The book's state is within its limits, and the rows that were delivered are exactly
+    /// those of the first events of their questions. It takes no memory.
+    pub fn events(&self) -> &[Event]
+        ensures value { result.now ≡ self.now.state.accepted }
+        ensures fits { StateFits AreRows self.now.state }
+    {
+        let _ = &self.questions;
+        self.gate.events()
+    }
+
+    /// How many questions were opened.
+    pub(crate) fn opened(&self) -> u32
+        ensures { result ≡ length self.now.state.questions }
+    {
+        self.questions.len() as u32
+    }
+
+    /// The question with this number.
+    pub(crate) fn asked(&self, question: u32) -> Option<&Asked>
+        ensures value { option_map (λ asked. question_of asked.now) result ≡ slice_get self.now.state.questions question }
+        ensures within { IfSome result (λ asked. asked.now.length ≤ length self.now.state.accepted) }
+        ensures named { IfSome result (λ asked. TellsNamed (take asked.now.length self.now.state.accepted) asked.now) }
+    {
+        self.questions.get(question as usize)
+    }
+
     /// Tests an event and makes room for it.
-    fn admit(&mut self, event: &Event) -> Result<(), Refusal>
+    pub(crate) fn admit(&mut self, event: &Event) -> Result<(), Refusal>
         ensures shown { self.new.state ≡ self.old.state }
         ensures ok { OnOk result ((self.new.reserved ≡ Some event.now) × (refusal_of self.old.state.limit self.old.state.accepted event.now ≡ None)) }
         ensures refused { IfErr result (RefusesOffer self.old.state event.now) }
@@ -104,52 +117,30 @@ impl Book {
         Ok(())
     }
 
-    /// The place of the next event.
-    fn next_place(&self) -> Place
+    /// How many events there are.
+    pub(crate) fn length(&self) -> u32
         ensures { result ≡ length self.now.state.accepted }
     {
-        Place::new(self.gate.events().len() as u32)
+        self.gate.events().len() as u32
     }
 
-    /// Tests a request and makes every growth for it. What a reply shows is unchanged.
-    ///
-    /// # Errors
-    ///
-    /// The reply that refuses the request. `NoMemory` comes after all tests passed.
-    pub fn prepare(&mut self, request: &Request) -> Result<Step, Reply>
-        ensures shown { self.new.state ≡ self.old.state }
-        ensures ok { IfOk result (λ planned. (request_of planned.change ≡ request.now) × IsPrepared self.new planned) }
-        ensures refused { IfErr result (Refuses self.old.state request.now) }
+    /// Accepts a lawful event that there is room for.
+    pub(crate) fn accept(&mut self, event: &Event)
+        requires reserved { self.old.reserved ≡ Some event.now }
+        requires lawful { refusal_of self.old.state.limit self.old.state.accepted event.now ≡ None }
+        ensures { self.new.state ≡ with_event self.old.state event.now }
     {
-        match request {
-            Request::Offer(event) => self.prepare_offer(*event),
-        }
+        self.gate.record(event);
     }
 
-    fn prepare_offer(&mut self, event: Event) -> Result<Step, Reply>
-        ensures shown { self.new.state ≡ self.old.state }
-        ensures ok { IfOk result (λ planned. (request_of planned.change ≡ Offer event) × IsPrepared self.new planned) }
-        ensures refused { IfErr result (Refuses self.old.state (Offer event)) }
+    /// Adds a question that there is room for.
+    pub(crate) fn add(&mut self, asked: Asked)
+        requires room { 0 < self.old.room }
+        requires allowed { ask_refused self.old.state asked.bound ≡ None }
+        requires fresh { asked ≡ fresh self.old.state asked.bound }
+        ensures { self.new.state ≡ with_question self.old.state asked.bound }
     {
-        if let Err(refusal) = self.admit(&event) {
-            return Err(Reply::Refused(refusal));
-        }
-        Ok(Step {
-            change: Change::Accept(event),
-            reply: Reply::Placed(self.next_place()),
-        })
-    }
-
-    /// Takes the step, which must have been prepared on this book as it is. It takes no memory.
-    pub fn commit(&mut self, planned: Step) -> Reply
-        requires { IsPrepared self.old planned }
-        ensures { step self.old.state (request_of planned.change) ≡ (result, self.new.state) }
-    {
-        let Step { change, reply } = planned;
-        match change {
-            Change::Accept(event) => self.gate.record(&event),
-        }
-        reply
+        self.questions.push_reserved(asked);
     }
 
     /// Accepts the event if it is lawful, and answers its place.
@@ -158,28 +149,12 @@ impl Book {
     ///
     /// The first refusal that applies, and `NoMemory` where none does. Nothing has changed.
     pub fn offer(&mut self, event: Event) -> Result<Place, Refusal>
-        ensures ok { IfOk result (λ place. step self.old.state (Offer event) ≡ (Placed place, self.new.state)) }
+        ensures ok { IfOk result (λ place. step printing self.old.state (Offer event) ≡ (Placed place, self.new.state)) }
         ensures refused { IfErr result (λ refusal. RefusesOffer self.old.state event refusal × (self.new.state ≡ self.old.state)) }
     {
         self.admit(&event)?;
-        let place = self.next_place();
-        self.gate.record(&event);
+        let place = Place::new(self.length());
+        self.accept(&event);
         Ok(place)
-    }
-
-    /// The reply to a request, which is prepared and committed.
-    ///
-    /// # Errors
-    ///
-    /// `NoMemory` where the request is not refused otherwise. Nothing has changed.
-    pub fn call(&mut self, request: &Request) -> Result<Reply, NoMemory>
-        ensures ok { IfOk result (λ reply. step self.old.state request.now ≡ (reply, self.new.state)) }
-        ensures err { OnErr result ((self.new.state ≡ self.old.state) × IsAccepted (step self.old.state request.now).0) }
-    {
-        match self.prepare(request) {
-            Ok(planned) => Ok(self.commit(planned)),
-            Err(Reply::Refused(Refusal::NoMemory)) => Err(NoMemory::from(AllocError)),
-            Err(reply) => Ok(reply),
-        }
     }
 }

@@ -1,3 +1,4 @@
+use findings::Finding;
 use std::marker::Model;
 
 /// How many sessions a run may have.
@@ -43,9 +44,10 @@ impl Session {
     }
 }
 
-/// What comes: a piece of the bytes of a session, or the end of one.
-#[derive(Debug, Drop)]
+/// What comes: a piece of the bytes of a session, the end of one, or a finding, whoever made it.
+#[derive(Drop)]
 pub enum Input {
     Piece(Session, Vec<u8>),
     End(Session),
+    Finding(Finding),
 }

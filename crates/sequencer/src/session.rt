@@ -1,20 +1,30 @@
 //! The sessions of a run.
-ghost use Rattle.std.specs.Prelude.{◌≡◌, ◌<◌, List, None, Some, OnOk, IfOk, IfErr, length, slice_get};
+ghost use Rattle.std.specs.Prelude.{◌≡◌, ◌++◌, ◌∷◌, [], ◌<◌, ℕ, List, None, Some, OnOk, IfOk, IfErr, length, slice_get};
+ghost use Rattle.std.specs.Global.{Vec};
+ghost use Rattle.trace_model.specs.Bounds.{StateFits};
 ghost use Rattle.trace_model.specs.Machine.{State, opening};
+ghost use Rattle.trace_model.specs.Rows.{AreRows};
+ghost use Rattle.trace_model.specs.Replies.{IsReply, reply_frame};
 ghost use Rattle.sequencer.specs.Book.{IsLimit};
-ghost use Rattle.sequencer.specs.Drains.{Drains, IsReadAt, IsTaken, AreNew};
-ghost use Rattle.sequencer.specs.Sessions.{session_of, final_state, sent_to};
+ghost use Rattle.sequencer.specs.Drains.{Drains, IsAnswered, AreNew, IsPlayed};
+ghost use Rattle.sequencer.specs.Exact.{IsAlwaysExact, AlwaysTellsDeadlocks};
+ghost use Rattle.sequencer.specs.Sessions.{actions, final_state, deliveries_of};
 ghost use Rattle.sequencer.specs.Played.{AreSent, IsRightlyRefused};
 ghost use Rattle.sequencer.specs.declared.input.Input.{Input};
+ghost use Rattle.sequencer.specs.declared.input.Input.TheVariants.{Piece, End};
 
 use crate::book::Book;
 use crate::input::{Input, MAX_SESSIONS, Session};
 use event_frames::{FrameReader, push_reply};
+use findings::Finding;
 use std::alloc::Global;
 use std::hash::RandomState;
 use std::marker::Model;
 use thiserror::Error;
-use trace_model::{NoMemory, Reply};
+use trace_model::{NoMemory, Refusal, Reply};
+
+/// What became of a finding: it was taken, or refused and handed back.
+pub type Delivered = Result<(), (Refusal, Finding)>;
 
 /// Why a run is not played.
 #[derive(Debug, Drop, PartialEq, Eq, Error)]
@@ -32,20 +42,108 @@ pub struct Slot {
     pub sent: Vec<u8>,
 }
 
-/// What a run leaves: the bytes that each session was sent, and the book.
+impl Slot {
+    /// Takes a piece of the session's bytes, which is dropped where the session is closed.
+    fn take_piece(&mut self, book: &mut Book, piece: &[u8]) -> Result<(), NoMemory>
+        ensures { OnOk result ((s : ℕ) (start : State) (past : List Input) (bytes : Vec ℕ) → bytes.items ≡ piece.now
+            → IsAnswered s start past book.old.state self.old
+            → IsAnswered s start (past ++ Piece s bytes ∷ []) book.new.state self.new) }
+    {
+        if self.reader.is_closed() {
+            return Ok(());
+        }
+        self.reader.feed(piece)?;
+        drain(book, &mut self.reader, &mut self.sent)
+    }
+
+    /// Takes the end of the session, which changes nothing where the session is closed.
+    fn take_end(&mut self, book: &mut Book) -> Result<(), NoMemory>
+        ensures { OnOk result ((s : ℕ) (start : State) (past : List Input)
+            → IsAnswered s start past book.old.state self.old
+            → IsAnswered s start (past ++ End s ∷ []) book.new.state self.new) }
+    {
+        if self.reader.is_closed() {
+            return Ok(());
+        }
+        self.reader.finish();
+        drain(book, &mut self.reader, &mut self.sent)
+    }
+}
+
+/// Adds a reply to what a session was sent.
+fn send(sent: &mut Vec<u8>, reply: Reply) -> Result<(), NoMemory>
+    requires { IsReply reply }
+    ensures { OnOk result (sent.new.items ≡ sent.old.items ++ reply_frame reply) }
+{
+    push_reply(sent, &reply)
+}
+
+/// Calls the book for each request that is there, and sends the replies, and the fault if one is there.
+fn drain(book: &mut Book, reader: &mut FrameReader, sent: &mut Vec<u8>) -> Result<(), NoMemory>
+    requires { reader.old.told ≡ None }
+    ensures { OnOk result (Drains book.old.state reader.old sent.old.items book.new.state reader.new sent.new.items) }
+{
+    loop {
+        match reader.next() {
+            Ok(Some(request)) => {
+                let reply = book.call(&request)?;
+                send(sent, reply)?;
+            }
+            Ok(None) => return Ok(()),
+            Err(fault) => {
+                return send(sent, Reply::Fault(fault));
+            }
+        }
+    }
+}
+
+/// The sessions of a run, what became of its findings, and its book.
+#[derive(Drop)]
+pub struct Run {
+    pub slots: Vec<Slot>,
+    pub deliveries: Vec<Delivered>,
+    pub book: Book,
+}
+
+impl Run {
+    /// Takes one input more.
+    fn take(&mut self, input: Input) -> Result<(), NoMemory>
+        requires { length self.old.slots.items ≡ 64 }
+        ensures { OnOk result ((start : State) (past : List Input) → IsPlayed start past self.old → IsPlayed start (past ++ input ∷ []) self.new) }
+    {
+        match input {
+            Input::Piece(session, bytes) => {
+                let slot = &mut self.slots[session.index()];
+                slot.take_piece(&mut self.book, &bytes)
+            }
+            Input::End(session) => {
+                let slot = &mut self.slots[session.index()];
+                slot.take_end(&mut self.book)
+            }
+            Input::Finding(finding) => {
+                let delivered = self.book.deliver(finding);
+                self.deliveries.push(delivered)?;
+                Ok(())
+            }
+        }
+    }
+}
+
+/// What a run leaves: the bytes that each session was sent, what became of each finding, and the book.
 #[derive(Drop)]
 pub struct Played {
     slots: Vec<Slot>,
+    deliveries: Vec<Delivered>,
     book: Book,
 }
 
 impl Model for Played {
     ghost use Rattle.std.specs.Prelude.{◌≡◌, length, map};
-    ghost use Rattle.sequencer.specs.Played.{Outcome};
+    ghost use Rattle.sequencer.specs.Played.{Left};
 
-    ghost Value = { Outcome };
+    ghost Value = { Left };
 
-    ghost view = { λ p. record { sent = map (λ slot. slot.sent.items) p.slots.items; book = p.book } };
+    ghost view = { λ p. record { sent = map (λ slot. slot.sent.items) p.slots.items; deliveries = p.deliveries.items; book = p.book } };
 
     ghost invariant = { λ p. length p.slots.items ≡ 64 };
 }
@@ -58,54 +156,18 @@ impl Played {
         self.slots[session.index()].sent.as_slice()
     }
 
+    /// What became of each finding, in the order in which they came.
+    pub fn deliveries(&self) -> &[Delivered]
+        ensures { result.now ≡ self.now.deliveries }
+    {
+        self.deliveries.as_slice()
+    }
+
     /// The book after all inputs.
     pub fn book(&self) -> &Book
         ensures { result.now ≡ self.now.book }
     {
         &self.book
-    }
-}
-
-/// Takes an input of a session. What comes for a closed one is ignored.
-fn take(book: &mut Book, slot: &mut Slot, input: &Input) -> Result<(), NoMemory>
-    ensures { OnOk result ((past : List Input) (start : State)
-        → IsReadAt (session_of input.now) past slot.old
-        → book.old.state ≡ final_state start past
-        → slot.old.sent.items ≡ sent_to (session_of input.now) start past
-        → IsTaken input.now past start book.new.state slot.new) }
-{
-    if slot.reader.is_closed() {
-        return Ok(());
-    }
-    match input {
-        Input::Piece(_, bytes) => {
-            slot.reader.feed(bytes)?;
-            drain(book, &mut slot.reader, &mut slot.sent)
-        }
-        Input::End(_) => {
-            slot.reader.finish();
-            drain(book, &mut slot.reader, &mut slot.sent)
-        }
-    }
-}
-
-/// Calls the book for each request that is there, and sends the replies, and the fault if one is there.
-fn drain(book: &mut Book, reader: &mut FrameReader, sent: &mut Vec<u8>) -> Result<(), NoMemory>
-    requires { reader.old.told ≡ None }
-    ensures { OnOk result (Drains book.old.state reader.old sent.old.items book.new.state reader.new sent.new.items) }
-{
-    loop {
-        match reader.next() {
-            Ok(Some(request)) => {
-                let reply = book.call(&request)?;
-                push_reply(sent, &reply)?;
-            }
-            Ok(None) => return Ok(()),
-            Err(fault) => {
-                push_reply(sent, &Reply::Fault(fault))?;
-                return Ok(());
-            }
-        }
     }
 }
 
@@ -122,33 +184,36 @@ fn open_slots(alloc: Global) -> Result<Vec<Slot>, NoMemory>
     Ok(slots)
 }
 
-fn session_index(input: &Input) -> usize
-    ensures value { result ≡ session_of input.now }
-    ensures bound { result < 64 }
-{
-    match input {
-        Input::Piece(session, _) => session.index(),
-        Input::End(session) => session.index(),
-    }
-}
-
 /// Plays the inputs over this book.
-fn play_over(alloc: Global, mut book: Book, inputs: &[Input]) -> Result<Played, NoMemory>
-    ensures sent { IfOk result (λ played. AreSent played.sent book.state inputs.now) }
-    ensures book { IfOk result (λ played. played.book.state ≡ final_state book.state inputs.now) }
+fn play_over(alloc: Global, book: Book, inputs: Vec<Input>) -> Result<Played, NoMemory>
+    ensures sent { IfOk result (λ played. AreSent played.sent book.state inputs.items) }
+    ensures deliveries { IfOk result (λ played. played.deliveries ≡ deliveries_of book.state inputs.items) }
+    ensures book { IfOk result (λ played. played.book.state ≡ final_state book.state inputs.items) }
+    ensures exact { IfOk result (λ _. StateFits AreRows book.state → IsAlwaysExact book.state (actions inputs.items)) }
 {
-    let mut slots = open_slots(alloc)?;
+    let mut run = Run {
+        slots: open_slots(alloc)?,
+        deliveries: Vec::new(alloc),
+        book,
+    };
     for input in inputs {
-        let i = session_index(input);
-        let slot = &mut slots[i];
-        take(&mut book, slot, input)?;
+        run.take(input)?;
     }
-    Ok(Played { slots, book })
+    let Run {
+        slots,
+        deliveries,
+        book,
+    } = run;
+    Ok(Played {
+        slots,
+        deliveries,
+        book,
+    })
 }
 
 /// Plays the inputs over a new book that accepts at most `max_events`: each session is sent the replies to its
-/// requests, in their order, and then its fault if it has one. What comes for a session after its fault or its
-/// end is ignored.
+/// requests, in their order, and then its fault if it has one, and each finding is delivered where it comes.
+/// What comes for a session after its fault or its end is ignored.
 ///
 /// # Errors
 ///
@@ -160,14 +225,19 @@ pub fn play(
     inputs: Vec<Input>,
 ) -> Result<Played, PlayRefused>
     ensures sent { IfOk result (λ played. AreSent played.sent (opening max_events) inputs.items) }
+    ensures deliveries { IfOk result (λ played. played.deliveries ≡ deliveries_of (opening max_events) inputs.items) }
     ensures book { IfOk result (λ played. played.book.state ≡ final_state (opening max_events) inputs.items) }
+    // At every time the rows of each delivered task are exactly those of its question's events.
+    ensures exact { IfOk result (λ _. IsAlwaysExact (opening max_events) (actions inputs.items)) }
+    // Each confirmed row that a report prints at any time has a witness that leads into its deadlock.
+    ensures deadlocks { IfOk result (λ _. AlwaysTellsDeadlocks (opening max_events) (actions inputs.items)) }
     ensures limit { IfOk result (λ _. IsLimit max_events) }
     ensures refused { IfErr result (IsRightlyRefused max_events) }
 {
     let Ok(book) = Book::new(alloc, state, max_events) else {
         return Err(PlayRefused::BadLimit);
     };
-    match play_over(alloc, book, &inputs) {
+    match play_over(alloc, book, inputs) {
         Ok(played) => Ok(played),
         Err(_) => Err(PlayRefused::NoMemory),
     }

@@ -1,20 +1,31 @@
-use crate::{Book, BookRefused, Input, PlayRefused, Played, Session, play};
+//! Runs of sessions and findings.
+
+use crate::book_tests::{REPORT, opposite_orders};
+use crate::{Book, BookRefused, Delivered, Input, PlayRefused, Played, Session, play};
+use findings::Finding;
 use std::alloc::{AllocError, Global};
 use std::hash::RandomState;
 use std::process::Abort;
 use std::random::RandomSource;
 use std::test::*;
-use trace_model::{Event, Op, Place, Refusal, Reply, Request};
+use trace_model::{Bound, Event, Op, Refusal};
 
 const MOST: u32 = 1_048_576;
+
+// asks with the bound 2, and wants the answer and the status of question 0
+const ASK: [u8; 4] = [0, 2, 7, 2];
+
+pub(crate) const ANSWER: [u8; 7] = [0, 5, 8, 0, 0, 0, 0];
+
+const STATUS: [u8; 7] = [0, 5, 9, 0, 0, 0, 0];
 
 /// The frame of an event of small numbers.
 fn frame(kind: u8, thread: u8, object: u8) -> [u8; 11] {
     [0, 9, kind, 0, 0, 0, thread, 0, 0, 0, object]
 }
 
-/// `0f1 0f2 1a10 1a20 1r20 1r10 2a20 2a10 2r10 2r20`
-fn opposite_orders(alloc: Global) -> Result<Vec<u8>, AllocError> {
+/// The frames of `0f1 0f2 1a10 1a20 1r20 1r10 2a20 2a10 2r10 2r20`.
+fn frames_of_opposite_orders(alloc: Global) -> Result<Vec<u8>, AllocError> {
     let events = [
         (1, 0, 1),
         (1, 0, 2),
@@ -43,26 +54,71 @@ fn ten_placed(alloc: Global) -> Result<Vec<u8>, AllocError> {
     Ok(bytes)
 }
 
-fn session(rt: &impl Abort, number: u8) -> Session {
+pub(crate) fn session(rt: &impl Abort, number: u8) -> Session {
     Session::new(number).expect(rt, "a session is 0 to 63")
 }
 
-fn piece(rt: &impl Abort, alloc: Global, number: u8, bytes: &[u8]) -> Result<Input, AllocError> {
-    Ok(Input::Piece(session(rt, number), Vec::from_slice(alloc, bytes)?))
+/// The session sends these bytes next.
+pub(crate) fn send(
+    inputs: &mut Vec<Input>,
+    rt: &(impl AllocGlobal + Abort),
+    number: u8,
+    bytes: &[u8],
+) -> Result<(), AllocError> {
+    let piece = Vec::from_slice(rt.alloc(), bytes)?;
+    inputs.push(Input::Piece(session(rt, number), piece))?;
+    Ok(())
 }
 
-fn played(rt: &(impl RandomSource + AllocGlobal), inputs: Vec<Input>) -> Result<Played, Fail> {
+/// The session ends.
+fn end(inputs: &mut Vec<Input>, rt: &impl Abort, number: u8) -> Result<(), AllocError> {
+    inputs.push(Input::End(session(rt, number)))?;
+    Ok(())
+}
+
+/// A limit that is refused fails the test.
+pub(crate) fn played(
+    rt: &(impl RandomSource + AllocGlobal),
+    inputs: Vec<Input>,
+) -> Result<Played, Fail> {
     Ok(play(rt.alloc(), RandomState::new(rt)?, MOST, inputs)?)
+}
+
+/// The rows of a task come in, computed by someone who has a book of these events.
+pub(crate) fn bring(
+    inputs: &mut Vec<Input>,
+    rt: &(impl RandomSource + AllocGlobal + Abort),
+    events: &[Event],
+    question: u32,
+    bound: u8,
+    task: u32,
+) -> Result<(), Fail> {
+    let mut book = Book::new(rt.alloc(), RandomState::new(rt)?, MOST)?;
+    for event in events {
+        assert!(rt; book.offer(*event).is_ok());
+    }
+    book.ask(2)?;
+    let snapshot = book.snapshot(0)?;
+    let bound = Bound::new(bound).expect(rt, "a bound is 2 to 8");
+    let finding = Finding::compute(rt.alloc(), snapshot, question, bound, task)?;
+    inputs.push(Input::Finding(finding))?;
+    Ok(())
+}
+
+fn refusal_of(delivered: &Delivered) -> Option<Refusal> {
+    match delivered {
+        Ok(()) => None,
+        Err((refusal, _)) => Some(*refusal),
+    }
 }
 
 #[test]
 fn interleaved_sessions(rt: HostRuntime) -> Result<(), Fail> {
     let alloc = rt.alloc();
-    let inputs = vec![in alloc;
-        piece(&rt, alloc, 0, &[0, 9, 1])?,
-        piece(&rt, alloc, 1, &[0, 9, 6, 0, 0, 0, 0, 0, 0, 0, 7])?,
-        piece(&rt, alloc, 0, &[0, 0, 0, 0, 0, 0, 0, 1])?,
-    ]?;
+    let mut inputs = Vec::new(alloc);
+    send(&mut inputs, &rt, 0, &[0, 9, 1])?;
+    send(&mut inputs, &rt, 1, &[0, 9, 6, 0, 0, 0, 0, 0, 0, 0, 7])?;
+    send(&mut inputs, &rt, 0, &[0, 0, 0, 0, 0, 0, 0, 1])?;
     let run = played(&rt, inputs)?;
     assert_eq!(rt;
         run.sent(session(&rt, 1)),
@@ -79,11 +135,13 @@ fn interleaved_sessions(rt: HostRuntime) -> Result<(), Fail> {
 #[test]
 fn one_frame_however_cut(rt: HostRuntime) -> Result<(), Fail> {
     let alloc = rt.alloc();
-    let bytes = opposite_orders(alloc)?;
+    let bytes = frames_of_opposite_orders(alloc)?;
     let replies = ten_placed(alloc)?;
     for cut in 0..=bytes.len() {
         let (front, back) = bytes.split_at(cut);
-        let inputs = vec![in alloc; piece(&rt, alloc, 3, front)?, piece(&rt, alloc, 3, back)?]?;
+        let mut inputs = Vec::new(alloc);
+        send(&mut inputs, &rt, 3, front)?;
+        send(&mut inputs, &rt, 3, back)?;
         let run = played(&rt, inputs)?;
         assert_eq!(rt;
             run.sent(session(&rt, 3)),
@@ -93,7 +151,7 @@ fn one_frame_however_cut(rt: HostRuntime) -> Result<(), Fail> {
     }
     let mut inputs = Vec::new(alloc);
     for byte in &bytes {
-        inputs.push(piece(&rt, alloc, 63, &[*byte])?)?;
+        send(&mut inputs, &rt, 63, &[*byte])?;
     }
     let run = played(&rt, inputs)?;
     assert_eq!(rt; run.sent(session(&rt, 63)), replies.as_slice());
@@ -103,16 +161,16 @@ fn one_frame_however_cut(rt: HostRuntime) -> Result<(), Fail> {
 #[test]
 fn faults_of_frames(rt: HostRuntime) -> Result<(), Fail> {
     let alloc = rt.alloc();
-    let inputs = vec![in alloc;
-        piece(&rt, alloc, 0, &[0])?,
-        Input::End(session(&rt, 0)),
-        piece(&rt, alloc, 1, &[0, 0])?,
-        piece(&rt, alloc, 2, &[0, 1, 200])?,
-        piece(&rt, alloc, 2, &frame(6, 0, 7))?,
-        piece(&rt, alloc, 3, &frame(6, 0, 7))?,
-        Input::End(session(&rt, 3)),
-        piece(&rt, alloc, 3, &frame(6, 0, 7))?,
-    ]?;
+    let mut inputs = Vec::new(alloc);
+    send(&mut inputs, &rt, 0, &[0])?;
+    end(&mut inputs, &rt, 0)?;
+    send(&mut inputs, &rt, 1, &[0, 0])?;
+    send(&mut inputs, &rt, 2, &[0, 1, 200])?;
+    send(&mut inputs, &rt, 2, &frame(6, 0, 7))?;
+    send(&mut inputs, &rt, 3, &frame(6, 0, 7))?;
+    end(&mut inputs, &rt, 3)?;
+    send(&mut inputs, &rt, 3, &frame(6, 0, 7))?;
+    send(&mut inputs, &rt, 4, &[0, 9, 7])?;
     let run = played(&rt, inputs)?;
     assert_eq!(rt; run.sent(session(&rt, 0)), [0, 0, 0, 2, 71, 3].as_slice());
     assert_eq!(rt; run.sent(session(&rt, 1)), [0, 0, 0, 2, 71, 2].as_slice());
@@ -121,24 +179,92 @@ fn faults_of_frames(rt: HostRuntime) -> Result<(), Fail> {
         run.sent(session(&rt, 3)),
         [0, 0, 0, 5, 65, 0, 0, 0, 0].as_slice()
     );
+    assert_eq!(rt; run.sent(session(&rt, 4)), [0, 0, 0, 2, 71, 2].as_slice());
     Ok(())
 }
 
-/// Thread 0 writes variable 1.
-const WRITE: Event = Event {
-    thread: 0,
-    op: Op::Write(1),
-};
+#[test]
+fn empty_trace(rt: HostRuntime) -> Result<(), Fail> {
+    let alloc = rt.alloc();
+    let mut inputs = Vec::new(alloc);
+    send(&mut inputs, &rt, 0, &ASK)?;
+    send(&mut inputs, &rt, 0, &ANSWER)?;
+    let mut replies = Vec::from_slice(
+        alloc,
+        &[0, 0, 0, 13, 67, 0, 0, 0, 0, 0, 0, 0, 0, 0, 0, 0, 0],
+    )?;
+    replies.extend_from_slice(&[0, 0, 0, 54, 69, 0, 0, 0, 0])?;
+    replies.extend_from_slice(b"question 0 length 0 bound 2 cycles 0 confirmed 0\n")?;
+    assert_eq!(rt;
+        played(&rt, inputs)?.sent(session(&rt, 0)),
+        replies.as_slice()
+    );
+    Ok(())
+}
 
 #[test]
-fn limits_of_length(rt: HostRuntime) -> Result<(), Fail> {
-    let mut book = Book::new(rt.alloc(), RandomState::new(&rt)?, 3)?;
-    for place in 0..3 {
-        assert_eq!(rt; book.offer(WRITE), Ok(Place::new(place)));
+fn opposite_orders_by_frames(rt: HostRuntime) -> Result<(), Fail> {
+    let alloc = rt.alloc();
+    let mut inputs = Vec::new(alloc);
+    send(&mut inputs, &rt, 0, &frames_of_opposite_orders(alloc)?)?;
+    send(&mut inputs, &rt, 0, &ASK)?;
+    send(&mut inputs, &rt, 1, &ANSWER)?;
+    bring(&mut inputs, &rt, &opposite_orders(), 0, 2, 1)?;
+    send(&mut inputs, &rt, 4, &STATUS)?;
+    bring(&mut inputs, &rt, &opposite_orders(), 0, 2, 0)?;
+    send(&mut inputs, &rt, 2, &ANSWER)?;
+    send(&mut inputs, &rt, 3, &STATUS)?;
+    let run = played(&rt, inputs)?;
+    let mut replies = ten_placed(alloc)?;
+    replies.extend_from_slice(&[0, 0, 0, 13, 67, 0, 0, 0, 0, 0, 0, 0, 10, 0, 0, 0, 2])?;
+    assert_eq!(rt; run.sent(session(&rt, 0)), replies.as_slice());
+    let pending = [0, 0, 0, 13, 68, 0, 0, 0, 0, 0, 0, 0, 0, 0, 0, 0, 2];
+    assert_eq!(rt; run.sent(session(&rt, 1)), pending.as_slice());
+    let mut report = Vec::from_slice(alloc, &[0, 0, 0, 165, 69, 0, 0, 0, 0])?;
+    report.extend_from_slice(REPORT.as_bytes())?;
+    assert_eq!(rt; run.sent(session(&rt, 2)), report.as_slice());
+    let half = [
+        0, 0, 0, 42, 70, 0, 0, 0, 0, 0, 0, 0, 10, 0, 0, 0, 1, 0, 0, 0, 10, 2, 0, 0, 0, 2, 0, 0, 0,
+        1, 0, 0, 0, 0, 0, 0, 0, 0, 0, 0, 0, 0, 0, 0, 0, 0,
+    ];
+    assert_eq!(rt; run.sent(session(&rt, 4)), half.as_slice());
+    let status = [
+        0, 0, 0, 42, 70, 0, 0, 0, 0, 0, 0, 0, 10, 0, 0, 0, 1, 0, 0, 0, 10, 2, 0, 0, 0, 2, 0, 0, 0,
+        2, 0, 0, 0, 0, 0, 0, 0, 1, 0, 0, 0, 0, 0, 0, 0, 1,
+    ];
+    assert_eq!(rt; run.sent(session(&rt, 3)), status.as_slice());
+    Ok(())
+}
+
+#[test]
+fn findings_from_anyone(rt: HostRuntime) -> Result<(), Fail> {
+    let alloc = rt.alloc();
+    let events = opposite_orders();
+    let mut others = opposite_orders();
+    others[9].op = Op::Write(20);
+    let mut inputs = Vec::new(alloc);
+    send(&mut inputs, &rt, 0, &frames_of_opposite_orders(alloc)?)?;
+    send(&mut inputs, &rt, 0, &ASK)?;
+    bring(&mut inputs, &rt, &events, 0, 2, 0)?;
+    bring(&mut inputs, &rt, &events, 0, 2, 0)?;
+    bring(&mut inputs, &rt, &events, 0, 2, 2)?;
+    bring(&mut inputs, &rt, &events, 0, 3, 1)?;
+    bring(&mut inputs, &rt, &others, 0, 2, 1)?;
+    bring(&mut inputs, &rt, &events, 1, 2, 1)?;
+    let run = played(&rt, inputs)?;
+    let refusals = [
+        None,
+        Some(Refusal::Double),
+        Some(Refusal::NoSuchTask),
+        Some(Refusal::OtherBound),
+        Some(Refusal::OtherTrace),
+        Some(Refusal::NoSuchQuestion),
+    ];
+    assert_eq!(rt; run.deliveries().len(), refusals.len());
+    for (delivered, refusal) in run.deliveries().iter().zip(refusals) {
+        assert_eq!(rt; refusal_of(delivered), refusal);
     }
-    assert_eq!(rt; book.offer(WRITE), Err(Refusal::Full));
-    let stranger = Event { thread: 9, ..WRITE };
-    assert_eq!(rt; book.offer(stranger), Err(Refusal::Full));
+    assert_eq!(rt; run.book().missing(0)?, Some(1));
     Ok(())
 }
 
@@ -152,26 +278,5 @@ fn limits_of_a_book(rt: HostRuntime) -> Result<(), Fail> {
         assert!(rt; matches!(run, Err(PlayRefused::BadLimit)));
     }
     assert!(rt; Session::new(64).is_none());
-    Ok(())
-}
-
-/// The place of a reply, if it has one.
-fn place_of(reply: &Reply) -> Option<u32> {
-    match reply {
-        Reply::Placed(place) => Some(place.get()),
-        _ => None,
-    }
-}
-
-#[test]
-fn prepared_and_committed(rt: HostRuntime) -> Result<(), Fail> {
-    let mut book = Book::new(rt.alloc(), RandomState::new(&rt)?, 1)?;
-    let Ok(planned) = book.prepare(&Request::Offer(WRITE)) else {
-        return Err("a lawful event".into());
-    };
-    assert_eq!(rt; place_of(planned.reply()), Some(0));
-    assert_eq!(rt; place_of(&book.commit(planned)), Some(0));
-    let full = book.prepare(&Request::Offer(WRITE));
-    assert!(rt; matches!(full, Err(Reply::Refused(Refusal::Full))));
     Ok(())
 }

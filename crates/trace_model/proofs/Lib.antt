@@ -19,6 +19,9 @@ pub mod Owners
 pub mod Depths
 pub mod Deadlock
 pub mod Unique
+pub mod Summary
+pub mod Bounds
+pub mod Taking
 pub mod Bytes
 pub mod Written
 pub mod Fronts

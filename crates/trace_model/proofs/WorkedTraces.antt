@@ -8,6 +8,9 @@ use Rattle.trace_model.specs.Dependencies.{Dependency, dependencies}
 use Rattle.trace_model.specs.WorkedTraces.{f, j, a, r, w, opposite_orders, gate_lock, later_instance, swapped_sections, three_locks, read_without_writer, forked_after, joined_before}
 use Rattle.trace_model.specs.declared.event.Op.TheVariants.{Fork, Join, Acquire, Release, Read, Write}
 use Rattle.trace_model.specs.Reordering.{Reached}
+use Rattle.trace_model.specs.declared.session.Reply.TheVariants.{Opened, Pending, Refused, Report}
+use Rattle.trace_model.specs.declared.refusal.Refusal.TheVariants.{BadBound, NoSuchQuestion, NoSuchTask, Double, OtherBound, OtherTrace}
+use Rattle.trace_model.specs.Machine.{State, ask, deliver, answer}
 use Rattle.trace_model.proofs.Ascending.{listed_contains}
 use Rattle.trace_model.proofs.Existence.{reordering_closes, reaching_holds}
 use Rattle.trace_model.proofs.Computed.{reached_if}
@@ -92,3 +95,29 @@ join_orders_the_threads (order, o, e) =
     let five = reaching_holds joined_before order (2 ∷ 7 ∷ []) e 7 5 (1, omega arith, refl) (0, (Join 1, refl), (Acquire 20, refl), omega arith) in
     let two = c.forks_joins 2 5 five (inr (1, (0, refl), inr (Acquire 10, refl))) in
     (e 2 (0, omega arith, refl)).0 (listed_contains order 2 two)
+
+abbrev after_six : State
+after_six = record { limit = 1048576; accepted = take 6 opposite_orders; questions = [] }
+
+abbrev asked : State
+asked = (ask after_six 2).1
+
+question-opened : (ask after_six 2).0 ≡ Opened 0 6 1
+question-opened = refl
+
+question-keeps_its_length : answer (λ s q k. []) (record asked { accepted = opposite_orders }) 0 ≡ Pending 0 0 1
+question-keeps_its_length = refl
+
+question_bounds : map (λ k. (ask after_six k).0) (1 ∷ 9 ∷ 2 ∷ 8 ∷ []) ≡ Refused BadBound ∷ Refused BadBound ∷ Opened 0 6 1 ∷ Opened 0 6 1 ∷ []
+question_bounds = refl
+
+-- made again, past the total, with another bound, of another trace, of another question
+findings-refused : let s = (deliver asked 0 2 (take 6 opposite_orders) 0 []).1 in
+    (deliver s 0 2 (take 6 opposite_orders) 0 []).0 ∷ (deliver s 0 2 (take 6 opposite_orders) 2 []).0
+    ∷ (deliver s 0 3 (take 6 opposite_orders) 0 []).0 ∷ (deliver s 0 2 (take 5 opposite_orders) 0 []).0
+    ∷ (deliver s 1 2 (take 6 opposite_orders) 0 []).0 ∷ []
+    ≡ Some Double ∷ Some NoSuchTask ∷ Some OtherBound ∷ Some OtherTrace ∷ Some NoSuchQuestion ∷ []
+findings-refused = refl
+
+findings-answered : answer (λ s q k. 7 ∷ []) (deliver asked 0 2 (take 6 opposite_orders) 0 []).1 0 ≡ Report 0 (7 ∷ [])
+findings-answered = refl

@@ -1,9 +1,10 @@
 -- Reply frames.
-use Rattle.std.specs.Prelude.{ℕ, List, [], ◌∷◌, ◌++◌, length}
-use Rattle.std.specs.Int.{w32, to_be_bytes}
+use Rattle.std.specs.Prelude.{ℕ, List, [], ◌∷◌, ◌++◌, length, ◌≤◌}
+use Rattle.std.specs.Int.{w32, w64, to_be_bytes}
+use Rattle.trace_model.specs.declared.limits.TheConstants.{MAX_REPORT}
 use Rattle.trace_model.specs.Refusals.{number_of}
 use Rattle.trace_model.specs.declared.session.Reply.{Reply}
-use Rattle.trace_model.specs.declared.session.Reply.TheVariants.{Placed, Refused, Fault as FaultReply}
+use Rattle.trace_model.specs.declared.session.Reply.TheVariants.{Placed, Refused, Opened, Pending, Report, Status, Fault as FaultReply}
 use Rattle.trace_model.specs.declared.session.Fault.{Fault}
 use Rattle.trace_model.specs.declared.session.Fault.TheVariants.{BadKind, BadLength, Truncated}
 
@@ -12,12 +13,29 @@ fault_number BadKind = 1
 fault_number BadLength = 2
 fault_number Truncated = 3
 
--- the kind of a reply, and its fields
+unfoldable pub three_words : ℕ → ℕ → ℕ → List ℕ
+three_words first second third = to_be_bytes w32 first ++ to_be_bytes w32 second ++ to_be_bytes w32 third
+
+unfoldable pub status_fields : ℕ → ℕ → ℕ → ℕ → ℕ → ℕ → ℕ → ℕ → ℕ → List ℕ
+status_fields question accepted opened len bound total delivered cycles confirmed =
+    three_words question accepted opened ++ to_be_bytes w32 len ++ (bound ∷ []) ++ to_be_bytes w32 total ++ to_be_bytes w32 delivered
+    ++ to_be_bytes w64 cycles ++ to_be_bytes w64 confirmed
+
 abbrev pub reply_body : Reply → List ℕ
 reply_body (Placed place) = 65 ∷ to_be_bytes w32 place
 reply_body (Refused refusal) = 66 ∷ number_of refusal ∷ []
+reply_body (Opened question len total) = 67 ∷ three_words question len total
+reply_body (Pending question delivered total) = 68 ∷ three_words question delivered total
+reply_body (Report question text) = 69 ∷ to_be_bytes w32 question ++ text
+reply_body (Status question accepted opened len bound total delivered cycles confirmed) =
+    70 ∷ status_fields question accepted opened len bound total delivered cycles confirmed
 reply_body (FaultReply fault) = 71 ∷ fault_number fault ∷ []
 
 -- the length of the body in four bytes, and the body
 unfoldable pub reply_frame : Reply → List ℕ
 reply_frame reply = to_be_bytes w32 (length (reply_body reply)) ++ reply_body reply
+
+-- its text is not too long for a frame
+abbrev pub IsReply : Reply → Type 0
+IsReply (Report question text) = length text ≤ MAX_REPORT
+IsReply _ = Unit {0}

@@ -2,6 +2,7 @@
 
 ghost use Rattle.trace_model.specs.Laws.{HeldIsHeld, WriterIsGreatest, ReleaseIsLeast, ClosureIsExistence, ClosureIsSmallest, ClosureIsBefore, ClosureIsStable, LesserIsReached, StandsIsStanding, HeldByOtherIsHeld, HeldAscends, DependenciesAreNumbered, ReachedIsDeadlocked, RowsAreUnique, RowsAreSound, WellFormedGrows, ReorderingIsWalk, ClosureGrows, CaughtIsEarly, ThreadsAreForked, ThreadsAreForkedOnce, NothingFollowsJoin, ReleaseIsOwn, SectionsAreApart};
 ghost use Rattle.trace_model.specs.EventLaws.{OneMoreEvent, OwnerHolds, HeldAreFew, LawfulHigher};
+ghost use Rattle.trace_model.specs.RunLaws.{SummariesAreStates, RunsFit, RunsSplit, MachineTakesSteps, RunsAreUnique, RunsAreSound, RunsAreLegal, StatusesAreShown};
 ghost use Rattle.trace_model.specs.Frames.{OneReading};
 
 /// The look-ups are what their words say.
@@ -89,7 +90,23 @@ pub fn one_more_event()
     ensures higher { LawfulHigher }
 {}
 
-/// Each text of bytes has one reading as requests and a fault.
+/// The summary of a run is that of the state after it, and both are within the limits.
+pub fn summary_is_state()
+    ensures state { SummariesAreStates }
+    ensures fits { RunsFit }
+{}
+
+/// How runs go on.
+pub fn runs_go_on()
+    ensures split { RunsSplit }
+    ensures takes { MachineTakesSteps }
+    ensures unique { RunsAreUnique }
+    ensures sound { RunsAreSound }
+    ensures legal { RunsAreLegal }
+    ensures status { StatusesAreShown }
+{}
+
+/// Each text of bytes has one reading.
 pub fn one_reading()
     ensures { OneReading }
 {}

@@ -10,7 +10,9 @@ pub mod laws;
 mod limits;
 mod place;
 mod refusal;
+mod report;
 mod session;
+mod step;
 #[cfg(test)]
 mod tests;
 
@@ -23,4 +25,6 @@ pub use limits::{
 };
 pub use place::{Place, PlaceList};
 pub use refusal::{NoMemory, Refusal, refusal_name};
+pub use report::ReportText;
 pub use session::{Fault, Reply, Request};
+pub use step::BoardStep;

@@ -1,32 +1,54 @@
 use crate::event::Event;
 use crate::place::Place;
 use crate::refusal::Refusal;
+use crate::report::ReportText;
 
 /// What a session asks.
 #[derive(Debug, Drop)]
 pub enum Request {
-    /// That the event be accepted.
     Offer(Event),
+    Ask(u8),
+    Answer(u32),
+    Status(u32),
 }
 
 /// What is wrong with the bytes of a session.
 #[derive(Clone, Copy, Debug, PartialEq, Eq)]
 pub enum Fault {
-    /// The kind of a frame is not known.
     BadKind,
-    /// The length of a frame is not that of its kind.
     BadLength,
-    /// The input ended within a frame.
     Truncated,
 }
 
 /// What a session is answered.
 #[derive(Debug, Drop)]
 pub enum Reply {
-    /// The event was accepted, and has this place in the trace.
     Placed(Place),
-    /// The request was refused, and nothing has changed.
     Refused(Refusal),
-    /// The bytes of the session have this fault. No request has this reply.
+    Opened {
+        question: u32,
+        length: u32,
+        total: u32,
+    },
+    Pending {
+        question: u32,
+        delivered: u32,
+        total: u32,
+    },
+    Report {
+        question: u32,
+        text: ReportText,
+    },
+    Status {
+        question: u32,
+        accepted: u32,
+        opened: u32,
+        length: u32,
+        bound: u8,
+        total: u32,
+        delivered: u32,
+        cycles: u64,
+        confirmed: u64,
+    },
     Fault(Fault),
 }

@@ -1,7 +1,8 @@
 use Rattle.std.proofs.Common.{ℕ, List, Ok, ap, ◌∙◌, subst}
+use Rattle.std.proofs.lemmas.Result.{on_ok_weaker}
 use Rattle.trace_model.specs.declared.session.Request.{Request}
 use Rattle.event_frames.specs.Reader.{Answers, Tells, HasRead}
-use Rattle.sequencer.proofs.Drained.{goes_on, stops, frame_positive}
+use Rattle.sequencer.proofs.Drained.{goes_on, stops, fails, frame_positive}
 use Rattle.sequencer.proofs.session.drain.Goals as goal
 
 pub loop-request-smaller : goal.loop-request-smaller
@@ -15,7 +16,7 @@ loop-request-preserved c =
     let r = c.in-Ok-Some.is ∙ ap Ok c.in-Ok-Some.field-0-is in
     let t = subst (λ x. Answers c.loop-request.reader x c.next.new.self) r c.next.ensures.answers in
     let w = subst (λ x. (text : List ℕ) (given : List Request) → HasRead text given c.loop-request.reader → Tells text given c.loop-request.reader.ended x c.next.new.self) r c.next.ensures.grammar in
-    goes_on c.args.book.now.state c.args.reader.now c.args.sent.now.items c.loop-request.book.state c.loop-request.reader c.loop-request.sent.items c.in-Ok-Some.request c.next.new.self c.call.new.self.state c.in_ok-reply-in-Ok-Some.reply c.push_reply.new.out.items c.loop-request.invariant t w c.in_ok-reply-in-Ok-Some.ensures.ok c.in_ok-push_reply-in-Ok-Some.ensures.ok
+    goes_on c.args.book.now.state c.args.reader.now c.args.sent.now.items c.loop-request.book.state c.loop-request.reader c.loop-request.sent.items c.in-Ok-Some.request c.next.new.self c.call.new.self.state c.in_ok-reply-in-Ok-Some.reply c.send.new.sent.items c.loop-request.invariant t w c.in_ok-reply-in-Ok-Some.ensures.ok c.in_ok-send-in-Ok-Some.ensures
 
 pub returns-in-Ok-None : goal.returns-in-Ok-None
 returns-in-Ok-None c =
@@ -23,3 +24,9 @@ returns-in-Ok-None c =
     let t = subst (λ x. Answers c.loop-request.reader x c.next.new.self) r c.next.ensures.answers in
     let w = subst (λ x. (text : List ℕ) (given : List Request) → HasRead text given c.loop-request.reader → Tells text given c.loop-request.reader.ended x c.next.new.self) r c.next.ensures.grammar in
     stops c.args.book.now.state c.args.reader.now c.args.sent.now.items c.loop-request.book.state c.loop-request.reader c.loop-request.sent.items c.next.new.self c.loop-request.invariant t w
+
+pub returns-in-Err : goal.returns-in-Err
+returns-in-Err c =
+    let t = subst (λ x. Answers c.loop-request.reader x c.next.new.self) c.in-Err.is c.next.ensures.answers in
+    let w = subst (λ x. (text : List ℕ) (given : List Request) → HasRead text given c.loop-request.reader → Tells text given c.loop-request.reader.ended x c.next.new.self) c.in-Err.is c.next.ensures.grammar in
+    on_ok_weaker c.send-in-Err.result (λ e. fails c.args.book.now.state c.args.reader.now c.args.sent.now.items c.loop-request.book.state c.loop-request.reader c.loop-request.sent.items c.in-Err.fault c.next.new.self c.send-in-Err.new.sent.items c.loop-request.invariant t w e) c.send-in-Err.ensures

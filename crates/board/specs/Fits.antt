@@ -1,0 +1,25 @@
+-- How one run follows another.
+use Rattle.std.specs.Prelude.{ℕ, ◌≡◌, ◌+◌, ◌==◌, cond, List, [], ◌∷◌, ◌++◌, length, Option, Some, None}
+use Rattle.trace_model.specs.declared.step.BoardStep.{BoardStep}
+
+-- the last step of the run is this one
+abbrev pub EndsWith : List BoardStep → BoardStep → Type 0
+EndsWith run step = (before : List BoardStep) × (run ≡ before ++ step ∷ [])
+
+-- the next run, if it is one step longer
+abbrev pub followed : List BoardStep → List BoardStep → List BoardStep
+followed run next = cond (length next == length run + 1) next run
+
+-- the run after a change, if there is one
+abbrev pub after_change : List BoardStep → Option (List BoardStep) → List BoardStep
+after_change run None = run
+after_change run (Some next) = followed run next
+
+-- what the writer's end has: the published steps, and those that wait
+pub record Written : Type 0 where
+  pub published : List BoardStep
+  pub waiting : List BoardStep
+
+abbrev pub list_of : Option BoardStep → List BoardStep
+list_of None = []
+list_of (Some step) = step ∷ []

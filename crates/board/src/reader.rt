@@ -1,0 +1,108 @@
+//! Reading the board.
+ghost use Rattle.std.specs.Prelude.{◌≡◌, true, IfOk, OnErr};
+ghost use mathlib.Core.List.{IsPrefix};
+ghost use Rattle.trace_model.specs.Runs.{IsLegal};
+ghost use Rattle.board.specs.Totals.{Shows};
+
+use crate::history::{Front, Naming};
+use crate::shown::Shown;
+use crate::summary::Summary;
+use left_right::ReadHandle;
+use std::marker::Model;
+
+/// The board gave no entry. What the reader has seen stays as it was.
+#[derive(Clone, Copy, Debug, PartialEq, Eq)]
+pub struct Busy;
+
+/// Names the steps that were published when it was made: a legal run. Contracts see it as these steps. Any
+/// number of readers may learn it.
+#[derive(Drop)]
+pub struct Receipt<N: Naming> {
+    front: Front<N>,
+}
+
+impl<N: Naming> Model for Receipt<N> {
+    ghost use Rattle.std.specs.Prelude.{List};
+    ghost use Rattle.trace_model.specs.declared.step.BoardStep.{BoardStep};
+
+    ghost Value = { List BoardStep };
+
+    ghost view = { λ r. r.front };
+}
+
+impl<N: Naming> Receipt<N> {
+    pub(crate) fn of(front: &Front<N>) -> Receipt<N>
+        ensures { result ≡ front.now }
+    {
+        Receipt {
+            front: front.again(),
+        }
+    }
+
+    /// A copy.
+    pub fn again(&self) -> Receipt<N>
+        ensures { result ≡ self.now }
+    {
+        Receipt::of(&self.front)
+    }
+}
+
+/// A reader of the board. Contracts see it as the steps that it has seen or was told of.
+#[derive(Drop)]
+pub struct BoardReader<N: Naming> {
+    handle: ReadHandle<Shown<N>>,
+    front: Front<N>,
+}
+
+impl<N: Naming> Model for BoardReader<N> {
+    ghost use Rattle.std.specs.Prelude.{List};
+    ghost use Rattle.trace_model.specs.declared.step.BoardStep.{BoardStep};
+
+    ghost Value = { List BoardStep };
+
+    ghost view = { λ r. r.front };
+}
+
+impl<N: Naming> BoardReader<N> {
+    pub(crate) fn new(handle: ReadHandle<Shown<N>>, front: &Front<N>) -> BoardReader<N>
+        ensures { result ≡ front.now }
+    {
+        BoardReader {
+            handle,
+            front: front.again(),
+        }
+    }
+
+    /// Sees the board as it is: the summary of what it has then seen, which begins with all that it had seen
+    /// and was told of. It takes no memory and waits for nobody.
+    ///
+    /// # Errors
+    ///
+    /// `Busy` where the board gave no entry.
+    pub fn status(&mut self) -> Result<Summary, Busy>
+        ensures summary { IfOk result (λ s. Shows s self.new) }
+        ensures later { IsPrefix self.old self.new }
+        ensures legal { IsLegal self.new }
+        ensures busy { OnErr result (self.new ≡ self.old) }
+    {
+        let known = self.front.len();
+        let Some(guard) = self.handle.enter() else {
+            return Err(Busy);
+        };
+        let shown: &Shown<N> = &guard;
+        if shown.front().len() < known {
+            return Err(Busy);
+        }
+        let summary = *shown.totals();
+        self.front.follow(shown.front());
+        Ok(summary)
+    }
+
+    /// From now on it sees no less than the receipt names. It takes no memory and waits for nobody.
+    pub fn learn(&mut self, receipt: &Receipt<N>)
+        ensures own { IsPrefix self.old self.new }
+        ensures told { IsPrefix receipt.now self.new }
+    {
+        self.front = self.front.longer(&receipt.front);
+    }
+}

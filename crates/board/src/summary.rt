@@ -1,0 +1,115 @@
+ghost use Rattle.std.specs.Prelude.{◌≡◌, nat_lt, slice_get, None, if◌then◌else◌};
+ghost use Rattle.board.specs.Totals.{added, blank};
+ghost use Rattle.trace_model.specs.declared.step.BoardStep.TheVariants.{Open, Deliver};
+
+use trace_model::{BoardStep, MAX_QUESTIONS};
+
+/// What the board shows of one question.
+#[derive(Clone, Copy, Debug, PartialEq, Eq)]
+pub struct QuestionSummary {
+    /// How many events the question is about: those accepted before it was opened.
+    pub length: u32,
+    /// The most members of its cycles, 2 to 8.
+    pub bound: u8,
+    /// How many tasks it has.
+    pub total: u32,
+    /// How many of them were delivered.
+    pub delivered: u32,
+    /// How many rows the delivered tasks have.
+    pub cycles: u64,
+    /// How many of these rows are confirmed.
+    pub confirmed: u64,
+}
+
+/// What the board shows. It has the same size whatever was published.
+#[derive(Clone, Copy)]
+pub struct Summary {
+    /// How many events were accepted.
+    pub accepted: u32,
+    /// How many questions were opened.
+    pub opened: u32,
+    /// The questions, by number. One that is not open yet has zeros.
+    pub questions: [QuestionSummary; MAX_QUESTIONS],
+}
+
+const NONE: QuestionSummary = QuestionSummary {
+    length: 0,
+    bound: 0,
+    total: 0,
+    delivered: 0,
+    cycles: 0,
+    confirmed: 0,
+};
+
+impl Summary {
+    /// Nothing was published.
+    pub(crate) fn opening() -> Summary
+        ensures { result ≡ blank }
+    {
+        Summary {
+            accepted: 0,
+            opened: 0,
+            questions: [NONE; MAX_QUESTIONS],
+        }
+    }
+
+    /// What is shown of the question with this number, none where it is not open. It takes no memory.
+    pub fn question(&self, number: u32) -> Option<QuestionSummary>
+        ensures { result ≡ (if nat_lt number self.now.opened then slice_get self.now.questions number else None) }
+    {
+        if number < self.opened {
+            self.questions.get(number as usize).copied()
+        } else {
+            None
+        }
+    }
+
+    /// Counts one more step.
+    pub(crate) fn add(&mut self, step: &BoardStep)
+        ensures { self.new ≡ added self.old step.now }
+    {
+        match step {
+            BoardStep::Accept(_) => self.accepted = self.accepted.wrapping_add(1),
+            BoardStep::Open { bound, total } => self.open(*bound, *total),
+            BoardStep::Deliver {
+                question,
+                task,
+                cycles,
+                confirmed,
+            } => self.deliver(*question, *task, *cycles, *confirmed),
+        }
+    }
+
+    fn open(&mut self, bound: u8, total: u32)
+        ensures { self.new ≡ added self.old (Open bound total) }
+    {
+        let number = self.opened as usize;
+        if number < MAX_QUESTIONS {
+            self.questions[number] = QuestionSummary {
+                length: self.accepted,
+                bound,
+                total,
+                delivered: 0,
+                cycles: 0,
+                confirmed: 0,
+            };
+        }
+        self.opened = self.opened.wrapping_add(1);
+    }
+
+    fn deliver(&mut self, question: u32, task: u32, cycles: u32, confirmed: u32)
+        ensures { self.new ≡ added self.old (Deliver question task cycles confirmed) }
+    {
+        let _ = task;
+        let number = question as usize;
+        if number < MAX_QUESTIONS {
+            let asked = self.questions[number];
+            self.questions[number] = QuestionSummary {
+                delivered: asked.delivered.wrapping_add(1),
+                cycles: asked.cycles.wrapping_add(u64::from(cycles)),
+                confirmed: asked.confirmed.wrapping_add(u64::from(confirmed)),
+                ..asked
+            };
+        }
+    }
+}

@@ -1,0 +1,224 @@
+//! Writing the board.
+ghost use Rattle.std.specs.Prelude.{◌≡◌, ◌≤◌, [], ◌∷◌, ◌++◌, List, length, true, Some, IfOk, OnErr};
+ghost use Rattle.left_right.specs.Handles.{published, pending};
+ghost use Rattle.trace_model.specs.declared.step.BoardStep.{BoardStep};
+ghost use Rattle.trace_model.specs.Runs.{IsLegal};
+ghost use Rattle.board.specs.Fits.{followed};
+ghost use Rattle.board.specs.Totals.{Shows};
+
+use crate::history::{Front, Head, Naming, Opened};
+use crate::reader::{BoardReader, Receipt};
+use crate::shown::{Next, Shown};
+use crate::summary::Summary;
+use left_right::{Absorb, WriteHandle};
+use std::alloc::Global;
+use std::marker::Model;
+use std::sync::Wait;
+use trace_model::{BoardStep, NoMemory};
+
+/// The board was not made: a growth was refused.
+#[derive(Clone, Copy, Debug, PartialEq, Eq)]
+pub struct NotMade;
+
+/// More steps than a legal run can have.
+const MOST: u64 = 1 << 62;
+
+type Handle<N, R, T> = WriteHandle<T, Option<Next<N>>, R>;
+
+/// A value that shows a run, and the next one once that is absorbed.
+pub trait Follows<N: Naming>: Absorb<Option<Next<N>>> + Drop {
+    ghost run: { Self → List BoardStep };
+
+    fn summary(&self) -> &Summary
+        ensures { Shows result.now (run self.now) };
+
+    ghost follows: { (s t : Self) (next : List BoardStep) → Self.state t ≡ Self.applied (Self.state s) (Some next) → run t ≡ followed (run s) next };
+
+    ghost sure: { Self.never_fails };
+}
+
+impl<N: Naming> Follows<N> for Shown<N> {
+    ghost run = { λ s. s };
+
+    ghost follows = { λ s t next is. is };
+
+    ghost sure = { tt };
+
+    fn summary(&self) -> &Summary {
+        self.totals()
+    }
+}
+
+/// Appends the change. It waits while there is no memory: what was committed must be published.
+fn append<N: Naming, R: Wait + Copy, T: Follows<N>>(
+    rt: &R,
+    handle: &mut Handle<N, R, T>,
+    next: Next<N>,
+)
+    requires { pending handle.old ≡ [] }
+    ensures published { published handle.new ≡ published handle.old }
+    ensures pending { pending handle.new ≡ Some next ∷ [] }
+{
+    let mut change = Some(next);
+    for _ in rt.forever() {
+        match handle.append(change) {
+            Ok(()) => return,
+            Err(back) => change = back,
+        }
+    }
+    unreachable!()
+}
+
+/// Shows the next step.
+fn show<N: Naming, R: Wait + Copy, T: Follows<N>>(
+    rt: &R,
+    handle: &mut Handle<N, R, T>,
+    next: Next<N>,
+)
+    requires { pending handle.old ≡ [] }
+    ensures shown { T.run (published handle.new) ≡ followed (T.run (published handle.old)) next }
+    ensures rests { pending handle.new ≡ [] }
+{
+    append(rt, handle, next);
+    let _ = handle.publish();
+}
+
+/// Waits for ever.
+fn stop<R: Wait>(rt: &R) -> ! {
+    for _ in rt.forever() {}
+    unreachable!()
+}
+
+/// The writer of the board. Contracts see it as the published steps, and those that wait.
+#[derive(Drop)]
+pub struct BoardWriter<N: Naming, R: Wait + Copy, T: Follows<N>> {
+    handle: Handle<N, R, T>,
+    head: Head<N>,
+    front: Front<N>,
+    waiting: Option<BoardStep>,
+    rt: R,
+}
+
+impl<N: Naming, R: Wait + Copy, T: Follows<N>> Model for BoardWriter<N, R, T> {
+    ghost use Rattle.std.specs.Prelude.{◌≡◌, []};
+    ghost use Rattle.left_right.specs.Handles.{published, pending};
+    ghost use Rattle.board.specs.Fits.{Written, list_of};
+
+    ghost Value = { Written };
+
+    ghost view = { λ w. record { published = w.front; waiting = list_of w.waiting } };
+
+    ghost invariant = { λ w. (T.run (published w.handle) ≡ w.front) × (pending w.handle ≡ []) };
+}
+
+impl<N: Naming, R: Wait + Copy, T: Follows<N>> BoardWriter<N, R, T> {
+    /// One step waits to be published. Nothing that is published changes.
+    ///
+    /// # Errors
+    ///
+    /// `NoMemory` where a growth was refused; nothing waits then. The room was made with the board, so it does
+    /// not come today.
+    pub fn grow(&mut self, step: BoardStep) -> Result<(), NoMemory>
+        requires { self.old.waiting ≡ [] }
+        ensures published { self.new.published ≡ self.old.published }
+        ensures waiting { IfOk result (λ _. self.new.waiting ≡ step ∷ []) }
+        ensures refused { OnErr result (self.new ≡ self.old) }
+    {
+        self.waiting = Some(step);
+        Ok(())
+    }
+
+    /// Publishes what waits, at once. It may wait for readers. The published steps must then be a legal run.
+    pub fn publish(&mut self)
+        requires waits { length self.old.waiting ≡ 1 }
+        requires legal { IsLegal (self.old.published ++ self.old.waiting) }
+        ensures published { self.new.published ≡ self.old.published ++ self.old.waiting }
+        ensures waiting { self.new.waiting ≡ [] }
+    {
+        let Some(step) = self.waiting else {
+            unreachable!();
+        };
+        let mut front = self.front.again();
+        if front.len() >= MOST || !front.add(&self.head, step) {
+            stop(&self.rt);
+        }
+        let next = Next::new(front.again(), &self.front, step);
+        show(&self.rt, &mut self.handle, next);
+        self.front = front;
+        self.waiting = None;
+    }
+
+    /// What the board shows: the summary of all that is published.
+    pub fn summary(&self) -> &Summary
+        ensures { Shows result.now self.now.published }
+    {
+        self.handle.published().summary()
+    }
+
+    /// Names all that is published.
+    pub fn receipt(&self) -> Receipt<N>
+        ensures { result ≡ self.now.published }
+    {
+        Receipt::of(&self.front)
+    }
+}
+
+/// An empty board with so many readers, 1 to 40, over a history that was just opened.
+///
+/// # Errors
+///
+/// `NotMade` where a growth was refused.
+pub fn new_board<N: Naming, R: Wait + Copy>(
+    alloc: Global,
+    rt: R,
+    opened: Opened,
+    readers: usize,
+) -> Result<(BoardWriter<N, R, Shown<N>>, Vec<BoardReader<N>>), NotMade>
+    requires name { opened.seen.book ≡ N.book }
+    requires readers { (1 ≤ readers) × (readers ≤ 40) }
+    ensures writer { IfOk result (λ r. (r.0.published ≡ []) × (r.0.waiting ≡ [])) }
+    ensures readers { IfOk result (λ r. length r.1.items ≡ readers) }
+{
+    let (head, front) = opened.named::<N>();
+    let (first, second) = (Shown::opening(&front), Shown::opening(&front));
+    let mut handle = WriteHandle::new(alloc, rt, first, second, readers).map_err(|_| NotMade)?;
+    warm(&mut handle)?;
+    let all = make_readers(alloc, &handle, &front, readers)?;
+    let writer = BoardWriter {
+        handle,
+        head,
+        front,
+        waiting: None,
+        rt,
+    };
+    Ok((writer, all))
+}
+
+fn make_readers<N: Naming, R: Wait + Copy>(
+    alloc: Global,
+    handle: &Handle<N, R, Shown<N>>,
+    front: &Front<N>,
+    readers: usize,
+) -> Result<Vec<BoardReader<N>>, NotMade>
+    ensures { IfOk result (λ v. length v.items ≡ readers) }
+{
+    let mut all = Vec::new(alloc);
+    for _ in 0..readers {
+        let reader = handle.handle().map_err(|_| NotMade)?;
+        all.push(BoardReader::new(reader, front))
+            .map_err(|_| NotMade)?;
+    }
+    Ok(all)
+}
+
+/// Makes room in the queue of changes, by two that change nothing, and empties it.
+fn warm<N: Naming, R: Wait + Copy>(handle: &mut Handle<N, R, Shown<N>>) -> Result<(), NotMade>
+    requires { pending handle.old ≡ [] }
+    ensures { IfOk result (λ _. (published handle.new ≡ published handle.old) × (pending handle.new ≡ [])) }
+{
+    handle.append(None).map_err(|_| NotMade)?;
+    handle.append(None).map_err(|_| NotMade)?;
+    let _ = handle.publish();
+    let _ = handle.publish();
+    Ok(())
+}

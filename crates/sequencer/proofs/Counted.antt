@@ -1,0 +1,88 @@
+-- The counts of a question.
+use Rattle.std.proofs.Common.{◌≡◌, ℕ, zero, suc, ◌+◌, ◌*◌, ◌≤◌, cond, List, [], ◌∷◌, length, map, replicate, slice_get, slice_set, is_some, option_map, Option, Some, None, refl, sym, ap, ◌∙◌, arith}
+use Rattle.std.proofs.lemmas.List.{length-map, length-replicate, map-set}
+use Rattle.std.proofs.Math.ListN.{length-set}
+use Rattle.std.proofs.lemmas.List.Sums.{sum_by-cons, sum_by-le-sum_by, count_by-le-length}
+use Rattle.std.proofs.lemmas.Option.{none-some, same_Some, slice_get-map}
+use Rattle.std.specs.List.{count_by, sum_by}
+use Rattle.trace_model.specs.declared.limits.TheConstants.{MAX_CYCLES}
+use Rattle.trace_model.specs.declared.refusal.Refusal.TheVariants.{NoSuchTask, Double}
+use Rattle.trace_model.specs.Rows.{Row}
+use Rattle.trace_model.specs.Machine.{Question, cycles_of, confirmed_of, is_confirmed, rows_of, task_refused}
+use Rattle.trace_model.proofs.Summary.{sum_told}
+use Rattle.witness.specs.Printed.{Printed}
+use Rattle.witness.specs.Text as Text
+use Rattle.result_ledger.specs.Tasks.{Tasks}
+use Rattle.sequencer.specs.Asked.{Told, rows_in, IsCounted}
+
+-- ---- of each task what is printed, and the machine's rows
+
+pub told_is_told : (tasks : Tasks) → count_by is_some (map (option_map rows_in) tasks) ≡ count_by is_some tasks
+told_is_told [] = refl
+told_is_told (None ∷ tasks) =
+    omega (arith, told_is_told tasks, sum_by-cons (λ t. cond (is_some t) 1 0) None (map (option_map rows_in) tasks), sum_by-cons (λ t. cond (is_some t) 1 0) None tasks)
+told_is_told (Some rows ∷ tasks) =
+    omega (arith, told_is_told tasks, sum_by-cons (λ t. cond (is_some t) 1 0) (Some (rows_in rows)) (map (option_map rows_in) tasks), sum_by-cons (λ t. cond (is_some t) 1 0) (Some rows) tasks)
+
+pub confirmed_rows : (rows : List Printed) → count_by is_confirmed (rows_in rows) ≡ count_by Text.is_confirmed rows
+confirmed_rows [] = refl
+confirmed_rows (p ∷ rows) =
+    omega (arith, confirmed_rows rows, sum_by-cons (λ r. cond (is_confirmed r) 1 0) p.row (rows_in rows), sum_by-cons (λ r. cond (Text.is_confirmed r) 1 0) p rows)
+
+-- ---- a task that is missing
+
+pub missing_row : (tasks : Tasks) (task : ℕ) → slice_get tasks task ≡ Some None → slice_get (map (option_map rows_in) tasks) task ≡ Some None
+missing_row tasks task h = slice_get-map (option_map rows_in) tasks task ∙ ap (option_map (option_map rows_in)) h
+
+pub row_missing : (tasks : Tasks) (task : ℕ) → slice_get (map (option_map rows_in) tasks) task ≡ Some None → slice_get tasks task ≡ Some None
+row_missing tasks task h = go (slice_get tasks task) refl
+  where
+    go : (o : Option (Option (List Printed))) → slice_get tasks task ≡ o → o ≡ Some None
+    go None e = absurd (none-some None (sym (ap (option_map (option_map rows_in)) e) ∙ (sym (slice_get-map (option_map rows_in) tasks task) ∙ h)))
+    go (Some None) e = refl
+    go (Some (Some rows)) e =
+        let clash : Some (Some (rows_in rows)) ≡ Some None = sym (ap (option_map (option_map rows_in)) e) ∙ (sym (slice_get-map (option_map rows_in) tasks task) ∙ h) in
+        absurd (none-some (rows_in rows) (sym (same_Some (Some (rows_in rows)) None clash)))
+
+-- ---- the counts
+
+pub opened_counts : (length bound total : ℕ) → IsCounted (record { length = length; bound = bound; tasks = replicate total None }) total 0 0
+opened_counts n bound total = record { tasks = sym (length-replicate total None); rows = none (λ x. length (rows_of x)) total refl; found = none (λ x. count_by is_confirmed (rows_of x)) total refl }
+  where
+    none : (f : Option (List Row) → ℕ) (n : ℕ) → f None ≡ 0 → 0 ≡ sum_by f (map (option_map rows_in) (replicate n None))
+    none f zero z = refl
+    none f (suc n) z = omega (arith, z, none f n z, sum_by-cons f None (map (option_map rows_in) (replicate n None)))
+
+pub told_counts : (told : Told) (total cycles confirmed task : ℕ) (rows : List Printed) → slice_get told.tasks task ≡ Some None → IsCounted told total cycles confirmed →
+    IsCounted (record told { tasks = slice_set told.tasks task (Some rows) }) total (cycles + length rows) (confirmed + count_by Text.is_confirmed rows)
+told_counts told total cycles confirmed task rows h c =
+    let moved = map-set (option_map rows_in) told.tasks task (Some rows) in
+    let before = map (option_map rows_in) told.tasks in
+    let m = missing_row told.tasks task h in
+    record {
+      tasks = c.tasks ∙ sym (length-set told.tasks task (Some rows));
+      rows = omega (arith, c.rows, ap (sum_by (λ x. length (rows_of x))) moved, sum_told (λ x. length (rows_of x)) before task (rows_in rows) refl m, length-map rows (λ p. p.row));
+      found = omega (arith, c.found, ap (sum_by (λ x. count_by is_confirmed (rows_of x))) moved, sum_told (λ x. count_by is_confirmed (rows_of x)) before task (rows_in rows) refl m, confirmed_rows rows);
+    }
+
+pub cycles_most : (tasks : List (Option (List Row))) → ((task : ℕ) (rows : List Row) → slice_get tasks task ≡ Some (Some rows) → length rows ≤ MAX_CYCLES) →
+    sum_by (λ x. length (rows_of x)) tasks ≤ MAX_CYCLES * length tasks
+cycles_most [] h = omega arith
+cycles_most (None ∷ tasks) h =
+    omega (arith, cycles_most tasks (λ task rows e. h (suc task) rows e), sum_by-cons (λ x. length (rows_of x)) None tasks)
+cycles_most (Some rows ∷ tasks) h =
+    omega (arith, h zero rows refl, cycles_most tasks (λ task r e. h (suc task) r e), sum_by-cons (λ x. length (rows_of x)) (Some rows) tasks)
+
+pub confirmed_fewer : (q : Question) → confirmed_of q ≤ cycles_of q
+confirmed_fewer q = sum_by-le-sum_by (λ x. count_by is_confirmed (rows_of x)) (λ x. length (rows_of x)) q.tasks (λ x. count_by-le-length is_confirmed (rows_of x))
+
+-- ---- what refuses a task
+
+pub refused_unknown : (tasks : Tasks) (task : ℕ) → slice_get tasks task ≡ None → task_refused (slice_get (map (option_map rows_in) tasks) task) ≡ Some NoSuchTask
+refused_unknown tasks task h = ap task_refused (slice_get-map (option_map rows_in) tasks task ∙ ap (option_map (option_map rows_in)) h)
+
+pub refused_double : (tasks : Tasks) (task : ℕ) (rows : List Printed) → slice_get tasks task ≡ Some (Some rows) → task_refused (slice_get (map (option_map rows_in) tasks) task) ≡ Some Double
+refused_double tasks task rows h = ap task_refused (slice_get-map (option_map rows_in) tasks task ∙ ap (option_map (option_map rows_in)) h)
+
+pub refused_none : (tasks : Tasks) (task : ℕ) → slice_get tasks task ≡ Some None → task_refused (slice_get (map (option_map rows_in) tasks) task) ≡ None
+refused_none tasks task h = ap task_refused (missing_row tasks task h)

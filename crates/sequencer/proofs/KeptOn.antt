@@ -1,0 +1,202 @@
+-- What a book keeps stays so.
+use Rattle.std.proofs.Common.{◌≡◌, ℕ, zero, suc, ◌+◌, ◌<◌, ◌≤◌, ◌^◌, inl, inr, List, [], ◌∷◌, ◌++◌, length, map, take, get_or, replicate, slice_get, slice_set, option_map, IfSome, Option, Some, None, refl, sym, ap, subst, ◌∙◌, arith}
+use Rattle.std.proofs.lemmas.Bool.{cases_eq}
+use Rattle.std.proofs.lemmas.List.{length-map, length-take, map-append, map-set, take-append-le}
+use Rattle.std.proofs.lemmas.Option.{none-some, same_Some, get_or_from_slice_get, slice_get-map, slice_get_read}
+use Rattle.std.specs.List.{count_by}
+use Rattle.std.specs.Slice.{IsItemAt}
+use denote.Ref.{Bor}
+use Rattle.trace_model.specs.declared.event.Event.{Event}
+use Rattle.trace_model.specs.declared.limits.TheConstants.{MAX_EVENTS}
+use Rattle.trace_model.specs.declared.step.BoardStep.TheVariants.{Accept, Open, Deliver}
+use Rattle.trace_model.specs.Trace.{Trace}
+use Rattle.trace_model.specs.Lawful.{refusal_of}
+use Rattle.trace_model.specs.Dependencies.{dependencies}
+use Rattle.trace_model.specs.Rows.{AreRows}
+use Rattle.trace_model.specs.Machine.{Question, State, ask_refused, cycles_of, deliver, deliver_refused, deliver_next, is_confirmed, with_event, with_question, with_rows}
+use Rattle.trace_model.specs.Bounds.{StateFits, QuestionFits}
+use Rattle.trace_model.proofs.Bounds.{opening_fits, step_fits, dependencies_few}
+use Rattle.trace_model.proofs.Lists.{get-push, get-set_other, get-set_same}
+use Rattle.trace_model.proofs.Taking.{admitted, machine_steps}
+use Rattle.witness.specs.Printed.{Printed}
+use Rattle.findings.specs.Found.{AreNamed, AreRowsOf, FoundRows}
+use Rattle.sequencer.specs.Asked.{Told, question_of, rows_in, TellsNamed}
+use Rattle.sequencer.specs.Book.{IsKept, state_of, fresh, findings_rows}
+use Rattle.sequencer.proofs.Counted.{cycles_most, row_missing}
+
+pub kept_opening : (limit : ℕ) → limit ≤ MAX_EVENTS → IsKept limit limit [] []
+kept_opening limit le = record { same_limit = refl; fits = opening_fits AreRows limit le; named = λ k told h. absurd (none-some told h) }
+
+-- ---- a question
+
+pub question_at : (asked : List Told) (k : ℕ) (told : Told) → slice_get asked k ≡ Some told → slice_get (map question_of asked) k ≡ Some (question_of told)
+question_at asked k told h = slice_get-map question_of asked k ∙ ap (option_map question_of) h
+
+pub told_at : (asked : List Told) (k : ℕ) (q : Question) → slice_get (map question_of asked) k ≡ Some q → (told : Told) × (slice_get asked k ≡ Some told) × (question_of told ≡ q)
+told_at asked k q h = go (slice_get asked k) refl
+  where
+    go : (o : Option Told) → slice_get asked k ≡ o → (told : Told) × (slice_get asked k ≡ Some told) × (question_of told ≡ q)
+    go None e = absurd (none-some q (sym (ap (option_map question_of) e) ∙ (sym (slice_get-map question_of asked k) ∙ h)))
+    go (Some told) e = (told, e, same_Some (question_of told) q (sym (ap (option_map question_of) e) ∙ (sym (slice_get-map question_of asked k) ∙ h)))
+
+pub no_question : (asked : List Told) (k : ℕ) → slice_get asked k ≡ None → slice_get (map question_of asked) k ≡ None
+no_question asked k h = slice_get-map question_of asked k ∙ ap (option_map question_of) h
+
+pub fits_at : (admitted limit : ℕ) (events : Trace) (asked : List Told) (k : ℕ) (told : Told) → IsKept admitted limit events asked → slice_get asked k ≡ Some told → QuestionFits AreRows events (question_of told)
+fits_at admitted limit events asked k told kept h = kept.fits.each k (question_of told) (question_at asked k told h)
+
+-- the question that a look-up lends
+pub lent_at : (asked : List Told) (k : ℕ) (lent : Option (Bor Told)) → IsItemAt asked k lent → IfSome lent (λ told. slice_get asked k ≡ Some told.now)
+lent_at asked k None h = tt
+lent_at asked k (Some told) h = slice_get_read asked (length asked) k told.now refl h.3.0 h.1
+
+pub lent_within : (admitted limit : ℕ) (events : Trace) (asked : List Told) (k : ℕ) (lent : Option (Bor Told)) → IsKept admitted limit events asked → IsItemAt asked k lent →
+    IfSome lent (λ told. told.now.length ≤ length events)
+lent_within admitted limit events asked k None kept h = tt
+lent_within admitted limit events asked k (Some told) kept h = (fits_at admitted limit events asked k told.now kept (lent_at asked k (Some told) h)).within
+
+pub lent_named : (admitted limit : ℕ) (events : Trace) (asked : List Told) (k : ℕ) (lent : Option (Bor Told)) → IsKept admitted limit events asked → IsItemAt asked k lent →
+    IfSome lent (λ told. TellsNamed (take told.now.length events) told.now)
+lent_named admitted limit events asked k None kept h = tt
+lent_named admitted limit events asked k (Some told) kept h = kept.named k told.now (lent_at asked k (Some told) h)
+
+-- ---- an event more
+
+pub kept_event : (admitted limit : ℕ) (events : Trace) (asked : List Told) (e : Event) → refusal_of limit events e ≡ None → IsKept admitted limit events asked →
+    IsKept admitted limit (events ++ e ∷ []) asked
+kept_event admitted limit events asked e lawful kept =
+    let s = state_of limit events asked in record {
+      same_limit = kept.same_limit;
+      fits = step_fits AreRows s (with_event s e) (Accept e) (lawful, refl) kept.fits;
+      named = λ k told h.
+          let within = (fits_at admitted limit events asked k told kept h).within in
+          subst (λ front. TellsNamed front told) (sym (take-append-le told.length events (e ∷ []) within)) (kept.named k told h);
+    }
+
+-- ---- a question more
+
+pub fresh_question : (s : State) (bound : ℕ) → question_of (fresh s bound) ≡ record { length = length s.accepted; bound = bound; tasks = replicate (length (dependencies s.accepted)) None }
+fresh_question s bound = ap (λ tasks. record { length = length s.accepted; bound = bound; tasks = tasks }) (none_each (length (dependencies s.accepted)))
+  where
+    none_each : (n : ℕ) → map (option_map rows_in) (replicate n None) ≡ replicate n None
+    none_each zero = refl
+    none_each (suc n) = ap (λ tasks. None ∷ tasks) (none_each n)
+
+pub with_fresh : (limit : ℕ) (events : Trace) (asked : List Told) (bound : ℕ) →
+    state_of limit events (asked ++ fresh (state_of limit events asked) bound ∷ []) ≡ with_question (state_of limit events asked) bound
+with_fresh limit events asked bound =
+    let s = state_of limit events asked in
+    ap (λ questions. record { limit = limit; accepted = events; questions = questions })
+    (map-append question_of asked (fresh s bound ∷ []) ∙ ap (λ q. map question_of asked ++ q ∷ []) (fresh_question s bound))
+
+none_told : (n k : ℕ) (rows : List Printed) → slice_get (replicate n None) k ≡ Some (Some rows) → ⊥
+none_told zero k rows h = none-some (Some rows) h
+none_told (suc n) zero rows h = none-some rows (same_Some None (Some rows) h)
+none_told (suc n) (suc k) rows h = none_told n k rows h
+
+pub kept_question : (admitted limit : ℕ) (events : Trace) (asked : List Told) (bound : ℕ) → ask_refused (state_of limit events asked) bound ≡ None → IsKept admitted limit events asked →
+    IsKept admitted limit events (asked ++ fresh (state_of limit events asked) bound ∷ [])
+kept_question admitted limit events asked bound allowed kept =
+    let s = state_of limit events asked in record {
+      same_limit = kept.same_limit;
+      fits = subst (StateFits AreRows) (sym (with_fresh limit events asked bound))
+          (step_fits AreRows s (with_question s bound) (Open bound (length (dependencies events))) (allowed, refl, refl) kept.fits);
+      named = λ k told h. elim (get-push asked (fresh s bound) k told h) [
+        | inl old ↦ kept.named k told old
+        | inr new ↦ subst (λ t. TellsNamed (take t.length events) t) new.1 (λ task rows e. absurd (none_told (length (dependencies events)) task rows e))
+      ];
+    }
+
+-- ---- a task more
+
+abbrev pub told_with : Told → ℕ → List Printed → Told
+told_with told task rows = record told { tasks = slice_set told.tasks task (Some rows) }
+
+pub question_with : (told : Told) (task : ℕ) (rows : List Printed) →
+    question_of (record told { tasks = slice_set told.tasks task (Some rows) }) ≡ record (question_of told) { tasks = slice_set (question_of told).tasks task (Some (rows_in rows)) }
+question_with told task rows =
+    ap (λ tasks. record { length = told.length; bound = told.bound; tasks = tasks }) (map-set (option_map rows_in) told.tasks task (Some rows))
+
+-- what is said of a finding that is admitted
+pub record IsAdmitted (s : State) (asked : List Told) (f : FoundRows) : Type 0 where
+  pub told : Told
+  pub known : slice_get asked f.question ≡ Some told
+  pub same_bound : f.bound ≡ told.bound
+  pub same_trace : f.events ≡ take told.length s.accepted
+  pub missing : slice_get told.tasks f.task ≡ Some None
+
+pub is_admitted : (limit : ℕ) (events : Trace) (asked : List Told) (f : FoundRows) → deliver_refused (state_of limit events asked) f.question f.bound f.events f.task ≡ None →
+    IsAdmitted (state_of limit events asked) asked f
+is_admitted limit events asked f h =
+    let a = admitted (state_of limit events asked) f.question f.bound f.events f.task h in
+    let (told, at, is) = told_at asked f.question a.question a.known in record {
+      told = told;
+      known = at;
+      same_bound = a.same_bound ∙ sym (ap (λ q. q.bound) is);
+      same_trace = a.same_trace ∙ sym (ap (λ q. take q.length events) is);
+      missing = row_missing told.tasks f.task (ap (λ q. slice_get q.tasks f.task) is ∙ a.missing);
+    }
+
+-- the question that its number finds
+pub own_question : (limit : ℕ) (events : Trace) (asked : List Told) (f : FoundRows) (own : Told) (number : ℕ) → deliver_refused (state_of limit events asked) f.question f.bound f.events f.task ≡ None →
+    own ≡ get_or asked number own → number ≡ f.question → slice_get asked f.question ≡ Some own
+own_question limit events asked f own number h found same =
+    let a = is_admitted limit events asked f h in
+    let is : own ≡ a.told = found ∙ (ap (λ i. get_or asked i own) same ∙ get_or_from_slice_get asked f.question a.told own a.known) in
+    a.known ∙ ap (λ (t : Told). Some t) (sym is)
+
+pub few_cycles : (adm limit : ℕ) (events : Trace) (asked : List Told) (f : FoundRows) (told : Told) → IsKept adm limit events asked → slice_get asked f.question ≡ Some told → AreRowsOf f.events f.bound f.task f.rows →
+    cycles_of (question_of told) + length f.rows < 2 ^ 64
+few_cycles adm limit events asked f told kept at exact =
+    let q = question_of told in
+    let h = fits_at adm limit events asked f.question told kept at in
+    let most = cycles_most q.tasks (λ task rows e. (h.told task rows e).1) in
+    let total = dependencies_few (take told.length events) (length (take told.length events)) in
+    omega (arith, most, h.total, total, length-take told.length events, h.within, kept.fits.within, kept.fits.limit, exact.few)
+
+pub told_state : (limit : ℕ) (events : Trace) (asked : List Told) (f : FoundRows) (told : Told) →
+    deliver_refused (state_of limit events asked) f.question f.bound f.events f.task ≡ None → slice_get asked f.question ≡ Some told →
+    deliver (state_of limit events asked) f.question f.bound f.events f.task (findings_rows f)
+    ≡ (None, state_of limit events (slice_set asked f.question (record told { tasks = slice_set told.tasks f.task (Some f.rows) })))
+told_state limit events asked f told h at =
+    let s = state_of limit events asked in
+    let next = record told { tasks = slice_set told.tasks f.task (Some f.rows) } in
+    let rows = findings_rows f in
+    let moved : map question_of (slice_set asked f.question next) ≡ slice_set s.questions f.question (record (question_of told) { tasks = slice_set (question_of told).tasks f.task (Some rows) }) =
+    map-set question_of asked f.question next ∙ ap (slice_set s.questions f.question) (question_with told f.task f.rows) in
+    ap (λ r. (r, deliver_next s f.question f.task rows r)) h
+    ∙ ap (λ o. (None, with_rows s f.question o f.task rows)) (question_at asked f.question told at)
+    ∙ ap (λ questions. (None, record { limit = limit; accepted = events; questions = questions })) (sym moved)
+
+pub kept_told : (adm limit : ℕ) (events : Trace) (asked : List Told) (f : FoundRows) (told : Told) →
+    deliver_refused (state_of limit events asked) f.question f.bound f.events f.task ≡ None → slice_get asked f.question ≡ Some told → AreRowsOf f.events f.bound f.task f.rows → IsKept adm limit events asked →
+    IsKept adm limit events (slice_set asked f.question (record told { tasks = slice_set told.tasks f.task (Some f.rows) }))
+kept_told adm limit events asked f told h at exact kept =
+    let s = state_of limit events asked in
+    let rows = findings_rows f in
+    let next = record told { tasks = slice_set told.tasks f.task (Some f.rows) } in
+    let a = is_admitted limit events asked f h in
+    let own : a.told ≡ told = same_Some a.told told (sym a.known ∙ at) in
+    let takes = (machine_steps AreRows).delivers s f.question f.bound f.events f.task rows h exact.exact (rw length-map exact.few) in
+    let fits = step_fits AreRows s (deliver s f.question f.bound f.events f.task rows).1 (Deliver f.question f.task (length rows) (count_by is_confirmed rows)) takes kept.fits in
+    let missing : slice_get told.tasks f.task ≡ Some None = subst (λ t. slice_get t.tasks f.task ≡ Some None) own a.missing in
+    let named : AreNamed (take told.length events) f.rows = subst (λ t. AreNamed (take t.length events) f.rows) own (subst (λ r. AreNamed r f.rows) a.same_trace exact.named) in
+    record {
+      same_limit = kept.same_limit;
+      fits = subst (StateFits AreRows) (ap (λ r. r.1) (told_state limit events asked f told h at)) fits;
+      named = λ k other e. elim (cases_eq f.question k) [
+        | inl same ↦
+            let is : next ≡ other = same_Some next other (sym (get-set_same asked f.question told next at) ∙ subst (λ z. slice_get (slice_set asked f.question next) z ≡ Some other) (sym same) e) in
+            subst (λ t. TellsNamed (take t.length events) t) is (named_with (take told.length events) told f.task f.rows missing named (kept.named f.question told at))
+        | inr apart ↦ kept.named k other (sym (get-set_other asked f.question k next apart) ∙ e)
+      ];
+    }
+  where
+    named_with : (front : Trace) (told : Told) (task : ℕ) (rows : List Printed) → slice_get told.tasks task ≡ Some None → AreNamed front rows → TellsNamed front told →
+        TellsNamed front (record told { tasks = slice_set told.tasks task (Some rows) })
+    named_with front told task rows missing named before other more e = elim (cases_eq task other) [
+      | inl same ↦
+          let is : Some rows ≡ Some more = same_Some (Some rows) (Some more) (sym (get-set_same told.tasks task None (Some rows) missing) ∙ subst (λ z. slice_get (slice_set told.tasks task (Some rows)) z ≡ Some (Some more)) (sym same) e) in
+          subst (AreNamed front) (same_Some rows more is) named
+      | inr apart ↦ before other more (sym (get-set_other told.tasks task other (Some rows) apart) ∙ e)
+    ]

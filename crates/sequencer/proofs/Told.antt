@@ -1,0 +1,167 @@
+-- What is answered about a question, and which snapshots are of its events.
+use Rattle.std.proofs.Common.{◌≡◌, ℕ, zero, suc, nat_le, if◌then◌else◌, ◌≤◌, ◌<◌, inl, inr, Bool, true, false, ◌&&◌, Result, Ok, Err, List, [], ◌∷◌, ◌++◌, length, map, take, slice_get, is_some, option_map, MatchOption, Option, Some, None, refl, sym, ap, subst, ◌∙◌, arith}
+use Rattle.std.proofs.lemmas.Bool.{and_parts, cases_lt, false≢true, le-leb, lt-leb}
+use Rattle.std.proofs.lemmas.List.{length-map, map-append}
+use Rattle.std.proofs.lemmas.List.Concat.{flat_map-cons}
+use Rattle.std.proofs.lemmas.List.Elements.{All-head, All-tail}
+use Rattle.std.proofs.lemmas.Option.{none-some, same_Some, get_or_from_slice_get}
+use Rattle.trace_model.proofs.Lists.{at_index}
+use Rattle.std.proofs.Math.Seq.{take-suc}
+use Rattle.std.specs.Option.{option_eq}
+use Rattle.std.specs.List.{flat_map, list_all, All}
+use Rattle.trace_model.specs.declared.event.Event.{Event}
+use Rattle.trace_model.specs.declared.limits.TheConstants.{MAX_REPORT}
+use Rattle.trace_model.specs.declared.refusal.Refusal.{Refusal}
+use Rattle.trace_model.specs.declared.refusal.Refusal.TheVariants.{ReportTooLong}
+use Rattle.trace_model.specs.declared.session.Reply.{Reply}
+use Rattle.trace_model.specs.declared.session.Reply.TheVariants.{Refused, Report, Pending}
+use Rattle.trace_model.specs.declared.session.Request.TheVariants.{Offer}
+use Rattle.trace_model.specs.Trace.{Trace}
+use Rattle.trace_model.specs.Lawful.{refusal_of}
+use Rattle.trace_model.specs.Dependencies.{Dependency, dependencies}
+use Rattle.trace_model.specs.Machine.{State, answer, answer_of, delivered, offer_next, offer_reply, rows_of, same_event, same_events, step, with_event}
+use Rattle.trace_model.proofs.Summary.{same_events_so, same_events_itself}
+use Rattle.witness.specs.Printed.{Printed, with_dependencies}
+use Rattle.witness.specs.Text.{report}
+use Rattle.witness.specs.declared.report.TextRefused.{TextRefused}
+use Rattle.witness.specs.declared.report.TextRefused.TheVariants.{TooLong, NoMemory}
+use Rattle.findings.specs.Found.{AreNamed}
+use Rattle.result_ledger.specs.Tasks.{Tasks, IsMissing}
+use Rattle.result_ledger.specs.Tasks as Ledger
+use Rattle.sequencer.specs.Asked.{Told, question_of, rows_in, TellsNamed}
+use Rattle.sequencer.specs.Book.{IsAccepted, IsLeastMissing}
+use Rattle.sequencer.specs.Printing.{printing}
+use Rattle.sequencer.proofs.Counted.{missing_row, row_missing}
+
+-- ---- an event that is taken
+
+pub accepted_offer : (s : State) (e : Event) (reply : Reply) → (step printing s (Offer e)).0 ≡ reply → IsAccepted reply → refusal_of s.limit s.accepted e ≡ None
+accepted_offer s e reply is ok = go (refusal_of s.limit s.accepted e) is
+  where
+    go : (o : Option Refusal) → offer_reply s o ≡ reply → o ≡ None
+    go None f = refl
+    go (Some r) f = absurd (subst IsAccepted (sym f) ok)
+
+pub taken_offer : (s next : State) (e : Event) (reply : Reply) → (step printing s (Offer e)).0 ≡ reply → IsAccepted reply → next ≡ with_event s e → step printing s (Offer e) ≡ (reply, next)
+taken_offer s next e reply is ok n =
+    let after : offer_next s e (refusal_of s.limit s.accepted e) ≡ next = ap (offer_next s e) (accepted_offer s e reply is ok) ∙ sym n in
+    λ i. (is i, after i)
+
+-- ---- which snapshots are of the events
+
+pub other_events : (s r : Trace) → (s ≡ r → ⊥) → false ≡ same_events s r
+other_events s r n = go (same_events s r) refl
+  where
+    go : (b : Bool) → same_events s r ≡ b → false ≡ b
+    go true e = absurd (n (same_events_so s r e))
+    go false e = refl
+
+-- both have the same event at the place
+abbrev pub is_at : Trace → Trace → ℕ → Bool
+is_at s r i = option_eq same_event (slice_get s i) (slice_get r i)
+
+-- one place more is taken
+take_more : (s : Trace) (i : ℕ) (e : Event) → i < length s → slice_get s i ≡ Some e → take (suc i) s ≡ take i s ++ e ∷ []
+take_more s i e l at = take-suc s i e l ∙ ap (λ x. take i s ++ x ∷ []) (get_or_from_slice_get s i e e at)
+
+pub same_at : (s r : Trace) (i : ℕ) → length s ≡ length r → i < length r → take i s ≡ take i r → true ≡ is_at s r i → take (suc i) s ≡ take (suc i) r
+same_at s r i long l front h =
+    let in_s : i < length s = omega (arith, l, long) in
+    let (own, at) = at_index s i in_s in
+    let (event, there) = at_index r i l in
+    let same : same_event own event ≡ true = sym (h ∙ (λ j. option_eq same_event (at j) (there j))) in
+    let last = same_events_so (own ∷ []) (event ∷ []) (ap (λ b. b && true) same) in
+    take_more s i own in_s at ∙ ((λ j. front j ++ last j) ∙ sym (take_more r i event l there))
+
+pub other_at : (s r : Trace) (i : ℕ) → i < length r → false ≡ is_at s r i → false ≡ same_events s r
+other_at s r i l h = other_events s r (λ e.
+    let (event, there) = at_index r i l in
+    let here : slice_get s i ≡ Some event = ap (λ (x : Trace). slice_get x i) e ∙ there in
+    let itself = and_parts (same_event event event) true (same_events_itself (event ∷ [])) in
+    false≢true (h ∙ ((λ j. option_eq same_event (here j) (there j)) ∙ itself.0)))
+
+pub same_all : (s r : Trace) → s ≡ r → true ≡ same_events s r
+same_all s r e = sym (ap (same_events s) (sym e) ∙ same_events_itself s)
+
+-- ---- the report
+
+-- the rows of a task with the dependencies that their numbers name are those that are kept
+named_rows : (ds : List Dependency) (rows : List Printed) → All (λ p. p ≡ with_dependencies ds p.row) rows → map (with_dependencies ds) (rows_in rows) ≡ rows
+named_rows ds [] h = refl
+named_rows ds (p ∷ rows) h =
+    let P : Printed → Type 0 = λ q. q ≡ with_dependencies ds q.row in
+    let first = All-head P p rows h in
+    let rest = named_rows ds rows (All-tail P p rows h) in
+    λ i. sym first i ∷ rest i
+
+-- the same of all tasks, once all are delivered
+pub settled_rows : {X : Type 0} (g : X → List Printed) (s : Trace) (tasks : List X) →
+    ((task : ℕ) (rows : List Printed) → slice_get (map (λ t. Some (g t)) tasks) task ≡ Some (Some rows) → AreNamed s rows) →
+    map (with_dependencies (dependencies s)) (flat_map rows_of (map (option_map rows_in) (map (λ t. Some (g t)) tasks))) ≡ flat_map g tasks
+settled_rows g s [] h = refl
+settled_rows g s (t ∷ tasks) h =
+    let rest = map (option_map rows_in) (map (λ t. Some (g t)) tasks) in
+    ap (map (with_dependencies (dependencies s))) (flat_map-cons rows_of (Some (rows_in (g t))) rest)
+    ∙ map-append (with_dependencies (dependencies s)) (rows_in (g t)) (flat_map rows_of rest)
+    ∙ (λ i. named_rows (dependencies s) (g t) (h 0 (g t) refl) i ++ settled_rows g s tasks (λ task rows e. h (suc task) rows e) i)
+    ∙ sym (flat_map-cons g t tasks)
+
+pub all_settled : {X : Type 0} (g : X → List Printed) (tasks : List X) → list_all is_some (map (option_map rows_in) (map (λ t. Some (g t)) tasks)) ≡ true
+all_settled g [] = refl
+all_settled g (t ∷ tasks) = all_settled g tasks
+
+pub not_settled : (tasks : Tasks) (task : ℕ) → slice_get tasks task ≡ Some None → list_all is_some (map (option_map rows_in) tasks) ≡ false
+not_settled [] task h = absurd (none-some None h)
+not_settled (None ∷ tasks) task h = refl
+not_settled (Some rows ∷ tasks) zero h = absurd (none-some rows (sym (same_Some (Some rows) None h)))
+not_settled (Some rows ∷ tasks) (suc task) h = not_settled tasks task h
+
+-- ---- the answer about a question
+
+pub pending : (s : State) (number : ℕ) (told : Told) (task : ℕ) → slice_get s.questions number ≡ Some (question_of told) → slice_get told.tasks task ≡ Some None →
+    answer printing s number ≡ Pending number (delivered (question_of told)) (length told.tasks)
+pending s number told task at missing =
+    let q = question_of told in
+    let text = printing (take q.length s.accepted) number q in
+    ap (answer_of printing s number) at
+    ∙ ap (λ (b : Bool). if b then (if nat_le (length text) MAX_REPORT then Report number text else Refused ReportTooLong) else Pending number (delivered q) (length q.tasks)) (not_settled told.tasks task missing)
+    ∙ ap (Pending number (delivered q)) (length-map told.tasks (option_map rows_in))
+
+pub reported : {X : Type 0} (g : X → List Printed) (s : State) (number : ℕ) (told : Told) (tasks : List X) → slice_get s.questions number ≡ Some (question_of told) →
+    told.tasks ≡ map (λ t. Some (g t)) tasks → TellsNamed (take told.length s.accepted) told →
+    answer printing s number
+    ≡ (if nat_le (length (report number told.length told.bound (flat_map g tasks))) MAX_REPORT then Report number (report number told.length told.bound (flat_map g tasks)) else Refused ReportTooLong)
+reported g s number told tasks at all named =
+    let q = question_of told in
+    let front = take told.length s.accepted in
+    let told_named : (task : ℕ) (rows : List Printed) → slice_get (map (λ t. Some (g t)) tasks) task ≡ Some (Some rows) → AreNamed front rows =
+    λ task rows e. named task rows (ap (λ ts. slice_get ts task) all ∙ e) in
+    let text : printing front number q ≡ report number told.length told.bound (flat_map g tasks) =
+    ap (report number told.length told.bound)
+    (ap (λ (ts : Tasks). map (with_dependencies (dependencies front)) (flat_map rows_of (map (option_map rows_in) ts))) all ∙ settled_rows g front tasks told_named) in
+    let settled : list_all is_some q.tasks ≡ true = ap (λ (ts : Tasks). list_all is_some (map (option_map rows_in) ts)) all ∙ all_settled g tasks in
+    ap (answer_of printing s number) at
+    ∙ ap (λ (b : Bool). if b then (if nat_le (length (printing front number q)) MAX_REPORT then Report number (printing front number q) else Refused ReportTooLong) else Pending number (delivered q) (length q.tasks)) settled
+    ∙ ap (λ (t : List ℕ). if nat_le (length t) MAX_REPORT then Report number t else Refused ReportTooLong) text
+
+pub short_report : (number : ℕ) (text : List ℕ) (reply : Reply) → length text ≤ MAX_REPORT → reply ≡ (if nat_le (length text) MAX_REPORT then Report number text else Refused ReportTooLong) → reply ≡ Report number text
+short_report number text reply le is = is ∙ ap (λ (b : Bool). if b then Report number text else Refused ReportTooLong) (le-leb (length text) MAX_REPORT le)
+
+pub long_report : (number : ℕ) (text : List ℕ) (reply : Reply) → MAX_REPORT < length text → reply ≡ (if nat_le (length text) MAX_REPORT then Report number text else Refused ReportTooLong) → reply ≡ Refused ReportTooLong
+long_report number text reply lt is = is ∙ ap (λ (b : Bool). if b then Report number text else Refused ReportTooLong) (lt-leb (length text) MAX_REPORT lt)
+
+pub not_long : (n : ℕ) → (MAX_REPORT < n → ⊥) → n ≤ MAX_REPORT
+not_long n h = elim (cases_lt MAX_REPORT n) [ inl l ↦ absurd (h l) | inr g ↦ g ]
+
+pub text_not_refused : {A : Type 0} (text : A) (refused : TextRefused) → ◌≡◌ {A = Result A TextRefused} (Ok text) (Err refused) → ⊥
+text_not_refused text refused h = absurd cc
+
+pub not_too_long : {A : Type 0} → ◌≡◌ {A = Result A TextRefused} (Err NoMemory) (Err TooLong) → ⊥
+not_too_long h = absurd cc
+
+-- ---- the least missing task
+
+pub least_told : (told : Told) (found : Option ℕ) → MatchOption found ((task : ℕ) → IsMissing told.tasks task → ⊥) (Ledger.IsLeastMissing told.tasks) →
+    MatchOption found ((other : ℕ) → slice_get (question_of told).tasks other ≡ Some None → ⊥) (IsLeastMissing (question_of told))
+least_told told None h = λ other m. h other (row_missing told.tasks other m)
+least_told told (Some task) h = (missing_row told.tasks task h.0, λ other m. h.1 other (row_missing told.tasks other m))

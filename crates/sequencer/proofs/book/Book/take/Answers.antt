@@ -1,0 +1,45 @@
+use Rattle.std.proofs.Common.{◌≡◌, slice_set, None, sym, ap, subst, ◌∙◌}
+use Rattle.trace_model.specs.Machine.{deliver, deliver_refused}
+use Rattle.sequencer.specs.Book.{Kept, IsKept, state_of, findings_rows}
+use Rattle.sequencer.proofs.KeptOn.{few_cycles, own_question, kept_told, told_state, told_with}
+use Rattle.sequencer.proofs.book.Book.take.Goals as goal
+
+pub accept-requires-clause-few : goal.accept-requires-clause-few
+accept-requires-clause-few c =
+    let b = c.self.inside in
+    let f = c.args.finding in
+    let now = c.index_mut-asked.result.now in
+    let admits = ap (λ (k : Kept). deliver_refused k.state f.question f.bound f.events f.task) c.self.view_is ∙ c.requires in
+    let known = own_question b.limit b.gate.events b.questions.items f now c.question-question.result admits c.index_mut-asked.ensures.value c.question-question.ensures in
+    rw c.into_rows.ensures.rows (few_cycles b.gate.limit b.limit b.gate.events b.questions.items f now c.self.invariant known c.into_rows.ensures.exact)
+
+-- what the book then has of it
+written : (c : goal.After-self-1) →
+    slice_set c.self.inside.questions.items c.question-question.result c.accept.new.self
+    ≡ slice_set c.self.inside.questions.items c.args.finding.question (told_with c.index_mut-asked.result.now c.args.finding.task c.args.finding.rows)
+written c =
+    let now = c.index_mut-asked.result.now in
+    let is : c.accept.new.self ≡ told_with now c.args.finding.task c.args.finding.rows =
+    c.accept.ensures ∙ (λ i. told_with now (c.task-task.ensures i) (c.into_rows.ensures.rows i)) in
+    λ i. slice_set c.self.inside.questions.items (c.question-question.ensures i) (is i)
+
+pub invariant_of-self : goal.invariant_of-self
+invariant_of-self c =
+    let b = c.self.inside in
+    let f = c.args.finding in
+    let now = c.index_mut-asked.result.now in
+    let admits = ap (λ (k : Kept). deliver_refused k.state f.question f.bound f.events f.task) c.self.view_is ∙ c.requires in
+    let known = own_question b.limit b.gate.events b.questions.items f now c.question-question.result admits c.index_mut-asked.ensures.value c.question-question.ensures in
+    subst (IsKept b.gate.limit b.limit b.gate.events) (sym (written c))
+    (kept_told b.gate.limit b.limit b.gate.events b.questions.items f now admits known c.into_rows.ensures.exact c.self.invariant)
+
+pub returns-clause-machine : goal.returns-clause-machine
+returns-clause-machine c =
+    let b = c.self.inside in
+    let f = c.args.finding in
+    let now = c.index_mut-asked.result.now in
+    let admits = ap (λ (k : Kept). deliver_refused k.state f.question f.bound f.events f.task) c.self.view_is ∙ c.requires in
+    let known = own_question b.limit b.gate.events b.questions.items f now c.question-question.result admits c.index_mut-asked.ensures.value c.question-question.ensures in
+    ap (λ (k : Kept). deliver k.state f.question f.bound f.events f.task (findings_rows f)) (sym c.self.view_is)
+    ∙ (told_state b.limit b.gate.events b.questions.items f now admits known
+    ∙ ap (λ questions. (None, state_of b.limit b.gate.events questions)) (sym (written c)))

@@ -1,0 +1,110 @@
+//! What a book tells of its questions.
+
+ghost use Rattle.std.specs.Prelude.{◌≡◌, IfErr, IfOk};
+ghost use Rattle.trace_model.specs.Machine as machine;
+ghost use Rattle.trace_model.specs.declared.refusal.Refusal.TheVariants as refusals;
+ghost use Rattle.trace_model.specs.declared.session.Reply.TheVariants.{Refused};
+ghost use Rattle.sequencer.specs.Book.{RefusesAnswer, answer_refusal, answer_reply, status_reply};
+ghost use Rattle.sequencer.specs.Printing.{printing};
+
+use crate::book::{Book, NoSuchQuestion};
+use thiserror::Error;
+use trace_model::{Refusal, ReportText};
+use witness::{TextRefused, report_text};
+
+/// What is known of a question: how many of its tasks are delivered, or the report once all are.
+#[derive(Debug, Drop)]
+pub enum Answer {
+    Pending { delivered: u32, total: u32 },
+    Settled(ReportText),
+}
+
+/// Why a question is not answered.
+#[derive(Clone, Copy, Debug, PartialEq, Eq, Error)]
+pub enum AnswerRefused {
+    #[error("no such question")]
+    NoSuchQuestion,
+    #[error("the report is too long")]
+    ReportTooLong,
+    #[error("no memory")]
+    NoMemory,
+}
+
+impl AnswerRefused {
+    /// Its place among all refusals.
+    pub fn refusal(self) -> Refusal
+        ensures { result ≡ answer_refusal self }
+    {
+        match self {
+            AnswerRefused::NoSuchQuestion => Refusal::NoSuchQuestion,
+            AnswerRefused::ReportTooLong => Refusal::ReportTooLong,
+            AnswerRefused::NoMemory => Refusal::NoMemory,
+        }
+    }
+}
+
+/// The book and a question in numbers: how many events are accepted and questions opened; how many events the
+/// question is about, its bound, how many tasks it has and how many are delivered, and how many cycles and
+/// confirmed ones these have.
+#[derive(Clone, Copy, Debug, PartialEq, Eq)]
+pub struct Status {
+    pub accepted: u32,
+    pub opened: u32,
+    pub length: u32,
+    pub bound: u8,
+    pub total: u32,
+    pub delivered: u32,
+    pub cycles: u64,
+    pub confirmed: u64,
+}
+
+impl Book {
+    /// The report on the question's first events once all tasks are delivered, else how many are.
+    ///
+    /// # Errors
+    ///
+    /// `NoSuchQuestion`, then `ReportTooLong` where the text has more than `MAX_REPORT` bytes, then `NoMemory`.
+    pub fn answer(&self, question: u32) -> Result<Answer, AnswerRefused>
+        ensures ok { IfOk result (λ told. machine.answer printing self.now.state question ≡ answer_reply question told) }
+        ensures refused { IfErr result (RefusesAnswer self.now.state question) }
+    {
+        let Some(asked) = self.asked(question) else {
+            return Err(AnswerRefused::NoSuchQuestion);
+        };
+        let Some(tasks) = asked.settled() else {
+            return Ok(Answer::Pending {
+                delivered: asked.delivered(),
+                total: asked.total(),
+            });
+        };
+        match report_text(self.alloc, question, asked.events(), asked.bound(), tasks) {
+            Ok(text) => Ok(Answer::Settled(ReportText::from_vec(text))),
+            Err(TextRefused::TooLong) => Err(AnswerRefused::ReportTooLong),
+            Err(TextRefused::NoMemory) => Err(AnswerRefused::NoMemory),
+        }
+    }
+
+    /// The book and the question in numbers. It takes no memory.
+    ///
+    /// # Errors
+    ///
+    /// `NoSuchQuestion`.
+    pub fn status(&self, question: u32) -> Result<Status, NoSuchQuestion>
+        ensures ok { IfOk result (λ shown. machine.status self.now.state question ≡ status_reply question shown) }
+        ensures refused { IfErr result (λ _. machine.status self.now.state question ≡ Refused refusals.NoSuchQuestion) }
+    {
+        let Some(asked) = self.asked(question) else {
+            return Err(NoSuchQuestion);
+        };
+        Ok(Status {
+            accepted: self.length(),
+            opened: self.opened(),
+            length: asked.events(),
+            bound: asked.bound().get(),
+            total: asked.total(),
+            delivered: asked.delivered(),
+            cycles: asked.cycles(),
+            confirmed: asked.confirmed(),
+        })
+    }
+}

@@ -1,0 +1,133 @@
+//! A question with its tasks.
+
+ghost use Rattle.std.specs.Prelude.{◌≡◌, ℕ, ◌+◌, ◌<◌, ◌≤◌, ◌^◌, length, map, replicate, slice_get, slice_set, None, Some, MatchOption};
+ghost use Rattle.std.specs.Result.{result_err};
+ghost use Rattle.trace_model.specs.declared.limits.TheConstants.{MIN_BOUND, MAX_BOUND};
+ghost use Rattle.trace_model.specs.Machine.{cycles_of, confirmed_of, task_refused};
+ghost use Rattle.result_ledger.specs.Tasks.{IsMissing, IsLeastMissing};
+ghost use Rattle.sequencer.specs.Asked.{question_of};
+
+use result_ledger::{Ledger, LedgerRefused};
+use std::marker::Model;
+use trace_model::{Bound, Refusal};
+use witness::{Row, confirmed_in};
+
+/// A question about the first events, its bound, and the rows of its tasks as they come in.
+#[derive(Drop)]
+pub struct Asked {
+    length: u32,
+    bound: Bound,
+    total: u32,
+    cycles: u64,
+    confirmed: u64,
+    ledger: Ledger,
+}
+
+impl Model for Asked {
+    ghost use Rattle.sequencer.specs.Asked.{Told, IsCounted};
+
+    ghost Value = { Told };
+
+    ghost view = { λ a. record { length = a.length; bound = a.bound; tasks = a.ledger } };
+
+    ghost invariant = { λ a. IsCounted (record { length = a.length; bound = a.bound; tasks = a.ledger }) a.total a.cycles a.confirmed };
+}
+
+impl Asked {
+    ghost use Rattle.trace_model.specs.Machine.{delivered};
+
+    /// The question about the first `length` events, none of whose `total` tasks is delivered.
+    pub(crate) fn open(length: u32, bound: Bound, total: u32, ledger: Ledger) -> Asked
+        requires { ledger ≡ replicate total None }
+        ensures { result ≡ record { length = length; bound = bound; tasks = ledger } }
+    {
+        Asked {
+            length,
+            bound,
+            total,
+            cycles: 0,
+            confirmed: 0,
+            ledger,
+        }
+    }
+
+    /// How many events it is about.
+    pub(crate) fn events(&self) -> u32
+        ensures { result ≡ self.now.length }
+    {
+        self.length
+    }
+
+    /// Its bound.
+    pub(crate) fn bound(&self) -> Bound
+        ensures { result ≡ self.now.bound }
+    {
+        self.bound
+    }
+
+    /// How many tasks it has.
+    pub(crate) fn total(&self) -> u32
+        ensures { result ≡ length self.now.tasks }
+    {
+        self.total
+    }
+
+    /// How many of them are delivered.
+    pub(crate) fn delivered(&self) -> u32
+        ensures { result ≡ delivered (question_of self.now) }
+    {
+        self.ledger.delivered()
+    }
+
+    /// How many cycles the delivered tasks have.
+    pub(crate) fn cycles(&self) -> u64
+        ensures { result ≡ cycles_of (question_of self.now) }
+    {
+        self.cycles
+    }
+
+    /// How many of these are confirmed.
+    pub(crate) fn confirmed(&self) -> u64
+        ensures { result ≡ confirmed_of (question_of self.now) }
+    {
+        self.confirmed
+    }
+
+    /// The least task that is not delivered; none where all are.
+    pub(crate) fn missing(&self) -> Option<u32>
+        ensures { MatchOption result ((task : ℕ) → IsMissing self.now.tasks task → ⊥) (IsLeastMissing self.now.tasks) }
+    {
+        self.ledger.missing()
+    }
+
+    /// The rows of each task, once none is missing.
+    pub(crate) fn settled(&self) -> Option<&[Vec<Row>]>
+        ensures { MatchOption result ((task : ℕ) × IsMissing self.now.tasks task) (λ rows. self.now.tasks ≡ map (λ task. Some task.items) rows.now) }
+    {
+        self.ledger.settled()
+    }
+
+    /// Whether rows of the task may come in.
+    pub(crate) fn test(&self, task: u32) -> Result<(), Refusal>
+        ensures { result_err result ≡ task_refused (slice_get (question_of self.now).tasks task) }
+    {
+        match self.ledger.test(task) {
+            Ok(()) => Ok(()),
+            Err(LedgerRefused::NoSuchTask) => Err(Refusal::NoSuchTask),
+            Err(LedgerRefused::Double) => Err(Refusal::Double),
+        }
+    }
+
+    /// Takes the rows of a missing task. It takes no memory.
+    pub(crate) fn accept(&mut self, task: u32, rows: Vec<Row>)
+        requires missing { IsMissing self.old.tasks task }
+        requires few { cycles_of (question_of self.old) + length rows.items < 2 ^ 64 }
+        ensures { self.new ≡ record (self.old) { tasks = slice_set self.old.tasks task (Some rows.items) } }
+    {
+        self.cycles += rows.len() as u64;
+        self.confirmed += confirmed_in(rows.as_slice()) as u64;
+        let Ok(()) = self.ledger.accept(task, rows) else {
+            unreachable!()
+        };
+    }
+}

@@ -1,0 +1,157 @@
+//! Questions are opened, and handed out to be worked on.
+
+ghost use Rattle.std.specs.Prelude.{◌≡◌, ℕ, ◌≤◌, length, slice_get, take, IfErr, IfOk, MatchOption, Some, None};
+ghost use Rattle.std.specs.Arc.{arc_value};
+ghost use Rattle.trace_model.specs.Machine.{Question, ask_refused, step};
+ghost use Rattle.trace_model.specs.declared.session.Request.TheVariants.{Ask};
+ghost use Rattle.sequencer.specs.declared.step.Change.TheVariants.{Open};
+ghost use Rattle.sequencer.specs.Book.{HasRoom, IsLeastMissing, RefusesAsk, RefusesSnapshot, ask_refusal, fresh, opened_reply};
+ghost use Rattle.sequencer.specs.Printing.{printing};
+
+use crate::asked::Asked;
+use crate::book::{Book, NoSuchQuestion};
+use findings::{LockTables, Snapshot};
+use result_ledger::Ledger;
+use std::alloc::Global;
+use std::sync::Arc;
+use thiserror::Error;
+use trace_model::{Bound, MAX_QUESTIONS, NoMemory, Refusal};
+
+/// Why a question is not opened.
+#[derive(Clone, Copy, Debug, PartialEq, Eq, Error)]
+pub enum AskRefused {
+    #[error("the bound is not 2 to 8")]
+    BadBound,
+    #[error("too many questions")]
+    TooManyQuestions,
+    #[error("no memory")]
+    NoMemory,
+}
+
+impl AskRefused {
+    /// Its place among all refusals.
+    pub fn refusal(self) -> Refusal
+        ensures { result ≡ ask_refusal self }
+    {
+        match self {
+            AskRefused::BadBound => Refusal::BadBound,
+            AskRefused::TooManyQuestions => Refusal::TooManyQuestions,
+            AskRefused::NoMemory => Refusal::NoMemory,
+        }
+    }
+}
+
+/// A question that was opened: its number from 0, how many events it is about, and how many tasks it has.
+#[derive(Clone, Copy, Debug, PartialEq, Eq)]
+pub struct Opened {
+    pub question: u32,
+    pub length: u32,
+    pub total: u32,
+}
+
+impl Book {
+    /// Opens a question about the present events, with a bound on the members of its cycles.
+    ///
+    /// # Errors
+    ///
+    /// `BadBound` where the bound is not 2 to 8, then `TooManyQuestions` where there are `MAX_QUESTIONS`, then
+    /// `NoMemory`. Nothing has changed.
+    pub fn ask(&mut self, bound: u8) -> Result<Opened, AskRefused>
+        ensures ok { IfOk result (λ opened. step printing self.old.state (Ask bound) ≡ (opened_reply opened, self.new.state)) }
+        ensures refused { IfErr result (λ refused. RefusesAsk self.old.state bound refused × (self.new.state ≡ self.old.state)) }
+    {
+        let asked = self.open(bound)?;
+        let opened = self.opens(&asked);
+        self.add(asked);
+        Ok(opened)
+    }
+
+    /// Tests a bound, and makes room for a question about the present events.
+    pub(crate) fn open(&mut self, bound: u8) -> Result<Asked, AskRefused>
+        ensures shown { self.new.state ≡ self.old.state }
+        ensures ok { IfOk result (λ asked. (asked.bound ≡ bound) × HasRoom self.new (Open asked)) }
+        ensures allowed { IfOk result (λ asked. ask_refused self.old.state bound ≡ None) }
+        ensures refused { IfErr result (RefusesAsk self.old.state bound) }
+    {
+        let Some(bound) = Bound::new(bound) else {
+            return Err(AskRefused::BadBound);
+        };
+        if self.opened() as usize >= MAX_QUESTIONS {
+            return Err(AskRefused::TooManyQuestions);
+        }
+        match self.grow(bound) {
+            Ok(asked) => Ok(asked),
+            Err(_) => Err(AskRefused::NoMemory),
+        }
+    }
+
+    /// Makes room for a question about the present events.
+    fn grow(&mut self, bound: Bound) -> Result<Asked, NoMemory>
+        ensures shown { self.new.state ≡ self.old.state }
+        ensures ok { IfOk result (λ asked. (asked.bound ≡ bound) × HasRoom self.new (Open asked)) }
+    {
+        let tables = LockTables::of(self.alloc, self.state, self.gate.events())?;
+        let total = tables.len() as u32;
+        let ledger = Ledger::open(self.alloc, total)?;
+        let length = self.gate.events().len() as u32;
+        self.questions.reserve(1)?;
+        Ok(Asked::open(length, bound, total, ledger))
+    }
+
+    /// What is answered where this question is opened next.
+    pub(crate) fn opens(&self, asked: &Asked) -> Opened
+        requires allowed { ask_refused self.now.state asked.now.bound ≡ None }
+        requires fresh { asked.now ≡ fresh self.now.state asked.now.bound }
+        ensures { (step printing self.now.state (Ask asked.now.bound)).0 ≡ opened_reply result }
+    {
+        Opened {
+            question: self.opened(),
+            length: asked.events(),
+            total: asked.total(),
+        }
+    }
+
+    /// Exactly the events that the question is about, with what is needed to compute its tasks.
+    ///
+    /// # Errors
+    ///
+    /// `NoSuchQuestion`, or `NoMemory` where a growth was refused.
+    pub fn snapshot(&self, question: u32) -> Result<Arc<Snapshot, Global>, Refusal>
+        ensures ok { IfOk result (λ shared. (q : Question) × (slice_get self.now.state.questions question ≡ Some q) × (arc_value shared ≡ take q.length self.now.state.accepted)) }
+        ensures refused { IfErr result (RefusesSnapshot self.now.state question) }
+    {
+        let Some(asked) = self.asked(question) else {
+            return Err(Refusal::NoSuchQuestion);
+        };
+        match self.share(asked.events()) {
+            Ok(shared) => Ok(shared),
+            Err(_) => Err(Refusal::NoMemory),
+        }
+    }
+
+    /// The first `count` events.
+    fn share(&self, count: u32) -> Result<Arc<Snapshot, Global>, NoMemory>
+        requires { count ≤ length self.now.state.accepted }
+        ensures { IfOk result (λ shared. arc_value shared ≡ take count self.now.state.accepted) }
+    {
+        let events = &self.gate.events()[..count as usize];
+        let snapshot = Snapshot::build(self.alloc, self.state, events)?;
+        Ok(Arc::new(self.alloc, snapshot)?)
+    }
+
+    /// The least task of the question that is not delivered; none where all are. It takes no memory.
+    ///
+    /// # Errors
+    ///
+    /// `NoSuchQuestion`.
+    pub fn missing(&self, question: u32) -> Result<Option<u32>, NoSuchQuestion>
+        ensures ok { IfOk result (λ task. (q : Question) × (slice_get self.now.state.questions question ≡ Some q)
+            × MatchOption task ((other : ℕ) → slice_get q.tasks other ≡ Some None → ⊥) (IsLeastMissing q)) }
+        ensures refused { IfErr result (λ _. slice_get self.now.state.questions question ≡ None) }
+    {
+        let Some(asked) = self.asked(question) else {
+            return Err(NoSuchQuestion);
+        };
+        Ok(asked.missing())
+    }
+}

@@ -1,0 +1,96 @@
+//! Findings come in, from anyone.
+
+ghost use Rattle.std.specs.Prelude.{◌≡◌, slice_get, IfErr, OnOk, None};
+ghost use Rattle.std.specs.Result.{result_err};
+ghost use Rattle.std.specs.Option.{option_eq};
+ghost use Rattle.trace_model.specs.Machine.{deliver, deliver_refused, same_event, same_events};
+ghost use Rattle.findings.specs.Found.{AreRowsOf};
+ghost use Rattle.sequencer.specs.Book.{findings_rows, outcome};
+
+use crate::book::Book;
+use findings::{Finding, Snapshot};
+use trace_model::{Event, Place, Refusal};
+
+impl Book {
+    /// Takes the rows of a task of a question. It takes no memory.
+    ///
+    /// # Errors
+    ///
+    /// What `admits` answers, with the finding handed back. Nothing has changed.
+    pub fn deliver(&mut self, finding: Finding) -> Result<(), (Refusal, Finding)>
+        ensures machine { deliver self.old.state finding.question finding.bound finding.events finding.task (findings_rows finding) ≡ (outcome result, self.new.state) }
+        ensures back { IfErr result (λ refused. refused.1 ≡ finding) }
+        ensures exact { OnOk result (AreRowsOf finding.events finding.bound finding.task finding.rows) }
+    {
+        match self.admits(&finding) {
+            Ok(()) => {
+                self.take(finding);
+                Ok(())
+            }
+            Err(refusal) => Err((refusal, finding)),
+        }
+    }
+
+    /// Whether the finding may be taken. It takes no memory.
+    ///
+    /// # Errors
+    ///
+    /// The first that applies: `NoSuchQuestion`; `OtherBound`; `OtherTrace` where its events, compared one by
+    /// one, are not those that the question is about; `NoSuchTask`; `Double` where the task was delivered.
+    pub fn admits(&self, finding: &Finding) -> Result<(), Refusal>
+        ensures { result_err result ≡ deliver_refused self.now.state finding.now.question finding.now.bound finding.now.events finding.now.task }
+    {
+        let Some(asked) = self.asked(finding.question()) else {
+            return Err(Refusal::NoSuchQuestion);
+        };
+        if finding.bound() != asked.bound() {
+            return Err(Refusal::OtherBound);
+        }
+        let events = &self.gate.events()[..asked.events() as usize];
+        if !is_of(finding.snapshot(), events) {
+            return Err(Refusal::OtherTrace);
+        }
+        asked.test(finding.task())
+    }
+
+    /// Takes a finding that `admits` answers Ok for. It takes no memory.
+    pub fn take(&mut self, finding: Finding)
+        requires { deliver_refused self.old.state finding.question finding.bound finding.events finding.task ≡ None }
+        ensures machine { deliver self.old.state finding.question finding.bound finding.events finding.task (findings_rows finding) ≡ (None, self.new.state) }
+        ensures exact { AreRowsOf finding.events finding.bound finding.task finding.rows }
+    {
+        let question = finding.question() as usize;
+        let task = finding.task();
+        let asked = &mut self.questions[question];
+        asked.accept(task, finding.into_rows());
+    }
+}
+
+/// Whether the snapshot is of these events, which are compared one by one.
+fn is_of(snapshot: &Snapshot, events: &[Event]) -> bool
+    ensures { result ≡ same_events snapshot.now events.now }
+{
+    if snapshot.len() != events.len() {
+        return false;
+    }
+    for index in 0..events.len() {
+        if !is_at(snapshot, events, index as u32) {
+            return false;
+        }
+    }
+    true
+}
+
+/// Whether both have the same event at this place, or none.
+fn is_at(snapshot: &Snapshot, events: &[Event], index: u32) -> bool
+    ensures { result ≡ option_eq same_event (slice_get snapshot.now index) (slice_get events.now index) }
+{
+    match (
+        snapshot.event(Place::new(index)),
+        events.get(index as usize).copied(),
+    ) {
+        (Some(own), Some(event)) => own == event,
+        (None, None) => true,
+        _ => false,
+    }
+}

@@ -1,0 +1,176 @@
+//! A request in two parts: what may be refused, and what takes no memory.
+
+ghost use Rattle.std.specs.Prelude.{◌≡◌, IfErr, IfOk, OnErr};
+ghost use Rattle.trace_model.specs.Machine as machine;
+ghost use Rattle.trace_model.specs.Replies.{IsReply};
+ghost use Rattle.trace_model.specs.declared.session.Request.TheVariants as requests;
+ghost use Rattle.sequencer.specs.Book.{IsAccepted, IsPrepared, Refuses, request_of};
+ghost use Rattle.sequencer.specs.Printing.{printing};
+
+use crate::answering::Answer;
+use crate::asked::Asked;
+use crate::book::Book;
+use std::alloc::AllocError;
+use std::marker::Model;
+use trace_model::{Event, NoMemory, Place, Refusal, Reply, Request};
+
+/// What a step does: it adds an event or a question, or tells of the question with this number.
+#[derive(Drop)]
+pub enum Change {
+    Accept(Event),
+    Open(Asked),
+    Tell(u32),
+    Show(u32),
+}
+
+/// A request that was tested and has its room, with the reply that it will get.
+#[derive(Drop)]
+pub struct Step {
+    change: Change,
+    reply: Reply,
+}
+
+impl Model for Step {
+    ghost use Rattle.sequencer.specs.Book.{Planned};
+
+    ghost Value = { Planned };
+
+    ghost view = { λ s. record { change = s.change; reply = s.reply } };
+}
+
+impl Step {
+    /// The reply that the commit will give. It takes no memory.
+    pub fn reply(&self) -> &Reply
+        ensures { result.now ≡ self.now.reply }
+    {
+        &self.reply
+    }
+}
+
+impl Book {
+    /// Tests a request and makes every growth for it. What a reply shows is unchanged.
+    ///
+    /// # Errors
+    ///
+    /// The reply that refuses the request. `NoMemory` comes after all tests passed.
+    pub fn prepare(&mut self, request: &Request) -> Result<Step, Reply>
+        ensures shown { self.new.state ≡ self.old.state }
+        ensures ok { IfOk result (λ planned. (request_of planned.change ≡ request.now) × IsPrepared self.new planned) }
+        ensures refused { IfErr result (Refuses self.old.state request.now) }
+    {
+        match request {
+            Request::Offer(event) => self.prepare_offer(*event),
+            Request::Ask(bound) => self.prepare_ask(*bound),
+            Request::Answer(question) => self.prepare_answer(*question),
+            Request::Status(question) => self.prepare_status(*question),
+        }
+    }
+
+    fn prepare_offer(&mut self, event: Event) -> Result<Step, Reply>
+        ensures shown { self.new.state ≡ self.old.state }
+        ensures ok { IfOk result (λ planned. (request_of planned.change ≡ requests.Offer event) × IsPrepared self.new planned) }
+        ensures refused { IfErr result (Refuses self.old.state (requests.Offer event)) }
+    {
+        if let Err(refusal) = self.admit(&event) {
+            return Err(Reply::Refused(refusal));
+        }
+        Ok(Step {
+            change: Change::Accept(event),
+            reply: Reply::Placed(Place::new(self.length())),
+        })
+    }
+
+    fn prepare_ask(&mut self, bound: u8) -> Result<Step, Reply>
+        ensures shown { self.new.state ≡ self.old.state }
+        ensures ok { IfOk result (λ planned. (request_of planned.change ≡ requests.Ask bound) × IsPrepared self.new planned) }
+        ensures refused { IfErr result (Refuses self.old.state (requests.Ask bound)) }
+    {
+        match self.open(bound) {
+            Ok(asked) => {
+                let opened = self.opens(&asked);
+                Ok(Step {
+                    change: Change::Open(asked),
+                    reply: Reply::Opened {
+                        question: opened.question,
+                        length: opened.length,
+                        total: opened.total,
+                    },
+                })
+            }
+            Err(refused) => Err(Reply::Refused(refused.refusal())),
+        }
+    }
+
+    fn prepare_answer(&self, question: u32) -> Result<Step, Reply>
+        ensures ok { IfOk result (λ planned. (request_of planned.change ≡ requests.Answer question) × IsPrepared self.now planned) }
+        ensures refused { IfErr result (Refuses self.now.state (requests.Answer question)) }
+    {
+        let reply = match self.answer(question) {
+            Ok(Answer::Pending { delivered, total }) => Reply::Pending {
+                question,
+                delivered,
+                total,
+            },
+            Ok(Answer::Settled(text)) => Reply::Report { question, text },
+            Err(refused) => return Err(Reply::Refused(refused.refusal())),
+        };
+        Ok(Step {
+            change: Change::Tell(question),
+            reply,
+        })
+    }
+
+    fn prepare_status(&self, question: u32) -> Result<Step, Reply>
+        ensures ok { IfOk result (λ planned. (request_of planned.change ≡ requests.Status question) × IsPrepared self.now planned) }
+        ensures refused { IfErr result (Refuses self.now.state (requests.Status question)) }
+    {
+        let Ok(status) = self.status(question) else {
+            return Err(Reply::Refused(Refusal::NoSuchQuestion));
+        };
+        Ok(Step {
+            change: Change::Show(question),
+            reply: Reply::Status {
+                question,
+                accepted: status.accepted,
+                opened: status.opened,
+                length: status.length,
+                bound: status.bound,
+                total: status.total,
+                delivered: status.delivered,
+                cycles: status.cycles,
+                confirmed: status.confirmed,
+            },
+        })
+    }
+
+    /// Takes the step, which must have been prepared on this book as it is. It takes no memory.
+    pub fn commit(&mut self, planned: Step) -> Reply
+        requires { IsPrepared self.old planned }
+        ensures { machine.step printing self.old.state (request_of planned.change) ≡ (result, self.new.state) }
+    {
+        let Step { change, reply } = planned;
+        match change {
+            Change::Accept(event) => self.accept(&event),
+            Change::Open(asked) => self.add(asked),
+            Change::Tell(_) | Change::Show(_) => {}
+        }
+        reply
+    }
+
+    /// The reply to a request, which is prepared and committed.
+    ///
+    /// # Errors
+    ///
+    /// `NoMemory` where the request is not refused otherwise. Nothing has changed.
+    pub fn call(&mut self, request: &Request) -> Result<Reply, NoMemory>
+        ensures ok { IfOk result (λ reply. machine.step printing self.old.state request.now ≡ (reply, self.new.state)) }
+        ensures fits { IfOk result IsReply }
+        ensures err { OnErr result ((self.new.state ≡ self.old.state) × IsAccepted (machine.step printing self.old.state request.now).0) }
+    {
+        match self.prepare(request) {
+            Ok(planned) => Ok(self.commit(planned)),
+            Err(Reply::Refused(Refusal::NoMemory)) => Err(NoMemory::from(AllocError)),
+            Err(reply) => Ok(reply),
+        }
+    }
+}
