@@ -81,6 +81,11 @@ fn frames_of(alloc: Global, events: &[Event]) -> Result<Vec<u8>, AllocError> {
     Ok(bytes)
 }
 
+fn number_of(length: usize) -> Result<u32, Fail> {
+    let number = u32::try_from(length).ok().ok_or("a short text")?;
+    Ok(number)
+}
+
 /// The frames of the replies placed 0 and on, one for each event, and of the opened question 0.
 fn placed_and_opened(alloc: Global, events: u32, total: u32) -> Result<Vec<u8>, AllocError> {
     let mut bytes = Vec::new(alloc);
@@ -95,9 +100,9 @@ fn placed_and_opened(alloc: Global, events: u32, total: u32) -> Result<Vec<u8>, 
 }
 
 /// The frame of the report of question 0.
-fn report_frame(alloc: Global, text: &str) -> Result<Vec<u8>, AllocError> {
+fn report_frame(alloc: Global, text: &str) -> Result<Vec<u8>, Fail> {
     let mut bytes = Vec::new(alloc);
-    let length = (text.len() as u32).wrapping_add(5);
+    let length = number_of(text.len().wrapping_add(5))?;
     bytes.extend_from_slice(&length.to_be_bytes())?;
     bytes.extend_from_slice(&[69, 0, 0, 0, 0])?;
     bytes.extend_from_slice(text.as_bytes())?;
@@ -116,7 +121,7 @@ fn reports(rt: &(impl RandomSource + AllocGlobal + Abort), worked: &Worked) -> R
     }
     send(&mut inputs, rt, 1, &ANSWER)?;
     let run = played(rt, inputs)?;
-    let opened = placed_and_opened(alloc, events.len() as u32, worked.total)?;
+    let opened = placed_and_opened(alloc, number_of(events.len())?, worked.total)?;
     assert_eq!(rt; run.sent(session(rt, 0)), opened.as_slice());
     let report = report_frame(alloc, worked.text)?;
     assert_eq!(rt; run.sent(session(rt, 1)), report.as_slice());
