@@ -2,4 +2,5 @@ pub mod CommandLine
 pub mod EventFile
 pub mod Outcome
 pub mod Script
+pub mod Admission
 pub mod Replay

@@ -1,4 +1,7 @@
 //! Event files through the gate.
+ghost use Rattle.std.specs.Prelude.{◌≡◌, ◌++◌, IfOk, OnOk};
+ghost use Rattle.goodlockd.specs.Admission.{IsAdmissionOf, refused_at_line};
+
 use crate::event_file::read_events;
 use crate::outcome::Stopped;
 use crate::script_text::push_refusal;
@@ -18,7 +21,9 @@ pub enum Admission {
 }
 
 /// Passes the events through the gate, in their order.
-fn admit(alloc: Global, state: RandomState, events: &[Event]) -> Result<Admission, NoMemory> {
+fn admit(alloc: Global, state: RandomState, events: &[Event]) -> Result<Admission, NoMemory>
+    ensures { IfOk result (IsAdmissionOf events.now) }
+{
     let mut gate = Gate::new(alloc, state, MAX_EVENTS);
     for index in 0..events.len() {
         if let Err(refusal) = gate.check(&events[index]) {
@@ -41,7 +46,9 @@ pub fn admit_file(alloc: Global, state: RandomState, file: &[u8]) -> Result<Admi
 }
 
 /// Adds the line that tells which event of a file was refused.
-pub fn push_refused_at(text: &mut Vec<u8>, refusal: Refusal, index: usize) -> Result<(), NoMemory> {
+pub fn push_refused_at(text: &mut Vec<u8>, refusal: Refusal, index: usize) -> Result<(), NoMemory>
+    ensures { OnOk result (text.new.items ≡ text.old.items ++ refused_at_line refusal index) }
+{
     push_refusal(text, refusal)?;
     text.extend_from_slice(b" at ")?;
     text.extend_from_slice(Buffer::new().format(index as u64).as_bytes())?;

@@ -1,15 +1,15 @@
 //! Event files: lines of event words.
-ghost use Rattle.std.specs.Prelude.{◌≡◌, ◌<◌, ◌^◌, ℕ, IfSome, Some, decimal};
+ghost use Rattle.std.specs.Prelude.{◌≡◌, ◌<◌, ◌^◌, ℕ, IfOk, IfSome, Some, decimal, map};
 ghost use Rattle.std.specs.List.{position};
 ghost use Rattle.trace_model.specs.Frames.{IsRequest, object_of};
 ghost use Rattle.trace_model.specs.declared.event.Event.{Event};
 ghost use Rattle.trace_model.specs.declared.event.Op.{Op};
 ghost use Rattle.trace_model.specs.declared.session.Request.TheVariants.{Offer};
-ghost use Rattle.goodlockd.specs.EventFile.{is_no_digit, letter_of, event_word};
+ghost use Rattle.goodlockd.specs.EventFile.{is_no_digit, letter_of, event_word, pieces_at, is_comment, line_words};
 
 use crate::outcome::Stopped;
 use itoa::Buffer;
-use std::alloc::Global;
+use std::alloc::{AllocError, Global};
 use std::str;
 use trace_model::{Event, NoMemory, Op};
 
@@ -66,33 +66,50 @@ pub fn event(word: &[u8]) -> Option<Event>
     Some(Event { thread, op })
 }
 
-/// The words of a line, which are separated by spaces; none where the line is skipped.
-pub fn words_of(alloc: Global, line: &[u8]) -> Result<Vec<&[u8]>, NoMemory> {
-    let mut words = Vec::new(alloc);
-    for word in line.split(|byte| *byte == b' ') {
-        if word.is_empty() {
-            continue;
-        }
-        if words.is_empty() && word[0] == b'#' {
-            return Ok(words);
-        }
-        words.push(word)?;
-    }
-    Ok(words)
+/// The pieces of the bytes between those that are the mark.
+fn pieces_at<'a>(alloc: Global, bytes: &'a [u8], mark: u8) -> Result<Vec<&'a [u8]>, AllocError>
+    ensures { IfOk result (λ pieces. map (λ piece. piece.now) pieces.items ≡ pieces_at mark bytes.now) }
+{
+    bytes.split(|byte| *byte == mark).collect(alloc)
 }
 
-/// Adds the events of a line, which is skipped if it has no word or its first word begins with `#`. It answers
-/// whether the line is understood.
-pub fn push_events(events: &mut Vec<Event>, line: &[u8]) -> Result<bool, NoMemory> {
-    let mut first = true;
-    for word in line.split(|byte| *byte == b' ') {
-        if word.is_empty() {
-            continue;
+/// The lines of a file, which line feeds separate.
+pub fn lines_of(alloc: Global, file: &[u8]) -> Result<Vec<&[u8]>, NoMemory>
+    ensures { IfOk result (λ lines. map (λ line. line.now) lines.items ≡ pieces_at 10 file.now) }
+{
+    Ok(pieces_at(alloc, file, b'\n')?)
+}
+
+/// Whether a line is a comment whose first word this is.
+fn is_comment(word: &[u8]) -> bool
+    ensures { result ≡ is_comment word.now }
+{
+    match word {
+        [byte, ..] => *byte == b'#',
+        [] => false,
+    }
+}
+
+/// The words of a line, which are separated by spaces; none where the line is skipped.
+pub fn words_of(alloc: Global, line: &[u8]) -> Result<Vec<&[u8]>, NoMemory>
+    ensures { IfOk result (λ words. map (λ word. word.now) words.items ≡ line_words line.now) }
+{
+    let pieces = pieces_at(alloc, line, b' ')?;
+    let mut words = Vec::new(alloc);
+    for index in 0..pieces.len() {
+        if !pieces[index].is_empty() {
+            words.push(pieces[index])?;
         }
-        if first && word[0] == b'#' {
-            return Ok(true);
-        }
-        first = false;
+    }
+    match words.first() {
+        Some(first) if is_comment(first) => Ok(Vec::new(alloc)),
+        _ => Ok(words),
+    }
+}
+
+/// Adds the events of these words. It answers whether each is the word of one.
+pub fn push_events(events: &mut Vec<Event>, words: &[&[u8]]) -> Result<bool, NoMemory> {
+    for word in words {
         let Some(event) = event(word) else {
             return Ok(false);
         };
@@ -108,11 +125,11 @@ pub fn push_events(events: &mut Vec<Event>, line: &[u8]) -> Result<bool, NoMemor
 /// The first line that is not understood, or `Memory`.
 pub fn read_events(alloc: Global, file: &[u8]) -> Result<Vec<Event>, Stopped> {
     let mut events = Vec::new(alloc);
-    let mut number = 0usize;
-    for line in file.split(|byte| *byte == b'\n') {
-        number = number.saturating_add(1);
-        if !push_events(&mut events, line)? {
-            return Err(Stopped::Line(number));
+    let lines = lines_of(alloc, file)?;
+    for index in 0..lines.len() {
+        let words = words_of(alloc, lines[index])?;
+        if !push_events(&mut events, &words)? {
+            return Err(Stopped::Line(index + 1));
         }
     }
     Ok(events)

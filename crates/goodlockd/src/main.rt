@@ -5,7 +5,11 @@ mod admission;
 mod command_line;
 mod commands;
 mod event_file;
+#[cfg(test)]
+mod ledger_tests;
 mod outcome;
+#[cfg(test)]
+mod question_tests;
 mod replay_command;
 #[cfg(test)]
 mod replay_tests;

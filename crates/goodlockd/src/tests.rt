@@ -9,7 +9,7 @@ use std::process::Abort;
 use std::random::RandomSource;
 use std::test::*;
 
-const MOST: u32 = 1_048_576;
+pub const MOST: u32 = 1_048_576;
 
 /// How a script ended, and what it wrote.
 struct Ending {
@@ -30,7 +30,7 @@ fn ran(rt: &(impl RandomSource + AllocGlobal), file: &[u8], limit: u32) -> Resul
 }
 
 /// The script runs to its end and prints this.
-fn prints(
+pub fn prints(
     rt: &(impl RandomSource + AllocGlobal + Abort),
     file: &[u8],
     limit: u32,
@@ -112,7 +112,7 @@ fn lines_that_are_understood(rt: HostRuntime) -> Result<(), Fail> {
 
 #[test]
 fn lines_that_are_not_understood(rt: HostRuntime) -> Result<(), Fail> {
-    let files: [&[u8]; 12] = [
+    let files: [&[u8]; 20] = [
         b"0f1 0f\n",
         b"0f1 f1\n",
         b"0f01\n",
@@ -124,7 +124,15 @@ fn lines_that_are_not_understood(rt: HostRuntime) -> Result<(), Fail> {
         b"0f1 # one\n",
         b"0f1a2\n",
         b"+0f1\n",
-        b"ask 2\n",
+        b"ask\n",
+        b"ask 256\n",
+        b"ask 2 3\n",
+        b"0f1 ask 2\n",
+        b"work x\n",
+        b"deliver 0\n",
+        b"deliver 0 0 0\n",
+        b"answer 00\n",
+        b"status 4294967296\n",
     ];
     for bad in files {
         let mut file = Vec::from_slice(rt.alloc(), b"0f1\n# one\n")?;
