@@ -55,16 +55,23 @@ impl Plain<BoardStep, BoardStep, u64> for AddStep {
     ghost state = { λ step. None };
 }
 
-/// Says which history a type speaks of, so that receipts and readers of different desks have different types.
-/// Who makes a desk picks it, in its proof.
+/// Says which history a type speaks of, so that receipts and readers of different desks have different types,
+/// and which limit its book has. Who makes a desk picks them, in its proof.
 pub trait Naming {
+    ghost use Rattle.std.specs.Prelude.{ℕ};
     ghost use Rattle.logbook.specs.Pages.{Book};
 
+    /// The history.
     ghost book: { Book };
+
+    /// How many events the desk's book accepts at most.
+    ghost limit: { ℕ };
 }
 
 impl Naming for Brand {
     ghost book = { record { number = 0; log_name = 0; cells_name = 0 } };
+
+    ghost limit = { 0 };
 }
 
 /// A history without a step, which no type names yet.

@@ -1,0 +1,150 @@
+//! The desk that threads share.
+
+ghost use Rattle.std.specs.Prelude.{◌≡◌, length, slice_get, IfOk, IfErr, OnOk, None};
+ghost use Rattle.std.specs.Arc.{arc_value};
+ghost use Rattle.trace_model.specs.Machine.{step};
+ghost use Rattle.trace_model.specs.Runs.{IsLegal};
+ghost use Rattle.trace_model.specs.declared.step.BoardStep.TheVariants as steps;
+ghost use Rattle.trace_model.specs.declared.session.Request.TheVariants as requests;
+ghost use Rattle.trace_model.specs.declared.session.Reply.TheVariants.{Placed, Refused};
+ghost use Rattle.findings.specs.Found.{AreRowsOf};
+ghost use Rattle.sequencer.specs.Book.{IsLimit, Refuses, RefusesSnapshot, answer_refusal, answer_reply, ask_refusal, opened_reply};
+ghost use Rattle.sequencer.specs.Printing.{printing};
+ghost use Rattle.sequencer.specs.Sessions.{delivery};
+ghost use Rattle.desk.specs.Published.{Afterwards, AtSomeTime, EndsBy, delivery_step};
+ghost use Rattle.desk.specs.Questions.{AreEventsOf, IsFirstMissing};
+ghost use Rattle.desk.specs.Refused.{IsCount, RefusesDesk, RefusesFinding};
+
+use crate::locked::{DeskRefused, Locked};
+use board::{BoardReader, Follows, Naming, Receipt, Shown};
+use findings::{Finding, Snapshot};
+use sequencer::{Answer, AnswerRefused, AskRefused, NoSuchQuestion, Opened};
+use std::alloc::Global;
+use std::hash::RandomState;
+use std::sync::{Arc, Mutex, Wait};
+use trace_model::{Event, Place, Refusal};
+
+/// A book that threads share, with the board that shows it. Each call takes the lock for its own work alone;
+/// the rows of a task are computed outside. What is said of a receipt is said of the steps that it names.
+#[derive(Drop)]
+pub struct Desk<N: Naming, R: Wait + Copy, T: Follows<N>> {
+    locked: Mutex<Locked<N, R, T>>,
+    rt: R,
+    pub(crate) alloc: Global,
+}
+
+impl<N: Naming, R: Wait + Copy> Desk<N, R, Shown<N>> {
+    /// A desk whose book accepts at most `max_events` events, and so many readers of its board. The history
+    /// must have just been opened.
+    ///
+    /// # Errors
+    ///
+    /// `BadLimit` where `max_events` is not 1 to `MAX_EVENTS`, then `BadCount` where the readers are not 1 to
+    /// 40, then `NotMade` where a growth was refused.
+    pub fn new(
+        alloc: Global,
+        state: RandomState,
+        rt: R,
+        opened: board::Opened,
+        max_events: u32,
+        readers: usize,
+    ) -> Result<(Desk<N, R, Shown<N>>, Vec<BoardReader<N>>), DeskRefused>
+        requires book { opened.seen.book ≡ N.book }
+        requires limit { max_events ≡ N.limit }
+        ensures readers { IfOk result (λ made. length made.1.items ≡ readers) }
+        ensures allowed { IfOk result (λ _. IsLimit max_events × IsCount readers) }
+        ensures refused { IfErr result (RefusesDesk max_events readers) }
+    {
+        let (locked, all) = Locked::new(alloc, state, rt, opened, max_events, readers)?;
+        let desk = Desk {
+            locked: Mutex::new(locked),
+            rt,
+            alloc,
+        };
+        Ok((desk, all))
+    }
+}
+
+impl<N: Naming, R: Wait + Copy, T: Follows<N>> Desk<N, R, T> {
+    /// Offers an event. The receipt of an accepted one ends with it.
+    ///
+    /// # Errors
+    ///
+    /// The book's refusal after all that the receipt names, and `NoMemory` where it has none. Nothing has
+    /// changed.
+    pub fn offer(&self, event: Event) -> (Result<Place, Refusal>, Receipt<N>)
+        ensures placed { IfOk result.0 (λ place. EndsBy N.limit result.1 (steps.Accept event) (λ state next. step printing state (requests.Offer event) ≡ (Placed place, next))) }
+        ensures refused { IfErr result.0 (λ refusal. Afterwards N.limit result.1 (λ state. Refuses state (requests.Offer event) (Refused refusal))) }
+        ensures legal { IsLegal result.1 }
+    {
+        self.locked.lock(&self.rt).offer(event)
+    }
+
+    /// Asks about the events so far. The receipt of an opened question ends with it.
+    ///
+    /// # Errors
+    ///
+    /// The book's refusal after all that the receipt names, and `NoMemory` where it has none. Nothing has
+    /// changed.
+    pub fn ask(&self, bound: u8) -> (Result<Opened, AskRefused>, Receipt<N>)
+        ensures opened { IfOk result.0 (λ opened. EndsBy N.limit result.1 (steps.Open bound opened.total) (λ state next. step printing state (requests.Ask bound) ≡ (opened_reply opened, next))) }
+        ensures refused { IfErr result.0 (λ refused. Afterwards N.limit result.1 (λ state. Refuses state (requests.Ask bound) (Refused (ask_refusal refused)))) }
+        ensures legal { IsLegal result.1 }
+    {
+        self.locked.lock(&self.rt).ask(bound)
+    }
+
+    /// Takes the rows of a task of a question. The receipt of what is taken ends with it.
+    ///
+    /// # Errors
+    ///
+    /// The book's refusal after all that the receipt names, and `NoMemory` where it has none, with the finding
+    /// handed back. Nothing has changed.
+    pub fn deliver(&self, finding: Finding) -> (Result<(), (Refusal, Finding)>, Receipt<N>)
+        ensures taken { OnOk result.0 (EndsBy N.limit result.1 (delivery_step finding) (λ state next. delivery state finding ≡ (None, next))) }
+        ensures exact { OnOk result.0 (AreRowsOf finding.events finding.bound finding.task finding.rows) }
+        ensures refused { IfErr result.0 (λ refused. Afterwards N.limit result.1 (λ state. RefusesFinding state finding refused.0)) }
+        ensures back { IfErr result.0 (λ refused. refused.1 ≡ finding) }
+        ensures legal { IsLegal result.1 }
+    {
+        self.locked.lock(&self.rt).deliver(finding)
+    }
+
+    /// What is known of the question after all that the receipt names: the report once all its tasks are
+    /// delivered.
+    ///
+    /// # Errors
+    ///
+    /// The book's refusal after all that the receipt names, and `NoMemory` where it has none.
+    pub fn answer(&self, question: u32) -> (Result<Answer, AnswerRefused>, Receipt<N>)
+        ensures told { IfOk result.0 (λ told. Afterwards N.limit result.1 (λ state. step printing state (requests.Answer question) ≡ (answer_reply question told, state))) }
+        ensures refused { IfErr result.0 (λ refused. Afterwards N.limit result.1 (λ state. Refuses state (requests.Answer question) (Refused (answer_refusal refused)))) }
+        ensures legal { IsLegal result.1 }
+    {
+        self.locked.lock(&self.rt).answer(question)
+    }
+
+    /// Exactly the events that the question is about, with what is needed to compute its tasks.
+    ///
+    /// # Errors
+    ///
+    /// `NoSuchQuestion`, or `NoMemory` where a growth was refused.
+    pub fn snapshot(&self, question: u32) -> Result<Arc<Snapshot, Global>, Refusal>
+        ensures ok { IfOk result (λ shared. AtSomeTime N.limit (λ state. AreEventsOf state question (arc_value shared))) }
+        ensures refused { IfErr result (λ refusal. AtSomeTime N.limit (λ state. RefusesSnapshot state question refusal)) }
+    {
+        self.locked.lock(&self.rt).snapshot(question)
+    }
+
+    /// The least task of the question that is not delivered; none where all are.
+    ///
+    /// # Errors
+    ///
+    /// `NoSuchQuestion`.
+    pub fn missing(&self, question: u32) -> Result<Option<u32>, NoSuchQuestion>
+        ensures ok { IfOk result (λ found. AtSomeTime N.limit (λ state. IsFirstMissing state question found)) }
+        ensures refused { IfErr result (λ _. AtSomeTime N.limit (λ state. slice_get state.questions question ≡ None)) }
+    {
+        self.locked.lock(&self.rt).missing(question)
+    }
+}

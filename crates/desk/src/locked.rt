@@ -1,0 +1,260 @@
+//! What lies under the lock.
+
+ghost use Rattle.std.specs.Prelude.{◌≡◌, [], ◌∷◌, ◌++◌, length, slice_get, IfOk, IfErr, OnOk, OnErr, None};
+ghost use Rattle.std.specs.Arc.{arc_value};
+ghost use Rattle.trace_model.specs.Machine.{opening, step};
+ghost use Rattle.trace_model.specs.Runs.{IsLegal};
+ghost use Rattle.trace_model.specs.declared.step.BoardStep.TheVariants as steps;
+ghost use Rattle.trace_model.specs.declared.session.Request.TheVariants as requests;
+ghost use Rattle.trace_model.specs.declared.session.Reply.TheVariants.{Placed, Refused};
+ghost use Rattle.findings.specs.Found.{AreRowsOf};
+ghost use Rattle.sequencer.specs.Book.{IsLimit, Refuses, RefusesSnapshot, answer_refusal, answer_reply, ask_refusal, opened_reply};
+ghost use Rattle.sequencer.specs.Printing.{printing};
+ghost use Rattle.sequencer.specs.Sessions.{delivery};
+ghost use Rattle.board.specs.Totals.{Shows};
+ghost use Rattle.desk.specs.Published.{After, delivery_step};
+ghost use Rattle.desk.specs.Questions.{AreEventsOf, IsFirstMissing};
+ghost use Rattle.desk.specs.Refused.{IsCount, RefusesDesk, RefusesFinding};
+
+use crate::replies::{ask_refused_in, opened_in, place_in, refusal_in};
+use board::{BoardReader, BoardWriter, Follows, Naming, Receipt, Shown, Summary, new_board};
+use findings::{Finding, Snapshot};
+use sequencer::{Answer, AnswerRefused, AskRefused, Book, NoSuchQuestion, Opened};
+use std::alloc::Global;
+use std::hash::RandomState;
+use std::marker::Model;
+use std::sync::{Arc, Wait};
+use thiserror::Error;
+use trace_model::{BoardStep, Event, Place, Refusal, Request};
+use witness::confirmed_in;
+
+/// The most readers of a desk.
+const MAX_READERS: usize = 40;
+
+/// Why a desk is not made.
+#[derive(Clone, Copy, Debug, PartialEq, Eq, Error)]
+pub enum DeskRefused {
+    #[error("the limit is not 1 to 1048576")]
+    BadLimit,
+    #[error("the readers are not 1 to 40")]
+    BadCount,
+    #[error("no memory for the desk")]
+    NotMade,
+}
+
+/// The book with the board's writer. Contracts see it as the published steps and the state of the book, which
+/// is the machine's after these steps.
+#[derive(Drop)]
+pub struct Locked<N: Naming, R: Wait + Copy, T: Follows<N>> {
+    book: Book,
+    board: BoardWriter<N, R, T>,
+}
+
+impl<N: Naming, R: Wait + Copy, T: Follows<N>> Model for Locked<N, R, T> {
+    ghost use Rattle.desk.specs.Published.{IsKept, Kept};
+
+    ghost Value = { Kept };
+
+    ghost view = { λ l. record { published = l.board.published; state = l.book.state } };
+
+    ghost invariant = { λ l. IsKept N.limit l.board.published l.board.waiting l.book.state };
+}
+
+impl<N: Naming, R: Wait + Copy> Locked<N, R, Shown<N>> {
+    /// A book without events, which accepts at most `max_events`, and a board that shows nothing, with so many
+    /// readers. The history must have just been opened.
+    ///
+    /// # Errors
+    ///
+    /// `BadLimit` where `max_events` is not 1 to `MAX_EVENTS`, then `BadCount` where the readers are not 1 to
+    /// 40, then `NotMade` where a growth was refused.
+    pub fn new(
+        alloc: Global,
+        state: RandomState,
+        rt: R,
+        opened: board::Opened,
+        max_events: u32,
+        readers: usize,
+    ) -> Result<(Locked<N, R, Shown<N>>, Vec<BoardReader<N>>), DeskRefused>
+        requires book { opened.seen.book ≡ N.book }
+        requires limit { max_events ≡ N.limit }
+        ensures published { IfOk result (λ made. made.0.published ≡ []) }
+        ensures state { IfOk result (λ made. made.0.state ≡ opening max_events) }
+        ensures readers { IfOk result (λ made. length made.1.items ≡ readers) }
+        ensures allowed { IfOk result (λ _. IsLimit max_events × IsCount readers) }
+        ensures refused { IfErr result (RefusesDesk max_events readers) }
+    {
+        let Ok(book) = Book::new(alloc, state, max_events) else {
+            return Err(DeskRefused::BadLimit);
+        };
+        if readers == 0 || readers > MAX_READERS {
+            return Err(DeskRefused::BadCount);
+        }
+        let (board, all) = new_board(alloc, rt, opened, readers).map_err(|_| DeskRefused::NotMade)?;
+        Ok((Locked { book, board }, all))
+    }
+}
+
+impl<N: Naming, R: Wait + Copy, T: Follows<N>> Locked<N, R, T> {
+    /// What the board shows: the summary of all that is published.
+    pub fn summary(&self) -> &Summary
+        ensures shown { Shows result.now self.now.published }
+        ensures after { After N.limit self.now.published self.now.state }
+    {
+        self.board.summary()
+    }
+
+    /// Offers an event. An accepted one gets its place and is published. The receipt names all that is then
+    /// published.
+    ///
+    /// # Errors
+    ///
+    /// The book's refusal, and `NoMemory` where it has none. Nothing has changed.
+    pub fn offer(&mut self, event: Event) -> (Result<Place, Refusal>, Receipt<N>)
+        ensures before { After N.limit self.old.published self.old.state }
+        ensures after { After N.limit self.new.published self.new.state }
+        ensures placed { IfOk result.0 (λ place. step printing self.old.state (requests.Offer event) ≡ (Placed place, self.new.state)) }
+        ensures published { OnOk result.0 (self.new.published ≡ self.old.published ++ steps.Accept event ∷ []) }
+        ensures refused { IfErr result.0 (λ refusal. Refuses self.old.state (requests.Offer event) (Refused refusal)) }
+        ensures same { OnErr result.0 (self.new ≡ self.old) }
+        ensures receipt { result.1 ≡ self.new.published }
+        ensures legal { IsLegal self.new.published }
+    {
+        let planned = match self.book.prepare(&Request::Offer(event)) {
+            Ok(planned) => planned,
+            Err(reply) => return (Err(refusal_in(&reply)), self.board.receipt()),
+        };
+        let Ok(()) = self.board.grow(BoardStep::Accept(event)) else {
+            return (Err(Refusal::NoMemory), self.board.receipt());
+        };
+        let place = place_in(&self.book.commit(planned));
+        (Ok(place), publish(&mut self.board))
+    }
+
+    /// Asks about the present events. An opened question is published. The receipt names all that is then
+    /// published.
+    ///
+    /// # Errors
+    ///
+    /// The book's refusal, and `NoMemory` where it has none. Nothing has changed.
+    pub fn ask(&mut self, bound: u8) -> (Result<Opened, AskRefused>, Receipt<N>)
+        ensures before { After N.limit self.old.published self.old.state }
+        ensures after { After N.limit self.new.published self.new.state }
+        ensures opened { IfOk result.0 (λ opened. step printing self.old.state (requests.Ask bound) ≡ (opened_reply opened, self.new.state)) }
+        ensures published { IfOk result.0 (λ opened. self.new.published ≡ self.old.published ++ steps.Open bound opened.total ∷ []) }
+        ensures refused { IfErr result.0 (λ refused. Refuses self.old.state (requests.Ask bound) (Refused (ask_refusal refused))) }
+        ensures same { OnErr result.0 (self.new ≡ self.old) }
+        ensures receipt { result.1 ≡ self.new.published }
+        ensures legal { IsLegal self.new.published }
+    {
+        let planned = match self.book.prepare(&Request::Ask(bound)) {
+            Ok(planned) => planned,
+            Err(reply) => return (Err(ask_refused_in(&reply)), self.board.receipt()),
+        };
+        let opened = opened_in(planned.reply());
+        let total = opened.total;
+        let Ok(()) = self.board.grow(BoardStep::Open { bound, total }) else {
+            return (Err(AskRefused::NoMemory), self.board.receipt());
+        };
+        let _ = self.book.commit(planned);
+        (Ok(opened), publish(&mut self.board))
+    }
+
+    /// Takes the rows of a task of a question. What is taken is published. The receipt names all that is then
+    /// published.
+    ///
+    /// # Errors
+    ///
+    /// The book's refusal, and `NoMemory` where it has none, with the finding handed back. Nothing has changed.
+    pub fn deliver(&mut self, finding: Finding) -> (Result<(), (Refusal, Finding)>, Receipt<N>)
+        ensures before { After N.limit self.old.published self.old.state }
+        ensures after { After N.limit self.new.published self.new.state }
+        ensures taken { OnOk result.0 (delivery self.old.state finding ≡ (None, self.new.state)) }
+        ensures published { OnOk result.0 (self.new.published ≡ self.old.published ++ delivery_step finding ∷ []) }
+        ensures exact { OnOk result.0 (AreRowsOf finding.events finding.bound finding.task finding.rows) }
+        ensures refused { IfErr result.0 (λ refused. RefusesFinding self.old.state finding refused.0) }
+        ensures back { IfErr result.0 (λ refused. refused.1 ≡ finding) }
+        ensures same { OnErr result.0 (self.new ≡ self.old) }
+        ensures receipt { result.1 ≡ self.new.published }
+        ensures legal { IsLegal self.new.published }
+    {
+        if let Err(refusal) = self.book.admits(&finding) {
+            return (Err((refusal, finding)), self.board.receipt());
+        }
+        let Ok(()) = self.board.grow(step_of(&finding)) else {
+            return (Err((Refusal::NoMemory, finding)), self.board.receipt());
+        };
+        self.book.take(finding);
+        (Ok(()), publish(&mut self.board))
+    }
+
+    /// What is known of the question: the report once all its tasks are delivered. The receipt names all that
+    /// is published. Nothing changes.
+    ///
+    /// # Errors
+    ///
+    /// The book's refusal, and `NoMemory` where it has none.
+    pub fn answer(&mut self, question: u32) -> (Result<Answer, AnswerRefused>, Receipt<N>)
+        ensures before { After N.limit self.old.published self.old.state }
+        ensures told { IfOk result.0 (λ told. step printing self.old.state (requests.Answer question) ≡ (answer_reply question told, self.old.state)) }
+        ensures refused { IfErr result.0 (λ refused. Refuses self.old.state (requests.Answer question) (Refused (answer_refusal refused))) }
+        ensures same { self.new ≡ self.old }
+        ensures receipt { result.1 ≡ self.new.published }
+        ensures legal { IsLegal self.new.published }
+    {
+        (self.book.answer(question), self.board.receipt())
+    }
+
+    /// Exactly the events that the question is about, with what is needed to compute its tasks.
+    ///
+    /// # Errors
+    ///
+    /// `NoSuchQuestion`, or `NoMemory` where a growth was refused.
+    pub fn snapshot(&self, question: u32) -> Result<Arc<Snapshot, Global>, Refusal>
+        ensures now { After N.limit self.now.published self.now.state }
+        ensures ok { IfOk result (λ shared. AreEventsOf self.now.state question (arc_value shared)) }
+        ensures refused { IfErr result (RefusesSnapshot self.now.state question) }
+    {
+        self.book.snapshot(question)
+    }
+
+    /// The least task of the question that is not delivered; none where all are. It takes no memory.
+    ///
+    /// # Errors
+    ///
+    /// `NoSuchQuestion`.
+    pub fn missing(&self, question: u32) -> Result<Option<u32>, NoSuchQuestion>
+        ensures now { After N.limit self.now.published self.now.state }
+        ensures ok { IfOk result (IsFirstMissing self.now.state question) }
+        ensures refused { IfErr result (λ _. slice_get self.now.state.questions question ≡ None) }
+    {
+        self.book.missing(question)
+    }
+}
+
+/// Publishes the step that waits, and names all that is then published.
+fn publish<N: Naming, R: Wait + Copy, T: Follows<N>>(
+    writer: &mut BoardWriter<N, R, T>,
+) -> Receipt<N>
+    requires waits { length writer.old.waiting ≡ 1 }
+    requires legal { IsLegal (writer.old.published ++ writer.old.waiting) }
+    ensures published { writer.new.published ≡ writer.old.published ++ writer.old.waiting }
+    ensures waiting { writer.new.waiting ≡ [] }
+    ensures receipt { result ≡ writer.new.published }
+{
+    writer.publish();
+    writer.receipt()
+}
+
+/// The step that a finding is published as.
+fn step_of(finding: &Finding) -> BoardStep
+    ensures { result ≡ delivery_step finding.now }
+{
+    let rows = finding.rows();
+    BoardStep::Deliver {
+        question: finding.question(),
+        task: finding.task(),
+        cycles: rows.len() as u32,
+        confirmed: confirmed_in(rows) as u32,
+    }
+}

@@ -1,0 +1,181 @@
+//! Workers, which compute the rows of tasks with the lock free.
+
+ghost use Rattle.std.specs.Prelude.{◌≡◌, ◌≢◌, ◌<◌, slice_get, IfSome, IfErr, Some};
+ghost use mathlib.Core.List.{IsPrefix};
+ghost use Rattle.findings.specs.Found.{FoundRows};
+ghost use Rattle.desk.specs.Published.{WasTaken};
+
+use crate::desk::Desk;
+use board::{BoardReader, Follows, Naming, QuestionSummary, Summary};
+use claims::Claimant;
+use findings::{ComputeRefused, Finding};
+use std::marker::Model;
+use std::sync::{Arc, Wait};
+use trace_model::{Bound, MAX_QUESTIONS, Refusal};
+
+/// What a worker calls once a task is computed, before it delivers it. A test's may keep it there.
+pub trait Hold {
+    fn hold(&self, question: u32, task: u32);
+}
+
+/// Why a turn got no further.
+#[derive(Clone, Copy, Debug, PartialEq, Eq)]
+pub enum Failed {
+    NoMemory,
+    BoardBusy,
+    TooManyCycles,
+}
+
+impl Failed {
+    ghost use Rattle.desk.specs.Refused.{failure};
+
+    /// Its place among all refusals.
+    pub fn refusal(self) -> Refusal
+        ensures { result ≡ failure self }
+    {
+        match self {
+            Failed::NoMemory => Refusal::NoMemory,
+            Failed::BoardBusy => Refusal::BoardBusy,
+            Failed::TooManyCycles => Refusal::TooManyCycles,
+        }
+    }
+}
+
+/// What a turn did.
+#[derive(Clone, Copy, Debug, PartialEq, Eq)]
+pub enum Turn {
+    /// The rows of a task were computed and taken.
+    Delivered,
+    /// The desk refused what was asked of it.
+    Refused(Refusal),
+    Failed(Failed),
+    /// No task is missing.
+    Idle,
+}
+
+/// Computes tasks for a desk. Contracts see it as the steps that it has seen or was told of.
+#[derive(Drop)]
+pub struct Worker<N: Naming, R: Wait + Copy, T: Follows<N>> {
+    desk: Arc<Desk<N, R, T>>,
+    claimant: Claimant,
+    reader: BoardReader<N>,
+}
+
+impl<N: Naming, R: Wait + Copy, T: Follows<N>> Model for Worker<N, R, T> {
+    ghost use Rattle.std.specs.Prelude.{List};
+    ghost use Rattle.trace_model.specs.declared.step.BoardStep.{BoardStep};
+
+    ghost Value = { List BoardStep };
+
+    ghost view = { λ w. w.reader };
+}
+
+impl<N: Naming, R: Wait + Copy, T: Follows<N>> Worker<N, R, T> {
+    /// A worker at the desk. What it draws no other claimant of its call draws.
+    pub fn new(
+        desk: Arc<Desk<N, R, T>>,
+        claimant: Claimant,
+        reader: BoardReader<N>,
+    ) -> Worker<N, R, T>
+        ensures { result ≡ reader }
+    {
+        Worker {
+            desk,
+            claimant,
+            reader,
+        }
+    }
+
+    /// Takes a task of the least question that is not settled: one that it draws, or the least missing one
+    /// once all are drawn. Computes its rows with the lock free, calls the hold, and delivers. What it
+    /// delivered it has seen then.
+    pub fn turn(&mut self, hold: &impl Hold) -> Turn
+        ensures later { IsPrefix self.old self.new }
+        ensures delivered { result ≡ Turn.Delivered → (finding : FoundRows) × WasTaken N.limit finding self.new }
+    {
+        let Ok(summary) = self.reader.status() else {
+            return Turn::Failed(Failed::BoardBusy);
+        };
+        let Some((question, asked)) = least_unsettled(&summary) else {
+            return Turn::Idle;
+        };
+        let Some(bound) = Bound::new(asked.bound) else {
+            unreachable!()
+        };
+        let Some(task) = self.pick(question, asked.total) else {
+            return Turn::Idle;
+        };
+        match self.compute(u32::from(question), bound, task) {
+            Ok(finding) => {
+                hold.hold(u32::from(question), task);
+                self.deliver(finding)
+            }
+            Err(turn) => turn,
+        }
+    }
+
+    /// A task of the question that no other worker drew, or the least missing one.
+    fn pick(&mut self, question: u8, total: u32) -> Option<u32>
+        ensures { self.new ≡ self.old }
+    {
+        if let Ok(number) = self.claimant.draw(question)
+            && number < u64::from(total)
+        {
+            return Some(number as u32);
+        }
+        self.desk.missing(u32::from(question)).ok().flatten()
+    }
+
+    /// Computes the rows of the task, with the lock free.
+    fn compute(&self, question: u32, bound: Bound, task: u32) -> Result<Finding, Turn>
+        ensures { IfErr result (λ turn. turn ≢ Turn.Delivered) }
+    {
+        let shared = match self.desk.snapshot(question) {
+            Ok(shared) => shared,
+            Err(refusal) => return Err(refused(refusal)),
+        };
+        match Finding::compute(self.desk.alloc, shared, question, bound, task) {
+            Ok(finding) => Ok(finding),
+            Err(ComputeRefused::TooManyCycles) => Err(Turn::Failed(Failed::TooManyCycles)),
+            Err(ComputeRefused::NoMemory) => Err(Turn::Failed(Failed::NoMemory)),
+        }
+    }
+
+    /// Delivers, and learns the receipt.
+    fn deliver(&mut self, finding: Finding) -> Turn
+        ensures later { IsPrefix self.old self.new }
+        ensures delivered { result ≡ Turn.Delivered → WasTaken N.limit finding self.new }
+    {
+        let (delivered, receipt) = self.desk.deliver(finding);
+        self.reader.learn(&receipt);
+        match delivered {
+            Ok(()) => Turn::Delivered,
+            Err((refusal, _)) => refused(refusal),
+        }
+    }
+}
+
+/// The least question that is not settled, with what is shown of it.
+fn least_unsettled(summary: &Summary) -> Option<(u8, QuestionSummary)>
+    ensures shown { IfSome result (λ one. (one.0 < summary.now.opened) × (slice_get summary.now.questions one.0 ≡ Some one.1)) }
+    ensures unsettled { IfSome result (λ one. one.1.delivered < one.1.total) }
+{
+    for number in 0..MAX_QUESTIONS {
+        match summary.question(number as u32) {
+            Some(asked) if asked.delivered < asked.total => return Some((number as u8, asked)),
+            Some(_) => {}
+            None => return None,
+        }
+    }
+    None
+}
+
+/// The turn that the desk refused so.
+fn refused(refusal: Refusal) -> Turn
+    ensures { result ≢ Turn.Delivered }
+{
+    match refusal {
+        Refusal::NoMemory => Turn::Failed(Failed::NoMemory),
+        _ => Turn::Refused(refusal),
+    }
+}
