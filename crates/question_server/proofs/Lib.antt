@@ -1,0 +1,7 @@
+pub mod Puts
+pub mod Held
+pub mod Answering
+pub mod SessionTurns
+pub mod Machines
+pub mod Reports
+pub mod Told

@@ -1,0 +1,43 @@
+-- The calls of a book are those of the machine.
+use Rattle.std.proofs.Common.{◌≡◌, ℕ, List, [], ◌∷◌, ◌++◌, Option, Result, inl, inr, refl, sym, ap, ◌∙◌}
+use Rattle.std.proofs.lemmas.List.Elements.{All-head, All-tail}
+use Rattle.trace_model.specs.declared.session.Request.{Request}
+use Rattle.trace_model.specs.declared.session.Reply.{Reply}
+use Rattle.trace_model.specs.declared.session.Reply.TheVariants.{Refused}
+use Rattle.trace_model.specs.declared.refusal.Refusal.TheVariants.{NoMemory}
+use Rattle.trace_model.specs.Replies.{reply_frame}
+use Rattle.trace_model.specs.Machine.{State, step}
+use Rattle.sequencer.specs.Book.{Kept}
+use Rattle.sequencer.specs.Drains.{state_called, answer_to}
+use Rattle.sequencer.specs.Printing.{printing}
+use Rattle.question_server.specs.Serving.{Call, Chain, Served, requests_called, frames_of}
+use Rattle.question_server.specs.Books.{StepsOrMemory, NoneLacksMemory, AreMachines, ServedByMachine}
+use Rattle.question_server.specs.declared.sessions.Ended.{Ended}
+use Rattle.question_server.specs.declared.sessions.ServeFault.{ServeFault}
+
+abbrev pub BookSteps : Kept → Request → Reply → Kept → Type 0
+BookSteps old request reply new = StepsOrMemory old.state request reply new.state
+
+chain_states : (old new : Kept) (calls : List Call) → Chain BookSteps old calls new → Chain StepsOrMemory old.state calls new.state
+chain_states old new [] e = ap (λ (b : Kept). b.state) e
+chain_states old new (call ∷ calls) c = (c.0.state, (c.1.0, chain_states c.0 new calls c.1.1))
+
+machine_chain : (old new : State) (calls : List Call) → Chain StepsOrMemory old calls new → AreMachines old calls new
+machine_chain old new [] e none = (e, refl)
+machine_chain old new (call ∷ calls) c none =
+    let rest = machine_chain c.0 new calls c.1.1 (All-tail (λ (call : Call). call.1 ≡ Refused NoMemory → ⊥) call calls none) in
+    elim c.1.0 [
+      | inl s ↦ (
+        rest.0 ∙ ap (λ (p : Reply × State). state_called p.1 (requests_called calls)) (sym s),
+        ap (λ (x : List ℕ). reply_frame call.1 ++ x) rest.1 ∙ ap (λ (p : Reply × State). reply_frame p.0 ++ answer_to p.1 (requests_called calls)) (sym s),
+      )
+      | inr m ↦ absurd (All-head (λ (call : Call). call.1 ≡ Refused NoMemory → ⊥) call calls none m.0)
+    ]
+
+pub served_by_machine : (left written : Option (List ℕ)) (old : Kept) (left' written' sent' : Option (List ℕ)) (new : Kept) (result : Result Ended ServeFault) → Served BookSteps left written old left' written' sent' new result → ServedByMachine left written old.state left' written' sent' new.state result
+served_by_machine left written old left' written' sent' new result s =
+    let chain = chain_states old new s.done s.chain in
+    record {
+      served = record { text = s.text; took = s.took; done = s.done; chain = chain; out = s.out; put = s.put; ends = s.ends; went = s.went; at_end = s.at_end };
+      machine = machine_chain old.state new.state s.done chain;
+    }

@@ -1,0 +1,55 @@
+-- Bytes that are written or read one part after another.
+use Rattle.std.proofs.Common.{◌≡◌, ℕ, ◌+◌, ◌-◌, ◌≤◌, List, [], ◌++◌, length, take, drop, Option, None, Some, refl, sym, ap, subst, ◌∙◌, append_assoc, arith}
+use Rattle.std.specs.Io.KnownBytes.{Consumes, Appends, Keeps}
+use Rattle.std.proofs.lemmas.List.{append-nil, take_all, length-drop, drop-take, take-append-drop}
+use Rattle.std.proofs.lemmas.Grind.{common_steps}
+
+pub put_none : (old : Option (List ℕ)) → Appends old old []
+put_none None = tt
+put_none (Some front) = sym (append-nil front)
+
+pub put_then : (old mid new : Option (List ℕ)) (x y : List ℕ) → Appends old mid x → Appends mid new y → Appends old new (x ++ y)
+put_then None mid new x y p q = tt
+put_then (Some front) None new x y p q = absurd p
+put_then (Some front) (Some middle) None x y p q = absurd q
+put_then (Some front) (Some middle) (Some back) x y p q = q ∙ (ap (λ (f : List ℕ). f ++ y) p ∙ append_assoc front x y)
+
+pub put_kept : (old mid new : Option (List ℕ)) (x : List ℕ) → Appends old mid x → Keeps mid new → Appends old new x
+put_kept None mid new x p k = tt
+put_kept (Some front) None new x p k = absurd p
+put_kept (Some front) (Some middle) None x p k = absurd k
+put_kept (Some front) (Some middle) (Some back) x p k = k ∙ p
+
+pub took_none : (old : Option (List ℕ)) → Consumes old old []
+took_none None = tt
+took_none (Some rest) = refl
+
+pub took_then : (old mid new : Option (List ℕ)) (x y : List ℕ) → Consumes old mid x → Consumes mid new y → Consumes old new (x ++ y)
+took_then None mid new x y p q = tt
+took_then (Some whole) None new x y p q = absurd p
+took_then (Some whole) (Some middle) None x y p q = absurd q
+took_then (Some whole) (Some middle) (Some rest) x y p q = p ∙ (ap (λ (r : List ℕ). x ++ r) q ∙ sym (append_assoc x y rest))
+
+-- so many of the bytes are written
+pub record IsPut (old now : Option (List ℕ)) (failures failures' : ℕ) (bytes : List ℕ) (n : ℕ) : Type 0 where
+  pub within : n ≤ length bytes
+  pub put : Appends old now (take n bytes)
+  pub same : failures' ≡ failures
+
+take-take_front : (bytes : List ℕ) (at n : ℕ) → take at (take (at + n) bytes) ≡ take at bytes
+take-take_front bytes at n = grind (arith, common_steps)
+
+take_on : (bytes : List ℕ) (at n : ℕ) → take (at + n) bytes ≡ take at bytes ++ take n (drop at bytes)
+take_on bytes at n =
+    let both : drop at (take (at + n) bytes) ≡ take n (drop at bytes) = drop-take at n bytes in
+    let front : take at (take (at + n) bytes) ≡ take at bytes = take-take_front bytes at n in
+    sym (take-append-drop at (take (at + n) bytes)) ∙ (ap (λ (x : List ℕ). x ++ drop at (take (at + n) bytes)) front ∙ ap (λ (x : List ℕ). take at bytes ++ x) both)
+
+pub put_on : (old now next : Option (List ℕ)) (failures failures' failures'' : ℕ) (bytes : List ℕ) (at n : ℕ) → IsPut old now failures failures' bytes at → n ≤ length (take (length bytes - at) (drop at bytes)) → Appends now next (take n (take (length bytes - at) (drop at bytes))) → failures'' ≡ failures' → IsPut old next failures failures'' bytes (at + n)
+put_on old now next failures failures' failures'' bytes at n p le q e =
+    let rest : take (length bytes - at) (drop at bytes) ≡ drop at bytes = take_all (length bytes - at) (drop at bytes) (omega (arith, length-drop at bytes)) in
+    record {
+      within = omega (arith, ap length rest, length-drop at bytes, p.within);
+      put = subst (λ (x : List ℕ). Appends old next x) (sym (take_on bytes at n)) (put_then old now next (take at bytes) (take n (drop at bytes)) p.put (subst (λ (x : List ℕ). Appends now next (take n x)) rest q));
+      same = e ∙ p.same;
+    }

@@ -1,0 +1,5 @@
+pub mod Serving
+pub mod Pending
+pub mod Books
+pub mod Offline
+pub mod Clients

@@ -1,0 +1,139 @@
+-- What a session does to its ends.
+use Rattle.std.specs.Prelude.{◌≡◌, ℕ, ◌<◌, Bool, true, List, [], ◌∷◌, ◌++◌, map, Option, None, Some, Result, Ok, Err, option_to_list}
+use Rattle.std.specs.List.{flat_map}
+use Rattle.std.specs.Io.KnownBytes.{Consumes, Appends, IsAtEnd}
+use Rattle.trace_model.specs.declared.session.Request.{Request}
+use Rattle.trace_model.specs.declared.session.Reply.{Reply}
+use Rattle.trace_model.specs.declared.session.Reply.TheVariants.{Fault as FaultReply}
+use Rattle.trace_model.specs.declared.session.Fault.{Fault}
+use Rattle.trace_model.specs.Frames.{requests_in, fault_in}
+use Rattle.trace_model.specs.Replies.{reply_frame}
+use Rattle.question_server.specs.declared.sessions.Ended.{Ended}
+use Rattle.question_server.specs.declared.sessions.Ended.TheVariants.{Input, Frame}
+use Rattle.question_server.specs.declared.sessions.ServeFault.{ServeFault}
+use Rattle.question_server.specs.declared.sessions.ServeFault.TheVariants.{Read, Write, Memory}
+use Rattle.event_frames.specs.Reader.{Reading, HasRead}
+
+-- the known bytes are a beginning of the others
+abbrev pub IsBeginning : Option (List ℕ) → Option (List ℕ) → Type 0
+IsBeginning None whole = Unit {0}
+IsBeginning (Some front) None = ⊥
+IsBeginning (Some front) (Some whole) = (rest : List ℕ) × (front ++ rest ≡ whole)
+
+-- ---- calls
+
+-- a request and its reply
+abbrev pub Call : Type 0
+Call = Request × Reply
+
+-- these calls lead from one state to the other, one after the other
+abbrev pub Chain : {C : Type 0} → (C → Request → Reply → C → Type 0) → C → List Call → C → Type 0
+Chain steps old [] new = new ≡ old
+Chain {C} steps old (call ∷ calls) new = (mid : C) × (steps old call.0 call.1 mid × Chain steps mid calls new)
+
+abbrev pub requests_called : List Call → List Request
+requests_called calls = map (λ (c : Call). c.0) calls
+
+abbrev pub frames_of : List Call → List ℕ
+frames_of calls = flat_map (λ (c : Call). reply_frame c.1) calls
+
+abbrev pub fault_frames : Option Fault → List ℕ
+fault_frames None = []
+fault_frames (Some fault) = reply_frame (FaultReply fault)
+
+-- the fault is owed once no request is left
+abbrev pub owed_fault : List Request → Option Fault → List ℕ
+owed_fault [] fault = fault_frames fault
+owed_fault (request ∷ requests) fault = []
+
+-- ---- a whole session
+
+-- each request of the text was called
+abbrev pub CallsAll : List ℕ → List Call → Type 0
+CallsAll text done = requests_called done ≡ requests_in text
+
+-- Of the calls that these bytes answer, each but the last has its reply written whole; then comes a part of what
+-- is owed next: the reply to the last call, and the fault if no request is left.
+pub record AreBegun (done : List Call) (out owed : List ℕ) : Type 0 where
+  pub whole : List Call
+  pub last : Option Call
+  pub called : done ≡ whole ++ option_to_list last
+  pub part : List ℕ
+  pub rest : List ℕ
+  pub written : out ≡ frames_of whole ++ part
+  pub goes_on : part ++ rest ≡ frames_of (option_to_list last) ++ owed
+
+-- The calls and what was written are a beginning of what the text asks for.
+pub record Begins (text : List ℕ) (done : List Call) (out : List ℕ) : Type 0 where
+  pub more : List Request
+  pub called : requests_called done ++ more ≡ requests_in text
+  pub ended : Bool
+  pub begun : AreBegun done out (owed_fault more (fault_in text ended))
+
+-- how a session may end, by the text that was read, the calls and what was written
+abbrev pub EndsAs : Result Ended ServeFault → List ℕ → List Call → List ℕ → Type 0
+EndsAs (Ok Input) text done out = CallsAll text done × (fault_in text true ≡ None) × (out ≡ frames_of done)
+EndsAs (Ok (Frame fault)) text done out = CallsAll text done × ((ended : Bool) × (fault_in text ended ≡ Some fault)) × (out ≡ frames_of done ++ reply_frame (FaultReply fault))
+EndsAs (Err Read) text done out = CallsAll text done × (out ≡ frames_of done)
+EndsAs (Err Write) text done out = Begins text done out
+EndsAs (Err Memory) text done out = Begins text done out
+
+-- all that was written went out, or a beginning of it where the session broke off
+abbrev pub WentOut : Result Ended ServeFault → Option (List ℕ) → Option (List ℕ) → Type 0
+WentOut (Ok ended) sent written = sent ≡ written
+WentOut (Err Read) sent written = sent ≡ written
+WentOut (Err Write) sent written = IsBeginning sent written
+WentOut (Err Memory) sent written = IsBeginning sent written
+
+-- where the input ended, nothing is left of it
+abbrev pub ReadsOn : Result Ended ServeFault → Option (List ℕ) → Type 0
+ReadsOn (Ok Input) left = IsAtEnd left
+ReadsOn _ left = Unit {0}
+
+-- A text was read, its requests were called one after the other, and their replies written.
+pub record Served {C : Type 0} (steps : C → Request → Reply → C → Type 0) (left : Option (List ℕ)) (written : Option (List ℕ)) (calls : C) (left' : Option (List ℕ)) (written' : Option (List ℕ)) (sent' : Option (List ℕ)) (calls' : C) (result : Result Ended ServeFault) : Type 0 where
+  pub text : List ℕ
+  pub took : Consumes left left' text
+  pub done : List Call
+  pub chain : Chain steps calls done calls'
+  pub out : List ℕ
+  pub put : Appends written written' out
+  pub ends : EndsAs result text done out
+  pub went : WentOut result sent' written'
+  pub at_end : ReadsOn result left'
+
+-- a fault of the source or the sink is answered only where its count rose
+abbrev pub Counts : Result Ended ServeFault → ℕ → ℕ → ℕ → ℕ → Type 0
+Counts (Err Read) reads reads' writes writes' = reads < reads'
+Counts (Err Write) reads reads' writes writes' = writes < writes'
+Counts (Err Memory) reads reads' writes writes' = Unit {0}
+Counts (Ok ended) reads reads' writes writes' = Unit {0}
+
+-- ---- what a reader has
+
+-- all that the reader had was called and answered, and then its fault was told
+pub record Answered {C : Type 0} (steps : C → Request → Reply → C → Type 0) (calls : C) (reader : Reading) (written : Option (List ℕ)) (calls' : C) (reader' : Reading) (written' : Option (List ℕ)) (fault : Option Fault) : Type 0 where
+  pub fresh : List Call
+  pub chain : Chain steps calls fresh calls'
+  pub called : requests_called fresh ≡ requests_in reader.rest
+  pub stands : fault_in reader.rest reader.ended ≡ fault
+  pub put : Appends written written' (frames_of fresh ++ fault_frames fault)
+  pub told : reader'.told ≡ fault
+  pub ended : reader'.ended ≡ reader.ended
+  pub read : (text : List ℕ) (given : List Request) → HasRead text given reader → HasRead text (requests_in text) reader'
+
+-- a beginning of it was called, and a beginning of what was owed for that was written
+pub record Broken {C : Type 0} (steps : C → Request → Reply → C → Type 0) (calls : C) (reader : Reading) (written : Option (List ℕ)) (calls' : C) (written' : Option (List ℕ)) : Type 0 where
+  pub fresh : List Call
+  pub chain : Chain steps calls fresh calls'
+  pub more : List Request
+  pub called : requests_called fresh ++ more ≡ requests_in reader.rest
+  pub out : List ℕ
+  pub begun : AreBegun fresh out (owed_fault more (fault_in reader.rest reader.ended))
+  pub put : Appends written written' out
+
+-- A write fault comes only where the count rose; a read fault doesn't come here.
+abbrev pub IsCounted : ServeFault → ℕ → ℕ → Type 0
+IsCounted Write before after = before < after
+IsCounted Memory before after = Unit {0}
+IsCounted Read before after = ⊥

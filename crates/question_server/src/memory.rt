@@ -1,0 +1,89 @@
+//! Ends of a session over memory.
+ghost use Rattle.std.specs.Prelude.{◌≡◌, ◌≤◌, ℕ, List, [], drop, Some, vec_len};
+ghost use Rattle.std.proofs.lemmas.List.{append-nil};
+
+use crate::counting::count_failure;
+use crate::ends::{Failed, Sink, Source};
+use std::alloc::Global;
+use std::sync::Wait;
+
+/// Bytes in memory, read to their end. It never fails.
+#[derive(Drop)]
+pub struct MemorySource {
+    bytes: Vec<u8>,
+    at: usize,
+    ghost within: { at ≤ vec_len bytes },
+}
+
+impl MemorySource {
+    /// A source of these bytes.
+    pub fn new(bytes: Vec<u8>) -> MemorySource
+        ensures { ⟦<MemorySource as Source>⟧.left result ≡ Some bytes.items }
+    {
+        MemorySource { bytes, at: 0 }
+    }
+}
+
+impl Source for MemorySource {
+    ghost left = { λ s. Some (drop s.at s.bytes.items) };
+
+    ghost failures = { λ _. 0 };
+
+    fn read<R: Wait>(&mut self, rt: &R, buffer: &mut [u8]) -> Result<usize, Failed> {
+        let _ = rt;
+        let len = buffer.len().min(self.bytes.len() - self.at);
+        buffer[..len].copy_from_slice(&self.bytes[self.at..self.at + len]);
+        self.at += len;
+        Ok(len)
+    }
+}
+
+/// Keeps in memory what is written. It fails where a growth is refused.
+#[derive(Drop)]
+pub struct MemorySink {
+    bytes: Vec<u8>,
+    failures: u64,
+}
+
+impl MemorySink {
+    /// A sink that took nothing.
+    pub fn new(alloc: Global) -> MemorySink
+        ensures written { ⟦<MemorySink as Sink>⟧.written result ≡ Some [] }
+        ensures failures { ⟦<MemorySink as Sink>⟧.failures result ≡ 0 }
+    {
+        MemorySink {
+            bytes: Vec::new(alloc),
+            failures: 0,
+        }
+    }
+
+    /// The bytes that were written.
+    pub fn bytes(&self) -> &[u8]
+        ensures { ⟦<MemorySink as Sink>⟧.written self.now ≡ Some result.now }
+    {
+        self.bytes.as_slice()
+    }
+}
+
+impl Sink for MemorySink {
+    ghost written = { λ s. Some s.bytes.items };
+
+    ghost sent = { λ s. Some s.bytes.items };
+
+    ghost failures = { λ s. s.failures };
+
+    fn write<R: Wait>(&mut self, rt: &R, bytes: &[u8]) -> Result<usize, Failed> {
+        if self.bytes.extend_from_slice(bytes).is_err() {
+            self.failures = count_failure(rt, self.failures);
+            return Err(Failed);
+        }
+        Ok(bytes.len())
+    }
+
+    fn send<R: Wait>(&mut self, rt: &R) -> Result<(), Failed> {
+        let _ = rt;
+        Ok(())
+    }
+
+    ghost begins = { λ s. ([], append-nil s.bytes.items) };
+}
