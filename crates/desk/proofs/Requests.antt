@@ -1,16 +1,15 @@
 -- What the machine's replies to a request are.
-use Rattle.std.proofs.Common.{◌≡◌, ℕ, ◌<◌, ◌||◌, nat_le, nat_lt, Bool, true, false, if◌then◌else◌, List, [], ◌∷◌, ◌++◌, length, Option, Some, None, inl, inr, refl, sym, ap, subst, ◌∙◌, arith, length-append}
+use Rattle.std.proofs.Common.{◌≡◌, ℕ, ◌||◌, nat_le, nat_lt, Bool, true, false, if◌then◌else◌, List, [], ◌∷◌, ◌++◌, length, Option, Some, None, inl, inr, refl, sym, ap, subst, ◌∙◌, arith, length-append}
 use Rattle.trace_model.specs.declared.event.Event.{Event}
 use Rattle.trace_model.specs.declared.refusal.Refusal.{Refusal}
 use Rattle.trace_model.specs.declared.refusal.Refusal.TheVariants.{NoMemory, BadBound, TooManyQuestions}
 use Rattle.trace_model.specs.declared.limits.TheConstants.{MIN_BOUND, MAX_BOUND, MAX_QUESTIONS}
-use Rattle.trace_model.specs.declared.session.Request.{Request}
 use Rattle.trace_model.specs.declared.session.Request.TheVariants.{Offer, Ask}
 use Rattle.trace_model.specs.declared.session.Reply.{Reply}
 use Rattle.trace_model.specs.declared.session.Reply.TheVariants.{Placed, Refused}
 use Rattle.trace_model.specs.Lawful.{refusal_of}
 use Rattle.trace_model.specs.Dependencies.{dependencies}
-use Rattle.trace_model.specs.Machine.{Question, State, ask, ask_next, ask_refused, ask_reply, offer, offer_next, offer_reply, step, with_event, with_question}
+use Rattle.trace_model.specs.Machine.{State, ask_next, ask_refused, ask_reply, offer_next, offer_reply, step}
 use Rattle.sequencer.specs.declared.asking.AskRefused.{AskRefused}
 use Rattle.sequencer.specs.declared.asking.AskRefused.TheVariants as NoOpening
 use Rattle.sequencer.specs.declared.asking.Opened.{Opened}

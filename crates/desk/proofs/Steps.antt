@@ -10,7 +10,7 @@ use Rattle.trace_model.specs.declared.session.Request.TheVariants.{Offer, Ask}
 use Rattle.trace_model.specs.declared.session.Reply.{Reply}
 use Rattle.trace_model.specs.Rows.{AreRows}
 use Rattle.trace_model.specs.Dependencies.{dependencies}
-use Rattle.trace_model.specs.Machine.{State, opening, ask_next, ask_refused, ask_reply, deliver_refused, offer_next, step}
+use Rattle.trace_model.specs.Machine.{State, opening, ask_next, ask_refused, ask_reply, deliver_refused, step}
 use Rattle.trace_model.specs.Runs.{IsLegal, TakesStep}
 use Rattle.trace_model.proofs.Taking.{machine_steps, run_legal, run_push}
 use Rattle.findings.specs.Found.{AreRowsOf, FoundRows}

@@ -1,3 +1,4 @@
 pub mod EventWords
+pub mod Lines
 pub mod Names
 pub mod Words

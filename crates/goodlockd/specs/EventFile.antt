@@ -1,5 +1,5 @@
 -- How events are written in files.
-use Rattle.std.specs.Prelude.{ℕ, Bool, true, false, not, ◌==◌, List, [], ◌∷◌, ◌++◌, decimal, if◌then◌else◌}
+use Rattle.std.specs.Prelude.{◌≡◌, ℕ, Bool, true, false, not, ◌==◌, List, [], ◌∷◌, ◌++◌, decimal, if◌then◌else◌, map}
 use Rattle.std.specs.Char.{is_ascii_digit}
 use Rattle.std.specs.List.{filter, flat_map, slice_split}
 use Rattle.trace_model.specs.declared.event.Event.{Event}
@@ -48,3 +48,7 @@ line_words line = unless_comment (filter is_word (pieces_at 32 line))
 -- the words of a file, whose lines line feeds separate
 abbrev pub file_words : List ℕ → List (List ℕ)
 file_words file = flat_map line_words (pieces_at 10 file)
+
+-- the words of the file are those of these events
+abbrev pub AreEventsOf : List Event → List ℕ → Type 0
+AreEventsOf events file = map event_word events ≡ file_words file

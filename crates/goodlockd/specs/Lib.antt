@@ -3,4 +3,5 @@ pub mod EventFile
 pub mod Outcome
 pub mod Script
 pub mod Admission
+pub mod Offline
 pub mod Replay

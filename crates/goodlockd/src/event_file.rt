@@ -1,11 +1,11 @@
 //! Event files: lines of event words.
-ghost use Rattle.std.specs.Prelude.{◌≡◌, ◌<◌, ◌^◌, ℕ, IfOk, IfSome, Some, decimal, map};
+ghost use Rattle.std.specs.Prelude.{◌≡◌, ◌<◌, ◌^◌, ◌++◌, ℕ, true, IfOk, IfSome, Ok, Some, decimal, map};
 ghost use Rattle.std.specs.List.{position};
 ghost use Rattle.trace_model.specs.Frames.{IsRequest, object_of};
 ghost use Rattle.trace_model.specs.declared.event.Event.{Event};
 ghost use Rattle.trace_model.specs.declared.event.Op.{Op};
 ghost use Rattle.trace_model.specs.declared.session.Request.TheVariants.{Offer};
-ghost use Rattle.goodlockd.specs.EventFile.{is_no_digit, letter_of, event_word, pieces_at, is_comment, line_words};
+ghost use Rattle.goodlockd.specs.EventFile.{is_no_digit, letter_of, event_word, pieces_at, is_comment, line_words, AreEventsOf};
 
 use crate::outcome::Stopped;
 use itoa::Buffer;
@@ -108,7 +108,9 @@ pub fn words_of(alloc: Global, line: &[u8]) -> Result<Vec<&[u8]>, NoMemory>
 }
 
 /// Adds the events of these words. It answers whether each is the word of one.
-pub fn push_events(events: &mut Vec<Event>, words: &[&[u8]]) -> Result<bool, NoMemory> {
+pub fn push_events(events: &mut Vec<Event>, words: &[&[u8]]) -> Result<bool, NoMemory>
+    ensures { result ≡ Ok true → map event_word events.new.items ≡ map event_word events.old.items ++ map (λ word. word.now) words.now }
+{
     for word in words {
         let Some(event) = event(word) else {
             return Ok(false);
@@ -123,7 +125,9 @@ pub fn push_events(events: &mut Vec<Event>, words: &[&[u8]]) -> Result<bool, NoM
 /// # Errors
 ///
 /// The first line that is not understood, or `Memory`.
-pub fn read_events(alloc: Global, file: &[u8]) -> Result<Vec<Event>, Stopped> {
+pub fn read_events(alloc: Global, file: &[u8]) -> Result<Vec<Event>, Stopped>
+    ensures { IfOk result (λ events. AreEventsOf events.items file.now) }
+{
     let mut events = Vec::new(alloc);
     let lines = lines_of(alloc, file)?;
     for index in 0..lines.len() {

@@ -3,10 +3,15 @@
 
 mod admission;
 mod command_line;
+#[cfg(test)]
+mod command_line_tests;
 mod commands;
 mod event_file;
 #[cfg(test)]
 mod ledger_tests;
+mod offline_command;
+#[cfg(test)]
+mod offline_tests;
 mod outcome;
 #[cfg(test)]
 mod question_tests;
@@ -16,6 +21,11 @@ mod replay_tests;
 mod requests;
 mod script;
 mod script_text;
+mod seats;
+mod server;
+#[cfg(test)]
+mod server_tests;
+mod sessions;
 #[cfg(test)]
 mod tests;
 mod witness_file;
@@ -23,17 +33,24 @@ mod witness_file;
 mod witness_tests;
 
 ghost use Rattle.sequencer.specs.Book.{IsLimit};
+ghost use Rattle.goodlockd.specs.CommandLine.{IsBound, IsWorkers};
 
 use clap::error::ErrorKind;
 use command_line::{Invocation, parse};
+use offline_command::run_offline;
 use outcome::Status;
 use replay_command::{Files, Names, run_replay};
 use script::run_script;
+use server::{ServerFault, Service, Unheld, run_server};
 use std::alloc::AllocError;
 use std::hash::RandomState;
 use std::io::BufWriter;
+use std::net::TcpListener;
 use std::process::ExitCode;
+use std::sync::Wait;
+use std::thread::Threads;
 use std::{env, fs, io};
+use trace_model::Bound;
 
 /// The bytes of a file, or none where it cannot be read, which is then told.
 fn read(rt: &HostRuntime, file: &str) -> io::Result<Option<Vec<u8>>> {
@@ -59,6 +76,21 @@ fn script_file(rt: &HostRuntime, file: &str, limit: u32) -> io::Result<Status>
     Ok(run_script(rt.alloc(), state, file, &bytes, limit, &mut out, &mut err))
 }
 
+fn offline_file(rt: &HostRuntime, file: &str, bound: u32) -> io::Result<Status>
+    requires { IsBound bound }
+{
+    let Some(bytes) = read(rt, file)? else {
+        return Ok(Status::Failed);
+    };
+    let Some(bound) = Bound::new(bound as u8) else {
+        unreachable!()
+    };
+    let state = RandomState::new(rt)?;
+    let mut out = rt.stdout();
+    let mut err = rt.stderr();
+    Ok(run_offline(rt.alloc(), state, file, &bytes, bound, &mut out, &mut err))
+}
+
 fn replay_files(rt: &HostRuntime, trace: &str, witness: &str) -> io::Result<Status> {
     let Some(events) = read(rt, trace)? else {
         return Ok(Status::Failed);
@@ -77,8 +109,52 @@ fn replay_files(rt: &HostRuntime, trace: &str, witness: &str) -> io::Result<Stat
     Ok(run_replay(rt.alloc(), state, names, files, &mut out, &mut err))
 }
 
+/// Tells that there is no listening at the address.
+fn cannot_listen(rt: &HostRuntime, address: &str) -> io::Result<Status> {
+    eprintln!(rt; "cannot listen on {address}")?;
+    Ok(Status::Failed)
+}
+
+/// A listener at the address, or none where there is no listening, which is then told.
+fn listen(rt: &HostRuntime, address: &str) -> io::Result<Option<TcpListener>> {
+    match TcpListener::bind(rt, address) {
+        Ok(listener) => Ok(Some(listener)),
+        Err(error) if error.kind() == io::ErrorKind::OutOfMemory => Err(error),
+        Err(_) => {
+            cannot_listen(rt, address)?;
+            Ok(None)
+        }
+    }
+}
+
+/// Serves at the address, and tells its own and how many sessions there were.
+fn serve_at<T: Threads + Wait + Copy + Send + Sync>(
+    rt: &HostRuntime,
+    threads: T,
+    address: &str,
+    service: Service,
+) -> io::Result<Status>
+    requires limit { IsLimit service.limit }
+    requires workers { IsWorkers service.workers }
+{
+    let Some(listener) = listen(rt, address)? else {
+        return Ok(Status::Failed);
+    };
+    let local = listener.local_addr()?;
+    println!(rt; "listening {local}")?;
+    let state = RandomState::new(rt)?;
+    match run_server(threads, rt.alloc(), state, &listener, service, &Unheld) {
+        Ok(sessions) => {
+            println!(rt; "served {sessions}")?;
+            Ok(Status::Done)
+        }
+        Err(ServerFault::Listen) => cannot_listen(rt, address),
+        Err(ServerFault::NotMade) => Err(AllocError.into()),
+    }
+}
+
 /// Does what the command line asks for.
-fn run(rt: &HostRuntime) -> io::Result<Status> {
+fn run<T: Threads + Wait + Copy + Send + Sync>(rt: &HostRuntime, threads: T) -> io::Result<Status> {
     let alloc = rt.alloc();
     let mut arguments = Vec::new(alloc);
     for argument in env::args(rt)? {
@@ -89,7 +165,23 @@ fn run(rt: &HostRuntime) -> io::Result<Status> {
         words.push(argument.as_str())?;
     }
     match parse(alloc, &words) {
+        Ok(
+            Invocation::Serve {
+                address,
+                workers,
+                sessions,
+                limit,
+            },
+        ) => {
+            let service = Service {
+                workers,
+                sessions,
+                limit,
+            };
+            serve_at(rt, threads, address, service)
+        }
         Ok(Invocation::Script { file, limit }) => script_file(rt, file, limit),
+        Ok(Invocation::Offline { file, bound }) => offline_file(rt, file, bound),
         Ok(Invocation::Replay { trace, witness }) => replay_files(rt, trace, witness),
         Err(refused) if refused.kind() == ErrorKind::OutOfMemory => Err(AllocError.into()),
         Err(refused) => {
@@ -104,7 +196,7 @@ fn run(rt: &HostRuntime) -> io::Result<Status> {
 }
 
 fn main(rt: HostRuntime) -> ExitCode {
-    let status = match run(&rt) {
+    let status = match run(&rt, rt) {
         Ok(status) => status,
         Err(error) => {
             if error.kind() == io::ErrorKind::OutOfMemory {

@@ -1,4 +1,7 @@
 //! How a command ends.
+ghost use Rattle.std.specs.Prelude.{OnOk};
+ghost use Rattle.std.specs.Io.KnownBytes.{Appends};
+
 use std::io::{self, Write};
 use trace_model::NoMemory;
 
@@ -83,4 +86,13 @@ impl Stopped {
             Stopped::Output => Status::Failed,
         }
     }
+}
+
+/// Writes a text whole.
+pub fn write_text<O: Write>(out: &mut O, text: &[u8]) -> Result<(), Stopped>
+    ensures { OnOk result (Appends (O.contents out.old) (O.contents out.new) text.now) }
+{
+    out.write_all(text)?;
+    out.flush()?;
+    Ok(())
 }

@@ -3,7 +3,7 @@ ghost use Rattle.std.specs.Prelude.{◌≡◌, ◌++◌, OnOk};
 ghost use Rattle.goodlockd.specs.Replay.{verdict_line, verdict_status};
 
 use crate::admission::{Admission, admit_file, push_refused_at};
-use crate::outcome::{Status, Stopped};
+use crate::outcome::{Status, Stopped, write_text};
 use crate::witness_file::{WitnessFile, read_witness};
 use itoa::Buffer;
 use replay::{Verdict, check};
@@ -55,13 +55,6 @@ fn status_of(verdict: &Verdict) -> Status
         Verdict::Reaches => Status::Done,
         Verdict::Fails(_, _) => Status::Failed,
     }
-}
-
-/// Writes a text whole.
-fn write_text<O: Write>(out: &mut O, text: &[u8]) -> Result<(), Stopped> {
-    out.write_all(text)?;
-    out.flush()?;
-    Ok(())
 }
 
 /// What ended the command before a verdict, with the file that it is about.

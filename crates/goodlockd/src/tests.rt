@@ -1,6 +1,5 @@
 ghost use Rattle.sequencer.specs.Book.{IsLimit};
 
-use crate::command_line::{Invocation, parse};
 use crate::outcome::Status;
 use crate::script::run_script;
 use std::hash::RandomState;
@@ -181,45 +180,6 @@ fn output_that_fails(rt: HostRuntime) -> Result<(), Fail> {
         let status = run_script(rt.alloc(), state, "FILE", file, MOST, &mut out, &mut err);
         assert_eq!(rt; status.code(), 1);
         assert!(rt; err.is_empty());
-    }
-    Ok(())
-}
-
-#[test]
-fn command_lines(rt: HostRuntime) -> Result<(), Fail> {
-    let alloc = rt.alloc();
-    let words = ["goodlockd", "script", "events", "--limit", "3"];
-    let parsed = parse(alloc, words.as_slice());
-    assert!(rt;
-        matches!(
-            parsed,
-            Ok(Invocation::Script {
-                file: "events",
-                limit: 3
-            })
-        )
-    );
-    let words = ["goodlockd", "script", "events"];
-    let parsed = parse(alloc, words.as_slice());
-    assert!(rt;
-        matches!(
-            parsed,
-            Ok(Invocation::Script {
-                file: "events",
-                limit: MOST
-            })
-        )
-    );
-    let wrong: [&[&str]; 6] = [
-        &["goodlockd"],
-        &["goodlockd", "script"],
-        &["goodlockd", "script", "events", "--limit", "0"],
-        &["goodlockd", "script", "events", "--limit", "1048577"],
-        &["goodlockd", "serve", "127.0.0.1:0"],
-        &["goodlockd", "offline", "events", "--bound", "2"],
-    ];
-    for words in wrong {
-        assert!(rt; parse(alloc, words).is_err());
     }
     Ok(())
 }

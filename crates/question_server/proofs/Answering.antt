@@ -11,7 +11,7 @@ use Rattle.trace_model.specs.Frames.{frame, requests_in, fault_in, fault_at}
 use Rattle.trace_model.specs.Replies.{reply_frame}
 use Rattle.trace_model.proofs.Readings.{frame_turn}
 use Rattle.event_frames.specs.Reader.{Reading, HasRead, TakesRequest, AwaitsMore, TellsFault, Tells}
-use Rattle.question_server.specs.Serving.{Call, Chain, requests_called, frames_of, fault_frames, owed_fault, AreBegun, Answered, Broken}
+use Rattle.question_server.specs.Serving.{Call, Chain, requests_called, frames_of, fault_frames, owed_fault, Answered, Broken}
 use Rattle.question_server.proofs.Puts.{put_none, put_then}
 
 pub chain_push : {C : Type 0} (steps : C → Request → Reply → C → Type 0) (old mid new : C) (calls : List Call) (request : Request) (reply : Reply) → Chain steps old calls mid → steps mid request reply new → Chain steps old (calls ++ (request, reply) ∷ []) new

@@ -6,12 +6,11 @@ use Rattle.trace_model.specs.declared.session.Reply.{Reply}
 use Rattle.trace_model.specs.declared.session.Reply.TheVariants.{Refused}
 use Rattle.trace_model.specs.declared.refusal.Refusal.TheVariants.{NoMemory}
 use Rattle.trace_model.specs.Replies.{reply_frame}
-use Rattle.trace_model.specs.Machine.{State, step}
+use Rattle.trace_model.specs.Machine.{State}
 use Rattle.sequencer.specs.Book.{Kept}
 use Rattle.sequencer.specs.Drains.{state_called, answer_to}
-use Rattle.sequencer.specs.Printing.{printing}
-use Rattle.question_server.specs.Serving.{Call, Chain, Served, requests_called, frames_of}
-use Rattle.question_server.specs.Books.{StepsOrMemory, NoneLacksMemory, AreMachines, ServedByMachine}
+use Rattle.question_server.specs.Serving.{Call, Chain, Served, requests_called}
+use Rattle.question_server.specs.Books.{StepsOrMemory, AreMachines, ServedByMachine}
 use Rattle.question_server.specs.declared.sessions.Ended.{Ended}
 use Rattle.question_server.specs.declared.sessions.ServeFault.{ServeFault}
 

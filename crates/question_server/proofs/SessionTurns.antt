@@ -6,7 +6,6 @@ use Rattle.std.proofs.lemmas.List.{append-nil, map-append}
 use Rattle.std.proofs.lemmas.List.Concat.{flat_map-append}
 use Rattle.trace_model.specs.declared.session.Request.{Request}
 use Rattle.trace_model.specs.declared.session.Reply.{Reply}
-use Rattle.trace_model.specs.declared.session.Reply.TheVariants.{Fault as FaultReply}
 use Rattle.trace_model.specs.declared.session.Fault.{Fault}
 use Rattle.trace_model.specs.Frames.{requests_in, fault_in}
 use Rattle.trace_model.specs.Replies.{reply_frame}

@@ -4,7 +4,7 @@ use mathlib.Core.List.{IsPrefix}
 use Rattle.trace_model.specs.declared.limits.TheConstants.{MAX_EVENTS}
 use Rattle.trace_model.specs.declared.refusal.Refusal.TheVariants.{BoardBusy}
 use Rattle.trace_model.specs.declared.session.Request.{Request}
-use Rattle.trace_model.specs.declared.session.Request.TheVariants.{Offer, Ask, Answer, Status}
+use Rattle.trace_model.specs.declared.session.Request.TheVariants.{Offer, Ask, Status}
 use Rattle.trace_model.specs.declared.session.Reply.{Reply}
 use Rattle.trace_model.specs.declared.session.Reply.TheVariants.{Placed, Refused, Opened}
 use Rattle.trace_model.specs.declared.step.BoardStep.{BoardStep}

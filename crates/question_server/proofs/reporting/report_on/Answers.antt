@@ -1,4 +1,4 @@
-use Rattle.std.proofs.Common.{◌≡◌, ◌<◌, length, Err, ap, subst, ◌∙◌}
+use Rattle.std.proofs.Common.{◌<◌, length, Err, ap, subst, ◌∙◌}
 use Rattle.std.specs.List.{flat_map}
 use Rattle.trace_model.specs.declared.limits.TheConstants.{MAX_REPORT}
 use Rattle.witness.specs.Text.{report}

@@ -1,4 +1,4 @@
-use Rattle.std.proofs.Common.{◌≡◌, ℕ, List, [], ap, refl, take, ◌∙◌}
+use Rattle.std.proofs.Common.{◌≡◌, ℕ, [], ap, refl, take, ◌∙◌}
 use Rattle.std.proofs.lemmas.Result.{err_from_is_err_and}
 use Rattle.question_server.specs.Serving.{requests_called}
 use Rattle.question_server.proofs.SessionTurns.{serving_starts, sent_on, serving_on, ends_unsent, ends_unfed, ends_fault, ends_input, ends_broken, fed_handed, end_handed}

@@ -1,10 +1,10 @@
-use Rattle.std.proofs.Common.{◌++◌, ◌≡◌, sym, ap, subst, ◌∙◌}
+use Rattle.std.proofs.Common.{◌++◌, sym, ap, subst, ◌∙◌}
 use Rattle.trace_model.specs.Machine.{step}
 use Rattle.trace_model.specs.declared.session.Request.{Request}
 use Rattle.trace_model.specs.declared.step.BoardStep.TheVariants.{Open}
 use Rattle.sequencer.specs.Book.{IsAccepted}
 use Rattle.sequencer.specs.Printing.{printing}
-use Rattle.desk.proofs.Requests.{opened_ask, refused_ask}
+use Rattle.desk.proofs.Requests.{opened_ask}
 use Rattle.desk.proofs.Steps.{ask_taken, kept_on, legal_next}
 use Rattle.desk.proofs.locked.Locked.ask.Goals as goal
 

@@ -1,4 +1,4 @@
-use Rattle.std.proofs.Common.{◌++◌, ◌≡◌, sym, ap, subst, ◌∙◌}
+use Rattle.std.proofs.Common.{◌++◌, sym, ap, subst, ◌∙◌}
 use Rattle.trace_model.specs.Machine.{State, step}
 use Rattle.trace_model.specs.declared.session.Request.{Request}
 use Rattle.trace_model.specs.declared.session.Reply.{Reply}

@@ -1,4 +1,4 @@
-use Rattle.std.proofs.Common.{inr, sym, ◌∙◌}
+use Rattle.std.proofs.Common.{inr, ◌∙◌}
 use Rattle.question_server.proofs.Told.{told_status}
 use Rattle.question_server.proofs.client.Client.status.Goals as goal
 use Rattle.question_server.proofs.client.Client.status.Goals.{in-Ok, in-Err}
