@@ -1,6 +1,7 @@
 use crate::offline_command::run_offline;
 use crate::outcome::Status;
 use std::hash::RandomState;
+use std::io::Write;
 use std::process::Abort;
 use std::random::RandomSource;
 use std::test::*;
@@ -135,6 +136,32 @@ cycle 0 1 confirmed
   witness 0 1 2 6
 ";
     reports(&rt, &file, 2, text)
+}
+
+#[test]
+fn three_hundred_sections(rt: HostRuntime) -> Result<(), Fail> {
+    let mut file = Vec::from_slice(rt.alloc(), b"0f1 0f2\n")?;
+    for _ in 0..300u32 {
+        file.extend_from_slice(b"1a10 1a20 1r20 1r10\n")?;
+    }
+    file.extend_from_slice(b"1w7 2d7\n")?;
+    for _ in 0..300u32 {
+        file.extend_from_slice(b"2a20 2a10 2r10 2r20\n")?;
+    }
+    file.extend_from_slice(b"1a10 1a20\n")?;
+    let mut text = Vec::new(rt.alloc());
+    text.extend_from_slice(
+        b"question 0 length 2406 bound 2 cycles 1 confirmed 1
+cycle 0 1 confirmed
+  thread 1 lock 20 holds 10 place 2405
+  thread 2 lock 10 holds 20 place 1205
+  witness",
+    )?;
+    for place in 0..1205u32 {
+        write!(text, " {place}")?;
+    }
+    text.extend_from_slice(b" 2404\n")?;
+    reports(&rt, &file, 2, &text)
 }
 
 #[test]
