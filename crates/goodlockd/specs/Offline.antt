@@ -1,5 +1,5 @@
 -- How the report on a file of events ends.
-use Rattle.std.specs.Prelude.{◌≡◌, ℕ, List, [], ◌++◌, Option, codes, map}
+use Rattle.std.specs.Prelude.{ℕ, List, [], ◌++◌, Option, codes}
 use Rattle.std.specs.Io.KnownBytes.{Appends}
 use Rattle.trace_model.specs.Trace.{Trace}
 use Rattle.trace_model.specs.declared.refusal.Refusal.{Refusal}
