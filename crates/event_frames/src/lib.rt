@@ -1,11 +1,13 @@
-//! Requests from bytes, in whatever pieces these come, and replies as bytes.
+//! Requests from bytes, in whatever pieces these come, requests as bytes, and replies as bytes.
 #![tactic(auto)]
 
 mod front;
 mod reader;
 mod replies;
+mod requests;
 #[cfg(test)]
 mod tests;
 
 pub use reader::FrameReader;
 pub use replies::{encode_reply, push_reply};
+pub use requests::{answer_frame, ask_frame, offer_frame, status_frame};

@@ -1,46 +1,12 @@
-//! An online deadlock predictor: it takes the events of a traced program.
+//! An online deadlock predictor: its command line, its files and its sockets.
 #![tactic(auto)]
 
-mod admission;
-mod command_line;
-#[cfg(test)]
-mod command_line_tests;
-mod commands;
-mod event_file;
-#[cfg(test)]
-mod ledger_tests;
-mod offline_command;
-#[cfg(test)]
-mod offline_tests;
-mod outcome;
-#[cfg(test)]
-mod question_tests;
-mod replay_command;
-#[cfg(test)]
-mod replay_tests;
-mod requests;
-mod script;
-mod script_text;
-mod seats;
-mod server;
-#[cfg(test)]
-mod server_tests;
-mod sessions;
-#[cfg(test)]
-mod tests;
-mod witness_file;
-#[cfg(test)]
-mod witness_tests;
-
-ghost use Rattle.sequencer.specs.Book.{IsLimit};
-ghost use Rattle.goodlockd.specs.CommandLine.{IsBound, IsWorkers};
+ghost use Rattle.std.specs.Prelude.{◌≤◌};
+ghost use Rattle.command_line.specs.CommandLine.{IsLimit, IsWithin};
 
 use clap::error::ErrorKind;
 use command_line::{Invocation, parse};
-use offline_command::run_offline;
-use outcome::Status;
-use replay_command::{Files, Names, run_replay};
-use script::run_script;
+use commands::{Files, Names, Status, run_offline, run_replay, run_script};
 use server::{ServerFault, Service, Unheld, run_server};
 use std::alloc::AllocError;
 use std::hash::RandomState;
@@ -77,7 +43,7 @@ fn script_file(rt: &HostRuntime, file: &str, limit: u32) -> io::Result<Status>
 }
 
 fn offline_file(rt: &HostRuntime, file: &str, bound: u32) -> io::Result<Status>
-    requires { IsBound bound }
+    requires { IsWithin 2 8 bound }
 {
     let Some(bytes) = read(rt, file)? else {
         return Ok(Status::Failed);
@@ -135,7 +101,7 @@ fn serve_at<T: Threads + Wait + Copy + Send + Sync>(
     service: Service,
 ) -> io::Result<Status>
     requires limit { IsLimit service.limit }
-    requires workers { IsWorkers service.workers }
+    requires workers { IsWithin 1 16 service.workers }
 {
     let Some(listener) = listen(rt, address)? else {
         return Ok(Status::Failed);

@@ -5,16 +5,10 @@ mod answering;
 mod asked;
 mod asking;
 mod book;
-#[cfg(test)]
-mod book_tests;
 mod delivering;
 mod input;
-#[cfg(test)]
-mod report_tests;
 mod session;
 mod step;
-#[cfg(test)]
-mod tests;
 
 pub use answering::{Answer, AnswerRefused, Status};
 pub use asked::Asked;

@@ -1,0 +1,2 @@
+pub mod RefusalNames
+pub mod Words

@@ -1,0 +1,81 @@
+//! Script files: event lines, and commands about questions.
+use crate::outcome::Stopped;
+use event_files::{event, number, words_of};
+use std::alloc::Global;
+use std::str;
+use trace_model::{Event, NoMemory};
+
+/// What a script does next.
+#[derive(Clone, Copy, Debug, PartialEq, Eq)]
+pub enum Command {
+    /// Offer an event.
+    Offer(Event),
+    /// Open a question with this bound.
+    Ask(u8),
+    /// Compute and deliver the tasks of the question that are missing.
+    Work(u32),
+    /// Compute and deliver one task of a question.
+    Deliver { question: u32, task: u32 },
+    /// Answer the question.
+    Answer(u32),
+    /// Tell the status of the question.
+    Status(u32),
+}
+
+/// The command of a keyword and one number.
+fn command_about(keyword: &str, number: u32) -> Option<Command> {
+    match keyword {
+        "ask" => Some(Command::Ask(u8::try_from(number).ok()?)),
+        "work" => Some(Command::Work(number)),
+        "answer" => Some(Command::Answer(number)),
+        "status" => Some(Command::Status(number)),
+        _ => None,
+    }
+}
+
+/// The command of a line of these words, which is no event line.
+fn parse_command(words: &[&[u8]]) -> Option<Command> {
+    let (keyword, numbers) = words.split_first()?;
+    let keyword = str::from_utf8(keyword).ok()?;
+    match numbers {
+        [about] => command_about(keyword, number(about)?),
+        [question, task] if keyword == "deliver" => Some(Command::Deliver {
+            question: number(question)?,
+            task: number(task)?,
+        }),
+        _ => None,
+    }
+}
+
+/// Adds the commands of a line of these words. It answers whether the line is understood.
+fn push_commands(commands: &mut Vec<Command>, words: &[&[u8]]) -> Result<bool, NoMemory> {
+    if let Some(command) = parse_command(words) {
+        commands.push(command)?;
+        return Ok(true);
+    }
+    for word in words {
+        let Some(event) = event(word) else {
+            return Ok(false);
+        };
+        commands.push(Command::Offer(event))?;
+    }
+    Ok(true)
+}
+
+/// The commands of a script, in their order.
+///
+/// # Errors
+///
+/// The first line that is not understood, or `Memory`.
+pub fn read_script(alloc: Global, file: &[u8]) -> Result<Vec<Command>, Stopped> {
+    let mut commands = Vec::new(alloc);
+    let mut number = 0usize;
+    for line in file.split(|byte| *byte == b'\n') {
+        number = number.saturating_add(1);
+        let words = words_of(alloc, line)?;
+        if !push_commands(&mut commands, &words)? {
+            return Err(Stopped::Line(number));
+        }
+    }
+    Ok(commands)
+}

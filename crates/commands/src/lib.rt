@@ -1,0 +1,16 @@
+//! The commands about files: each reads bytes and writes what it tells, and answers its exit status.
+#![tactic(auto)]
+
+mod admission;
+mod commands;
+mod offline_command;
+mod outcome;
+mod replay_command;
+mod script;
+mod script_text;
+
+pub use commands::{Command, read_script};
+pub use offline_command::run_offline;
+pub use outcome::{Status, Stopped};
+pub use replay_command::{Files, Names, run_replay};
+pub use script::run_script;

@@ -1,0 +1,81 @@
+//! The command that reports on a file of events.
+ghost use Rattle.std.specs.Prelude.{◌≡◌, ◌++◌, IfOk, OnOk};
+ghost use Rattle.commands.specs.declared.outcome.Status.TheVariants.{Done};
+ghost use Rattle.commands.specs.Offline.{OfflineTells, refusal_line, refused_line};
+
+use crate::admission::push_refused_at;
+use crate::outcome::{Status, Stopped, write_text};
+use crate::script_text::push_refusal;
+use event_files::read_events;
+use question_server::{OfflineRefused, offline};
+use std::alloc::Global;
+use std::hash::RandomState;
+use std::io::Write;
+use trace_model::{Bound, NoMemory, Refusal};
+
+/// Adds a line of its own for the refusal.
+fn push_refusal_line(text: &mut Vec<u8>, refusal: Refusal) -> Result<(), NoMemory>
+    ensures { OnOk result (text.new.items ≡ text.old.items ++ refusal_line refusal) }
+{
+    push_refusal(text, refusal)?;
+    text.push(b'\n')?;
+    Ok(())
+}
+
+/// Adds the line that tells why there is no report; a growth that was refused has none.
+fn push_refused(text: &mut Vec<u8>, refused: OfflineRefused) -> Result<(), NoMemory>
+    ensures { OnOk result (text.new.items ≡ text.old.items ++ refused_line refused) }
+{
+    match refused {
+        OfflineRefused::Gate { refusal, index } => push_refused_at(text, refusal, index),
+        OfflineRefused::TooLong => push_refusal_line(text, Refusal::ReportTooLong),
+        OfflineRefused::TooManyCycles => push_refusal_line(text, Refusal::TooManyCycles),
+        OfflineRefused::NoMemory => Ok(()),
+    }
+}
+
+/// Writes the report, or why there is none.
+fn report<O: Write>(
+    alloc: Global,
+    state: RandomState,
+    file: &[u8],
+    bound: Bound,
+    out: &mut O,
+) -> Result<Status, Stopped>
+    ensures { IfOk result (λ status. OfflineTells file.now bound status (O.contents out.old) (O.contents out.new)) }
+{
+    let events = read_events(alloc, file)?;
+    match offline(alloc, state, events, bound) {
+        Ok(text) => {
+            write_text(out, &text)?;
+            Ok(Status::Done)
+        }
+        Err(OfflineRefused::NoMemory) => Err(Stopped::Memory),
+        Err(refused) => {
+            let mut text = Vec::new(alloc);
+            push_refused(&mut text, refused)?;
+            write_text(out, &text)?;
+            Ok(Status::Failed)
+        }
+    }
+}
+
+/// Writes the report of question 0, with this bound, about the events in the bytes of the file of this name, or
+/// the first of them that is not lawful, or why there is no report. What ended the command early is told to
+/// `err`.
+pub fn run_offline<O: Write, E: Write>(
+    alloc: Global,
+    state: RandomState,
+    name: &str,
+    file: &[u8],
+    bound: Bound,
+    out: &mut O,
+    err: &mut E,
+) -> Status
+    ensures { result ≡ Done → OfflineTells file.now bound Done (O.contents out.old) (O.contents out.new) }
+{
+    match report(alloc, state, file, bound, out) {
+        Ok(status) => status,
+        Err(stopped) => stopped.tell(name, err),
+    }
+}

@@ -1,0 +1,131 @@
+//! The command that checks a witness against a trace.
+ghost use Rattle.std.specs.Prelude.{◌≡◌, ◌++◌, OnOk};
+ghost use Rattle.commands.specs.Replay.{verdict_line, verdict_status};
+
+use crate::admission::{Admission, admit_file, push_refused_at};
+use crate::outcome::{Status, Stopped, write_text};
+use event_files::read_witness;
+use itoa::Buffer;
+use replay::{Verdict, check};
+use std::alloc::Global;
+use std::hash::RandomState;
+use std::io::Write;
+use trace_model::NoMemory;
+use wellformed::Gate;
+
+/// The files of a replay: a trace, and a witness.
+#[derive(Clone, Copy)]
+pub struct Files<'a> {
+    pub trace: &'a [u8],
+    pub witness: &'a [u8],
+}
+
+/// The names of these files, as they are told.
+#[derive(Clone, Copy)]
+pub struct Names<'a> {
+    pub trace: &'a str,
+    pub witness: &'a str,
+}
+
+/// Adds the line of a verdict.
+fn push_verdict(text: &mut Vec<u8>, verdict: &Verdict) -> Result<(), NoMemory>
+    ensures { OnOk result (text.new.items ≡ text.old.items ++ verdict_line verdict.now) }
+{
+    match verdict {
+        Verdict::Reaches => {
+            text.extend_from_slice(b"reaches\n")?;
+            Ok(())
+        }
+        Verdict::Fails(fault, place) => {
+            text.extend_from_slice(b"fault ")?;
+            text.extend_from_slice(fault.name().as_bytes())?;
+            text.push(b' ')?;
+            text.extend_from_slice(Buffer::new().format(place.get()).as_bytes())?;
+            text.push(b'\n')?;
+            Ok(())
+        }
+    }
+}
+
+/// The exit status that a verdict gives.
+fn status_of(verdict: &Verdict) -> Status
+    ensures { result ≡ verdict_status verdict.now }
+{
+    match verdict {
+        Verdict::Reaches => Status::Done,
+        Verdict::Fails(_, _) => Status::Failed,
+    }
+}
+
+/// What ended the command before a verdict, with the file that it is about.
+enum Part {
+    Trace,
+    Witness,
+}
+
+fn checked<O: Write>(
+    alloc: Global,
+    state: RandomState,
+    files: Files<'_>,
+    out: &mut O,
+) -> Result<Status, (Part, Stopped)> {
+    let admission = match admit_file(alloc, state, files.trace) {
+        Ok(admission) => admission,
+        Err(stopped) => return Err((Part::Trace, stopped)),
+    };
+    match admission {
+        Admission::Admitted(gate) => match verdict_of(alloc, state, &gate, files.witness, out) {
+            Ok(status) => Ok(status),
+            Err(stopped) => Err((Part::Witness, stopped)),
+        },
+        Admission::Refused(refusal, index) => {
+            let mut text = Vec::new(alloc);
+            if push_refused_at(&mut text, refusal, index).is_err() {
+                return Err((Part::Trace, Stopped::Memory));
+            }
+            match write_text(out, &text) {
+                Ok(()) => Ok(Status::Failed),
+                Err(stopped) => Err((Part::Trace, stopped)),
+            }
+        }
+    }
+}
+
+fn verdict_of<O: Write>(
+    alloc: Global,
+    state: RandomState,
+    gate: &Gate,
+    witness: &[u8],
+    out: &mut O,
+) -> Result<Status, Stopped> {
+    let witness = read_witness(alloc, witness)?;
+    let verdict = check(
+        alloc,
+        state,
+        gate.events(),
+        &witness.order,
+        &witness.instance,
+    )?;
+    let mut text = Vec::new(alloc);
+    push_verdict(&mut text, &verdict)?;
+    write_text(out, &text)?;
+    Ok(status_of(&verdict))
+}
+
+/// Checks the witness in the second file against the trace in the first: prints `reaches`, or the test that
+/// fails with its place, or the event of the trace that is not lawful. What ended the command early is told to
+/// `err`, with the name of the file.
+pub fn run_replay<O: Write, E: Write>(
+    alloc: Global,
+    state: RandomState,
+    names: Names<'_>,
+    files: Files<'_>,
+    out: &mut O,
+    err: &mut E,
+) -> Status {
+    match checked(alloc, state, files, out) {
+        Ok(status) => status,
+        Err((Part::Trace, stopped)) => stopped.tell(names.trace, err),
+        Err((Part::Witness, stopped)) => stopped.tell(names.witness, err),
+    }
+}

@@ -1,0 +1,193 @@
+//! Scripts: commands that are run over one book.
+ghost use Rattle.std.specs.Prelude.{◌≡◌, false};
+ghost use Rattle.sequencer.specs.Book.{IsLimit};
+
+use crate::commands::{Command, read_script};
+use crate::outcome::{Status, Stopped};
+use crate::script_text::{push_last, push_reply};
+use event_frames::{FrameReader, answer_frame, ask_frame, offer_frame, status_frame};
+use findings::{ComputeRefused, Finding, Snapshot};
+use sequencer::Book;
+use std::alloc::Global;
+use std::hash::RandomState;
+use std::io::Write;
+use std::sync::Arc;
+use trace_model::{Bound, MAX_EVENTS, Refusal, Reply};
+
+/// What the tasks of a question are computed from.
+#[derive(Drop)]
+struct Job {
+    question: u32,
+    bound: Bound,
+    snapshot: Arc<Snapshot, Global>,
+}
+
+/// The one session of a script, over its book.
+#[derive(Drop)]
+struct ScriptSession {
+    alloc: Global,
+    reader: FrameReader,
+    book: Book,
+    text: Vec<u8>,
+    ghost open: { reader.ended ≡ false },
+}
+
+impl ScriptSession {
+    /// Runs a command and writes what it prints.
+    fn run<O: Write>(&mut self, command: Command, out: &mut O) -> Result<(), Stopped> {
+        match command {
+            Command::Offer(event) => self.request(&offer_frame(&event), out),
+            Command::Ask(bound) => self.request(&ask_frame(bound), out),
+            Command::Work(question) => {
+                let worked = self.work(question);
+                self.tell(b"worked ", worked, out)
+            }
+            Command::Deliver { question, task } => {
+                let delivered = self.deliver(question, task);
+                self.tell(b"delivered ", delivered, out)
+            }
+            Command::Answer(question) => self.request(&answer_frame(question), out),
+            Command::Status(question) => self.request(&status_frame(question), out),
+        }
+    }
+
+    /// Sends the frame of a request, and writes what is printed of its reply.
+    fn request<O: Write>(&mut self, frame: &[u8], out: &mut O) -> Result<(), Stopped> {
+        self.reader.feed(frame)?;
+        while let Ok(Some(request)) = self.reader.next() {
+            let reply = match self.book.call(&request) {
+                Ok(reply) => reply,
+                Err(_) => Reply::Refused(Refusal::NoMemory),
+            };
+            self.write(&reply, out)?;
+        }
+        Ok(())
+    }
+
+    /// Writes what is printed of a reply.
+    fn write<O: Write>(&mut self, reply: &Reply, out: &mut O) -> Result<(), Stopped>
+        ensures { self.new.reader ≡ self.old.reader }
+    {
+        self.text.clear();
+        push_reply(&mut self.text, reply)?;
+        out.write_all(&self.text)?;
+        Ok(())
+    }
+
+    /// Writes the number after these words, or the refusal.
+    fn tell<O: Write>(
+        &mut self,
+        words: &[u8],
+        told: Result<u32, Refusal>,
+        out: &mut O,
+    ) -> Result<(), Stopped> {
+        match told {
+            Ok(number) => {
+                self.text.clear();
+                push_last(&mut self.text, words, number as u64)?;
+                out.write_all(&self.text)?;
+                Ok(())
+            }
+            Err(refusal) => self.write(&Reply::Refused(refusal), out),
+        }
+    }
+
+    /// What the tasks of the question are computed from.
+    fn job(&self, question: u32) -> Result<Job, Refusal> {
+        let snapshot = self.book.snapshot(question)?;
+        let Ok(status) = self.book.status(question) else {
+            return Err(Refusal::NoSuchQuestion);
+        };
+        let Some(bound) = Bound::new(status.bound) else {
+            return Err(Refusal::BadBound);
+        };
+        Ok(Job {
+            question,
+            bound,
+            snapshot,
+        })
+    }
+
+    /// Computes a task and delivers it.
+    fn deliver_task(&mut self, job: &Job, task: u32) -> Result<(), Refusal> {
+        let Ok(snapshot) = Arc::clone(&job.snapshot) else {
+            return Err(Refusal::NoMemory);
+        };
+        match Finding::compute(self.alloc, snapshot, job.question, job.bound, task) {
+            Ok(finding) => match self.book.deliver(finding) {
+                Ok(()) => Ok(()),
+                Err((refusal, _)) => Err(refusal),
+            },
+            Err(ComputeRefused::TooManyCycles) => Err(Refusal::TooManyCycles),
+            Err(ComputeRefused::NoMemory) => Err(Refusal::NoMemory),
+        }
+    }
+
+    /// Computes a task of the question and delivers it. It answers the task.
+    fn deliver(&mut self, question: u32, task: u32) -> Result<u32, Refusal> {
+        let job = self.job(question)?;
+        self.deliver_task(&job, task)?;
+        Ok(task)
+    }
+
+    /// Computes and delivers the least missing task of the question until none is missing, and answers how many
+    /// these were. A question has no more tasks than a trace has events.
+    fn work(&mut self, question: u32) -> Result<u32, Refusal> {
+        let job = self.job(question)?;
+        for worked in 0..MAX_EVENTS as u32 {
+            let Ok(Some(task)) = self.book.missing(question) else {
+                return Ok(worked);
+            };
+            self.deliver_task(&job, task)?;
+        }
+        Ok(MAX_EVENTS as u32)
+    }
+}
+
+/// Reads the script whole, and then runs it.
+fn run_commands<O: Write>(
+    alloc: Global,
+    state: RandomState,
+    file: &[u8],
+    limit: u32,
+    out: &mut O,
+) -> Result<(), Stopped>
+    requires { IsLimit limit }
+{
+    let commands = read_script(alloc, file)?;
+    let Ok(book) = Book::new(alloc, state, limit) else {
+        unreachable!()
+    };
+    let mut session = ScriptSession {
+        alloc,
+        reader: FrameReader::new(alloc),
+        book,
+        text: Vec::new(alloc),
+    };
+    for command in &commands {
+        session.run(*command, out)?;
+    }
+    Ok(())
+}
+
+/// Runs the script in the bytes of the file of this name, over a book that accepts at most `limit` events, which
+/// is 1 to `MAX_EVENTS`. The whole file is understood before anything is run. What each command prints is written
+/// to `out`, and what ended the script early is told to `err`.
+pub fn run_script<O: Write, E: Write>(
+    alloc: Global,
+    state: RandomState,
+    name: &str,
+    file: &[u8],
+    limit: u32,
+    out: &mut O,
+    err: &mut E,
+) -> Status
+    requires { IsLimit limit }
+{
+    let ran = run_commands(alloc, state, file, limit, out);
+    let written = out.flush().map_err(|_| Stopped::Output);
+    match ran.and(written) {
+        Ok(()) => Status::Done,
+        Err(stopped) => stopped.tell(name, err),
+    }
+}

@@ -1,0 +1,150 @@
+//! What a script prints.
+ghost use Rattle.std.specs.Prelude.{◌≡◌, ◌++◌, OnOk};
+ghost use Rattle.trace_model.specs.Refusals.{name_of};
+ghost use Rattle.commands.specs.Script.{told, told_line, refusal_words, opened_line, pending_line, book_words, task_words, row_words, reply_text};
+
+use itoa::Buffer;
+use trace_model::{NoMemory, Refusal, Reply, refusal_name};
+
+#[tactic(auto, using(crate::proofs::RefusalNames::named))]
+fn name_of(refusal: Refusal) -> &'static str
+    ensures { result.now ≡ name_of refusal }
+{
+    let Some(name) = refusal_name(refusal.number()) else {
+        unreachable!()
+    };
+    name
+}
+
+/// Adds a number after these words.
+fn push_number(text: &mut Vec<u8>, words: &[u8], number: u64) -> Result<(), NoMemory>
+    ensures { OnOk result (text.new.items ≡ text.old.items ++ told words.now number) }
+{
+    text.extend_from_slice(words)?;
+    text.extend_from_slice(Buffer::new().format(number).as_bytes())?;
+    Ok(())
+}
+
+/// Adds a number after these words, and ends the line.
+pub fn push_last(text: &mut Vec<u8>, words: &[u8], number: u64) -> Result<(), NoMemory>
+    ensures { OnOk result (text.new.items ≡ text.old.items ++ told_line words.now number) }
+{
+    push_number(text, words, number)?;
+    text.push(b'\n')?;
+    Ok(())
+}
+
+/// Adds the words that tell a refusal.
+pub fn push_refusal(text: &mut Vec<u8>, refusal: Refusal) -> Result<(), NoMemory>
+    ensures { OnOk result (text.new.items ≡ text.old.items ++ refusal_words refusal) }
+{
+    text.extend_from_slice(b"refused ")?;
+    text.extend_from_slice(Buffer::new().format(refusal.number()).as_bytes())?;
+    text.push(b' ')?;
+    text.extend_from_slice(name_of(refusal).as_bytes())?;
+    Ok(())
+}
+
+fn push_opened(text: &mut Vec<u8>, question: u32, length: u32, total: u32) -> Result<(), NoMemory>
+    ensures { OnOk result (text.new.items ≡ text.old.items ++ opened_line question length total) }
+{
+    push_number(text, b"opened ", question as u64)?;
+    push_number(text, b" length ", length as u64)?;
+    push_last(text, b" total ", total as u64)?;
+    Ok(())
+}
+
+fn push_pending(
+    text: &mut Vec<u8>,
+    question: u32,
+    delivered: u32,
+    total: u32,
+) -> Result<(), NoMemory>
+    ensures { OnOk result (text.new.items ≡ text.old.items ++ pending_line question delivered total) }
+{
+    push_number(text, b"pending ", question as u64)?;
+    push_number(text, b" delivered ", delivered as u64)?;
+    push_last(text, b" total ", total as u64)?;
+    Ok(())
+}
+
+/// Adds what a status tells of the book, and of the question before its tasks.
+fn push_book(
+    text: &mut Vec<u8>,
+    question: u32,
+    accepted: u32,
+    opened: u32,
+    length: u32,
+    bound: u8,
+) -> Result<(), NoMemory>
+    ensures { OnOk result (text.new.items ≡ text.old.items ++ book_words question accepted opened length bound) }
+{
+    push_number(text, b"status ", question as u64)?;
+    push_number(text, b" accepted ", accepted as u64)?;
+    push_number(text, b" opened ", opened as u64)?;
+    push_number(text, b" length ", length as u64)?;
+    push_number(text, b" bound ", bound as u64)?;
+    Ok(())
+}
+
+/// Adds what a status tells of the question's tasks.
+fn push_tasks(text: &mut Vec<u8>, total: u32, delivered: u32) -> Result<(), NoMemory>
+    ensures { OnOk result (text.new.items ≡ text.old.items ++ task_words total delivered) }
+{
+    push_number(text, b" total ", total as u64)?;
+    push_number(text, b" delivered ", delivered as u64)?;
+    Ok(())
+}
+
+/// Adds what a status tells of the rows of these tasks.
+fn push_rows(text: &mut Vec<u8>, cycles: u64, confirmed: u64) -> Result<(), NoMemory>
+    ensures { OnOk result (text.new.items ≡ text.old.items ++ row_words cycles confirmed) }
+{
+    push_number(text, b" cycles ", cycles)?;
+    push_last(text, b" confirmed ", confirmed)?;
+    Ok(())
+}
+
+/// Adds what is printed of a reply.
+pub fn push_reply(text: &mut Vec<u8>, reply: &Reply) -> Result<(), NoMemory>
+    ensures { OnOk result (text.new.items ≡ text.old.items ++ reply_text reply.now) }
+{
+    match reply {
+        Reply::Placed(place) => push_last(text, b"placed ", place.get() as u64),
+        Reply::Refused(refusal) => {
+            push_refusal(text, *refusal)?;
+            text.push(b'\n')?;
+            Ok(())
+        }
+        Reply::Opened {
+            question,
+            length,
+            total,
+        } => push_opened(text, *question, *length, *total),
+        Reply::Pending {
+            question,
+            delivered,
+            total,
+        } => push_pending(text, *question, *delivered, *total),
+        Reply::Report { text: report, .. } => {
+            text.extend_from_slice(report.as_slice())?;
+            Ok(())
+        }
+        Reply::Status {
+            question,
+            accepted,
+            opened,
+            length,
+            bound,
+            total,
+            delivered,
+            cycles,
+            confirmed,
+        } => {
+            push_book(text, *question, *accepted, *opened, *length, *bound)?;
+            push_tasks(text, *total, *delivered)?;
+            push_rows(text, *cycles, *confirmed)
+        }
+        Reply::Fault(_) => Ok(()),
+    }
+}

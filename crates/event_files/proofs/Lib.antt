@@ -1,0 +1,2 @@
+pub mod EventWords
+pub mod Lines

@@ -1,0 +1,10 @@
+//! Files of events, and files of witnesses.
+#![tactic(auto)]
+
+mod event_file;
+mod refused;
+mod witness_file;
+
+pub use event_file::{event, lines_of, number, read_events, words_of};
+pub use refused::FileRefused;
+pub use witness_file::{WitnessFile, read_witness};

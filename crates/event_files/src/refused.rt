@@ -1,0 +1,25 @@
+//! Why a file was not read.
+use thiserror::Error;
+use trace_model::NoMemory;
+
+/// Why a file was not read whole.
+#[derive(Clone, Copy, Debug, PartialEq, Eq, Error)]
+pub enum FileRefused {
+    /// The line with this number, from 1, is the first that is not understood.
+    #[error("line {0} is not understood")]
+    Line(usize),
+    /// A growth was refused.
+    #[error("no memory")]
+    NoMemory,
+}
+
+impl From<NoMemory> for FileRefused {
+    ghost use Rattle.std.specs.Prelude.{◌≡◌};
+    ghost use Rattle.event_files.specs.declared.refused.FileRefused.TheVariants as refusals;
+
+    ghost from_gives = { λ _ refused. refused ≡ refusals.NoMemory };
+
+    fn from(_refused: NoMemory) -> FileRefused {
+        FileRefused::NoMemory
+    }
+}

@@ -1,0 +1,92 @@
+//! Witness files: the places of an instance, and a list of places.
+use crate::event_file::{number, words_of};
+use crate::refused::FileRefused;
+use std::alloc::Global;
+use trace_model::{Instance, NoMemory, Place};
+
+/// What a witness file says: the places that are to be reached, and the list that is to reach them.
+#[derive(Drop)]
+pub struct WitnessFile {
+    pub instance: Instance,
+    pub order: Vec<Place>,
+}
+
+/// The places that follow the keyword, or none where the words are not that and numbers.
+fn places_after(
+    alloc: Global,
+    keyword: &[u8],
+    words: &[&[u8]],
+) -> Result<Option<Vec<Place>>, NoMemory> {
+    let Some((first, rest)) = words.split_first() else {
+        return Ok(None);
+    };
+    if *first != keyword {
+        return Ok(None);
+    }
+    let mut places = Vec::with_capacity(alloc, rest.len())?;
+    for word in rest {
+        let Some(index) = number(word) else {
+            return Ok(None);
+        };
+        places.push(Place::new(index))?;
+    }
+    Ok(Some(places))
+}
+
+/// The instance of a line `reach` with 2 to 8 numbers.
+fn reach(alloc: Global, words: &[&[u8]]) -> Result<Option<Instance>, NoMemory> {
+    match places_after(alloc, b"reach", words)? {
+        Some(places) => Ok(Instance::new(&places)),
+        None => Ok(None),
+    }
+}
+
+/// Reads a witness file: beside skipped lines a line `reach` with 2 to 8 numbers, and then a line `order` with
+/// any number of them.
+///
+/// # Errors
+///
+/// The first line that is not understood, which is one more than the number of lines where a line is missing,
+/// or `NoMemory`.
+pub fn read_witness(alloc: Global, file: &[u8]) -> Result<WitnessFile, FileRefused> {
+    let mut instance = None;
+    let mut order = None;
+    let mut lines = 0usize;
+    for line in file.split(|byte| *byte == b'\n') {
+        let words = words_of(alloc, line)?;
+        lines = lines.saturating_add(1);
+        if words.is_empty() {
+            continue;
+        }
+        if instance.is_none() {
+            instance = reach(alloc, &words)?;
+            if instance.is_none() {
+                return Err(FileRefused::Line(lines));
+            }
+        } else if order.is_none() {
+            order = places_after(alloc, b"order", &words)?;
+            if order.is_none() {
+                return Err(FileRefused::Line(lines));
+            }
+        } else {
+            return Err(FileRefused::Line(lines));
+        }
+    }
+    match (instance, order) {
+        (Some(instance), Some(order)) => Ok(WitnessFile { instance, order }),
+        _ => Err(FileRefused::Line(after_last(file, lines))),
+    }
+}
+
+/// One more than the number of lines of a file that was cut into so many pieces.
+fn after_last(file: &[u8], pieces: usize) -> usize {
+    let ends_a_line = match file.last() {
+        Some(byte) => *byte == b'\n',
+        None => true,
+    };
+    if ends_a_line {
+        pieces
+    } else {
+        pieces.saturating_add(1)
+    }
+}

@@ -1,4 +1,0 @@
-pub mod EventWords
-pub mod Lines
-pub mod Names
-pub mod Words

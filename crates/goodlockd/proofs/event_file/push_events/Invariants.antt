@@ -1,7 +1,0 @@
-use Rattle.std.proofs.Common.{◌≡◌, ◌++◌, map, take}
-use Rattle.goodlockd.specs.EventFile.{event_word}
-use Rattle.goodlockd.proofs.event_file.push_events.Given as goal
-
-abbrev pub invariant-loop-word : goal.invariant-loop-word
-invariant-loop-word l =
-    map event_word l.events.items ≡ map event_word l.initial.events.items ++ map (λ word. word.now) (take l.word-index l.words)

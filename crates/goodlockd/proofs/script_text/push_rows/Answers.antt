@@ -1,7 +1,0 @@
-use Rattle.std.specs.Prelude.{codes}
-use Rattle.goodlockd.specs.Script.{told, told_line}
-use Rattle.goodlockd.proofs.Words.{added_twice}
-use Rattle.goodlockd.proofs.script_text.push_rows.Goals as goal
-
-pub returns : goal.returns
-returns c = added_twice c.args.text.now.items c.push_number.new.text.items c.push_last.new.text.items (told (codes " cycles ") c.args.cycles) (told_line (codes " confirmed ") c.args.confirmed) c.in_ok-push_number.ensures c.in_ok-push_last.ensures

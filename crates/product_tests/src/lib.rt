@@ -1,0 +1,12 @@
+//! Tests that no worked trace can say: a book by its own calls, files that are not understood, output that fails, and long
+//! traces.
+#![tactic(auto)]
+
+#[cfg(test)]
+mod books;
+#[cfg(test)]
+mod files;
+#[cfg(test)]
+mod long_traces;
+#[cfg(test)]
+mod outcomes;

@@ -1,0 +1,207 @@
+//! The server: sessions over TCP and workers, each in a thread of its own, over one desk.
+ghost use Rattle.std.specs.Prelude.{◌≡◌};
+ghost use Rattle.sequencer.specs.Book.{IsLimit};
+ghost use Rattle.server.specs.Service.{IsWorkers};
+
+use crate::seats::{MAX_SESSIONS, Seats};
+use crate::sessions::hold_session;
+use board::{BoardReader, Naming, Opened, Shown};
+use claims::claimants;
+use desk::{Desk, Hold, Turn, Worker};
+use std::alloc::Global;
+use std::hash::RandomState;
+use std::marker::Brand;
+use std::net::TcpListener;
+use std::sync::atomic::{AtomicU64, Ordering};
+use std::sync::{Arc, Mutex, Wait};
+use std::thread;
+use std::thread::Threads;
+
+/// Why a server ended early.
+#[derive(Clone, Copy, Debug, PartialEq, Eq)]
+pub enum ServerFault {
+    /// An accept failed.
+    Listen,
+    /// The desk, the claimants or the threads of the workers were not made.
+    NotMade,
+}
+
+/// How many workers a server has, how many sessions it takes (0: without end), and how many events its book
+/// accepts at most.
+#[derive(Clone, Copy)]
+pub struct Service {
+    pub workers: u32,
+    pub sessions: u32,
+    pub limit: u32,
+}
+
+/// Keeps no worker.
+pub struct Unheld;
+
+impl Hold for Unheld {
+    fn hold(&self, _question: u32, _task: u32) {}
+}
+
+/// The workers of a desk, each with a reader of its own.
+fn make_workers<N: Naming, R: Wait + Copy>(
+    alloc: Global,
+    desk: &Arc<Desk<N, R, Shown<N>>>,
+    readers: &mut Vec<BoardReader<N>>,
+    workers: u32,
+) -> Result<Vec<Worker<N, R, Shown<N>>>, ServerFault>
+    requires { IsWorkers workers }
+{
+    let Ok(claims) = claimants(alloc, workers as usize) else {
+        return Err(ServerFault::NotMade);
+    };
+    let mut made = Vec::new(alloc);
+    for claimant in claims {
+        let (Ok(desk), Some(reader)) = (Arc::try_clone(desk), readers.pop()) else {
+            return Err(ServerFault::NotMade);
+        };
+        let Ok(()) = made.push(Worker::new(desk, claimant, reader)) else {
+            return Err(ServerFault::NotMade);
+        };
+    }
+    Ok(made)
+}
+
+/// Takes turns until the flag is set.
+fn work<N: Naming, R: Wait + Copy>(
+    rt: R,
+    mut worker: Worker<N, R, Shown<N>>,
+    stop: &AtomicU64,
+    hold: &impl Hold,
+) {
+    for _ in rt.forever() {
+        if stop.load(Ordering::SeqCst) != 0 {
+            return;
+        }
+        match worker.turn(hold) {
+            Turn::Delivered => {}
+            _ => thread::yield_now(),
+        }
+    }
+}
+
+/// Takes sessions, each in a thread of its own, up to so many, and answers how many they were once they have
+/// ended. A connection for which there is no seat or no thread is closed and not counted.
+fn take_sessions<N: Naming + Send + Sync, R: Threads + Wait + Copy + Send + Sync>(
+    rt: R,
+    alloc: Global,
+    listener: &TcpListener,
+    most: u64,
+    desk: &Arc<Desk<N, R, Shown<N>>>,
+    seats: &Mutex<Seats<N>>,
+) -> Result<u64, ServerFault> {
+    thread::scope(thread::scope_env(), &rt, |scope| {
+        let mut taken = 0u64;
+        for stream in listener.incoming() {
+            let Ok(stream) = stream else {
+                return Err(ServerFault::Listen);
+            };
+            if !seats.lock(&rt).take() {
+                continue;
+            }
+            let Ok(shared) = Arc::try_clone(desk) else {
+                seats.lock(&rt).leave();
+                continue;
+            };
+            if scope
+                .spawn(move || hold_session(rt, alloc, shared, seats, stream))
+                .is_err()
+            {
+                seats.lock(&rt).leave();
+                continue;
+            }
+            taken = taken.saturating_add(1);
+            if taken == most {
+                return Ok(taken);
+            }
+        }
+        Ok(taken)
+    })
+}
+
+/// Runs the workers and takes sessions, and stops the workers once the sessions have ended.
+fn serve_desk<N: Naming + Send + Sync, R: Threads + Wait + Copy + Send + Sync, H: Hold + Sync>(
+    rt: R,
+    alloc: Global,
+    listener: &TcpListener,
+    most: u64,
+    desk: &Arc<Desk<N, R, Shown<N>>>,
+    workers: Vec<Worker<N, R, Shown<N>>>,
+    seats: &Mutex<Seats<N>>,
+    hold: &H,
+) -> Result<u64, ServerFault> {
+    let stop = AtomicU64::new(0);
+    let flag = &stop;
+    thread::scope(thread::scope_env(), &rt, |scope| {
+        for worker in workers {
+            if scope.spawn(move || work(rt, worker, flag, hold)).is_err() {
+                flag.store(1, Ordering::SeqCst);
+                return Err(ServerFault::NotMade);
+            }
+        }
+        let served = take_sessions(rt, alloc, listener, most, desk, seats);
+        flag.store(1, Ordering::SeqCst);
+        served
+    })
+}
+
+/// Makes the desk of this history, and serves it.
+fn serve_named<N: Naming + Send + Sync, R: Threads + Wait + Copy + Send + Sync, H: Hold + Sync>(
+    rt: R,
+    alloc: Global,
+    state: RandomState,
+    opened: Opened,
+    listener: &TcpListener,
+    service: Service,
+    hold: &H,
+) -> Result<u64, ServerFault>
+    requires book { opened.seen.book ≡ N.book }
+    requires limit { service.limit ≡ N.limit }
+    requires workers { IsWorkers service.workers }
+{
+    let count = MAX_SESSIONS + service.workers as usize;
+    let Ok((desk, mut readers)) = Desk::<N, R, Shown<N>>::new(
+        alloc,
+        state,
+        rt,
+        opened,
+        service.limit,
+        count,
+    ) else {
+        return Err(ServerFault::NotMade);
+    };
+    let Ok(desk) = Arc::new(alloc, desk) else {
+        return Err(ServerFault::NotMade);
+    };
+    let workers = make_workers(alloc, &desk, &mut readers, service.workers)?;
+    let seats = Mutex::new(Seats::new(readers));
+    let most = u64::from(service.sessions);
+    serve_desk(rt, alloc, listener, most, &desk, workers, &seats, hold)
+}
+
+/// Serves the connections of the listener over one desk with its workers: a thread for each session, at most
+/// `MAX_SESSIONS` at a time, and one for each worker. A further connection, or one for which no thread can be
+/// made, is closed without a reply and not counted. Once `sessions` were taken it accepts nothing more; once they
+/// have ended it stops the workers, and answers how many sessions there were.
+///
+/// # Errors
+///
+/// `Listen` where an accept failed, once the open sessions have ended; `NotMade` where the desk, the claimants or
+/// the threads of the workers were not made.
+pub fn run_server<R: Threads + Wait + Copy + Send + Sync, H: Hold + Sync>(
+    rt: R,
+    alloc: Global,
+    state: RandomState,
+    listener: &TcpListener,
+    service: Service,
+    hold: &H,
+) -> Result<u64, ServerFault>
+    requires limit { IsLimit service.limit }
+    requires workers { IsWorkers service.workers }
+{
+    serve_named::<Brand, R, H>(rt, alloc, state, Opened::new(), listener, service, hold)
+}

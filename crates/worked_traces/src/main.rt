@@ -1,0 +1,125 @@
+//! Runs the worked traces in its folder of data by the program's own calls, and compares what they print with what
+//! must be printed. Each script is also run as one session with findings, and each witness of a report is handed to
+//! the checker.
+#![tactic(auto)]
+
+ghost use Rattle.command_line.specs.CommandLine.{IsInRange};
+
+mod case;
+mod playing;
+mod replies;
+mod running;
+mod sessions;
+mod witnesses;
+
+use anyhow::{Context, Result};
+use case::{Case, names_in};
+use command_line::{Invocation, parse};
+use commands::Status;
+use playing::played;
+use running::{Told, run};
+use sessions::run_sessions;
+use std::fs;
+use std::process::ExitCode;
+use std::str;
+use witnesses::are_accepted;
+
+/// What is wrong with what the commands told, if anything is.
+fn fault_of(rt: &HostRuntime, case: Case<'_>, told: &Told) -> Result<Option<&'static str>> {
+    let status = case.bytes(rt, "status")?;
+    let code = told.status.code();
+    if status.trim_ascii() != format!(in rt.alloc(); "{code}")?.as_bytes() {
+        return Ok(Some("its exit status"));
+    }
+    if told.out != case.bytes(rt, "out")? {
+        return Ok(Some("its output"));
+    }
+    if told.err != case.bytes(rt, "err")? {
+        return Ok(Some("its errors"));
+    }
+    Ok(None)
+}
+
+/// What is wrong with the other ways to the same answer, if anything is.
+fn other_fault_of(
+    rt: &HostRuntime,
+    invocation: &Invocation<'_>,
+    told: &Told,
+) -> Result<Option<&'static str>>
+    requires { IsInRange invocation.now }
+{
+    match invocation {
+        Invocation::Script { file, limit } if told.status == Status::Done => {
+            let bytes = fs::read(rt, *file)?;
+            let whole = played(rt, &bytes, *limit, 11)?;
+            let cut = played(rt, &bytes, *limit, 1)?;
+            let is_same = whole == told.out && cut == told.out;
+            Ok((!is_same).then_some("its run as a session"))
+        }
+        Invocation::Offline { file, .. } if told.status == Status::Done => {
+            let is_right = are_accepted(rt, &fs::read(rt, *file)?, &told.out)?;
+            Ok((!is_right).then_some("a witness"))
+        }
+        _ => Ok(None),
+    }
+}
+
+/// Runs a case of sessions. It answers what is wrong, if anything is.
+fn judged_sessions(rt: &HostRuntime, case: Case<'_>) -> Result<Option<&'static str>> {
+    let out = run_sessions(rt, &case.bytes(rt, "in")?)?;
+    let told = Told {
+        status: Status::Done,
+        out,
+        err: Vec::new(rt.alloc()),
+    };
+    fault_of(rt, case, &told)
+}
+
+/// Runs a case of a command. It answers what is wrong, if anything is.
+fn judged_command(rt: &HostRuntime, case: Case<'_>) -> Result<Option<&'static str>> {
+    let alloc = rt.alloc();
+    let files = case.files(alloc)?;
+    let arguments = case.bytes(rt, "args")?;
+    let arguments = str::from_utf8(&arguments).ok().context("arguments in text")?;
+    let mut words = vec![in alloc; "goodlockd", case.folder]?;
+    for file in &files {
+        words.push(file.as_str())?;
+    }
+    for word in arguments.split_ascii_whitespace() {
+        words.push(word)?;
+    }
+    let invocation = parse(alloc, &words)?;
+    let told = run(rt, &invocation)?;
+    match fault_of(rt, case, &told)? {
+        Some(fault) => Ok(Some(fault)),
+        None => other_fault_of(rt, &invocation, &told),
+    }
+}
+
+fn judged(rt: &HostRuntime, case: Case<'_>) -> Result<Option<&'static str>> {
+    if case.folder == "sessions" {
+        judged_sessions(rt, case)
+    } else {
+        judged_command(rt, case)
+    }
+}
+
+fn main(rt: HostRuntime) -> Result<ExitCode> {
+    let mut count = 0u32;
+    let mut wrong = 0u32;
+    for folder in ["offline", "replay", "script", "sessions"] {
+        for name in &names_in(&rt, folder)? {
+            let name = name.as_str();
+            count = count.saturating_add(1);
+            match judged(&rt, Case { folder, name })? {
+                None => println!(rt; "{folder}/{name} ok")?,
+                Some(fault) => {
+                    wrong = wrong.saturating_add(1);
+                    println!(rt; "{folder}/{name} wrong: {fault}")?;
+                }
+            }
+        }
+    }
+    println!(rt; "{count} cases, {wrong} wrong")?;
+    Ok(ExitCode::from(u8::from(wrong > 0)))
+}

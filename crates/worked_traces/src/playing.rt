@@ -1,0 +1,177 @@
+//! Scripts by one run of a session and of findings.
+ghost use Rattle.sequencer.specs.Book.{IsLimit};
+
+use crate::replies::{Bytes, print_refusal, print_reply};
+use anyhow::{Context, Result, bail};
+use commands::{Command, read_script};
+use event_frames::{answer_frame, ask_frame, offer_frame, status_frame};
+use findings::Finding;
+use sequencer::{Book, Input, Played, Session, play};
+use std::alloc::Global;
+use std::hash::RandomState;
+use std::io::Write;
+use trace_model::{Bound, Refusal};
+
+/// What a run is to print of a command.
+#[derive(Clone, Copy)]
+enum Awaited {
+    /// The next reply.
+    Reply,
+    /// What became of the next finding, which is about this task.
+    Delivery(u32),
+    /// How many of the next findings, so many, were taken.
+    Deliveries(u32),
+    /// This refusal: nothing could be sent.
+    Refused(Refusal),
+}
+
+/// Who sends what a script says. Findings are computed over a book of its own, which is told the same.
+#[derive(Drop)]
+struct Sender {
+    alloc: Global,
+    session: Session,
+    book: Book,
+    inputs: Vec<Input>,
+    piece: usize,
+}
+
+impl Sender {
+    fn send(&mut self, command: Command) -> Result<Awaited> {
+        match command {
+            Command::Offer(event) => {
+                let _ = self.book.offer(event);
+                self.request(&offer_frame(&event))
+            }
+            Command::Ask(bound) => {
+                let _ = self.book.ask(bound);
+                self.request(&ask_frame(bound))
+            }
+            Command::Answer(question) => self.request(&answer_frame(question)),
+            Command::Status(question) => self.request(&status_frame(question)),
+            Command::Deliver { question, task } => match self.deliver(question, task)? {
+                Some(refusal) => Ok(Awaited::Refused(refusal)),
+                None => Ok(Awaited::Delivery(task)),
+            },
+            Command::Work(question) => self.work(question),
+        }
+    }
+
+    fn request(&mut self, frame: &[u8]) -> Result<Awaited> {
+        for piece in frame.chunks(self.piece.max(1)) {
+            let bytes = Vec::from_slice(self.alloc, piece)?;
+            self.inputs.push(Input::Piece(self.session, bytes))?;
+        }
+        Ok(Awaited::Reply)
+    }
+
+    /// The rows of a task of a question; the outer result is of the run, the inner of the book.
+    fn finding(&self, question: u32, task: u32) -> Result<Result<Finding, Refusal>> {
+        let snapshot = match self.book.snapshot(question) {
+            Ok(snapshot) => snapshot,
+            Err(refusal) => return Ok(Err(refusal)),
+        };
+        let bound = Bound::new(self.book.status(question)?.bound).context("a bound")?;
+        let finding = Finding::compute(self.alloc, snapshot, question, bound, task)?;
+        Ok(Ok(finding))
+    }
+
+    /// Delivers a task, unless there is no such question.
+    fn deliver(&mut self, question: u32, task: u32) -> Result<Option<Refusal>> {
+        match (self.finding(question, task)?, self.finding(question, task)?) {
+            (Ok(own), Ok(sent)) => {
+                let _ = self.book.deliver(own);
+                self.inputs.push(Input::Finding(sent))?;
+                Ok(None)
+            }
+            (Err(refusal), _) | (_, Err(refusal)) => Ok(Some(refusal)),
+        }
+    }
+
+    fn work(&mut self, question: u32) -> Result<Awaited> {
+        for worked in 0..u32::MAX {
+            let Ok(missing) = self.book.missing(question) else {
+                return Ok(Awaited::Refused(Refusal::NoSuchQuestion));
+            };
+            let Some(task) = missing else {
+                return Ok(Awaited::Deliveries(worked));
+            };
+            self.deliver(question, task)?;
+        }
+        bail!("a question has more tasks than a trace has events")
+    }
+}
+
+/// Prints what became of the next deliveries, so many of which were taken, as the words say.
+fn print_deliveries(text: &mut Vec<u8>, run: &Played, from: usize, count: u32) -> Result<()> {
+    for index in 0..count as usize {
+        let delivered = run.deliveries().get(from.saturating_add(index));
+        match delivered.context("a delivery is missing")? {
+            Ok(()) => {}
+            Err((refusal, _)) => return print_refusal(text, refusal.number()),
+        }
+    }
+    writeln!(text, "worked {count}")?;
+    Ok(())
+}
+
+fn print_delivery(text: &mut Vec<u8>, run: &Played, index: usize, task: u32) -> Result<()> {
+    let delivered = run.deliveries().get(index);
+    match delivered.context("a delivery is missing")? {
+        Ok(()) => {
+            writeln!(text, "delivered {task}")?;
+            Ok(())
+        }
+        Err((refusal, _)) => print_refusal(text, refusal.number()),
+    }
+}
+
+/// Prints what the run answered, command by command.
+fn printed(alloc: Global, run: &Played, session: Session, awaited: &[Awaited]) -> Result<Vec<u8>> {
+    let mut text = Vec::new(alloc);
+    let mut sent = Bytes(run.sent(session));
+    let mut delivered = 0usize;
+    for step in awaited {
+        match step {
+            Awaited::Reply => print_reply(&mut text, &mut sent)?,
+            Awaited::Delivery(task) => {
+                print_delivery(&mut text, run, delivered, *task)?;
+                delivered = delivered.saturating_add(1);
+            }
+            Awaited::Deliveries(count) => {
+                print_deliveries(&mut text, run, delivered, *count)?;
+                delivered = delivered.saturating_add(*count as usize);
+            }
+            Awaited::Refused(refusal) => print_refusal(&mut text, refusal.number())?,
+        }
+    }
+    if !sent.0.is_empty() {
+        bail!("more was sent than was asked for");
+    }
+    Ok(text)
+}
+
+/// What the script in these bytes prints, by one run of `play`: the requests are the bytes of one session, in pieces of
+/// at most so many, and the findings of `work` and `deliver` come between them.
+pub fn played(rt: &HostRuntime, file: &[u8], limit: u32, piece: usize) -> Result<Vec<u8>>
+    requires { IsLimit limit }
+{
+    let alloc = rt.alloc();
+    let state = RandomState::new(rt)?;
+    let session = Session::new(0).context("a session")?;
+    let Ok(commands) = read_script(alloc, file) else {
+        bail!("a script that is not understood");
+    };
+    let mut sender = Sender {
+        alloc,
+        session,
+        book: Book::new(alloc, state, limit)?,
+        inputs: Vec::new(alloc),
+        piece,
+    };
+    let mut awaited = Vec::new(alloc);
+    for command in &commands {
+        awaited.push(sender.send(*command)?)?;
+    }
+    let run = play(alloc, state, limit, sender.inputs)?;
+    printed(alloc, &run, session, &awaited)
+}

@@ -1,0 +1,51 @@
+//! Cases by the commands' own calls.
+ghost use Rattle.command_line.specs.CommandLine.{IsInRange};
+
+use anyhow::{Result, bail};
+use command_line::Invocation;
+use commands::{Files, Names, Status, run_offline, run_replay, run_script};
+use std::fs;
+use std::hash::RandomState;
+use trace_model::Bound;
+
+/// How a command ended, and what it told.
+#[derive(Drop)]
+pub struct Told {
+    pub status: Status,
+    pub out: Vec<u8>,
+    pub err: Vec<u8>,
+}
+
+/// Runs what a command line asks for.
+pub fn run(rt: &HostRuntime, invocation: &Invocation<'_>) -> Result<Told>
+    requires { IsInRange invocation.now }
+{
+    let alloc = rt.alloc();
+    let state = RandomState::new(rt)?;
+    let mut out = Vec::new(alloc);
+    let mut err = Vec::new(alloc);
+    let status = match invocation {
+        Invocation::Script { file, limit } => {
+            let bytes = fs::read(rt, *file)?;
+            run_script(alloc, state, file, &bytes, *limit, &mut out, &mut err)
+        }
+        Invocation::Offline { file, bound } => {
+            let bytes = fs::read(rt, *file)?;
+            let Some(bound) = Bound::new(*bound as u8) else {
+                unreachable!()
+            };
+            run_offline(alloc, state, file, &bytes, bound, &mut out, &mut err)
+        }
+        Invocation::Replay { trace, witness } => {
+            let events = fs::read(rt, *trace)?;
+            let order = fs::read(rt, *witness)?;
+            let files = Files {
+                trace: &events,
+                witness: &order,
+            };
+            run_replay(alloc, state, Names { trace, witness }, files, &mut out, &mut err)
+        }
+        Invocation::Serve { .. } => bail!("no case is a server"),
+    };
+    Ok(Told { status, out, err })
+}

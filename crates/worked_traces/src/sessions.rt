@@ -1,0 +1,104 @@
+//! Cases of sessions: pieces of bytes, ends of sessions, and findings, in one run.
+use crate::replies::print_refusal;
+use anyhow::{Context, Result, bail};
+use event_files::{event, lines_of, number, words_of};
+use findings::Finding;
+use sequencer::{Book, Input, Played, Session, play};
+use std::alloc::Global;
+use std::hash::RandomState;
+use std::io::Write;
+use std::str;
+use trace_model::{Bound, MAX_EVENTS};
+
+/// The session of a number from 0 to 63.
+fn session_of(word: &[u8]) -> Result<Session> {
+    let index = u8::try_from(number(word).context("a number")?)?;
+    Session::new(index).context("a session is 0 to 63")
+}
+
+/// The bytes that two digits each stand for.
+fn bytes_of(alloc: Global, digits: &[u8]) -> Result<Vec<u8>> {
+    let mut bytes = Vec::new(alloc);
+    for pair in digits.chunks(2) {
+        let text = str::from_utf8(pair).ok().context("hexadecimal digits")?;
+        bytes.push(u8::from_str_radix(text, 16)?)?;
+    }
+    Ok(bytes)
+}
+
+/// The rows of a task, computed by someone who has a book of these events.
+fn finding_of(rt: &HostRuntime, about: [u32; 3], words: &[&[u8]]) -> Result<Finding> {
+    let [question, bound, task] = about;
+    let mut book = Book::new(rt.alloc(), RandomState::new(rt)?, MAX_EVENTS as u32)?;
+    for word in words {
+        let offered = book.offer(event(word).context("an event")?);
+        if offered.is_err() {
+            bail!("an event of a finding is not lawful");
+        }
+    }
+    book.ask(2)?;
+    let Ok(snapshot) = book.snapshot(0) else {
+        bail!("no snapshot");
+    };
+    let bound = Bound::new(u8::try_from(bound)?).context("a bound")?;
+    Ok(Finding::compute(rt.alloc(), snapshot, question, bound, task)?)
+}
+
+/// What a line of these words brings.
+fn input_of(rt: &HostRuntime, words: &[&[u8]]) -> Result<Input> {
+    let (keyword, rest) = words.split_first().context("a word")?;
+    match (str::from_utf8(keyword).ok(), rest) {
+        (Some("piece"), [session, bytes]) => {
+            Ok(Input::Piece(session_of(session)?, bytes_of(rt.alloc(), bytes)?))
+        }
+        (Some("end"), [session]) => Ok(Input::End(session_of(session)?)),
+        (Some("finding"), [question, bound, task, events @ ..]) => {
+            let mut about = [0u32; 3];
+            about[0] = number(question).context("a question")?;
+            about[1] = number(bound).context("a bound")?;
+            about[2] = number(task).context("a task")?;
+            Ok(Input::Finding(finding_of(rt, about, events)?))
+        }
+        _ => bail!("a line of a session is not understood"),
+    }
+}
+
+/// Prints what a session was sent, if it was sent anything.
+fn print_sent(text: &mut Vec<u8>, run: &Played, number: u8) -> Result<()> {
+    let session = Session::new(number).context("a session is 0 to 63")?;
+    let sent = run.sent(session);
+    if sent.is_empty() {
+        return Ok(());
+    }
+    write!(text, "{number} ")?;
+    for byte in sent {
+        write!(text, "{byte:02x}")?;
+    }
+    writeln!(text)?;
+    Ok(())
+}
+
+/// Runs the inputs of a file, a line each: `piece S BYTES`, `end S`, or `finding Q K J EVENTS`. It prints what each
+/// session was sent, a line each, and then what became of each finding.
+pub fn run_sessions(rt: &HostRuntime, file: &[u8]) -> Result<Vec<u8>> {
+    let alloc = rt.alloc();
+    let mut inputs = Vec::new(alloc);
+    for line in &lines_of(alloc, file)? {
+        let words = words_of(alloc, line)?;
+        if !words.is_empty() {
+            inputs.push(input_of(rt, &words)?)?;
+        }
+    }
+    let run = play(alloc, RandomState::new(rt)?, MAX_EVENTS as u32, inputs)?;
+    let mut text = Vec::new(alloc);
+    for number in 0..64u8 {
+        print_sent(&mut text, &run, number)?;
+    }
+    for delivered in run.deliveries() {
+        match delivered {
+            Ok(()) => writeln!(text, "taken")?,
+            Err((refusal, _)) => print_refusal(&mut text, refusal.number())?,
+        }
+    }
+    Ok(text)
+}
