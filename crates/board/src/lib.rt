@@ -10,8 +10,6 @@ mod history;
 mod reader;
 mod shown;
 mod summary;
-#[cfg(test)]
-mod tests;
 mod writer;
 
 pub use history::{Front, Head, Naming, Opened};

@@ -17,9 +17,6 @@ use std::marker::Model;
 use std::sync::Arc;
 use thiserror::Error;
 
-#[cfg(test)]
-mod tests;
-
 /// How many questions there are: each has a word of its own.
 pub const QUESTIONS: usize = 256;
 

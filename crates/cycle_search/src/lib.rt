@@ -6,8 +6,6 @@ mod parts;
 mod ranks;
 mod refused;
 mod search;
-#[cfg(test)]
-mod tests;
 
 pub use cycle::Cycle;
 pub use ranks::Ranks;

@@ -7,13 +7,7 @@
 mod desk;
 mod locked;
 mod replies;
-#[cfg(test)]
-mod tests;
-#[cfg(test)]
-mod thread_tests;
 mod worker;
-#[cfg(test)]
-mod worker_tests;
 
 pub use desk::Desk;
 pub use locked::{DeskRefused, Locked};

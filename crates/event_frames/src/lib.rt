@@ -5,8 +5,6 @@ mod front;
 mod reader;
 mod replies;
 mod requests;
-#[cfg(test)]
-mod tests;
 
 pub use reader::FrameReader;
 pub use replies::{encode_reply, push_reply};

@@ -6,9 +6,6 @@ ghost use Rattle.std.specs.List.{All};
 ghost use Rattle.dependencies.specs.Tables.{known};
 ghost use Rattle.guards.specs.Compatible.{AreApart, NumbersApart, IsCompatible};
 
-#[cfg(test)]
-mod tests;
-
 use dependencies::{DepTable, Dependency};
 
 /// Whether a dependency may join the members of a cycle: its thread differs from the threads of all

@@ -4,8 +4,6 @@
 pub mod laws;
 mod set;
 mod table;
-#[cfg(test)]
-mod tests;
 
 pub use set::HeldSet;
 pub use table::HeldTable;

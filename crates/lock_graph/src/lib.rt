@@ -3,7 +3,5 @@
 
 mod graph;
 mod lists;
-#[cfg(test)]
-mod tests;
 
 pub use graph::LockGraph;

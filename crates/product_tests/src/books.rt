@@ -4,7 +4,8 @@ use crate::outcomes::MOST;
 use event_files::read_events;
 use findings::Finding;
 use sequencer::{
-    Answer, AnswerRefused, AskRefused, Book, BookRefused, Input, NoSuchQuestion, PlayRefused, Session, Status, play,
+    Answer, AnswerRefused, AskRefused, Book, BookRefused, Input, NoSuchQuestion, PlayRefused,
+    Session, Status, play,
 };
 use std::hash::RandomState;
 use std::process::Abort;

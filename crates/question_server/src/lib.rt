@@ -3,23 +3,16 @@
 
 mod books;
 mod client;
-#[cfg(test)]
-mod client_tests;
 mod counting;
 mod ends;
 mod memory;
-#[cfg(test)]
-mod offline_tests;
-#[cfg(test)]
-mod one_byte;
 mod reporting;
-#[cfg(test)]
-mod serve_tests;
 mod sessions;
 mod streams;
 
 pub use books::serve_book;
 pub use client::Client;
+pub use counting::count_failure;
 pub use ends::{Calls, Failed, Sink, Source};
 pub use memory::{MemorySink, MemorySource};
 pub use reporting::{OfflineRefused, offline};

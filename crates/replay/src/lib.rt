@@ -10,8 +10,6 @@ mod facts;
 mod latest;
 pub mod laws;
 mod place_tests;
-#[cfg(test)]
-mod tests;
 mod verdict;
 mod walked;
 

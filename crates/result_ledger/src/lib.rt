@@ -2,7 +2,5 @@
 #![tactic(auto)]
 
 mod ledger;
-#[cfg(test)]
-mod tests;
 
 pub use ledger::{Ledger, LedgerRefused};

@@ -4,7 +4,5 @@
 mod seats;
 mod serving;
 mod sessions;
-#[cfg(test)]
-mod tests;
 
 pub use serving::{ServerFault, Service, Unheld, run_server};

@@ -13,8 +13,6 @@ mod refusal;
 mod report;
 mod session;
 mod step;
-#[cfg(test)]
-mod tests;
 
 pub use bound::Bound;
 pub use event::{Event, Op};

@@ -4,8 +4,6 @@
 mod entries;
 mod gate;
 mod owners;
-#[cfg(test)]
-mod tests;
 mod threads;
 
 pub use gate::Gate;

@@ -3,15 +3,9 @@
 #![tactic(auto)]
 
 mod measure;
-#[cfg(test)]
-mod oracle;
 mod order;
 mod report;
 mod row;
-#[cfg(test)]
-mod tests;
-#[cfg(test)]
-mod traces;
 mod write;
 
 pub use measure::confirmed_in;

@@ -1,7 +1,8 @@
 //! The files of a case.
+use anyhow::{Context, Result};
 use std::alloc::{AllocError, Global};
-use std::fs;
 use std::io::{self, ErrorKind};
+use std::{fs, str};
 
 /// A case: its folder, which names the command, and its name there.
 #[derive(Clone, Copy)]
@@ -12,14 +13,14 @@ pub struct Case<'a> {
 
 impl Case<'_> {
     /// The path of its file with this ending.
-    pub fn path(&self, alloc: Global, ending: &str) -> Result<String, AllocError> {
+    pub(crate) fn path(&self, alloc: Global, ending: &str) -> Result<String, AllocError> {
         let folder = self.folder;
         let name = self.name;
         format!(in alloc; "{folder}/{name}.{ending}")
     }
 
     /// What its file with this ending holds; nothing where there is none.
-    pub fn bytes(&self, rt: &HostRuntime, ending: &str) -> io::Result<Vec<u8>> {
+    pub(crate) fn bytes(&self, rt: &HostRuntime, ending: &str) -> io::Result<Vec<u8>> {
         let path = self.path(rt.alloc(), ending)?;
         match fs::read(rt, path.as_str()) {
             Err(error) if error.kind() == ErrorKind::NotFound => Ok(Vec::new(rt.alloc())),
@@ -27,22 +28,32 @@ impl Case<'_> {
         }
     }
 
-    /// The files that its command line names.
-    pub fn files(&self, alloc: Global) -> Result<Vec<String>, AllocError> {
+    /// The words of its command line.
+    pub(crate) fn words(&self, rt: &HostRuntime) -> Result<Vec<String>> {
+        let alloc = rt.alloc();
         let endings: &[&str] = match self.folder {
             "replay" => &["trace", "witness"],
             _ => &["in"],
         };
-        let mut files = Vec::new(alloc);
+        let mut words = Vec::new(alloc);
+        words.push(String::from_str(alloc, "goodlockd")?)?;
+        words.push(String::from_str(alloc, self.folder)?)?;
         for ending in endings {
-            files.push(self.path(alloc, ending)?)?;
+            words.push(self.path(alloc, ending)?)?;
         }
-        Ok(files)
+        let arguments = self.bytes(rt, "args")?;
+        let arguments = str::from_utf8(&arguments)
+            .ok()
+            .context("arguments in text")?;
+        for word in arguments.split_ascii_whitespace() {
+            words.push(String::from_str(alloc, word)?)?;
+        }
+        Ok(words)
     }
 }
 
 /// The names of the cases in a folder, ascending: of each there is a file with its exit status.
-pub fn names_in(rt: &HostRuntime, folder: &str) -> io::Result<Vec<String>> {
+pub(crate) fn names_in(rt: &HostRuntime, folder: &str) -> io::Result<Vec<String>> {
     let mut names = Vec::new(rt.alloc());
     for entry in fs::read_dir(rt, folder)? {
         let entry = entry?;

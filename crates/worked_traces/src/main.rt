@@ -12,7 +12,7 @@ mod running;
 mod sessions;
 mod witnesses;
 
-use anyhow::{Context, Result};
+use anyhow::Result;
 use case::{Case, names_in};
 use command_line::{Invocation, parse};
 use commands::Status;
@@ -21,7 +21,6 @@ use running::{Told, run};
 use sessions::run_sessions;
 use std::fs;
 use std::process::ExitCode;
-use std::str;
 use witnesses::are_accepted;
 
 /// What is wrong with what the commands told, if anything is.
@@ -78,15 +77,10 @@ fn judged_sessions(rt: &HostRuntime, case: Case<'_>) -> Result<Option<&'static s
 /// Runs a case of a command. It answers what is wrong, if anything is.
 fn judged_command(rt: &HostRuntime, case: Case<'_>) -> Result<Option<&'static str>> {
     let alloc = rt.alloc();
-    let files = case.files(alloc)?;
-    let arguments = case.bytes(rt, "args")?;
-    let arguments = str::from_utf8(&arguments).ok().context("arguments in text")?;
-    let mut words = vec![in alloc; "goodlockd", case.folder]?;
-    for file in &files {
-        words.push(file.as_str())?;
-    }
-    for word in arguments.split_ascii_whitespace() {
-        words.push(word)?;
+    let given = case.words(rt)?;
+    let mut words = Vec::new(alloc);
+    for word in &given {
+        words.push(word.as_str())?;
     }
     let invocation = parse(alloc, &words)?;
     let told = run(rt, &invocation)?;

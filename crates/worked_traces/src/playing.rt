@@ -152,7 +152,7 @@ fn printed(alloc: Global, run: &Played, session: Session, awaited: &[Awaited]) -
 
 /// What the script in these bytes prints, by one run of `play`: the requests are the bytes of one session, in pieces of
 /// at most so many, and the findings of `work` and `deliver` come between them.
-pub fn played(rt: &HostRuntime, file: &[u8], limit: u32, piece: usize) -> Result<Vec<u8>>
+pub(crate) fn played(rt: &HostRuntime, file: &[u8], limit: u32, piece: usize) -> Result<Vec<u8>>
     requires { IsLimit limit }
 {
     let alloc = rt.alloc();

@@ -38,7 +38,7 @@ impl<'a> Bytes<'a> {
 }
 
 /// Prints a refusal by its number.
-pub fn print_refusal(text: &mut Vec<u8>, number: u8) -> Result<()> {
+pub(crate) fn print_refusal(text: &mut Vec<u8>, number: u8) -> Result<()> {
     let name = refusal_name(number).context("a refusal without a name")?;
     writeln!(text, "refused {number} {name}")?;
     Ok(())
@@ -54,14 +54,17 @@ fn print_status(text: &mut Vec<u8>, body: &mut Bytes<'_>) -> Result<()> {
     let delivered = body.number()?;
     let cycles = body.wide()?;
     let confirmed = body.wide()?;
-    write!(text, "status {question} accepted {accepted} opened {opened} length {length}")?;
+    write!(
+        text,
+        "status {question} accepted {accepted} opened {opened} length {length}"
+    )?;
     write!(text, " bound {bound} total {total} delivered {delivered}")?;
     writeln!(text, " cycles {cycles} confirmed {confirmed}")?;
     Ok(())
 }
 
 /// Prints the next reply.
-pub fn print_reply(text: &mut Vec<u8>, sent: &mut Bytes<'_>) -> Result<()> {
+pub(crate) fn print_reply(text: &mut Vec<u8>, sent: &mut Bytes<'_>) -> Result<()> {
     let mut body = sent.body()?;
     match body.byte()? {
         65 => {
@@ -79,7 +82,10 @@ pub fn print_reply(text: &mut Vec<u8>, sent: &mut Bytes<'_>) -> Result<()> {
             let question = body.number()?;
             let delivered = body.number()?;
             let total = body.number()?;
-            writeln!(text, "pending {question} delivered {delivered} total {total}")?;
+            writeln!(
+                text,
+                "pending {question} delivered {delivered} total {total}"
+            )?;
         }
         69 => {
             body.number()?;

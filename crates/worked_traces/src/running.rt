@@ -17,7 +17,7 @@ pub struct Told {
 }
 
 /// Runs what a command line asks for.
-pub fn run(rt: &HostRuntime, invocation: &Invocation<'_>) -> Result<Told>
+pub(crate) fn run(rt: &HostRuntime, invocation: &Invocation<'_>) -> Result<Told>
     requires { IsInRange invocation.now }
 {
     let alloc = rt.alloc();
@@ -43,7 +43,14 @@ pub fn run(rt: &HostRuntime, invocation: &Invocation<'_>) -> Result<Told>
                 trace: &events,
                 witness: &order,
             };
-            run_replay(alloc, state, Names { trace, witness }, files, &mut out, &mut err)
+            run_replay(
+                alloc,
+                state,
+                Names { trace, witness },
+                files,
+                &mut out,
+                &mut err,
+            )
         }
         Invocation::Serve { .. } => bail!("no case is a server"),
     };

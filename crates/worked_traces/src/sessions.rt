@@ -80,7 +80,7 @@ fn print_sent(text: &mut Vec<u8>, run: &Played, number: u8) -> Result<()> {
 
 /// Runs the inputs of a file, a line each: `piece S BYTES`, `end S`, or `finding Q K J EVENTS`. It prints what each
 /// session was sent, a line each, and then what became of each finding.
-pub fn run_sessions(rt: &HostRuntime, file: &[u8]) -> Result<Vec<u8>> {
+pub(crate) fn run_sessions(rt: &HostRuntime, file: &[u8]) -> Result<Vec<u8>> {
     let alloc = rt.alloc();
     let mut inputs = Vec::new(alloc);
     for line in &lines_of(alloc, file)? {

@@ -33,7 +33,7 @@ fn push_place(alloc: Global, reach: &mut String, line: &str) -> Result<()> {
 }
 
 /// Whether the checker accepts each witness that the report on the trace prints.
-pub fn are_accepted(rt: &HostRuntime, trace: &[u8], report: &[u8]) -> Result<bool> {
+pub(crate) fn are_accepted(rt: &HostRuntime, trace: &[u8], report: &[u8]) -> Result<bool> {
     let alloc = rt.alloc();
     let report = str::from_utf8(report).ok().context("a report in text")?;
     let mut reach = String::new(alloc);

@@ -1,0 +1,299 @@
+//! A desk by its own calls.
+
+ghost use Rattle.std.specs.Prelude.{◌≡◌};
+
+use board::{BoardReader, Naming, Opened, Receipt, Shown};
+use desk::{Desk, DeskRefused};
+use findings::Finding;
+use sequencer::{Answer, AnswerRefused, AskRefused, Book};
+use std::alloc::Global;
+use std::hash::RandomState;
+use std::marker::Brand;
+use std::process::Abort;
+use std::random::RandomSource;
+use std::sync::Wait;
+use std::test::*;
+use trace_model::{Bound, Event, Op, Refusal};
+
+pub(crate) const MOST: u32 = 1_048_576;
+
+fn event(thread: u32, op: Op) -> Event {
+    Event { thread, op }
+}
+
+/// `0f1 0f2`
+pub(crate) fn two_forks() -> [Event; 2] {
+    [event(0, Op::Fork(1)), event(0, Op::Fork(2))]
+}
+
+/// `1a10 1a20 1r20 1r10 2a20 2a10 2r10 2r20`
+pub(crate) fn opposite_sections() -> [Event; 8] {
+    [
+        event(1, Op::Acquire(10)),
+        event(1, Op::Acquire(20)),
+        event(1, Op::Release(20)),
+        event(1, Op::Release(10)),
+        event(2, Op::Acquire(20)),
+        event(2, Op::Acquire(10)),
+        event(2, Op::Release(10)),
+        event(2, Op::Release(20)),
+    ]
+}
+
+/// A desk with one reader.
+pub(crate) fn one_reader<N: Naming, R: Wait + Copy>(
+    rt: R,
+    alloc: Global,
+    state: RandomState,
+    opened: Opened,
+    limit: u32,
+) -> Result<(Desk<N, R, Shown<N>>, BoardReader<N>), Fail>
+    requires book { opened.seen.book ≡ N.book }
+    requires limit { limit ≡ N.limit }
+{
+    let (desk, mut readers) = Desk::new(alloc, state, rt, opened, limit, 1)?;
+    let reader = readers.pop().ok_or("a reader")?;
+    Ok((desk, reader))
+}
+
+/// All of these events are accepted.
+pub(crate) fn accepted<N: Naming, R: Wait + Abort + Copy>(
+    rt: &R,
+    desk: &Desk<N, R, Shown<N>>,
+    reader: &mut BoardReader<N>,
+    events: &[Event],
+) {
+    for event in events {
+        let (answer, receipt) = desk.offer(*event);
+        assert!(rt; answer.is_ok());
+        reader.learn(&receipt);
+    }
+}
+
+#[test]
+fn each_refusal_once(rt: HostRuntime) -> Result<(), Fail> {
+    refuses_each_once::<Brand, _>(rt, rt.alloc(), RandomState::new(&rt)?, Opened::new(), MOST)
+}
+
+fn refuses_each_once<N: Naming, R: Wait + Abort + Copy>(
+    rt: R,
+    alloc: Global,
+    state: RandomState,
+    opened: Opened,
+    limit: u32,
+) -> Result<(), Fail>
+    requires book { opened.seen.book ≡ N.book }
+    requires limit { limit ≡ N.limit }
+{
+    let (desk, mut reader) = one_reader::<N, R>(rt, alloc, state, opened, limit)?;
+    let script = [
+        (0, Op::Fork(1), Ok(0)),
+        (0, Op::Fork(2), Ok(1)),
+        (1, Op::Release(10), Err(Refusal::NotHeld)),
+        (1, Op::Acquire(10), Ok(2)),
+        (2, Op::Acquire(10), Err(Refusal::HeldByOther)),
+        (1, Op::Acquire(10), Err(Refusal::HeldByItself)),
+        (0, Op::Join(0), Err(Refusal::JoinsItself)),
+        (1, Op::Join(0), Err(Refusal::JoinUnknown)),
+        (3, Op::Acquire(1), Err(Refusal::Unforked)),
+        (0, Op::Fork(1), Err(Refusal::AlreadyForked)),
+        (0, Op::Fork(0), Err(Refusal::AlreadyForked)),
+        (0, Op::Join(2), Ok(3)),
+        (1, Op::Join(2), Err(Refusal::JoinedTwice)),
+        (2, Op::Write(1), Err(Refusal::Ended)),
+        (0, Op::Join(9), Err(Refusal::JoinUnknown)),
+        (1, Op::Release(10), Ok(4)),
+    ];
+    for (thread, op, reply) in script {
+        let (answer, receipt) = desk.offer(event(thread, op));
+        assert_eq!(rt; answer.map(|place| place.get()), reply);
+        reader.learn(&receipt);
+    }
+    let Ok(summary) = reader.status() else {
+        return Err(Fail::from("busy"));
+    };
+    assert_eq!(rt; summary.accepted, 5);
+    Ok(())
+}
+
+#[test]
+fn limits_of_a_desk(rt: HostRuntime) -> Result<(), Fail> {
+    let state = RandomState::new(&rt)?;
+    let cases = [
+        (0, 0, Some(DeskRefused::BadLimit)),
+        (MOST + 1, 41, Some(DeskRefused::BadLimit)),
+        (1, 0, Some(DeskRefused::BadCount)),
+        (MOST, 41, Some(DeskRefused::BadCount)),
+        (MOST, 40, None),
+    ];
+    for (limit, readers, refused) in cases {
+        let made = refused_by::<Brand, _>(rt, rt.alloc(), state, Opened::new(), limit, readers);
+        assert_eq!(rt; made, refused);
+    }
+    Ok(())
+}
+
+/// Why there is no such desk.
+fn refused_by<N: Naming, R: Wait + Copy>(
+    rt: R,
+    alloc: Global,
+    state: RandomState,
+    opened: Opened,
+    limit: u32,
+    readers: usize,
+) -> Option<DeskRefused>
+    requires book { opened.seen.book ≡ N.book }
+    requires limit { limit ≡ N.limit }
+{
+    Desk::<N, R, Shown<N>>::new(alloc, state, rt, opened, limit, readers).err()
+}
+
+#[test]
+fn two_hundred_repetitions(rt: HostRuntime) -> Result<(), Fail> {
+    repeats::<Brand, _>(rt, rt.alloc(), RandomState::new(&rt)?, Opened::new(), MOST)
+}
+
+const REPORT: &str =
+    "question 0 length 1602 bound 2 cycles 1 confirmed 1\ncycle 0 1 confirmed\n  thread 1 lock 20 holds 10 place 3\n  thread 2 lock 10 holds 20 place 7\n  witness 0 1 2 6\n";
+
+fn is_report(answer: Result<Answer, AnswerRefused>) -> bool {
+    match answer {
+        Ok(Answer::Settled(text)) => text.as_slice() == REPORT.as_bytes(),
+        _ => false,
+    }
+}
+
+fn repeats<N: Naming, R: Wait + Abort + Copy>(
+    rt: R,
+    alloc: Global,
+    state: RandomState,
+    opened: Opened,
+    limit: u32,
+) -> Result<(), Fail>
+    requires book { opened.seen.book ≡ N.book }
+    requires limit { limit ≡ N.limit }
+{
+    let (desk, mut reader) = one_reader::<N, R>(rt, alloc, state, opened, limit)?;
+    accepted(&rt, &desk, &mut reader, &two_forks());
+    for _ in 0..200 {
+        accepted(&rt, &desk, &mut reader, &opposite_sections());
+    }
+    let Ok(summary) = reader.status() else {
+        return Err(Fail::from("busy"));
+    };
+    assert!(rt; summary.accepted >= 1602);
+    assert!(rt; matches!(desk.ask(1).0, Err(AskRefused::BadBound)));
+    let Ok(opened) = desk.ask(2).0 else {
+        return Err(Fail::from("no question"));
+    };
+    assert_eq!(rt;
+        (opened.question, opened.length, opened.total),
+        (0, 1602, 2)
+    );
+    let two = Bound::new(2).expect(&rt, "a bound is 2 to 8");
+    for task in 0..opened.total {
+        assert_eq!(rt; desk.missing(0).ok(), Some(Some(task)));
+        assert!(rt; matches!(desk.answer(0).0, Ok(Answer::Pending { .. })));
+        let Ok(snapshot) = desk.snapshot(0) else {
+            return Err(Fail::from("no snapshot"));
+        };
+        let finding = Finding::compute(alloc, snapshot, 0, two, task)?;
+        assert!(rt; desk.deliver(finding).0.is_ok());
+    }
+    assert_eq!(rt; desk.missing(0).ok(), Some(None));
+    assert!(rt; desk.missing(1).is_err());
+    assert!(rt; matches!(desk.snapshot(1), Err(Refusal::NoSuchQuestion)));
+    assert!(rt; is_report(desk.answer(0).0));
+    Ok(())
+}
+
+/// The rows of a task, computed by someone who has a book of these events after two forks.
+fn finding(
+    rt: &(impl RandomSource + AllocGlobal + Abort),
+    events: &[Event],
+    question: u32,
+    bound: u8,
+    task: u32,
+) -> Result<Finding, Fail> {
+    let mut book = Book::new(rt.alloc(), RandomState::new(rt)?, MOST)?;
+    for event in &two_forks() {
+        assert!(rt; book.offer(*event).is_ok());
+    }
+    for event in events {
+        assert!(rt; book.offer(*event).is_ok());
+    }
+    book.ask(2)?;
+    let bound = Bound::new(bound).expect(rt, "a bound is 2 to 8");
+    Ok(Finding::compute(rt.alloc(), book.snapshot(0)?, question, bound, task)?)
+}
+
+#[test]
+fn findings_from_anyone(rt: HostRuntime) -> Result<(), Fail> {
+    let alloc = rt.alloc();
+    let events = opposite_sections();
+    let mut others = opposite_sections();
+    others[7].op = Op::Write(20);
+    let mut findings = Vec::new(alloc);
+    findings.push((finding(&rt, &events, 0, 2, 1)?, None))?;
+    findings.push((finding(&rt, &events, 0, 2, 1)?, Some(Refusal::Double)))?;
+    findings.push((finding(&rt, &events, 0, 2, 2)?, Some(Refusal::NoSuchTask)))?;
+    findings.push((finding(&rt, &events, 0, 3, 0)?, Some(Refusal::OtherBound)))?;
+    findings.push((finding(&rt, &others, 0, 2, 0)?, Some(Refusal::OtherTrace)))?;
+    findings.push((
+        finding(&rt, &events, 1, 2, 0)?,
+        Some(Refusal::NoSuchQuestion),
+    ))?;
+    let last = finding(&rt, &events, 0, 2, 0)?;
+    let state = RandomState::new(&rt)?;
+    takes_findings::<Brand, _>(rt, alloc, state, Opened::new(), MOST, findings, last)
+}
+
+/// Delivers task 1 and what is refused, and then task 0, and reads the board after both.
+fn takes_findings<N: Naming, R: Wait + Abort + Copy>(
+    rt: R,
+    alloc: Global,
+    state: RandomState,
+    opened: Opened,
+    limit: u32,
+    findings: Vec<(Finding, Option<Refusal>)>,
+    last: Finding,
+) -> Result<(), Fail>
+    requires book { opened.seen.book ≡ N.book }
+    requires limit { limit ≡ N.limit }
+{
+    let (desk, mut reader) = one_reader::<N, R>(rt, alloc, state, opened, limit)?;
+    accepted(&rt, &desk, &mut reader, &two_forks());
+    accepted(&rt, &desk, &mut reader, &opposite_sections());
+    assert!(rt; desk.ask(2).0.is_ok());
+    for (finding, refusal) in findings {
+        let (delivered, receipt) = desk.deliver(finding);
+        assert_eq!(rt; delivered.err().map(|refused| refused.0), refusal);
+        reader.learn(&receipt);
+    }
+    reads(&rt, &mut reader, (1, 0, 0))?;
+    let (delivered, receipt) = desk.deliver(last);
+    assert!(rt; delivered.is_ok());
+    reader.learn(&receipt);
+    reads(&rt, &mut reader, (2, 1, 1))
+}
+
+/// Question 0 has so many delivered tasks, cycles and confirmed ones.
+fn reads<N: Naming, R: Abort>(
+    rt: &R,
+    reader: &mut BoardReader<N>,
+    counts: (u32, u64, u64),
+) -> Result<(), Fail> {
+    let Ok(summary) = reader.status() else {
+        return Err(Fail::from("busy"));
+    };
+    let question = summary.question(0).ok_or("a question")?;
+    assert_eq!(rt;
+        (question.length, question.bound, question.total),
+        (10, 2, 2)
+    );
+    assert_eq!(rt;
+        (question.delivered, question.cycles, question.confirmed),
+        counts
+    );
+    Ok(())
+}

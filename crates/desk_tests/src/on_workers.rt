@@ -1,0 +1,174 @@
+//! Workers at a desk.
+
+ghost use Rattle.std.specs.Prelude.{◌≡◌};
+
+use crate::on_desk::{MOST, accepted, opposite_sections, two_forks};
+use board::{BoardReader, Naming, Opened, Shown};
+use claims::{Claimant, claimants};
+use desk::{Desk, Hold, Turn, Worker};
+use sequencer::{Answer, AnswerRefused};
+use std::alloc::Global;
+use std::hash::RandomState;
+use std::marker::Brand;
+use std::process::Abort;
+use std::sync::atomic::{AtomicU64, Ordering};
+use std::sync::{Arc, Wait};
+use std::test::*;
+use std::thread;
+use std::thread::Threads;
+
+const REPORT: &str =
+    "question 0 length 10 bound 2 cycles 1 confirmed 1\ncycle 0 1 confirmed\n  thread 1 lock 20 holds 10 place 3\n  thread 2 lock 10 holds 20 place 7\n  witness 0 1 2 6\n";
+
+const YIELDS: u32 = 1_000_000;
+
+/// Keeps task 0 until it was called for task 1, and task 1 until it was called for task 0.
+#[derive(Drop)]
+struct Meeting {
+    first: AtomicU64,
+    second: AtomicU64,
+    gave_up: AtomicU64,
+}
+
+impl Meeting {
+    fn new() -> Meeting {
+        Meeting {
+            first: AtomicU64::new(0),
+            second: AtomicU64::new(0),
+            gave_up: AtomicU64::new(0),
+        }
+    }
+}
+
+impl Hold for Meeting {
+    fn hold(&self, _question: u32, task: u32) {
+        let (own, other) = if task == 0 {
+            (&self.first, &self.second)
+        } else {
+            (&self.second, &self.first)
+        };
+        own.fetch_add(1, Ordering::SeqCst);
+        for _ in 0..YIELDS {
+            if other.load(Ordering::SeqCst) > 0 {
+                return;
+            }
+            thread::yield_now();
+        }
+        self.gave_up.store(1, Ordering::SeqCst);
+    }
+}
+
+fn is_report(answer: Result<Answer, AnswerRefused>) -> bool {
+    match answer {
+        Ok(Answer::Settled(text)) => text.as_slice() == REPORT.as_bytes(),
+        _ => false,
+    }
+}
+
+#[test]
+fn two_workers_meet(rt: HostRuntime) -> Result<(), Fail> {
+    two_workers::<Brand, _>(rt, rt.alloc(), RandomState::new(&rt)?, Opened::new(), MOST)
+}
+
+fn two_workers<N: Naming + Send + Sync, R: Threads + Wait + Abort + Copy + Send + Sync>(
+    rt: R,
+    alloc: Global,
+    state: RandomState,
+    opened: Opened,
+    limit: u32,
+) -> Result<(), Fail>
+    requires book { opened.seen.book ≡ N.book }
+    requires limit { limit ≡ N.limit }
+{
+    let (desk, mut readers) = Desk::<N, R, Shown<N>>::new(alloc, state, rt, opened, limit, 4)?;
+    let desk = Arc::new(alloc, desk)?;
+    let mut claims = claimants(alloc, 3)?;
+    ask_about_opposite_sections(&rt, &desk, &mut readers)?;
+    let late = worker(&desk, &mut claims, &mut readers)?;
+    let mut workers = Vec::new(alloc);
+    for _ in 0..2 {
+        workers.push(worker(&desk, &mut claims, &mut readers)?)?;
+    }
+    let meeting = Meeting::new();
+    let turns = thread::map_vec(&rt, workers, &|worker| turn_of(worker, &meeting))?;
+    for turn in &turns {
+        assert_eq!(rt; *turn, Turn::Delivered);
+    }
+    assert_eq!(rt; turn_of(late, &meeting), Turn::Idle);
+    assert_eq!(rt; meeting.first.load(Ordering::SeqCst), 1);
+    assert_eq!(rt; meeting.second.load(Ordering::SeqCst), 1);
+    assert_eq!(rt; meeting.gave_up.load(Ordering::SeqCst), 0);
+    assert!(rt; is_report(desk.answer(0).0));
+    Ok(())
+}
+
+fn turn_of<N: Naming, R: Wait + Copy>(
+    mut worker: Worker<N, R, Shown<N>>,
+    hold: &impl Hold,
+) -> Turn {
+    worker.turn(hold)
+}
+
+/// The next worker.
+fn worker<N: Naming, R: Wait + Copy>(
+    desk: &Arc<Desk<N, R, Shown<N>>>,
+    claims: &mut Vec<Claimant>,
+    readers: &mut Vec<BoardReader<N>>,
+) -> Result<Worker<N, R, Shown<N>>, Fail> {
+    let claimant = claims.pop().ok_or("a claimant")?;
+    let reader = readers.pop().ok_or("a reader")?;
+    Ok(Worker::new(Arc::try_clone(desk)?, claimant, reader))
+}
+
+/// Question 0 is opened, which has two tasks.
+fn ask_about_opposite_sections<N: Naming, R: Wait + Abort + Copy>(
+    rt: &R,
+    desk: &Desk<N, R, Shown<N>>,
+    readers: &mut Vec<BoardReader<N>>,
+) -> Result<(), Fail> {
+    let mut reader = readers.pop().ok_or("a reader")?;
+    accepted(rt, desk, &mut reader, &two_forks());
+    accepted(rt, desk, &mut reader, &opposite_sections());
+    assert!(rt; desk.ask(2).0.is_ok());
+    Ok(())
+}
+
+/// A hold that keeps nobody.
+#[derive(Drop)]
+struct Free;
+
+impl Hold for Free {
+    fn hold(&self, _question: u32, _task: u32) {}
+}
+
+#[test]
+fn tasks_that_others_left(rt: HostRuntime) -> Result<(), Fail> {
+    left_tasks::<Brand, _>(rt, rt.alloc(), RandomState::new(&rt)?, Opened::new(), MOST)
+}
+
+/// Somebody draws both tasks and delivers none.
+fn left_tasks<N: Naming, R: Wait + Abort + Copy>(
+    rt: R,
+    alloc: Global,
+    state: RandomState,
+    opened: Opened,
+    limit: u32,
+) -> Result<(), Fail>
+    requires book { opened.seen.book ≡ N.book }
+    requires limit { limit ≡ N.limit }
+{
+    let (desk, mut readers) = Desk::<N, R, Shown<N>>::new(alloc, state, rt, opened, limit, 2)?;
+    let desk = Arc::new(alloc, desk)?;
+    let mut claims = claimants(alloc, 2)?;
+    let mut gone = claims.pop().ok_or("a claimant")?;
+    for task in 0..2u64 {
+        assert_eq!(rt; gone.draw(0).ok(), Some(task));
+    }
+    ask_about_opposite_sections(&rt, &desk, &mut readers)?;
+    let mut worker = worker(&desk, &mut claims, &mut readers)?;
+    for turn in [Turn::Delivered, Turn::Delivered, Turn::Idle] {
+        assert_eq!(rt; worker.turn(&Free), turn);
+    }
+    assert!(rt; is_report(desk.answer(0).0));
+    Ok(())
+}

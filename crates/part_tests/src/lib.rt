@@ -1,0 +1,31 @@
+//! Tests of the parts by their public calls: rows that no file of a worked trace can say.
+#![tactic(auto)]
+
+#[cfg(test)]
+mod on_cycle_search;
+#[cfg(test)]
+mod on_dependencies;
+#[cfg(test)]
+mod on_event_frames;
+#[cfg(test)]
+mod on_findings;
+#[cfg(test)]
+mod on_guards;
+#[cfg(test)]
+mod on_held_sets;
+#[cfg(test)]
+mod on_lock_graph;
+#[cfg(test)]
+mod on_result_ledger;
+#[cfg(test)]
+mod on_trace_index;
+#[cfg(test)]
+mod on_trace_model;
+#[cfg(test)]
+mod on_wellformed;
+#[cfg(test)]
+mod on_witness;
+#[cfg(test)]
+mod oracle;
+#[cfg(test)]
+mod traces;

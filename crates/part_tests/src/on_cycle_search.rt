@@ -1,0 +1,206 @@
+ghost use Rattle.std.specs.Prelude.{ℕ, suc, IfOk, OnOk};
+ghost use Rattle.dependencies.specs.Tables.{known, AllBelow};
+ghost use Rattle.lock_graph.specs.Graph.{IsGraphOf, holders};
+
+use cycle_search::{Cycle, Ranks, cycles_from};
+use dependencies::{DepTable, next_dependency};
+use held_sets::HeldTable;
+use lock_graph::LockGraph;
+use std::hash::RandomState;
+use std::test::Fail;
+use trace_model::{Bound, Event, MAX_HELD, NoMemory, Op, Place};
+
+/// Notes the dependency of the event at the index, and adds a new one to the graph.
+fn note(
+    held: &HeldTable,
+    table: &mut DepTable,
+    graph: &mut LockGraph,
+    index: u32,
+    event: Event,
+) -> Result<(), NoMemory>
+    requires below { AllBelow table.old index }
+    requires graph { IsGraphOf (known table.old) (holders graph.old) }
+    ensures below { OnOk result (AllBelow table.new (suc index)) }
+    ensures graph { OnOk result (IsGraphOf (known table.new) (holders graph.new)) }
+{
+    match next_dependency(held, event) {
+        None => Ok(()),
+        Some(dependency) => {
+            let total = table.len();
+            let number = table.note(Place::new(index), dependency)?;
+            if (number as usize) < total {
+                return Ok(());
+            }
+            graph.add(number, table.get(number))?;
+            Ok(())
+        },
+    }
+}
+
+/// What the event does to the held sets.
+fn follow(held: &mut HeldTable, event: Event) -> Result<(), NoMemory> {
+    let locks = held.held(event.thread);
+    match event.op {
+        Op::Acquire(lock) if !locks.contains(lock) && locks.locks().len() < MAX_HELD => {
+            held.acquire(event.thread, lock)?;
+        },
+        Op::Release(lock) => held.release(event.thread, lock),
+        _ => {},
+    }
+    Ok(())
+}
+
+/// The dependencies of a trace, and their graph.
+fn tables_of(rt: &HostRuntime, events: &[Event]) -> Result<(DepTable, LockGraph), Fail>
+    ensures { IfOk result (λ tables. IsGraphOf (known tables.0) (holders tables.1)) }
+{
+    let state = RandomState::new(rt)?;
+    let mut held = HeldTable::new(rt.alloc(), state);
+    let mut table = DepTable::new(rt.alloc(), state);
+    let mut graph = LockGraph::new(rt.alloc(), state);
+    let mut index = 0u32;
+    for event in events {
+        note(&held, &mut table, &mut graph, index, *event)?;
+        follow(&mut held, *event)?;
+        index = index.checked_add(1).ok_or("too long")?;
+    }
+    Ok((table, graph))
+}
+
+/// The cycles of a trace as text, those of each root on a line.
+fn cycles(rt: &HostRuntime, events: &[Event], bound: u8) -> Result<String, Fail> {
+    let (table, graph) = tables_of(rt, events)?;
+    let ranks = Ranks::new(rt.alloc(), RandomState::new(rt)?, &table, &graph)?;
+    let bound = Bound::new(bound).ok_or("no bound")?;
+    let mut text = String::new(rt.alloc());
+    for root in 0..table.len() {
+        for cycle in &cycles_from(rt.alloc(), &table, &graph, &ranks, root as u32, bound)? {
+            for number in cycle.numbers() {
+                text.push_str(format!(in rt.alloc(); "{number} ")?.as_str())?;
+            }
+            text.push_str(";")?;
+        }
+        text.push_str("\n")?;
+    }
+    Ok(text)
+}
+
+/// A section of the thread on the outer lock with one on the inner lock in it.
+fn nested(events: &mut Vec<Event>, thread: u32, outer: u32, inner: u32) -> Result<(), NoMemory> {
+    for op in [
+        Op::Acquire(outer),
+        Op::Acquire(inner),
+        Op::Release(inner),
+        Op::Release(outer),
+    ] {
+        events.push(Event { thread, op })?;
+    }
+    Ok(())
+}
+
+/// The trace of these sections: a thread, its outer and its inner lock.
+fn sections(rt: &HostRuntime, nestings: &[(u32, u32, u32)]) -> Result<Vec<Event>, Fail> {
+    let mut events = Vec::new(rt.alloc());
+    for (thread, outer, inner) in nestings {
+        nested(&mut events, *thread, *outer, *inner)?;
+    }
+    Ok(events)
+}
+
+#[test]
+fn one_root_two_cycles(rt: HostRuntime) -> Result<(), Fail> {
+    let events = sections(&rt, [(1, 10, 20), (2, 20, 10), (3, 20, 10)].as_slice())?;
+    assert_eq!(rt; cycles(&rt, &events, 3)?.as_str(), "0 1 ;0 2 ;\n\n\n");
+    Ok(())
+}
+
+#[test]
+fn opposite_orders(rt: HostRuntime) -> Result<(), Fail> {
+    let events = sections(&rt, [(1, 10, 20), (2, 20, 10)].as_slice())?;
+    assert_eq!(rt; cycles(&rt, &events, 2)?.as_str(), "0 1 ;\n\n");
+    Ok(())
+}
+
+#[test]
+fn gate_lock(rt: HostRuntime) -> Result<(), Fail> {
+    let mut events = Vec::new(rt.alloc());
+    for (thread, outer, inner) in [(1, 10, 20), (2, 20, 10)] {
+        events.push(Event {
+            thread,
+            op: Op::Acquire(5),
+        })?;
+        nested(&mut events, thread, outer, inner)?;
+        events.push(Event {
+            thread,
+            op: Op::Release(5),
+        })?;
+    }
+    assert_eq!(rt; cycles(&rt, &events, 2)?.as_str(), "\n\n\n\n");
+    Ok(())
+}
+
+#[test]
+fn three_locks(rt: HostRuntime) -> Result<(), Fail> {
+    let events = sections(&rt, [(1, 10, 20), (2, 20, 30), (3, 30, 10)].as_slice())?;
+    assert_eq!(rt; cycles(&rt, &events, 2)?.as_str(), "\n\n\n");
+    assert_eq!(rt; cycles(&rt, &events, 3)?.as_str(), "0 1 2 ;\n\n\n");
+    Ok(())
+}
+
+#[test]
+fn one_thread_no_cycle(rt: HostRuntime) -> Result<(), Fail> {
+    let events = sections(&rt, [(0, 10, 20), (0, 20, 10)].as_slice())?;
+    assert_eq!(rt; cycles(&rt, &events, 2)?.as_str(), "\n\n");
+    Ok(())
+}
+
+/// Eight threads that take each pair of twelve locks in one order, from a first lock on.
+fn one_order(events: &mut Vec<Event>, first: u32) -> Result<(), NoMemory> {
+    for thread in 1..9u32 {
+        for outer in 0..12u32 {
+            for inner in outer + 1..12 {
+                nested(
+                    events,
+                    thread,
+                    first.wrapping_add(outer),
+                    first.wrapping_add(inner),
+                )?;
+            }
+        }
+    }
+    Ok(())
+}
+
+#[test]
+fn one_consistent_order(rt: HostRuntime) -> Result<(), Fail> {
+    let mut events = Vec::new(rt.alloc());
+    one_order(&mut events, 10)?;
+    let text = cycles(&rt, &events, 8)?;
+    assert_eq!(rt; text.len(), 528);
+    assert!(rt; text.as_str().chars().all(|c| c == '\n'));
+    Ok(())
+}
+
+/// Between two cycles stands a part without one.
+#[test]
+fn one_order_between_two_cycles(rt: HostRuntime) -> Result<(), Fail> {
+    let mut events = sections(
+        &rt,
+        [(1, 1, 2), (2, 2, 1), (1, 2, 10), (1, 21, 30)].as_slice(),
+    )?;
+    one_order(&mut events, 10)?;
+    nested(&mut events, 1, 30, 31)?;
+    nested(&mut events, 2, 31, 30)?;
+    let text = cycles(&rt, &events, 8)?;
+    assert_eq!(rt; text.len(), 534 + 14);
+    assert!(rt; text.as_str().starts_with("0 1 ;\n") && text.as_str().ends_with("532 533 ;\n\n"));
+    Ok(())
+}
+
+#[test]
+fn a_cycle_has_two_to_eight_members(rt: HostRuntime) {
+    let numbers = [0, 1, 2, 3, 4, 5, 6, 7, 8];
+    for (members, is_cycle) in [(1, false), (2, true), (8, true), (9, false)] {
+        assert_eq!(rt; Cycle::new(&numbers[..members]).is_some(), is_cycle);
+    }
+}

@@ -1,0 +1,33 @@
+use dependencies::Dependency;
+use held_sets::HeldSet;
+use lock_graph::LockGraph;
+use std::hash::RandomState;
+use std::test::Fail;
+
+/// A dependency whose thread holds one lock, or two.
+fn dependency(thread: u32, lock: u32, held: u32, other: u32) -> Dependency {
+    let mut locks = HeldSet::new();
+    locks.insert(held);
+    if !locks.contains(other) {
+        locks.insert(other);
+    }
+    Dependency {
+        thread,
+        lock,
+        held: locks,
+    }
+}
+
+#[test]
+fn lists_who_holds_a_lock(rt: HostRuntime) -> Result<(), Fail> {
+    let mut graph = LockGraph::new(rt.alloc(), RandomState::new(&rt)?);
+    graph.add(0, &dependency(1, 10, 5, 5))?;
+    graph.add(1, &dependency(1, 20, 10, 5))?;
+    graph.add(2, &dependency(2, 20, 5, 5))?;
+    graph.add(3, &dependency(2, 10, 20, 5))?;
+    assert_eq!(rt; graph.successors(5), [0, 1, 2, 3].as_slice());
+    assert_eq!(rt; graph.successors(10), [1].as_slice());
+    assert_eq!(rt; graph.successors(20), [3].as_slice());
+    assert!(rt; graph.successors(7).is_empty());
+    Ok(())
+}

@@ -1,6 +1,0 @@
-use Rattle.std.proofs.Common.{refl}
-use Rattle.trace_model.proofs.Computed.{well_formed_if}
-use Rattle.replay.proofs.tests.join_orders_the_threads.Goals as goal
-
-pub returns : goal.returns
-returns c = well_formed_if _ refl

@@ -1,0 +1,11 @@
+//! Tests of sessions: over ends that fail, over clients of a desk, and over sockets.
+#![tactic(auto)]
+
+#[cfg(test)]
+mod on_clients;
+#[cfg(test)]
+mod on_server;
+#[cfg(test)]
+mod on_sessions;
+#[cfg(test)]
+mod one_byte;

@@ -1,0 +1,255 @@
+//! Sessions over a book.
+
+use crate::one_byte::{OneByteSink, OneByteSource};
+use question_server::{
+    Ended, MemorySink, MemorySource, ReadSource, ServeFault, WriteSink, serve, serve_book,
+};
+use sequencer::Book;
+use std::alloc::{AllocError, Global};
+use std::hash::RandomState;
+use std::io;
+use std::io::{Read, Write};
+use std::random::RandomSource;
+use std::sync::Wait;
+use std::test::{Fail, *};
+use trace_model::Fault;
+
+const MOST: u32 = 1_048_576;
+
+/// What is reported of two threads that nest two locks in opposite orders.
+pub(crate) const REPORT: &str =
+    "question 0 length 10 bound 2 cycles 1 confirmed 1\ncycle 0 1 confirmed\n  thread 1 lock 20 holds 10 place 3\n  thread 2 lock 10 holds 20 place 7\n  witness 0 1 2 6\n";
+
+// calls without end
+const EVER: u64 = 1_000_000;
+
+/// The frame of an event of small numbers.
+fn frame(kind: u8, thread: u8, object: u8) -> [u8; 11] {
+    [0, 9, kind, 0, 0, 0, thread, 0, 0, 0, object]
+}
+
+/// The frames of `0f1 0f2 1a10 1a20 1r20 1r10 2a20 2a10 2r10 2r20`, of an ask with the bound 2, and of the
+/// answer of question 0: 121 bytes.
+pub(crate) fn questions(alloc: Global) -> Result<Vec<u8>, AllocError> {
+    let events = [
+        (1, 0, 1),
+        (1, 0, 2),
+        (3, 1, 10),
+        (3, 1, 20),
+        (4, 1, 20),
+        (4, 1, 10),
+        (3, 2, 20),
+        (3, 2, 10),
+        (4, 2, 10),
+        (4, 2, 20),
+    ];
+    let mut bytes = Vec::new(alloc);
+    for (kind, thread, object) in events {
+        bytes.extend_from_slice(&frame(kind, thread, object))?;
+    }
+    bytes.extend_from_slice(&[0, 2, 7, 2])?;
+    bytes.extend_from_slice(&[0, 5, 8, 0, 0, 0, 0])?;
+    Ok(bytes)
+}
+
+/// Their replies: placed 0 to 9, opened 0 of length 10 with 2 tasks, and pending 0 of 2, together 124 bytes.
+pub(crate) fn replies(alloc: Global) -> Result<Vec<u8>, AllocError> {
+    let mut bytes = Vec::new(alloc);
+    for place in 0..10u8 {
+        bytes.extend_from_slice(&[0, 0, 0, 5, 65, 0, 0, 0, place])?;
+    }
+    bytes.extend_from_slice(&[0, 0, 0, 13, 67, 0, 0, 0, 0, 0, 0, 0, 10, 0, 0, 0, 2])?;
+    bytes.extend_from_slice(&[0, 0, 0, 13, 68, 0, 0, 0, 0, 0, 0, 0, 0, 0, 0, 0, 2])?;
+    Ok(bytes)
+}
+
+fn new_book(rt: &(impl RandomSource + AllocGlobal)) -> Result<Book, Fail> {
+    Ok(Book::new(rt.alloc(), RandomState::new(rt)?, MOST)?)
+}
+
+/// How the session of these bytes ends, and what is written, over a new book.
+fn session_of(
+    rt: &(impl RandomSource + AllocGlobal + Wait),
+    bytes: &[u8],
+) -> Result<(Result<Ended, ServeFault>, MemorySink, Book), Fail> {
+    let alloc = rt.alloc();
+    let mut book = new_book(rt)?;
+    let mut source = MemorySource::new(Vec::from_slice(alloc, bytes)?);
+    let mut sink = MemorySink::new(alloc);
+    let ended = serve_book(rt, alloc, &mut source, &mut sink, &mut book);
+    Ok((ended, sink, book))
+}
+
+#[test]
+fn opposite_orders_from_memory(rt: HostRuntime) -> Result<(), Fail> {
+    let alloc = rt.alloc();
+    let (ended, sink, book) = session_of(&rt, &questions(alloc)?)?;
+    assert!(rt; ended == Ok(Ended::Input));
+    assert!(rt; sink.bytes() == replies(alloc)?.as_slice());
+    assert!(rt; book.events().len() == 10);
+    Ok(())
+}
+
+#[test]
+fn opposite_orders_byte_by_byte(rt: HostRuntime) -> Result<(), Fail> {
+    let alloc = rt.alloc();
+    let mut book = new_book(&rt)?;
+    let mut source = OneByteSource::new(questions(alloc)?, EVER);
+    let mut sink = OneByteSink::new(alloc, EVER);
+    let ended = serve(&rt, alloc, &mut source, &mut sink, &mut book);
+    assert!(rt; ended == Ok(Ended::Input));
+    assert!(rt; sink.bytes.as_slice() == replies(alloc)?.as_slice());
+    Ok(())
+}
+
+#[test]
+fn faults_end_a_session(rt: HostRuntime) -> Result<(), Fail> {
+    let event = frame(1, 0, 1);
+    // an unknown kind, and a valid frame after it, which has no reply and no effect
+    let mut unknown = Vec::from_slice(rt.alloc(), &[0, 1, 200])?;
+    unknown.extend_from_slice(&event)?;
+    let (ended, sink, book) = session_of(&rt, &unknown)?;
+    assert!(rt; ended == Ok(Ended::Frame(Fault::BadKind)));
+    assert!(rt; sink.bytes() == [0, 0, 0, 2, 71, 1].as_slice());
+    assert!(rt; book.events().is_empty());
+
+    let (ended, sink, _) = session_of(&rt, &[0, 0])?;
+    assert!(rt; ended == Ok(Ended::Frame(Fault::BadLength)));
+    assert!(rt; sink.bytes() == [0, 0, 0, 2, 71, 2].as_slice());
+
+    // the end after one event and a byte
+    let mut cut = Vec::from_slice(rt.alloc(), &event)?;
+    cut.push(0)?;
+    let (ended, sink, book) = session_of(&rt, &cut)?;
+    assert!(rt; ended == Ok(Ended::Frame(Fault::Truncated)));
+    assert!(rt; sink.bytes() == [0, 0, 0, 5, 65, 0, 0, 0, 0, 0, 0, 0, 2, 71, 3].as_slice());
+    assert!(rt; book.events().len() == 1);
+    Ok(())
+}
+
+/// The session of the questions, whose source fails at this call: what is written.
+fn with_failing_read(
+    rt: &(impl RandomSource + AllocGlobal + Wait),
+    call: u64,
+) -> Result<(Result<Ended, ServeFault>, Vec<u8>), Fail> {
+    let alloc = rt.alloc();
+    let mut book = new_book(rt)?;
+    let mut source = OneByteSource::new(questions(alloc)?, call.saturating_sub(1));
+    let mut sink = OneByteSink::new(alloc, EVER);
+    let ended = serve_book(rt, alloc, &mut source, &mut sink, &mut book);
+    Ok((ended, sink.bytes))
+}
+
+#[test]
+fn one_failing_read(rt: HostRuntime) -> Result<(), Fail> {
+    let alloc = rt.alloc();
+    let all = replies(alloc)?;
+    for call in 1..112u64 {
+        let (ended, written) = with_failing_read(&rt, call)?;
+        assert!(rt; ended == Err(ServeFault::Read));
+        // the replies to the whole frames that were read
+        let len = (9 * ((call - 1) / 11)) as usize;
+        assert!(rt; all.get(..len) == Some(written.as_slice()));
+    }
+    let (ended, written) = with_failing_read(&rt, 122)?;
+    assert!(rt; ended == Err(ServeFault::Read));
+    assert!(rt; written.as_slice() == all.as_slice());
+    Ok(())
+}
+
+#[test]
+fn one_failing_write(rt: HostRuntime) -> Result<(), Fail> {
+    let alloc = rt.alloc();
+    let all = replies(alloc)?;
+    for call in 1..108u64 {
+        let mut book = new_book(&rt)?;
+        let mut source = MemorySource::new(questions(alloc)?);
+        let mut sink = OneByteSink::new(alloc, call - 1);
+        let ended = serve_book(&rt, alloc, &mut source, &mut sink, &mut book);
+        assert!(rt; ended == Err(ServeFault::Write));
+        assert!(rt; all.get(..(call - 1) as usize) == Some(sink.bytes.as_slice()));
+        // each event but one was answered whole
+        let events = if call <= 90 { (call + 8) / 9 } else { 10 };
+        assert!(rt; book.events().len() as u64 == events);
+        let opened = book.status(0).is_ok();
+        assert!(rt; opened == (call > 90));
+    }
+    Ok(())
+}
+
+/// Gives its bytes as often as it is asked for them, and counts how often that was.
+#[derive(Drop)]
+struct Given<'a> {
+    bytes: &'a [u8],
+    reads: &'a mut u32,
+}
+
+impl Read for Given<'_> {
+    fn read(&mut self, buffer: &mut [u8]) -> io::Result<usize> {
+        *self.reads = self.reads.wrapping_add(1);
+        let len = self.bytes.len().min(buffer.len());
+        buffer[..len].copy_from_slice(&self.bytes[..len]);
+        self.bytes = &self.bytes[len..];
+        Ok(len)
+    }
+}
+
+/// Keeps what it takes, and counts how often it took something.
+#[derive(Drop)]
+struct Taken<'a> {
+    bytes: &'a mut Vec<u8>,
+    writes: &'a mut u32,
+}
+
+impl Write for Taken<'_> {
+    fn write(&mut self, bytes: &[u8]) -> io::Result<usize> {
+        *self.writes = self.writes.wrapping_add(1);
+        self.bytes.extend_from_slice(bytes)?;
+        Ok(bytes.len())
+    }
+
+    fn flush(&mut self) -> io::Result<()> {
+        Ok(())
+    }
+}
+
+/// How the session of these bytes ends, what it writes, and how many reads and writes that takes.
+fn counted(
+    rt: &(impl RandomSource + AllocGlobal + Wait),
+    bytes: &[u8],
+) -> Result<(Result<Ended, ServeFault>, Vec<u8>, u32, u32), Fail> {
+    let mut book = new_book(rt)?;
+    let mut written = Vec::new(rt.alloc());
+    let mut reads = 0u32;
+    let mut writes = 0u32;
+    let mut source = ReadSource::new(Given {
+        bytes,
+        reads: &mut reads,
+    });
+    let mut sink = WriteSink::new(Taken {
+        bytes: &mut written,
+        writes: &mut writes,
+    });
+    let ended = serve_book(rt, rt.alloc(), &mut source, &mut sink, &mut book);
+    drop(source);
+    drop(sink);
+    Ok((ended, written, reads, writes))
+}
+
+#[test]
+fn frames_in_flight_cost_one_read_and_one_write(rt: HostRuntime) -> Result<(), Fail> {
+    let alloc = rt.alloc();
+    let mut bytes = Vec::new(alloc);
+    let mut placed = Vec::new(alloc);
+    for place in 0..64u8 {
+        bytes.extend_from_slice(&frame(6, 0, 1))?;
+        placed.extend_from_slice(&[0, 0, 0, 5, 65, 0, 0, 0, place])?;
+    }
+    let (ended, written, reads, writes) = counted(&rt, &bytes)?;
+    assert!(rt; ended == Ok(Ended::Input));
+    assert!(rt; written == placed);
+    assert_eq!(rt; writes, 1);
+    // the second read finds the end
+    assert_eq!(rt; reads, 2);
+    Ok(())
+}
