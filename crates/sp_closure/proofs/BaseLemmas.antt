@@ -1,0 +1,161 @@
+-- Layers over one another, and how many places are in.
+use Rattle.std.proofs.Common.{◌≡◌, ℕ, zero, suc, ◌+◌, ◌<◌, ◌≤◌, Bool, true, false, cond, ◌==◌, nat_lt, length, Option, Some, None, Result, Ok, Err, IfOk, refl, sym, ap, subst, ◌∙◌, arith}
+use Rattle.std.specs.Option.{option_map_or}
+use Rattle.std.proofs.lemmas.Bool.{eq-eqb, eqb-true, false≢true}
+use Rattle.std.proofs.lemmas.Option.{none-some, same_Some}
+use Rattle.trace_model.specs.Trace.{Trace}
+use Rattle.trace_model.specs.Closure.{Places}
+use Rattle.trace_index.specs.Numbers.{count_below, of_thread, number_at}
+use Rattle.sp_closure.specs.declared.demands.Item.{Item}
+use Rattle.sp_closure.specs.declared.demands.Section.{Section}
+use Rattle.sp_closure.specs.declared.layer.Layer.{Layer}
+use Rattle.sp_closure.specs.Sheets.{at}
+use Rattle.sp_closure.specs.Slots.{AreSlots, HasFirst, in_front}
+use Rattle.sp_closure.specs.Layers.{front_of, done_of, last_of, first_some, IsEmpty}
+use Rattle.sp_closure.specs.Work.{State, IsOnWay, sum_to}
+use Rattle.sp_closure.proofs.Counts.{count_le, count_same}
+use Rattle.sp_closure.proofs.FrontLemmas.{of_thread_from, of_thread_so}
+use Rattle.sp_closure.proofs.ThreadLemmas.{place_below}
+use Rattle.sp_closure.proofs.SlotLemmas.{number_is}
+
+-- an empty layer over an empty one
+pub front_none : (threads locks more less : ℕ) (under layer : Layer) → IsEmpty threads locks under → IsEmpty more less layer → (a : ℕ) → front_of under layer a ≡ 0
+front_none threads locks more less under layer u e a = rw (e.fronts.none a, u.fronts.none a) refl
+
+-- an empty layer over another one is that one over an empty layer
+pub front_over : (threads locks more less : ℕ) (none base upper : Layer) → IsEmpty threads locks none → IsEmpty more less upper → (a : ℕ) → front_of base upper a ≡ front_of none base a
+front_over threads locks more less none base upper n e a = rw (e.fronts.none a, n.fronts.none a) refl
+
+pub done_over : (threads locks more less : ℕ) (none base upper : Layer) → IsEmpty threads locks none → IsEmpty more less upper → (a : ℕ) → done_of base upper a ≡ done_of none base a
+done_over threads locks more less none base upper n e a = rw (e.done.none a, n.done.none a) refl
+
+pub last_over : (threads locks more less : ℕ) (none base upper : Layer) → IsEmpty threads locks none → IsEmpty more less upper → (l : ℕ) → last_of base upper l ≡ last_of none base l
+last_over threads locks more less none base upper n e l = rw (e.last.none l, n.last.none l) (go (at base.last l))
+  where
+    go : (o : Option Section) → first_some None o ≡ first_some o None
+    go None = refl
+    go (Some c) = refl
+
+-- the same state
+pub on_way_same : (items : ℕ → ℕ → Option Item) (x y : State) → IsOnWay items x → ((a : ℕ) → y.front a ≡ x.front a) → ((a : ℕ) → y.done a ≡ x.done a) → ((l : ℕ) → y.last l ≡ x.last l) →
+    y.pending ≡ x.pending → IsOnWay items y
+on_way_same items x y w f d l p =
+    let same : x ≡ y = λ i. record { front = λ a. sym (f a) i; done = λ a. sym (d a) i; last = λ a. sym (l a) i; pending = sym p i } in
+    subst (IsOnWay items) same w
+
+pub sum_none : (f : ℕ → ℕ) (n : ℕ) → ((a : ℕ) → f a ≡ 0) → sum_to f n ≡ 0
+sum_none f zero h = refl
+sum_none f (suc n) h = omega (arith, sum_none f n h, h n)
+
+pub sum_equal : (f g : ℕ → ℕ) (n : ℕ) → ((a : ℕ) → f a ≡ g a) → sum_to f n ≡ sum_to g n
+sum_equal f g zero h = refl
+sum_equal f g (suc n) h = omega (arith, sum_equal f g n h, h n)
+
+-- how many places are in, at most as many as there are
+
+in_slot : (ℕ → Option ℕ) → ℕ → Places
+in_slot slots a p = option_map_or (λ b. b == a) (slots p) false
+
+slot_so : (slots : ℕ → Option ℕ) (a p : ℕ) → in_slot slots a p ≡ true → slots p ≡ Some a
+unfolding in_slot
+slot_so slots a p h = go (slots p) refl h
+  where
+    go : (o : Option ℕ) → slots p ≡ o → option_map_or (λ b. b == a) o false ≡ true → slots p ≡ Some a
+    go None e k = absurd (false≢true k)
+    go (Some b) e k = e ∙ ap Some (eqb-true b a k)
+
+slot_from : (slots : ℕ → Option ℕ) (a p : ℕ) → slots p ≡ Some a → in_slot slots a p ≡ true
+unfolding in_slot
+slot_from slots a p e = rw e (eq-eqb a a refl)
+
+bool_same : (a b : Bool) → (a ≡ true → b ≡ true) → (b ≡ true → a ≡ true) → a ≡ b
+bool_same true b f g = sym (f refl)
+bool_same false true f g = g refl
+bool_same false false f g = refl
+
+first_counted : (s : Trace) (slots : ℕ → Option ℕ) (count a c : ℕ) → AreSlots s slots count → HasFirst s slots a c → c ≤ count_below (in_slot slots a) (length s)
+first_counted s slots count a zero known has = omega arith
+first_counted s slots count a (suc c) known has =
+    let (p, x) = has c (omega arith) in
+    let (t, o) = known.of_place p a x.slot in
+    let n = number_is s p t c o x.number in
+    let same : (q : ℕ) → of_thread s t q ≡ in_slot slots a q = λ q. bool_same (of_thread s t q) (in_slot slots a q)
+    (λ h. slot_from slots a q (known.alike p q a t x.slot o (of_thread_so s t q h)))
+    (λ h. of_thread_from s t q (known.apart p q a t x.slot (slot_so slots a q h) o)) in
+    let here : count_below (of_thread s t) p ≡ count_below (in_slot slots a) p = count_same (of_thread s t) (in_slot slots a) p (λ q l. same q) in
+    let one : count_below (in_slot slots a) (suc p) ≡ suc (count_below (in_slot slots a) p) =
+    ap (λ b. cond b (suc (count_below (in_slot slots a) p)) (count_below (in_slot slots a) p)) (slot_from slots a p x.slot) in
+    omega (arith, n, here, one, count_le (in_slot slots a) (suc p) (length s) (omega (arith, place_below s t p o)))
+
+one_of : Bool → ℕ
+one_of true = 1
+one_of false = 0
+
+bit_off : (b : Bool) → (b ≡ true → ⊥) → b ≡ false
+bit_off true h = absurd (h refl)
+bit_off false h = refl
+
+sum_off : (slots : ℕ → Option ℕ) (p n a : ℕ) → n ≤ a → slots p ≡ Some a → sum_to (λ b. one_of (in_slot slots b p)) n ≡ 0
+unfolding one_of
+sum_off slots p zero a l e = refl
+sum_off slots p (suc n) a l e =
+    let out : in_slot slots n p ≡ false = bit_off (in_slot slots n p) (λ h. omega (arith, l, same_Some n a (sym (slot_so slots n p h) ∙ e))) in
+    omega (arith, sum_off slots p n a (omega (arith, l)) e, ap one_of out)
+
+sum_one : (slots : ℕ → Option ℕ) (p n : ℕ) → sum_to (λ a. one_of (in_slot slots a p)) n ≤ 1
+unfolding one_of
+sum_one slots p zero = omega arith
+sum_one slots p (suc n) = step (sum_one slots p n) (in_slot slots n p) refl
+  where
+    step : sum_to (λ a. one_of (in_slot slots a p)) n ≤ 1 → (b : Bool) → in_slot slots n p ≡ b → sum_to (λ a. one_of (in_slot slots a p)) n + one_of (in_slot slots n p) ≤ 1
+    step more true e = omega (arith, sum_off slots p n n (omega arith) (slot_so slots n p e), ap one_of e)
+    step more false e = omega (arith, more, ap one_of e)
+
+sum_plus : (f g : ℕ → ℕ) (n : ℕ) → sum_to (λ a. f a + g a) n ≡ sum_to f n + sum_to g n
+sum_plus f g zero = refl
+sum_plus f g (suc n) = omega (arith, sum_plus f g n)
+
+count_step : (test : Places) (k : ℕ) → count_below test (suc k) ≡ count_below test k + one_of (test k)
+unfolding one_of
+count_step test k = go (test k)
+  where
+    go : (b : Bool) → cond b (suc (count_below test k)) (count_below test k) ≡ count_below test k + one_of b
+    go true = omega arith
+    go false = omega arith
+
+sum_counts : (slots : ℕ → Option ℕ) (n k : ℕ) → sum_to (λ a. count_below (in_slot slots a) k) n ≤ k
+sum_counts slots n zero = omega (arith, sum_none (λ a. count_below (in_slot slots a) zero) n (λ a. refl))
+sum_counts slots n (suc k) =
+    omega (
+      arith,
+      sum_counts slots n k,
+      sum_one slots k n,
+      sum_equal (λ a. count_below (in_slot slots a) (suc k)) (λ a. count_below (in_slot slots a) k + one_of (in_slot slots a k)) n (λ a. count_step (in_slot slots a) k),
+      sum_plus (λ a. count_below (in_slot slots a) k) (λ a. one_of (in_slot slots a k)) n,
+    )
+
+sum_most : (f g : ℕ → ℕ) (n : ℕ) → ((a : ℕ) → f a ≤ g a) → sum_to f n ≤ sum_to g n
+sum_most f g zero h = omega arith
+sum_most f g (suc n) h = omega (arith, sum_most f g n h, h n)
+
+pub at_most_all : (s : Trace) (slots : ℕ → Option ℕ) (count n : ℕ) (front : ℕ → ℕ) → AreSlots s slots count → ((a : ℕ) → HasFirst s slots a (front a)) → sum_to front n ≤ length s
+at_most_all s slots count n front known has =
+    omega (arith, sum_most front (λ a. count_below (in_slot slots a) (length s)) n (λ a. first_counted s slots count a (front a) known (has a)), sum_counts slots n (length s))
+
+-- fronts that agree below the count of slots hold the same places
+pub in_front_same : (s : Trace) (slots : ℕ → Option ℕ) (count : ℕ) (f g : ℕ → ℕ) → AreSlots s slots count → ((a : ℕ) → a < count → f a ≡ g a) →
+    (p : ℕ) → in_front s slots f p ≡ in_front s slots g p
+in_front_same s slots count f g known same p = go (slots p) refl
+  where
+    go : (o : Option ℕ) → slots p ≡ o →
+        option_map_or (λ a. option_map_or (λ n. nat_lt n (f a)) (number_at s p) false) o false ≡ option_map_or (λ a. option_map_or (λ n. nat_lt n (g a)) (number_at s p) false) o false
+    go None e = refl
+    go (Some a) e =
+        let (t, o) = known.of_place p a e in
+        let (b, h, l) = known.each p t o in
+        let eq : b ≡ a = same_Some b a (sym h ∙ e) in
+        ap (λ k. option_map_or (λ n. nat_lt n k) (number_at s p) false) (same a (omega (arith, l, eq)))
+
+pub if_ok_both : {X E : Type 0} (r : Result X E) (P Q R : X → Type 0) → ((x : X) → P x → Q x → R x) → IfOk r P → IfOk r Q → IfOk r R
+if_ok_both (Ok x) P Q R f p q = f x p q
+if_ok_both (Err e) P Q R f p q = tt
