@@ -1,11 +1,16 @@
 -- Layers over one another, and how many places are in.
-use Rattle.std.proofs.Common.{◌≡◌, ℕ, zero, suc, ◌+◌, ◌<◌, ◌≤◌, Bool, true, false, cond, ◌==◌, nat_lt, length, Option, Some, None, Result, Ok, Err, IfOk, refl, sym, ap, subst, ◌∙◌, arith}
+use Rattle.std.proofs.Common.{◌≡◌, ℕ, zero, suc, ◌+◌, ◌<◌, ◌≤◌, Bool, true, false, cond, ◌==◌, nat_lt, nat_le, length, Option, Some, None, Result, Ok, Err, OnOk, IfOk, IfSome, List, [], ◌∷◌, ◌++◌, slice_get, add-one, inl, inr, refl, sym, ap, subst, ◌∙◌, arith}
 use Rattle.std.specs.Option.{option_map_or}
-use Rattle.std.proofs.lemmas.Bool.{eq-eqb, eqb-true, false≢true}
+use Rattle.std.proofs.lemmas.Bool.{eq-eqb, eqb-true, false≢true, and_parts, cases_lt}
+use Rattle.std.proofs.lemmas.Bool.Decides.{nat_tests}
+use Rattle.std.specs.List.{sum}
+use Rattle.std.proofs.lemmas.List.Sums.{sum_by-append}
 use Rattle.std.proofs.lemmas.Option.{none-some, same_Some}
 use Rattle.trace_model.specs.Trace.{Trace}
+use Rattle.trace_model.proofs.Lists.{get-push_kept, get-push_last}
 use Rattle.trace_model.specs.Closure.{Places}
 use Rattle.trace_index.specs.Numbers.{count_below, of_thread, number_at}
+use Rattle.sp_closure.specs.declared.demands.Goal.{Goal}
 use Rattle.sp_closure.specs.declared.demands.Item.{Item}
 use Rattle.sp_closure.specs.declared.demands.Section.{Section}
 use Rattle.sp_closure.specs.declared.layer.Layer.{Layer}
@@ -13,6 +18,8 @@ use Rattle.sp_closure.specs.Sheets.{at}
 use Rattle.sp_closure.specs.Slots.{AreSlots, HasFirst, in_front}
 use Rattle.sp_closure.specs.Layers.{front_of, done_of, last_of, first_some, IsEmpty}
 use Rattle.sp_closure.specs.Work.{State, IsOnWay, sum_to}
+use Rattle.sp_closure.specs.declared.closer.Closer.{Closer}
+use Rattle.sp_closure.specs.Closers.{leads_to, KeepsFor, KeepsNothing, kept, goal_at, base_total}
 use Rattle.sp_closure.proofs.Counts.{count_le, count_same}
 use Rattle.sp_closure.proofs.FrontLemmas.{of_thread_from, of_thread_so}
 use Rattle.sp_closure.proofs.ThreadLemmas.{place_below}
@@ -159,3 +166,53 @@ in_front_same s slots count f g known same p = go (slots p) refl
 pub if_ok_both : {X E : Type 0} (r : Result X E) (P Q R : X → Type 0) → ((x : X) → P x → Q x → R x) → IfOk r P → IfOk r Q → IfOk r R
 if_ok_both (Ok x) P Q R f p q = f x p q
 if_ok_both (Err e) P Q R f p q = tt
+
+le_so : (a b : ℕ) → nat_le a b ≡ true → a ≤ b
+le_so a b h = grind (arith, nat_tests)
+
+-- a goal that leads to another one
+pub leads_so : (base_of : Option Goal) (goal : Goal) → leads_to base_of goal ≡ true → (old : Goal) × (base_of ≡ Some old) × (old.slot ≡ goal.slot) × (old.count ≤ goal.count)
+leads_so None goal h = absurd (false≢true h)
+leads_so (Some old) goal h =
+    let (a, b) = and_parts (old.slot == goal.slot) (nat_le old.count goal.count) h in
+    (old, refl, eqb-true old.slot goal.slot a, le_so old.count goal.count b)
+
+pub on_ok : {X E P : Type 0} (r : Result X E) → P → OnOk r P
+on_ok (Ok x) p = p
+on_ok (Err e) p = tt
+
+pub sum_push : (f : ℕ → ℕ) (xs : List ℕ) (x n : ℕ) → sum xs ≡ sum_to f n → x ≡ f n → sum (xs ++ x ∷ []) ≡ sum_to f (n + 1)
+sum_push f xs x n all here = rw add-one (omega (arith, sum_by-append (λ (y : ℕ). y) xs (x ∷ []), all, here))
+
+pub if_ok_map : {X E : Type 0} (r : Result X E) (P Q : X → Type 0) → ((x : X) → P x → Q x) → IfOk r P → IfOk r Q
+if_ok_map (Ok x) P Q f p = f x p
+if_ok_map (Err e) P Q f p = tt
+
+pub if_some_map : {X : Type 0} (o : Option X) (P Q : X → Type 0) → ((x : X) → P x → Q x) → IfSome o P → IfSome o Q
+if_some_map (Some x) P Q f p = f x p
+if_some_map None P Q f p = tt
+
+pub on_ok_map_unit : {X E A B : Type 0} (r : Result X E) → OnOk r A → (A → B) → OnOk r B
+on_ok_map_unit (Ok x) a f = f a
+on_ok_map_unit (Err e) a f = tt
+
+pub on_ok_map : {X E A : Type 0} (r : Result X E) (P Q : X → Type 0) → ((x : X) → A → P x → Q x) → OnOk r A → IfOk r P → IfOk r Q
+on_ok_map (Ok x) P Q f a p = f x a p
+on_ok_map (Err e) P Q f a p = tt
+
+pub each_pushed : (f : ℕ → ℕ) (xs : List ℕ) (x n : ℕ) → length xs ≡ n → ((a : ℕ) → a < n → slice_get xs a ≡ Some (f a)) → x ≡ f n →
+    (a : ℕ) → a < n + 1 → slice_get (xs ++ x ∷ []) a ≡ Some (f a)
+each_pushed f xs x n len each here a l = elim (cases_lt a n) [
+  | inl m ↦ get-push_kept xs x a (f a) (each a m)
+  | inr m ↦
+      let last : a ≡ length xs = omega (arith, m, l, len) in
+      let same : a ≡ n = omega (arith, m, l) in
+      ap (slice_get (xs ++ x ∷ [])) last ∙ (get-push_last xs x ∙ ap Some (here ∙ ap f (sym same)))
+]
+
+-- a closer that keeps nothing counts all that is in
+pub counted_all : (s : Trace) (c : Closer) (numbers : List ℕ) (before after all : ℕ) → KeepsNothing c →
+    (k : ℕ) × KeepsFor s c numbers k × (after + k ≡ before + all) → after ≡ before + all
+counted_all s c numbers before after all none (k, (m, first, keeps), e) =
+    let nothing : k ≡ 0 = keeps.count ∙ ap (λ b. kept b (goal_at s c keeps.p) (base_total c)) none in
+    omega (arith, e, nothing)
