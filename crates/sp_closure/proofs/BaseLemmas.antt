@@ -1,5 +1,5 @@
 -- Layers over one another, and how many places are in.
-use Rattle.std.proofs.Common.{◌≡◌, ℕ, zero, suc, ◌+◌, ◌<◌, ◌≤◌, Bool, true, false, cond, ◌==◌, nat_lt, nat_le, length, Option, Some, None, Result, Ok, Err, OnOk, IfOk, IfSome, List, [], ◌∷◌, ◌++◌, slice_get, add-one, inl, inr, refl, sym, ap, subst, ◌∙◌, arith}
+use Rattle.std.proofs.Common.{◌≡◌, ℕ, zero, suc, ◌+◌, ◌<◌, ◌≤◌, Bool, true, false, cond, ◌==◌, ◌&&◌, nat_lt, nat_le, length, Option, Some, None, Result, Ok, Err, OnOk, IfOk, IfSome, List, [], ◌∷◌, ◌++◌, slice_get, add-one, inl, inr, refl, sym, ap, subst, ◌∙◌, arith}
 use Rattle.std.specs.Option.{option_map_or}
 use Rattle.std.proofs.lemmas.Bool.{eq-eqb, eqb-true, false≢true, and_parts, cases_lt}
 use Rattle.std.proofs.lemmas.Bool.Decides.{nat_tests}
@@ -8,20 +8,26 @@ use Rattle.std.proofs.lemmas.List.Sums.{sum_by-append}
 use Rattle.std.proofs.lemmas.Option.{none-some, same_Some}
 use Rattle.trace_model.specs.Trace.{Trace}
 use Rattle.trace_model.proofs.Lists.{get-push_kept, get-push_last}
-use Rattle.trace_model.specs.Closure.{Places}
+use Rattle.std.specs.Arc.{arc_value}
+use Rattle.std.specs.List.{Contains}
+use Rattle.trace_model.specs.Lawful.{IsWellFormed}
+use Rattle.trace_model.specs.Closure.{Places, IsClosure}
+use Rattle.trace_model.proofs.Stability.{closure_below}
 use Rattle.trace_index.specs.Numbers.{count_below, of_thread, number_at}
 use Rattle.sp_closure.specs.declared.demands.Goal.{Goal}
 use Rattle.sp_closure.specs.declared.demands.Item.{Item}
 use Rattle.sp_closure.specs.declared.demands.Section.{Section}
 use Rattle.sp_closure.specs.declared.layer.Layer.{Layer}
 use Rattle.sp_closure.specs.Sheets.{at}
-use Rattle.sp_closure.specs.Slots.{AreSlots, HasFirst, in_front}
+use Rattle.sp_closure.specs.declared.fronts.Fronts.{Fronts}
+use Rattle.sp_closure.specs.State.{count_of, places_in}
+use Rattle.sp_closure.specs.Slots.{class_of, AreSlots, HasFirst, in_front}
 use Rattle.sp_closure.specs.Layers.{front_of, done_of, last_of, first_some, IsEmpty}
 use Rattle.sp_closure.specs.Work.{State, IsOnWay, sum_to}
 use Rattle.sp_closure.specs.declared.closer.Closer.{Closer}
 use Rattle.sp_closure.specs.Closers.{leads_to, KeepsFor, KeepsNothing, kept, goal_at, base_total}
 use Rattle.sp_closure.proofs.Counts.{count_le, count_same}
-use Rattle.sp_closure.proofs.FrontLemmas.{of_thread_from, of_thread_so}
+use Rattle.sp_closure.proofs.FrontLemmas.{of_thread_from, of_thread_so, lt_true}
 use Rattle.sp_closure.proofs.ThreadLemmas.{place_below}
 use Rattle.sp_closure.proofs.SlotLemmas.{number_is}
 
@@ -163,9 +169,9 @@ in_front_same s slots count f g known same p = go (slots p) refl
         let eq : b ≡ a = same_Some b a (sym h ∙ e) in
         ap (λ k. option_map_or (λ n. nat_lt n k) (number_at s p) false) (same a (omega (arith, l, eq)))
 
-pub if_ok_both : {X E : Type 0} (r : Result X E) (P Q R : X → Type 0) → ((x : X) → P x → Q x → R x) → IfOk r P → IfOk r Q → IfOk r R
-if_ok_both (Ok x) P Q R f p q = f x p q
-if_ok_both (Err e) P Q R f p q = tt
+pub if_ok_three : {X E : Type 0} (r : Result X E) (P Q R S : X → Type 0) → ((x : X) → P x → Q x → R x → S x) → IfOk r P → IfOk r Q → IfOk r R → IfOk r S
+if_ok_three (Ok x) P Q R S f p q o = f x p q o
+if_ok_three (Err e) P Q R S f p q o = tt
 
 le_so : (a b : ℕ) → nat_le a b ≡ true → a ≤ b
 le_so a b h = grind (arith, nat_tests)
@@ -216,3 +222,27 @@ pub counted_all : (s : Trace) (c : Closer) (numbers : List ℕ) (before after al
 counted_all s c numbers before after all none (k, (m, first, keeps), e) =
     let nothing : k ≡ 0 = keeps.count ∙ ap (λ b. kept b (goal_at s c keeps.p) (base_total c)) none in
     omega (arith, e, nothing)
+
+and_off : (b : Bool) → false ≡ (b && false)
+and_off true = refl
+and_off false = refl
+
+-- the closure of places holds none that is not before the greatest of them
+pub closure_cut : (s : Trace) (places : List ℕ) (set : Places) (end : ℕ) → IsWellFormed s → IsClosure s places set → ((p : ℕ) → Contains places p → p ≤ end) →
+    (p : ℕ) → set p ≡ (nat_lt p end && set p)
+closure_cut s places set end w closure most p = go (set p) refl
+  where
+    go : (b : Bool) → set p ≡ b → b ≡ (nat_lt p end && b)
+    go true e = rw (lt_true p end (closure_below s w places end p most ((closure p).0 e))) refl
+    go false e = and_off (nat_lt p end)
+
+-- fronts that agree with a closure below the count of slots, as far as the greatest of the places, hold it
+pub closure_of_fronts : (s : Trace) (places : List ℕ) (classes : List (Option ℕ)) (count : ℕ) (front : ℕ → ℕ) (fronts : Fronts) → IsWellFormed s →
+    AreSlots s (class_of classes) count → (arc_value fronts.slots).items ≡ classes → ((a : ℕ) → a < count → front a ≡ count_of fronts a) →
+    ((p : ℕ) → Contains places p → p ≤ fronts.end) → IsClosure s places (in_front s (class_of classes) front) → IsClosure s places (places_in s fronts)
+closure_of_fronts s places classes count front fronts w known list same most closure =
+    let set : in_front s (class_of classes) front ≡ places_in s fronts = λ i p.
+    (closure_cut s places (in_front s (class_of classes) front) fronts.end w closure most p
+    ∙ ap (λ b. nat_lt p fronts.end && b) (in_front_same s (class_of classes) count front (count_of fronts) known same p
+    ∙ ap (λ xs. in_front s (class_of xs) (count_of fronts) p) (sym list))) i in
+    subst (IsClosure s places) set closure
