@@ -6,7 +6,7 @@ use Rattle.std.proofs.lemmas.Bool.Decides.{nat_tests}
 use Rattle.std.specs.List.{sum}
 use Rattle.std.proofs.lemmas.List.Sums.{sum_by-append}
 use Rattle.std.proofs.lemmas.Option.{none-some, same_Some}
-use Rattle.trace_model.specs.Trace.{Trace}
+use Rattle.trace_model.specs.Trace.{Trace, OfThread}
 use Rattle.trace_model.proofs.Lists.{get-push_kept, get-push_last}
 use Rattle.std.specs.Arc.{arc_value}
 use Rattle.std.specs.List.{Contains}
@@ -66,10 +66,10 @@ sum_equal f g (suc n) h = omega (arith, sum_equal f g n h, h n)
 
 -- how many places are in, at most as many as there are
 
-in_slot : (ℕ → Option ℕ) → ℕ → Places
+pub in_slot : (ℕ → Option ℕ) → ℕ → Places
 in_slot slots a p = option_map_or (λ b. b == a) (slots p) false
 
-slot_so : (slots : ℕ → Option ℕ) (a p : ℕ) → in_slot slots a p ≡ true → slots p ≡ Some a
+pub slot_so : (slots : ℕ → Option ℕ) (a p : ℕ) → in_slot slots a p ≡ true → slots p ≡ Some a
 unfolding in_slot
 slot_so slots a p h = go (slots p) refl h
   where
@@ -77,7 +77,7 @@ slot_so slots a p h = go (slots p) refl h
     go None e k = absurd (false≢true k)
     go (Some b) e k = e ∙ ap Some (eqb-true b a k)
 
-slot_from : (slots : ℕ → Option ℕ) (a p : ℕ) → slots p ≡ Some a → in_slot slots a p ≡ true
+pub slot_from : (slots : ℕ → Option ℕ) (a p : ℕ) → slots p ≡ Some a → in_slot slots a p ≡ true
 unfolding in_slot
 slot_from slots a p e = rw e (eq-eqb a a refl)
 
@@ -86,25 +86,28 @@ bool_same true b f g = sym (f refl)
 bool_same false true f g = g refl
 bool_same false false f g = refl
 
-first_counted : (s : Trace) (slots : ℕ → Option ℕ) (count a c : ℕ) → AreSlots s slots count → HasFirst s slots a c → c ≤ count_below (in_slot slots a) (length s)
+-- the places of a place's thread are those of its slot
+pub same_thread : (s : Trace) (slots : ℕ → Option ℕ) (count p a t : ℕ) → AreSlots s slots count → slots p ≡ Some a → OfThread s p t → (q : ℕ) → of_thread s t q ≡ in_slot slots a q
+same_thread s slots count p a t known at o q = bool_same (of_thread s t q) (in_slot slots a q)
+    (λ h. slot_from slots a q (known.alike p q a t at o (of_thread_so s t q h)))
+    (λ h. of_thread_from s t q (known.apart p q a t at (slot_so slots a q h) o))
+
+pub first_counted : (s : Trace) (slots : ℕ → Option ℕ) (count a c : ℕ) → AreSlots s slots count → HasFirst s slots a c → c ≤ count_below (in_slot slots a) (length s)
 first_counted s slots count a zero known has = omega arith
 first_counted s slots count a (suc c) known has =
     let (p, x) = has c (omega arith) in
     let (t, o) = known.of_place p a x.slot in
     let n = number_is s p t c o x.number in
-    let same : (q : ℕ) → of_thread s t q ≡ in_slot slots a q = λ q. bool_same (of_thread s t q) (in_slot slots a q)
-    (λ h. slot_from slots a q (known.alike p q a t x.slot o (of_thread_so s t q h)))
-    (λ h. of_thread_from s t q (known.apart p q a t x.slot (slot_so slots a q h) o)) in
-    let here : count_below (of_thread s t) p ≡ count_below (in_slot slots a) p = count_same (of_thread s t) (in_slot slots a) p (λ q l. same q) in
+    let here : count_below (of_thread s t) p ≡ count_below (in_slot slots a) p = count_same (of_thread s t) (in_slot slots a) p (λ q l. same_thread s slots count p a t known x.slot o q) in
     let one : count_below (in_slot slots a) (suc p) ≡ suc (count_below (in_slot slots a) p) =
     ap (λ b. cond b (suc (count_below (in_slot slots a) p)) (count_below (in_slot slots a) p)) (slot_from slots a p x.slot) in
     omega (arith, n, here, one, count_le (in_slot slots a) (suc p) (length s) (omega (arith, place_below s t p o)))
 
-one_of : Bool → ℕ
+unfoldable pub one_of : Bool → ℕ
 one_of true = 1
 one_of false = 0
 
-bit_off : (b : Bool) → (b ≡ true → ⊥) → b ≡ false
+pub bit_off : (b : Bool) → (b ≡ true → ⊥) → b ≡ false
 bit_off true h = absurd (h refl)
 bit_off false h = refl
 
@@ -124,11 +127,11 @@ sum_one slots p (suc n) = step (sum_one slots p n) (in_slot slots n p) refl
     step more true e = omega (arith, sum_off slots p n n (omega arith) (slot_so slots n p e), ap one_of e)
     step more false e = omega (arith, more, ap one_of e)
 
-sum_plus : (f g : ℕ → ℕ) (n : ℕ) → sum_to (λ a. f a + g a) n ≡ sum_to f n + sum_to g n
+pub sum_plus : (f g : ℕ → ℕ) (n : ℕ) → sum_to (λ a. f a + g a) n ≡ sum_to f n + sum_to g n
 sum_plus f g zero = refl
 sum_plus f g (suc n) = omega (arith, sum_plus f g n)
 
-count_step : (test : Places) (k : ℕ) → count_below test (suc k) ≡ count_below test k + one_of (test k)
+pub count_step : (test : Places) (k : ℕ) → count_below test (suc k) ≡ count_below test k + one_of (test k)
 unfolding one_of
 count_step test k = go (test k)
   where
@@ -187,13 +190,6 @@ pub on_ok : {X E P : Type 0} (r : Result X E) → P → OnOk r P
 on_ok (Ok x) p = p
 on_ok (Err e) p = tt
 
-pub sum_push : (f : ℕ → ℕ) (xs : List ℕ) (x n : ℕ) → sum xs ≡ sum_to f n → x ≡ f n → sum (xs ++ x ∷ []) ≡ sum_to f (n + 1)
-sum_push f xs x n all here = rw add-one (omega (arith, sum_by-append (λ (y : ℕ). y) xs (x ∷ []), all, here))
-
-pub if_ok_map : {X E : Type 0} (r : Result X E) (P Q : X → Type 0) → ((x : X) → P x → Q x) → IfOk r P → IfOk r Q
-if_ok_map (Ok x) P Q f p = f x p
-if_ok_map (Err e) P Q f p = tt
-
 pub if_some_map : {X : Type 0} (o : Option X) (P Q : X → Type 0) → ((x : X) → P x → Q x) → IfSome o P → IfSome o Q
 if_some_map (Some x) P Q f p = f x p
 if_some_map None P Q f p = tt
@@ -205,16 +201,6 @@ on_ok_map_unit (Err e) a f = tt
 pub on_ok_map : {X E A : Type 0} (r : Result X E) (P Q : X → Type 0) → ((x : X) → A → P x → Q x) → OnOk r A → IfOk r P → IfOk r Q
 on_ok_map (Ok x) P Q f a p = f x a p
 on_ok_map (Err e) P Q f a p = tt
-
-pub each_pushed : (f : ℕ → ℕ) (xs : List ℕ) (x n : ℕ) → length xs ≡ n → ((a : ℕ) → a < n → slice_get xs a ≡ Some (f a)) → x ≡ f n →
-    (a : ℕ) → a < n + 1 → slice_get (xs ++ x ∷ []) a ≡ Some (f a)
-each_pushed f xs x n len each here a l = elim (cases_lt a n) [
-  | inl m ↦ get-push_kept xs x a (f a) (each a m)
-  | inr m ↦
-      let last : a ≡ length xs = omega (arith, m, l, len) in
-      let same : a ≡ n = omega (arith, m, l) in
-      ap (slice_get (xs ++ x ∷ [])) last ∙ (get-push_last xs x ∙ ap Some (here ∙ ap f (sym same)))
-]
 
 -- a closer that keeps nothing counts all that is in
 pub counted_all : (s : Trace) (c : Closer) (numbers : List ℕ) (before after all : ℕ) → KeepsNothing c →
@@ -237,12 +223,10 @@ closure_cut s places set end w closure most p = go (set p) refl
     go false e = and_off (nat_lt p end)
 
 -- fronts that agree with a closure below the count of slots, as far as the greatest of the places, hold it
-pub closure_of_fronts : (s : Trace) (places : List ℕ) (classes : List (Option ℕ)) (count : ℕ) (front : ℕ → ℕ) (fronts : Fronts) → IsWellFormed s →
+pub set_of_fronts : (s : Trace) (places : List ℕ) (classes : List (Option ℕ)) (count : ℕ) (front : ℕ → ℕ) (fronts : Fronts) → IsWellFormed s →
     AreSlots s (class_of classes) count → (arc_value fronts.slots).items ≡ classes → ((a : ℕ) → a < count → front a ≡ count_of fronts a) →
-    ((p : ℕ) → Contains places p → p ≤ fronts.end) → IsClosure s places (in_front s (class_of classes) front) → IsClosure s places (places_in s fronts)
-closure_of_fronts s places classes count front fronts w known list same most closure =
-    let set : in_front s (class_of classes) front ≡ places_in s fronts = λ i p.
+    ((p : ℕ) → Contains places p → p ≤ fronts.end) → IsClosure s places (in_front s (class_of classes) front) → in_front s (class_of classes) front ≡ places_in s fronts
+set_of_fronts s places classes count front fronts w known list same most closure = λ i p.
     (closure_cut s places (in_front s (class_of classes) front) fronts.end w closure most p
     ∙ ap (λ b. nat_lt p fronts.end && b) (in_front_same s (class_of classes) count front (count_of fronts) known same p
-    ∙ ap (λ xs. in_front s (class_of xs) (count_of fronts) p) (sym list))) i in
-    subst (IsClosure s places) set closure
+    ∙ ap (λ xs. in_front s (class_of xs) (count_of fronts) p) (sym list))) i
