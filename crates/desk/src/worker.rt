@@ -8,7 +8,7 @@ ghost use Rattle.desk.specs.Published.{WasTaken};
 use crate::desk::Desk;
 use board::{BoardReader, Follows, Naming, QuestionSummary, Summary};
 use claims::Claimant;
-use findings::{ComputeRefused, Finding};
+use findings::{ComputeRefused, Finding, Job};
 use std::marker::Model;
 use std::sync::{Arc, Wait};
 use trace_model::{Bound, MAX_QUESTIONS, Refusal};
@@ -49,16 +49,27 @@ pub enum Turn {
     /// The desk refused what was asked of it.
     Refused(Refusal),
     Failed(Failed),
-    /// No task is missing.
+    /// No task is missing, but of questions that it gave up.
     Idle,
 }
 
-/// Computes tasks for a desk. Contracts see it as the steps that it has seen or was told of.
+/// A task to compute.
+#[derive(Clone, Copy)]
+struct Picked {
+    task: u32,
+    /// Whether all tasks of its question were drawn before.
+    left: bool,
+}
+
+/// Computes tasks for a desk. It keeps the job of a question while that is not settled, and gives up a question
+/// whose least missing task has too many cycles. Contracts see it as the steps that it has seen or was told of.
 #[derive(Drop)]
 pub struct Worker<N: Naming, R: Wait + Copy, T: Follows<N>> {
     desk: Arc<Desk<N, R, T>>,
     claimant: Claimant,
     reader: BoardReader<N>,
+    job: Option<Job>,
+    given_up: [bool; MAX_QUESTIONS],
 }
 
 impl<N: Naming, R: Wait + Copy, T: Follows<N>> Model for Worker<N, R, T> {
@@ -83,12 +94,14 @@ impl<N: Naming, R: Wait + Copy, T: Follows<N>> Worker<N, R, T> {
             desk,
             claimant,
             reader,
+            job: None,
+            given_up: [false; MAX_QUESTIONS],
         }
     }
 
-    /// Takes a task of the least question that is not settled: one that it draws, or the least missing one
-    /// once all are drawn. Computes its rows with the lock free, calls the hold, and delivers. What it
-    /// delivered it has seen then.
+    /// Takes a task of the least question that is not settled, nor given up: one that it draws, or the least
+    /// missing one once all are drawn. Computes its rows with the lock free, calls the hold, and delivers. What
+    /// it delivered it has seen then. Where the least missing one has too many cycles, it gives the question up.
     pub fn turn(&mut self, hold: &impl Hold) -> Turn
         ensures later { IsPrefix self.old self.new }
         ensures delivered { result ≡ Turn.Delivered → (finding : FoundRows) × WasTaken N.limit finding self.new }
@@ -96,45 +109,71 @@ impl<N: Naming, R: Wait + Copy, T: Follows<N>> Worker<N, R, T> {
         let Ok(summary) = self.reader.status() else {
             return Turn::Failed(Failed::BoardBusy);
         };
-        let Some((question, asked)) = least_unsettled(&summary) else {
+        let Some((question, asked)) = least_unsettled(&summary, &self.given_up) else {
+            self.job = None;
             return Turn::Idle;
         };
         let Some(bound) = Bound::new(asked.bound) else {
             unreachable!()
         };
-        let Some(task) = self.pick(question, asked.total) else {
+        let Some(picked) = self.pick(question, asked.total) else {
             return Turn::Idle;
         };
-        match self.compute(u32::from(question), bound, task) {
+        match self.compute(u32::from(question), bound, picked.task) {
             Ok(finding) => {
-                hold.hold(u32::from(question), task);
+                hold.hold(u32::from(question), picked.task);
                 self.deliver(finding)
             }
-            Err(turn) => turn,
+            Err(turn) => {
+                if picked.left && turn == Turn::Failed(Failed::TooManyCycles) {
+                    self.given_up[usize::from(question)] = true;
+                }
+                turn
+            }
         }
     }
 
     /// A task of the question that no other worker drew, or the least missing one.
-    fn pick(&mut self, question: u8, total: u32) -> Option<u32>
+    fn pick(&mut self, question: u8, total: u32) -> Option<Picked>
         ensures { self.new ≡ self.old }
     {
         if let Ok(number) = self.claimant.draw(question)
             && number < u64::from(total)
         {
-            return Some(number as u32);
+            return Some(Picked {
+                task: number as u32,
+                left: false,
+            });
         }
-        self.desk.missing(u32::from(question)).ok().flatten()
+        match self.desk.missing(u32::from(question)) {
+            Ok(Some(task)) => Some(Picked { task, left: true }),
+            _ => None,
+        }
+    }
+
+    /// The job of the question: the one that it has, or a new one in its place.
+    fn job_of(&mut self, question: u32, bound: Bound) -> Result<Job, Turn>
+        ensures same { self.new ≡ self.old }
+        ensures refused { IfErr result (λ turn. turn ≢ Turn.Delivered) }
+    {
+        match self.job.take() {
+            Some(job) if job.question() == question => Ok(job),
+            _ => match self.desk.snapshot(question) {
+                Ok(shared) => Ok(Job::new(self.desk.alloc, shared, question, bound)),
+                Err(refusal) => Err(refused(refusal)),
+            },
+        }
     }
 
     /// Computes the rows of the task, with the lock free.
-    fn compute(&self, question: u32, bound: Bound, task: u32) -> Result<Finding, Turn>
-        ensures { IfErr result (λ turn. turn ≢ Turn.Delivered) }
+    fn compute(&mut self, question: u32, bound: Bound, task: u32) -> Result<Finding, Turn>
+        ensures same { self.new ≡ self.old }
+        ensures refused { IfErr result (λ turn. turn ≢ Turn.Delivered) }
     {
-        let shared = match self.desk.snapshot(question) {
-            Ok(shared) => shared,
-            Err(refusal) => return Err(refused(refusal)),
-        };
-        match Finding::compute(self.desk.alloc, shared, question, bound, task) {
+        let mut job = self.job_of(question, bound)?;
+        let found = job.compute(task);
+        self.job = Some(job);
+        match found {
             Ok(finding) => Ok(finding),
             Err(ComputeRefused::TooManyCycles) => Err(Turn::Failed(Failed::TooManyCycles)),
             Err(ComputeRefused::NoMemory) => Err(Turn::Failed(Failed::NoMemory)),
@@ -155,14 +194,19 @@ impl<N: Naming, R: Wait + Copy, T: Follows<N>> Worker<N, R, T> {
     }
 }
 
-/// The least question that is not settled, with what is shown of it.
-fn least_unsettled(summary: &Summary) -> Option<(u8, QuestionSummary)>
+/// The least question that is neither settled nor given up, with what is shown of it.
+fn least_unsettled(
+    summary: &Summary,
+    given_up: &[bool; MAX_QUESTIONS],
+) -> Option<(u8, QuestionSummary)>
     ensures shown { IfSome result (λ one. (one.0 < summary.now.opened) × (slice_get summary.now.questions one.0 ≡ Some one.1)) }
     ensures unsettled { IfSome result (λ one. one.1.delivered < one.1.total) }
 {
     for number in 0..MAX_QUESTIONS {
         match summary.question(number as u32) {
-            Some(asked) if asked.delivered < asked.total => return Some((number as u8, asked)),
+            Some(asked) if asked.delivered < asked.total && !given_up[number] => {
+                return Some((number as u8, asked));
+            }
             Some(_) => {}
             None => return None,
         }

@@ -7,7 +7,7 @@ ghost use Rattle.trace_model.specs.Lawful.{IsWellFormed};
 ghost use Rattle.findings.specs.Found.{AreRowsOf};
 ghost use Rattle.question_server.specs.Offline.{AreComputed, IsNotAdmitted, IsNotComputed, IsNotReported, IsRefused, IsReport};
 
-use findings::{ComputeRefused, Finding, LockTables, Snapshot};
+use findings::{ComputeRefused, Job, LockTables, Snapshot};
 use std::alloc::Global;
 use std::hash::RandomState;
 use std::sync::Arc;
@@ -75,19 +75,12 @@ fn share(
 }
 
 /// The rows of a task.
-fn rows_of(
-    alloc: Global,
-    snapshot: &Arc<Snapshot, Global>,
-    bound: Bound,
-    task: u32,
-) -> Result<Vec<Row>, OfflineRefused>
-    ensures ok { IfOk result (λ rows. AreRowsOf (arc_value snapshot.now) bound task rows.items) }
-    ensures refused { IfErr result (IsNotComputed (arc_value snapshot.now) bound) }
+fn rows_of(job: &mut Job, task: u32) -> Result<Vec<Row>, OfflineRefused>
+    ensures same { job.new ≡ job.old }
+    ensures ok { IfOk result (λ rows. AreRowsOf job.old.events job.old.bound task rows.items) }
+    ensures refused { IfErr result (IsNotComputed job.old.events job.old.bound) }
 {
-    let Ok(snapshot) = Arc::try_clone(snapshot) else {
-        return Err(OfflineRefused::NoMemory);
-    };
-    match Finding::compute(alloc, snapshot, 0, bound, task) {
+    match job.compute(task) {
         Ok(finding) => Ok(finding.into_rows()),
         Err(ComputeRefused::TooManyCycles) => Err(OfflineRefused::TooManyCycles),
         Err(ComputeRefused::NoMemory) => Err(OfflineRefused::NoMemory),
@@ -95,18 +88,13 @@ fn rows_of(
 }
 
 /// The rows of the first `total` tasks, one after the other.
-fn compute_all(
-    alloc: Global,
-    snapshot: &Arc<Snapshot, Global>,
-    bound: Bound,
-    total: u32,
-) -> Result<Vec<Vec<Row>>, OfflineRefused>
-    ensures ok { IfOk result (λ tasks. AreComputed (arc_value snapshot.now) bound total tasks.items) }
-    ensures refused { IfErr result (IsNotComputed (arc_value snapshot.now) bound) }
+fn compute_all(alloc: Global, job: &mut Job, total: u32) -> Result<Vec<Vec<Row>>, OfflineRefused>
+    ensures ok { IfOk result (λ tasks. AreComputed job.old.events job.old.bound total tasks.items) }
+    ensures refused { IfErr result (IsNotComputed job.old.events job.old.bound) }
 {
     let mut tasks = Vec::new(alloc);
     for task in 0..total {
-        let rows = rows_of(alloc, snapshot, bound, task)?;
+        let rows = rows_of(job, task)?;
         let Ok(()) = tasks.push(rows) else {
             return Err(OfflineRefused::NoMemory);
         };
@@ -132,7 +120,8 @@ fn tasks_of(
     let Ok(snapshot) = share(alloc, state, events) else {
         return Err(OfflineRefused::NoMemory);
     };
-    compute_all(alloc, &snapshot, bound, total)
+    let mut job = Job::new(alloc, snapshot, 0, bound);
+    compute_all(alloc, &mut job, total)
 }
 
 /// The report on well-formed events.

@@ -8,10 +8,9 @@ use Rattle.trace_model.proofs.Lists.{get-push}
 use Rattle.trace_model.proofs.Ascending.{ascending_so}
 use Rattle.trace_index.specs.Numbers.{count_below, of_thread, earlier_events}
 use Rattle.trace_index.proofs.Counting.{length_ascending}
-use Rattle.sp_closure.specs.Growing.{RightBefore}
 use Rattle.sp_closure.specs.Threads.{IsNumbered, IsLastOf}
 use Rattle.sp_closure.proofs.Counts.{count_lt}
-use Rattle.sp_closure.proofs.FrontLemmas.{of_thread_from, of_thread_so, right_before}
+use Rattle.sp_closure.proofs.FrontLemmas.{of_thread_from, of_thread_so}
 
 -- a place is listed at its number
 listed_at : (f : Places) (n k q : ℕ) → slice_get (ascending f n) k ≡ Some q → count_below f q ≡ k
@@ -26,7 +25,7 @@ listed_at f (suc n) k q h = go (listed_at f n k q) (f n) h
       | inr last ↦ ap (count_below f) (sym last.1) ∙ sym (length_ascending f n) ∙ sym last.0
     ]
 
-place_below : (s : Trace) (t p : ℕ) → OfThread s p t → p < length s
+pub place_below : (s : Trace) (t p : ℕ) → OfThread s p t → p < length s
 place_below s t p (o, at) = slice_get_within s p (event t o) at
 
 pub numbered_at : (s : Trace) (t k q : ℕ) → slice_get (ascending (of_thread s t) (length s)) k ≡ Some q → IsNumbered s t k q
@@ -38,9 +37,6 @@ earlier_below s t p o =
     let less = count_lt (of_thread s t) p (length s) (place_below s t p o) (of_thread_from s t p o) in
     let all = length_ascending (of_thread s t) (length s) in
     omega arith
-
-pub none_numbered : (s : Trace) (t k : ℕ) → length (ascending (of_thread s t) (length s)) ≤ k → (p : ℕ) → OfThread s p t → earlier_events s t p < k
-none_numbered s t k short p o = let less = earlier_below s t p o in omega arith
 
 pub none_listed : (s : Trace) (t : ℕ) → length (ascending (of_thread s t) (length s)) ≡ 0 → (p : ℕ) → OfThread s p t → ⊥
 none_listed s t none p o = let less = earlier_below s t p o in omega arith
@@ -58,11 +54,3 @@ last_listed s t q h =
         | inr below ↦ omega (arith, below)
       ],
     )
-
-pub is_before : (s : Trace) (t q n : ℕ) (o : Option ℕ) → OfThread s q t → earlier_events s t q ≡ n → n ≢ 0 →
-    MatchOption o ((p : ℕ) → OfThread s p t → earlier_events s t p < n - 1) (IsNumbered s t (n - 1)) →
-    MatchOption o ((u : ℕ) → EarlierInThread s u q → ⊥) (λ p. (p < length s) × RightBefore s p q)
-is_before s t q n None a e z h = λ u before. omega (arith, e, h q a)
-is_before s t q n (Some p) a e z h =
-    let k : n ≡ suc (n - 1) = omega (arith, z) in
-    (place_below s t p h.0, right_before s t q p (n - 1) a (e ∙ k) h.0 h.1)

@@ -12,7 +12,8 @@ use trace_index::TraceIndex;
 use trace_model::{NoMemory, Place};
 
 /// The places of the fronts, ascending. Where the fronts are the closure of what reached places need, this
-/// is a reordering that reaches them, and its places are in every other one.
+/// is a reordering that reaches them, and its places are in every other one. It looks at no place past the
+/// greatest of those that were to be reached.
 ///
 /// The caller owes the index of the trace that the fronts were made over. NoMemory where a growth was
 /// refused.
@@ -26,7 +27,9 @@ pub fn write_witness(
         IsWitness index.now places order.items) }
 {
     let mut places = Vec::new(alloc);
-    for p in 0..index.len() {
+    let len = index.len();
+    let end = fronts.end().get() as usize;
+    for p in 0..len.min(end) {
         let place = Place::new(p as u32);
         if fronts.has(index, place) {
             places.push(place)?;

@@ -1,0 +1,157 @@
+#!/usr/bin/env python3
+"""Compares the offline report on small random traces with a plain program.
+
+  compare.py PROGRAM [TRACES] [EVENTS] [FIRST]
+
+The plain program lists the cycles by trying all tuples of dependencies, makes a closure by repeating its rules until
+nothing is added, and tries the instances of a cycle one after another in lexicographic order. It is slow, and shares
+nothing with the program but the text of the report.
+"""
+import itertools
+import os
+import re
+import subprocess
+import sys
+import tempfile
+
+import traces
+
+
+def parse(words):
+    events = []
+    for word in words:
+        thread, kind, target = re.fullmatch(r"(\d+)([fjardw])(\d+)", word).groups()
+        events.append((int(thread), kind, int(target)))
+    return events
+
+
+def dependencies(events):
+    """Each dependency with its places, in the order of first appearance."""
+    held = {}
+    places = {}
+    for place, (thread, kind, target) in enumerate(events):
+        locks = held.setdefault(thread, set())
+        if kind == "a":
+            if locks:
+                places.setdefault((thread, target, frozenset(locks)), []).append(place)
+            locks.add(target)
+        elif kind == "r":
+            locks.remove(target)
+    return list(places.items())
+
+
+def is_cycle(members):
+    threads = [thread for thread, _, _ in members]
+    locks = [lock for _, lock, _ in members]
+    helds = [held for _, _, held in members]
+    return (
+        len(set(threads)) == len(threads)
+        and len(set(locks)) == len(locks)
+        and all(not (a & b) for a, b in itertools.combinations(helds, 2))
+        and all(locks[i] in helds[(i + 1) % len(members)] for i in range(len(members)))
+    )
+
+
+def cycles(known, bound):
+    """By first number, and then in lexicographic order."""
+    found = []
+    for size in range(2, bound + 1):
+        for numbers in itertools.permutations(range(len(known)), size):
+            if numbers[0] == min(numbers) and is_cycle([known[number][0] for number in numbers]):
+                found.append(numbers)
+    return sorted(found)
+
+
+def needs(events, place):
+    """The places that have to be in as soon as the place is."""
+    thread, kind, target = events[place]
+    for other, (other_thread, other_kind, other_target) in enumerate(events):
+        if other < place and other_thread == thread:
+            yield other
+        if other_kind == "f" and other_target == thread:
+            yield other
+        if kind == "j" and (other_thread == target or (other_kind == "f" and other_target == target)):
+            yield other
+    if kind == "d":
+        writes = [other for other in range(place) if events[other][1:] == ("w", target)]
+        yield from writes[-1:]
+
+
+def release(events, place):
+    lock = events[place][2]
+    later = [other for other in range(place + 1, len(events)) if events[other][1:] == ("r", lock)]
+    return later[0] if later else None
+
+
+def closure(events, instance):
+    inside = {p for place in instance for p in range(place) if events[p][0] == events[place][0]}
+    while True:
+        more = set(inside)
+        for place in inside:
+            more.update(needs(events, place))
+        acquires = [place for place in inside if events[place][1] == "a"]
+        for first in acquires:
+            if any(first < other and events[first][2] == events[other][2] for other in acquires):
+                end = release(events, first)
+                if end is not None:
+                    more.add(end)
+        if more == inside:
+            return inside
+        inside = more
+
+
+def row(events, known, numbers):
+    for instance in itertools.product(*[known[number][1] for number in numbers]):
+        inside = closure(events, instance)
+        if not inside & set(instance):
+            return instance, sorted(inside)
+    return None
+
+
+def report(events, bound):
+    known = dependencies(events)
+    lines = []
+    confirmed = 0
+    found = cycles(known, bound)
+    for numbers in found:
+        reached = row(events, known, numbers)
+        verdict = "potential" if reached is None else "confirmed"
+        lines.append("cycle " + " ".join(map(str, numbers)) + " " + verdict)
+        for i, number in enumerate(numbers):
+            thread, lock, held = known[number][0]
+            line = f"  thread {thread} lock {lock} holds " + " ".join(map(str, sorted(held)))
+            lines.append(line if reached is None else line + f" place {reached[0][i]}")
+        if reached is not None:
+            confirmed += 1
+            lines.append("  witness" + "".join(f" {place}" for place in reached[1]))
+    head = f"question 0 length {len(events)} bound {bound} cycles {len(found)} confirmed {confirmed}"
+    return "\n".join([head] + lines) + "\n", len(found), confirmed
+
+
+def main(arguments):
+    if not arguments:
+        sys.exit(__doc__)
+    program = os.path.abspath(arguments[0])
+    count, events, first = [int(a) for a in arguments[1:]] + [200, 60, 0][len(arguments) - 1 :]
+    total = sum_confirmed = 0
+    with tempfile.TemporaryDirectory() as folder:
+        path = os.path.join(folder, "small.trace")
+        for seed in range(first, first + count):
+            words = traces.small(seed, events)
+            with open(path, "w") as out:
+                out.write(" ".join(words) + "\n")
+            bound = 2 + seed % 2
+            got = subprocess.run([program, "offline", path, "--bound", str(bound)], capture_output=True, text=True)
+            wanted, found, confirmed = report(parse(words), bound)
+            if got.returncode != 0 or got.stdout != wanted:
+                print(f"seed {seed}, {events} events, bound {bound}: they differ")
+                print(" ".join(words))
+                print("--- the program\n" + got.stdout + got.stderr + "--- the plain one\n" + wanted)
+                sys.exit(1)
+            total += found
+            sum_confirmed += confirmed
+    print(f"{count} traces of {events} events agree: {total} cycles, {sum_confirmed} confirmed")
+
+
+if __name__ == "__main__":
+    main(sys.argv[1:])

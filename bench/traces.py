@@ -1,0 +1,119 @@
+#!/usr/bin/env python3
+"""Writes a trace in the words of an event file.
+
+  traces.py opposite ROUNDS        two threads that take two locks in opposite orders, ROUNDS times each
+  traces.py rows LOCKS             two threads that take lock 1 and each of LOCKS locks in opposite orders
+  traces.py accounts SECTIONS      16 threads that take two of 64 locks each time, SECTIONS times in all
+  traces.py nested SECTIONS        12 threads that hold one to five of 40 locks, SECTIONS times in all
+  traces.py pairs LOCKS            four threads that take all pairs of LOCKS locks, in one order
+  traces.py small SEED EVENTS      a random lawful trace of few threads and locks
+"""
+import random
+import sys
+
+
+def forks(threads):
+    return [f"0f{thread}" for thread in range(1, threads + 1)]
+
+
+def section(thread, locks):
+    taken = [f"{thread}a{lock}" for lock in locks]
+    return taken + [f"{thread}r{lock}" for lock in reversed(locks)]
+
+
+def opposite(rounds):
+    words = forks(2)
+    for _ in range(rounds):
+        words += section(1, [10, 20]) + section(2, [20, 10])
+    return words
+
+
+def rows(locks):
+    """Thread 0 holds lock 1 while it takes each other lock, and then thread 1 holds each while it takes lock 1."""
+    words = forks(1)
+    for lock in range(2, locks + 1):
+        words += section(0, [1, lock])
+    for lock in range(2, locks + 1):
+        words += section(1, [lock, 1])
+    return words
+
+
+def serial(sections):
+    words = []
+    for thread, locks in sections:
+        words += section(thread, locks)
+    return words
+
+
+def accounts(count, seed=1):
+    chooser = random.Random(seed)
+    words = forks(16)
+    for turn in range(count):
+        thread = chooser.randint(1, 16)
+        words += section(thread, chooser.sample(range(64), 2))
+        if turn % 4 == 0:
+            words.append(f"{thread}{chooser.choice('dw')}{chooser.randint(0, 63)}")
+    return words
+
+
+def nested(count, seed=1):
+    chooser = random.Random(seed)
+    sections = [(chooser.randint(1, 12), chooser.sample(range(40), chooser.randint(1, 5))) for _ in range(count)]
+    return forks(12) + serial(sections)
+
+
+def pairs(locks):
+    """No thread takes a greater lock first, so no bound has a cycle."""
+    words = forks(4)
+    for thread in range(1, 5):
+        for first in range(locks):
+            for second in range(first + 1, locks):
+                words += section(thread, [first, second])
+    return words
+
+
+def small(seed, events):
+    """Lawful words of up to four threads, four locks and two variables; thread 3 may be joined."""
+    chooser = random.Random(seed)
+    words = ["0f1", "0f2", "0f3"]
+    held = {thread: [] for thread in range(4)}
+    owner = {}
+    ended = set()
+    while len(words) < events:
+        thread = chooser.choice([t for t in range(4) if t not in ended])
+        kind = chooser.random()
+        if kind < 0.42 and len(held[thread]) < 3:
+            free = [lock for lock in range(4) if lock not in owner]
+            if free:
+                lock = chooser.choice(free)
+                owner[lock] = thread
+                held[thread].append(lock)
+                words.append(f"{thread}a{lock}")
+        elif kind < 0.80 and held[thread]:
+            lock = chooser.choice(held[thread])
+            held[thread].remove(lock)
+            del owner[lock]
+            words.append(f"{thread}r{lock}")
+        elif kind < 0.88:
+            words.append(f"{thread}w{chooser.randint(0, 1)}")
+        elif kind < 0.96:
+            words.append(f"{thread}d{chooser.randint(0, 1)}")
+        elif kind > 0.99 and thread != 3 and 3 not in ended and not held[3] and len(words) > 8:
+            ended.add(3)
+            words.append(f"{thread}j3")
+    return words
+
+
+KINDS = {"opposite": opposite, "rows": rows, "accounts": accounts, "nested": nested, "pairs": pairs, "small": small}
+
+
+def main(arguments):
+    if len(arguments) < 2 or arguments[0] not in KINDS:
+        sys.exit(__doc__)
+    words = KINDS[arguments[0]](*[int(argument) for argument in arguments[1:]])
+    for start in range(0, len(words), 16):
+        print(" ".join(words[start : start + 16]))
+
+
+if __name__ == "__main__":
+    main(sys.argv[1:])

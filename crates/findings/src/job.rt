@@ -1,0 +1,93 @@
+//! Tasks of one question, computed one after another over the same tables.
+
+ghost use Rattle.std.specs.Prelude.{◌≡◌, IfOk, Err};
+ghost use Rattle.std.specs.Arc.{arc_value};
+ghost use Rattle.trace_model.specs.declared.limits.TheConstants.{MAX_CYCLES};
+ghost use Rattle.trace_model.specs.Dependencies.{dependencies};
+ghost use Rattle.cycle_search.specs.Search.{CycleFrom, MoreThan};
+
+use crate::finding::{ComputeRefused, Finding};
+use crate::rows::rows_of;
+use crate::snapshot::Snapshot;
+use sp_closure::Closer;
+use std::alloc::Global;
+use std::marker::Model;
+use std::sync::Arc;
+use trace_model::Bound;
+
+/// What the tasks of a question are computed from: the snapshot of its events, its bound, and what the search
+/// for least instances keeps from one task to the next. Contracts see it as the question.
+#[derive(Drop)]
+pub struct Job {
+    alloc: Global,
+    snapshot: Arc<Snapshot, Global>,
+    question: u32,
+    bound: Bound,
+    closer: Option<Closer>,
+}
+
+impl Model for Job {
+    ghost use Rattle.std.specs.Arc.{arc_value};
+    ghost use Rattle.std.specs.Option.{ForSome};
+    ghost use Rattle.sp_closure.specs.Closers.{IsCloser};
+    ghost use Rattle.findings.specs.Found.{Asked};
+
+    ghost Value = { Asked };
+
+    ghost view = { λ j. record { question = j.question; bound = j.bound; events = arc_value j.snapshot } };
+
+    ghost invariant = { λ j. ForSome j.closer (IsCloser (arc_value j.snapshot)) };
+}
+
+impl Job {
+    /// The job of a question with this bound about the snapshot's events. The question's number is kept as it is
+    /// given. It takes no memory.
+    pub fn new(
+        alloc: Global,
+        snapshot: Arc<Snapshot, Global>,
+        question: u32,
+        bound: Bound,
+    ) -> Job
+        ensures { result ≡ record { question = question; bound = bound; events = arc_value snapshot } }
+    {
+        Job {
+            alloc,
+            snapshot,
+            question,
+            bound,
+            closer: None,
+        }
+    }
+
+    /// The number of the question. It takes no memory, and neither do the others.
+    pub fn question(&self) -> u32
+        ensures { result ≡ self.now.question }
+    {
+        self.question
+    }
+
+    /// Computes the rows of a task: of the cycles up to the bound in the snapshot's events whose first number
+    /// is the task's. A task past the last one has no rows. What it answers, the job serves for further tasks.
+    ///
+    /// # Errors
+    ///
+    /// `TooManyCycles` only where the task has more than `MAX_CYCLES` cycles, `NoMemory` where a growth was
+    /// refused.
+    pub fn compute(&mut self, task: u32) -> Result<Finding, ComputeRefused>
+        ensures same { self.new ≡ self.old }
+        ensures asked { IfOk result (λ f. (f.question ≡ self.old.question) × (f.bound ≡ self.old.bound) × (f.task ≡ task) × (f.events ≡ self.old.events)) }
+        ensures too_many { result ≡ Err ComputeRefused.TooManyCycles → MoreThan (CycleFrom (dependencies self.old.events) self.old.bound task) MAX_CYCLES }
+    {
+        let Ok(snapshot) = Arc::try_clone(&self.snapshot) else {
+            return Err(ComputeRefused::NoMemory);
+        };
+        let rows = rows_of(self.alloc, &snapshot, &mut self.closer, self.bound, task)?;
+        Ok(Finding {
+            snapshot,
+            question: self.question,
+            bound: self.bound,
+            task,
+            rows,
+        })
+    }
+}

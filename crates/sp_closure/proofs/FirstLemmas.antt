@@ -1,0 +1,165 @@
+-- The slots of threads and of locks, by their first places.
+use Rattle.std.proofs.Common.{◌≡◌, ℕ, zero, suc, ◌<◌, ◌≤◌, true, false, List, length, slice_get, Option, Some, None, IfSome, MatchOption, refl, sym, ap, subst, ◌∙◌, arith}
+use Rattle.std.specs.Option.{option_and_then, option_map_or}
+use Rattle.std.proofs.lemmas.Bool.{eq-eqb, eqb-true, false≢true}
+use Rattle.std.proofs.lemmas.Option.{none-some, same_Some, slice_get_within}
+use Rattle.trace_model.specs.declared.event.Event.{Event}
+use Rattle.trace_model.specs.declared.event.Op.{Op}
+use Rattle.trace_model.specs.declared.event.Op.TheVariants.{Fork, Join, Acquire, Release, Read, Write}
+use Rattle.trace_model.specs.Trace.{Trace, event, does, op_eq, OfThread}
+use Rattle.trace_model.specs.Held.{BeginsOn}
+use Rattle.trace_model.specs.Closure.{Places, ascending}
+use Rattle.trace_model.proofs.Ascending.{ascending_so, place_of, contains_ascending}
+use Rattle.trace_model.proofs.Unique.{ascending_strict, increasing_ordered}
+use Rattle.trace_model.proofs.Lists.{at_index}
+use Rattle.trace_model.proofs.Least.{at_thread}
+use Rattle.std.specs.List.Sorted.{IsStrictlyIncreasing}
+use Rattle.trace_index.specs.Numbers.{of_thread}
+use Rattle.sp_closure.specs.Slots.{AreSlots}
+use Rattle.sp_closure.specs.Threads.{IsLastOf}
+use Rattle.sp_closure.specs.Demands.{AreLocks}
+use Rattle.sp_closure.specs.Classes.{AreFirsts, AreClasses}
+use Rattle.sp_closure.specs.Firsts.{first_of_thread, first_of_lock, first_acquire}
+use Rattle.sp_closure.proofs.FrontLemmas.{of_thread_from, of_thread_so}
+use Rattle.sp_closure.proofs.ThreadLemmas.{place_below}
+
+-- the first of the places that pass, at or before any of them
+least_listed : (f : Places) (n p : ℕ) → p < n → f p ≡ true → (x : ℕ) × (slice_get (ascending f n) 0 ≡ Some x) × (x ≤ p) × (f x ≡ true) × (x < n)
+least_listed f n p l h =
+    let (k, at) = place_of (ascending f n) p (contains_ascending f n p l h) in
+    let inside = slice_get_within (ascending f n) k p at in
+    let (x, first) = at_index (ascending f n) 0 (omega (arith, inside)) in
+    let so = ascending_so f n 0 x first in
+    (x, first, before (ascending f n) (ascending_strict f n) k x p first at, so.1, so.0)
+  where
+    before : (xs : List ℕ) → IsStrictlyIncreasing xs → (k x p : ℕ) → slice_get xs 0 ≡ Some x → slice_get xs k ≡ Some p → x ≤ p
+    before xs up zero x p a b = omega (arith, same_Some x p (sym a ∙ b))
+    before xs up (suc k) x p a b = omega (arith, increasing_ordered xs up 0 (suc k) x p (omega arith) a b)
+
+thread_at : (s : Trace) (p t : ℕ) → OfThread s p t → first_of_thread s p ≡ slice_get (ascending (of_thread s t) (length s)) 0
+thread_at s p t (o, h) = rw h refl
+
+thread_first : (s : Trace) (p t : ℕ) → OfThread s p t → (x : ℕ) × (first_of_thread s p ≡ Some x) × (x ≤ p) × OfThread s x t
+thread_first s p t o =
+    let (x, first, l, here, inside) = least_listed (of_thread s t) (length s) p (place_below s t p o) (of_thread_from s t p o) in
+    (x, thread_at s p t o ∙ first, l, of_thread_so s t x here)
+
+some_thread : (s : Trace) (p x : ℕ) → first_of_thread s p ≡ Some x → (t : ℕ) × OfThread s p t
+some_thread s p x h = go (slice_get s p) refl h
+  where
+    go : (o : Option Event) → slice_get s p ≡ o → option_and_then (λ e. slice_get (ascending (of_thread s e.thread) (length s)) 0) o ≡ Some x → (t : ℕ) × OfThread s p t
+    go None e k = absurd (none-some x k)
+    go (Some v) e k = (v.thread, (v.op, e))
+
+pub thread_firsts : (s : Trace) (firsts : ℕ → Option ℕ) → ((p : ℕ) → firsts p ≡ first_of_thread s p) → AreFirsts firsts
+thread_firsts s firsts same = record {
+  first = λ p x h.
+      let (t, o) = some_thread s p x (sym (same p) ∙ h) in
+      let (y, first, l, ox) = thread_first s p t o in
+      let e : y ≡ x = same_Some y x (sym first ∙ (sym (same p) ∙ h)) in
+      let here : OfThread s x t = subst (λ z. OfThread s z t) e ox in
+      (omega (arith, l, e), same x ∙ (thread_at s x t here ∙ (sym (thread_at s p t o) ∙ (sym (same p) ∙ h))));
+}
+
+pub thread_slots : (s : Trace) (firsts slots : ℕ → Option ℕ) (count : ℕ) → ((p : ℕ) → firsts p ≡ first_of_thread s p) → AreClasses firsts slots count (length s) → AreSlots s slots count
+thread_slots s firsts slots count same c = record {
+  each = λ p t o.
+      let (x, first, l, ox) = thread_first s p t o in
+      c.each p x (place_below s t p o) (same p ∙ first);
+  of_place = λ p a h.
+      let (l, x, f) = c.has p a h in
+      some_thread s p x (sym (same p) ∙ f);
+  apart = λ p q a t hp hq o.
+      let (x, first, l, ox) = thread_first s p t o in
+      let fq = c.apart p q a x hp hq (same p ∙ first) in
+      let (u, oq) = some_thread s q x (sym (same q) ∙ fq) in
+      let (y, first_q, m, oy) = thread_first s q u oq in
+      let e : y ≡ x = same_Some y x (sym first_q ∙ (sym (same q) ∙ fq)) in
+      let tu : t ≡ u = at_thread s x t u ox (subst (λ z. OfThread s z u) e oy) in
+      subst (OfThread s q) (sym tu) oq;
+  alike = λ p q a t hp o oq.
+      let (x, first, l, ox) = thread_first s p t o in
+      c.alike p q a x (place_below s t q oq) hp (same p ∙ first) (same q ∙ (thread_at s q t oq ∙ (sym (thread_at s p t o) ∙ first)));
+}
+
+-- the same of locks
+
+does_from : (s : Trace) (k p : ℕ) → BeginsOn s p k → does s (Acquire k) p ≡ true
+does_from s k p (t, h) = rw h (eq-eqb k k refl)
+
+op_is : (s : Trace) (k : ℕ) (p : ℕ) → does s (Acquire k) p ≡ true → BeginsOn s p k
+op_is s k p h = go (slice_get s p) refl h
+  where
+    acquires : (t : ℕ) (o : Op) → slice_get s p ≡ Some (event t o) → op_eq o (Acquire k) ≡ true → BeginsOn s p k
+    acquires t (Acquire l) e h = (t, e ∙ ap (λ z. Some (event t (Acquire z))) (eqb-true l k h))
+    acquires t (Fork l) e h = absurd (false≢true h)
+    acquires t (Join l) e h = absurd (false≢true h)
+    acquires t (Release l) e h = absurd (false≢true h)
+    acquires t (Read l) e h = absurd (false≢true h)
+    acquires t (Write l) e h = absurd (false≢true h)
+
+    go : (o : Option Event) → slice_get s p ≡ o → option_map_or (λ e. op_eq e.op (Acquire k)) o false ≡ true → BeginsOn s p k
+    go None e h = absurd (false≢true h)
+    go (Some v) e h = acquires v.thread v.op e h
+
+lock_at : (s : Trace) (p k : ℕ) → BeginsOn s p k → first_of_lock s p ≡ slice_get (ascending (does s (Acquire k)) (length s)) 0
+lock_at s p k (t, h) = rw h refl
+
+lock_first : (s : Trace) (p k : ℕ) → BeginsOn s p k → (x : ℕ) × (first_of_lock s p ≡ Some x) × (x ≤ p) × BeginsOn s x k
+lock_first s p k b =
+    let (x, first, l, here, inside) = least_listed (does s (Acquire k)) (length s) p (slice_get_within s p _ b.1) (does_from s k p b) in
+    (x, lock_at s p k b ∙ first, l, op_is s k x here)
+
+some_lock : (s : Trace) (p x : ℕ) → first_of_lock s p ≡ Some x → (k : ℕ) × BeginsOn s p k
+some_lock s p x h = go (slice_get s p) refl h
+  where
+    acquires : (t : ℕ) (o : Op) → slice_get s p ≡ Some (event t o) → first_acquire s o ≡ Some x → (k : ℕ) × BeginsOn s p k
+    acquires t (Acquire l) e h = (l, (t, e))
+    acquires t (Fork l) e h = absurd (none-some x h)
+    acquires t (Join l) e h = absurd (none-some x h)
+    acquires t (Release l) e h = absurd (none-some x h)
+    acquires t (Read l) e h = absurd (none-some x h)
+    acquires t (Write l) e h = absurd (none-some x h)
+
+    go : (o : Option Event) → slice_get s p ≡ o → option_and_then (λ e. first_acquire s e.op) o ≡ Some x → (k : ℕ) × BeginsOn s p k
+    go None e h = absurd (none-some x h)
+    go (Some v) e h = acquires v.thread v.op e h
+
+same_lock : (s : Trace) (p k l : ℕ) → BeginsOn s p k → BeginsOn s p l → k ≡ l
+same_lock s p k l (t, a) (u, b) = ap (λ e. lock_in e.op) (same_Some (event t (Acquire k)) (event u (Acquire l)) (sym a ∙ b))
+  where
+    lock_in : Op → ℕ
+    lock_in (Acquire z) = z
+    lock_in _ = 0
+
+pub lock_firsts : (s : Trace) (firsts : ℕ → Option ℕ) → ((p : ℕ) → firsts p ≡ first_of_lock s p) → AreFirsts firsts
+lock_firsts s firsts same = record {
+  first = λ p x h.
+      let (k, b) = some_lock s p x (sym (same p) ∙ h) in
+      let (y, first, l, bx) = lock_first s p k b in
+      let e : y ≡ x = same_Some y x (sym first ∙ (sym (same p) ∙ h)) in
+      let here : BeginsOn s x k = subst (λ z. BeginsOn s z k) e bx in
+      (omega (arith, l, e), same x ∙ (lock_at s x k here ∙ (sym (lock_at s p k b) ∙ (sym (same p) ∙ h))));
+}
+
+pub lock_slots : (s : Trace) (firsts locks : ℕ → Option ℕ) (count : ℕ) → ((p : ℕ) → firsts p ≡ first_of_lock s p) → AreClasses firsts locks count (length s) → AreLocks s locks count
+lock_slots s firsts locks count same c = record {
+  each = λ p k b.
+      let (x, first, l, bx) = lock_first s p k b in
+      c.each p x (slice_get_within s p _ b.1) (same p ∙ first);
+  apart = λ p q a k hp hq b.
+      let (x, first, l, bx) = lock_first s p k b in
+      let fq = c.apart p q a x hp hq (same p ∙ first) in
+      let (m, bq) = some_lock s q x (sym (same q) ∙ fq) in
+      let (y, first_q, n, by) = lock_first s q m bq in
+      let e : y ≡ x = same_Some y x (sym first_q ∙ (sym (same q) ∙ fq)) in
+      let km : k ≡ m = same_lock s x k m bx (subst (λ z. BeginsOn s z m) e by) in
+      subst (BeginsOn s q) (sym km) bq;
+  alike = λ p q a k hp b bq.
+      let (x, first, l, bx) = lock_first s p k b in
+      c.alike p q a x (slice_get_within s q _ bq.1) hp (same p ∙ first) (same q ∙ (lock_at s q k bq ∙ (sym (lock_at s p k b) ∙ first)));
+}
+
+pub some_within : (o : Option ℕ) (n : ℕ) → ((p : ℕ) → o ≡ Some p → p < n) → IfSome o (λ p. p < n)
+some_within None n f = tt
+some_within (Some p) n f = f p refl
