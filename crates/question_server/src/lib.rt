@@ -7,6 +7,8 @@ mod client;
 mod client_tests;
 mod counting;
 mod ends;
+#[cfg(test)]
+mod fault_tests;
 mod memory;
 #[cfg(test)]
 mod offline_tests;
