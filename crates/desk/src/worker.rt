@@ -123,14 +123,15 @@ impl<N: Naming, R: Wait + Copy, T: Follows<N>> Worker<N, R, T> {
         {
             return Some(number as u32);
         }
-        self.desk.missing(u32::from(question)).ok().flatten()
+        self.desk.missing(u32::from(question)).0.ok().flatten()
     }
 
     /// Computes the rows of the task, with the lock free.
     fn compute(&self, question: u32, bound: Bound, task: u32) -> Result<Finding, Turn>
         ensures { IfErr result (λ turn. turn ≢ Turn.Delivered) }
     {
-        let shared = match self.desk.snapshot(question) {
+        let (shared, _) = self.desk.snapshot(question);
+        let shared = match shared {
             Ok(shared) => shared,
             Err(refusal) => return Err(refused(refusal)),
         };
