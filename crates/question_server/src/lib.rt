@@ -16,6 +16,8 @@ mod offline_tests;
 mod one_byte;
 mod reporting;
 #[cfg(test)]
+mod sending_tests;
+#[cfg(test)]
 mod serve_tests;
 mod sessions;
 mod streams;
