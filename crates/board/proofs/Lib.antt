@@ -1,3 +1,3 @@
-pub mod Prefixes
+pub mod Beginnings
 pub mod Adding
 pub mod Showing

@@ -1,26 +1,26 @@
 -- A summary with one legal step more is the summary of the longer run.
-use Rattle.std.proofs.Common.{◌≡◌, ℕ, zero, suc, ◌+◌, ◌*◌, ◌%◌, ◌^◌, ◌<◌, ◌≤◌, List, [], ◌∷◌, ◌++◌, length, Some, refl, sym, ap, ◌∙◌, subst, inl, inr, append_assoc, length-append, arith}
-use Rattle.std.specs.Prelude.{slice_get, slice_set, slice_index_or, Option, None}
-use Rattle.std.proofs.lemmas.Bool.{cases_lt, cases_eq}
+use Rattle.std.proofs.Common.{◌≡◌, ℕ, zero, suc, ◌+◌, ◌%◌, ◌^◌, ◌<◌, List, [], ◌∷◌, ◌++◌, length, Some, refl, sym, ap, ◌∙◌, subst, inl, inr, append_assoc, length-append, arith}
+use Rattle.std.specs.Prelude.{slice_get, slice_set, slice_index_or}
+use Rattle.std.proofs.lemmas.Bool.{cases_eq}
 use Rattle.std.proofs.lemmas.List.{length-set}
 use Rattle.std.proofs.lemmas.Option.{none-some, same_Some, slice_get_within, get_or_from_slice_get}
 use mathlib.Core.List.{IsPrefix}
 use Rattle.trace_model.specs.declared.step.BoardStep.{BoardStep}
 use Rattle.trace_model.specs.declared.step.BoardStep.TheVariants.{Accept, Open, Deliver}
-use Rattle.trace_model.specs.declared.limits.TheConstants.{MAX_EVENTS, MAX_QUESTIONS, MAX_CYCLES}
+use Rattle.trace_model.specs.declared.limits.TheConstants.{MAX_EVENTS}
 use Rattle.trace_model.specs.Rows.{AreRows}
 use Rattle.trace_model.specs.Machine.{opening}
 use Rattle.trace_model.specs.Runs as runs
 use Rattle.trace_model.specs.Runs.{Shown, add_delivery, count_step, count_steps, summary, IsLegal}
 use Rattle.trace_model.specs.Bounds.{SummaryFits}
-use Rattle.trace_model.proofs.Lists.{at_index, get-push, get-push_kept, get-push_last, get-set_same, get-set_other}
+use Rattle.trace_model.proofs.Lists.{at_index, get-push, get-set_same, get-set_other}
 use Rattle.trace_model.proofs.Summary.{summary_is_state}
 use Rattle.trace_model.proofs.Bounds.{run_is_within}
 use Rattle.trace_model.proofs.Taking.{run_parts}
 use Rattle.board.specs.declared.summary.QuestionSummary.{QuestionSummary}
 use Rattle.board.specs.declared.summary.Summary.{Summary}
 use Rattle.board.specs.Totals.{none, nones, blank, shown_as, added, ShowsCounts, Shows}
-use Rattle.board.proofs.Prefixes.{prefix_same}
+use Rattle.board.proofs.Beginnings.{as_long}
 
 count_steps-push : (b : runs.Summary) (steps : List BoardStep) (x : BoardStep) → count_steps b (steps ++ x ∷ []) ≡ count_step (count_steps b steps) x
 count_steps-push b [] x = refl
@@ -132,6 +132,6 @@ next_shows s run next both before x h legal ends p q len =
     let P : List BoardStep → Type 0 = λ w. IsPrefix w both in
     let q' : IsPrefix (before ++ x ∷ []) both = subst P ends q in
     let r : IsPrefix before both = (x ∷ q'.0, sym (append_assoc before (x ∷ []) q'.0) ∙ q'.1) in
-    let same : run ≡ before = prefix_same run before both p r (omega (arith, ap length ends, length-append before (x ∷ []), len)) in
+    let same : run ≡ before = as_long run before both p r (omega (arith, ap length ends, length-append before (x ∷ []), len)) in
     let is : run ++ x ∷ [] ≡ next = ap (λ w. w ++ x ∷ []) same ∙ sym ends in
     subst (Shows (added s x)) is (added_shows s run x h (subst IsLegal (sym is) legal))

@@ -1,5 +1,5 @@
 -- How one run follows another.
-use Rattle.std.specs.Prelude.{ℕ, ◌≡◌, ◌+◌, ◌==◌, cond, List, [], ◌∷◌, ◌++◌, length, Option, Some, None}
+use Rattle.std.specs.Prelude.{◌≡◌, ◌+◌, ◌==◌, cond, List, [], ◌∷◌, ◌++◌, length, Option, Some, None}
 use Rattle.trace_model.specs.declared.step.BoardStep.{BoardStep}
 
 -- the last step of the run is this one
@@ -19,6 +19,11 @@ after_change run (Some next) = followed run next
 pub record Written : Type 0 where
   pub published : List BoardStep
   pub waiting : List BoardStep
+
+-- what the queue of changes holds for a step that waits: a change that changes nothing, so that there is room
+abbrev pub room_of : {A : Type 0} → Option BoardStep → List (Option A)
+room_of None = []
+room_of (Some step) = None ∷ []
 
 abbrev pub list_of : Option BoardStep → List BoardStep
 list_of None = []

@@ -16,17 +16,17 @@ impl Rule<BoardStep, u64> for LegalHistory {
     ghost use base.Fml.{ftrue};
     ghost use Rattle.board.specs.Rules.{IsHistory};
 
-    ghost holds = { λ cells log. IsHistory cells log };
+    ghost holds = { λ words steps. IsHistory words steps };
 
     ghost first = { [] };
 
-    ghost hinted = { λ n log. Unit {0} };
+    ghost hinted = { λ count steps. Unit {0} };
 
-    ghost shows = { λ log. [] };
+    ghost shows = { λ steps. [] };
 
-    ghost keeps = { λ names log. ftrue };
+    ghost keeps = { λ names steps. ftrue };
 
-    ghost moves = { λ ask before after answer. Unit {0} };
+    ghost moves = { λ step before after gain. Unit {0} };
 }
 
 /// No caller gets anything in exchange for a step.

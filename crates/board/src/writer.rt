@@ -1,5 +1,5 @@
 //! Writing the board.
-ghost use Rattle.std.specs.Prelude.{◌≡◌, ◌≤◌, [], ◌∷◌, ◌++◌, List, length, true, Some, IfOk, OnErr};
+ghost use Rattle.std.specs.Prelude.{◌≡◌, ◌≤◌, [], ◌∷◌, ◌++◌, List, length, refl, None, Some, IfOk, OnErr};
 ghost use Rattle.left_right.specs.Handles.{published, pending};
 ghost use Rattle.trace_model.specs.declared.step.BoardStep.{BoardStep};
 ghost use Rattle.trace_model.specs.Runs.{IsLegal};
@@ -11,7 +11,7 @@ use crate::reader::{BoardReader, Receipt};
 use crate::shown::{Next, Shown};
 use crate::summary::Summary;
 use left_right::{Absorb, WriteHandle};
-use std::alloc::Global;
+use std::alloc::{AllocError, Global};
 use std::marker::Model;
 use std::sync::Wait;
 use trace_model::{BoardStep, NoMemory};
@@ -34,6 +34,8 @@ pub trait Follows<N: Naming>: Absorb<Option<Next<N>>> + Drop {
 
     ghost follows: { (s t : Self) (next : List BoardStep) → Self.state t ≡ Self.applied (Self.state s) (Some next) → run t ≡ followed (run s) next };
 
+    ghost idle: { (shown : Self.State) → Self.applied shown None ≡ shown };
+
     ghost sure: { Self.never_fails };
 }
 
@@ -42,6 +44,8 @@ impl<N: Naming> Follows<N> for Shown<N> {
 
     ghost follows = { λ s t next is. is };
 
+    ghost idle = { λ shown. refl };
+
     ghost sure = { tt };
 
     fn summary(&self) -> &Summary {
@@ -49,15 +53,16 @@ impl<N: Naming> Follows<N> for Shown<N> {
     }
 }
 
-/// Appends the change. It waits while there is no memory: what was committed must be published.
+/// Appends the change, where the queue was grown for it. It waits while there is no memory all the same: what was
+/// committed must be published.
 fn append<N: Naming, R: Wait + Copy, T: Follows<N>>(
     rt: &R,
     handle: &mut Handle<N, R, T>,
     next: Next<N>,
 )
-    requires { pending handle.old ≡ [] }
+    requires { pending handle.old ≡ None ∷ [] }
     ensures published { published handle.new ≡ published handle.old }
-    ensures pending { pending handle.new ≡ Some next ∷ [] }
+    ensures pending { pending handle.new ≡ None ∷ Some next ∷ [] }
 {
     let mut change = Some(next);
     for _ in rt.forever() {
@@ -75,7 +80,7 @@ fn show<N: Naming, R: Wait + Copy, T: Follows<N>>(
     handle: &mut Handle<N, R, T>,
     next: Next<N>,
 )
-    requires { pending handle.old ≡ [] }
+    requires { pending handle.old ≡ None ∷ [] }
     ensures shown { T.run (published handle.new) ≡ followed (T.run (published handle.old)) next }
     ensures rests { pending handle.new ≡ [] }
 {
@@ -102,28 +107,29 @@ pub struct BoardWriter<N: Naming, R: Wait + Copy, T: Follows<N>> {
 impl<N: Naming, R: Wait + Copy, T: Follows<N>> Model for BoardWriter<N, R, T> {
     ghost use Rattle.std.specs.Prelude.{◌≡◌, []};
     ghost use Rattle.left_right.specs.Handles.{published, pending};
-    ghost use Rattle.board.specs.Fits.{Written, list_of};
+    ghost use Rattle.board.specs.Fits.{Written, list_of, room_of};
 
     ghost Value = { Written };
 
     ghost view = { λ w. record { published = w.front; waiting = list_of w.waiting } };
 
-    ghost invariant = { λ w. (T.run (published w.handle) ≡ w.front) × (pending w.handle ≡ []) };
+    ghost invariant = { λ w. (T.run (published w.handle) ≡ w.front) × (pending w.handle ≡ room_of w.waiting) };
 }
 
 impl<N: Naming, R: Wait + Copy, T: Follows<N>> BoardWriter<N, R, T> {
-    /// One step waits to be published. Nothing that is published changes.
+    /// One step waits to be published, and the queue of changes has grown for it. Nothing that is published
+    /// changes.
     ///
     /// # Errors
     ///
-    /// `NoMemory` where a growth was refused; nothing waits then. The room was made with the board, so it does
-    /// not come today.
+    /// `NoMemory` where the queue could not grow; nothing waits then.
     pub fn grow(&mut self, step: BoardStep) -> Result<(), NoMemory>
         requires { self.old.waiting ≡ [] }
         ensures published { self.new.published ≡ self.old.published }
         ensures waiting { IfOk result (λ _. self.new.waiting ≡ step ∷ []) }
         ensures refused { OnErr result (self.new ≡ self.old) }
     {
+        self.handle.append(None).map_err(|_| AllocError)?;
         self.waiting = Some(step);
         Ok(())
     }
@@ -181,8 +187,7 @@ pub fn new_board<N: Naming, R: Wait + Copy>(
 {
     let (head, front) = opened.named::<N>();
     let (first, second) = (Shown::opening(&front), Shown::opening(&front));
-    let mut handle = WriteHandle::new(alloc, rt, first, second, readers).map_err(|_| NotMade)?;
-    warm(&mut handle)?;
+    let handle = WriteHandle::new(alloc, rt, first, second, readers).map_err(|_| NotMade)?;
     let all = make_readers(alloc, &handle, &front, readers)?;
     let writer = BoardWriter {
         handle,
@@ -209,16 +214,4 @@ fn make_readers<N: Naming, R: Wait + Copy>(
             .map_err(|_| NotMade)?;
     }
     Ok(all)
-}
-
-/// Makes room in the queue of changes, by two that change nothing, and empties it.
-fn warm<N: Naming, R: Wait + Copy>(handle: &mut Handle<N, R, Shown<N>>) -> Result<(), NotMade>
-    requires { pending handle.old ≡ [] }
-    ensures { IfOk result (λ _. (published handle.new ≡ published handle.old) × (pending handle.new ≡ [])) }
-{
-    handle.append(None).map_err(|_| NotMade)?;
-    handle.append(None).map_err(|_| NotMade)?;
-    let _ = handle.publish();
-    let _ = handle.publish();
-    Ok(())
 }

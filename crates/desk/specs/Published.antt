@@ -49,7 +49,3 @@ WasTaken limit f seen =
 -- this is so of the machine after the run
 abbrev pub Afterwards : ℕ → List BoardStep → (State → Type 0) → Type 0
 Afterwards limit run so = (state : State) × After limit run state × so state
-
--- this was so of the machine after some published run
-abbrev pub AtSomeTime : ℕ → (State → Type 0) → Type 0
-AtSomeTime limit so = (run : List BoardStep) × Afterwards limit run so

@@ -11,7 +11,7 @@ ghost use Rattle.findings.specs.Found.{AreRowsOf};
 ghost use Rattle.sequencer.specs.Book.{IsLimit, Refuses, RefusesSnapshot, answer_refusal, answer_reply, ask_refusal, opened_reply};
 ghost use Rattle.sequencer.specs.Printing.{printing};
 ghost use Rattle.sequencer.specs.Sessions.{delivery};
-ghost use Rattle.desk.specs.Published.{Afterwards, AtSomeTime, EndsBy, delivery_step};
+ghost use Rattle.desk.specs.Published.{Afterwards, EndsBy, delivery_step};
 ghost use Rattle.desk.specs.Questions.{AreEventsOf, IsFirstMissing};
 ghost use Rattle.desk.specs.Refused.{IsCount, RefusesDesk, RefusesFinding};
 
@@ -124,27 +124,33 @@ impl<N: Naming, R: Wait + Copy, T: Follows<N>> Desk<N, R, T> {
         self.locked.lock(&self.rt).answer(question)
     }
 
-    /// Exactly the events that the question is about, with what is needed to compute its tasks.
+    /// Exactly the events that the question is about, with what is needed to compute its tasks. The receipt
+    /// names all that is then published.
     ///
     /// # Errors
     ///
-    /// `NoSuchQuestion`, or `NoMemory` where a growth was refused.
-    pub fn snapshot(&self, question: u32) -> Result<Arc<Snapshot, Global>, Refusal>
-        ensures ok { IfOk result (λ shared. AtSomeTime N.limit (λ state. AreEventsOf state question (arc_value shared))) }
-        ensures refused { IfErr result (λ refusal. AtSomeTime N.limit (λ state. RefusesSnapshot state question refusal)) }
+    /// After all that the receipt names: `NoSuchQuestion`, or `NoMemory` where a growth was refused.
+    pub fn snapshot(&self, question: u32) -> (Result<Arc<Snapshot, Global>, Refusal>, Receipt<N>)
+        ensures ok { IfOk result.0 (λ shared. Afterwards N.limit result.1 (λ state. AreEventsOf state question (arc_value shared))) }
+        ensures refused { IfErr result.0 (λ refusal. Afterwards N.limit result.1 (λ state. RefusesSnapshot state question refusal)) }
+        ensures legal { IsLegal result.1 }
     {
-        self.locked.lock(&self.rt).snapshot(question)
+        let locked = self.locked.lock(&self.rt);
+        (locked.snapshot(question), locked.receipt())
     }
 
-    /// The least task of the question that is not delivered; none where all are.
+    /// The least task of the question that is not delivered; none where all are. The receipt names all that is
+    /// then published.
     ///
     /// # Errors
     ///
-    /// `NoSuchQuestion`.
-    pub fn missing(&self, question: u32) -> Result<Option<u32>, NoSuchQuestion>
-        ensures ok { IfOk result (λ found. AtSomeTime N.limit (λ state. IsFirstMissing state question found)) }
-        ensures refused { IfErr result (λ _. AtSomeTime N.limit (λ state. slice_get state.questions question ≡ None)) }
+    /// `NoSuchQuestion`, after all that the receipt names.
+    pub fn missing(&self, question: u32) -> (Result<Option<u32>, NoSuchQuestion>, Receipt<N>)
+        ensures ok { IfOk result.0 (λ found. Afterwards N.limit result.1 (λ state. IsFirstMissing state question found)) }
+        ensures refused { IfErr result.0 (λ _. Afterwards N.limit result.1 (λ state. slice_get state.questions question ≡ None)) }
+        ensures legal { IsLegal result.1 }
     {
-        self.locked.lock(&self.rt).missing(question)
+        let locked = self.locked.lock(&self.rt);
+        (locked.missing(question), locked.receipt())
     }
 }

@@ -205,6 +205,14 @@ impl<N: Naming, R: Wait + Copy, T: Follows<N>> Locked<N, R, T> {
         (self.book.answer(question), self.board.receipt())
     }
 
+    /// Names all that is published.
+    pub fn receipt(&self) -> Receipt<N>
+        ensures published { result ≡ self.now.published }
+        ensures legal { IsLegal self.now.published }
+    {
+        self.board.receipt()
+    }
+
     /// Exactly the events that the question is about, with what is needed to compute its tasks.
     ///
     /// # Errors

@@ -145,10 +145,8 @@ impl<N: Naming, R: Wait + Copy, T: Follows<N>> Worker<N, R, T> {
                 left: false,
             });
         }
-        match self.desk.missing(u32::from(question)) {
-            Ok(Some(task)) => Some(Picked { task, left: true }),
-            _ => None,
-        }
+        let task = self.desk.missing(u32::from(question)).0.ok().flatten()?;
+        Some(Picked { task, left: true })
     }
 
     /// The job of the question: the one that it has, or a new one in its place.
@@ -158,7 +156,7 @@ impl<N: Naming, R: Wait + Copy, T: Follows<N>> Worker<N, R, T> {
     {
         match self.job.take() {
             Some(job) if job.question() == question => Ok(job),
-            _ => match self.desk.snapshot(question) {
+            _ => match self.desk.snapshot(question).0 {
                 Ok(shared) => Ok(Job::new(self.desk.alloc, shared, question, bound)),
                 Err(refusal) => Err(refused(refusal)),
             },

@@ -192,17 +192,18 @@ fn repeats<N: Naming, R: Wait + Abort + Copy>(
     );
     let two = Bound::new(2).expect(&rt, "a bound is 2 to 8");
     for task in 0..opened.total {
-        assert_eq!(rt; desk.missing(0).ok(), Some(Some(task)));
+        assert_eq!(rt; desk.missing(0).0.ok(), Some(Some(task)));
         assert!(rt; matches!(desk.answer(0).0, Ok(Answer::Pending { .. })));
-        let Ok(snapshot) = desk.snapshot(0) else {
+        let (snapshot, _) = desk.snapshot(0);
+        let Ok(snapshot) = snapshot else {
             return Err(Fail::from("no snapshot"));
         };
         let finding = Finding::compute(alloc, snapshot, 0, two, task)?;
         assert!(rt; desk.deliver(finding).0.is_ok());
     }
-    assert_eq!(rt; desk.missing(0).ok(), Some(None));
-    assert!(rt; desk.missing(1).is_err());
-    assert!(rt; matches!(desk.snapshot(1), Err(Refusal::NoSuchQuestion)));
+    assert_eq!(rt; desk.missing(0).0.ok(), Some(None));
+    assert!(rt; desk.missing(1).0.is_err());
+    assert!(rt; matches!(desk.snapshot(1).0, Err(Refusal::NoSuchQuestion)));
     assert!(rt; is_report(desk.answer(0).0));
     Ok(())
 }

@@ -37,6 +37,6 @@ pub served_by_machine : (left written : Option (List ℕ)) (old : Kept) (left' w
 served_by_machine left written old left' written' sent' new result s =
     let chain = chain_states old new s.done s.chain in
     record {
-      served = record { text = s.text; took = s.took; done = s.done; chain = chain; out = s.out; put = s.put; ends = s.ends; went = s.went; at_end = s.at_end };
+      served = record { text = s.text; took = s.took; stops = s.stops; done = s.done; chain = chain; out = s.out; put = s.put; ends = s.ends; went = s.went };
       machine = machine_chain old.state new.state s.done chain;
     }

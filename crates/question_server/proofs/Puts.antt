@@ -30,6 +30,12 @@ took_then (Some whole) None new x y p q = absurd p
 took_then (Some whole) (Some middle) None x y p q = absurd q
 took_then (Some whole) (Some middle) (Some rest) x y p q = p ∙ (ap (λ (r : List ℕ). x ++ r) q ∙ sym (append_assoc x y rest))
 
+pub took_kept : (old mid new : Option (List ℕ)) (x : List ℕ) → Consumes old mid x → Keeps mid new → Consumes old new x
+took_kept None mid new x p k = tt
+took_kept (Some whole) None new x p k = absurd p
+took_kept (Some whole) (Some middle) None x p k = absurd k
+took_kept (Some whole) (Some middle) (Some rest) x p k = p ∙ ap (λ (r : List ℕ). x ++ r) (sym k)
+
 -- so many of the bytes are written
 pub record IsPut (old now : Option (List ℕ)) (failures failures' : ℕ) (bytes : List ℕ) (n : ℕ) : Type 0 where
   pub within : n ≤ length bytes

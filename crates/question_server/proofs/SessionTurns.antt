@@ -1,5 +1,5 @@
 -- What the loop of a session keeps.
-use Rattle.std.proofs.Common.{◌≡◌, ℕ, ◌<◌, Bool, true, false, List, [], ◌∷◌, ◌++◌, Option, Some, None, Result, Ok, Err, IfOk, IfErr, refl, sym, ap, subst, ◌∙◌, append_assoc}
+use Rattle.std.proofs.Common.{◌≡◌, ℕ, ◌<◌, ◌≤◌, Bool, true, false, List, [], ◌∷◌, ◌++◌, length, Option, Some, None, Result, Ok, Err, IfOk, IfErr, refl, sym, ap, subst, ◌∙◌, append_assoc}
 use Rattle.std.specs.Io.KnownBytes.{Consumes, Appends, Keeps, IsAtEnd}
 use Rattle.std.specs.Option.{option_to_list}
 use Rattle.std.proofs.lemmas.List.{append-nil, map-append}
@@ -11,12 +11,14 @@ use Rattle.trace_model.specs.Frames.{requests_in, fault_in}
 use Rattle.trace_model.specs.Replies.{reply_frame}
 use Rattle.event_frames.specs.Reader.{Reading, HasRead, IsFed}
 use Rattle.event_frames.proofs.Wholes.{leaves, feeds, nothing_read}
-use Rattle.question_server.specs.Serving.{IsBeginning, Call, Chain, requests_called, frames_of, fault_frames, owed_fault, AreBegun, Begins, CallsAll, EndsAs, WentOut, ReadsOn, Served, Answered, Broken, IsCounted}
+use Rattle.question_server.specs.Serving.{IsBeginning, Call, Chain, requests_called, frames_of, fault_frames, owed_fault, AreBegun, Begins, CallsAll, EndsOnlyAt, EndsAs, WentOut, Served, Answered, Broken, IsCounted}
 use Rattle.question_server.specs.declared.sessions.Ended.{Ended}
 use Rattle.question_server.specs.declared.sessions.Ended.TheVariants.{Input, Frame}
 use Rattle.question_server.specs.declared.sessions.ServeFault.{ServeFault}
 use Rattle.question_server.specs.declared.sessions.ServeFault.TheVariants.{Read, Write, Memory}
-use Rattle.question_server.proofs.Puts.{put_none, put_then, put_kept, took_none, took_then}
+use Rattle.question_server.specs.declared.sessions.TheConstants.{PIECE}
+use Rattle.question_server.proofs.Faults.{stands_in, stops_before, stops_after}
+use Rattle.question_server.proofs.Puts.{put_none, put_then, put_kept, took_none, took_then, took_kept}
 
 chain_then : {C : Type 0} (steps : C → Request → Reply → C → Type 0) (old mid new : C) (xs ys : List Call) → Chain steps old xs mid → Chain steps mid ys new → Chain steps old (xs ++ ys) new
 chain_then steps old mid new [] ys p q = subst (λ m. Chain steps m ys new) p q
@@ -28,7 +30,10 @@ frames_then done fresh = flat_map-append (λ (c : Call). reply_frame c.1) done f
 called_then : (done fresh : List Call) → requests_called (done ++ fresh) ≡ requests_called done ++ requests_called fresh
 called_then done fresh = map-append (λ (c : Call). c.0) done fresh
 
--- all that was read is answered so far
+pub not_ended_at : (left : Option (List ℕ)) (ended : Bool) → ended ≡ false → EndsOnlyAt ended left
+not_ended_at left ended n e = let both : true ≡ false = sym e ∙ n in absurd cc
+
+-- all that was read is answered so far, and has no fault
 pub record IsServing {C : Type 0} (steps : C → Request → Reply → C → Type 0) (left written : Option (List ℕ)) (calls : C) (reads writes : ℕ) (reader : Reading) (left' written' : Option (List ℕ)) (calls' : C) (reads' writes' : ℕ) : Type 0 where
   pub text : List ℕ
   pub took : Consumes left left' text
@@ -37,6 +42,7 @@ pub record IsServing {C : Type 0} (steps : C → Request → Reply → C → Typ
   pub put : Appends written written' (frames_of done)
   pub read : HasRead text (requests_called done) reader
   pub all : CallsAll text done
+  pub sound : fault_in text false ≡ None
   pub untold : reader.told ≡ None
   pub not_ended : reader.ended ≡ false
   pub same_reads : reads' ≡ reads
@@ -44,7 +50,7 @@ pub record IsServing {C : Type 0} (steps : C → Request → Reply → C → Typ
 
 pub serving_starts : {C : Type 0} (steps : C → Request → Reply → C → Type 0) (left written : Option (List ℕ)) (calls : C) (reads writes : ℕ) (reader : Reading) → HasRead [] [] reader → reader.told ≡ None → reader.ended ≡ false → IsServing steps left written calls reads writes reader left written calls reads writes
 serving_starts steps left written calls reads writes reader h t n =
-    record { text = []; took = took_none left; done = []; chain = refl; put = put_none written; read = h; all = sym (nothing_read false).requests; untold = t; not_ended = n; same_reads = refl; same_writes = refl }
+    record { text = []; took = took_none left; done = []; chain = refl; put = put_none written; read = h; all = sym (nothing_read false).requests; sound = (nothing_read false).fault; untold = t; not_ended = n; same_reads = refl; same_writes = refl }
 
 -- ---- what is owed
 
@@ -87,6 +93,7 @@ module _ {C : Type 0} (steps : C → Request → Reply → C → Type 0) (left w
     put = put_kept written written' written'' (frames_of s.done) s.put k;
     read = s.read;
     all = s.all;
+    sound = s.sound;
     untold = s.untold;
     not_ended = s.not_ended;
     same_reads = s.same_reads;
@@ -100,17 +107,30 @@ module _ {C : Type 0} (steps : C → Request → Reply → C → Type 0) (left w
       record {
         text = s.text;
         took = s.took;
+        stops = stops_before s.text s.sound;
         done = s.done;
         chain = s.chain;
         out = frames_of s.done ++ [];
         put = subst (λ (x : List ℕ). Appends written written'' x) (sym (append-nil (frames_of s.done))) (put_kept written written' written'' (frames_of s.done) s.put k);
-        ends = record { more = requests_in reader.rest; called = sym l.requests; ended = false; begun = after_all s.done [] owed owed refl };
+        ends = record { more = requests_in reader.rest; called = sym l.requests; ended = false; at_end = λ e. absurd cc; begun = after_all s.done [] owed owed refl };
         went = b;
-        at_end = tt;
       }
 
-  pub ends_unfed : (piece : List ℕ) (left'' sent : Option (List ℕ)) → Consumes left' left'' piece → IsBeginning sent written' → Served steps left written calls left'' written' sent calls' (Err Memory)
-  ends_unfed piece left'' sent t b =
+  pub ends_unread : (left'' sent : Option (List ℕ)) → Keeps left' left'' → sent ≡ written' → Served steps left written calls left'' written' sent calls' (Err Read)
+  ends_unread left'' sent k went = record {
+    text = s.text;
+    took = took_kept left left' left'' s.text s.took k;
+    stops = stops_before s.text s.sound;
+    done = s.done;
+    chain = s.chain;
+    out = frames_of s.done;
+    put = s.put;
+    ends = (s.all, s.sound, refl);
+    went = went;
+  }
+
+  pub ends_unfed : (piece : List ℕ) (left'' sent : Option (List ℕ)) → Consumes left' left'' piece → length piece ≤ PIECE → IsBeginning sent written' → Served steps left written calls left'' written' sent calls' (Err Memory)
+  ends_unfed piece left'' sent t short b =
       let v : Reading = record reader { rest = reader.rest ++ piece } in
       let h = feeds reader piece v s.not_ended (refl, refl, λ _. refl) s.text (requests_called s.done) s.read in
       let l = leaves (s.text ++ piece) (requests_called s.done) v false h s.untold in
@@ -118,13 +138,13 @@ module _ {C : Type 0} (steps : C → Request → Reply → C → Type 0) (left w
       record {
         text = s.text ++ piece;
         took = took_then left left' left'' s.text piece s.took t;
+        stops = stops_after s.text piece s.sound short;
         done = s.done;
         chain = s.chain;
         out = frames_of s.done ++ [];
         put = subst (λ (x : List ℕ). Appends written written' x) (sym (append-nil (frames_of s.done))) s.put;
-        ends = record { more = requests_in v.rest; called = sym l.requests; ended = false; begun = after_all s.done [] owed owed refl };
+        ends = record { more = requests_in v.rest; called = sym l.requests; ended = false; at_end = λ e. absurd cc; begun = after_all s.done [] owed owed refl };
         went = b;
-        at_end = tt;
       }
 
   -- what was done before and now
@@ -147,11 +167,12 @@ module _ {C : Type 0} (steps : C → Request → Reply → C → Type 0) (left w
       }
 
   -- what is left to do once all is answered
-  all_begun : (text : List ℕ) (ended : Bool) (fault : Option Fault) (written'' : Option (List ℕ)) (calls'' : C) (b : IsAnsweredBy text ended fault written'' calls'') → Begins text b.done (frames_of b.done ++ fault_frames fault)
-  all_begun text ended fault written'' calls'' b = record {
+  all_begun : (text : List ℕ) (left'' : Option (List ℕ)) (ended : Bool) (fault : Option Fault) (written'' : Option (List ℕ)) (calls'' : C) (b : IsAnsweredBy text ended fault written'' calls'') → EndsOnlyAt ended left'' → Begins text left'' b.done (frames_of b.done ++ fault_frames fault)
+  all_begun text left'' ended fault written'' calls'' b at = record {
     more = [];
     called = append-nil (requests_called b.done) ∙ b.all;
     ended = ended;
+    at_end = at;
     begun = after_all b.done (fault_frames fault) [] (fault_frames (fault_in text ended)) (append-nil (fault_frames fault) ∙ ap fault_frames (sym b.stands));
   }
 
@@ -162,74 +183,74 @@ module _ {C : Type 0} (steps : C → Request → Reply → C → Type 0) (left w
     pub err : IfErr result (λ fault. (fault ≡ Write) × (m < n))
     pub begins : IsBeginning sent written'''
 
-  concluded : (ended : Ended) (result : Result Ended ServeFault) (sent written'' written''' : Option (List ℕ)) (m n : ℕ) (text : List ℕ) (done : List Call) (out : List ℕ) (left'' : Option (List ℕ)) → IsConcluded ended result sent written'' written''' m n → EndsAs (Ok ended) text done out → Begins text done out → ReadsOn (Ok ended) left'' → EndsAs result text done out × WentOut result sent written''' × ReadsOn result left''
-  concluded ended (Ok e) sent written'' written''' m n text done out left'' c ends begun reads =
-      (subst (λ (x : Ended). EndsAs (Ok x) text done out) (sym c.ok.0) ends, c.ok.1, subst (λ (x : Ended). ReadsOn (Ok x) left'') (sym c.ok.0) reads)
-  concluded ended (Err fault) sent written'' written''' m n text done out left'' c ends begun reads =
-      let both : EndsAs (Err fault) text done out × WentOut (Err fault) sent written''' = subst (λ (x : ServeFault). EndsAs (Err x) text done out × WentOut (Err x) sent written''') (sym c.err.0) (begun, c.begins) in
-      (both.0, both.1, tt)
+  concluded : (ended : Ended) (result : Result Ended ServeFault) (sent written'' written''' : Option (List ℕ)) (m n : ℕ) (text : List ℕ) (done : List Call) (out : List ℕ) (left'' : Option (List ℕ)) → IsConcluded ended result sent written'' written''' m n → EndsAs (Ok ended) text left'' done out → Begins text left'' done out → EndsAs result text left'' done out × WentOut result sent written'''
+  concluded ended (Ok e) sent written'' written''' m n text done out left'' c ends begun =
+      (subst (λ (x : Ended). EndsAs (Ok x) text left'' done out) (sym c.ok.0) ends, c.ok.1)
+  concluded ended (Err fault) sent written'' written''' m n text done out left'' c ends begun =
+      subst (λ (x : ServeFault). EndsAs (Err x) text left'' done out × WentOut (Err x) sent written''') (sym c.err.0) (begun, c.begins)
 
-  pub ends_fault : (piece : List ℕ) (left'' : Option (List ℕ)) (v : Reading) (calls'' : C) (reader' : Reading) (written'' : Option (List ℕ)) (answer : Option Fault) (fault : Fault) (result : Result Ended ServeFault) (sent written''' : Option (List ℕ)) (m n : ℕ) → Consumes left' left'' piece → IsHanded s.text (requests_called s.done) piece v → Answered steps calls' v written' calls'' reader' written'' answer → answer ≡ Some fault → IsConcluded (Frame fault) result sent written'' written''' m n → Served steps left written calls left'' written''' sent calls'' result
-  ends_fault piece left'' v calls'' reader' written'' answer fault result sent written''' m n t h a e c =
+  pub ends_fault : (piece : List ℕ) (left'' : Option (List ℕ)) (v : Reading) (calls'' : C) (reader' : Reading) (written'' : Option (List ℕ)) (answer : Option Fault) (fault : Fault) (result : Result Ended ServeFault) (sent written''' : Option (List ℕ)) (m n : ℕ) → Consumes left' left'' piece → length piece ≤ PIECE → EndsOnlyAt v.ended left'' → IsHanded s.text (requests_called s.done) piece v → Answered steps calls' v written' calls'' reader' written'' answer → answer ≡ Some fault → IsConcluded (Frame fault) result sent written'' written''' m n → Served steps left written calls left'' written''' sent calls'' result
+  ends_fault piece left'' v calls'' reader' written'' answer fault result sent written''' m n t short at h a e c =
       let b = answered_by piece v written'' calls'' reader' answer h a in
       let out = frames_of b.done ++ fault_frames answer in
-      let done = concluded (Frame fault) result sent written'' written''' m n (s.text ++ piece) b.done out left'' c (b.all, (v.ended, b.stands ∙ e), ap (λ (x : Option Fault). frames_of b.done ++ fault_frames x) e) (all_begun (s.text ++ piece) v.ended answer written'' calls'' b) tt in
+      let done = concluded (Frame fault) result sent written'' written''' m n (s.text ++ piece) b.done out left'' c (b.all, stands_in (s.text ++ piece) left'' v.ended fault at (b.stands ∙ e), ap (λ (x : Option Fault). frames_of b.done ++ fault_frames x) e) (all_begun (s.text ++ piece) left'' v.ended answer written'' calls'' b at) in
       record {
         text = s.text ++ piece;
         took = took_then left left' left'' s.text piece s.took t;
+        stops = stops_after s.text piece s.sound short;
         done = b.done;
         chain = b.chain;
         out = out;
         put = put_kept written written'' written''' out b.put c.kept;
         ends = done.0;
         went = done.1;
-        at_end = done.2;
       }
 
-  pub ends_input : (piece : List ℕ) (left'' : Option (List ℕ)) (v : Reading) (calls'' : C) (reader' : Reading) (written'' : Option (List ℕ)) (answer : Option Fault) (result : Result Ended ServeFault) (sent written''' : Option (List ℕ)) (m n : ℕ) → Consumes left' left'' piece → IsAtEnd left'' → IsHanded s.text (requests_called s.done) piece v → v ≡ record reader { ended = true } → Answered steps calls' v written' calls'' reader' written'' answer → answer ≡ None → IsConcluded Input result sent written'' written''' m n → Served steps left written calls left'' written''' sent calls'' result
-  ends_input piece left'' v calls'' reader' written'' answer result sent written''' m n t at h v_is a e c =
+  pub ends_input : (piece : List ℕ) (left'' : Option (List ℕ)) (v : Reading) (calls'' : C) (reader' : Reading) (written'' : Option (List ℕ)) (answer : Option Fault) (result : Result Ended ServeFault) (sent written''' : Option (List ℕ)) (m n : ℕ) → Consumes left' left'' piece → length piece ≤ PIECE → IsAtEnd left'' → IsHanded s.text (requests_called s.done) piece v → v ≡ record reader { ended = true } → Answered steps calls' v written' calls'' reader' written'' answer → answer ≡ None → IsConcluded Input result sent written'' written''' m n → Served steps left written calls left'' written''' sent calls'' result
+  ends_input piece left'' v calls'' reader' written'' answer result sent written''' m n t short at h v_is a e c =
       let b = answered_by piece v written'' calls'' reader' answer h a in
       let out = frames_of b.done ++ fault_frames answer in
       let v_ended : v.ended ≡ true = ap (λ (x : Reading). x.ended) v_is in
       let no_fault : fault_in (s.text ++ piece) true ≡ None = ap (λ (x : Bool). fault_in (s.text ++ piece) x) (sym v_ended) ∙ (b.stands ∙ e) in
-      let done = concluded Input result sent written'' written''' m n (s.text ++ piece) b.done out left'' c (b.all, no_fault, ap (λ (x : Option Fault). frames_of b.done ++ fault_frames x) e ∙ append-nil (frames_of b.done)) (all_begun (s.text ++ piece) v.ended answer written'' calls'' b) at in
+      let done = concluded Input result sent written'' written''' m n (s.text ++ piece) b.done out left'' c (b.all, no_fault, at, ap (λ (x : Option Fault). frames_of b.done ++ fault_frames x) e ∙ append-nil (frames_of b.done)) (all_begun (s.text ++ piece) left'' v.ended answer written'' calls'' b (λ _. at)) in
       record {
         text = s.text ++ piece;
         took = took_then left left' left'' s.text piece s.took t;
+        stops = stops_after s.text piece s.sound short;
         done = b.done;
         chain = b.chain;
         out = out;
         put = put_kept written written'' written''' out b.put c.kept;
         ends = done.0;
         went = done.1;
-        at_end = done.2;
       }
 
-  broken_ends : (fault : ServeFault) (m n : ℕ) (text : List ℕ) (done : List Call) (out : List ℕ) (sent written'' : Option (List ℕ)) → IsCounted fault m n → Begins text done out → IsBeginning sent written'' → EndsAs (Err fault) text done out × WentOut (Err fault) sent written''
-  broken_ends Read m n text done out sent written'' c b w = absurd c
-  broken_ends Write m n text done out sent written'' c b w = (b, w)
-  broken_ends Memory m n text done out sent written'' c b w = (b, w)
+  broken_ends : (fault : ServeFault) (m n : ℕ) (text : List ℕ) (left'' : Option (List ℕ)) (done : List Call) (out : List ℕ) (sent written'' : Option (List ℕ)) → IsCounted fault m n → Begins text left'' done out → IsBeginning sent written'' → EndsAs (Err fault) text left'' done out × WentOut (Err fault) sent written''
+  broken_ends Read m n text left'' done out sent written'' c b w = absurd c
+  broken_ends Write m n text left'' done out sent written'' c b w = (b, w)
+  broken_ends Memory m n text left'' done out sent written'' c b w = (b, w)
 
-  pub ends_broken : (piece : List ℕ) (left'' : Option (List ℕ)) (v : Reading) (calls'' : C) (written'' sent : Option (List ℕ)) (fault : ServeFault) (m n : ℕ) → Consumes left' left'' piece → IsHanded s.text (requests_called s.done) piece v → Broken steps calls' v written' calls'' written'' → IsCounted fault m n → IsBeginning sent written'' → Served steps left written calls left'' written'' sent calls'' (Err fault)
-  ends_broken piece left'' v calls'' written'' sent fault m n t h b c w =
+  pub ends_broken : (piece : List ℕ) (left'' : Option (List ℕ)) (v : Reading) (calls'' : C) (written'' sent : Option (List ℕ)) (fault : ServeFault) (m n : ℕ) → Consumes left' left'' piece → length piece ≤ PIECE → EndsOnlyAt v.ended left'' → IsHanded s.text (requests_called s.done) piece v → Broken steps calls' v written' calls'' written'' → IsCounted fault m n → IsBeginning sent written'' → Served steps left written calls left'' written'' sent calls'' (Err fault)
+  ends_broken piece left'' v calls'' written'' sent fault m n t short at h b c w =
       let l = leaves (s.text ++ piece) (requests_called s.done) v v.ended h.read h.untold in
-      let begun : Begins (s.text ++ piece) (s.done ++ b.fresh) (frames_of s.done ++ b.out) = record {
+      let begun : Begins (s.text ++ piece) left'' (s.done ++ b.fresh) (frames_of s.done ++ b.out) = record {
         more = b.more;
         called = ap (λ (x : List Request). x ++ b.more) (called_then s.done b.fresh) ∙ (append_assoc (requests_called s.done) (requests_called b.fresh) b.more ∙ (ap (λ (x : List Request). requests_called s.done ++ x) b.called ∙ sym l.requests));
         ended = v.ended;
+        at_end = at;
         begun = subst (λ (x : Option Fault). AreBegun (s.done ++ b.fresh) (frames_of s.done ++ b.out) (owed_fault b.more x)) (sym l.fault) (begun_then s.done b.fresh b.out (owed_fault b.more (fault_in v.rest v.ended)) b.begun);
       } in
-      let done = broken_ends fault m n (s.text ++ piece) (s.done ++ b.fresh) (frames_of s.done ++ b.out) sent written'' c begun w in
+      let done = broken_ends fault m n (s.text ++ piece) left'' (s.done ++ b.fresh) (frames_of s.done ++ b.out) sent written'' c begun w in
       record {
         text = s.text ++ piece;
         took = took_then left left' left'' s.text piece s.took t;
+        stops = stops_after s.text piece s.sound short;
         done = s.done ++ b.fresh;
         chain = chain_then steps calls calls' calls'' s.done b.fresh s.chain b.chain;
         out = frames_of s.done ++ b.out;
         put = put_then written written' written'' (frames_of s.done) b.out s.put b.put;
         ends = done.0;
         went = done.1;
-        at_end = tt;
       }
 
   pub serving_on : (piece : List ℕ) (left'' : Option (List ℕ)) (v : Reading) (calls'' : C) (reader' : Reading) (written'' : Option (List ℕ)) (answer : Option Fault) (reads'' writes'' : ℕ) → Consumes left' left'' piece → IsHanded s.text (requests_called s.done) piece v → v.ended ≡ false → Answered steps calls' v written' calls'' reader' written'' answer → answer ≡ None → reads'' ≡ reads' → writes'' ≡ writes' → IsServing steps left written calls reads writes reader' left'' written'' calls'' reads'' writes''
@@ -243,6 +264,7 @@ module _ {C : Type 0} (steps : C → Request → Reply → C → Type 0) (left w
         put = subst (λ (x : List ℕ). Appends written written'' x) (ap (λ (x : Option Fault). frames_of b.done ++ fault_frames x) e ∙ append-nil (frames_of b.done)) b.put;
         read = subst (λ (x : List Request). HasRead (s.text ++ piece) x reader') (sym b.all) (a.read (s.text ++ piece) (requests_called s.done) h.read);
         all = b.all;
+        sound = ap (λ (x : Bool). fault_in (s.text ++ piece) x) (sym n) ∙ (b.stands ∙ e);
         untold = a.told ∙ e;
         not_ended = a.ended ∙ n;
         same_reads = q ∙ s.same_reads;

@@ -1,13 +1,15 @@
 -- What a session does to its ends.
-use Rattle.std.specs.Prelude.{◌≡◌, ℕ, ◌<◌, Bool, true, List, [], ◌∷◌, ◌++◌, map, Option, None, Some, Result, Ok, Err, option_to_list}
+use Rattle.std.specs.Prelude.{◌≡◌, ℕ, ◌<◌, ◌≤◌, Bool, true, false, List, [], ◌∷◌, ◌++◌, length, map, Option, None, Some, Result, Ok, Err, option_to_list}
 use Rattle.std.specs.List.{flat_map}
 use Rattle.std.specs.Io.KnownBytes.{Consumes, Appends, IsAtEnd}
 use Rattle.trace_model.specs.declared.session.Request.{Request}
 use Rattle.trace_model.specs.declared.session.Reply.{Reply}
 use Rattle.trace_model.specs.declared.session.Reply.TheVariants.{Fault as FaultReply}
 use Rattle.trace_model.specs.declared.session.Fault.{Fault}
+use Rattle.trace_model.specs.declared.session.Fault.TheVariants.{BadKind, BadLength, Truncated}
 use Rattle.trace_model.specs.Frames.{requests_in, fault_in}
 use Rattle.trace_model.specs.Replies.{reply_frame}
+use Rattle.question_server.specs.declared.sessions.TheConstants.{PIECE}
 use Rattle.question_server.specs.declared.sessions.Ended.{Ended}
 use Rattle.question_server.specs.declared.sessions.Ended.TheVariants.{Input, Frame}
 use Rattle.question_server.specs.declared.sessions.ServeFault.{ServeFault}
@@ -63,20 +65,39 @@ pub record AreBegun (done : List Call) (out owed : List ℕ) : Type 0 where
   pub written : out ≡ frames_of whole ++ part
   pub goes_on : part ++ rest ≡ frames_of (option_to_list last) ++ owed
 
+-- the text counts as ended only where nothing is left to read
+abbrev pub EndsOnlyAt : Bool → Option (List ℕ) → Type 0
+EndsOnlyAt ended left = ended ≡ true → IsAtEnd left
+
 -- The calls and what was written are a beginning of what the text asks for.
-pub record Begins (text : List ℕ) (done : List Call) (out : List ℕ) : Type 0 where
+pub record Begins (text : List ℕ) (left : Option (List ℕ)) (done : List Call) (out : List ℕ) : Type 0 where
   pub more : List Request
   pub called : requests_called done ++ more ≡ requests_in text
   pub ended : Bool
+  pub at_end : EndsOnlyAt ended left
   pub begun : AreBegun done out (owed_fault more (fault_in text ended))
 
--- how a session may end, by the text that was read, the calls and what was written
-abbrev pub EndsAs : Result Ended ServeFault → List ℕ → List Call → List ℕ → Type 0
-EndsAs (Ok Input) text done out = CallsAll text done × (fault_in text true ≡ None) × (out ≡ frames_of done)
-EndsAs (Ok (Frame fault)) text done out = CallsAll text done × ((ended : Bool) × (fault_in text ended ≡ Some fault)) × (out ≡ frames_of done ++ reply_frame (FaultReply fault))
-EndsAs (Err Read) text done out = CallsAll text done × (out ≡ frames_of done)
-EndsAs (Err Write) text done out = Begins text done out
-EndsAs (Err Memory) text done out = Begins text done out
+-- the fault stands in the text: a cut frame where nothing is left to read, any other whatever comes next
+abbrev pub StandsIn : List ℕ → Option (List ℕ) → Fault → Type 0
+StandsIn text left Truncated = (fault_in text true ≡ Some Truncated) × IsAtEnd left
+StandsIn text left BadKind = fault_in text false ≡ Some BadKind
+StandsIn text left BadLength = fault_in text false ≡ Some BadLength
+
+-- no fault stands in what was read before the last piece
+pub record StopsAtFault (text : List ℕ) : Type 0 where
+  pub before : List ℕ
+  pub last : List ℕ
+  pub whole : text ≡ before ++ last
+  pub short : length last ≤ PIECE
+  pub sound : fault_in before false ≡ None
+
+-- how a session may end, by the text that was read, what is left to read, the calls and what was written
+abbrev pub EndsAs : Result Ended ServeFault → List ℕ → Option (List ℕ) → List Call → List ℕ → Type 0
+EndsAs (Ok Input) text left done out = CallsAll text done × (fault_in text true ≡ None) × IsAtEnd left × (out ≡ frames_of done)
+EndsAs (Ok (Frame fault)) text left done out = CallsAll text done × StandsIn text left fault × (out ≡ frames_of done ++ reply_frame (FaultReply fault))
+EndsAs (Err Read) text left done out = CallsAll text done × (fault_in text false ≡ None) × (out ≡ frames_of done)
+EndsAs (Err Write) text left done out = Begins text left done out
+EndsAs (Err Memory) text left done out = Begins text left done out
 
 -- all that was written went out, or a beginning of it where the session broke off
 abbrev pub WentOut : Result Ended ServeFault → Option (List ℕ) → Option (List ℕ) → Type 0
@@ -85,22 +106,17 @@ WentOut (Err Read) sent written = sent ≡ written
 WentOut (Err Write) sent written = IsBeginning sent written
 WentOut (Err Memory) sent written = IsBeginning sent written
 
--- where the input ended, nothing is left of it
-abbrev pub ReadsOn : Result Ended ServeFault → Option (List ℕ) → Type 0
-ReadsOn (Ok Input) left = IsAtEnd left
-ReadsOn _ left = Unit {0}
-
--- A text was read, its requests were called one after the other, and their replies written.
+-- A text was read, up to its first fault; its requests were called one after the other, and their replies written.
 pub record Served {C : Type 0} (steps : C → Request → Reply → C → Type 0) (left : Option (List ℕ)) (written : Option (List ℕ)) (calls : C) (left' : Option (List ℕ)) (written' : Option (List ℕ)) (sent' : Option (List ℕ)) (calls' : C) (result : Result Ended ServeFault) : Type 0 where
   pub text : List ℕ
   pub took : Consumes left left' text
+  pub stops : StopsAtFault text
   pub done : List Call
   pub chain : Chain steps calls done calls'
   pub out : List ℕ
   pub put : Appends written written' out
-  pub ends : EndsAs result text done out
+  pub ends : EndsAs result text left' done out
   pub went : WentOut result sent' written'
-  pub at_end : ReadsOn result left'
 
 -- a fault of the source or the sink is answered only where its count rose
 abbrev pub Counts : Result Ended ServeFault → ℕ → ℕ → ℕ → ℕ → Type 0

@@ -118,13 +118,15 @@ fn conclude<R: Wait, K: Sink>(rt: &R, sink: &mut K, ended: Ended) -> Result<Ende
 
 /// Serves a session: reads requests from the source, calls for each in its order, and writes the replies to the
 /// sink, until the input ends or a fault comes, which is written last. Each reply is written whole before the
-/// next request is called, and what the sink holds is sent before each read, which may wait.
+/// next request is called, and what the sink holds is sent before each read, which may wait. Nothing is read
+/// after the piece, of at most 4,096 bytes, in which the first fault stands; a frame counts as cut only where
+/// the source is at its end.
 ///
 /// # Errors
 ///
 /// `Read` or `Write` where that end failed in this call, and `Memory` where a growth was refused. After `Read`
-/// all replies to what was read were written and sent. After `Write` or `Memory` a beginning of them was, and at
-/// most one request was called whose reply is not whole. What was called stays so.
+/// what was read has no fault, and all replies to it were written and sent. After `Write` or `Memory` a beginning
+/// of them was, and at most one request was called whose reply is not whole. What was called stays so.
 pub fn serve<R: Wait, S: Source, K: Sink, C: Calls>(
     rt: &R,
     alloc: Global,
@@ -148,8 +150,8 @@ pub fn serve<R: Wait, S: Source, K: Sink, C: Calls>(
         };
         if len == 0 {
             reader.finish();
-            if let Some(fault) = answer_all(rt, alloc, &mut reader, sink, calls)? {
-                return conclude(rt, sink, Ended::Frame(fault));
+            if let Some(last) = answer_all(rt, alloc, &mut reader, sink, calls)? {
+                return conclude(rt, sink, Ended::Frame(last));
             }
             return conclude(rt, sink, Ended::Input);
         }

@@ -9,3 +9,7 @@ mod on_server;
 mod on_sessions;
 #[cfg(test)]
 mod one_byte;
+#[cfg(test)]
+mod sending;
+#[cfg(test)]
+mod told_faults;

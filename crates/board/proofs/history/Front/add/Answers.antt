@@ -1,6 +1,6 @@
-use Rattle.std.proofs.Common.{◌≡◌, ◌++◌, ◌∷◌, [], true, sym, ◌∙◌, ap}
+use Rattle.std.proofs.Common.{◌++◌, ◌∷◌, [], sym, ◌∙◌, ap}
 use Rattle.trace_model.specs.Runs.{IsLegal}
-use Rattle.board.proofs.Adding.{adds_moves}
+use Rattle.board.proofs.Adding.{exchange_moves}
 use Rattle.board.proofs.history.Front.add.Goals as goal
 
 pub compare_exchange-found-requires : goal.compare_exchange-found-requires
@@ -13,5 +13,5 @@ compare_exchange-found-requires g c =
       c.self.invariant.1 ∙ sym (ap (λ w. w.book) h),
       pen.0 ∙ (c.self.invariant.1 ∙ sym (ap (λ w. w.book) h)),
       offer.0,
-      rw (ap (λ w. w.key) h, pen.1, offer.1, offer.3) (adds_moves c.self.inside.seen.log c.args.step c.self.inside.count (sym c.self.invariant.0) may),
+      rw (ap (λ w. w.key) h, pen.1, offer.1, offer.3) (exchange_moves c.self.inside.seen.log c.args.step c.self.inside.count (sym c.self.invariant.0) may),
     )

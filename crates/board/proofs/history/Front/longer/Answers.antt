@@ -1,19 +1,22 @@
 use Rattle.std.proofs.Common.{◌≤◌, ap, subst, arith, length, List}
 use mathlib.Core.List.{IsPrefix}
 use Rattle.trace_model.specs.declared.step.BoardStep.{BoardStep}
-use Rattle.board.proofs.Prefixes.{prefix_shorter}
+use Rattle.board.proofs.Beginnings.{begins_longer}
 use Rattle.board.proofs.history.Front.longer.Goals as goal
 
+-- Both are beginnings of the history as the copy has seen it after `learn`.
 pub returns-then-self-other-clause-this : goal.returns-then-self-other-clause-this
 returns-then-self-other-clause-this g c =
-    let both = c.learn.new.self.log in
-    let this : IsPrefix c.self.inside.seen.log both = subst (λ (l : List BoardStep). IsPrefix l both) (ap (λ s. s.log) c.again-both.ensures) c.learn.ensures.2 in
-    let less : length c.self.inside.seen.log ≤ length c.other.inside.seen.log = omega (arith, c.self.invariant.0, c.other.invariant.0) in
-    rw (c.again.ensures, ← c.self.view_is, ← c.other.view_is) (prefix_shorter c.self.inside.seen.log c.other.inside.seen.log both this c.learn.ensures.3 less)
+    let ours = c.self.inside.seen.log in
+    let theirs = c.other.inside.seen.log in
+    let begins : IsPrefix ours c.learn.new.self.log = subst (λ (log : List BoardStep). IsPrefix log c.learn.new.self.log) (ap (λ seen. seen.log) c.again-both.ensures) c.learn.ensures.2 in
+    let no_longer : length ours ≤ length theirs = omega (arith, c.self.invariant.0, c.other.invariant.0) in
+    rw (c.again.ensures, ← c.self.view_is, ← c.other.view_is) (begins_longer ours theirs c.learn.new.self.log begins c.learn.ensures.3 no_longer)
 
 pub returns-clause-that : goal.returns-clause-that
 returns-clause-that g c =
-    let both = c.learn.new.self.log in
-    let this : IsPrefix c.self.inside.seen.log both = subst (λ (l : List BoardStep). IsPrefix l both) (ap (λ s. s.log) c.again-both.ensures) c.learn.ensures.2 in
-    let less : length c.other.inside.seen.log ≤ length c.self.inside.seen.log = omega (arith, c.self.invariant.0, c.other.invariant.0) in
-    rw (c.again-else-self-other.ensures, ← c.self.view_is, ← c.other.view_is) (prefix_shorter c.other.inside.seen.log c.self.inside.seen.log both c.learn.ensures.3 this less)
+    let ours = c.self.inside.seen.log in
+    let theirs = c.other.inside.seen.log in
+    let begins : IsPrefix ours c.learn.new.self.log = subst (λ (log : List BoardStep). IsPrefix log c.learn.new.self.log) (ap (λ seen. seen.log) c.again-both.ensures) c.learn.ensures.2 in
+    let no_longer : length theirs ≤ length ours = omega (arith, c.self.invariant.0, c.other.invariant.0) in
+    rw (c.again-else-self-other.ensures, ← c.self.view_is, ← c.other.view_is) (begins_longer theirs ours c.learn.new.self.log c.learn.ensures.3 begins no_longer)

@@ -1,0 +1,72 @@
+//! When replies are sent.
+
+use question_server::{Ended, ReadSource, WriteSink, serve_book};
+use sequencer::Book;
+use std::alloc::Global;
+use std::hash::RandomState;
+use std::io;
+use std::io::{Read, Write};
+use std::sync::Arc;
+use std::sync::atomic::{AtomicU64, Ordering};
+use std::test::*;
+
+const MOST: u32 = 1_048_576;
+
+/// `0w1`
+const FRAME: [u8; 11] = [0, 9, 6, 0, 0, 0, 0, 0, 0, 0, 1];
+
+/// Gives a frame a read, so many times, and notes at each read how many bytes were written by then.
+#[derive(Drop)]
+struct Frames {
+    left: u32,
+    written: Arc<AtomicU64, Global>,
+    noted: Vec<u64>,
+}
+
+impl Read for Frames {
+    fn read(&mut self, buffer: &mut [u8]) -> io::Result<usize> {
+        self.noted.push(self.written.load(Ordering::SeqCst))?;
+        if self.left == 0 {
+            return Ok(0);
+        }
+        self.left -= 1;
+        let len = FRAME.len().min(buffer.len());
+        buffer[..len].copy_from_slice(&FRAME[..len]);
+        Ok(len)
+    }
+}
+
+/// Counts the bytes that are written.
+#[derive(Drop)]
+struct Counted {
+    written: Arc<AtomicU64, Global>,
+}
+
+impl Write for Counted {
+    fn write(&mut self, bytes: &[u8]) -> io::Result<usize> {
+        self.written.fetch_add(bytes.len() as u64, Ordering::SeqCst);
+        Ok(bytes.len())
+    }
+
+    fn flush(&mut self) -> io::Result<()> {
+        Ok(())
+    }
+}
+
+#[test]
+fn replies_are_sent_before_the_next_read(rt: HostRuntime) -> Result<(), Fail> {
+    let alloc = rt.alloc();
+    let written = Arc::new(alloc, AtomicU64::new(0))?;
+    let mut source = ReadSource::new(Frames {
+        left: 3,
+        written: Arc::try_clone(&written)?,
+        noted: Vec::new(alloc),
+    });
+    let mut sink = WriteSink::new(Counted { written });
+    let mut book = Book::new(alloc, RandomState::new(&rt)?, MOST)?;
+    let ended = serve_book(&rt, alloc, &mut source, &mut sink, &mut book);
+    assert!(rt; ended == Ok(Ended::Input));
+    // each reply has 9 bytes; the fourth read finds the end
+    assert!(rt; source.inner.noted.as_slice() == [0, 9, 18, 27].as_slice());
+    Ok(())
+}
