@@ -1,13 +1,11 @@
-use Rattle.std.proofs.Common.{◌≡◌, ◌<◌, ◌-◌, ◌+◌, ◌++◌, ◌∷◌, [], Some, List, inl, inr, length, get_or, refl, sym, ap, ◌∙◌, arith}
+use Rattle.std.proofs.Common.{◌≡◌, ◌<◌, ◌-◌, ◌+◌, ◌++◌, inl, inr, length, refl, sym, ap, ◌∙◌, arith}
 use Rattle.std.proofs.lemmas.List.{set-get_or}
 use Rattle.std.specs.Prelude.{vec_len, option_to_list, slice_set}
 use Rattle.std.specs.Vec.{with_item}
 use Rattle.trace_model.specs.Dependencies.{Dependency}
 use Rattle.dependencies.specs.Tables.{known}
 use Rattle.lock_graph.specs.Graph.{holders}
-use Rattle.cycle_search.specs.declared.parts.Stop.{Stop}
 use Rattle.cycle_search.specs.declared.parts.Walk.{Walk}
-use Rattle.cycle_search.specs.Walk.{left, left_on, left_at}
 use Rattle.cycle_search.proofs.Ranked.{listed-known}
 use Rattle.cycle_search.proofs.Left.{on-followed, on-left, stays-left, enters-left}
 use Rattle.cycle_search.proofs.parts.Walk.step.Goals as goal
