@@ -2,3 +2,4 @@ pub mod Listing
 pub mod Paths
 pub mod Turns
 pub mod Ranked
+pub mod Left

@@ -5,7 +5,6 @@ use Rattle.std.proofs.lemmas.List.{length-append}
 use Rattle.std.proofs.lemmas.Bool.{cases_lt}
 use Rattle.std.specs.List.Sorted.{IsStrictlyIncreasing}
 use Rattle.trace_model.specs.Dependencies.{Dependency}
-use Rattle.trace_model.specs.declared.limits.TheConstants.{MAX_CYCLES}
 use Rattle.trace_model.specs.Cycles.{ListBelow, IsCycle, AreCyclesFrom}
 use Rattle.trace_model.proofs.Unique.{has_contained, increasing_ordered}
 use Rattle.cycle_search.specs.Search.{AreSome, AreAll, Adds, Exceeds, MoreThan, CycleFrom, CycleBeyond, CycleThrough, CycleAmong, IsPath, Follows, Closes, AreNexts}
@@ -106,9 +105,9 @@ module _ (ds : List Dependency) (bound : ℕ) (path nexts : List ℕ) where
   adds-more up i m at old mid new (xs, e, p) (ys, f, q) =
       (xs ++ ys, f ∙ ap (λ z. z ++ ys) e ∙ append_assoc old xs ys, among-more up i m at xs ys p q)
 
-  pub exceeds-more : IsStrictlyIncreasing nexts → (i m : ℕ) → slice_get nexts i ≡ Some m → (old mid : List (List ℕ)) →
-      Adds (CycleAmong ds bound path nexts i) old mid → Exceeds (CycleThrough ds bound path m) mid → Exceeds (CycleBeyond ds bound path) old
-  exceeds-more up i m at old mid (xs, e, p) (ys, q, l) =
+  pub exceeds-more : IsStrictlyIncreasing nexts → (most i m : ℕ) → slice_get nexts i ≡ Some m → (old mid : List (List ℕ)) →
+      Adds (CycleAmong ds bound path nexts i) old mid → Exceeds (CycleThrough ds bound path m) most mid → Exceeds (CycleBeyond ds bound path) most old
+  exceeds-more up most i m at old mid (xs, e, p) (ys, q, l) =
       (xs ++ ys, among-some up i m at xs ys p q, omega (arith, l, ap length e, length-append old xs, length-append xs ys))
 
   pub adds-end : (i : ℕ) (old new : List (List ℕ)) → 0 < length path → AreNexts ds path nexts → length nexts ≤ i →
@@ -132,8 +131,8 @@ module _ (ds : List Dependency) (bound root : ℕ) where
         in_order = q.some.in_order;
       })
 
-  pub more-than_root : Exceeds (CycleBeyond ds bound (root ∷ [])) [] → MoreThan (CycleFrom ds bound root) MAX_CYCLES
-  more-than_root (xs, p, l) = (xs, some-weaker (CycleBeyond ds bound (root ∷ [])) (CycleFrom ds bound root) xs beyond-root p, omega (arith, l))
+  pub more-than_root : (most : ℕ) → Exceeds (CycleBeyond ds bound (root ∷ [])) most [] → MoreThan (CycleFrom ds bound root) most
+  more-than_root most (xs, p, l) = (xs, some-weaker (CycleBeyond ds bound (root ∷ [])) (CycleFrom ds bound root) xs beyond-root p, omega (arith, l))
 
   -- the same from what the code begins with
   pub cycles-made : (b : ℕ) (path : List ℕ) (old new : List (List ℕ)) → b ≡ bound → path ≡ root ∷ [] → old ≡ [] →
@@ -141,7 +140,8 @@ module _ (ds : List Dependency) (bound root : ℕ) where
   cycles-made b path old new e f g a = cycles-from_root new
       (subst (λ z. Adds (CycleBeyond ds z (root ∷ [])) [] new) e (subst (λ z. Adds (CycleBeyond ds b z) [] new) f (subst (λ z. Adds (CycleBeyond ds b path) z new) g a)))
 
-  pub too-many-made : (b : ℕ) (path : List ℕ) (old : List (List ℕ)) → b ≡ bound → path ≡ root ∷ [] → old ≡ [] →
-      Exceeds (CycleBeyond ds b path) old → MoreThan (CycleFrom ds bound root) MAX_CYCLES
-  too-many-made b path old e f g a = more-than_root
-      (subst (λ z. Exceeds (CycleBeyond ds z (root ∷ [])) []) e (subst (λ z. Exceeds (CycleBeyond ds b z) []) f (subst (λ z. Exceeds (CycleBeyond ds b path) z) g a)))
+  pub too-many-made : (most b : ℕ) (path : List ℕ) (old : List (List ℕ)) → b ≡ bound → path ≡ root ∷ [] → old ≡ [] →
+      Exceeds (CycleBeyond ds b path) most old → MoreThan (CycleFrom ds bound root) most
+  too-many-made most b path old e f g a = more-than_root most
+      (subst (λ z. Exceeds (CycleBeyond ds z (root ∷ [])) most []) e
+      (subst (λ z. Exceeds (CycleBeyond ds b z) most []) f (subst (λ z. Exceeds (CycleBeyond ds b path) most z) g a)))

@@ -4,7 +4,6 @@ use Rattle.std.specs.List.{Contains, All}
 use Rattle.std.specs.List.Sorted.{IsStrictlyIncreasing}
 use Rattle.trace_model.specs.Dependencies.{Dependency}
 use Rattle.held_sets.specs.Tables.{AreDisjoint}
-use Rattle.trace_model.specs.declared.limits.TheConstants.{MAX_CYCLES}
 use Rattle.trace_model.specs.Cycles.{Member, IsCycle, InOrder}
 use Rattle.guards.specs.Compatible.{IsCompatible}
 
@@ -26,9 +25,9 @@ Adds P old new = (more : List (List ℕ)) × (new ≡ old ++ more) × AreAll P m
 abbrev pub MoreThan : (List ℕ → Type 0) → ℕ → Type 0
 MoreThan P n = (some : List (List ℕ)) × AreSome P some × (n < length some)
 
--- with those of the list they are too many
-abbrev pub Exceeds : (List ℕ → Type 0) → List (List ℕ) → Type 0
-Exceeds P old = (more : List (List ℕ)) × AreSome P more × (MAX_CYCLES < length old + length more)
+-- with those of the list they are more than n
+abbrev pub Exceeds : (List ℕ → Type 0) → ℕ → List (List ℕ) → Type 0
+Exceeds P n old = (more : List (List ℕ)) × AreSome P more × (n < length old + length more)
 
 -- a cycle up to the bound with this first number
 abbrev pub CycleFrom : List Dependency → ℕ → ℕ → List ℕ → Type 0

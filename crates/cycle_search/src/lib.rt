@@ -10,4 +10,4 @@ mod search;
 pub use cycle::Cycle;
 pub use ranks::Ranks;
 pub use refused::SearchRefused;
-pub use search::cycles_from;
+pub use search::{cycles_from, cycles_within};

@@ -3,8 +3,10 @@
 //!
 //! No contract says what the ranks are: whoever uses them tests them.
 
+ghost use Rattle.std.specs.Prelude.{◌<◌, IfOk, IsTrue, OnOk};
 ghost use Rattle.dependencies.specs.Tables.{known};
 ghost use Rattle.lock_graph.specs.Graph.{IsGraphOf, holders};
+ghost use Rattle.cycle_search.specs.Walk.{left, Enters, Stays, StaysOrEnters};
 
 use dependencies::DepTable;
 use lock_graph::LockGraph;
@@ -74,17 +76,14 @@ impl Walk {
             return Ok(());
         }
         self.enter(lock)?;
-        // each turn follows an edge or leaves a lock for good
-        for _ in 0..u64::MAX {
-            if !self.step(table, graph)? {
-                break;
-            }
-        }
+        while self.step(table, graph)? {}
         Ok(())
     }
 
     /// Meets a lock and goes there.
-    fn enter(&mut self, lock: u32) -> Result<(), NoMemory> {
+    fn enter(&mut self, lock: u32) -> Result<(), NoMemory>
+        ensures { OnOk result (Enters self.old lock self.new) }
+    {
         let order = self.met.len();
         let met = Met {
             order,
@@ -97,8 +96,11 @@ impl Walk {
     }
 
     /// Follows one edge of the path's last lock, or leaves it. False where the path has no lock.
+    /// There is then less left to do, so the walk ends.
     fn step(&mut self, table: &DepTable, graph: &LockGraph) -> Result<bool, NoMemory>
         requires { IsGraphOf (known table.now) (holders graph.now) }
+        ensures { IfOk result (λ more. IsTrue more
+            → left (holders graph.now) (known table.now) self.new < left (holders graph.now) (known table.now) self.old) }
     {
         let Some(stop) = self.path.last_mut() else {
             return Ok(false);
@@ -118,7 +120,9 @@ impl Walk {
     }
 
     /// Follows the edge from a lock to the next one.
-    fn follow(&mut self, lock: u32, next: u32) -> Result<(), NoMemory> {
+    fn follow(&mut self, lock: u32, next: u32) -> Result<(), NoMemory>
+        ensures { OnOk result (StaysOrEnters self.old next self.new) }
+    {
         let Some(met) = self.met.get(&next).copied() else {
             return self.enter(next);
         };
@@ -129,14 +133,18 @@ impl Walk {
     }
 
     /// A lock reaches an open one, which was met at this order.
-    fn reaches(&mut self, lock: u32, order: usize) {
+    fn reaches(&mut self, lock: u32, order: usize)
+        ensures { Stays self.old self.new }
+    {
         if let Some(met) = self.met.get_mut(&lock) {
             met.earliest = met.earliest.min(order);
         }
     }
 
     /// Leaves a lock all of whose edges were followed.
-    fn leave(&mut self, lock: u32) -> Result<(), NoMemory> {
+    fn leave(&mut self, lock: u32) -> Result<(), NoMemory>
+        ensures { OnOk result (Stays self.old self.new) }
+    {
         let Some(met) = self.met.get(&lock).copied() else {
             return Ok(());
         };
@@ -150,7 +158,9 @@ impl Walk {
     }
 
     /// Gives a rank to the part whose first lock this is: the open locks from it on.
-    fn close(&mut self, first: u32) -> Result<(), NoMemory> {
+    fn close(&mut self, first: u32) -> Result<(), NoMemory>
+        ensures { OnOk result (Stays self.old self.new) }
+    {
         while let Some(lock) = self.open.pop() {
             self.ranks.insert(lock, self.rank)?;
             if lock == first {

@@ -51,7 +51,7 @@ impl Ranks {
     }
 
     /// Whether the dependencies of two numbers have one rank.
-    pub(crate) fn are_equal(&self, first: u32, second: u32) -> bool
+    pub fn are_equal(&self, first: u32, second: u32) -> bool
         requires first { first < length self.now }
         requires second { second < length self.now }
         ensures { result ≡ nat_eq (slice_index self.now first) (slice_index self.now second) }

@@ -20,6 +20,13 @@ use trace_model::{Bound, MAX_CYCLES};
 /// The numbers of a path that may grow into a cycle.
 type Path = ArrayVec<u32, MOST>;
 
+/// The most members of a cycle, and the most cycles.
+#[derive(Clone, Copy)]
+struct Limits {
+    members: usize,
+    cycles: usize,
+}
+
 /// All cycles up to the bound whose first number is `root`, each once, in lexicographic order.
 /// The graph and the ranks must be those of the table, and `root` one of its numbers.
 ///
@@ -41,17 +48,34 @@ pub fn cycles_from(
     ensures few { IfOk result (λ cycles. length cycles.items ≤ MAX_CYCLES) }
     ensures too_many { result ≡ Err SearchRefused.TooMany → MoreThan (CycleFrom (known table.now) bound root) MAX_CYCLES }
 {
+    cycles_within(alloc, table, graph, ranks, root, bound, MAX_CYCLES)
+}
+
+/// The same, but that `TooMany` is answered where there are more than `most`.
+pub fn cycles_within(
+    alloc: Global,
+    table: &DepTable,
+    graph: &LockGraph,
+    ranks: &Ranks,
+    root: u32,
+    bound: Bound,
+    most: usize,
+) -> Result<Vec<Cycle>, SearchRefused>
+    requires graph { IsGraphOf (known table.now) (holders graph.now) }
+    requires ranks { AreRanks (known table.now) ranks.now }
+    requires root { root < length (known table.now) }
+    ensures ok { IfOk result (λ cycles. AreCyclesFrom (known table.now) bound root cycles.items) }
+    ensures few { IfOk result (λ cycles. length cycles.items ≤ most) }
+    ensures too_many { result ≡ Err SearchRefused.TooMany → MoreThan (CycleFrom (known table.now) bound root) most }
+{
+    let limits = Limits {
+        members: bound.get() as usize,
+        cycles: most,
+    };
     let mut found = Vec::new(alloc);
     let mut path = Path::new();
     path.push(root);
-    extend(
-        table,
-        graph,
-        ranks,
-        bound.get() as usize,
-        &mut path,
-        &mut found,
-    )?;
+    extend(table, graph, ranks, limits, &mut path, &mut found)?;
     Ok(found)
 }
 
@@ -61,23 +85,23 @@ fn extend(
     table: &DepTable,
     graph: &LockGraph,
     ranks: &Ranks,
-    bound: usize,
+    limits: Limits,
     path: &mut Path,
     found: &mut Vec<Cycle>,
 ) -> Result<(), SearchRefused>
     requires graph { IsGraphOf (known table.now) (holders graph.now) }
     requires ranks { AreRanks (known table.now) ranks.now }
     requires path { IsPath (known table.now) path.old.items }
-    requires room { length path.old.items < bound }
-    requires bound { bound ≤ 8 }
-    requires few { length found.old.items ≤ MAX_CYCLES }
+    requires room { length path.old.items < limits.members }
+    requires bound { limits.members ≤ 8 }
+    requires few { length found.old.items ≤ limits.cycles }
     ensures path { OnOk result (path.new.items ≡ path.old.items) }
-    ensures all { OnOk result (Adds (CycleBeyond (known table.now) bound path.old.items) found.old.items found.new.items) }
-    ensures few { OnOk result (length found.new.items ≤ MAX_CYCLES) }
-    ensures too_many { result ≡ Err SearchRefused.TooMany → Exceeds (CycleBeyond (known table.now) bound path.old.items) found.old.items }
+    ensures all { OnOk result (Adds (CycleBeyond (known table.now) limits.members path.old.items) found.old.items found.new.items) }
+    ensures few { OnOk result (length found.new.items ≤ limits.cycles) }
+    ensures too_many { result ≡ Err SearchRefused.TooMany → Exceeds (CycleBeyond (known table.now) limits.members path.old.items) limits.cycles found.old.items }
 {
     for next in successors(table, graph, path) {
-        visit(table, graph, ranks, bound, path, *next, found)?;
+        visit(table, graph, ranks, limits, path, *next, found)?;
     }
     Ok(())
 }
@@ -88,7 +112,7 @@ fn visit(
     table: &DepTable,
     graph: &LockGraph,
     ranks: &Ranks,
-    bound: usize,
+    limits: Limits,
     path: &mut Path,
     next: u32,
     found: &mut Vec<Cycle>,
@@ -96,16 +120,16 @@ fn visit(
     requires graph { IsGraphOf (known table.now) (holders graph.now) }
     requires ranks { AreRanks (known table.now) ranks.now }
     requires path { IsPath (known table.now) path.old.items }
-    requires room { length path.old.items < bound }
-    requires bound { bound ≤ 8 }
-    requires few { length found.old.items ≤ MAX_CYCLES }
+    requires room { length path.old.items < limits.members }
+    requires bound { limits.members ≤ 8 }
+    requires few { length found.old.items ≤ limits.cycles }
     requires known { next < length (known table.now) }
     requires above { AboveFirst path.old.items next }
     requires linked { LinksTo (known table.now) path.old.items next }
     ensures path { OnOk result (path.new.items ≡ path.old.items) }
-    ensures all { OnOk result (Adds (CycleThrough (known table.now) bound path.old.items next) found.old.items found.new.items) }
-    ensures few { OnOk result (length found.new.items ≤ MAX_CYCLES) }
-    ensures too_many { result ≡ Err SearchRefused.TooMany → Exceeds (CycleThrough (known table.now) bound path.old.items next) found.old.items }
+    ensures all { OnOk result (Adds (CycleThrough (known table.now) limits.members path.old.items next) found.old.items found.new.items) }
+    ensures few { OnOk result (length found.new.items ≤ limits.cycles) }
+    ensures too_many { result ≡ Err SearchRefused.TooMany → Exceeds (CycleThrough (known table.now) limits.members path.old.items next) limits.cycles found.old.items }
 {
     if !same_rank(ranks, path, next) {
         return Ok(());
@@ -115,12 +139,12 @@ fn visit(
     }
     path.push(next);
     if closes(table, path) {
-        if found.len() >= MAX_CYCLES {
+        if found.len() >= limits.cycles {
             return Err(SearchRefused::TooMany);
         }
         found.push(cycle_of(path))?;
-    } else if path.len() < bound {
-        extend(table, graph, ranks, bound, path, found)?;
+    } else if path.len() < limits.members {
+        extend(table, graph, ranks, limits, path, found)?;
     }
     path.pop();
     Ok(())

@@ -16,15 +16,15 @@ rest_is bytes start = take_all (length bytes - start) (drop start bytes) (omega 
 pub rest_at : (slice bytes : List ℕ) (start : ℕ) → slice ≡ bytes → take (length slice - start) (drop start slice) ≡ drop start bytes
 rest_at slice bytes start e = subst (λ (b : List ℕ). take (length slice - start) (drop start slice) ≡ drop start b) e (rest_is slice start)
 
-abbrev pub reading : List ℕ → Bool → Option Fault → ℕ → Reading
-reading rest ended told held = record { rest = rest; ended = ended; told = told; held = held }
+abbrev pub reading : List ℕ → Bool → Option Fault → ℕ → ℕ → Reading
+reading rest ended told held capacity = record { rest = rest; ended = ended; told = told; held = held; capacity = capacity }
 
 is_none : (told : Option Fault) → told ≡ None → IsSome told → {A : Type 0} → A
 is_none told e s {A} = let t : IsSome {T = Fault} None = subst (λ (o : Option Fault). IsSome o) e s in absurd cc
 
-pub tells_header : (rest : List ℕ) (ended : Bool) (told : Option Fault) (held : ℕ) (fault : Fault) (old new : Reading) → reading rest ended told held ≡ old → told ≡ None → front_of rest ≡ Err fault → new ≡ reading [] old.ended (Some fault) 0 → TellsFault old fault new
-tells_header rest ended told held fault old new e untold f n =
-    subst (λ (o : Reading). new ≡ reading [] o.ended (Some fault) 0 → TellsFault o fault new) e (λ m.
+pub tells_header : (rest : List ℕ) (ended : Bool) (told : Option Fault) (held capacity : ℕ) (fault : Fault) (old new : Reading) → reading rest ended told held capacity ≡ old → told ≡ None → front_of rest ≡ Err fault → new ≡ reading [] old.ended (Some fault) 0 old.capacity → TellsFault old fault new
+tells_header rest ended told held capacity fault old new e untold f n =
+    subst (λ (o : Reading). new ≡ reading [] o.ended (Some fault) 0 o.capacity → TellsFault o fault new) e (λ m.
     let s = fault_stands rest ended fault f in
     record {
       stands = λ _. (s.requests, s.stands);
@@ -46,9 +46,9 @@ pub cut_nil : (text : List ℕ) (ended : Bool) → length text ≡ 0 → cut_fau
 cut_nil [] ended e = refl
 cut_nil (x ∷ text) ended e = absurd (omega arith)
 
-pub tells_cut : (rest : List ℕ) (ended : Bool) (told : Option Fault) (held : ℕ) (old new : Reading) → reading rest ended told held ≡ old → told ≡ None → front_of rest ≡ Ok None → ended ≡ true → 0 < length rest → new ≡ reading [] old.ended (Some Truncated) 0 → TellsFault old Truncated new
-tells_cut rest ended told held old new e untold f at_end some n =
-    subst (λ (o : Reading). new ≡ reading [] o.ended (Some Truncated) 0 → TellsFault o Truncated new) e (λ m.
+pub tells_cut : (rest : List ℕ) (ended : Bool) (told : Option Fault) (held capacity : ℕ) (old new : Reading) → reading rest ended told held capacity ≡ old → told ≡ None → front_of rest ≡ Ok None → ended ≡ true → 0 < length rest → new ≡ reading [] old.ended (Some Truncated) 0 old.capacity → TellsFault old Truncated new
+tells_cut rest ended told held capacity old new e untold f at_end some n =
+    subst (λ (o : Reading). new ≡ reading [] o.ended (Some Truncated) 0 o.capacity → TellsFault o Truncated new) e (λ m.
     let s = partial_stands rest ended f in
     record {
       stands = λ _. (s.requests, s.fault ∙ cut_some rest ended at_end some);
@@ -58,8 +58,8 @@ tells_cut rest ended told held old new e untold f at_end some n =
       keeps_nothing = ap (λ (r : Reading). r.held) m;
     }) n
 
-pub awaits : (rest : List ℕ) (ended : Bool) (told : Option Fault) (held : ℕ) (old new : Reading) → reading rest ended told held ≡ old → told ≡ None → front_of rest ≡ Ok None → cut_fault rest ended ≡ None → new ≡ record old { held = length old.rest } → AwaitsMore old new
-awaits rest ended told held old new e untold f uncut n =
+pub awaits : (rest : List ℕ) (ended : Bool) (told : Option Fault) (held capacity : ℕ) (old new : Reading) → reading rest ended told held capacity ≡ old → told ≡ None → front_of rest ≡ Ok None → cut_fault rest ended ≡ None → new ≡ record old { held = length old.rest } → AwaitsMore old new
+awaits rest ended told held capacity old new e untold f uncut n =
     subst (λ (o : Reading). new ≡ record o { held = length o.rest } → AwaitsMore o new) e (λ m.
     let s = partial_stands rest ended f in
     record {
@@ -70,9 +70,9 @@ awaits rest ended told held old new e untold f uncut n =
       few = (partial_few rest f, ap (λ (r : Reading). r.held) m);
     }) n
 
-pub takes : (bytes : List ℕ) (start len : ℕ) (ended : Bool) (told : Option Fault) (held : ℕ) (request : Request) (old : Reading) → reading (drop start bytes) ended told held ≡ old → told ≡ None → IsRequest request → drop start bytes ≡ frame request ++ drop len (drop start bytes) → TakesRequest old request (reading (drop (start + len) bytes) ended told held)
-takes bytes start len ended told held request old e untold fits parts =
-    subst (λ (o : Reading). TakesRequest o request (reading (drop (start + len) bytes) ended told held)) e (
+pub takes : (bytes : List ℕ) (start len : ℕ) (ended : Bool) (told : Option Fault) (held capacity : ℕ) (request : Request) (old : Reading) → reading (drop start bytes) ended told held capacity ≡ old → told ≡ None → IsRequest request → drop start bytes ≡ frame request ++ drop len (drop start bytes) → TakesRequest old request (reading (drop (start + len) bytes) ended told held capacity)
+takes bytes start len ended told held capacity request old e untold fits parts =
+    subst (λ (o : Reading). TakesRequest o request (reading (drop (start + len) bytes) ended told held capacity)) e (
     record {
       fits = fits;
       front = parts ∙ ap (λ (r : List ℕ). frame request ++ r) (drop-drop len start bytes);

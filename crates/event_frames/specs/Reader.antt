@@ -6,12 +6,13 @@ use Rattle.trace_model.specs.declared.session.Fault.{Fault}
 use Rattle.trace_model.specs.Frames.{frame, IsRequest, requests_in, fault_in}
 
 -- a reader: the bytes that were fed and not yet taken, whether the input ended, the fault that was told,
--- and how many bytes it holds
+-- how many bytes it holds, and how many it has room for
 pub record Reading : Type 0 where
   pub rest : List ℕ
   pub ended : Bool
   pub told : Option Fault
   pub held : ℕ
+  pub capacity : ℕ
 
 -- new is old after a piece
 abbrev pub IsFed : Reading → List ℕ → Reading → Type 0

@@ -1,5 +1,5 @@
 //! The requests of a session, from the pieces in which its bytes come.
-ghost use Rattle.std.specs.Prelude.{◌≡◌, ℕ, List, ◌++◌, [], length, true, false, None, Some, Ok, OnOk, OnErr, IsSome, is_some, ◌||◌};
+ghost use Rattle.std.specs.Prelude.{◌≡◌, ℕ, ◌<◌, ◌+◌, List, ◌++◌, [], length, true, false, None, Some, Ok, OnOk, OnErr, IsSome, is_some, ◌||◌};
 ghost use Rattle.event_frames.specs.Reader.{IsFed, Answers, HasRead, Tells};
 ghost use Rattle.trace_model.specs.declared.session.Request.{Request};
 
@@ -18,12 +18,12 @@ pub struct FrameReader {
 }
 
 impl Model for FrameReader {
-    ghost use Rattle.std.specs.Prelude.{◌≡◌, ◌≤◌, drop, vec_len, IsSome};
+    ghost use Rattle.std.specs.Prelude.{◌≡◌, ◌≤◌, drop, vec_capacity, vec_len, IsSome};
     ghost use Rattle.event_frames.specs.Reader.{Reading};
 
     ghost Value = { Reading };
 
-    ghost view = { λ r. record { rest = drop r.start r.bytes.items; ended = r.ended; told = r.told; held = vec_len r.bytes } };
+    ghost view = { λ r. record { rest = drop r.start r.bytes.items; ended = r.ended; told = r.told; held = vec_len r.bytes; capacity = vec_capacity r.bytes } };
 
     ghost invariant = { λ r. (r.start ≤ vec_len r.bytes) × (IsSome r.told → vec_len r.bytes ≡ 0) };
 }
@@ -31,7 +31,7 @@ impl Model for FrameReader {
 impl FrameReader {
     /// A reader that was fed nothing.
     pub fn new(alloc: Global) -> FrameReader
-        ensures made { result ≡ record { rest = []; ended = false; told = None; held = 0 } }
+        ensures made { result ≡ record { rest = []; ended = false; told = None; held = 0; capacity = 0 } }
         ensures grammar { HasRead [] [] result }
     {
         FrameReader {
@@ -46,7 +46,7 @@ impl FrameReader {
     ///
     /// # Errors
     ///
-    /// `NoMemory`, and nothing has changed. After a fault was told the piece is dropped and no memory is taken.
+    /// `NoMemory` where there is no room for the piece, and nothing has changed. After a fault was told the piece is dropped and no memory is taken.
     pub fn feed(&mut self, piece: &[u8]) -> Result<(), NoMemory>
         requires { self.old.ended ≡ false }
         ensures fed { OnOk result (IsFed self.old piece.now self.new) }
@@ -54,6 +54,7 @@ impl FrameReader {
             → HasRead (text ++ piece.now) given self.new) }
         ensures told { IsSome self.old.told → (result ≡ Ok record {}) × (self.new ≡ self.old) × (self.new.held ≡ 0) }
         ensures err { OnErr result (self.new ≡ self.old) }
+        ensures full { OnErr result (self.old.capacity < self.old.held + length piece.now) }
     {
         self.put(piece)
     }
@@ -62,10 +63,12 @@ impl FrameReader {
         ensures fed { OnOk result (IsFed self.old piece.now self.new) }
         ensures told { IsSome self.old.told → (result ≡ Ok record {}) × (self.new ≡ self.old) × (self.new.held ≡ 0) }
         ensures err { OnErr result (self.new ≡ self.old) }
+        ensures full { OnErr result (self.old.capacity < self.old.held + length piece.now) }
     {
         if self.told.is_some() {
             return Ok(());
         }
+        self.bytes.reserve(piece.len())?;
         self.bytes.extend_from_slice(piece)?;
         Ok(())
     }
@@ -127,7 +130,7 @@ impl FrameReader {
 
     /// Tells the fault from now on, and keeps no bytes.
     fn fail(&mut self, fault: Fault)
-        ensures { self.new ≡ record { rest = []; ended = self.old.ended; told = Some fault; held = 0 } }
+        ensures { self.new ≡ record { rest = []; ended = self.old.ended; told = Some fault; held = 0; capacity = self.old.capacity } }
     {
         self.bytes.clear();
         self.start = 0;

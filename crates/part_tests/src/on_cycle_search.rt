@@ -2,7 +2,7 @@ ghost use Rattle.std.specs.Prelude.{ℕ, suc, IfOk, OnOk};
 ghost use Rattle.dependencies.specs.Tables.{known, AllBelow};
 ghost use Rattle.lock_graph.specs.Graph.{IsGraphOf, holders};
 
-use cycle_search::{Cycle, Ranks, cycles_from};
+use cycle_search::{Cycle, Ranks, SearchRefused, cycles_from, cycles_within};
 use dependencies::{DepTable, next_dependency};
 use held_sets::HeldTable;
 use lock_graph::LockGraph;
@@ -203,4 +203,45 @@ fn a_cycle_has_two_to_eight_members(rt: HostRuntime) {
     for (members, is_cycle) in [(1, false), (2, true), (8, true), (9, false)] {
         assert_eq!(rt; Cycle::new(&numbers[..members]).is_some(), is_cycle);
     }
+}
+
+/// How a search is refused that may find so many cycles, where there are three.
+fn refused_within(rt: &HostRuntime, most: usize) -> Result<Option<SearchRefused>, Fail> {
+    let events = sections(
+        rt,
+        [(1, 10, 20), (2, 20, 10), (3, 20, 10), (4, 20, 10)].as_slice(),
+    )?;
+    let (table, graph) = tables_of(rt, &events)?;
+    if table.is_empty() {
+        return Err(Fail::from("no dependency"));
+    }
+    let ranks = Ranks::new(rt.alloc(), RandomState::new(rt)?, &table, &graph)?;
+    let bound = Bound::new(2).ok_or("no bound")?;
+    Ok(cycles_within(rt.alloc(), &table, &graph, &ranks, 0, bound, most).err())
+}
+
+#[test]
+fn too_many_cycles_are_refused(rt: HostRuntime) -> Result<(), Fail> {
+    assert_eq!(rt; refused_within(&rt, 2)?, Some(SearchRefused::TooMany));
+    assert_eq!(rt; refused_within(&rt, 3)?, None);
+    Ok(())
+}
+
+/// Whether the first two dependencies of these sections have one rank; none where there are not two.
+fn have_one_rank(rt: &HostRuntime, nestings: &[(u32, u32, u32)]) -> Result<Option<bool>, Fail> {
+    let (table, graph) = tables_of(rt, &sections(rt, nestings)?)?;
+    let ranks = Ranks::new(rt.alloc(), RandomState::new(rt)?, &table, &graph)?;
+    if table.len() < 2 {
+        return Ok(None);
+    }
+    Ok(Some(ranks.are_equal(0, 1)))
+}
+
+#[test]
+fn ranks_part_locks_of_one_order(rt: HostRuntime) -> Result<(), Fail> {
+    let one_order = have_one_rank(&rt, [(1, 10, 20), (2, 20, 30)].as_slice())?;
+    assert_eq!(rt; one_order, Some(false));
+    let opposite = have_one_rank(&rt, [(1, 10, 20), (2, 20, 10)].as_slice())?;
+    assert_eq!(rt; opposite, Some(true));
+    Ok(())
 }

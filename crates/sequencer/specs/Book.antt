@@ -7,7 +7,7 @@ use Rattle.trace_model.specs.declared.refusal.Refusal.TheVariants.{NoMemory, Bad
 use Rattle.trace_model.specs.declared.session.Request.{Request}
 use Rattle.trace_model.specs.declared.session.Request.TheVariants.{Offer, Ask, Answer as AskAnswer, Status as AskStatus}
 use Rattle.trace_model.specs.declared.session.Reply.{Reply}
-use Rattle.trace_model.specs.declared.session.Reply.TheVariants.{Refused, Opened as OpenedReply, Pending as PendingReply, Report, Status as StatusReply}
+use Rattle.trace_model.specs.declared.session.Reply.TheVariants.{Placed as PlacedReply, Refused, Opened as OpenedReply, Pending as PendingReply, Report, Status as StatusReply}
 use Rattle.trace_model.specs.Trace.{Trace}
 use Rattle.trace_model.specs.Lawful.{refusal_of}
 use Rattle.trace_model.specs.Dependencies.{dependencies}
@@ -75,6 +75,13 @@ abbrev pub IsAccepted : Reply → Type 0
 IsAccepted (Refused r) = ⊥
 IsAccepted _ = Unit {0}
 
+-- memory may be wanted for what the reply tells: an event or a question is added, or a report is printed
+abbrev pub TakesMemory : Reply → Type 0
+TakesMemory (PlacedReply place) = Unit {0}
+TakesMemory (OpenedReply question length total) = Unit {0}
+TakesMemory (Report question text) = Unit {0}
+TakesMemory _ = ⊥
+
 -- the machine accepts the request with this reply, and there is room for what it adds
 pub record IsPrepared (b : Kept) (planned : Planned) : Type 0 where
   pub reply_is : (step printing b.state (request_of planned.change)).0 ≡ planned.reply
@@ -110,6 +117,12 @@ RefusesAnswer s number r =
 abbrev pub Refuses : State → Request → Reply → Type 0
 Refuses s request reply =
     (step printing s request ≡ (reply, s)) ⊎ ((reply ≡ Refused NoMemory) × IsAccepted (step printing s request).0)
+
+-- the reply is a refusal: the machine's, or for want of memory where the machine's reply takes some
+abbrev pub IsRefusal : State → Request → Reply → Type 0
+IsRefusal s request reply =
+    (refusal : Refusal) × (reply ≡ Refused refusal)
+    × (((step printing s request).0 ≡ reply) ⊎ ((refusal ≡ NoMemory) × TakesMemory (step printing s request).0))
 
 -- there is no such question, or no memory for what is asked of it
 abbrev pub RefusesSnapshot : State → ℕ → Refusal → Type 0

@@ -1,10 +1,10 @@
 //! What a book tells of its questions.
 
-ghost use Rattle.std.specs.Prelude.{◌≡◌, IfErr, IfOk};
+ghost use Rattle.std.specs.Prelude.{◌≡◌, Err, IfErr, IfOk};
 ghost use Rattle.trace_model.specs.Machine as machine;
 ghost use Rattle.trace_model.specs.declared.refusal.Refusal.TheVariants as refusals;
 ghost use Rattle.trace_model.specs.declared.session.Reply.TheVariants.{Refused};
-ghost use Rattle.sequencer.specs.Book.{RefusesAnswer, answer_refusal, answer_reply, status_reply};
+ghost use Rattle.sequencer.specs.Book.{RefusesAnswer, TakesMemory, answer_refusal, answer_reply, status_reply};
 ghost use Rattle.sequencer.specs.Printing.{printing};
 
 use crate::book::{Book, NoSuchQuestion};
@@ -63,10 +63,12 @@ impl Book {
     ///
     /// # Errors
     ///
-    /// `NoSuchQuestion`, then `ReportTooLong` where the text has more than `MAX_REPORT` bytes, then `NoMemory`.
+    /// `NoSuchQuestion`, then `ReportTooLong` where the text has more than `MAX_REPORT` bytes, then `NoMemory`,
+    /// but not while tasks are missing.
     pub fn answer(&self, question: u32) -> Result<Answer, AnswerRefused>
         ensures ok { IfOk result (λ told. machine.answer printing self.now.state question ≡ answer_reply question told) }
         ensures refused { IfErr result (RefusesAnswer self.now.state question) }
+        ensures wanting { result ≡ Err AnswerRefused.NoMemory → TakesMemory (machine.answer printing self.now.state question) }
     {
         let Some(asked) = self.asked(question) else {
             return Err(AnswerRefused::NoSuchQuestion);

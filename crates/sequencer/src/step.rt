@@ -4,7 +4,7 @@ ghost use Rattle.std.specs.Prelude.{◌≡◌, IfErr, IfOk, OnErr};
 ghost use Rattle.trace_model.specs.Machine as machine;
 ghost use Rattle.trace_model.specs.Replies.{IsReply};
 ghost use Rattle.trace_model.specs.declared.session.Request.TheVariants as requests;
-ghost use Rattle.sequencer.specs.Book.{IsAccepted, IsPrepared, Refuses, request_of};
+ghost use Rattle.sequencer.specs.Book.{IsAccepted, IsPrepared, IsRefusal, Refuses, TakesMemory, request_of};
 ghost use Rattle.sequencer.specs.Printing.{printing};
 
 use crate::answering::Answer;
@@ -52,11 +52,13 @@ impl Book {
     ///
     /// # Errors
     ///
-    /// The reply that refuses the request. `NoMemory` comes after all tests passed.
+    /// The reply that refuses the request. `NoMemory` comes after all tests passed, and only where an event or a
+    /// question would be added or a report printed.
     pub fn prepare(&mut self, request: &Request) -> Result<Step, Reply>
         ensures shown { self.new.state ≡ self.old.state }
         ensures ok { IfOk result (λ planned. (request_of planned.change ≡ request.now) × IsPrepared self.new planned) }
         ensures refused { IfErr result (Refuses self.old.state request.now) }
+        ensures refusal { IfErr result (IsRefusal self.old.state request.now) }
     {
         match request {
             Request::Offer(event) => self.prepare_offer(*event),
@@ -70,6 +72,7 @@ impl Book {
         ensures shown { self.new.state ≡ self.old.state }
         ensures ok { IfOk result (λ planned. (request_of planned.change ≡ requests.Offer event) × IsPrepared self.new planned) }
         ensures refused { IfErr result (Refuses self.old.state (requests.Offer event)) }
+        ensures refusal { IfErr result (IsRefusal self.old.state (requests.Offer event)) }
     {
         if let Err(refusal) = self.admit(&event) {
             return Err(Reply::Refused(refusal));
@@ -84,6 +87,7 @@ impl Book {
         ensures shown { self.new.state ≡ self.old.state }
         ensures ok { IfOk result (λ planned. (request_of planned.change ≡ requests.Ask bound) × IsPrepared self.new planned) }
         ensures refused { IfErr result (Refuses self.old.state (requests.Ask bound)) }
+        ensures refusal { IfErr result (IsRefusal self.old.state (requests.Ask bound)) }
     {
         match self.open(bound) {
             Ok(asked) => {
@@ -104,6 +108,7 @@ impl Book {
     fn prepare_answer(&self, question: u32) -> Result<Step, Reply>
         ensures ok { IfOk result (λ planned. (request_of planned.change ≡ requests.Answer question) × IsPrepared self.now planned) }
         ensures refused { IfErr result (Refuses self.now.state (requests.Answer question)) }
+        ensures refusal { IfErr result (IsRefusal self.now.state (requests.Answer question)) }
     {
         let reply = match self.answer(question) {
             Ok(Answer::Pending { delivered, total }) => Reply::Pending {
@@ -123,6 +128,7 @@ impl Book {
     fn prepare_status(&self, question: u32) -> Result<Step, Reply>
         ensures ok { IfOk result (λ planned. (request_of planned.change ≡ requests.Status question) × IsPrepared self.now planned) }
         ensures refused { IfErr result (Refuses self.now.state (requests.Status question)) }
+        ensures refusal { IfErr result (IsRefusal self.now.state (requests.Status question)) }
     {
         let Ok(status) = self.status(question) else {
             return Err(Reply::Refused(Refusal::NoSuchQuestion));
@@ -161,11 +167,13 @@ impl Book {
     ///
     /// # Errors
     ///
-    /// `NoMemory` where the request is not refused otherwise. Nothing has changed.
+    /// `NoMemory` where the request is not refused otherwise and an event or a question would be added or a report
+    /// printed. Nothing has changed.
     pub fn call(&mut self, request: &Request) -> Result<Reply, NoMemory>
         ensures ok { IfOk result (λ reply. machine.step printing self.old.state request.now ≡ (reply, self.new.state)) }
         ensures fits { IfOk result IsReply }
         ensures err { OnErr result ((self.new.state ≡ self.old.state) × IsAccepted (machine.step printing self.old.state request.now).0) }
+        ensures wanting { OnErr result (TakesMemory (machine.step printing self.old.state request.now).0) }
     {
         match self.prepare(request) {
             Ok(planned) => Ok(self.commit(planned)),

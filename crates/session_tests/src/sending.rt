@@ -17,13 +17,13 @@ const FRAME: [u8; 11] = [0, 9, 6, 0, 0, 0, 0, 0, 0, 0, 1];
 
 /// Gives a frame a read, so many times, and notes at each read how many bytes were written by then.
 #[derive(Drop)]
-struct Frames {
+struct Frames<'a> {
     left: u32,
     written: Arc<AtomicU64, Global>,
-    noted: Vec<u64>,
+    noted: &'a mut Vec<u64>,
 }
 
-impl Read for Frames {
+impl Read for Frames<'_> {
     fn read(&mut self, buffer: &mut [u8]) -> io::Result<usize> {
         self.noted.push(self.written.load(Ordering::SeqCst))?;
         if self.left == 0 {
@@ -57,16 +57,18 @@ impl Write for Counted {
 fn replies_are_sent_before_the_next_read(rt: HostRuntime) -> Result<(), Fail> {
     let alloc = rt.alloc();
     let written = Arc::new(alloc, AtomicU64::new(0))?;
+    let mut noted = Vec::new(alloc);
     let mut source = ReadSource::new(Frames {
         left: 3,
         written: Arc::try_clone(&written)?,
-        noted: Vec::new(alloc),
+        noted: &mut noted,
     });
     let mut sink = WriteSink::new(Counted { written });
     let mut book = Book::new(alloc, RandomState::new(&rt)?, MOST)?;
     let ended = serve_book(&rt, alloc, &mut source, &mut sink, &mut book);
     assert!(rt; ended == Ok(Ended::Input));
+    drop(source);
     // each reply has 9 bytes; the fourth read finds the end
-    assert!(rt; source.inner.noted.as_slice() == [0, 9, 18, 27].as_slice());
+    assert!(rt; noted.as_slice() == [0, 9, 18, 27].as_slice());
     Ok(())
 }

@@ -28,5 +28,6 @@ pub mod Fronts
 pub mod FrontSizes
 pub mod Readings
 pub mod Texts
+pub mod Confirmed
 pub mod Computed
 mod WorkedTraces

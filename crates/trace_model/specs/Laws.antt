@@ -1,5 +1,5 @@
 -- Laws of the definitions, each the contract of a public function.
-use Rattle.std.specs.Prelude.{◌≡◌, ◌≢◌, ℕ, ◌<◌, ◌≤◌, ◌↔◌, ◌⊎◌, min, IsTrue, List, [], ◌∷◌, ◌++◌, length, take, slice_get, Some, None}
+use Rattle.std.specs.Prelude.{◌≡◌, ◌≢◌, ℕ, ◌<◌, ◌≤◌, ◌↔◌, ◌⊎◌, min, IsTrue, IsSome, List, [], ◌∷◌, ◌++◌, length, take, slice_get, Some, None}
 use Rattle.std.specs.List.{Contains}
 use Rattle.std.specs.List.Sorted.{IsStrictlyIncreasing}
 use Rattle.trace_model.specs.declared.limits.TheConstants.{MAX_EVENTS}
@@ -109,6 +109,13 @@ RowsAreUnique =
 -- exact rows are sound
 abbrev pub RowsAreSound : Type 0
 RowsAreSound = (s : Trace) (bound root : ℕ) (rows : List Row) → AreRows s bound root rows → AreSound s bound root rows
+
+-- a confirmed row is among the rows of each longer trace, at the same or a higher bound
+abbrev pub ConfirmedStays : Type 0
+ConfirmedStays =
+    (s more : Trace) → IsWellFormed (s ++ more) → (bound higher root : ℕ) → bound ≤ higher → (rows later : List Row) →
+    AreRows s bound root rows → AreRows (s ++ more) higher root later →
+    (row : Row) → Contains rows row → IsSome row.found → Contains later row
 
 -- a beginning of a well-formed trace is well formed, and so is one more lawful event
 abbrev pub WellFormedGrows : Type 0

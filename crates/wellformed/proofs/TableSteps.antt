@@ -28,6 +28,18 @@ depth_event : (b : Bool) (t : ℕ) (s : Trace) (op : Op) → (b ≡ true → op_
 depth_event true t s op lawful = depth_op t s op (lawful refl)
 depth_event false t s op lawful = refl
 
+-- entries that show nothing change nothing
+pub tables-shown : {S T : Type 0} (s : Trace) (threads threads' : HashMap ℕ ThreadEntry S) (owners owners' : HashMap ℕ (Option ℕ) T) (n : ℕ) →
+    AreTables s threads owners n → ((t : ℕ) → thread_in threads' t ≡ thread_in threads t) → ((l : ℕ) → owner_in owners' l ≡ owner_in owners l) →
+    AreTables s threads' owners' n
+tables-shown s threads threads' owners owners' n old by_thread by_lock = record {
+  forked_is = λ t. ap (λ x. x.forked) (by_thread t) ∙ old.forked_is t;
+  joined_is = λ t. ap (λ x. x.joined) (by_thread t) ∙ old.joined_is t;
+  held_is = λ t. ap (λ x. x.held) (by_thread t) ∙ old.held_is t;
+  owner_is = λ l. by_lock l ∙ old.owner_is l;
+  forks_is = old.forks_is;
+}
+
 pub tables-push : {S T : Type 0} (s : Trace) (e : Event) (threads threads' : HashMap ℕ ThreadEntry S) (owners owners' : HashMap ℕ (Option ℕ) T) (n m : ℕ) →
     AreTables s threads owners n → op_refusal_of s e.thread e.op ≡ None →
     ((t : ℕ) → thread_in threads' t ≡ thread_after e t (thread_in threads t)) →

@@ -1,5 +1,5 @@
 //! What one more event changes in the tables, and the entries that it needs.
-ghost use Rattle.std.specs.Prelude.{◌≡◌, ◌+◌, ◌<◌, ◌^◌, ℕ, OnOk};
+ghost use Rattle.std.specs.Prelude.{◌≡◌, ◌+◌, ◌<◌, ◌^◌, ℕ, OnErr, OnOk};
 ghost use Rattle.wellformed.specs.Owners.{owner_in};
 ghost use Rattle.wellformed.specs.Threads.{thread_in, thread_after, HasThread};
 ghost use Rattle.wellformed.specs.Tables.{HasOpThread, HasOpLock};
@@ -25,6 +25,8 @@ pub fn note_lock(owners: &mut Owners, event: &Event)
 pub fn reserve_lock(owners: &mut Owners, event: &Event) -> Result<(), NoMemory>
     ensures shown { (lock : ℕ) → owner_in owners.new lock ≡ owner_in owners.old lock }
     ensures ok { OnOk result (HasOpLock owners.new event.now.op) }
+    ensures kept { (op : Op) → HasOpLock owners.old op → HasOpLock owners.new op }
+    ensures wanting { OnErr result (¬ HasOpLock owners.old event.now.op) }
 {
     match event.op {
         Op::Acquire(lock) | Op::Release(lock) => reserve_owner(owners, lock),
@@ -81,6 +83,9 @@ pub fn reserve_threads(threads: &mut Threads, event: &Event) -> Result<(), NoMem
     ensures shown { (t : ℕ) → thread_in threads.new t ≡ thread_in threads.old t }
     ensures own { OnOk result (HasThread threads.new event.now.thread) }
     ensures other { OnOk result (HasOpThread threads.new event.now.op) }
+    ensures kept { (t : ℕ) → HasThread threads.old t → HasThread threads.new t }
+    ensures kept_other { (op : Op) → HasOpThread threads.old op → HasOpThread threads.new op }
+    ensures wanting { OnErr result (HasThread threads.old event.now.thread → HasOpThread threads.old event.now.op → ⊥) }
 {
     reserve_thread(threads, event.thread)?;
     match event.op {

@@ -1,4 +1,4 @@
-ghost use Rattle.std.specs.Prelude.{◌≡◌, ◌<◌, ◌≤◌, ◌+◌, ◌^◌, cond, length, None, Some, [], ◌∷◌, ◌++◌, OnOk};
+ghost use Rattle.std.specs.Prelude.{◌≡◌, ◌≢◌, ◌<◌, ◌≤◌, ◌+◌, ◌^◌, cond, length, None, Some, [], ◌∷◌, ◌++◌, OnErr, OnOk};
 ghost use Rattle.std.specs.Result.{result_err};
 ghost use Rattle.trace_model.specs.declared.limits.TheConstants.{MAX_EVENTS};
 ghost use Rattle.trace_model.specs.Held.{held};
@@ -164,16 +164,17 @@ impl Gate {
         &self.events
     }
 
-    /// Makes room for this event, and gives up the room that was made for another.
+    /// Makes room for this event. Room that was made for another is then given up.
     ///
     /// # Errors
     ///
-    /// `NoMemory`. The recorded events are as before.
+    /// `NoMemory`, but not where there is room for this very event. Nothing has changed: an earlier reservation stays.
     pub fn reserve(&mut self, event: &Event) -> Result<(), NoMemory>
         ensures events { (self.new.events ≡ self.old.events) × (self.new.limit ≡ self.old.limit) }
         ensures ok { OnOk result (self.new.reserved ≡ Some event.now) }
+        ensures err { OnErr result (self.new ≡ self.old) }
+        ensures wanting { OnErr result (self.old.reserved ≢ Some event.now) }
     {
-        self.reserved = None;
         self.events.reserve(1)?;
         reserve_threads(&mut self.threads, event)?;
         reserve_lock(&mut self.owners, event)?;

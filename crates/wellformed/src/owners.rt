@@ -1,5 +1,5 @@
 //! Which thread owns each lock.
-ghost use Rattle.std.specs.Prelude.{◌≡◌, ℕ, None, nat_eq, cond, OnOk};
+ghost use Rattle.std.specs.Prelude.{◌≡◌, ℕ, None, nat_eq, cond, OnErr, OnOk};
 ghost use Rattle.wellformed.specs.Owners.{owner_in, HasLock};
 
 use std::alloc::Global;
@@ -28,6 +28,8 @@ pub fn owner_of(owners: &Owners, lock: u32) -> Option<u32>
 pub fn reserve_owner(owners: &mut Owners, lock: u32) -> Result<(), NoMemory>
     ensures shown { (other : ℕ) → owner_in owners.new other ≡ owner_in owners.old other }
     ensures ok { OnOk result (HasLock owners.new lock) }
+    ensures kept { (other : ℕ) → HasLock owners.old other → HasLock owners.new other }
+    ensures wanting { OnErr result (¬ HasLock owners.old lock) }
 {
     if !owners.contains_key(&lock) {
         owners.insert(lock, None)?;

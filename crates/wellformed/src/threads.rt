@@ -1,5 +1,5 @@
 //! What is known of each thread.
-ghost use Rattle.std.specs.Prelude.{◌≡◌, ℕ, nat_eq, cond, OnOk};
+ghost use Rattle.std.specs.Prelude.{◌≡◌, ℕ, nat_eq, cond, OnErr, OnOk};
 ghost use Rattle.wellformed.specs.Threads.{thread_in, unknown, HasThread};
 
 use std::alloc::Global;
@@ -43,6 +43,7 @@ pub fn reserve_thread(threads: &mut Threads, thread: u32) -> Result<(), NoMemory
     ensures shown { (t : ℕ) → thread_in threads.new t ≡ thread_in threads.old t }
     ensures ok { OnOk result (HasThread threads.new thread) }
     ensures kept { (t : ℕ) → HasThread threads.old t → HasThread threads.new t }
+    ensures wanting { OnErr result (¬ HasThread threads.old thread) }
 {
     if !threads.contains_key(&thread) {
         threads.insert(thread, UNKNOWN)?;

@@ -11,7 +11,7 @@ use Rattle.cycle_search.proofs.Turns.{adds-more, adds-end, exceeds-more, rejecte
 use Rattle.cycle_search.proofs.Paths.{path-tested}
 use Rattle.cycle_search.proofs.Ranked.{other-rank}
 use Rattle.cycle_search.proofs.search.+search.Goals as goal
-use Rattle.cycle_search.proofs.search.+search.Goals.{visit-then-closes+else-len-ge-MAX_CYCLES+in_ok-push, visit-else-closes+then-len-bound+in_ok-extend, visit-else-closes+else-len-bound}
+use Rattle.cycle_search.proofs.search.+search.Goals.{visit-then-closes+else-len-limits+in_ok-push, visit-else-closes+then-len-limits-2+in_ok-extend, visit-else-closes+else-len-limits-2}
 
 pub extend-visit-requires : goal.extend-visit-requires
 extend-visit-requires t c =
@@ -22,7 +22,7 @@ extend-visit-requires t c =
     let here : Contains items m = (i, c.loop-next-test.true, get_or_default_zero items i m c.loop-next-test.true) in
     let same = sym c.loop-next.invariant.same in
     let shorter = ap (λ (p : List ℕ). length p) same in
-    (omega (arith, shorter), (c.requires.graph, (c.requires.ranks, (subst (λ p. IsPath (known c.args.table.now) p) same c.requires.path, (subst (λ (p : List ℕ). length p < c.args.bound) same c.requires.room, (c.requires.bound, (c.loop-next.invariant.few, (n.known m here, (subst (λ p. AboveFirst p m) same (n.above m here), subst (λ p. LinksTo (known c.args.table.now) p m) same (n.linked m here))))))))))
+    (omega (arith, shorter), (c.requires.graph, (c.requires.ranks, (subst (λ p. IsPath (known c.args.table.now) p) same c.requires.path, (subst (λ (p : List ℕ). length p < c.args.limits.members) same c.requires.room, (c.requires.bound, (c.loop-next.invariant.few, (n.known m here, (subst (λ p. AboveFirst p m) same (n.above m here), subst (λ p. LinksTo (known c.args.table.now) p m) same (n.linked m here))))))))))
 
 pub extend-returns-in_err-visit-clause-too_many : goal.extend-returns-in_err-visit-clause-too_many
 extend-returns-in_err-visit-clause-too_many t c e =
@@ -30,9 +30,9 @@ extend-returns-in_err-visit-clause-too_many t c e =
     let i = c.loop-next.next-index in
     let items = c.successors-next-items.result.now in
     let q = c.visit.ensures.too_many (c.in_err-visit.was ∙ ap Err (sym p.2) ∙ sym p.1 ∙ e) in
-    exceeds-more (known c.args.table.now) c.args.bound c.args.path.now.items items c.successors-next-items.ensures.ascends i (get_or items i 0)
+    exceeds-more (known c.args.table.now) c.args.limits.members c.args.path.now.items items c.successors-next-items.ensures.ascends c.args.limits.cycles i (get_or items i 0)
     (slice_get-get_or items i 0 c.loop-next-test.true) _ _ c.loop-next.invariant.added
-    (subst (λ p. Exceeds (CycleThrough (known c.args.table.now) c.args.bound p (get_or items i 0)) c.loop-next.found.items) c.loop-next.invariant.same q)
+    (subst (λ p. Exceeds (CycleThrough (known c.args.table.now) c.args.limits.members p (get_or items i 0)) c.args.limits.cycles c.loop-next.found.items) c.loop-next.invariant.same q)
 
 pub extend-loop-next-preserved : goal.extend-loop-next-preserved
 extend-loop-next-preserved t c = let e = c.in_ok-visit.ensures in
@@ -41,21 +41,21 @@ extend-loop-next-preserved t c = let e = c.in_ok-visit.ensures in
     record {
       same = e.path ∙ c.loop-next.invariant.same;
       few = e.few;
-      added = adds-more (known c.args.table.now) c.args.bound c.args.path.now.items items c.successors-next-items.ensures.ascends i (get_or items i 0)
+      added = adds-more (known c.args.table.now) c.args.limits.members c.args.path.now.items items c.successors-next-items.ensures.ascends i (get_or items i 0)
           (slice_get-get_or items i 0 c.loop-next-test.true) _ _ _ c.loop-next.invariant.added
-          (subst (λ p. Adds (CycleThrough (known c.args.table.now) c.args.bound p (get_or items i 0)) c.loop-next.found.items c.visit.new.found.items) c.loop-next.invariant.same e.all);
+          (subst (λ p. Adds (CycleThrough (known c.args.table.now) c.args.limits.members p (get_or items i 0)) c.loop-next.found.items c.visit.new.found.items) c.loop-next.invariant.same e.all);
     }
 
 pub extend-returns-clause-all : goal.extend-returns-clause-all
 extend-returns-clause-all t c =
-    adds-end (known c.args.table.now) c.args.bound c.args.path.now.items c.successors-next-items.result.now c.loop-next.next-index _ _ c.requires.path.begun
+    adds-end (known c.args.table.now) c.args.limits.members c.args.path.now.items c.successors-next-items.result.now c.loop-next.next-index _ _ c.requires.path.begun
     c.successors-next-items.ensures c.loop-next-test.false c.loop-next.invariant.added
 
 pub visit-returns-then-not-compatible-clause-all : goal.visit-returns-then-not-compatible-clause-all
 visit-returns-then-not-compatible-clause-all t c = (
   [],
   sym (append-nil c.args.found.now.items),
-  rejected (known c.args.table.now) c.args.bound c.args.path.now.items c.args.next c.requires.path.begun
+  rejected (known c.args.table.now) c.args.limits.members c.args.path.now.items c.args.next c.requires.path.begun
       (λ f.
       let yes = c.compatible.ensures.1 (subst (λ p. IsCompatible (known c.args.table.now) p c.args.next) (sym c.as_slice.ensures.value) f.compatible) in
       true≢false (sym yes ∙ c.if-not-compatible.true)),
@@ -65,7 +65,7 @@ pub visit-returns-then-not-same_rank-clause-all : goal.visit-returns-then-not-sa
 visit-returns-then-not-same_rank-clause-all t c = (
   [],
   sym (append-nil c.args.found.now.items),
-  other-rank (known c.args.table.now) c.args.bound c.args.path.now.items c.args.next c.args.ranks.now
+  other-rank (known c.args.table.now) c.args.limits.members c.args.path.now.items c.args.next c.args.ranks.now
       c.requires.ranks c.requires.path.begun (λ e. true≢false (sym (c.same_rank.ensures.1 e) ∙ c.if-not-same_rank.true)),
 )
 
@@ -74,15 +74,15 @@ visit-closes-requires t c = subst (λ p. IsPath (known c.args.table.now) p) (sym
     (path-tested (known c.args.table.now) c.args.path.now.items c.args.next c.as_slice.result.now c.requires.path c.requires.known c.requires.above c.requires.linked
     c.as_slice.ensures.value (c.compatible.ensures.0 c.if-not-compatible.false))
 
-pub visit-returns-then-len-ge-MAX_CYCLES-clause-too_many :
-    goal.visit-returns-then-len-ge-MAX_CYCLES-clause-too_many
-visit-returns-then-len-ge-MAX_CYCLES-clause-too_many t c e = (
+pub visit-returns-then-len-limits-clause-too_many :
+    goal.visit-returns-then-len-limits-clause-too_many
+visit-returns-then-len-limits-clause-too_many t c e = (
   (c.args.path.now.items ++ c.args.next ∷ []) ∷ [],
-  one-closed (known c.args.table.now) c.args.bound c.args.path.now.items c.args.next
+  one-closed (known c.args.table.now) c.args.limits.members c.args.path.now.items c.args.next
       (path-tested (known c.args.table.now) c.args.path.now.items c.args.next c.as_slice.result.now c.requires.path c.requires.known c.requires.above c.requires.linked
       c.as_slice.ensures.value (c.compatible.ensures.0 c.if-not-compatible.false))
       (subst (λ p. Closes (known c.args.table.now) p) c.push.ensures.items (c.closes.ensures.0 c.if-closes.true)) c.requires.path.begun c.requires.room,
-  omega (arith, c.len.ensures, c.if-len-ge-MAX_CYCLES.true),
+  omega (arith, c.len.ensures, c.if-len-limits.true),
 )
 
 pub visit-returns-in_err-push-clause-too_many : goal.visit-returns-in_err-push-clause-too_many
@@ -111,35 +111,35 @@ visit-returns-in_err-extend-clause-too_many t c e =
     let p = err_from_is_err_and c.from_residual-in_err-extend.result c.from_residual-in_err-extend.ensures.1 in
     let q = c.extend.ensures.too_many (c.in_err-extend.was ∙ ap Err (sym p.2) ∙ sym p.1 ∙ e) in (
       q.0,
-      deeper-some (known c.args.table.now) c.args.bound c.args.path.now.items c.args.next q.0
-          (subst (λ z. AreSome (CycleBeyond (known c.args.table.now) c.args.bound z) q.0) c.push.ensures.items q.1),
+      deeper-some (known c.args.table.now) c.args.limits.members c.args.path.now.items c.args.next q.0
+          (subst (λ z. AreSome (CycleBeyond (known c.args.table.now) c.args.limits.members z) q.0) c.push.ensures.items q.1),
       q.2,
     )
 
 pub visit-returns-clause-all : goal.visit-returns-clause-all
 visit-returns-clause-all t c = elim c.if-closes.branch [
-  | visit-then-closes+else-len-ge-MAX_CYCLES+in_ok-push w ↦ let f = w.found-is in (
+  | visit-then-closes+else-len-limits+in_ok-push w ↦ let f = w.found-is in (
     (c.args.path.now.items ++ c.args.next ∷ []) ∷ [],
     rw f (w.in_ok-push.ensures.items ∙ ap (λ (z : List ℕ). c.args.found.now.items ++ z ∷ []) (w.cycle_of.ensures ∙ c.push.ensures.items)),
-    closed (known c.args.table.now) c.args.bound c.args.path.now.items c.args.next
+    closed (known c.args.table.now) c.args.limits.members c.args.path.now.items c.args.next
         (path-tested (known c.args.table.now) c.args.path.now.items c.args.next c.as_slice.result.now c.requires.path c.requires.known c.requires.above c.requires.linked
         c.as_slice.ensures.value (c.compatible.ensures.0 c.if-not-compatible.false))
         (subst (λ p. Closes (known c.args.table.now) p) c.push.ensures.items (c.closes.ensures.0 w.if-closes.true)) c.requires.path.begun c.requires.room,
   )
-  | visit-else-closes+then-len-bound+in_ok-extend w ↦
+  | visit-else-closes+then-len-limits-2+in_ok-extend w ↦
       let f = w.found-is in let a = w.in_ok-extend.ensures.all in (
         a.0,
         rw f a.1,
-        deeper (known c.args.table.now) c.args.bound c.args.path.now.items c.args.next a.0
+        deeper (known c.args.table.now) c.args.limits.members c.args.path.now.items c.args.next a.0
             (λ k. true≢false (sym (c.closes.ensures.1 (subst (λ p. Closes (known c.args.table.now) p) (sym c.push.ensures.items) k)) ∙ w.if-closes.false))
-            (subst (λ z. AreAll (CycleBeyond (known c.args.table.now) c.args.bound z) a.0) c.push.ensures.items a.2),
+            (subst (λ z. AreAll (CycleBeyond (known c.args.table.now) c.args.limits.members z) a.0) c.push.ensures.items a.2),
       )
-  | visit-else-closes+else-len-bound w ↦
+  | visit-else-closes+else-len-limits-2 w ↦
       let f = w.found-is in (
         [],
         rw f (sym (append-nil c.args.found.now.items)),
-        full (known c.args.table.now) c.args.bound c.args.path.now.items c.args.next
+        full (known c.args.table.now) c.args.limits.members c.args.path.now.items c.args.next
             (λ k. true≢false (sym (c.closes.ensures.1 (subst (λ p. Closes (known c.args.table.now) p) (sym c.push.ensures.items) k)) ∙ w.if-closes.false))
-            (omega (arith, w.if-len-bound.false, w.len-else-closes.ensures.value, ap (λ (xs : List ℕ). length xs) c.push.ensures.items)),
+            (omega (arith, w.if-len-limits-2.false, w.len-else-closes.ensures.value, ap (λ (xs : List ℕ). length xs) c.push.ensures.items)),
       )
 ]

@@ -1,9 +1,9 @@
-use Rattle.std.proofs.Common.{◌≡◌, ◌<◌, length, inl, inr, Err, refl, sym, ap, subst, ◌∙◌}
+use Rattle.std.proofs.Common.{◌≡◌, ◌<◌, ℕ, List, length, inl, inr, Err, refl, sym, ap, subst, ◌∙◌}
 use Rattle.std.specs.List.{flat_map}
 use Rattle.trace_model.specs.declared.limits.TheConstants.{MAX_REPORT}
 use Rattle.trace_model.specs.declared.session.Reply.TheVariants.{Report}
 use Rattle.witness.specs.Text.{report}
-use Rattle.sequencer.specs.Book.{IsAccepted}
+use Rattle.sequencer.specs.Book.{IsAccepted, TakesMemory}
 use Rattle.sequencer.specs.Printing.{printing}
 use Rattle.trace_model.specs.Machine.{answer}
 use Rattle.witness.specs.declared.report.TextRefused.{TextRefused}
@@ -40,8 +40,9 @@ returns-in-Err-TooLong-clause-refused c =
     let told_is = reported (λ task. task.items) s c.args.question told tasks (sym c.in-Some.ensures.value) c.in-Some-settled.ensures c.in-Some.ensures.named in
     inl (long_report c.args.question text (answer printing s c.args.question) long told_is)
 
-pub returns-in-Err-NoMemory-clause-refused : goal.returns-in-Err-NoMemory-clause-refused
-returns-in-Err-NoMemory-clause-refused c =
+-- a text that no memory is left for is not too long, and the machine prints it
+printed : (c : goal.In-Err-NoMemory) → (text : List ℕ) × (answer printing c.args.self.now.state c.args.question ≡ Report c.args.question text)
+printed c =
     let told = c.in-Some.asked.now in
     let tasks = c.in-Some-settled.tasks.now in
     let s = c.args.self.now.state in
@@ -50,4 +51,10 @@ returns-in-Err-NoMemory-clause-refused c =
     λ i. report c.args.question (c.events.ensures i) (c.bound.ensures i) (flat_map (λ task. task.items) tasks) in
     let short = not_long (length text) (λ l. not_too_long (sym (ap (λ (r : TextRefused). Err r) c.in-Err-NoMemory.field-0-is) ∙ c.in-Err-NoMemory.ensures.too_long.1 (subst (λ t. MAX_REPORT < length t) (sym counted) l))) in
     let told_is = reported (λ task. task.items) s c.args.question told tasks (sym c.in-Some.ensures.value) c.in-Some-settled.ensures c.in-Some.ensures.named in
-    inr (refl, subst IsAccepted (sym (short_report c.args.question text (answer printing s c.args.question) short told_is)) tt)
+    (text, short_report c.args.question text (answer printing s c.args.question) short told_is)
+
+pub returns-in-Err-NoMemory-clause-refused : goal.returns-in-Err-NoMemory-clause-refused
+returns-in-Err-NoMemory-clause-refused c = inr (refl, subst IsAccepted (sym (printed c).1) tt)
+
+pub returns-in-Err-NoMemory-clause-wanting : goal.returns-in-Err-NoMemory-clause-wanting
+returns-in-Err-NoMemory-clause-wanting c e = subst TakesMemory (sym (printed c).1) tt

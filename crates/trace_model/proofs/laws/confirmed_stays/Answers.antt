@@ -1,0 +1,5 @@
+use Rattle.trace_model.proofs.Confirmed.{confirmed_stays}
+use Rattle.trace_model.proofs.laws.confirmed_stays.Goals as goal
+
+pub returns : goal.returns
+returns c = confirmed_stays
