@@ -234,6 +234,14 @@ module _ (ds : List Dependency) (path : List ℕ) (p : IsPath ds path) (last : D
       holder : (m : ℕ) → Contains nexts m → (d : Dependency) × (slice_get ds m ≡ Some d) × Contains d.held last.lock
       holder m h = (g.exact last.lock m).0 (subst (λ z. Contains z m) e ((exact m).0 h).1)
 
+-- a number that closes the path takes a lock that its first member holds
+pub closed-back : (ds : List Dependency) (path : List ℕ) (m : ℕ) (first last : Dependency) → 0 < length path →
+    slice_get ds (get_or path 0 0) ≡ Some first → slice_get ds m ≡ Some last → Closes ds (path ++ m ∷ []) → Contains first.held last.lock
+closed-back ds path m first last begun head at closes =
+    closes (length path) first last (sym (length-push path m))
+    (get_or path 0 0, get-push_kept path m 0 (get_or path 0 0) (slice_get-get_or path 0 0 begun), head)
+    (m, at-end path m [], at)
+
 -- a number that passed the test of the code
 pub path-tested : (ds : List Dependency) (path : List ℕ) (m : ℕ) (members : List ℕ) → IsPath ds path → m < length ds → AboveFirst path m → LinksTo ds path m →
     members ≡ path → IsCompatible ds members m → IsPath ds (path ++ m ∷ [])

@@ -1,4 +1,4 @@
-ghost use Rattle.std.specs.Prelude.{◌≡◌, ◌<◌, ◌≤◌, ◌↔◌, slice_index, length, IsTrue, IfOk, OnOk, Err, ℕ};
+ghost use Rattle.std.specs.Prelude.{◌≡◌, ◌<◌, ◌≤◌, ◌↔◌, ◌+◌, ◌++◌, ◌∷◌, [], slice_index, length, IsTrue, IfOk, OnOk, Err, ℕ};
 ghost use Rattle.std.specs.List.{Contains};
 ghost use Rattle.std.specs.List.Sorted.{IsStrictlyIncreasing};
 ghost use Rattle.trace_model.specs.declared.limits.TheConstants.{MAX_CYCLES};
@@ -134,6 +134,9 @@ fn visit(
     if !same_rank(ranks, path, next) {
         return Ok(());
     }
+    if ends_open(table, limits, path, next) {
+        return Ok(());
+    }
     if !compatible(table, path.as_slice(), next) {
         return Ok(());
     }
@@ -158,6 +161,20 @@ fn same_rank(ranks: &Ranks, path: &Path, next: u32) -> bool
     ensures { IsTrue result ↔ (slice_index ranks.now (slice_index path.now.items 0) ≡ slice_index ranks.now next) }
 {
     ranks.are_equal(path[0], next)
+}
+
+/// Whether the path has room for the number alone, and is not closed by it.
+fn ends_open(table: &DepTable, limits: Limits, path: &Path, next: u32) -> bool
+    requires path { IsPath (known table.now) path.now.items }
+    requires next { next < length (known table.now) }
+    ensures { IsTrue result → (limits.members ≤ length path.now.items + 1) × (Closes (known table.now) (path.now.items ++ next ∷ []) → ⊥) }
+{
+    if path.len() + 1 < limits.members {
+        return false;
+    }
+    let first = table.get(path[0]);
+    let last = table.get(next);
+    !first.held.contains(last.lock)
 }
 
 /// The cycle with the numbers of a path.

@@ -6,6 +6,7 @@ use Rattle.std.specs.List.{Contains}
 use Rattle.guards.specs.Compatible.{IsCompatible}
 use Rattle.dependencies.specs.Tables.{known}
 use Rattle.cycle_search.specs.Search.{IsPath, Closes, AboveFirst, LinksTo, AreSome, AreAll, Adds, Exceeds, CycleBeyond, CycleThrough}
+use Rattle.trace_model.proofs.Lists.{length-push}
 use Rattle.cycle_search.proofs.Listing.{append-nil}
 use Rattle.cycle_search.proofs.Turns.{adds-more, adds-end, exceeds-more, rejected, closed, one-closed, deeper, deeper-some, full}
 use Rattle.cycle_search.proofs.Paths.{path-tested}
@@ -60,6 +61,15 @@ visit-returns-then-not-compatible-clause-all t c = (
       let yes = c.compatible.ensures.1 (subst (λ p. IsCompatible (known c.args.table.now) p c.args.next) (sym c.as_slice.ensures.value) f.compatible) in
       true≢false (sym yes ∙ c.if-not-compatible.true)),
 )
+
+pub visit-returns-then-ends_open-clause-all : goal.visit-returns-then-ends_open-clause-all
+visit-returns-then-ends_open-clause-all t c =
+    let ends = c.ends_open.ensures c.if-ends_open.true in (
+      [],
+      sym (append-nil c.args.found.now.items),
+      full (known c.args.table.now) c.args.limits.members c.args.path.now.items c.args.next ends.1
+          (omega (arith, ends.0, length-push c.args.path.now.items c.args.next)),
+    )
 
 pub visit-returns-then-not-same_rank-clause-all : goal.visit-returns-then-not-same_rank-clause-all
 visit-returns-then-not-same_rank-clause-all t c = (
