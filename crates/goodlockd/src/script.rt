@@ -7,21 +7,12 @@ use crate::outcome::{Status, Stopped};
 use crate::requests::{answer_frame, ask_frame, offer_frame, status_frame};
 use crate::script_text::{push_last, push_reply};
 use event_frames::FrameReader;
-use findings::{ComputeRefused, Finding, Snapshot};
+use findings::{ComputeRefused, Job};
 use sequencer::Book;
 use std::alloc::Global;
 use std::hash::RandomState;
 use std::io::Write;
-use std::sync::Arc;
 use trace_model::{Bound, MAX_EVENTS, Refusal, Reply};
-
-/// What the tasks of a question are computed from.
-#[derive(Drop)]
-struct Job {
-    question: u32,
-    bound: Bound,
-    snapshot: Arc<Snapshot, Global>,
-}
 
 /// The one session of a script, over its book.
 #[derive(Drop)]
@@ -102,19 +93,12 @@ impl ScriptSession {
         let Some(bound) = Bound::new(status.bound) else {
             return Err(Refusal::BadBound);
         };
-        Ok(Job {
-            question,
-            bound,
-            snapshot,
-        })
+        Ok(Job::new(self.alloc, snapshot, question, bound))
     }
 
     /// Computes a task and delivers it.
-    fn deliver_task(&mut self, job: &Job, task: u32) -> Result<(), Refusal> {
-        let Ok(snapshot) = Arc::clone(&job.snapshot) else {
-            return Err(Refusal::NoMemory);
-        };
-        match Finding::compute(self.alloc, snapshot, job.question, job.bound, task) {
+    fn deliver_task(&mut self, job: &mut Job, task: u32) -> Result<(), Refusal> {
+        match job.compute(task) {
             Ok(finding) => match self.book.deliver(finding) {
                 Ok(()) => Ok(()),
                 Err((refusal, _)) => Err(refusal),
@@ -126,20 +110,20 @@ impl ScriptSession {
 
     /// Computes a task of the question and delivers it. It answers the task.
     fn deliver(&mut self, question: u32, task: u32) -> Result<u32, Refusal> {
-        let job = self.job(question)?;
-        self.deliver_task(&job, task)?;
+        let mut job = self.job(question)?;
+        self.deliver_task(&mut job, task)?;
         Ok(task)
     }
 
     /// Computes and delivers the least missing task of the question until none is missing, and answers how many
     /// these were. A question has no more tasks than a trace has events.
     fn work(&mut self, question: u32) -> Result<u32, Refusal> {
-        let job = self.job(question)?;
+        let mut job = self.job(question)?;
         for worked in 0..MAX_EVENTS as u32 {
             let Ok(Some(task)) = self.book.missing(question) else {
                 return Ok(worked);
             };
-            self.deliver_task(&job, task)?;
+            self.deliver_task(&mut job, task)?;
         }
         Ok(MAX_EVENTS as u32)
     }
