@@ -1,6 +1,6 @@
 ghost use Rattle.trace_model.specs.Lawful.{IsWellFormed};
 
-use findings::{Finding, Snapshot};
+use findings::{Finding, Job, Snapshot};
 use std::hash::RandomState;
 use std::sync::Arc;
 use std::test::Fail;
@@ -82,10 +82,12 @@ fn rows_of_opposite_orders(rt: HostRuntime) -> Result<(), Fail> {
     let witness = [0, 1, 2, 6].map(Place::new);
     assert!(rt; found.witness.as_slice() == witness.as_slice());
 
-    // the next task has no cycle, and neither has one past the last
-    for task in [1, 9] {
-        let finding = Finding::compute(alloc, Arc::try_clone(&snapshot)?, 0, bound, task)?;
-        assert!(rt; finding.rows().is_empty());
+    // the next task has no cycle, and neither has one past the last; a job does each in turn, and again
+    let mut job = Job::new(alloc, snapshot, 7, bound);
+    assert!(rt; job.question() == 7);
+    for (task, count) in [(1, 0), (0, 1), (9, 0), (0, 1)] {
+        let finding = job.compute(task)?;
+        assert!(rt; finding.task() == task && finding.rows().len() == count);
     }
     Ok(())
 }

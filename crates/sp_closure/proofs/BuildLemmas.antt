@@ -18,7 +18,7 @@ use Rattle.sp_closure.specs.Demands.{Needs, AreLocks, AreItems, AreDemands, item
 use Rattle.sp_closure.specs.Pushing.{IsDemand, IsForkLater, IsReached, IsBegun, AddsDemands, AreBuilt, AreAllBuilt}
 use Rattle.sp_closure.proofs.SlotLemmas.{before_stands, has_upto}
 use Rattle.sp_closure.proofs.ThreadLemmas.{place_below}
-use Rattle.sp_closure.proofs.PushLemmas.{reached_left, reached_right, begun_left, begun_right, none_in}
+use Rattle.sp_closure.proofs.PushLemmas.{reached_left, reached_right, begun_left, begun_right}
 
 found_at : {X : Type 0} (xs : List X) (x : X) → Contains xs x → (k : ℕ) × (slice_get xs k ≡ Some x)
 found_at xs x (k, l, e) = (k, slice_get-get_or xs k x l ∙ ap Some e)

@@ -1,5 +1,5 @@
 -- The slots of threads and of locks, by their first places.
-use Rattle.std.proofs.Common.{◌≡◌, ℕ, zero, suc, ◌<◌, ◌≤◌, true, false, List, length, slice_get, Option, Some, None, IfSome, MatchOption, refl, sym, ap, subst, ◌∙◌, arith}
+use Rattle.std.proofs.Common.{◌≡◌, ℕ, zero, suc, ◌<◌, ◌≤◌, true, false, List, length, slice_get, Option, Some, None, IfSome, refl, sym, ap, subst, ◌∙◌, arith}
 use Rattle.std.specs.Option.{option_and_then, option_map_or}
 use Rattle.std.proofs.lemmas.Bool.{eq-eqb, eqb-true, false≢true}
 use Rattle.std.proofs.lemmas.Option.{none-some, same_Some, slice_get_within}
@@ -16,7 +16,6 @@ use Rattle.trace_model.proofs.Least.{at_thread}
 use Rattle.std.specs.List.Sorted.{IsStrictlyIncreasing}
 use Rattle.trace_index.specs.Numbers.{of_thread}
 use Rattle.sp_closure.specs.Slots.{AreSlots}
-use Rattle.sp_closure.specs.Threads.{IsLastOf}
 use Rattle.sp_closure.specs.Demands.{AreLocks}
 use Rattle.sp_closure.specs.Classes.{AreFirsts, AreClasses}
 use Rattle.sp_closure.specs.Firsts.{first_of_thread, first_of_lock, first_acquire}

@@ -1,14 +1,12 @@
 -- Fronts, as sets of places.
-use Rattle.std.proofs.Common.{◌≡◌, ℕ, zero, suc, ◌<◌, ◌≤◌, ◌⊎◌, inl, inr, true, false, ◌==◌, nat_lt, slice_get, Option, Some, None, refl, sym, ap, subst, ◌∙◌, arith}
+use Rattle.std.proofs.Common.{◌≡◌, ℕ, ◌<◌, ◌≤◌, true, false, ◌==◌, nat_lt, slice_get, Option, Some, None, refl, ap, ◌∙◌, arith}
 use Rattle.std.specs.Option.{option_map_or}
-use Rattle.std.proofs.lemmas.Bool.{eq-eqb, eqb-true, false≢true, cases_lt}
+use Rattle.std.proofs.lemmas.Bool.{eq-eqb, eqb-true, false≢true}
 use Rattle.std.proofs.lemmas.Bool.Decides.{nat_tests}
 use Rattle.trace_model.specs.declared.event.Event.{Event}
-use Rattle.trace_model.specs.Trace.{Trace, event, OfThread, EarlierInThread}
-use Rattle.trace_model.specs.Closure.{Places}
-use Rattle.trace_model.proofs.Least.{at_thread}
-use Rattle.trace_index.specs.Numbers.{count_below, of_thread, earlier_events}
-use Rattle.sp_closure.proofs.Counts.{count_le, count_lt}
+use Rattle.trace_model.specs.Trace.{Trace, event, OfThread}
+use Rattle.trace_index.specs.Numbers.{of_thread, earlier_events}
+use Rattle.sp_closure.proofs.Counts.{count_lt}
 
 pub of_thread_from : (s : Trace) (t p : ℕ) → OfThread s p t → of_thread s t p ≡ true
 of_thread_from s t p (o, h) = rw h (eq-eqb t t refl)

@@ -16,7 +16,7 @@ use Rattle.sp_closure.specs.declared.sheet.Sheet.{Sheet}
 use Rattle.sp_closure.specs.Sheets.{at}
 use Rattle.sp_closure.specs.Layers.{Changes, first_some}
 use Rattle.sp_closure.specs.Members.{Each, IsMember, IsAhead, AreMoved, IsSettled}
-use Rattle.sp_closure.specs.Work.{State, Raises, IsBound, AreAtFront, AreUpTo, AreSame, sum_to}
+use Rattle.sp_closure.specs.Work.{State, Raises, IsBound, AreAtFront, AreUpTo, sum_to}
 use Rattle.sp_closure.proofs.GrowingLemmas.{push_cases, push_kept, push_last}
 
 pub record IsLifted (front new : ℕ → ℕ) (a n : ℕ) : Type 0 where

@@ -1,8 +1,8 @@
 -- The places of a thread by their number.
-use Rattle.std.proofs.Common.{◌≡◌, ◌≢◌, ℕ, zero, suc, ◌-◌, ◌<◌, ◌≤◌, inl, inr, Bool, true, false, cond, ◌++◌, ◌∷◌, [], length, slice_get, Option, Some, None, MatchOption, sym, ap, ◌∙◌, arith}
+use Rattle.std.proofs.Common.{◌≡◌, ℕ, zero, suc, ◌-◌, ◌<◌, inl, inr, Bool, true, false, cond, ◌++◌, ◌∷◌, [], length, slice_get, Some, sym, ap, ◌∙◌, arith}
 use Rattle.std.proofs.lemmas.Bool.{cases_lt}
 use Rattle.std.proofs.lemmas.Option.{none-some, slice_get_within}
-use Rattle.trace_model.specs.Trace.{Trace, event, OfThread, EarlierInThread}
+use Rattle.trace_model.specs.Trace.{Trace, event, OfThread}
 use Rattle.trace_model.specs.Closure.{Places, ascending}
 use Rattle.trace_model.proofs.Lists.{get-push}
 use Rattle.trace_model.proofs.Ascending.{ascending_so}

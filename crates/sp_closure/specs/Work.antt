@@ -1,5 +1,5 @@
 -- A set of places on its way to being closed.
-use Rattle.std.specs.Prelude.{◌≡◌, ◌≢◌, ℕ, zero, suc, ◌+◌, ◌<◌, ◌≤◌, ◌⊎◌, List, [], length, slice_get, Option, Some, MatchOption}
+use Rattle.std.specs.Prelude.{◌≡◌, ◌≢◌, ℕ, zero, suc, ◌+◌, ◌<◌, ◌≤◌, ◌⊎◌, List, length, slice_get, Option, Some, MatchOption}
 use Rattle.std.specs.List.{Contains}
 use Rattle.trace_model.specs.Trace.{Trace}
 use Rattle.trace_model.specs.Closure.{Places}

@@ -1,6 +1,4 @@
-use Rattle.std.proofs.Common.{◌≡◌, ℕ, ◌+◌, ◌∙◌, Option, IfSome, arith}
-use Rattle.trace_model.specs.declared.instance.Instance.{Instance}
-use Rattle.sp_closure.specs.declared.fronts.Fronts.{Fronts}
+use Rattle.std.proofs.Common.{◌≡◌, ◌+◌, ◌∙◌, IfSome, arith}
 use Rattle.sp_closure.specs.State.{size_in}
 use Rattle.sp_closure.specs.Closers.{upper_total}
 use Rattle.sp_closure.proofs.BaseLemmas.{on_ok_map, if_some_map, counted_all}
