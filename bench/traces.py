@@ -6,6 +6,7 @@
   traces.py accounts SECTIONS      16 threads that take two of 64 locks each time, SECTIONS times in all
   traces.py nested SECTIONS        12 threads that hold one to five of 40 locks, SECTIONS times in all
   traces.py pairs LOCKS            four threads that take all pairs of LOCKS locks, in one order
+  traces.py orders LOCKS           four threads that take all pairs of LOCKS locks, in both orders
   traces.py small SEED EVENTS      a random lawful trace of few threads and locks
 """
 import random
@@ -72,6 +73,16 @@ def pairs(locks):
     return words
 
 
+def orders(locks):
+    words = forks(4)
+    for thread in range(1, 5):
+        for first in range(locks):
+            for second in range(locks):
+                if first != second:
+                    words += section(thread, [first, second])
+    return words
+
+
 def small(seed, events):
     """Lawful words of up to four threads, four locks and two variables; thread 3 may be joined."""
     chooser = random.Random(seed)
@@ -104,7 +115,15 @@ def small(seed, events):
     return words
 
 
-KINDS = {"opposite": opposite, "rows": rows, "accounts": accounts, "nested": nested, "pairs": pairs, "small": small}
+KINDS = {
+    "opposite": opposite,
+    "rows": rows,
+    "accounts": accounts,
+    "nested": nested,
+    "pairs": pairs,
+    "orders": orders,
+    "small": small,
+}
 
 
 def main(arguments):
