@@ -39,13 +39,6 @@ def rows(locks):
     return words
 
 
-def serial(sections):
-    words = []
-    for thread, locks in sections:
-        words += section(thread, locks)
-    return words
-
-
 def accounts(count, seed=1):
     chooser = random.Random(seed)
     words = forks(16)
@@ -53,14 +46,20 @@ def accounts(count, seed=1):
         thread = chooser.randint(1, 16)
         words += section(thread, chooser.sample(range(64), 2))
         if turn % 4 == 0:
-            words.append(f"{thread}{chooser.choice('dw')}{chooser.randint(0, 63)}")
+            words.append(f"{thread}{chooser.choice('dw')}{chooser.randint(0, 1)}")
     return words
 
 
 def nested(count, seed=1):
+    """One section in 50 takes its locks in any order, the others take the least first."""
     chooser = random.Random(seed)
-    sections = [(chooser.randint(1, 12), chooser.sample(range(40), chooser.randint(1, 5))) for _ in range(count)]
-    return forks(12) + serial(sections)
+    words = forks(12)
+    for _ in range(count):
+        locks = sorted(chooser.sample(range(40), chooser.randint(1, 5)))
+        if chooser.random() < 0.02:
+            chooser.shuffle(locks)
+        words += section(chooser.randint(1, 12), locks)
+    return words
 
 
 def pairs(locks):

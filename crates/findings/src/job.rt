@@ -42,12 +42,7 @@ impl Model for Job {
 impl Job {
     /// The job of a question with this bound about the snapshot's events. The question's number is kept as it is
     /// given. It takes no memory.
-    pub fn new(
-        alloc: Global,
-        snapshot: Arc<Snapshot, Global>,
-        question: u32,
-        bound: Bound,
-    ) -> Job
+    pub fn new(alloc: Global, snapshot: Arc<Snapshot, Global>, question: u32, bound: Bound) -> Job
         ensures { result ≡ record { question = question; bound = bound; events = arc_value snapshot } }
     {
         Job {
