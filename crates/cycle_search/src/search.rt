@@ -167,7 +167,8 @@ fn same_rank(ranks: &Ranks, path: &Path, next: u32) -> bool
 fn ends_open(table: &DepTable, limits: Limits, path: &Path, next: u32) -> bool
     requires path { IsPath (known table.now) path.now.items }
     requires next { next < length (known table.now) }
-    ensures { IsTrue result → (limits.members ≤ length path.now.items + 1) × (Closes (known table.now) (path.now.items ++ next ∷ []) → ⊥) }
+    ensures last { IsTrue result → limits.members ≤ length path.now.items + 1 }
+    ensures is_open { IsTrue result → ¬ Closes (known table.now) (path.now.items ++ next ∷ []) }
 {
     if path.len() + 1 < limits.members {
         return false;

@@ -64,11 +64,12 @@ visit-returns-then-not-compatible-clause-all t c = (
 
 pub visit-returns-then-ends_open-clause-all : goal.visit-returns-then-ends_open-clause-all
 visit-returns-then-ends_open-clause-all t c =
-    let ends = c.ends_open.ensures c.if-ends_open.true in (
+    let ends = c.ends_open.ensures in
+    let test = c.if-ends_open.true in (
       [],
       sym (append-nil c.args.found.now.items),
-      full (known c.args.table.now) c.args.limits.members c.args.path.now.items c.args.next ends.1
-          (omega (arith, ends.0, length-push c.args.path.now.items c.args.next)),
+      full (known c.args.table.now) c.args.limits.members c.args.path.now.items c.args.next (ends.is_open test)
+          (omega (arith, ends.last test, length-push c.args.path.now.items c.args.next)),
     )
 
 pub visit-returns-then-not-same_rank-clause-all : goal.visit-returns-then-not-same_rank-clause-all
