@@ -11,7 +11,7 @@ use Rattle.commands.specs.Script.{refusal_words}
 use Rattle.commands.specs.Admission.{refused_at_line}
 use Rattle.event_files.specs.EventFile.{AreEventsOf}
 use Rattle.commands.specs.declared.outcome.Status.{Status}
-use Rattle.commands.specs.declared.outcome.Status.TheVariants.{Done, Failed, NotUnderstood}
+use Rattle.commands.specs.declared.outcome.Status.TheVariants.{Done, Refused, Failed, NotUnderstood}
 
 abbrev pub refusal_line : Refusal → List ℕ
 refusal_line refusal = refusal_words refusal ++ codes "\n"
@@ -27,6 +27,7 @@ refused_line NoMemory = []
 abbrev pub OfflineTells : List ℕ → ℕ → Status → Option (List ℕ) → Option (List ℕ) → Type 0
 OfflineTells file bound Done before after =
     (events : Trace) × (text : List ℕ) × AreEventsOf events file × IsReport events bound text × Appends before after text
-OfflineTells file bound Failed before after =
+OfflineTells file bound Refused before after =
     (events : Trace) × (refused : OfflineRefused) × AreEventsOf events file × IsRefused events bound refused × Appends before after (refused_line refused)
+OfflineTells file bound Failed before after = ⊥
 OfflineTells file bound NotUnderstood before after = ⊥

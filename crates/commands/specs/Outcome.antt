@@ -3,13 +3,14 @@ use Rattle.std.specs.Prelude.{ℕ}
 use Rattle.event_files.specs.declared.refused.FileRefused.{FileRefused}
 use Rattle.event_files.specs.declared.refused.FileRefused.TheVariants as files
 use Rattle.commands.specs.declared.outcome.Status.{Status}
-use Rattle.commands.specs.declared.outcome.Status.TheVariants.{Done, Failed, NotUnderstood}
+use Rattle.commands.specs.declared.outcome.Status.TheVariants.{Done, Refused, Failed, NotUnderstood}
 use Rattle.commands.specs.declared.outcome.Stopped.{Stopped}
 use Rattle.commands.specs.declared.outcome.Stopped.TheVariants.{Line, Memory, Output}
 
 -- the number of an exit status
 abbrev pub code_of : Status → ℕ
 code_of Done = 0
+code_of Refused = 1
 code_of Failed = 1
 code_of NotUnderstood = 2
 

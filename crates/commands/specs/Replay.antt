@@ -4,7 +4,7 @@ use Rattle.replay.specs.declared.verdict.Verdict.{Verdict}
 use Rattle.replay.specs.declared.verdict.Verdict.TheVariants.{Reaches, Fails}
 use Rattle.replay.specs.Tests.{name_of}
 use Rattle.commands.specs.declared.outcome.Status.{Status}
-use Rattle.commands.specs.declared.outcome.Status.TheVariants.{Done, Failed}
+use Rattle.commands.specs.declared.outcome.Status.TheVariants.{Done, Refused}
 
 -- the line of a verdict
 abbrev pub verdict_line : Verdict → List ℕ
@@ -14,4 +14,4 @@ verdict_line (Fails fault place) = codes "fault " ++ name_of fault ++ codes " " 
 -- the exit status that it gives
 abbrev pub verdict_status : Verdict → Status
 verdict_status Reaches = Done
-verdict_status (Fails fault place) = Failed
+verdict_status (Fails fault place) = Refused

@@ -1,6 +1,6 @@
 //! The command that reports on a file of events.
 ghost use Rattle.std.specs.Prelude.{◌≡◌, ◌++◌, IfOk, OnOk};
-ghost use Rattle.commands.specs.declared.outcome.Status.TheVariants.{Done};
+ghost use Rattle.commands.specs.declared.outcome.Status.TheVariants.{Done, Refused};
 ghost use Rattle.commands.specs.Offline.{OfflineTells, refusal_line, refused_line};
 
 use crate::admission::push_refused_at;
@@ -42,7 +42,8 @@ fn report<O: Write>(
     bound: Bound,
     out: &mut O,
 ) -> Result<Status, Stopped>
-    ensures { IfOk result (λ status. OfflineTells file.now bound status (O.contents out.old) (O.contents out.new)) }
+    ensures { IfOk result (λ status.
+        OfflineTells file.now bound status (O.contents out.old) (O.contents out.new)) }
 {
     let events = read_events(alloc, file)?;
     match offline(alloc, state, events, bound) {
@@ -55,7 +56,7 @@ fn report<O: Write>(
             let mut text = Vec::new(alloc);
             push_refused(&mut text, refused)?;
             write_text(out, &text)?;
-            Ok(Status::Failed)
+            Ok(Status::Refused)
         }
     }
 }
@@ -72,7 +73,10 @@ pub fn run_offline<O: Write, E: Write>(
     out: &mut O,
     err: &mut E,
 ) -> Status
-    ensures { result ≡ Done → OfflineTells file.now bound Done (O.contents out.old) (O.contents out.new) }
+    ensures done { result ≡ Done →
+        OfflineTells file.now bound Done (O.contents out.old) (O.contents out.new) }
+    ensures refused { result ≡ Refused →
+        OfflineTells file.now bound Refused (O.contents out.old) (O.contents out.new) }
 {
     match report(alloc, state, file, bound, out) {
         Ok(status) => status,

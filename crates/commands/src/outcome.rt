@@ -11,7 +11,9 @@ use trace_model::NoMemory;
 pub enum Status {
     /// The command ran to its end.
     Done,
-    /// Input, output or memory failed, or what was checked is not right.
+    /// What was checked is not right, or there is no report: standard output has been told why.
+    Refused,
+    /// Input, output or memory failed.
     Failed,
     /// The command line or a line of a file is not understood.
     NotUnderstood,
@@ -27,6 +29,7 @@ impl Status {
     {
         match self {
             Status::Done => 0,
+            Status::Refused => 1,
             Status::Failed => 1,
             Status::NotUnderstood => 2,
         }

@@ -53,7 +53,7 @@ fn status_of(verdict: &Verdict) -> Status
 {
     match verdict {
         Verdict::Reaches => Status::Done,
-        Verdict::Fails(_, _) => Status::Failed,
+        Verdict::Fails(_, _) => Status::Refused,
     }
 }
 
@@ -84,7 +84,7 @@ fn checked<O: Write>(
                 return Err((Part::Trace, Stopped::Memory));
             }
             match write_text(out, &text) {
-                Ok(()) => Ok(Status::Failed),
+                Ok(()) => Ok(Status::Refused),
                 Err(stopped) => Err((Part::Trace, stopped)),
             }
         }

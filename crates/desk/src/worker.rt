@@ -156,10 +156,13 @@ impl<N: Naming, R: Wait + Copy, T: Follows<N>> Worker<N, R, T> {
     {
         match self.job.take() {
             Some(job) if job.question() == question => Ok(job),
-            _ => match self.desk.snapshot(question).0 {
-                Ok(shared) => Ok(Job::new(self.desk.alloc, shared, question, bound)),
-                Err(refusal) => Err(refused(refusal)),
-            },
+            _ => {
+                let (shared, _) = self.desk.snapshot(question);
+                match shared {
+                    Ok(shared) => Ok(Job::new(self.desk.alloc, shared, question, bound)),
+                    Err(refusal) => Err(refused(refusal)),
+                }
+            }
         }
     }
 
