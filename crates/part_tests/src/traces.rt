@@ -11,6 +11,7 @@ ghost use Rattle.dependencies.specs.Tables.{known, FollowsTrace};
 
 use cycle_search::Cycle;
 use dependencies::{DepTable, next_dependency};
+use event_files::read_events;
 use held_sets::HeldTable;
 use sp_closure::{Steps, close, least_instance};
 use std::alloc::Global;
@@ -28,47 +29,6 @@ use witness::{Found, write_witness};
 pub(crate) struct Case {
     pub(crate) index: TraceIndex,
     pub(crate) table: DepTable,
-}
-
-fn op_of(letter: u8, object: u32) -> Op {
-    match letter {
-        b'f' => Op::Fork(object),
-        b'j' => Op::Join(object),
-        b'a' => Op::Acquire(object),
-        b'r' => Op::Release(object),
-        b'd' => Op::Read(object),
-        _ => Op::Write(object),
-    }
-}
-
-/// The events of words as `1a10`, thread 1 acquires lock 10, each followed by one space.
-pub(crate) fn events_of(alloc: Global, words: &str) -> Result<Vec<Event>, NoMemory> {
-    let mut events = Vec::new(alloc);
-    let mut thread = 0u32;
-    let mut letter = 0;
-    let mut number = 0u32;
-    for byte in words.bytes() {
-        match byte {
-            b' ' => {
-                events.push(Event {
-                    thread,
-                    op: op_of(letter, number),
-                })?;
-                number = 0;
-            }
-            b'0'..=b'9' => {
-                number = number
-                    .wrapping_mul(10)
-                    .wrapping_add(u32::from(byte.wrapping_sub(b'0')));
-            }
-            _ => {
-                thread = number;
-                letter = byte;
-                number = 0;
-            }
-        }
-    }
-    Ok(events)
 }
 
 /// Passes the event through the gate, if it is lawful.
@@ -151,7 +111,7 @@ pub(crate) fn offer_words(
     words: &str,
     times: u32,
 ) -> Result<(), Fail> {
-    let events = events_of(alloc, words)?;
+    let events = read_events(alloc, words.as_bytes())?;
     for _ in 0..times {
         for event in &events {
             if !offer(gate, event)? {
