@@ -1,9 +1,9 @@
 -- Layers over one another, and how many places are in.
-use Rattle.std.proofs.Common.{◌≡◌, ℕ, zero, suc, ◌+◌, ◌<◌, ◌≤◌, Bool, true, false, cond, ◌==◌, ◌&&◌, nat_lt, nat_le, length, Option, Some, None, Result, Ok, Err, OnOk, IfOk, IfSome, List, refl, sym, ap, subst, ◌∙◌, arith}
+use Rattle.std.proofs.Common.{◌≡◌, ℕ, zero, suc, ◌+◌, ◌<◌, ◌≤◌, Bool, true, false, cond, ◌==◌, ◌&&◌, nat_lt, nat_le, length, Option, Some, None, Result, Ok, Err, OnOk, IfOk, IfSome, List, refl, sym, ap, subst, inl, inr, ◌⊎◌, slice_get, ◌∙◌, arith}
 use Rattle.std.specs.Option.{option_map_or}
 use Rattle.std.proofs.lemmas.Bool.{eq-eqb, eqb-true, false≢true, and_parts}
 use Rattle.std.proofs.lemmas.Bool.Decides.{nat_tests}
-use Rattle.std.proofs.lemmas.Option.{same_Some}
+use Rattle.std.proofs.lemmas.Option.{same_Some, none-some}
 use Rattle.trace_model.specs.Trace.{Trace, OfThread}
 use Rattle.std.specs.Arc.{arc_value}
 use Rattle.std.specs.List.{Contains}
@@ -22,7 +22,7 @@ use Rattle.sp_closure.specs.Slots.{class_of, AreSlots, HasFirst, in_front}
 use Rattle.sp_closure.specs.Layers.{front_of, done_of, last_of, first_some, IsEmpty}
 use Rattle.sp_closure.specs.Work.{State, IsOnWay, sum_to}
 use Rattle.sp_closure.specs.declared.closer.Closer.{Closer}
-use Rattle.sp_closure.specs.Closers.{leads_to, KeepsFor, KeepsNothing, kept, goal_at, base_total}
+use Rattle.sp_closure.specs.Closers.{leads_to, HasBase, Keeps, KeepsFor, KeepsNothing, kept, goal_at, base_total}
 use Rattle.sp_closure.proofs.Counts.{count_le, count_same}
 use Rattle.sp_closure.proofs.FrontLemmas.{of_thread_from, of_thread_so, lt_true}
 use Rattle.sp_closure.proofs.ThreadLemmas.{place_below}
@@ -199,12 +199,23 @@ pub on_ok_map : {X E A : Type 0} (r : Result X E) (P Q : X → Type 0) → ((x :
 on_ok_map (Ok x) P Q f a p = f x a p
 on_ok_map (Err e) P Q f a p = tt
 
+-- a closer without a base keeps nothing
+no_base : (s : Trace) (c : Closer) (m k : ℕ) → KeepsNothing c → Keeps s c m k → k ≡ 0
+no_base s c m k none keeps = go keeps.has
+  where
+    nothing : keeps.of ≡ None → k ≡ 0
+    nothing e = keeps.count ∙ ap (λ b. kept b (goal_at s c keeps.p) keeps.places) e
+
+    go : HasBase c keeps.of keeps.places → k ≡ 0
+    go (inl e) = nothing e
+    go (inr (inl e)) = nothing (e.0 ∙ none.0)
+    go (inr (inr o)) = absurd (none-some o.other (ap (λ xs. slice_get xs o.index) (sym none.1) ∙ o.at))
+
 -- a closer that keeps nothing counts all that is in
 pub counted_all : (s : Trace) (c : Closer) (numbers : List ℕ) (before after all : ℕ) → KeepsNothing c →
     (k : ℕ) × KeepsFor s c numbers k × (after + k ≡ before + all) → after ≡ before + all
 counted_all s c numbers before after all none (k, (m, first, keeps), e) =
-    let nothing : k ≡ 0 = keeps.count ∙ ap (λ b. kept b (goal_at s c keeps.p) (base_total c)) none in
-    omega (arith, e, nothing)
+    omega (arith, e, no_base s c m k none keeps)
 
 and_off : (b : Bool) → false ≡ (b && false)
 and_off true = refl
