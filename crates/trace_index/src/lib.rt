@@ -1,9 +1,16 @@
 //! Look-ups in a trace: writers, releases, forks, and the places of a thread or of a lock.
 #![tactic(auto)]
 
-mod tables;
+mod chain;
+mod copies;
+mod growing;
+mod list;
+mod marks;
+mod places;
+mod row;
+mod share;
 
-ghost use Rattle.std.specs.Prelude.{◌≡◌, ℕ, ◌≤◌, ◌↔◌, length, slice_get, Some, IfOk};
+ghost use Rattle.std.specs.Prelude.{◌≡◌, ℕ, ◌<◌, ◌≤◌, ◌↔◌, ◌++◌, ◌∷◌, [], length, take, slice_get, Some, IfOk};
 ghost use Rattle.trace_model.specs.declared.limits.TheConstants.{MAX_EVENTS};
 ghost use Rattle.trace_model.specs.declared.event.Op.TheVariants.{Fork, Acquire};
 ghost use Rattle.trace_model.specs.Trace.{Does, does};
@@ -11,30 +18,71 @@ ghost use Rattle.trace_model.specs.Closure.{ascending};
 ghost use Rattle.trace_model.specs.Lawful.{IsWellFormed};
 ghost use Rattle.trace_model.specs.Lookups.{writer, release};
 ghost use Rattle.trace_index.specs.Numbers.{of_thread, number_at};
+ghost use Rattle.trace_index.specs.Links.{written_by};
 
+pub use copies::Copies;
+pub use growing::GrowingIndex;
+pub use list::PlacesOf;
+use marks::{Marks, ended_in, last_marked};
+use row::{Key, Row};
+use segments::Segments;
 use std::alloc::Global;
 use std::collections::hash_map::RandomState;
-use std::marker::Model;
-use tables::Tables;
-use trace_model::{Event, NoMemory, Place, PlaceList};
+use std::marker::{Brand, Model};
+use std::sync::ledger::{Blank, Ledger};
+use trace_model::{Event, NoMemory, Op, Place};
 
-/// A well-formed trace with tables over it. Each look-up costs a constant time or one hashed look-up, takes
-/// no memory, and answers none or an empty view for what is not in the trace.
+/// The writer that a row has: that of a read.
+fn writer_in(row: &Row) -> Option<Place>
+    ensures { result ≡ written_by row.now.event.op row.now.topic.earlier }
+{
+    if let Op::Read(_) = row.event.op {
+        row.topic.earlier
+    } else {
+        None
+    }
+}
+
+/// The index of a trace, with a count of its events.
+fn build_counted<L: Ledger>(
+    alloc: Global,
+    state: RandomState,
+    events: &[Event],
+    blank: Blank,
+) -> Result<TraceIndex, NoMemory>
+    requires trace { IsWellFormed events.now }
+    requires name { blank.name ≡ L.name }
+    requires parts { blank.parts ≡ L.parts }
+    requires some { 0 < L.parts }
+    ensures { IfOk result (λ index. index ≡ events.now) }
+{
+    let mut copies = Copies::<L>::new(blank);
+    let mut index = GrowingIndex::new(alloc, state);
+    for event in events {
+        index.reserve(event)?;
+        index.record(event, &mut copies);
+    }
+    Ok(index.into_index())
+}
+
+/// A well-formed trace with links between its places. Look-ups take no memory, and answer none or an empty
+/// view for what is not in the trace. Full segments may be shared with other indices.
 #[derive(Drop)]
 pub struct TraceIndex {
-    events: Vec<Event>,
-    tables: Tables,
+    pub(crate) rows: Segments<Row>,
+    pub(crate) marks: Marks,
 }
 
 impl Model for TraceIndex {
     ghost use Rattle.trace_model.specs.Trace.{Trace};
-    ghost use Rattle.trace_index.specs.Exact.{IsIndex};
+    ghost use Rattle.trace_index.specs.Links.{trace_of};
+    ghost use Rattle.trace_index.specs.Room.{AreShown};
 
     ghost Value = { Trace };
 
-    ghost view = { λ i. i.events.items };
+    ghost view = { λ i. trace_of i.rows.0 };
 
-    ghost invariant = { λ i. IsIndex i.events.items i.tables };
+    ghost invariant = { λ i. AreShown i.rows.0 i.marks.sealed.items i.marks.tail };
 }
 
 impl TraceIndex {
@@ -50,12 +98,7 @@ impl TraceIndex {
         requires { IsWellFormed events.now }
         ensures { IfOk result (λ index. index ≡ events.now) }
     {
-        let mut tables = Tables::new(alloc, state);
-        for index in 0..events.len() {
-            tables.note_at(alloc, events, index)?;
-        }
-        let events = events.to_vec(alloc)?;
-        Ok(TraceIndex { events, tables })
+        build_counted::<Brand>(alloc, state, events, Blank::new(1))
     }
 
     /// How many events the trace has: at most `MAX_EVENTS`, since it is well formed.
@@ -64,22 +107,25 @@ impl TraceIndex {
         ensures well_formed { IsWellFormed self.now }
         ensures short { length self.now ≤ MAX_EVENTS }
     {
-        self.events.len()
+        self.rows.len()
     }
 
     /// The event at a place.
     pub fn event(&self, place: Place) -> Option<Event>
         ensures { result ≡ slice_get self.now place }
     {
-        self.events.get(place.get() as usize).copied()
+        match self.rows.get(place.get() as usize) {
+            Some(row) => Some(row.event),
+            None => None,
+        }
     }
 
     /// The writer of a read: the last write to its variable before it, or none. None for any other event.
     pub fn writer(&self, place: Place) -> Option<Place>
         ensures { result ≡ writer self.now place }
     {
-        match self.tables.writers.get(place.get() as usize) {
-            Some(writer) => *writer,
+        match self.rows.get(place.get() as usize) {
+            Some(row) => writer_in(&row),
             None => None,
         }
     }
@@ -88,16 +134,23 @@ impl TraceIndex {
     pub fn number(&self, place: Place) -> Option<u32>
         ensures { result ≡ number_at self.now place }
     {
-        self.tables.numbers.get(place.get() as usize).copied()
+        match self.rows.get(place.get() as usize) {
+            Some(row) => Some(row.thread.number),
+            None => None,
+        }
     }
 
     /// The release of an acquire: the first release of its lock after it, or none. None for any other event.
     pub fn release_of(&self, place: Place) -> Option<Place>
         ensures { result ≡ release self.now place }
     {
-        match self.tables.releases.get(place.get() as usize) {
-            Some(release) => *release,
-            None => None,
+        let Some(row) = self.rows.get(place.get() as usize) else {
+            return None;
+        };
+        if let Op::Acquire(_) = row.event.op {
+            ended_in(&self.marks.sealed, &self.marks.tail, place)
+        } else {
+            None
         }
     }
 
@@ -105,26 +158,30 @@ impl TraceIndex {
     pub fn fork_of(&self, thread: u32) -> Option<Place>
         ensures { (p : ℕ) → (result ≡ Some p) ↔ Does self.now p (Fork thread) }
     {
-        self.tables.forks.get(&thread).copied()
+        last_marked(&self.marks.sealed, &self.marks.tail, Key::ForkOf(thread))
     }
 
     /// The places of a thread, ascending.
-    pub fn thread_places(&self, thread: u32) -> PlaceList<'_>
+    pub fn thread_places(&self, thread: u32) -> PlacesOf<'_>
         ensures { result ≡ ascending (of_thread self.now thread) (length self.now) }
     {
-        match self.tables.threads.get(&thread) {
-            Some(places) => PlaceList::new(places.as_slice()),
-            None => PlaceList::none(),
+        let key = Key::OfThread(thread);
+        PlacesOf {
+            rows: &self.rows,
+            key,
+            last: last_marked(&self.marks.sealed, &self.marks.tail, key),
         }
     }
 
     /// The places at which a lock is acquired, by whichever thread, ascending.
-    pub fn acquires(&self, lock: u32) -> PlaceList<'_>
+    pub fn acquires(&self, lock: u32) -> PlacesOf<'_>
         ensures { result ≡ ascending (does self.now (Acquire lock)) (length self.now) }
     {
-        match self.tables.acquires.get(&lock) {
-            Some(places) => PlaceList::new(places.as_slice()),
-            None => PlaceList::none(),
+        let key = Key::Taking(lock);
+        PlacesOf {
+            rows: &self.rows,
+            key,
+            last: last_marked(&self.marks.sealed, &self.marks.tail, key),
         }
     }
 }
