@@ -137,7 +137,7 @@ fn some_gate(rt: &HostRuntime, seed: u32) -> Result<Gate, Fail> {
 
 /// Whether the two programs agree on the least reached instance of the two dependencies and its witness.
 fn agrees(alloc: Global, case: &Case, events: &[Event], numbers: [u32; 2]) -> Result<bool, Fail>
-    requires { FollowsTrace case.now.table case.now.index (length case.now.index) }
+    requires { FollowsTrace case.now.table case.now.index.events (length case.now.index.events) }
 {
     let cycle = Cycle::new(numbers.as_slice()).ok_or("no cycle")?;
     let first = places_of(alloc, case, numbers[0])?;

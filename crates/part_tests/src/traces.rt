@@ -60,10 +60,10 @@ fn note_place(
     place: Place,
     event: Event,
 ) -> Result<(), NoMemory>
-    requires at { At index.now place event }
-    requires held { Held.FollowsTrace held.now index.now place }
-    requires table { FollowsTrace table.old index.now place }
-    ensures { OnOk result (FollowsTrace table.new index.now (suc place)) }
+    requires at { At index.now.events place event }
+    requires held { Held.FollowsTrace held.now index.now.events place }
+    requires table { FollowsTrace table.old index.now.events place }
+    ensures { OnOk result (FollowsTrace table.new index.now.events (suc place)) }
 {
     dependencies::laws::tables_follow();
     match next_dependency(held, event) {
@@ -77,7 +77,7 @@ fn note_place(
 
 /// The dependencies of a trace.
 fn table_of(alloc: Global, state: RandomState, index: &TraceIndex) -> Result<DepTable, NoMemory>
-    ensures { IfOk result (λ table. FollowsTrace table index.now (length index.now)) }
+    ensures { IfOk result (λ table. FollowsTrace table index.now.events (length index.now.events)) }
 {
     dependencies::laws::tables_follow();
     held_sets::laws::held_follows();
@@ -95,7 +95,7 @@ fn table_of(alloc: Global, state: RandomState, index: &TraceIndex) -> Result<Dep
 
 /// What is known of the events that passed the gate.
 pub(crate) fn case_of(rt: &HostRuntime, gate: &Gate) -> Result<Case, Fail>
-    ensures { IfOk result (λ case. FollowsTrace case.table case.index (length case.index)) }
+    ensures { IfOk result (λ case. FollowsTrace case.table case.index.events (length case.index.events)) }
 {
     let alloc = rt.alloc();
     let state = RandomState::new(rt)?;
@@ -143,8 +143,8 @@ fn found_from<L: Ledger>(
     requires name { blank.name ≡ L.name }
     requires parts { blank.parts ≡ L.parts }
     requires some { 0 < L.parts }
-    requires one_trace { FollowsTrace case.now.table case.now.index (length case.now.index) }
-    requires known { (m : ℕ) → Contains cycle.now m → m < length (dependencies case.now.index) }
+    requires one_trace { FollowsTrace case.now.table case.now.index.events (length case.now.index.events) }
+    requires known { (m : ℕ) → Contains cycle.now m → m < length (dependencies case.now.index.events) }
 {
     let mut steps = Steps::<L>::new(blank);
     match least_instance(alloc, &case.index, &case.table, cycle, &mut steps)? {
@@ -158,7 +158,7 @@ fn found_from<L: Ledger>(
 
 /// The same, where each number is that of a dependency.
 pub(crate) fn found_of(alloc: Global, case: &Case, cycle: &Cycle) -> Result<Option<Found>, Fail>
-    requires { FollowsTrace case.now.table case.now.index (length case.now.index) }
+    requires { FollowsTrace case.now.table case.now.index.events (length case.now.index.events) }
 {
     if are_known(&case.table, cycle.numbers()) {
         Ok(found_from::<Brand>(alloc, case, cycle, Blank::new(1))?)
@@ -188,7 +188,7 @@ fn closure_from<L: Ledger>(
     requires name { blank.name ≡ L.name }
     requires parts { blank.parts ≡ L.parts }
     requires some { 0 < L.parts }
-    requires in_trace { (p : ℕ) → Contains places.now p → p < length index.now }
+    requires in_trace { (p : ℕ) → Contains places.now p → p < length index.now.events }
 {
     let mut steps = Steps::<L>::new(blank);
     let fronts = close(alloc, index, places, &mut steps)?;
@@ -209,7 +209,7 @@ pub(crate) fn closure_of(
 }
 
 fn are_in_trace(index: &TraceIndex, places: &[Place]) -> bool
-    ensures { IsTrue result → (p : ℕ) → Contains places.now p → p < length index.now }
+    ensures { IsTrue result → (p : ℕ) → Contains places.now p → p < length index.now.events }
 {
     for place in places {
         if place.get() as usize >= index.len() {

@@ -4,6 +4,7 @@
 mod chain;
 mod copies;
 mod growing;
+mod latest;
 mod list;
 mod marks;
 mod places;
@@ -21,7 +22,7 @@ ghost use Rattle.trace_index.specs.Numbers.{of_thread, number_at};
 ghost use Rattle.trace_index.specs.Links.{written_by};
 
 pub use copies::Copies;
-pub use growing::GrowingIndex;
+use latest::Latest;
 pub use list::PlacesOf;
 use marks::{Marks, ended_in, last_marked};
 use row::{Key, Row};
@@ -54,35 +55,39 @@ fn build_counted<L: Ledger>(
     requires name { blank.name ≡ L.name }
     requires parts { blank.parts ≡ L.parts }
     requires some { 0 < L.parts }
-    ensures { IfOk result (λ index. index ≡ events.now) }
+    ensures { IfOk result (λ index. index.events ≡ events.now) }
 {
     let mut copies = Copies::<L>::new(blank);
-    let mut index = GrowingIndex::new(alloc, state);
+    let mut index = TraceIndex::new(alloc, state);
     for event in events {
         index.reserve(event)?;
         index.record(event, &mut copies);
     }
-    Ok(index.into_index())
+    Ok(index)
 }
 
 /// A well-formed trace with links between its places. Look-ups take no memory, and answer none or an empty
 /// view for what is not in the trace. Full segments may be shared with other indices.
 #[derive(Drop)]
 pub struct TraceIndex {
-    pub(crate) rows: Segments<Row>,
-    pub(crate) marks: Marks,
+    alloc: Global,
+    state: RandomState,
+    rows: Segments<Row>,
+    marks: Marks,
+    latest: Latest,
+    next: Option<Row>,
 }
 
 impl Model for TraceIndex {
-    ghost use Rattle.trace_model.specs.Trace.{Trace};
+    ghost use Rattle.std.specs.Option.{option_map};
     ghost use Rattle.trace_index.specs.Links.{trace_of};
-    ghost use Rattle.trace_index.specs.Room.{AreShown};
+    ghost use Rattle.trace_index.specs.Room.{Indexed, IsIndex};
 
-    ghost Value = { Trace };
+    ghost Value = { Indexed };
 
-    ghost view = { λ i. trace_of i.rows.0 };
+    ghost view = { λ i. record { events = trace_of i.rows.0; reserved = option_map (λ row. row.event) i.next } };
 
-    ghost invariant = { λ i. AreShown i.rows.0 i.marks.sealed.items i.marks.tail };
+    ghost invariant = { λ i. IsIndex i.rows i.marks.sealed.items i.marks.tail i.latest.places i.latest.noted i.next };
 }
 
 impl TraceIndex {
@@ -96,23 +101,23 @@ impl TraceIndex {
         events: &[Event],
     ) -> Result<TraceIndex, NoMemory>
         requires { IsWellFormed events.now }
-        ensures { IfOk result (λ index. index ≡ events.now) }
+        ensures { IfOk result (λ index. index.events ≡ events.now) }
     {
         build_counted::<Brand>(alloc, state, events, Blank::new(1))
     }
 
     /// How many events the trace has: at most `MAX_EVENTS`, since it is well formed.
     pub fn len(&self) -> usize
-        ensures length { result ≡ length self.now }
-        ensures well_formed { IsWellFormed self.now }
-        ensures short { length self.now ≤ MAX_EVENTS }
+        ensures length { result ≡ length self.now.events }
+        ensures well_formed { IsWellFormed self.now.events }
+        ensures short { length self.now.events ≤ MAX_EVENTS }
     {
         self.rows.len()
     }
 
     /// The event at a place.
     pub fn event(&self, place: Place) -> Option<Event>
-        ensures { result ≡ slice_get self.now place }
+        ensures { result ≡ slice_get self.now.events place }
     {
         match self.rows.get(place.get() as usize) {
             Some(row) => Some(row.event),
@@ -122,7 +127,7 @@ impl TraceIndex {
 
     /// The writer of a read: the last write to its variable before it, or none. None for any other event.
     pub fn writer(&self, place: Place) -> Option<Place>
-        ensures { result ≡ writer self.now place }
+        ensures { result ≡ writer self.now.events place }
     {
         match self.rows.get(place.get() as usize) {
             Some(row) => writer_in(&row),
@@ -132,7 +137,7 @@ impl TraceIndex {
 
     /// How many places of its thread stand before a place: its index in `thread_places`.
     pub fn number(&self, place: Place) -> Option<u32>
-        ensures { result ≡ number_at self.now place }
+        ensures { result ≡ number_at self.now.events place }
     {
         match self.rows.get(place.get() as usize) {
             Some(row) => Some(row.thread.number),
@@ -142,7 +147,7 @@ impl TraceIndex {
 
     /// The release of an acquire: the first release of its lock after it, or none. None for any other event.
     pub fn release_of(&self, place: Place) -> Option<Place>
-        ensures { result ≡ release self.now place }
+        ensures { result ≡ release self.now.events place }
     {
         let Some(row) = self.rows.get(place.get() as usize) else {
             return None;
@@ -156,14 +161,14 @@ impl TraceIndex {
 
     /// The one fork of a thread; thread 0 has none.
     pub fn fork_of(&self, thread: u32) -> Option<Place>
-        ensures { (p : ℕ) → (result ≡ Some p) ↔ Does self.now p (Fork thread) }
+        ensures { (p : ℕ) → (result ≡ Some p) ↔ Does self.now.events p (Fork thread) }
     {
         last_marked(&self.marks.sealed, &self.marks.tail, Key::ForkOf(thread))
     }
 
     /// The places of a thread, ascending.
     pub fn thread_places(&self, thread: u32) -> PlacesOf<'_>
-        ensures { result ≡ ascending (of_thread self.now thread) (length self.now) }
+        ensures { result ≡ ascending (of_thread self.now.events thread) (length self.now.events) }
     {
         let key = Key::OfThread(thread);
         PlacesOf {
@@ -175,7 +180,7 @@ impl TraceIndex {
 
     /// The places at which a lock is acquired, by whichever thread, ascending.
     pub fn acquires(&self, lock: u32) -> PlacesOf<'_>
-        ensures { result ≡ ascending (does self.now (Acquire lock)) (length self.now) }
+        ensures { result ≡ ascending (does self.now.events (Acquire lock)) (length self.now.events) }
     {
         let key = Key::Taking(lock);
         PlacesOf {

@@ -22,9 +22,9 @@ pub fn write_witness(
     index: &TraceIndex,
     fronts: &Fronts,
 ) -> Result<Vec<Place>, NoMemory>
-    ensures ascends { IfOk result (λ order. order.items ≡ ascending (places_in index.now fronts.now) (length index.now)) }
-    ensures smallest { IfOk result (λ order. (places : List ℕ) → IsClosure index.now places (places_in index.now fronts.now) → Reached index.now places →
-        IsWitness index.now places order.items) }
+    ensures ascends { IfOk result (λ order. order.items ≡ ascending (places_in index.now.events fronts.now) (length index.now.events)) }
+    ensures smallest { IfOk result (λ order. (places : List ℕ) → IsClosure index.now.events places (places_in index.now.events fronts.now) → Reached index.now.events places →
+        IsWitness index.now.events places order.items) }
 {
     let mut places = Vec::new(alloc);
     let len = index.len();

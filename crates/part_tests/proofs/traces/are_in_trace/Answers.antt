@@ -9,10 +9,10 @@ loop-place-preserved c = λ p h.
     let xs = c.args.places.now in
     let i = c.loop-place.place-index in
     let q = c.place-item.result in
-    let below : q < length c.args.index.now = omega (arith, c.if-get-len.false, c.len.ensures.length, c.get.ensures) in
+    let below : q < length c.args.index.now.events = omega (arith, c.if-get-len.false, c.len.ensures.length, c.get.ensures) in
     elim (push_cases (take i xs) (get_or xs i q) p (subst (λ ys. Contains ys p) (take_more xs i q c.loop-place-test.true) h)) [
       | inl before ↦ c.loop-place.invariant p before
-      | inr same ↦ subst (λ k. k < length c.args.index.now) same (subst (λ k. k < length c.args.index.now) c.place-item.is below)
+      | inr same ↦ subst (λ k. k < length c.args.index.now.events) same (subst (λ k. k < length c.args.index.now.events) c.place-item.is below)
     ]
 
 pub returns : goal.returns

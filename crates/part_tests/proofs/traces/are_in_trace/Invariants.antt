@@ -3,4 +3,4 @@ use Rattle.std.specs.List.{Contains}
 use Rattle.part_tests.proofs.traces.are_in_trace.Given as goal
 
 abbrev pub invariant-loop-place : goal.invariant-loop-place
-invariant-loop-place l = (p : ℕ) → Contains (take l.place-index l.places) p → p < length l.index
+invariant-loop-place l = (p : ℕ) → Contains (take l.place-index l.places) p → p < length l.index.events

@@ -6,11 +6,11 @@ use Rattle.dependencies.specs.Tables.{FollowsTrace}
 use Rattle.part_tests.proofs.traces.table_of.Goals as goal
 
 pub note_place-requires-clause-table : goal.note_place-requires-clause-table
-note_place-requires-clause-table c = subst (FollowsTrace c.loop-p.table c.args.index.now) (sym c.new-place.ensures) c.loop-p.invariant.1
+note_place-requires-clause-table c = subst (FollowsTrace c.loop-p.table c.args.index.now.events) (sym c.new-place.ensures) c.loop-p.invariant.1
 
 pub follow_locks-requires : goal.follow_locks-requires
 follow_locks-requires c = λ l is.
-    let s = c.args.index.now in
+    let s = c.args.index.now.events in
     let e = c.unwrap-event.result in
     let at : At s c.new-place.result (event e.thread e.op) = sym c.event.ensures ∙ c.unwrap-event.ensures in
     c.acquires_fit.ensures.placed c.loop-p.held s c.loop-p.p e.thread l c.len-p-end.ensures.well_formed c.loop-p.invariant.0
@@ -18,7 +18,7 @@ follow_locks-requires c = λ l is.
 
 pub loop-p-preserved : goal.loop-p-preserved
 loop-p-preserved c =
-    let s = c.args.index.now in
+    let s = c.args.index.now.events in
     let p = c.loop-p.p in
     let e = c.unwrap-event.result in
     let at : At s p e = subst (λ q. At s q e) c.new-place.ensures (sym c.event.ensures ∙ c.unwrap-event.ensures) in
@@ -30,5 +30,5 @@ loop-p-preserved c =
 
 pub returns : goal.returns
 returns c =
-    let whole : c.loop-p.p ≡ length c.args.index.now = omega (arith, c.loop-p-test.false, c.loop-p.auto.p-end, c.len-p-end.ensures.length) in
-    subst (FollowsTrace c.loop-p.table c.args.index.now) whole c.loop-p.invariant.1
+    let whole : c.loop-p.p ≡ length c.args.index.now.events = omega (arith, c.loop-p-test.false, c.loop-p.auto.p-end, c.len-p-end.ensures.length) in
+    subst (FollowsTrace c.loop-p.table c.args.index.now.events) whole c.loop-p.invariant.1

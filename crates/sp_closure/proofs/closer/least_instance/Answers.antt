@@ -6,7 +6,7 @@ use Rattle.sp_closure.proofs.closer.least_instance.Goals as goal
 
 pub returns-clause-counted : goal.returns-clause-counted
 returns-clause-counted g c =
-    let s = c.args.index.now in
+    let s = c.args.index.now.events in
     let old = c.in_ok-closer.closer in
     let all = upper_total c.least.new.self in
     let after = c.least.new.steps in

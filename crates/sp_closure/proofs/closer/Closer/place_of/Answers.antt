@@ -21,7 +21,7 @@ returns-clause-others c = λ of n h.
 
 pub returns-clause-closer : goal.returns-clause-closer
 returns-clause-closer c =
-    let s = c.args.index.now in
+    let s = c.args.index.now.events in
     let old = c.requires.closer in
     let d = c.args.self.now.demands in
     let k = d.threads.count in

@@ -9,7 +9,7 @@ use Rattle.sp_closure.proofs.closer.Closer.turn_to.Goals as goal
 
 pub returns-clause-closer : goal.returns-clause-closer
 returns-clause-closer c =
-    let s = c.args.index.now in
+    let s = c.args.index.now.events in
     let was = c.place_of.new.self in
     let is = c.place_of.ensures.closer in
     let d = was.demands in

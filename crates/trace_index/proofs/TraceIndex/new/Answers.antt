@@ -1,0 +1,7 @@
+use Rattle.trace_index.proofs.OneFurther.{none_index}
+use Rattle.trace_index.proofs.TraceIndex.new.Goals as goal
+
+pub invariant_of-result : goal.invariant_of-result
+invariant_of-result c =
+    none_index c.new.result c.new-2.result.items c.new-3.result c.new-4.result.places c.new-4.result.noted c.new.ensures c.new-2.ensures.items c.new-3.ensures.last c.new-3.ensures.ends
+    c.new-4.ensures.places c.new-4.ensures.noted
