@@ -8,35 +8,34 @@ ghost use Rattle.cycle_search.specs.Search.{CycleFrom, MoreThan};
 
 use crate::finding::{ComputeRefused, Finding};
 use crate::rows::rows_of;
+use crate::scratch::Scratch;
 use crate::snapshot::Snapshot;
-use sp_closure::Closer;
 use std::alloc::Global;
 use std::marker::Model;
 use std::sync::Arc;
 use trace_model::Bound;
 
-/// What the tasks of a question are computed from: the snapshot of its events, its bound, and what the search
-/// for least instances keeps from one task to the next. Contracts see it as the question.
+/// What the tasks of a question are computed from: the snapshot of its events, its bound, and what is kept
+/// from one task to the next. Contracts see it as the question.
 #[derive(Drop)]
 pub struct Job {
     alloc: Global,
     snapshot: Arc<Snapshot, Global>,
     question: u32,
     bound: Bound,
-    closer: Option<Closer>,
+    scratch: Scratch,
 }
 
 impl Model for Job {
     ghost use Rattle.std.specs.Arc.{arc_value};
-    ghost use Rattle.std.specs.Option.{ForSome};
-    ghost use Rattle.sp_closure.specs.Closers.{IsCloser};
+    ghost use Rattle.findings.specs.Scratches.{IsScratch};
     ghost use Rattle.findings.specs.Found.{Asked};
 
     ghost Value = { Asked };
 
     ghost view = { λ j. record { question = j.question; bound = j.bound; events = arc_value j.snapshot } };
 
-    ghost invariant = { λ j. ForSome j.closer (IsCloser (arc_value j.snapshot)) };
+    ghost invariant = { λ j. IsScratch (arc_value j.snapshot) j.scratch };
 }
 
 impl Job {
@@ -50,7 +49,7 @@ impl Job {
             snapshot,
             question,
             bound,
-            closer: None,
+            scratch: Scratch::new(),
         }
     }
 
@@ -76,7 +75,7 @@ impl Job {
         let Ok(snapshot) = Arc::try_clone(&self.snapshot) else {
             return Err(ComputeRefused::NoMemory);
         };
-        let rows = rows_of(self.alloc, &snapshot, &mut self.closer, self.bound, task)?;
+        let rows = rows_of(self.alloc, &snapshot, &mut self.scratch, self.bound, task)?;
         Ok(Finding {
             snapshot,
             question: self.question,

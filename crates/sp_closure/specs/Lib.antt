@@ -14,3 +14,4 @@ pub mod Reaching
 pub mod Classes
 pub mod Firsts
 pub mod Pushing
+pub mod Pasts
