@@ -51,7 +51,7 @@ below_from n (x ∷ xs) (suc k) q l h = go (below_from n xs k q l h) (ltb x n)
     go c true = let at = place_of (below n xs) q c in contains_at (x ∷ below n xs) q (suc at.0) at.1
     go c false = c
 
-below_exact : (n : ℕ) (xs : List ℕ) (q : ℕ) → Contains (below n xs) q ↔ ((q < n) × Contains xs q)
+pub below_exact : (n : ℕ) (xs : List ℕ) (q : ℕ) → Contains (below n xs) q ↔ ((q < n) × Contains xs q)
 below_exact n xs q = (
   (λ c. let at = place_of (below n xs) q c in below_so n xs at.0 q at.1),
   (λ r. let at = place_of xs q r.1 in below_from n xs at.0 q r.0 at.1),
