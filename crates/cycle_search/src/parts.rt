@@ -5,8 +5,8 @@
 
 ghost use Rattle.std.specs.Prelude.{◌<◌, IfOk, IsTrue, OnOk};
 ghost use Rattle.dependencies.specs.Tables.{known};
-ghost use Rattle.lock_graph.specs.Graph.{HasGraphOf, holders_below};
-ghost use Rattle.cycle_search.specs.Walk.{left, Enters, Stays, StaysOrEnters};
+ghost use Rattle.lock_graph.specs.Graph.{HasGraphOf};
+ghost use Rattle.cycle_search.specs.Walk.{left_in, Enters, Stays, StaysOrEnters};
 
 use dependencies::DepTable;
 use lock_graph::LockGraph;
@@ -100,7 +100,7 @@ impl Walk {
     fn step(&mut self, table: &DepTable, graph: &LockGraph) -> Result<bool, NoMemory>
         requires { HasGraphOf (known table.now) graph.now }
         ensures { IfOk result (λ more. IsTrue more
-            → left (holders_below graph.now (length (known table.now))) (known table.now) self.new < left (holders_below graph.now (length (known table.now))) (known table.now) self.old) }
+            → left_in (known table.now) graph.now self.new < left_in (known table.now) graph.now self.old) }
     {
         let Some(stop) = self.path.last_mut() else {
             return Ok(false);

@@ -1,7 +1,7 @@
 ghost use Rattle.std.specs.Prelude.{◌≡◌, ◌<◌, ◌≤◌, length, map, nat_eq, slice_index, IfOk, IsTrue};
 ghost use Rattle.std.specs.List.{All};
 ghost use Rattle.dependencies.specs.Tables.{known};
-ghost use Rattle.lock_graph.specs.Graph.{HasGraphOf, holders_below};
+ghost use Rattle.lock_graph.specs.Graph.{HasGraphOf};
 ghost use Rattle.cycle_search.specs.Ranked.{AreRanks, rank_in, Rises};
 
 use crate::parts::{LockRanks, lock_ranks};

@@ -4,7 +4,7 @@ ghost use Rattle.std.specs.List.Sorted.{IsStrictlyIncreasing};
 ghost use Rattle.trace_model.specs.declared.limits.TheConstants.{MAX_CYCLES};
 ghost use Rattle.trace_model.specs.Cycles.{AreCyclesFrom};
 ghost use Rattle.dependencies.specs.Tables.{known};
-ghost use Rattle.lock_graph.specs.Graph.{HasGraphOf, holders_below};
+ghost use Rattle.lock_graph.specs.Graph.{HasGraphOf};
 ghost use Rattle.cycle_search.specs.Ranked.{AreRanks};
 ghost use Rattle.cycle_search.specs.Search.{IsPath, Closes, AboveFirst, LinksTo, AreNexts, Adds, Exceeds, MoreThan, CycleFrom, CycleBeyond, CycleThrough};
 
