@@ -2,6 +2,8 @@
 use Rattle.std.specs.Prelude.{◌≡◌, ℕ, ◌+◌, ◌-◌, ◌⊎◌, Bool, false, ◌||◌, List, [], ◌∷◌, ◌++◌, length, nat_eq, is_some, if◌then◌else◌}
 use Rattle.std.specs.HashMap.{get}
 use Rattle.trace_model.specs.Dependencies.{Dependency}
+use Rattle.lock_graph.specs.declared.graph.LockGraph.{LockGraph}
+use Rattle.lock_graph.specs.Graph.{holders_below}
 use Rattle.cycle_search.specs.declared.parts.Stop.{Stop}
 use Rattle.cycle_search.specs.declared.parts.Walk.{Walk}
 
@@ -26,6 +28,10 @@ left_beyond met graph (d ∷ ds) = (if met d.lock then 0 else length (graph d.lo
 -- all that is left
 abbrev pub left : (ℕ → List ℕ) → List Dependency → Walk → ℕ
 left graph ds walk = left_on graph walk.path.items + left_beyond (is_met walk) graph ds
+
+-- all that is left in a graph of these dependencies, and maybe of later ones
+abbrev pub left_in : List Dependency → LockGraph → Walk → ℕ
+left_in ds g walk = left (holders_below g (length ds)) ds walk
 
 -- the path is the same, and the same locks are met
 pub record Stays (old new : Walk) : Type 0 where

@@ -5,8 +5,8 @@
 
 ghost use Rattle.std.specs.Prelude.{◌<◌, IfOk, IsTrue, OnOk};
 ghost use Rattle.dependencies.specs.Tables.{known};
-ghost use Rattle.lock_graph.specs.Graph.{IsGraphOf, holders};
-ghost use Rattle.cycle_search.specs.Walk.{left, Enters, Stays, StaysOrEnters};
+ghost use Rattle.lock_graph.specs.Graph.{HasGraphOf};
+ghost use Rattle.cycle_search.specs.Walk.{left_in, Enters, Stays, StaysOrEnters};
 
 use dependencies::DepTable;
 use lock_graph::LockGraph;
@@ -26,7 +26,7 @@ pub(crate) fn lock_ranks(
     table: &DepTable,
     graph: &LockGraph,
 ) -> Result<LockRanks, NoMemory>
-    requires { IsGraphOf (known table.now) (holders graph.now) }
+    requires { HasGraphOf (known table.now) graph.now }
 {
     let mut walk = Walk {
         met: HashMap::with_hasher(alloc, state),
@@ -70,7 +70,7 @@ struct Walk {
 impl Walk {
     /// Walks from a lock, if it was not met before.
     fn run(&mut self, table: &DepTable, graph: &LockGraph, lock: u32) -> Result<(), NoMemory>
-        requires { IsGraphOf (known table.now) (holders graph.now) }
+        requires { HasGraphOf (known table.now) graph.now }
     {
         if self.met.contains_key(&lock) {
             return Ok(());
@@ -98,15 +98,15 @@ impl Walk {
     /// Follows one edge of the path's last lock, or leaves it. False where the path has no lock.
     /// There is then less left to do, so the walk ends.
     fn step(&mut self, table: &DepTable, graph: &LockGraph) -> Result<bool, NoMemory>
-        requires { IsGraphOf (known table.now) (holders graph.now) }
+        requires { HasGraphOf (known table.now) graph.now }
         ensures { IfOk result (λ more. IsTrue more
-            → left (holders graph.now) (known table.now) self.new < left (holders graph.now) (known table.now) self.old) }
+            → left_in (known table.now) graph.now self.new < left_in (known table.now) graph.now self.old) }
     {
         let Some(stop) = self.path.last_mut() else {
             return Ok(false);
         };
         let lock = stop.lock;
-        match graph.successors(lock).get(stop.followed) {
+        match graph.successors_below(lock, table.len()).get(stop.followed) {
             Some(number) => {
                 stop.followed += 1;
                 self.follow(lock, table.get(*number).lock)?;

@@ -1,7 +1,7 @@
 ghost use Rattle.std.specs.Prelude.{◌≡◌, ◌<◌, ◌≤◌, length, map, nat_eq, slice_index, IfOk, IsTrue};
 ghost use Rattle.std.specs.List.{All};
 ghost use Rattle.dependencies.specs.Tables.{known};
-ghost use Rattle.lock_graph.specs.Graph.{IsGraphOf, holders};
+ghost use Rattle.lock_graph.specs.Graph.{HasGraphOf};
 ghost use Rattle.cycle_search.specs.Ranked.{AreRanks, rank_in, Rises};
 
 use crate::parts::{LockRanks, lock_ranks};
@@ -29,7 +29,8 @@ impl Model for Ranks {
 }
 
 impl Ranks {
-    /// The ranks of the table's dependencies, whose graph is given: the strongly connected parts of
+    /// The ranks of the table's dependencies, whose graph is given (later ones that it may have besides are
+    /// left out): the strongly connected parts of
     /// their locks, in order. It takes time in proportion to the locks that the dependencies hold.
     ///
     /// # Errors
@@ -41,7 +42,7 @@ impl Ranks {
         table: &DepTable,
         graph: &LockGraph,
     ) -> Result<Ranks, NoMemory>
-        requires { IsGraphOf (known table.now) (holders graph.now) }
+        requires { HasGraphOf (known table.now) graph.now }
         ensures { IfOk result (λ ranks. AreRanks (known table.now) ranks) }
     {
         let found = lock_ranks(alloc, state, table, graph)?;

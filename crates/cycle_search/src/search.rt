@@ -4,7 +4,7 @@ ghost use Rattle.std.specs.List.Sorted.{IsStrictlyIncreasing};
 ghost use Rattle.trace_model.specs.declared.limits.TheConstants.{MAX_CYCLES};
 ghost use Rattle.trace_model.specs.Cycles.{AreCyclesFrom};
 ghost use Rattle.dependencies.specs.Tables.{known};
-ghost use Rattle.lock_graph.specs.Graph.{IsGraphOf, holders};
+ghost use Rattle.lock_graph.specs.Graph.{HasGraphOf};
 ghost use Rattle.cycle_search.specs.Ranked.{AreRanks};
 ghost use Rattle.cycle_search.specs.Search.{IsPath, Closes, AboveFirst, LinksTo, AreNexts, Adds, Exceeds, MoreThan, CycleFrom, CycleBeyond, CycleThrough};
 
@@ -28,7 +28,8 @@ struct Limits {
 }
 
 /// All cycles up to the bound whose first number is `root`, each once, in lexicographic order.
-/// The graph and the ranks must be those of the table, and `root` one of its numbers.
+/// The ranks must be those of the table, and `root` one of its numbers. The graph must be that of the table's
+/// dependencies; later ones that it may have besides are left out.
 ///
 /// # Errors
 ///
@@ -41,7 +42,7 @@ pub fn cycles_from(
     root: u32,
     bound: Bound,
 ) -> Result<Vec<Cycle>, SearchRefused>
-    requires graph { IsGraphOf (known table.now) (holders graph.now) }
+    requires graph { HasGraphOf (known table.now) graph.now }
     requires ranks { AreRanks (known table.now) ranks.now }
     requires root { root < length (known table.now) }
     ensures ok { IfOk result (λ cycles. AreCyclesFrom (known table.now) bound root cycles.items) }
@@ -61,7 +62,7 @@ pub fn cycles_within(
     bound: Bound,
     most: usize,
 ) -> Result<Vec<Cycle>, SearchRefused>
-    requires graph { IsGraphOf (known table.now) (holders graph.now) }
+    requires graph { HasGraphOf (known table.now) graph.now }
     requires ranks { AreRanks (known table.now) ranks.now }
     requires root { root < length (known table.now) }
     ensures ok { IfOk result (λ cycles. AreCyclesFrom (known table.now) bound root cycles.items) }
@@ -89,7 +90,7 @@ fn extend(
     path: &mut Path,
     found: &mut Vec<Cycle>,
 ) -> Result<(), SearchRefused>
-    requires graph { IsGraphOf (known table.now) (holders graph.now) }
+    requires graph { HasGraphOf (known table.now) graph.now }
     requires ranks { AreRanks (known table.now) ranks.now }
     requires path { IsPath (known table.now) path.old.items }
     requires room { length path.old.items < limits.members }
@@ -117,7 +118,7 @@ fn visit(
     next: u32,
     found: &mut Vec<Cycle>,
 ) -> Result<(), SearchRefused>
-    requires graph { IsGraphOf (known table.now) (holders graph.now) }
+    requires graph { HasGraphOf (known table.now) graph.now }
     requires ranks { AreRanks (known table.now) ranks.now }
     requires path { IsPath (known table.now) path.old.items }
     requires room { length path.old.items < limits.members }
@@ -201,12 +202,12 @@ fn closes(table: &DepTable, path: &Path) -> bool
 
 /// The dependencies above the path's first member that hold the lock of its last, ascending.
 fn successors<'a>(table: &DepTable, graph: &'a LockGraph, path: &Path) -> &'a [u32]
-    requires graph { IsGraphOf (known table.now) (holders graph.now) }
+    requires graph { HasGraphOf (known table.now) graph.now }
     requires path { IsPath (known table.now) path.now.items }
     ensures { AreNexts (known table.now) path.now.items result.now }
 {
     let last = table.get(path[path.len() - 1]);
-    above(graph.successors(last.lock), path[0])
+    above(graph.successors_below(last.lock, table.len()), path[0])
 }
 
 /// Those of ascending numbers that are above `first`.

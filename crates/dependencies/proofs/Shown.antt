@@ -1,25 +1,26 @@
--- The entries of the map, as numbered dependencies with their places.
-use Rattle.std.proofs.Common.{◌≡◌, ◌≢◌, ◌<◌, ℕ, zero, suc, false, List, [], ◌∷◌, ◌++◌, length, get_or, slice_get, position, Option, Some, None, is_some, vec_len, vec_capacity, subst, refl, sym, ap, ◌∙◌}
-use Rattle.std.proofs.lemmas.Bool.{true≢false}
+-- The dependencies and their places by number, as a table.
+use Rattle.std.proofs.Common.{◌≡◌, ◌≢◌, ◌<◌, ◌≤◌, ◌+◌, ◌==◌, nat_eq, inl, inr, ℕ, zero, suc, Bool, true, false, cond, List, [], ◌∷◌, ◌++◌, length, take, min, map, get_or, slice_get, position, Option, Some, None, is_some, subst, refl, sym, ap, ◌∙◌, arith}
+use Rattle.std.proofs.lemmas.Bool.{true≢false, cases_lt, cases_eq, eq-eqb, ne_eqb}
 use Rattle.std.proofs.lemmas.Map.Made.{is_some-lookup}
-use Rattle.indexmap.proofs.MapLemmas.{some_index}
+use Rattle.indexmap.proofs.MapLemmas.{some_index, absent_before, distinct-take}
 use Rattle.std.proofs.lemmas.Option.{none-some, same_Some, slice_get-get_or}
 use Rattle.std.proofs.lemmas.List.Quantifiers.{position-Some}
-use Rattle.std.specs.Global.{Vec}
-use Rattle.std.specs.List.{list_any}
-use Rattle.std.specs.Map.{keys_of, values_of, lookup}
-use Rattle.indexmap.specs.IndexMap.{IndexMap, set_value_at, insert_entry}
+use Rattle.std.specs.List.{list_any, filter, Contains, IsDistinct}
+use Rattle.std.specs.Cmp.{IsEquivalence}
+use Rattle.std.specs.Map.{keys_of, lookup}
+use Rattle.indexmap.specs.IndexMap.{IndexMap, insert_entry, IsUnique}
 use Rattle.indexmap.proofs.CallerLemmas.{insert_entry-new}
+use Rattle.numbered.specs.Notes.{places_in, Ascend}
 use Rattle.trace_model.specs.Dependencies.{Dependency, same_dependency}
-use Rattle.trace_model.proofs.Dependencies.{same_dependency_so}
-use Rattle.dependencies.specs.Tables.{known, places_of}
-use Rattle.dependencies.specs.Entries.{shown, HasRoomAt}
+use Rattle.trace_model.proofs.Dependencies.{same_dependency_so, same_dependency_itself}
+use Rattle.trace_model.proofs.Lists.{length-push, same_bool}
+use Rattle.trace_model.proofs.Ascending.{place_of, contains_at}
+use Rattle.std.specs.List.Sorted.{IsStrictlyIncreasing}
+use Rattle.dependencies.specs.Tables.{named, placed, EndBelow, HaveOneMore}
+use Rattle.dependencies.specs.Entries.{rows_from, IsKeptOf}
+use Rattle.dependencies.proofs.Noting.{noted_known, noted_new, push_increases}
 
-pub known_shown : (es : List (Dependency × Vec ℕ)) → keys_of es ≡ known (shown es)
-known_shown [] = refl
-known_shown (e ∷ es) = ap (λ ks. e.0 ∷ ks) (known_shown es)
-
--- what has no place among the keys is not known
+-- what has no place among the keys is not named
 none_is : {X : Type 0} (o : Option X) → is_some o ≡ false → o ≡ None
 none_is None h = refl
 none_is (Some x) h = absurd (true≢false h)
@@ -29,72 +30,258 @@ at_position d ds i h =
     let p = position-Some (same_dependency d) ds i d h in
     slice_get-get_or ds i d p.0 ∙ ap Some (sym (same_dependency_so d (get_or ds i d) p.1))
 
-absent_lookup : (d : Dependency) (es : List (Dependency × Vec ℕ)) → position (same_dependency d) (known (shown es)) ≡ None → lookup (same_dependency d) es ≡ None
-absent_lookup d es h =
-    none_is _ (sym (some_index (same_dependency d) es) ∙ ap (λ ks. is_some (position (same_dependency d) ks)) (known_shown es) ∙ ap is_some h)
+absent_lookup : {V : Type 0} → (d : Dependency) (es : List (Dependency × V)) → position (same_dependency d) (keys_of es) ≡ None → lookup (same_dependency d) es ≡ None
+absent_lookup {V} d es h = none_is _ (sym (some_index (same_dependency d) es) ∙ ap is_some h)
 
-pub absent : (d : Dependency) (es : List (Dependency × Vec ℕ)) → position (same_dependency d) (known (shown es)) ≡ None → list_any (same_dependency d) (known (shown es)) ≡ false
-absent d es h =
-    ap (list_any (same_dependency d)) (sym (known_shown es)) ∙ sym (is_some-lookup (same_dependency d) es) ∙ ap is_some (absent_lookup d es h)
+pub absent : {V : Type 0} → (d : Dependency) (es : List (Dependency × V)) → position (same_dependency d) (keys_of es) ≡ None → list_any (same_dependency d) (keys_of es) ≡ false
+absent {V} d es h = sym (is_some-lookup (same_dependency d) es) ∙ ap is_some (absent_lookup d es h)
 
-pub shown_push : (es : List (Dependency × Vec ℕ)) (d : Dependency) (v : Vec ℕ) → shown (es ++ (d, v) ∷ []) ≡ shown es ++ (d, v.items) ∷ []
-shown_push [] d v = refl
-shown_push (e ∷ es) d v = ap (λ xs. (e.0, e.1.items) ∷ xs) (shown_push es d v)
+keys_push : {V : Type 0} → (es : List (Dependency × V)) (d : Dependency) (v : V) → keys_of (es ++ (d, v) ∷ []) ≡ keys_of es ++ d ∷ []
+keys_push {V} [] d v = refl
+keys_push {V} (e ∷ es) d v = ap (λ ks. e.0 ∷ ks) (keys_push es d v)
 
-pub inserted : {S : Type 0} (m : IndexMap Dependency (Vec ℕ) S) (es : List (Dependency × Vec ℕ)) (d : Dependency) (v : Vec ℕ) →
-    position (same_dependency d) (known (shown m.entries)) ≡ None → es ≡ insert_entry same_dependency m.entries d v →
-    shown es ≡ shown m.entries ++ (d, v.items) ∷ []
-inserted m es d v gone after = ap shown (after ∙ insert_entry-new same_dependency m d v (absent_lookup d m.entries gone)) ∙ shown_push m.entries d v
+pub inserted : {V S : Type 0} → (m : IndexMap Dependency V S) (es : List (Dependency × V)) (d : Dependency) (v : V) →
+    position (same_dependency d) (keys_of m.entries) ≡ None → es ≡ insert_entry same_dependency m.entries d v → keys_of es ≡ keys_of m.entries ++ d ∷ []
+inserted {V} {S} m es d v gone after = ap keys_of (after ∙ insert_entry-new same_dependency m d v (absent_lookup d m.entries gone)) ∙ keys_push m.entries d v
 
--- one value is replaced
-pub set_known : (es : List (Dependency × Vec ℕ)) (i : ℕ) (w : Vec ℕ) → known (shown (set_value_at es i w)) ≡ known (shown es)
-set_known [] i w = refl
-set_known (e ∷ es) zero w = refl
-set_known (e ∷ es) (suc i) w = ap (λ ks. e.0 ∷ ks) (set_known es i w)
+-- ---- tables
 
-pub was_here : (es : List (Dependency × Vec ℕ)) (i : ℕ) (v : Vec ℕ) → Some v ≡ slice_get (values_of es) i → places_of (shown es) i ≡ v.items
-was_here [] i v h = absurd (none-some v (sym h))
-was_here (e ∷ es) zero v h = ap (λ x. x.items) (sym (same_Some v e.1 h))
-was_here (e ∷ es) (suc i) v h = was_here es i v h
+pub known_from : (k : ℕ) (ds : List Dependency) (notes : List (ℕ × ℕ)) → named (rows_from k ds notes) ≡ ds
+known_from k [] notes = refl
+known_from k (d ∷ ds) notes = ap (λ ks. d ∷ ks) (known_from (suc k) ds notes)
 
-pub set_here : (es : List (Dependency × Vec ℕ)) (i : ℕ) (v w : Vec ℕ) → Some v ≡ slice_get (values_of es) i → places_of (shown (set_value_at es i w)) i ≡ w.items
-set_here [] i v w h = absurd (none-some v (sym h))
-set_here (e ∷ es) zero v w h = refl
-set_here (e ∷ es) (suc i) v w h = set_here es i v w h
+pub length_from : (k : ℕ) (ds : List Dependency) (notes : List (ℕ × ℕ)) → length (rows_from k ds notes) ≡ length ds
+length_from k [] notes = refl
+length_from k (d ∷ ds) notes = ap suc (length_from (suc k) ds notes)
 
-pub set_elsewhere : (es : List (Dependency × Vec ℕ)) (i : ℕ) (w : Vec ℕ) (m : ℕ) → m ≢ i → places_of (shown (set_value_at es i w)) m ≡ places_of (shown es) m
-set_elsewhere [] i w m n = refl
-set_elsewhere (e ∷ es) zero w zero n = absurd (n refl)
-set_elsewhere (e ∷ es) zero w (suc m) n = refl
-set_elsewhere (e ∷ es) (suc i) w zero n = refl
-set_elsewhere (e ∷ es) (suc i) w (suc m) n = set_elsewhere es i w m (λ h. n (ap suc h))
+pub places_from : (k : ℕ) (ds : List Dependency) (notes : List (ℕ × ℕ)) (m : ℕ) → m < length ds → placed (rows_from k ds notes) m ≡ places_in notes (k + m)
+places_from k [] notes m l = absurd (omega arith)
+places_from k (d ∷ ds) notes zero l = let same : k ≡ k + 0 = omega arith in ap (places_in notes) same
+places_from k (d ∷ ds) notes (suc m) l =
+    let same : suc k + m ≡ k + suc m = omega arith in
+    places_from (suc k) ds notes m (omega arith) ∙ ap (places_in notes) same
 
-pub set_same : (es : List (Dependency × Vec ℕ)) (i : ℕ) (v w : Vec ℕ) → Some v ≡ slice_get (values_of es) i → w.items ≡ v.items → shown (set_value_at es i w) ≡ shown es
-set_same [] i v w h k = refl
-set_same (e ∷ es) zero v w h k = ap (λ xs. (e.0, xs) ∷ shown es) (k ∙ ap (λ x. x.items) (same_Some v e.1 h))
-set_same (e ∷ es) (suc i) v w h k = ap (λ xs. (e.0, e.1.items) ∷ xs) (set_same es i v w h k)
+beyond_from : (k : ℕ) (ds : List Dependency) (notes : List (ℕ × ℕ)) (m : ℕ) → length ds ≤ m → placed (rows_from k ds notes) m ≡ []
+beyond_from k [] notes m l = refl
+beyond_from k (d ∷ ds) notes zero l = absurd (omega arith)
+beyond_from k (d ∷ ds) notes (suc m) l = beyond_from (suc k) ds notes m (omega arith)
 
-pub entry_known : (es : List (Dependency × Vec ℕ)) (n : ℕ) (d : Dependency) (v : Vec ℕ) → Some (d, v) ≡ slice_get es n → slice_get (known (shown es)) n ≡ Some d
-entry_known [] n d v h = absurd (none-some (d, v) (sym h))
-entry_known (e ∷ es) zero d v h = ap (λ x. Some x.0) (sym (same_Some (d, v) e h))
-entry_known (e ∷ es) (suc n) d v h = entry_known es n d v h
+abbrev pub NoneBeyond : List Dependency → List (ℕ × ℕ) → Type 0
+NoneBeyond ds notes = (m : ℕ) → length ds ≤ m → places_in notes m ≡ []
 
-pub entry_places : (es : List (Dependency × Vec ℕ)) (n : ℕ) (d : Dependency) (v : Vec ℕ) → Some (d, v) ≡ slice_get es n → places_of (shown es) n ≡ v.items
-entry_places [] n d v h = absurd (none-some (d, v) (sym h))
-entry_places (e ∷ es) zero d v h = ap (λ x. x.1.items) (sym (same_Some (d, v) e h))
-entry_places (e ∷ es) (suc n) d v h = entry_places es n d v h
+-- the places of each number, also of one that is not there
+pub places_all : (ds : List Dependency) (notes : List (ℕ × ℕ)) → NoneBeyond ds notes → (m : ℕ) → placed (rows_from 0 ds notes) m ≡ places_in notes m
+places_all ds notes none m = elim (cases_lt m (length ds)) [
+  | inl l ↦ let same : 0 + m ≡ m = omega arith in places_from 0 ds notes m l ∙ ap (places_in notes) same
+  | inr l ↦ beyond_from 0 ds notes m l ∙ sym (none m l)
+]
 
--- the room of a list that was found, and of one that took its place
-pub room_at : (es : List (Dependency × Vec ℕ)) (i : ℕ) (v : Vec ℕ) → Some v ≡ slice_get (values_of es) i → HasRoomAt es i → vec_len v < vec_capacity v
-room_at [] i v h r = absurd (none-some v (sym h))
-room_at (e ∷ es) zero v h r = subst (λ (x : Vec ℕ). vec_len x < vec_capacity x) (sym (same_Some v e.1 h)) r
-room_at (e ∷ es) (suc i) v h r = room_at es i v h r
+pub places_push : (notes : List (ℕ × ℕ)) (e : ℕ × ℕ) (m : ℕ) → places_in (notes ++ e ∷ []) m ≡ cond (e.0 == m) (places_in notes m ++ e.1 ∷ []) (places_in notes m)
+places_push [] e m = go (e.0 == m)
+  where
+    go : (b : Bool) → map (λ x. x.1) (cond b (e ∷ []) []) ≡ cond b (e.1 ∷ []) []
+    go true = refl
+    go false = refl
+places_push (y ∷ notes) e m = go (y.0 == m) (e.0 == m) (places_push notes e m)
+  where
+    go : (b c : Bool) → places_in (notes ++ e ∷ []) m ≡ cond c (places_in notes m ++ e.1 ∷ []) (places_in notes m) →
+        map (λ x. x.1) (cond b (y ∷ filter (λ x. x.0 == m) (notes ++ e ∷ [])) (filter (λ x. x.0 == m) (notes ++ e ∷ [])))
+        ≡ cond c (map (λ x. x.1) (cond b (y ∷ filter (λ x. x.0 == m) notes) (filter (λ x. x.0 == m) notes)) ++ e.1 ∷ []) (map (λ x. x.1) (cond b (y ∷ filter (λ x. x.0 == m) notes) (filter (λ x. x.0 == m) notes)))
+    go true true h = ap (λ xs. y.1 ∷ xs) h
+    go true false h = ap (λ xs. y.1 ∷ xs) h
+    go false true h = h
+    go false false h = h
 
-pub room_set : (es : List (Dependency × Vec ℕ)) (i : ℕ) (v w : Vec ℕ) → Some v ≡ slice_get (values_of es) i → vec_len w < vec_capacity w → HasRoomAt (set_value_at es i w) i
-room_set [] i v w h r = absurd (none-some v (sym h))
-room_set (e ∷ es) zero v w h r = r
-room_set (e ∷ es) (suc i) v w h r = room_set es i v w h r
+places_here : (notes : List (ℕ × ℕ)) (n p : ℕ) → places_in (notes ++ (n, p) ∷ []) n ≡ places_in notes n ++ p ∷ []
+places_here notes n p = places_push notes (n, p) n ∙ ap (λ b. cond b (places_in notes n ++ p ∷ []) (places_in notes n)) (eq-eqb n n refl)
 
-pub shown_length : (es : List (Dependency × Vec ℕ)) → length (shown es) ≡ length es
-shown_length [] = refl
-shown_length (e ∷ es) = ap suc (shown_length es)
+places_elsewhere : (notes : List (ℕ × ℕ)) (n p m : ℕ) → n ≢ m → places_in (notes ++ (n, p) ∷ []) m ≡ places_in notes m
+places_elsewhere notes n p m h = places_push notes (n, p) m ∙ ap (λ b. cond b (places_in notes m ++ p ∷ []) (places_in notes m)) (ne_eqb n m h)
+
+pub beyond_push : (ds : List Dependency) (notes : List (ℕ × ℕ)) (n p k : ℕ) → NoneBeyond ds notes → length ds ≤ k → n < k → (m : ℕ) → k ≤ m → places_in (notes ++ (n, p) ∷ []) m ≡ []
+beyond_push ds notes n p k none l b m h = places_elsewhere notes n p m (λ e. omega arith) ∙ none m (omega arith)
+
+-- one more place of a number that is there
+pub known_noted : (ds : List Dependency) (notes notes' : List (ℕ × ℕ)) (p : ℕ) (d : Dependency) (n : ℕ) → NoneBeyond ds notes → slice_get ds n ≡ Some d → n < length ds →
+    notes' ≡ notes ++ (n, p) ∷ [] → HaveOneMore (rows_from 0 ds notes) p d n (rows_from 0 ds notes')
+known_noted ds notes notes' p d n none at within is =
+    subst (λ xs. HaveOneMore (rows_from 0 ds notes) p d n (rows_from 0 ds xs)) (sym is)
+    (noted_known (rows_from 0 ds notes) (rows_from 0 ds more) p d n (ap (λ xs. slice_get xs n) (known_from 0 ds notes) ∙ at) (known_from 0 ds more ∙ sym (known_from 0 ds notes))
+    (places_all ds more none' n ∙ places_here notes n p ∙ ap (λ xs. xs ++ p ∷ []) (sym (places_all ds notes none n)))
+    (λ m h. places_all ds more none' m ∙ places_elsewhere notes n p m (λ e. h (sym e)) ∙ sym (places_all ds notes none m)))
+  where
+    more : List (ℕ × ℕ)
+    more = notes ++ (n, p) ∷ []
+
+    none' : NoneBeyond ds (notes ++ (n, p) ∷ [])
+    none' = beyond_push ds notes n p (length ds) none (omega arith) within
+
+from_push : (k : ℕ) (ds : List Dependency) (d : Dependency) (notes notes' : List (ℕ × ℕ)) → ((m : ℕ) → m < k + length ds → places_in notes' m ≡ places_in notes m) →
+    rows_from k (ds ++ d ∷ []) notes' ≡ rows_from k ds notes ++ (d, places_in notes' (k + length ds)) ∷ []
+from_push k [] d notes notes' h = let same : k ≡ k + 0 = omega arith in ap (λ i. (d, places_in notes' i) ∷ []) same
+from_push k (x ∷ ds) d notes notes' h =
+    let same : suc k + length ds ≡ k + suc (length ds) = omega arith in
+    ap (λ ps. (x, ps) ∷ rows_from (suc k) (ds ++ d ∷ []) notes') (h k (omega arith))
+    ∙ ap (λ t. (x, places_in notes k) ∷ t) (from_push (suc k) ds d notes notes' (λ m l. h m (omega arith)) ∙ ap (λ i. rows_from (suc k) ds notes ++ (d, places_in notes' i) ∷ []) same)
+
+-- a new dependency with its first place
+pub new_noted : (ds ds' : List Dependency) (notes notes' : List (ℕ × ℕ)) (p : ℕ) (d : Dependency) (n : ℕ) → NoneBeyond ds notes → list_any (same_dependency d) ds ≡ false → n ≡ length ds →
+    notes' ≡ notes ++ (n, p) ∷ [] → ds' ≡ ds ++ d ∷ [] → HaveOneMore (rows_from 0 ds notes) p d n (rows_from 0 ds' notes')
+new_noted ds ds' notes notes' p d n none gone at is keys =
+    let len = length_from 0 ds notes in
+    let zero_n : 0 + length ds ≡ n = omega arith in
+    let first : places_in notes' n ≡ p ∷ [] = ap (λ xs. places_in xs n) is ∙ places_here notes n p ∙ ap (λ xs. xs ++ p ∷ []) (none n (omega arith)) in
+    let table : rows_from 0 ds' notes' ≡ rows_from 0 ds notes ++ (d, p ∷ []) ∷ [] =
+    ap (λ ks. rows_from 0 ks notes') keys
+    ∙ from_push 0 ds d notes notes' (λ m l. ap (λ xs. places_in xs m) is ∙ places_elsewhere notes n p m (λ e. omega arith))
+    ∙ ap (λ ps. rows_from 0 ds notes ++ (d, ps) ∷ []) (ap (places_in notes') zero_n ∙ first) in
+    subst (λ t. HaveOneMore (rows_from 0 ds notes) p d n t) (sym table)
+    (subst (λ i. HaveOneMore (rows_from 0 ds notes) p d i (rows_from 0 ds notes ++ (d, p ∷ []) ∷ [])) (len ∙ sym at)
+    (noted_new (rows_from 0 ds notes) p d (ap (list_any (same_dependency d)) (known_from 0 ds notes) ∙ gone)))
+
+pub keys_len : {V : Type 0} → (es : List (Dependency × V)) → length (keys_of es) ≡ length es
+keys_len {V} [] = refl
+keys_len {V} (e ∷ es) = ap suc (keys_len es)
+
+pub key_at : {V : Type 0} → (es : List (Dependency × V)) (n : ℕ) (d : Dependency) (v : V) → Some (d, v) ≡ slice_get es n → slice_get (keys_of es) n ≡ Some d
+key_at {V} [] n d v h = absurd (none-some (d, v) (sym h))
+key_at {V} (e ∷ es) zero d v h = ap (λ x. Some x.0) (sym (same_Some (d, v) e h))
+key_at {V} (e ∷ es) (suc n) d v h = key_at es n d v h
+
+pub same_kept : (ds ds' : List Dependency) (notes notes' : List (ℕ × ℕ)) (k k' : ℕ) → ds' ≡ ds → notes' ≡ notes → k' ≡ k → IsKeptOf ds notes k → IsKeptOf ds' notes' k'
+same_kept ds ds' notes notes' k k' a b c h =
+    subst (λ x. IsKeptOf x notes' k') (sym a) (subst (λ x. IsKeptOf ds x k') (sym b) (subst (IsKeptOf ds notes) (sym c) h))
+
+numbers_grow : (n k after : ℕ) → n ≤ k → after ≡ cond (nat_eq n k) (k + 1) k → (k ≤ after) × (n < after)
+numbers_grow n k after l h = elim (cases_eq n k) [
+  | inl e ↦ let next : after ≡ k + 1 = h ∙ ap (λ b. cond b (k + 1) k) (eq-eqb n k e) in (omega arith, omega arith)
+  | inr e ↦ let same : after ≡ k = h ∙ ap (λ b. cond b (k + 1) k) (ne_eqb n k e) in (omega arith, omega arith)
+]
+
+-- ---- the places of all notes
+
+place_push : (notes : List (ℕ × ℕ)) (e : ℕ × ℕ) → map (λ x. x.1) (notes ++ e ∷ []) ≡ map (λ x. x.1) notes ++ e.1 ∷ []
+place_push [] e = refl
+place_push (y ∷ notes) e = ap (λ s. y.1 ∷ s) (place_push notes e)
+
+-- each place is one of some number
+noted_at : (notes : List (ℕ × ℕ)) (k q : ℕ) → slice_get (map (λ x. x.1) notes) k ≡ Some q → (m : ℕ) × Contains (places_in notes m) q
+noted_at [] k q h = absurd (none-some q h)
+noted_at (e ∷ notes) zero q h = (e.0, contains_at (places_in (e ∷ notes) e.0) q 0 (go (e.0 == e.0) (eq-eqb e.0 e.0 refl)))
+  where
+    go : (b : Bool) → b ≡ true → slice_get (map (λ x. x.1) (cond b (e ∷ filter (λ x. x.0 == e.0) notes) (filter (λ x. x.0 == e.0) notes))) 0 ≡ Some q
+    go true t = h
+    go false t = absurd (true≢false (sym t))
+noted_at (e ∷ notes) (suc k) q h =
+    let later = noted_at notes k q h in
+    let at = place_of (places_in notes later.0) q later.1 in
+    (later.0, go (e.0 == later.0) later.0 at.0 at.1)
+  where
+    go : (b : Bool) (m j : ℕ) → slice_get (places_in notes m) j ≡ Some q →
+        Contains (map (λ x. x.1) (cond b (e ∷ filter (λ x. x.0 == m) notes) (filter (λ x. x.0 == m) notes))) q
+    go true m j k = contains_at (e.1 ∷ places_in notes m) q (suc j) k
+    go false m j k = contains_at (places_in notes m) q j k
+
+noted_below : (ds : List Dependency) (notes : List (ℕ × ℕ)) (p k q : ℕ) → NoneBeyond ds notes → EndBelow (rows_from 0 ds notes) p → slice_get (map (λ x. x.1) notes) k ≡ Some q → q < p
+noted_below ds notes p k q none below h =
+    let at = noted_at notes k q h in
+    below at.0 q (subst (λ (ps : List ℕ). Contains ps q) (sym (places_all ds notes none at.0)) at.1)
+
+ascend_push : (ds : List Dependency) (notes notes' : List (ℕ × ℕ)) (n p : ℕ) → NoneBeyond ds notes → Ascend notes → EndBelow (rows_from 0 ds notes) p → notes' ≡ notes ++ (n, p) ∷ [] → Ascend notes'
+ascend_push ds notes notes' n p none up below is =
+    subst IsStrictlyIncreasing (sym (ap (map (λ x. x.1)) is ∙ place_push notes (n, p)))
+    (push_increases (map (λ x. x.1) notes) p up (λ q c. let at = place_of (map (λ x. x.1) notes) q c in noted_below ds notes p at.0 q none below at.1))
+
+least_or : (xs : List ℕ) (i : ℕ) → IsStrictlyIncreasing xs → i < length xs → i ≤ get_or xs i 0
+least_or xs zero up l = omega arith
+least_or xs (suc i) up l =
+    let next : i + 1 ≡ suc i = omega arith in
+    let more : get_or xs i 0 < get_or xs (suc i) 0 = subst (λ j. get_or xs i 0 < get_or xs j 0) next (up i (omega arith)) in
+    let before = least_or xs i up (omega arith) in
+    omega arith
+
+-- there are no more notes than places below a bound of them
+pub few_notes : (ds : List Dependency) (notes : List (ℕ × ℕ)) (numbers p : ℕ) → IsKeptOf ds notes numbers → EndBelow (rows_from 0 ds notes) p → length notes ≤ p
+few_notes ds notes numbers p kept below = go (length (map (λ x. x.1) notes)) refl
+  where
+    len : (xs : List (ℕ × ℕ)) → length (map (λ x. x.1) xs) ≡ length xs
+    len [] = refl
+    len (x ∷ xs) = ap suc (len xs)
+
+    go : (k : ℕ) → length (map (λ x. x.1) notes) ≡ k → length notes ≤ p
+    go zero e = let same = len notes in omega arith
+    go (suc k) e =
+        let same = len notes in
+        let least = least_or (map (λ x. x.1) notes) k kept.ascend (omega arith) in
+        let last = noted_below ds notes p k (get_or (map (λ x. x.1) notes) k 0) kept.beyond below (slice_get-get_or (map (λ x. x.1) notes) k 0 (omega arith)) in
+        omega arith
+
+-- ---- one more note
+
+pub kept_known : (ds : List Dependency) (notes notes' : List (ℕ × ℕ)) (p n k k' : ℕ) → IsKeptOf ds notes k → EndBelow (rows_from 0 ds notes) p → n < length ds →
+    notes' ≡ notes ++ (n, p) ∷ [] → k' ≡ cond (nat_eq n k) (k + 1) k → IsKeptOf ds notes' k'
+kept_known ds notes notes' p n k k' kept below within is after = record {
+  counted = let c = kept.counted in let g = numbers_grow n k k' (omega arith) after in let l = g.0 in omega arith;
+  beyond = λ m l. ap (λ xs. places_in xs m) is ∙ beyond_push ds notes n p (length ds) kept.beyond (omega arith) within m l;
+  ascend = ascend_push ds notes notes' n p kept.beyond kept.ascend below is;
+}
+
+pub kept_new : (ds ds' : List Dependency) (notes notes' : List (ℕ × ℕ)) (p : ℕ) (d : Dependency) (n k k' : ℕ) → IsKeptOf ds notes k → EndBelow (rows_from 0 ds notes) p → n ≡ length ds →
+    notes' ≡ notes ++ (n, p) ∷ [] → ds' ≡ ds ++ d ∷ [] → k' ≡ cond (nat_eq n k) (k + 1) k → IsKeptOf ds' notes' k'
+kept_new ds ds' notes notes' p d n k k' kept below at is keys after =
+    let len = ap length keys ∙ length-push ds d in
+    let c = kept.counted in
+    let g = numbers_grow n k k' (omega arith) after in
+    let l = g.1 in
+    record {
+      counted = omega arith;
+      beyond = λ m l. ap (λ xs. places_in xs m) is ∙ beyond_push ds notes n p (length ds') kept.beyond (omega arith) (omega arith) m l;
+      ascend = ascend_push ds notes notes' n p kept.beyond kept.ascend below is;
+    }
+
+-- ---- the first entries of a map
+
+keys_take : {V : Type 0} → (n : ℕ) (es : List (Dependency × V)) → keys_of (take n es) ≡ take n (keys_of es)
+keys_take {V} zero es = refl
+keys_take {V} (suc n) [] = refl
+keys_take {V} (suc n) (e ∷ es) = ap (λ ks. e.0 ∷ ks) (keys_take n es)
+
+take_next : {X : Type 0} → (n : ℕ) (xs : List X) (x : X) → slice_get xs n ≡ Some x → take (suc n) xs ≡ take n xs ++ x ∷ []
+take_next {X} n [] x h = absurd (none-some x h)
+take_next {X} zero (y ∷ xs) x h = ap (λ z. z ∷ []) (same_Some y x h)
+take_next {X} (suc n) (y ∷ xs) x h = ap (λ zs. y ∷ zs) (take_next n xs x h)
+
+take_past : {X : Type 0} → (n : ℕ) (xs : List X) → length xs ≤ n → take n xs ≡ xs
+take_past {X} zero [] l = refl
+take_past {X} zero (x ∷ xs) l = absurd (omega arith)
+take_past {X} (suc n) [] l = refl
+take_past {X} (suc n) (x ∷ xs) l = ap (λ ys. x ∷ ys) (take_past n xs (omega arith))
+
+-- the first entries, as many as there are
+pub first_keys : {V : Type 0} → (n k : ℕ) (es first : List (Dependency × V)) → k ≡ min n (length es) → first ≡ take k es → keys_of first ≡ take n (keys_of es)
+first_keys {V} n k es first least is = elim (cases_lt n (length es)) [
+  | inl l ↦ let same : k ≡ n = omega arith in ap keys_of is ∙ keys_take k es ∙ ap (λ i. take i (keys_of es)) same
+  | inr l ↦ let len = keys_len es in ap keys_of is ∙ keys_take k es ∙ take_past k (keys_of es) (omega arith) ∙ sym (take_past n (keys_of es) (omega arith))
+]
+
+dependencies_are : IsEquivalence same_dependency
+dependencies_are = record {
+  refl = same_dependency_itself;
+  symm = λ a b. same_bool (same_dependency a b) (same_dependency b a) (λ h. turned a b h) (λ h. turned b a h);
+  congr = λ a b c h. ap (λ x. same_dependency x c) (same_dependency_so a b h);
+}
+  where
+    turned : (a b : Dependency) → same_dependency a b ≡ true → same_dependency b a ≡ true
+    turned a b h = subst (λ x. same_dependency x a ≡ true) (same_dependency_so a b h) (same_dependency_itself a)
+
+-- the next entry of a map is new to those before it
+pub next_entry : {V S T : Type 0} → (m : IndexMap Dependency V S) (first : IndexMap Dependency V T) (after : List (Dependency × V)) (n : ℕ) (d : Dependency) (v : V) →
+    IsUnique same_dependency m → first.entries ≡ take n m.entries → slice_get m.entries n ≡ Some (d, v) → after ≡ insert_entry same_dependency first.entries d v →
+    after ≡ take (suc n) m.entries
+next_entry {V} {S} {T} m first after n d v unique so_far at is =
+    let next = take_next n m.entries (d, v) at in
+    let apart : IsDistinct same_dependency (keys_of (take n m.entries ++ (d, v) ∷ [])) =
+    subst (IsDistinct same_dependency) (sym (keys_take (suc n) m.entries) ∙ ap keys_of next) (distinct-take dependencies_are (suc n) (keys_of m.entries) unique) in
+    let new : lookup (same_dependency d) first.entries ≡ None =
+    ap (lookup (same_dependency d)) so_far ∙ absent_before dependencies_are (take n m.entries) [] (d, v) apart in
+    is ∙ insert_entry-new same_dependency first d v new ∙ ap (λ es. es ++ (d, v) ∷ []) so_far ∙ sym next

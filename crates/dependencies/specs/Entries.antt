@@ -1,24 +1,28 @@
--- The entries of a map from dependencies to places, and the room in them.
-use Rattle.std.specs.Prelude.{◌≡◌, ℕ, ◌<◌, List, [], map, slice_get, Some, None, position, IsSomeAnd, vec_len, vec_capacity}
-use Rattle.std.specs.Global.{Vec}
-use Rattle.std.specs.Map.{values_of}
+-- The dependencies of a map and their places by number, and the room for one more place.
+use Rattle.std.specs.Prelude.{◌≡◌, ℕ, suc, ◌≤◌, ◌&&◌, List, [], ◌∷◌, length, nat_lt}
+use Rattle.std.specs.Map.{keys_of}
 use Rattle.indexmap.specs.IndexMap.{spare}
-use Rattle.trace_model.specs.Dependencies.{Dependency, same_dependency}
+use Rattle.numbered.specs.Notes.{places_in, Ascend}
+use Rattle.trace_model.specs.Dependencies.{Dependency}
 use Rattle.dependencies.specs.declared.entries.Entries.{Entries}
-use Rattle.dependencies.specs.Tables.{Table, known}
+use Rattle.dependencies.specs.Tables.{Rows, Table}
 
-abbrev pub shown : List (Dependency × Vec ℕ) → Table
-shown es = map (λ e. (e.0, e.1.items)) es
+-- dependencies from the number k on, each with the places of its number
+abbrev pub rows_from : ℕ → List Dependency → List (ℕ × ℕ) → Rows
+rows_from k [] notes = []
+rows_from k (d ∷ ds) notes = (d, places_in notes k) ∷ rows_from (suc k) ds notes
+
+abbrev pub rows_of : Entries → Rows
+rows_of e = rows_from 0 (keys_of e.table.entries) e.places.notes
 
 abbrev pub shown_by : Entries → Table
-shown_by e = shown e.table.entries
+shown_by e = record { shown = rows_of e; room = e.places.room && nat_lt 0 (spare e.table) }
 
--- the list of the number has room for one more place
-abbrev pub HasRoomAt : List (Dependency × Vec ℕ) → ℕ → Type 0
-HasRoomAt es m = IsSomeAnd (slice_get (values_of es) m) (λ v. vec_len v < vec_capacity v)
+-- there is a number for each dependency, and for none beyond; the places ascend from note to note
+pub record IsKeptOf (ds : List Dependency) (notes : List (ℕ × ℕ)) (numbers : ℕ) : Type 0 where
+  pub counted : length ds ≤ numbers
+  pub beyond : (m : ℕ) → length ds ≤ m → places_in notes m ≡ []
+  pub ascend : Ascend notes
 
--- there is room for one more place of the dependency: in its list, or for a new list with one place
-pub record HasRoomFor (e : Entries) (d : Dependency) : Type 0 where
-  pub listed : (m : ℕ) → position (same_dependency d) (known (shown_by e)) ≡ Some m → HasRoomAt e.table.entries m
-  pub fresh : position (same_dependency d) (known (shown_by e)) ≡ None →
-      (0 < spare e.table) × (e.fresh.items ≡ []) × (vec_len e.fresh < vec_capacity e.fresh)
+abbrev pub IsKept : Entries → Type 0
+IsKept e = IsKeptOf (keys_of e.table.entries) e.places.notes e.places.numbers

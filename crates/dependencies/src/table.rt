@@ -1,12 +1,13 @@
-ghost use Rattle.std.specs.Prelude.{◌≡◌, ◌<◌, ◌≤◌, [], nat_eq, length, Some, slice_get, IfOk, OnErr};
-ghost use Rattle.dependencies.specs.Tables.{known, places_of, AllBelow, IsNoted};
+ghost use Rattle.std.specs.Prelude.{◌≡◌, ◌<◌, ◌≤◌, [], nat_eq, length, Some, slice_get, true, IfOk, OnOk, OnErr};
+ghost use Rattle.dependencies.specs.Tables.{known, places_of, AllBelow, IsNoted, IsPart, IsTotal};
 
 use crate::Dependency;
 use crate::entries::Entries;
+use numbered::PlacesOf;
 use std::alloc::Global;
 use std::collections::hash_map::RandomState;
 use std::marker::Model;
-use trace_model::{NoMemory, Place, PlaceList};
+use trace_model::{NoMemory, Place};
 
 /// The dependencies by number, from 0 by first appearance, each with its places.
 #[derive(Drop)]
@@ -15,20 +16,20 @@ pub struct DepTable {
 }
 
 impl Model for DepTable {
-    ghost use Rattle.dependencies.specs.Tables.{Table, IsTable};
-    ghost use Rattle.dependencies.specs.Entries.{shown_by};
+    ghost use Rattle.dependencies.specs.Tables.{Table, AreRows};
+    ghost use Rattle.dependencies.specs.Entries.{shown_by, rows_of, IsKept};
 
     ghost Value = { Table };
 
     ghost view = { λ t. shown_by t.entries };
 
-    ghost invariant = { λ t. IsTable (shown_by t.entries) };
+    ghost invariant = { λ t. AreRows (rows_of t.entries) × IsKept t.entries };
 }
 
 impl DepTable {
     /// No dependency. It takes no memory.
     pub fn new(alloc: Global, state: RandomState) -> DepTable
-        ensures { result ≡ [] }
+        ensures { result.shown ≡ [] }
     {
         DepTable {
             entries: Entries::new(alloc, state),
@@ -55,17 +56,15 @@ impl DepTable {
         requires { number < length (known self.now) }
         ensures { slice_get (known self.now) number ≡ Some result.now }
     {
-        let (dependency, _) = self.entries.get(number as usize);
-        dependency
+        self.entries.dependency(number as usize)
     }
 
     /// The places of the dependency with this number, which must be below `len()`. It takes no memory.
-    pub fn places(&self, number: u32) -> PlaceList<'_>
+    pub fn places(&self, number: u32) -> PlacesOf<'_>
         requires { number < length (known self.now) }
         ensures { result ≡ places_of self.now number }
     {
-        let (_, places) = self.entries.get(number as usize);
-        PlaceList::new(places)
+        self.entries.places(number)
     }
 
     /// Adds a place of a dependency, which must be later than all places noted before, and answers
@@ -73,16 +72,52 @@ impl DepTable {
     ///
     /// # Errors
     ///
-    /// `NoMemory` where a growth was refused. The table is then as before.
+    /// `NoMemory` where a growth was refused. The table then shows what it did.
     pub fn note(&mut self, place: Place, dependency: Dependency) -> Result<u32, NoMemory>
         requires { AllBelow self.old place }
         ensures ok { IfOk result (λ number. IsNoted self.old place dependency number self.new) }
-        ensures err { OnErr result (self.new ≡ self.old) }
+        ensures err { OnErr result (self.new.shown ≡ self.old.shown) }
+    {
+        self.reserve(place, &dependency)?;
+        Ok(self.record(place, dependency))
+    }
+
+    /// Makes room for a place of a dependency. What the table shows stays as it was. The room serves for any
+    /// one place of any dependency, and stands until `record` takes it.
+    ///
+    /// # Errors
+    ///
+    /// `NoMemory` where a growth was refused.
+    pub fn reserve(&mut self, _place: Place, _dependency: &Dependency) -> Result<(), NoMemory>
+        ensures shown { self.new.shown ≡ self.old.shown }
+        ensures ok { OnOk result (self.new.room ≡ true) }
+    {
+        self.entries.reserve()
+    }
+
+    /// Does what `note` does, where room was made. It takes no memory.
+    pub fn record(&mut self, place: Place, dependency: Dependency) -> u32
+        requires room { self.old.room ≡ true }
+        requires below { AllBelow self.old place }
+        ensures { IsNoted self.old place dependency result self.new }
     {
         // a number is never above its place, whose range is known once it was read
         let _index = place.get();
-        self.entries.reserve(&dependency)?;
-        let number = self.entries.record(place, dependency);
-        Ok(number as u32)
+        self.entries.record(place, dependency) as u32
+    }
+
+    /// The table that a beginning of the trace has: the dependencies below the total, with their places below
+    /// `events`. The total must be the number of dependencies with such a place. What was noted later is not
+    /// shown. It takes time for each dependency below the total, and for at most 4,096 places.
+    ///
+    /// # Errors
+    ///
+    /// `NoMemory` where a growth was refused.
+    pub fn share(&self, total: u32, events: u32) -> Result<DepTable, NoMemory>
+        requires { IsTotal self.now.shown total events }
+        ensures { IfOk result (λ part. IsPart self.now.shown total events part.shown) }
+    {
+        let entries = self.entries.share(total as usize, events)?;
+        Ok(DepTable { entries })
     }
 }

@@ -56,22 +56,18 @@ impl HeldTable {
         ensures ok { OnOk result (IsAfter self.old thread (Acquire lock) self.new) }
         ensures err { OnErr result ((t : ℕ) → held_in self.new t ≡ held_in self.old t) }
     {
-        self.reserve(thread)?;
+        self.reserve(thread, lock)?;
         self.record(thread, lock);
         Ok(())
     }
 
-    /// The thread releases a lock. One that it does not hold changes nothing. It takes no memory.
-    pub fn release(&mut self, thread: u32, lock: u32)
-        ensures { IsAfter self.old thread (Release lock) self.new }
-    {
-        if let Some(locks) = self.threads.get_mut(&thread) {
-            locks.remove(lock);
-        }
-    }
-
-    /// Makes an entry for a thread that is about to acquire a lock. What each thread holds stays as it was.
-    fn reserve(&mut self, thread: u32) -> Result<(), NoMemory>
+    /// Makes an entry for a thread that is about to acquire a lock. What each thread holds stays as it was: an
+    /// entry may be left empty, and shows as none.
+    ///
+    /// # Errors
+    ///
+    /// `NoMemory` where a growth was refused.
+    pub fn reserve(&mut self, thread: u32, _lock: u32) -> Result<(), NoMemory>
         ensures shown { (t : ℕ) → held_in self.new t ≡ held_in self.old t }
         ensures ok { OnOk result (HasEntry self.new thread) }
     {
@@ -81,8 +77,8 @@ impl HeldTable {
         Ok(())
     }
 
-    /// The thread, which has an entry, acquires a lock. It takes no memory.
-    fn record(&mut self, thread: u32, lock: u32)
+    /// Does what `acquire` does, where the thread has an entry. It takes no memory.
+    pub fn record(&mut self, thread: u32, lock: u32)
         requires entry { HasEntry self.old thread }
         requires new { has lock (held_in self.old thread) ≡ false }
         requires room { length (held_in self.old thread) < MAX_HELD }
@@ -90,6 +86,15 @@ impl HeldTable {
     {
         if let Some(locks) = self.threads.get_mut(&thread) {
             locks.insert(lock);
+        }
+    }
+
+    /// The thread releases a lock. One that it does not hold changes nothing. It takes no memory.
+    pub fn release(&mut self, thread: u32, lock: u32)
+        ensures { IsAfter self.old thread (Release lock) self.new }
+    {
+        if let Some(locks) = self.threads.get_mut(&thread) {
+            locks.remove(lock);
         }
     }
 }

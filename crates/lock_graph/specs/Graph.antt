@@ -1,5 +1,6 @@
 -- Which dependencies hold which lock.
-use Rattle.std.specs.Prelude.{◌≡◌, ℕ, ◌↔◌, List, slice_get, Some, Contains}
+use Rattle.std.specs.Prelude.{◌≡◌, ℕ, ◌≤◌, ◌↔◌, List, length, take, slice_get, nat_lt, Some, Contains}
+use Rattle.std.specs.List.{filter}
 use Rattle.std.specs.List.Sorted.{IsStrictlyIncreasing}
 use Rattle.trace_model.specs.Dependencies.{Dependency}
 use Rattle.lock_graph.specs.declared.graph.LockGraph.{LockGraph}
@@ -21,3 +22,16 @@ HoldsLock ds number lock = (d : Dependency) × (slice_get ds number ≡ Some d) 
 pub record IsGraphOf (ds : List Dependency) (graph : ℕ → List ℕ) : Type 0 where
   pub exact : (lock number : ℕ) → Contains (graph lock) number ↔ HoldsLock ds number lock
   pub ascends : (lock : ℕ) → IsStrictlyIncreasing (graph lock)
+
+-- what the graph has for a lock below a total
+abbrev pub holders_below : LockGraph → ℕ → ℕ → List ℕ
+holders_below g total lock = filter (λ n. nat_lt n total) (holders g lock)
+
+-- the graph is that of these dependencies, or of more that begin with them
+pub record HasGraphOf (ds : List Dependency) (g : LockGraph) : Type 0 where
+  pub below : IsGraphOf ds (holders_below g (length ds))
+  pub ascends : (lock : ℕ) → IsStrictlyIncreasing (holders g lock)
+
+-- a graph serves each beginning of its dependencies
+abbrev pub GraphsBegin : Type 0
+GraphsBegin = (all : List Dependency) (g : LockGraph) (total : ℕ) → IsGraphOf all (holders g) → total ≤ length all → HasGraphOf (take total all) g

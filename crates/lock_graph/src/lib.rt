@@ -2,6 +2,7 @@
 #![tactic(auto)]
 
 mod graph;
+pub mod laws;
 mod lists;
 
 pub use graph::LockGraph;

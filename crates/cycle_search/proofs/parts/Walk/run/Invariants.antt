@@ -1,7 +1,6 @@
 use Rattle.dependencies.specs.Tables.{known}
-use Rattle.lock_graph.specs.Graph.{holders}
-use Rattle.cycle_search.specs.Walk.{left}
+use Rattle.cycle_search.specs.Walk.{left_in}
 use Rattle.cycle_search.proofs.parts.Walk.run.Given as goal
 
 abbrev pub decreases-loop : goal.decreases-loop
-decreases-loop l = left (holders l.graph) (known l.table) l.self
+decreases-loop l = left_in (known l.table) l.graph l.self

@@ -1,10 +1,10 @@
-use Rattle.std.proofs.Common.{◌≡◌, ◌<◌, ◌-◌, ◌+◌, ◌++◌, inl, inr, length, refl, sym, ap, ◌∙◌, arith}
+use Rattle.std.proofs.Common.{◌≡◌, ◌<◌, ◌-◌, ◌+◌, ◌++◌, ℕ, inl, inr, length, refl, sym, ap, ◌∙◌, arith}
 use Rattle.std.proofs.lemmas.List.{set-get_or}
 use Rattle.std.specs.Prelude.{vec_len, option_to_list, slice_set}
 use Rattle.std.specs.Vec.{with_item}
 use Rattle.trace_model.specs.Dependencies.{Dependency}
 use Rattle.dependencies.specs.Tables.{known}
-use Rattle.lock_graph.specs.Graph.{holders}
+use Rattle.lock_graph.specs.Graph.{holders_below}
 use Rattle.cycle_search.specs.declared.parts.Walk.{Walk}
 use Rattle.cycle_search.proofs.Ranked.{listed-known}
 use Rattle.cycle_search.proofs.Left.{on-followed, on-left, stays-left, enters-left}
@@ -13,12 +13,12 @@ use Rattle.cycle_search.proofs.parts.Walk.step.Goals as goal
 pub get-requires-in-Some-get : goal.get-requires-in-Some-get
 get-requires-in-Some-get c =
     let found = c.in-Some-get.ensures.lookup in
-    listed-known (known c.args.table.now) (holders c.args.graph.now) c.requires _ c.in-Some-get.number.now c.successors.result.now c.successors.ensures
+    listed-known (known c.args.table.now) (holders_below c.args.graph.now (length (known c.args.table.now))) c.requires.below _ c.in-Some-get.number.now c.successors_below.result.now (c.successors_below.ensures ∙ ap (λ (n : ℕ). holders_below c.args.graph.now n c.in-Some.stop.now.lock) c.len.ensures.value)
     (c.in-Some.stop.now.followed, found.3.0, sym found.1)
 
 pub returns-in_ok-follow-in-Some-get : goal.returns-in_ok-follow-in-Some-get
 returns-in_ok-follow-in-Some-get c more =
-    let graph = holders c.args.graph.now in
+    let graph = holders_below c.args.graph.now (length (known c.args.table.now)) in
     let ds = known c.args.table.now in
     let walk = c.args.self.now in
     let stop = c.in-Some.stop.now in
@@ -26,7 +26,7 @@ returns-in_ok-follow-in-Some-get c more =
     let edge = c.in-Some-get.ensures.lookup in
     let last = vec_len walk.path - 1 in
     let inside : last < length walk.path.items = omega (arith, item.3.0) in
-    let unread : stop.followed < length (graph stop.lock) = omega (arith, edge.3.0, ap length c.successors.ensures) in
+    let unread : stop.followed < length (graph stop.lock) = omega (arith, edge.3.0, ap length (c.successors_below.ensures ∙ ap (λ (n : ℕ). holders_below c.args.graph.now n c.in-Some.stop.now.lock) c.len.ensures.value)) in
     let fell = on-followed graph walk.path.items last stop inside (c.in-Some.ensures.value) unread in
     let mid : Walk = record walk { path = with_item walk.path last (record { lock = stop.lock; followed = stop.followed + 1 }) } in
     elim c.in_ok-follow-in-Some-get.ensures [
@@ -36,7 +36,7 @@ returns-in_ok-follow-in-Some-get c more =
 
 pub returns-in_ok-leave-in-None : goal.returns-in_ok-leave-in-None
 returns-in_ok-leave-in-None c more =
-    let graph = holders c.args.graph.now in
+    let graph = holders_below c.args.graph.now (length (known c.args.table.now)) in
     let ds = known c.args.table.now in
     let walk = c.args.self.now in
     let stop = c.in-Some.stop.now in

@@ -1,23 +1,70 @@
-use Rattle.std.proofs.Common.{◌≡◌, ◌++◌, ◌∷◌, [], ℕ, List, length, sym, ap, subst, ◌∙◌}
-use Rattle.trace_model.specs.Dependencies.{Dependency}
-use Rattle.dependencies.specs.Tables.{Table, IsNoted}
-use Rattle.dependencies.specs.Entries.{shown_by}
-use Rattle.dependencies.proofs.Shown.{at_position, absent, shown_length}
-use Rattle.dependencies.proofs.Noting.{noted_known, noted_new}
+use Rattle.std.proofs.Common.{◌≡◌, ◌<◌, ◌≤◌, ℕ, Fits, w32, sym, ◌∙◌, arith}
+use Rattle.std.proofs.Math.Facts.{Fits-below}
+use Rattle.std.proofs.lemmas.Option.{slice_get_within}
+use Rattle.std.specs.Map.{keys_of}
+use Rattle.dependencies.specs.Entries.{rows_of}
+use Rattle.dependencies.proofs.Noting.{number_small}
+use Rattle.dependencies.proofs.Shown.{at_position, absent, length_from, keys_len, few_notes, known_noted, new_noted, kept_known, kept_new}
 use Rattle.dependencies.proofs.entries.Entries.record.Goals as goal
 
-pub returns-in-Some : goal.returns-in-Some
-returns-in-Some c =
-    noted_known _ _ c.args.place c.args.dependency c.in-Some.number (at_position c.args.dependency _ c.in-Some.number (sym c.in-Some.ensures))
-    c.add_place.ensures.known c.add_place.ensures.here c.add_place.ensures.elsewhere
+fits : (n p q : ℕ) → n ≤ p → q ≡ p → q < 4294967296 → Fits w32 n
+fits n p q l e h = Fits-below {w = w32} {m = n} {n = 4294967295} tt (omega arith)
 
-new_noted : (old new : Table) (p : ℕ) (d : Dependency) (n : ℕ) (ps : List ℕ) → n ≡ length old → new ≡ old ++ (d, ps) ∷ [] → ps ≡ p ∷ [] →
-    IsNoted old p d (length old) (old ++ (d, p ∷ []) ∷ []) → IsNoted old p d n new
-new_noted old new p d n ps e f g h =
-    subst (λ j. IsNoted old p d j new) (sym e) (subst (IsNoted old p d (length old)) (sym (f ∙ ap (λ qs. old ++ (d, qs) ∷ []) g)) h)
+pub overflow_cast-number : goal.overflow_cast-number
+overflow_cast-number c =
+    let e = c.args.self.now in
+    let at = at_position c.args.dependency (keys_of e.table.entries) c.in-Some.number (sym c.in-Some.ensures) in
+    let within = slice_get_within (keys_of e.table.entries) c.in-Some.number c.args.dependency at in
+    let len = length_from 0 (keys_of e.table.entries) e.places.notes in
+    fits c.in-Some.number c.args.place c.get-index.result (number_small (rows_of e) c.args.place c.in-Some.number c.requires.rows c.requires.below (omega arith)) c.get-index.ensures c.get-index.type_inv
 
-pub returns-in-None : goal.returns-in-None
-returns-in-None c =
-    new_noted _ _ _ _ _ _ (c.len-number.ensures.len ∙ sym (shown_length c.args.self.now.table.entries)) c.add_new.ensures
-    (c.push_reserved.ensures.items ∙ ap (λ v. v.items ++ c.args.place ∷ []) c.replace-places.ensures.value ∙ ap (λ xs. xs ++ c.args.place ∷ []) (c.requires.fresh (sym c.in-None.ensures)).1)
-    (noted_new (shown_by c.args.self.now) c.args.place c.args.dependency (absent c.args.dependency c.args.self.now.table.entries (sym c.in-None.ensures)))
+pub overflow_cast-number-in-None : goal.overflow_cast-number-in-None
+overflow_cast-number-in-None c =
+    let e = c.args.self.now in
+    let len = length_from 0 (keys_of e.table.entries) e.places.notes in
+    let keys = keys_len e.table.entries in
+    let n = c.len-number.ensures.len in
+    fits c.len-number.result c.args.place c.get-index.result (number_small (rows_of e) c.args.place c.len-number.result c.requires.rows c.requires.below (omega arith)) c.get-index.ensures c.get-index.type_inv
+
+pub returns-in-Some-clause-noted : goal.returns-in-Some-clause-noted
+returns-in-Some-clause-noted c =
+    let e = c.args.self.now in
+    let ds = keys_of e.table.entries in
+    let at = at_position c.args.dependency ds c.in-Some.number (sym c.in-Some.ensures) in
+    let within = slice_get_within ds c.in-Some.number c.args.dependency at in
+    known_noted ds e.places.notes c.record.new.self.notes c.args.place c.args.dependency c.in-Some.number c.requires.kept.beyond at within c.record.ensures.notes
+
+pub returns-in-Some-clause-kept : goal.returns-in-Some-clause-kept
+returns-in-Some-clause-kept c =
+    let e = c.args.self.now in
+    let ds = keys_of e.table.entries in
+    let at = at_position c.args.dependency ds c.in-Some.number (sym c.in-Some.ensures) in
+    kept_known ds e.places.notes c.record.new.self.notes c.args.place c.in-Some.number e.places.numbers c.record.new.self.numbers c.requires.kept c.requires.below
+    (slice_get_within ds c.in-Some.number c.args.dependency at) c.record.ensures.notes c.record.ensures.numbers
+
+pub returns-in-None-clause-noted : goal.returns-in-None-clause-noted
+returns-in-None-clause-noted c =
+    let e = c.args.self.now in
+    let ds = keys_of e.table.entries in
+    new_noted ds (keys_of c.add_key.new.table.entries) e.places.notes c.record-in-None.new.self.notes c.args.place c.args.dependency c.len-number.result c.requires.kept.beyond
+    (absent c.args.dependency e.table.entries (sym c.in-None.ensures)) (c.len-number.ensures.len ∙ sym (keys_len e.table.entries)) c.record-in-None.ensures.notes c.add_key.ensures
+
+pub returns-in-None-clause-kept : goal.returns-in-None-clause-kept
+returns-in-None-clause-kept c =
+    let e = c.args.self.now in
+    let ds = keys_of e.table.entries in
+    kept_new ds (keys_of c.add_key.new.table.entries) e.places.notes c.record-in-None.new.self.notes c.args.place c.args.dependency c.len-number.result e.places.numbers
+    c.record-in-None.new.self.numbers c.requires.kept c.requires.below (c.len-number.ensures.len ∙ sym (keys_len e.table.entries)) c.record-in-None.ensures.notes c.add_key.ensures
+    c.record-in-None.ensures.numbers
+
+pub record-requires-clause-few : goal.record-requires-clause-few
+record-requires-clause-few c =
+    let e = c.args.self.now in
+    let few = few_notes (keys_of e.table.entries) e.places.notes e.places.numbers c.args.place c.requires.kept c.requires.below in
+    omega (arith, few, c.get-index.ensures, c.get-index.type_inv)
+
+pub record-requires-in-None-clause-few : goal.record-requires-in-None-clause-few
+record-requires-in-None-clause-few c =
+    let e = c.args.self.now in
+    let few = few_notes (keys_of e.table.entries) e.places.notes e.places.numbers c.args.place c.requires.kept c.requires.below in
+    omega (arith, few, c.get-index.ensures, c.get-index.type_inv)

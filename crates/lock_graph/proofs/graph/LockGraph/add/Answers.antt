@@ -5,4 +5,4 @@ use Rattle.lock_graph.proofs.graph.LockGraph.add.Goals as goal
 
 pub returns-clause-graph : goal.returns-clause-graph
 returns-clause-graph c ds e g = graph-more ds c.args.dependency.now c.args.number _ _ e
-    (λ lock. c.record.ensures lock ∙ ap (listed_with c.args.dependency.now.held c.args.number lock) (c.reserve.ensures.shown lock)) g
+    (λ lock. c.record.ensures.lists lock ∙ ap (listed_with c.args.dependency.now.held c.args.number lock) (c.reserve.ensures.shown lock)) g

@@ -1,0 +1,3 @@
+pub mod Links
+pub mod Noted
+pub mod Below
