@@ -7,7 +7,7 @@ ghost use Rattle.trace_model.specs.Lawful.{IsWellFormed};
 ghost use Rattle.findings.specs.Found.{AreRowsOf};
 ghost use Rattle.question_server.specs.Offline.{AreComputed, IsNotAdmitted, IsNotComputed, IsNotReported, IsRefused, IsReport};
 
-use findings::{ComputeRefused, Job, LockTables, Snapshot};
+use findings::{ComputeRefused, Job, Snapshot};
 use std::alloc::Global;
 use std::hash::RandomState;
 use std::sync::Arc;
@@ -50,16 +50,6 @@ fn admit(alloc: Global, state: RandomState, events: &[Event]) -> Result<Gate, Of
         gate.record(event);
     }
     Ok(gate)
-}
-
-/// How many tasks a question about these events has.
-fn count_tasks(alloc: Global, state: RandomState, events: &[Event]) -> Result<u32, NoMemory>
-    requires well_formed { IsWellFormed events.now }
-    requires short { length events.now ≤ MAX_EVENTS }
-    ensures { IfOk result (λ total. total ≡ length (dependencies events.now)) }
-{
-    let tables = LockTables::of(alloc, state, events)?;
-    Ok(tables.len() as u32)
 }
 
 fn share(
@@ -114,12 +104,10 @@ fn tasks_of(
     ensures ok { IfOk result (λ tasks. AreComputed events.now bound (length (dependencies events.now)) tasks.items) }
     ensures refused { IfErr result (IsNotComputed events.now bound) }
 {
-    let Ok(total) = count_tasks(alloc, state, events) else {
-        return Err(OfflineRefused::NoMemory);
-    };
     let Ok(snapshot) = share(alloc, state, events) else {
         return Err(OfflineRefused::NoMemory);
     };
+    let total = snapshot.tasks();
     let mut job = Job::new(alloc, snapshot, 0, bound);
     compute_all(alloc, &mut job, total)
 }

@@ -60,6 +60,12 @@ pub lent_named : (admitted limit : ℕ) (events : Trace) (asked : List Told) (k 
 lent_named admitted limit events asked k None kept h = tt
 lent_named admitted limit events asked k (Some told) kept h = kept.named k told.now (lent_at asked k (Some told) h)
 
+pub lent_total : (admitted limit : ℕ) (events : Trace) (asked : List Told) (k : ℕ) (lent : Option (Bor Told)) → IsKept admitted limit events asked → IsItemAt asked k lent →
+    IfSome lent (λ told. length told.now.tasks ≡ length (dependencies (take told.now.length events)))
+lent_total admitted limit events asked k None kept h = tt
+lent_total admitted limit events asked k (Some told) kept h =
+    sym (length-map (option_map rows_in) told.now.tasks) ∙ (fits_at admitted limit events asked k told.now kept (lent_at asked k (Some told) h)).total
+
 -- ---- an event more
 
 pub kept_event : (admitted limit : ℕ) (events : Trace) (asked : List Told) (e : Event) → refusal_of limit events e ≡ None → IsKept admitted limit events asked →

@@ -1,6 +1,6 @@
 //! Questions are opened, and handed out to be worked on.
 
-ghost use Rattle.std.specs.Prelude.{◌≡◌, ℕ, ◌≤◌, length, slice_get, take, IfErr, IfOk, MatchOption, Some, None};
+ghost use Rattle.std.specs.Prelude.{◌≡◌, ℕ, ◌+◌, ◌<◌, ◌≤◌, slice_get, take, IfErr, IfOk, MatchOption, Some, None};
 ghost use Rattle.std.specs.Arc.{arc_value};
 ghost use Rattle.trace_model.specs.Machine.{Question, ask_refused, step};
 ghost use Rattle.trace_model.specs.declared.session.Request.TheVariants.{Ask};
@@ -10,11 +10,14 @@ ghost use Rattle.sequencer.specs.Printing.{printing};
 
 use crate::asked::Asked;
 use crate::book::{Book, NoSuchQuestion};
-use findings::{LockTables, Snapshot};
+use findings::Snapshot;
 use result_ledger::Ledger;
 use std::alloc::Global;
+use std::marker::Brand;
 use std::sync::Arc;
+use std::sync::ledger::{Blank, Ledger};
 use thiserror::Error;
+use trace_index::Copies;
 use trace_model::{Bound, MAX_QUESTIONS, NoMemory, Refusal};
 
 /// Why a question is not opened.
@@ -90,10 +93,9 @@ impl Book {
         ensures shown { self.new.state ≡ self.old.state }
         ensures ok { IfOk result (λ asked. (asked.bound ≡ bound) × HasRoom self.new (Open asked)) }
     {
-        let tables = LockTables::of(self.alloc, self.state, self.gate.events())?;
-        let total = tables.len() as u32;
+        let total = self.recorder.dependencies() as u32;
         let ledger = Ledger::open(self.alloc, total)?;
-        let length = self.gate.events().len() as u32;
+        let length = self.recorder.events().len() as u32;
         self.questions.reserve(1)?;
         Ok(Asked::open(length, bound, total, ledger))
     }
@@ -120,23 +122,28 @@ impl Book {
         ensures ok { IfOk result (λ shared. (q : Question) × (slice_get self.now.state.questions question ≡ Some q) × (arc_value shared ≡ take q.length self.now.state.accepted)) }
         ensures refused { IfErr result (RefusesSnapshot self.now.state question) }
     {
+        let _ = &self.recorder;
+        snapshot_of::<Brand>(self, question, Blank::new(1))
+    }
+
+    /// The same, with a count of the events that are copied: at most 4,096, however many there are. The others are
+    /// shared.
+    pub fn snapshot_counted<L: Ledger>(
+        &self,
+        question: u32,
+        copies: &mut Copies<L>,
+    ) -> Result<Arc<Snapshot, Global>, Refusal>
+        ensures ok { IfOk result (λ shared. (q : Question) × (slice_get self.now.state.questions question ≡ Some q) × (arc_value shared ≡ take q.length self.now.state.accepted)) }
+        ensures refused { IfErr result (RefusesSnapshot self.now.state question) }
+        ensures copies { copies.new ≤ copies.old + 4096 }
+    {
         let Some(asked) = self.asked(question) else {
             return Err(Refusal::NoSuchQuestion);
         };
-        match self.share(asked.events()) {
+        match self.recorder.snapshot(asked.events(), asked.total(), copies) {
             Ok(shared) => Ok(shared),
             Err(_) => Err(Refusal::NoMemory),
         }
-    }
-
-    /// The first `count` events.
-    fn share(&self, count: u32) -> Result<Arc<Snapshot, Global>, NoMemory>
-        requires { count ≤ length self.now.state.accepted }
-        ensures { IfOk result (λ shared. arc_value shared ≡ take count self.now.state.accepted) }
-    {
-        let events = &self.gate.events()[..count as usize];
-        let snapshot = Snapshot::build(self.alloc, self.state, events)?;
-        Ok(Arc::new(self.alloc, snapshot)?)
     }
 
     /// The least task of the question that is not delivered; none where all are. It takes no memory.
@@ -154,4 +161,20 @@ impl Book {
         };
         Ok(asked.missing())
     }
+}
+
+/// The snapshot of a question, with a count of its own.
+fn snapshot_of<L: Ledger>(
+    book: &Book,
+    question: u32,
+    blank: Blank,
+) -> Result<Arc<Snapshot, Global>, Refusal>
+    requires name { blank.name ≡ L.name }
+    requires parts { blank.parts ≡ L.parts }
+    requires some { 0 < L.parts }
+    ensures ok { IfOk result (λ shared. (q : Question) × (slice_get book.now.state.questions question ≡ Some q) × (arc_value shared ≡ take q.length book.now.state.accepted)) }
+    ensures refused { IfErr result (RefusesSnapshot book.now.state question) }
+{
+    let mut copies = Copies::<L>::new(blank);
+    book.snapshot_counted(question, &mut copies)
 }

@@ -1,6 +1,7 @@
 //! The book: its events and its questions.
 
 ghost use Rattle.std.specs.Prelude.{◌≡◌, ◌<◌, ◌≤◌, ◌↔◌, length, take, slice_get, option_map, IfSome, IfErr, IfOk, IsOk, MatchOption, OnOk, Some, None};
+ghost use Rattle.trace_model.specs.Dependencies.{dependencies};
 ghost use Rattle.trace_model.specs.Lawful.{refusal_of};
 ghost use Rattle.trace_model.specs.Rows.{AreRows};
 ghost use Rattle.trace_model.specs.Machine.{ask_refused, opening, step, with_event, with_question};
@@ -13,12 +14,12 @@ ghost use Rattle.sequencer.specs.Book.{IsLimit, RefusesOffer, fresh};
 ghost use Rattle.sequencer.specs.Printing.{printing};
 
 use crate::asked::Asked;
+use recorder::Recorder;
 use std::alloc::Global;
 use std::hash::RandomState;
 use std::marker::Model;
 use thiserror::Error;
 use trace_model::{Event, MAX_EVENTS, Place, Refusal};
-use wellformed::Gate;
 
 /// Why a book is not made.
 #[derive(Debug, Drop, PartialEq, Eq, Error)]
@@ -38,9 +39,8 @@ pub struct NoSuchQuestion;
 #[derive(Drop)]
 pub struct Book {
     pub(crate) alloc: Global,
-    pub(crate) state: RandomState,
     pub(crate) limit: u32,
-    pub(crate) gate: Gate,
+    pub(crate) recorder: Recorder,
     pub(crate) questions: Vec<Asked>,
 }
 
@@ -50,9 +50,9 @@ impl Model for Book {
 
     ghost Value = { Kept };
 
-    ghost view = { λ b. record { state = state_of b.limit b.gate.events b.questions.items; reserved = b.gate.reserved; room = vec_capacity b.questions - vec_len b.questions } };
+    ghost view = { λ b. record { state = state_of b.limit b.recorder.events b.questions.items; reserved = b.recorder.reserved; room = vec_capacity b.questions - vec_len b.questions } };
 
-    ghost invariant = { λ b. IsKept b.gate.limit b.limit b.gate.events b.questions.items };
+    ghost invariant = { λ b. IsKept b.recorder.limit b.limit b.recorder.events b.questions.items };
 }
 
 impl Book {
@@ -71,9 +71,8 @@ impl Book {
         }
         Ok(Book {
             alloc,
-            state,
             limit: max_events,
-            gate: Gate::new(alloc, state, max_events as usize),
+            recorder: Recorder::new(alloc, state, max_events as usize),
             questions: Vec::new(alloc),
         })
     }
@@ -85,7 +84,7 @@ impl Book {
         ensures fits { StateFits AreRows self.now.state }
     {
         let _ = &self.questions;
-        self.gate.events()
+        self.recorder.events()
     }
 
     /// How many questions were opened.
@@ -100,6 +99,7 @@ impl Book {
         ensures value { option_map (λ asked. question_of asked.now) result ≡ slice_get self.now.state.questions question }
         ensures within { IfSome result (λ asked. asked.now.length ≤ length self.now.state.accepted) }
         ensures named { IfSome result (λ asked. TellsNamed (take asked.now.length self.now.state.accepted) asked.now) }
+        ensures total { IfSome result (λ asked. length asked.now.tasks ≡ length (dependencies (take asked.now.length self.now.state.accepted))) }
     {
         self.questions.get(question as usize)
     }
@@ -110,8 +110,8 @@ impl Book {
         ensures ok { OnOk result ((self.new.reserved ≡ Some event.now) × (refusal_of self.old.state.limit self.old.state.accepted event.now ≡ None)) }
         ensures refused { IfErr result (RefusesOffer self.old.state event.now) }
     {
-        self.gate.check(event)?;
-        if self.gate.reserve(event).is_err() {
+        self.recorder.check(event)?;
+        if self.recorder.reserve(event).is_err() {
             return Err(Refusal::NoMemory);
         }
         Ok(())
@@ -121,7 +121,7 @@ impl Book {
     pub(crate) fn length(&self) -> u32
         ensures { result ≡ length self.now.state.accepted }
     {
-        self.gate.events().len() as u32
+        self.recorder.events().len() as u32
     }
 
     /// Accepts a lawful event that there is room for.
@@ -130,7 +130,7 @@ impl Book {
         requires lawful { refusal_of self.old.state.limit self.old.state.accepted event.now ≡ None }
         ensures { self.new.state ≡ with_event self.old.state event.now }
     {
-        self.gate.record(event);
+        self.recorder.record(event);
     }
 
     /// Adds a question that there is room for.

@@ -46,7 +46,7 @@ impl Book {
         if finding.bound() != asked.bound() {
             return Err(Refusal::OtherBound);
         }
-        let events = &self.gate.events()[..asked.events() as usize];
+        let events = &self.recorder.events()[..asked.events() as usize];
         if !is_of(finding.snapshot(), events) {
             return Err(Refusal::OtherTrace);
         }

@@ -7,6 +7,6 @@ use Rattle.sequencer.proofs.book.Book.accept.Goals as goal
 pub invariant_of-self : goal.invariant_of-self
 invariant_of-self c =
     let inside = c.self.inside in
-    let lawful : refusal_of inside.limit inside.gate.events c.args.event.now ≡ None =
+    let lawful : refusal_of inside.limit inside.recorder.events c.args.event.now ≡ None =
     ap (λ (k : Kept). refusal_of k.state.limit k.state.accepted c.args.event.now) c.self.view_is ∙ c.requires.lawful in
-    rw c.record.ensures (kept_event inside.gate.limit inside.limit inside.gate.events inside.questions.items c.args.event.now lawful c.self.invariant)
+    rw c.record.ensures (kept_event inside.recorder.limit inside.limit inside.recorder.events inside.questions.items c.args.event.now lawful c.self.invariant)

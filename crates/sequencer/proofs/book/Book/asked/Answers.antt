@@ -1,23 +1,32 @@
 use Rattle.std.proofs.Common.{◌≡◌, ◌≤◌, length, take, ap, subst, IfSome}
 use Rattle.std.specs.Slice.{IsItemAt}
 use Rattle.trace_model.specs.Trace.{Trace}
+use Rattle.trace_model.specs.Dependencies.{dependencies}
 use Rattle.sequencer.specs.Asked.{TellsNamed}
 use Rattle.sequencer.specs.Book.{Kept}
-use Rattle.sequencer.proofs.KeptOn.{lent_within, lent_named}
+use Rattle.sequencer.proofs.KeptOn.{lent_within, lent_named, lent_total}
 use Rattle.sequencer.proofs.book.Book.asked.Goals as goal
 
 pub returns-clause-within : goal.returns-clause-within
 returns-clause-within c =
     let b = c.self.inside in
-    let shown : b.gate.events ≡ c.args.self.now.state.accepted = ap (λ (k : Kept). k.state.accepted) c.self.view_is in
+    let shown : b.recorder.events ≡ c.args.self.now.state.accepted = ap (λ (k : Kept). k.state.accepted) c.self.view_is in
     let lent = subst (λ items. IsItemAt items c.args.question c.get.result) c.deref.ensures.value c.get.ensures.lookup in
     subst (λ (s : Trace). IfSome c.get.result (λ asked. asked.now.length ≤ length s)) shown
-    (lent_within b.gate.limit b.limit b.gate.events b.questions.items c.args.question c.get.result c.self.invariant lent)
+    (lent_within b.recorder.limit b.limit b.recorder.events b.questions.items c.args.question c.get.result c.self.invariant lent)
 
 pub returns-clause-named : goal.returns-clause-named
 returns-clause-named c =
     let b = c.self.inside in
-    let shown : b.gate.events ≡ c.args.self.now.state.accepted = ap (λ (k : Kept). k.state.accepted) c.self.view_is in
+    let shown : b.recorder.events ≡ c.args.self.now.state.accepted = ap (λ (k : Kept). k.state.accepted) c.self.view_is in
     let lent = subst (λ items. IsItemAt items c.args.question c.get.result) c.deref.ensures.value c.get.ensures.lookup in
     subst (λ (s : Trace). IfSome c.get.result (λ asked. TellsNamed (take asked.now.length s) asked.now)) shown
-    (lent_named b.gate.limit b.limit b.gate.events b.questions.items c.args.question c.get.result c.self.invariant lent)
+    (lent_named b.recorder.limit b.limit b.recorder.events b.questions.items c.args.question c.get.result c.self.invariant lent)
+
+pub returns-clause-total : goal.returns-clause-total
+returns-clause-total c =
+    let b = c.self.inside in
+    let shown : b.recorder.events ≡ c.args.self.now.state.accepted = ap (λ (k : Kept). k.state.accepted) c.self.view_is in
+    let lent = subst (λ items. IsItemAt items c.args.question c.get.result) c.deref.ensures.value c.get.ensures.lookup in
+    subst (λ (s : Trace). IfSome c.get.result (λ asked. length asked.now.tasks ≡ length (dependencies (take asked.now.length s)))) shown
+    (lent_total b.recorder.limit b.limit b.recorder.events b.questions.items c.args.question c.get.result c.self.invariant lent)

@@ -10,8 +10,8 @@ accept-requires-clause-few c =
     let f = c.args.finding in
     let now = c.index_mut-asked.result.now in
     let admits = ap (λ (k : Kept). deliver_refused k.state f.question f.bound f.events f.task) c.self.view_is ∙ c.requires in
-    let known = own_question b.limit b.gate.events b.questions.items f now c.question-question.result admits c.index_mut-asked.ensures.value c.question-question.ensures in
-    rw c.into_rows.ensures.rows (few_cycles b.gate.limit b.limit b.gate.events b.questions.items f now c.self.invariant known c.into_rows.ensures.exact)
+    let known = own_question b.limit b.recorder.events b.questions.items f now c.question-question.result admits c.index_mut-asked.ensures.value c.question-question.ensures in
+    rw c.into_rows.ensures.rows (few_cycles b.recorder.limit b.limit b.recorder.events b.questions.items f now c.self.invariant known c.into_rows.ensures.exact)
 
 -- what the book then has of it
 written : (c : goal.After-self-1) →
@@ -29,9 +29,9 @@ invariant_of-self c =
     let f = c.args.finding in
     let now = c.index_mut-asked.result.now in
     let admits = ap (λ (k : Kept). deliver_refused k.state f.question f.bound f.events f.task) c.self.view_is ∙ c.requires in
-    let known = own_question b.limit b.gate.events b.questions.items f now c.question-question.result admits c.index_mut-asked.ensures.value c.question-question.ensures in
-    subst (IsKept b.gate.limit b.limit b.gate.events) (sym (written c))
-    (kept_told b.gate.limit b.limit b.gate.events b.questions.items f now admits known c.into_rows.ensures.exact c.self.invariant)
+    let known = own_question b.limit b.recorder.events b.questions.items f now c.question-question.result admits c.index_mut-asked.ensures.value c.question-question.ensures in
+    subst (IsKept b.recorder.limit b.limit b.recorder.events) (sym (written c))
+    (kept_told b.recorder.limit b.limit b.recorder.events b.questions.items f now admits known c.into_rows.ensures.exact c.self.invariant)
 
 pub returns-clause-machine : goal.returns-clause-machine
 returns-clause-machine c =
@@ -39,7 +39,7 @@ returns-clause-machine c =
     let f = c.args.finding in
     let now = c.index_mut-asked.result.now in
     let admits = ap (λ (k : Kept). deliver_refused k.state f.question f.bound f.events f.task) c.self.view_is ∙ c.requires in
-    let known = own_question b.limit b.gate.events b.questions.items f now c.question-question.result admits c.index_mut-asked.ensures.value c.question-question.ensures in
+    let known = own_question b.limit b.recorder.events b.questions.items f now c.question-question.result admits c.index_mut-asked.ensures.value c.question-question.ensures in
     ap (λ (k : Kept). deliver k.state f.question f.bound f.events f.task (findings_rows f)) (sym c.self.view_is)
-    ∙ (told_state b.limit b.gate.events b.questions.items f now admits known
-    ∙ ap (λ questions. (None, state_of b.limit b.gate.events questions)) (sym (written c)))
+    ∙ (told_state b.limit b.recorder.events b.questions.items f now admits known
+    ∙ ap (λ questions. (None, state_of b.limit b.recorder.events questions)) (sym (written c)))

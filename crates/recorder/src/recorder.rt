@@ -1,0 +1,151 @@
+ghost use Rattle.std.specs.Prelude.{◌≡◌, ◌+◌, ◌≤◌, ◌<◌, [], ◌∷◌, ◌++◌, length, take, Some, None, IfOk, OnOk};
+ghost use Rattle.std.specs.Arc.{arc_value};
+ghost use Rattle.std.specs.Result.{result_err};
+ghost use Rattle.trace_model.specs.declared.limits.TheConstants.{MAX_EVENTS};
+ghost use Rattle.trace_model.specs.Dependencies.{dependencies};
+ghost use Rattle.trace_model.specs.Lawful.{refusal_of, IsWellFormed};
+
+use findings::Snapshot;
+use lock_tables::LockTables;
+use std::alloc::Global;
+use std::collections::hash_map::RandomState;
+use std::marker::{Brand, Model};
+use std::sync::Arc;
+use std::sync::ledger::{Blank, Ledger};
+use trace_index::{Copies, TraceIndex};
+use trace_model::{Event, NoMemory, Refusal};
+use wellformed::Gate;
+
+/// The accepted events, each lawful after those before it, with their index and their lock tables, and the event
+/// that there is room for. Contracts see what a gate shows.
+#[derive(Drop)]
+pub struct Recorder {
+    alloc: Global,
+    state: RandomState,
+    gate: Gate,
+    index: TraceIndex,
+    tables: LockTables,
+    ready: Option<Event>,
+}
+
+impl Model for Recorder {
+    ghost use Rattle.wellformed.specs.Gate.{Admitted};
+    ghost use Rattle.recorder.specs.Recording.{IsRecording};
+
+    ghost Value = { Admitted };
+
+    ghost view = { λ r. record { limit = r.gate.limit; events = r.gate.events; reserved = r.ready } };
+
+    ghost invariant = { λ r. IsRecording r.gate r.index r.tables r.ready };
+}
+
+/// Puts the event, for which there is room, into the index, with a count of its own.
+fn record_in<L: Ledger>(index: &mut TraceIndex, event: &Event, blank: Blank)
+    requires name { blank.name ≡ L.name }
+    requires parts { blank.parts ≡ L.parts }
+    requires some { 0 < L.parts }
+    requires reserved { index.old.reserved ≡ Some event.now }
+    requires lawful { refusal_of MAX_EVENTS index.old.events event.now ≡ None }
+    ensures { index.new.events ≡ index.old.events ++ event.now ∷ [] }
+{
+    let mut copies = Copies::<L>::new(blank);
+    index.record(event, &mut copies);
+}
+
+impl Recorder {
+    /// A recorder without events, which takes at most `max_events`. That is at most `MAX_EVENTS`. It takes no memory.
+    pub fn new(alloc: Global, state: RandomState, max_events: usize) -> Recorder
+        requires { max_events ≤ MAX_EVENTS }
+        ensures { result ≡ record { limit = max_events; events = []; reserved = None } }
+    {
+        Recorder {
+            alloc,
+            state,
+            gate: Gate::new(alloc, state, max_events),
+            index: TraceIndex::new(alloc, state),
+            tables: LockTables::new(alloc, state),
+            ready: None,
+        }
+    }
+
+    /// Whether the event may follow the recorded ones. It takes no memory.
+    ///
+    /// # Errors
+    ///
+    /// The first refusal that applies.
+    pub fn check(&self, event: &Event) -> Result<(), Refusal>
+        ensures { result_err result ≡ refusal_of self.now.limit self.now.events event.now }
+    {
+        self.gate.check(event)
+    }
+
+    /// The recorded events. It takes no memory.
+    pub fn events(&self) -> &[Event]
+        ensures value { result.now ≡ self.now.events }
+        ensures well_formed { IsWellFormed self.now.events }
+        ensures within { length self.now.events ≤ self.now.limit }
+    {
+        self.gate.events()
+    }
+
+    /// How many dependencies the recorded events have. It takes no memory.
+    pub fn dependencies(&self) -> usize
+        ensures { result ≡ length (dependencies self.now.events) }
+    {
+        let _ = &self.gate;
+        self.tables.len()
+    }
+
+    /// Makes every growth for this event, in gate, index and tables. Room that was made for another is then
+    /// given up.
+    ///
+    /// # Errors
+    ///
+    /// `NoMemory`. No look-up has changed.
+    pub fn reserve(&mut self, event: &Event) -> Result<(), NoMemory>
+        ensures events { (self.new.events ≡ self.old.events) × (self.new.limit ≡ self.old.limit) }
+        ensures ok { OnOk result (self.new.reserved ≡ Some event.now) }
+    {
+        self.ready = None;
+        self.gate.reserve(event)?;
+        self.index.reserve(event)?;
+        self.tables.reserve(event)?;
+        self.ready = Some(*event);
+        Ok(())
+    }
+
+    /// Records the event, which must be lawful, and the one that room was last made for. It takes no memory.
+    pub fn record(&mut self, event: &Event)
+        requires reserved { self.old.reserved ≡ Some event.now }
+        requires lawful { refusal_of self.old.limit self.old.events event.now ≡ None }
+        ensures { self.new ≡ record { limit = self.old.limit; events = self.old.events ++ event.now ∷ []; reserved = None } }
+    {
+        self.ready = None;
+        record_in::<Brand>(&mut self.index, event, Blank::new(1));
+        self.tables.record(event);
+        self.gate.record(event);
+    }
+
+    /// The first `length` events with what is needed to compute their rows, `total` being the number of their
+    /// dependencies. Full segments are shared, and at most one is copied; `copies` counts the events in it.
+    ///
+    /// # Errors
+    ///
+    /// `NoMemory` where a growth was refused.
+    pub fn snapshot<L: Ledger>(
+        &self,
+        length: u32,
+        total: u32,
+        copies: &mut Copies<L>,
+    ) -> Result<Arc<Snapshot, Global>, NoMemory>
+        requires within { length ≤ length self.now.events }
+        requires total { total ≡ length (dependencies (take length self.now.events)) }
+        ensures events { IfOk result (λ shared. arc_value shared ≡ take length self.now.events) }
+        ensures copies { copies.new ≤ copies.old + 4096 }
+    {
+        let index = self.index.share(length as usize, copies)?;
+        let parts = self.tables.share(total, length)?;
+        let snapshot = Snapshot::of(self.state, index, parts);
+        Ok(Arc::new(self.alloc, snapshot)?)
+    }
+}
