@@ -246,7 +246,7 @@ keys_take {V} zero es = refl
 keys_take {V} (suc n) [] = refl
 keys_take {V} (suc n) (e ∷ es) = ap (λ ks. e.0 ∷ ks) (keys_take n es)
 
-take_next : {X : Type 0} → (n : ℕ) (xs : List X) (x : X) → slice_get xs n ≡ Some x → take (suc n) xs ≡ take n xs ++ x ∷ []
+pub take_next : {X : Type 0} → (n : ℕ) (xs : List X) (x : X) → slice_get xs n ≡ Some x → take (suc n) xs ≡ take n xs ++ x ∷ []
 take_next {X} n [] x h = absurd (none-some x h)
 take_next {X} zero (y ∷ xs) x h = ap (λ z. z ∷ []) (same_Some y x h)
 take_next {X} (suc n) (y ∷ xs) x h = ap (λ zs. y ∷ zs) (take_next n xs x h)

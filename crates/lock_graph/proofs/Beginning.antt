@@ -7,11 +7,14 @@ use Rattle.std.proofs.lemmas.List.Sorted.{IsNonDecreasingBy-from_default}
 use Rattle.std.proofs.lemmas.Option.{slice_get_within, get_or_from_slice_get}
 use Rattle.std.specs.List.{filter, Contains}
 use Rattle.std.specs.List.Sorted.{IsStrictlyIncreasing, IsNonDecreasingBy, IsPartitionPoint}
+use Rattle.trace_model.specs.Dependencies.{Dependency}
 use Rattle.trace_model.proofs.Lists.{get-take, get-take_past}
 use Rattle.dependencies.proofs.Parts.{below_exact}
-use Rattle.lock_graph.specs.Graph.{HoldsLock, GraphsBegin, holders, holders_below}
+use Rattle.lock_graph.specs.declared.graph.LockGraph.{LockGraph}
+use Rattle.lock_graph.specs.Graph.{HoldsLock, IsGraphOf, HasGraphOf, holders, holders_below}
 
-pub graphs_begin : GraphsBegin
+-- a graph serves each beginning of its dependencies
+pub graphs_begin : (all : List Dependency) (g : LockGraph) (total : ℕ) → IsGraphOf all (holders g) → total ≤ length all → HasGraphOf (take total all) g
 graphs_begin all g total is within = record {
   below = record {
     exact = λ lock n. (forth lock n, back lock n);

@@ -1,5 +1,5 @@
 -- Which dependencies hold which lock.
-use Rattle.std.specs.Prelude.{◌≡◌, ℕ, ◌≤◌, ◌↔◌, List, length, take, slice_get, nat_lt, Some, Contains}
+use Rattle.std.specs.Prelude.{◌≡◌, ℕ, ◌↔◌, List, length, slice_get, nat_lt, Some, Contains}
 use Rattle.std.specs.List.{filter}
 use Rattle.std.specs.List.Sorted.{IsStrictlyIncreasing}
 use Rattle.trace_model.specs.Dependencies.{Dependency}
@@ -31,7 +31,3 @@ holders_below g total lock = filter (λ n. nat_lt n total) (holders g lock)
 pub record HasGraphOf (ds : List Dependency) (g : LockGraph) : Type 0 where
   pub below : IsGraphOf ds (holders_below g (length ds))
   pub ascends : (lock : ℕ) → IsStrictlyIncreasing (holders g lock)
-
--- a graph serves each beginning of its dependencies
-abbrev pub GraphsBegin : Type 0
-GraphsBegin = (all : List Dependency) (g : LockGraph) (total : ℕ) → IsGraphOf all (holders g) → total ≤ length all → HasGraphOf (take total all) g

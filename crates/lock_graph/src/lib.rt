@@ -2,7 +2,6 @@
 #![tactic(auto)]
 
 mod graph;
-pub mod laws;
 mod lists;
 
 pub use graph::LockGraph;

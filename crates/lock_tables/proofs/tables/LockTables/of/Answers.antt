@@ -1,0 +1,27 @@
+use Rattle.std.proofs.Common.{◌≡◌, ◌+◌, suc, take, sym, ap, subst, ◌∙◌, arith}
+use Rattle.std.proofs.lemmas.List.{take_all}
+use Rattle.std.proofs.lemmas.Option.{slice_get-get_or}
+use Rattle.trace_model.specs.declared.event.Op.TheVariants.{Fork}
+use Rattle.dependencies.proofs.Shown.{take_next}
+use Rattle.lock_tables.specs.Tables.{FollowTrace}
+use Rattle.lock_tables.proofs.tables.LockTables.of.Goals as goal
+
+pub record-requires-clause-lawful : goal.record-requires-clause-lawful
+record-requires-clause-lawful c =
+    let s = c.args.events.now in
+    let i = c.loop-event.event-index in
+    (take i s, c.in_ok-reserve.ensures.follow (take i s) c.loop-event.invariant, c.requires i _ (slice_get-get_or s i (record { thread = 0; op = Fork 0 }) c.loop-event-test.true))
+
+pub loop-event-preserved : goal.loop-event-preserved
+loop-event-preserved c =
+    let s = c.args.events.now in
+    let i = c.loop-event.event-index in
+    let next : suc i ≡ i + 1 = omega arith in
+    let more = take_next i s _ (slice_get-get_or s i (record { thread = 0; op = Fork 0 }) c.loop-event-test.true) in
+    subst (FollowTrace c.record.new.self) (sym more ∙ ap (λ n. take n s) next) (c.record.ensures (take i s) (c.in_ok-reserve.ensures.follow (take i s) c.loop-event.invariant))
+
+pub returns : goal.returns
+returns c =
+    let s = c.args.events.now in
+    let past = c.loop-event-test.false in
+    subst (FollowTrace c.catch_up.new.self) (take_all c.loop-event.event-index s (omega arith)) (c.in_ok-catch_up.ensures.follow (take c.loop-event.event-index s) c.loop-event.invariant)

@@ -1,0 +1,34 @@
+use Rattle.std.proofs.Common.{◌≡◌, ◌≤◌, Option, length, take, sym, subst, ap, ◌∙◌, arith}
+use Rattle.std.specs.Arc.{arc_value}
+use Rattle.trace_model.specs.Dependencies.{Dependency, dependency_of, with_new}
+use Rattle.trace_model.specs.Held.{held}
+use Rattle.trace_model.proofs.Lists.{length-push}
+use Rattle.trace_model.proofs.OneMore.{dependencies-push}
+use Rattle.dependencies.specs.Tables.{AllBelow, known}
+use Rattle.lock_graph.specs.Graph.{IsGraphOf, holders}
+use Rattle.lock_tables.proofs.OneFurther.{grown}
+use Rattle.lock_tables.proofs.tables.LockTables.record.Goals as goal
+
+pub note_place-requires-clause-below : goal.note_place-requires-clause-below
+note_place-requires-clause-below c =
+    let (s, f, lawful) = c.requires.lawful in
+    subst (AllBelow c.args.self.now.dependencies) (sym f.counted ∙ sym c.new.ensures)
+    (c.tables_follow.ensures.grow c.args.self.now.held c.args.self.now.dependencies c.args.self.now.dependencies s c.args.event.now f.held f.dependencies).0
+
+pub returns : goal.returns
+returns c s f =
+    let e = c.args.event.now in
+    let old = c.args.self.now in
+    let table = c.note_place.ensures s (c.new.ensures ∙ f.counted) f.held f.dependencies in
+    let next : Option Dependency = dependency_of e.thread e.op (held s (length s) e.thread) in
+    let more = grown (known old.dependencies) next old.graphed f.graphed in
+    let is : known c.note_place.new.table ≡ with_new (known old.dependencies) next = table.0 ∙ dependencies-push s e ∙ ap (λ ds. with_new ds next) (sym f.dependencies.0) in
+    let len = length-push s e in
+    let count = f.counted in
+    record {
+      counted = omega arith;
+      held = c.follow_locks.ensures s f.held;
+      dependencies = table;
+      graphed = subst (λ ds. old.graphed ≤ length ds) (sym is) more.0;
+      graph = subst (λ ds. IsGraphOf ds (holders (arc_value old.graph))) (sym (ap (take old.graphed) is ∙ more.1)) f.graph;
+    }

@@ -1,0 +1,220 @@
+ghost use Rattle.std.specs.Prelude.{◌≡◌, ℕ, ◌+◌, ◌<◌, ◌≤◌, ◌++◌, ◌∷◌, [], List, length, take, slice_get, true, Some, IfOk, OnOk, OnErr};
+ghost use Rattle.std.specs.Arc.{arc_value};
+ghost use Rattle.trace_model.specs.Trace.{Trace};
+ghost use Rattle.trace_model.specs.Lawful.{IsWellFormed};
+ghost use Rattle.trace_model.specs.Dependencies.{Dependency as Triple};
+ghost use Rattle.dependencies.specs.Tables.{known};
+ghost use Rattle.lock_graph.specs.Graph.{IsGraphOf, HasGraphOf, holders};
+ghost use Rattle.lock_tables.specs.Tables.{FollowTrace, HasRoomFor, IsLawfulNext, HasTotal, CountsBelow, ArePartsOf};
+
+use crate::parts::LockParts;
+use crate::steps::{follow_locks, note_place, reserve_locks, reserve_place};
+use dependencies::laws::tables_follow;
+use dependencies::{DepTable, Dependency};
+use held_sets::HeldTable;
+use held_sets::laws::acquires_fit;
+use lock_graph::LockGraph;
+use std::alloc::Global;
+use std::collections::hash_map::RandomState;
+use std::sync::Arc;
+use trace_model::{Event, NoMemory, Place};
+
+/// What each thread holds, which dependencies there are and where, and which of them hold which lock.
+///
+/// Snapshots share the graph. So a new dependency comes into it with the growths for the next event, into a copy
+/// where it is shared: at most one copy for each snapshot.
+#[derive(Drop)]
+pub struct LockTables {
+    alloc: Global,
+    held: HeldTable,
+    dependencies: DepTable,
+    graph: Arc<LockGraph, Global>,
+    /// How many of the dependencies the graph has.
+    graphed: usize,
+    /// How many events there were.
+    events: u32,
+}
+
+impl LockTables {
+    /// The tables of the empty trace.
+    ///
+    /// # Errors
+    ///
+    /// `NoMemory` where a growth was refused.
+    pub fn new(alloc: Global, state: RandomState) -> Result<LockTables, NoMemory>
+        ensures { IfOk result (λ tables. FollowTrace tables []) }
+    {
+        let graph = Arc::new(alloc, LockGraph::new(alloc, state))?;
+        Ok(LockTables {
+            alloc,
+            held: HeldTable::new(alloc, state),
+            dependencies: DepTable::new(alloc, state),
+            graph,
+            graphed: 0,
+            events: 0,
+        })
+    }
+
+    /// The tables of a well-formed trace, made in one pass over its events.
+    ///
+    /// # Errors
+    ///
+    /// `NoMemory` where a growth was refused.
+    pub fn of(alloc: Global, state: RandomState, events: &[Event]) -> Result<LockTables, NoMemory>
+        requires { IsWellFormed events.now }
+        ensures { IfOk result (λ tables. FollowTrace tables events.now) }
+    {
+        let mut tables = LockTables::new(alloc, state)?;
+        for event in events {
+            tables.reserve(event)?;
+            tables.record(event);
+        }
+        tables.catch_up()?;
+        Ok(tables)
+    }
+
+    /// How many dependencies there are. It takes no memory.
+    pub fn len(&self) -> usize
+        ensures { result ≡ length (known self.now.dependencies) }
+    {
+        self.dependencies.len()
+    }
+
+    /// Makes every growth for the event. The trace of the tables stays as it was.
+    ///
+    /// # Errors
+    ///
+    /// `NoMemory` where a growth was refused.
+    pub fn reserve(&mut self, event: &Event) -> Result<(), NoMemory>
+        ensures follow { (s : Trace) → FollowTrace self.old s → FollowTrace self.new s }
+        ensures ok { OnOk result (HasRoomFor self.new event.now) }
+    {
+        tables_follow();
+        self.catch_up()?;
+        reserve_locks(&mut self.held, event)?;
+        reserve_place(
+            &mut self.dependencies,
+            &self.held,
+            event,
+            Place::new(self.events),
+        )
+    }
+
+    /// Goes on to the event, which must be lawful next, and for which room was made. It takes no memory.
+    pub fn record(&mut self, event: &Event)
+        requires room { HasRoomFor self.old event.now }
+        requires lawful { IsLawfulNext self.old event.now }
+        ensures { (s : Trace) → FollowTrace self.old s → FollowTrace self.new (s ++ event.now ∷ []) }
+    {
+        tables_follow();
+        acquires_fit();
+        note_place(
+            &mut self.dependencies,
+            &self.held,
+            event,
+            Place::new(self.events),
+        );
+        follow_locks(&mut self.held, event);
+        self.events += 1;
+    }
+
+    /// Brings the dependencies that are new into the graph. The trace of the tables stays as it was. After it
+    /// `share` copies no graph until the next event.
+    ///
+    /// # Errors
+    ///
+    /// `NoMemory` where a growth was refused.
+    pub fn catch_up(&mut self) -> Result<(), NoMemory>
+        ensures follow { (s : Trace) → FollowTrace self.old s → FollowTrace self.new s }
+    {
+        while self.graphed < self.dependencies.len() {
+            self.graph_next()?;
+        }
+        Ok(())
+    }
+
+    /// The tables of the first events, which have so many dependencies: what came later is left out. It takes
+    /// time for each of these dependencies, and for at most 4,096 places; a graph that lacks the last one is
+    /// copied.
+    ///
+    /// # Errors
+    ///
+    /// `NoMemory` where a growth was refused.
+    pub fn share(&self, total: u32, events: u32) -> Result<LockParts, NoMemory>
+        requires { HasTotal self.now total events }
+        ensures { IfOk result (λ parts. (s : Trace) → FollowTrace self.now s → CountsBelow s total events → ArePartsOf parts (take events s)) }
+    {
+        tables_follow();
+        let dependencies = self.dependencies.share(total, events)?;
+        let graph = graph_of(
+            self.alloc,
+            &self.dependencies,
+            &self.graph,
+            self.graphed,
+            total as usize,
+        )?;
+        Ok(LockParts {
+            dependencies,
+            graph,
+        })
+    }
+
+    /// Brings the next dependency into the graph.
+    fn graph_next(&mut self) -> Result<(), NoMemory>
+        requires { self.old.graphed < length (known self.old.dependencies) }
+        ensures follow { (s : Trace) → FollowTrace self.old s → FollowTrace self.new s }
+        ensures ok { OnOk result (self.new.graphed ≡ self.old.graphed + 1) }
+        ensures dependencies { self.new.dependencies ≡ self.old.dependencies }
+    {
+        let _total = self.dependencies.len();
+        let number = self.graphed as u32;
+        let dependency = self.dependencies.get(number);
+        add_to(self.alloc, &mut self.graph, number, dependency)?;
+        self.graphed += 1;
+        Ok(())
+    }
+}
+
+/// Adds a dependency to the graph, or to a copy where it is shared.
+fn add_to(
+    alloc: Global,
+    graph: &mut Arc<LockGraph, Global>,
+    number: u32,
+    dependency: &Dependency,
+) -> Result<(), NoMemory>
+    ensures ok { OnOk result ((ds : List Triple) → number ≡ length ds → IsGraphOf ds (holders (arc_value graph.old)) → IsGraphOf (ds ++ dependency.now ∷ []) (holders (arc_value graph.new))) }
+    ensures err { OnErr result ((lock : ℕ) → holders (arc_value graph.new) lock ≡ holders (arc_value graph.old) lock) }
+{
+    if let Some(own) = Arc::get_mut(graph) {
+        return own.add(number, dependency);
+    }
+    let mut copy = graph.copied()?;
+    copy.add(number, dependency)?;
+    *graph = Arc::new(alloc, copy)?;
+    Ok(())
+}
+
+/// A graph that has so many of the dependencies: the present one, or a copy with those that it lacks.
+fn graph_of(
+    alloc: Global,
+    table: &DepTable,
+    graph: &Arc<LockGraph, Global>,
+    graphed: usize,
+    total: usize,
+) -> Result<Arc<LockGraph, Global>, NoMemory>
+    requires total { total ≤ length (known table.now) }
+    requires graphed { graphed ≤ length (known table.now) }
+    requires graph { IsGraphOf (take graphed (known table.now)) (holders (arc_value graph.now)) }
+    ensures { IfOk result (λ shared. HasGraphOf (take total (known table.now)) (arc_value shared)) }
+{
+    if total <= graphed {
+        return Ok(Arc::try_clone(graph)?);
+    }
+    let mut copy = graph.copied()?;
+    let _total = table.len();
+    for number in graphed..total {
+        let number = number as u32;
+        copy.add(number, table.get(number))?;
+    }
+    Ok(Arc::new(alloc, copy)?)
+}
