@@ -21,7 +21,8 @@ pub struct LockGraph {
 impl LockGraph {
     /// No dependency. It takes no memory.
     pub fn new(alloc: Global, state: RandomState) -> LockGraph
-        ensures { IsGraphOf [] (holders result) }
+        ensures graph { IsGraphOf [] (holders result) }
+        ensures empty { (lock : ℕ) → holders result lock ≡ [] }
     {
         LockGraph {
             lists: HashMap::with_hasher(alloc, state),

@@ -1,5 +1,5 @@
 -- One event further, and a graph that has a beginning of the dependencies.
-use Rattle.std.proofs.Common.{◌≡◌, ℕ, zero, suc, ◌+◌, ◌<◌, ◌≤◌, ◌↔◌, inl, inr, true, false, cond, List, [], ◌∷◌, ◌++◌, length, take, slice_get, Option, Some, None, refl, sym, ap, subst, ◌∙◌, arith}
+use Rattle.std.proofs.Common.{Result, Ok, Err, OnOk, ◌≡◌, ℕ, zero, suc, ◌+◌, ◌<◌, ◌≤◌, ◌↔◌, inl, inr, true, false, cond, List, [], ◌∷◌, ◌++◌, length, take, slice_get, Option, Some, None, refl, sym, ap, subst, ◌∙◌, arith}
 use Rattle.std.proofs.lemmas.Bool.{cases_lt}
 use Rattle.std.proofs.lemmas.List.{length-take-le}
 use Rattle.std.specs.List.{Contains, list_any}
@@ -72,3 +72,8 @@ grown ds (Some d) k l = elim (list_any (same_dependency d) ds) as (λ b. (k ≤ 
 pub named_length : (rows : Rows) → length (named rows) ≡ length rows
 named_length [] = refl
 named_length (row ∷ rows) = ap suc (named_length rows)
+
+-- what an Ok brings, carried on
+pub on_ok_then : {E A B : Type 0} (r : Result Unit E) → OnOk r A → (A → B) → OnOk r B
+on_ok_then (Ok u) a f = f a
+on_ok_then (Err e) a f = tt

@@ -1,5 +1,8 @@
 -- Tables that are in step with a trace.
-use Rattle.std.specs.Prelude.{◌≡◌, ℕ, ◌≤◌, length, take, true, Some, None}
+use Rattle.std.specs.Prelude.{◌≡◌, ℕ, ◌≤◌, List, [], length, take, true, Option, Some, None}
+use Rattle.std.specs.declared.sync.Arc.{Arc}
+use Rattle.std.specs.declared.alloc.Global.{Global}
+use Rattle.lock_graph.specs.declared.graph.LockGraph.{LockGraph}
 use Rattle.std.specs.Arc.{arc_value}
 use Rattle.trace_model.specs.declared.event.Event.{Event}
 use Rattle.trace_model.specs.declared.event.Op.TheVariants.{Acquire}
@@ -14,13 +17,18 @@ use Rattle.lock_graph.specs.Graph.{IsGraphOf, HasGraphOf, holders}
 use Rattle.lock_tables.specs.declared.parts.LockParts.{LockParts}
 use Rattle.lock_tables.specs.declared.tables.LockTables.{LockTables}
 
+-- what a shared graph has for a lock, nothing where there is none
+abbrev pub shared_holders : Option (Arc LockGraph Global) → ℕ → List ℕ
+shared_holders None lock = []
+shared_holders (Some graph) lock = holders (arc_value graph) lock
+
 -- the tables are those of the trace; the graph has some of the dependencies, the first ones
 pub record FollowTrace (tables : LockTables) (s : Trace) : Type 0 where
   pub counted : tables.events ≡ length s
   pub held : Held.FollowsTrace tables.held s (length s)
   pub dependencies : Dependencies.FollowsTrace tables.dependencies s (length s)
   pub graphed : tables.graphed ≤ length (known tables.dependencies)
-  pub graph : IsGraphOf (take tables.graphed (known tables.dependencies)) (holders (arc_value tables.graph))
+  pub graph : IsGraphOf (take tables.graphed (known tables.dependencies)) (shared_holders tables.graph)
 
 -- there is an entry for a thread that acquires a lock
 abbrev pub HasEntryFor : Held.Table → Event → Type 0

@@ -5,7 +5,7 @@ ghost use Rattle.trace_model.specs.Lawful.{IsWellFormed};
 ghost use Rattle.trace_model.specs.Dependencies.{Dependency as Triple};
 ghost use Rattle.dependencies.specs.Tables.{known};
 ghost use Rattle.lock_graph.specs.Graph.{IsGraphOf, HasGraphOf, holders};
-ghost use Rattle.lock_tables.specs.Tables.{FollowTrace, HasRoomFor, IsLawfulNext, HasTotal, CountsBelow, ArePartsOf};
+ghost use Rattle.lock_tables.specs.Tables.{shared_holders, FollowTrace, HasRoomFor, IsLawfulNext, HasTotal, CountsBelow, ArePartsOf};
 
 use crate::parts::LockParts;
 use crate::steps::{follow_locks, note_place, reserve_locks, reserve_place};
@@ -26,9 +26,11 @@ use trace_model::{Event, NoMemory, Place};
 #[derive(Drop)]
 pub struct LockTables {
     alloc: Global,
+    state: RandomState,
     held: HeldTable,
     dependencies: DepTable,
-    graph: Arc<LockGraph, Global>,
+    /// None as long as it has no dependency.
+    graph: Option<Arc<LockGraph, Global>>,
     /// How many of the dependencies the graph has.
     graphed: usize,
     /// How many events there were.
@@ -36,23 +38,19 @@ pub struct LockTables {
 }
 
 impl LockTables {
-    /// The tables of the empty trace.
-    ///
-    /// # Errors
-    ///
-    /// `NoMemory` where a growth was refused.
-    pub fn new(alloc: Global, state: RandomState) -> Result<LockTables, NoMemory>
-        ensures { IfOk result (λ tables. FollowTrace tables []) }
+    /// The tables of the empty trace. It takes no memory.
+    pub fn new(alloc: Global, state: RandomState) -> LockTables
+        ensures { FollowTrace result [] }
     {
-        let graph = Arc::new(alloc, LockGraph::new(alloc, state))?;
-        Ok(LockTables {
+        LockTables {
             alloc,
+            state,
             held: HeldTable::new(alloc, state),
             dependencies: DepTable::new(alloc, state),
-            graph,
+            graph: None,
             graphed: 0,
             events: 0,
-        })
+        }
     }
 
     /// The tables of a well-formed trace, made in one pass over its events.
@@ -64,7 +62,7 @@ impl LockTables {
         requires { IsWellFormed events.now }
         ensures { IfOk result (λ tables. FollowTrace tables events.now) }
     {
-        let mut tables = LockTables::new(alloc, state)?;
+        let mut tables = LockTables::new(alloc, state);
         for event in events {
             tables.reserve(event)?;
             tables.record(event);
@@ -148,6 +146,7 @@ impl LockTables {
         let dependencies = self.dependencies.share(total, events)?;
         let graph = graph_of(
             self.alloc,
+            self.state,
             &self.dependencies,
             &self.graph,
             self.graphed,
@@ -169,52 +168,86 @@ impl LockTables {
         let _total = self.dependencies.len();
         let number = self.graphed as u32;
         let dependency = self.dependencies.get(number);
-        add_to(self.alloc, &mut self.graph, number, dependency)?;
+        add_to(self.alloc, self.state, &mut self.graph, number, dependency)?;
         self.graphed += 1;
         Ok(())
+    }
+}
+
+/// A graph of its own with the same dependencies.
+fn copy_of(
+    alloc: Global,
+    state: RandomState,
+    graph: &Option<Arc<LockGraph, Global>>,
+) -> Result<LockGraph, NoMemory>
+    ensures { IfOk result (λ copy. (lock : ℕ) → holders copy lock ≡ shared_holders graph.now lock) }
+{
+    match graph {
+        Some(shared) => shared.copied(),
+        None => Ok(LockGraph::new(alloc, state)),
     }
 }
 
 /// Adds a dependency to the graph, or to a copy where it is shared.
 fn add_to(
     alloc: Global,
-    graph: &mut Arc<LockGraph, Global>,
+    state: RandomState,
+    graph: &mut Option<Arc<LockGraph, Global>>,
     number: u32,
     dependency: &Dependency,
 ) -> Result<(), NoMemory>
-    ensures ok { OnOk result ((ds : List Triple) → number ≡ length ds → IsGraphOf ds (holders (arc_value graph.old)) → IsGraphOf (ds ++ dependency.now ∷ []) (holders (arc_value graph.new))) }
-    ensures err { OnErr result ((lock : ℕ) → holders (arc_value graph.new) lock ≡ holders (arc_value graph.old) lock) }
+    ensures ok { OnOk result ((ds : List Triple) → number ≡ length ds → IsGraphOf ds (shared_holders graph.old) → IsGraphOf (ds ++ dependency.now ∷ []) (shared_holders graph.new)) }
+    ensures err { OnErr result ((lock : ℕ) → shared_holders graph.new lock ≡ shared_holders graph.old lock) }
 {
-    if let Some(own) = Arc::get_mut(graph) {
+    if let Some(shared) = graph
+        && let Some(own) = Arc::get_mut(shared)
+    {
         return own.add(number, dependency);
     }
-    let mut copy = graph.copied()?;
+    let mut copy = copy_of(alloc, state, graph)?;
     copy.add(number, dependency)?;
-    *graph = Arc::new(alloc, copy)?;
+    let shared = Arc::new(alloc, copy)?;
+    *graph = Some(shared);
     Ok(())
 }
 
 /// A graph that has so many of the dependencies: the present one, or a copy with those that it lacks.
 fn graph_of(
     alloc: Global,
+    state: RandomState,
     table: &DepTable,
-    graph: &Arc<LockGraph, Global>,
+    graph: &Option<Arc<LockGraph, Global>>,
     graphed: usize,
     total: usize,
 ) -> Result<Arc<LockGraph, Global>, NoMemory>
     requires total { total ≤ length (known table.now) }
     requires graphed { graphed ≤ length (known table.now) }
-    requires graph { IsGraphOf (take graphed (known table.now)) (holders (arc_value graph.now)) }
+    requires graph { IsGraphOf (take graphed (known table.now)) (shared_holders graph.now) }
     ensures { IfOk result (λ shared. HasGraphOf (take total (known table.now)) (arc_value shared)) }
 {
-    if total <= graphed {
-        return Ok(Arc::try_clone(graph)?);
+    if let Some(shared) = graph
+        && total <= graphed
+    {
+        return Ok(Arc::try_clone(shared)?);
     }
-    let mut copy = graph.copied()?;
-    let _total = table.len();
-    for number in graphed..total {
-        let number = number as u32;
-        copy.add(number, table.get(number))?;
+    let mut copy = copy_of(alloc, state, graph)?;
+    if graphed < total {
+        extend(&mut copy, table, graphed, total)?;
     }
     Ok(Arc::new(alloc, copy)?)
+}
+
+/// Adds to a graph of the first dependencies the next ones.
+fn extend(graph: &mut LockGraph, table: &DepTable, from: usize, to: usize) -> Result<(), NoMemory>
+    requires order { from ≤ to }
+    requires within { to ≤ length (known table.now) }
+    requires graph { IsGraphOf (take from (known table.now)) (holders graph.old) }
+    ensures { OnOk result (IsGraphOf (take to (known table.now)) (holders graph.new)) }
+{
+    let _total = table.len();
+    for number in from..to {
+        let number = number as u32;
+        graph.add(number, table.get(number))?;
+    }
+    Ok(())
 }

@@ -1,9 +1,20 @@
-use Rattle.std.proofs.Common.{◌++◌, ◌∷◌, [], sym, ap, subst, ◌∙◌}
+use Rattle.std.proofs.Common.{◌≡◌, ◌++◌, ◌∷◌, [], sym, ap, subst, ◌∙◌}
 use Rattle.lock_graph.specs.Graph.{IsGraphOf, holders}
-use Rattle.lock_tables.proofs.OneFurther.{graph_same}
+use Rattle.lock_tables.specs.Tables.{shared_holders}
+use Rattle.lock_tables.proofs.OneFurther.{graph_same, on_ok_then}
 use Rattle.lock_tables.proofs.tables.add_to.Goals as goal
+use Rattle.lock_tables.proofs.tables.add_to.Goals.{in_default-via-in-None-1, in_default-via-in-Some+in-None-1}
 
 pub returns-clause-ok : goal.returns-clause-ok
-returns-clause-ok c ds number is =
-    subst (λ g. IsGraphOf (ds ++ c.args.dependency.now ∷ []) (holders g)) (sym c.in_ok-graph.ensures.ok)
-    (c.in_ok-add.ensures.graph ds number (graph_same ds _ _ (λ lock. c.in_ok-copy.ensures lock ∙ ap (λ g. holders g lock) c.deref.ensures) is))
+returns-clause-ok c =
+    on_ok_then c.add.result c.add.ensures.graph (λ adds ds number is.
+        adds ds number (subst (λ g. IsGraphOf ds (holders g)) (sym c.in-Some-get_mut.ensures.value) (subst (λ o. IsGraphOf ds (shared_holders o)) c.in-Some.is is)))
+
+pub returns-2-clause-ok : goal.returns-2-clause-ok
+returns-2-clause-ok c ds number is =
+    let same : c.in_default.graph ≡ c.args.graph.now = elim c.in_default.branch [
+      | in_default-via-in-None-1 w ↦ w.graph-is
+      | in_default-via-in-Some+in-None-1 w ↦ w.graph-is ∙ sym w.in-Some.is
+    ] in
+    subst (λ g. IsGraphOf (ds ++ c.args.dependency.now ∷ []) (holders g)) (sym c.in_ok-shared.ensures.ok)
+    (c.in_ok-add.ensures.graph ds number (graph_same ds _ _ c.in_ok-copy.ensures (subst (λ o. IsGraphOf ds (shared_holders o)) (sym same) is)))

@@ -1,11 +1,11 @@
 use Rattle.std.proofs.Common.{◌≡◌, ◌≤◌, Option, length, take, sym, subst, ap, ◌∙◌, arith}
-use Rattle.std.specs.Arc.{arc_value}
 use Rattle.trace_model.specs.Dependencies.{Dependency, dependency_of, with_new}
 use Rattle.trace_model.specs.Held.{held}
 use Rattle.trace_model.proofs.Lists.{length-push}
 use Rattle.trace_model.proofs.OneMore.{dependencies-push}
 use Rattle.dependencies.specs.Tables.{AllBelow, known}
-use Rattle.lock_graph.specs.Graph.{IsGraphOf, holders}
+use Rattle.lock_graph.specs.Graph.{IsGraphOf}
+use Rattle.lock_tables.specs.Tables.{shared_holders}
 use Rattle.lock_tables.proofs.OneFurther.{grown}
 use Rattle.lock_tables.proofs.tables.LockTables.record.Goals as goal
 
@@ -30,5 +30,5 @@ returns c s f =
       held = c.follow_locks.ensures s f.held;
       dependencies = table;
       graphed = subst (λ ds. old.graphed ≤ length ds) (sym is) more.0;
-      graph = subst (λ ds. IsGraphOf ds (holders (arc_value old.graph))) (sym (ap (take old.graphed) is ∙ more.1)) f.graph;
+      graph = subst (λ ds. IsGraphOf ds (shared_holders old.graph)) (sym (ap (take old.graphed) is ∙ more.1)) f.graph;
     }

@@ -1,7 +1,7 @@
 use Rattle.std.proofs.Common.{◌≤◌, length, take, sym, subst, ◌∙◌}
-use Rattle.std.specs.Arc.{arc_value}
 use Rattle.dependencies.specs.Tables.{Rows, named}
-use Rattle.lock_graph.specs.Graph.{IsGraphOf, holders}
+use Rattle.lock_graph.specs.Graph.{IsGraphOf}
+use Rattle.lock_tables.specs.Tables.{shared_holders}
 use Rattle.lock_tables.proofs.tables.LockTables.reserve.Goals as goal
 
 pub returns-in_err-reserve_locks-clause-follow : goal.returns-in_err-reserve_locks-clause-follow
@@ -25,5 +25,5 @@ returns-clause-follow c s before =
       held = λ t. c.reserve_locks.ensures.shown t ∙ f.held t;
       dependencies = c.tables_follow.ensures.stay tables.dependencies c.reserve_place.new.table s (length s) same f.dependencies;
       graphed = subst (λ (rows : Rows). tables.graphed ≤ length (named rows)) (sym same) f.graphed;
-      graph = subst (λ (rows : Rows). IsGraphOf (take tables.graphed (named rows)) (holders (arc_value tables.graph))) (sym same) f.graph;
+      graph = subst (λ (rows : Rows). IsGraphOf (take tables.graphed (named rows)) (shared_holders tables.graph)) (sym same) f.graph;
     }

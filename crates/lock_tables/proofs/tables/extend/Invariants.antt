@@ -1,8 +1,8 @@
 use Rattle.std.proofs.Common.{take}
 use Rattle.dependencies.specs.Tables.{known}
 use Rattle.lock_graph.specs.Graph.{IsGraphOf, holders}
-use Rattle.lock_tables.proofs.tables.graph_of.Given as goal
+use Rattle.lock_tables.proofs.tables.extend.Given as goal
 
--- the copy has the dependencies so far
+-- the graph has the dependencies so far
 abbrev pub invariant-loop-number : goal.invariant-loop-number
-invariant-loop-number l = IsGraphOf (take l.number (known l.table)) (holders l.copy)
+invariant-loop-number l = IsGraphOf (take l.number (known l.table)) (holders l.graph)
