@@ -18,8 +18,8 @@ ghost use Rattle.trace_model.specs.Trace.{Does, does};
 ghost use Rattle.trace_model.specs.Closure.{ascending};
 ghost use Rattle.trace_model.specs.Lawful.{IsWellFormed};
 ghost use Rattle.trace_model.specs.Lookups.{writer, release};
-ghost use Rattle.trace_index.specs.Numbers.{of_thread, number_at};
-ghost use Rattle.trace_index.specs.Links.{written_by};
+ghost use Rattle.trace_index.specs.Numbers.{of_thread, number_at, thread_before, acquire_before};
+ghost use Rattle.trace_index.specs.Links.{written_by, taken_before};
 
 pub use copies::Copies;
 use latest::Latest;
@@ -38,6 +38,17 @@ fn writer_in(row: &Row) -> Option<Place>
     ensures { result ≡ written_by row.now.event.op row.now.topic.earlier }
 {
     if let Op::Read(_) = row.event.op {
+        row.topic.earlier
+    } else {
+        None
+    }
+}
+
+/// The acquire before it that a row has: that of an acquire.
+fn taken_in(row: &Row) -> Option<Place>
+    ensures { result ≡ taken_before row.now.event.op row.now.topic.earlier }
+{
+    if let Op::Acquire(_) = row.event.op {
         row.topic.earlier
     } else {
         None
@@ -141,6 +152,26 @@ impl TraceIndex {
     {
         match self.rows.get(place.get() as usize) {
             Some(row) => Some(row.thread.number),
+            None => None,
+        }
+    }
+
+    /// The place before a place in its thread, or none.
+    pub fn thread_before(&self, place: Place) -> Option<Place>
+        ensures { result ≡ thread_before self.now.events place }
+    {
+        match self.rows.get(place.get() as usize) {
+            Some(row) => row.thread.earlier,
+            None => None,
+        }
+    }
+
+    /// Of an acquire the last acquire of its lock before it, or none. None for any other event.
+    pub fn acquire_before(&self, place: Place) -> Option<Place>
+        ensures { result ≡ acquire_before self.now.events place }
+    {
+        match self.rows.get(place.get() as usize) {
+            Some(row) => taken_in(&row),
             None => None,
         }
     }
