@@ -77,8 +77,11 @@ fn build_counted<L: Ledger>(
     Ok(index)
 }
 
-/// A well-formed trace with links between its places. Look-ups take no memory, and answer none or an empty
-/// view for what is not in the trace. Full segments may be shared with other indices.
+/// A well-formed trace with links between its places, which grows by `reserve` and `record`. Look-ups take no
+/// memory, and answer none or an empty view for what is not in the trace. Full segments may be shared with
+/// other indices.
+///
+/// Contracts see the events, and the event that is reserved.
 #[derive(Drop)]
 pub struct TraceIndex {
     alloc: Global,
@@ -96,13 +99,17 @@ impl Model for TraceIndex {
 
     ghost Value = { Indexed };
 
-    ghost view = { λ i. record { events = trace_of i.rows.0; reserved = option_map (λ row. row.event) i.next } };
+    ghost view = { λ i. record {
+      events = trace_of i.rows.0;
+      reserved = option_map (λ row. row.event) i.next;
+    } };
 
-    ghost invariant = { λ i. IsIndex i.rows i.marks.sealed.items i.marks.tail i.latest.places i.latest.noted i.next };
+    ghost invariant = { λ i. IsIndex i.rows i.marks.sealed.items i.marks.tail
+        i.latest.places i.latest.noted i.next };
 }
 
 impl TraceIndex {
-    /// The index of a trace, made in one pass over its events.
+    /// The index of a trace, made in one pass over its events: each is reserved and then recorded.
     ///
     /// The caller owes a well-formed trace. `state` hashes the keys of the tables. NoMemory where a growth
     /// was refused.
@@ -211,7 +218,8 @@ impl TraceIndex {
 
     /// The places at which a lock is acquired, by whichever thread, ascending.
     pub fn acquires(&self, lock: u32) -> PlacesOf<'_>
-        ensures { result ≡ ascending (does self.now.events (Acquire lock)) (length self.now.events) }
+        ensures { result ≡ ascending (does self.now.events (Acquire lock))
+            (length self.now.events) }
     {
         let key = Key::Taking(lock);
         PlacesOf {
