@@ -59,6 +59,20 @@ fn later_instance(rt: HostRuntime) -> Result<(), Fail> {
     ] {
         assert_eq!(rt; index.number(Place::new(place)), number, "at {place}");
     }
+    for (place, before) in [(2, None), (12, Some(6)), (13, Some(12)), (99, None)] {
+        assert_eq!(rt;
+            index.thread_before(Place::new(place)).map(Place::get),
+            before,
+            "at {place}"
+        );
+    }
+    for (place, before) in [(2, None), (12, Some(9)), (9, Some(2)), (5, None)] {
+        assert_eq!(rt;
+            index.acquire_before(Place::new(place)).map(Place::get),
+            before,
+            "at {place}"
+        );
+    }
     for (thread, fork) in [(1, Some(0)), (2, Some(1)), (0, None), (3, None)] {
         assert_eq!(rt; index.fork_of(thread).map(Place::get), fork, "of {thread}");
     }

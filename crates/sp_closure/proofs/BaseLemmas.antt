@@ -1,5 +1,5 @@
 -- Layers over one another, and how many places are in.
-use Rattle.std.proofs.Common.{◌≡◌, ℕ, zero, suc, ◌+◌, ◌<◌, ◌≤◌, Bool, true, false, cond, ◌==◌, ◌&&◌, nat_lt, nat_le, length, Option, Some, None, Result, Ok, Err, OnOk, IfOk, IfSome, List, refl, sym, ap, subst, inl, inr, ◌⊎◌, slice_get, ◌∙◌, arith}
+use Rattle.std.proofs.Common.{◌≡◌, ℕ, zero, suc, ◌+◌, ◌<◌, ◌≤◌, Bool, true, false, cond, ◌==◌, ◌&&◌, nat_lt, nat_le, length, Option, Some, None, Result, Ok, Err, OnOk, IfOk, IfSome, List, refl, sym, ap, subst, inl, inr, slice_get, ◌∙◌, arith}
 use Rattle.std.specs.Option.{option_map_or}
 use Rattle.std.proofs.lemmas.Bool.{eq-eqb, eqb-true, false≢true, and_parts}
 use Rattle.std.proofs.lemmas.Bool.Decides.{nat_tests}
@@ -22,7 +22,7 @@ use Rattle.sp_closure.specs.Slots.{class_of, AreSlots, HasFirst, in_front}
 use Rattle.sp_closure.specs.Layers.{front_of, done_of, last_of, first_some, IsEmpty}
 use Rattle.sp_closure.specs.Work.{State, IsOnWay, sum_to}
 use Rattle.sp_closure.specs.declared.closer.Closer.{Closer}
-use Rattle.sp_closure.specs.Closers.{leads_to, HasBase, Keeps, KeepsFor, KeepsNothing, kept, goal_at, base_total}
+use Rattle.sp_closure.specs.Closers.{leads_to, HasBase, Keeps, KeepsFor, KeepsNothing, kept, goal_at}
 use Rattle.sp_closure.proofs.Counts.{count_le, count_same}
 use Rattle.sp_closure.proofs.FrontLemmas.{of_thread_from, of_thread_so, lt_true}
 use Rattle.sp_closure.proofs.ThreadLemmas.{place_below}

@@ -1,24 +1,25 @@
 -- The slots of threads and of locks, by their first places.
-use Rattle.std.proofs.Common.{◌≡◌, ℕ, zero, suc, ◌<◌, ◌≤◌, true, false, List, length, slice_get, Option, Some, None, IfSome, refl, sym, ap, subst, ◌∙◌, arith}
+use Rattle.std.proofs.Common.{◌≡◌, ℕ, zero, suc, ◌<◌, ◌≤◌, inl, inr, true, false, List, length, slice_get, Option, Some, None, IfSome, refl, sym, ap, subst, ◌∙◌, arith}
 use Rattle.std.specs.Option.{option_and_then, option_map_or}
-use Rattle.std.proofs.lemmas.Bool.{eq-eqb, eqb-true, false≢true}
+use Rattle.std.proofs.lemmas.Bool.{cases_lt, eq-eqb, eqb-true, false≢true}
 use Rattle.std.proofs.lemmas.Option.{none-some, same_Some, slice_get_within}
 use Rattle.trace_model.specs.declared.event.Event.{Event}
 use Rattle.trace_model.specs.declared.event.Op.{Op}
 use Rattle.trace_model.specs.declared.event.Op.TheVariants.{Fork, Join, Acquire, Release, Read, Write}
-use Rattle.trace_model.specs.Trace.{Trace, event, does, op_eq, OfThread}
+use Rattle.trace_model.specs.Trace.{Trace, At, event, does, op_eq, last_place, OfThread}
 use Rattle.trace_model.specs.Held.{BeginsOn}
 use Rattle.trace_model.specs.Closure.{Places, ascending}
+use Rattle.trace_model.proofs.Places.{last_place_some, last_place_none}
 use Rattle.trace_model.proofs.Ascending.{ascending_so, place_of, contains_ascending}
 use Rattle.trace_model.proofs.Unique.{ascending_strict, increasing_ordered}
 use Rattle.trace_model.proofs.Lists.{at_index}
 use Rattle.trace_model.proofs.Least.{at_thread}
 use Rattle.std.specs.List.Sorted.{IsStrictlyIncreasing}
-use Rattle.trace_index.specs.Numbers.{of_thread}
-use Rattle.sp_closure.specs.Slots.{AreSlots}
+use Rattle.trace_index.specs.Numbers.{of_thread, thread_before, acquire_before_of, acquire_before}
+use Rattle.sp_closure.specs.Slots.{class_of, AreSlots}
 use Rattle.sp_closure.specs.Demands.{AreLocks}
 use Rattle.sp_closure.specs.Classes.{AreFirsts, AreClasses}
-use Rattle.sp_closure.specs.Firsts.{first_of_thread, first_of_lock, first_acquire}
+use Rattle.sp_closure.specs.Firsts.{first_of_thread, first_of_lock, first_acquire, AreFound}
 use Rattle.sp_closure.proofs.FrontLemmas.{of_thread_from, of_thread_so}
 use Rattle.sp_closure.proofs.ThreadLemmas.{place_below}
 
@@ -80,6 +81,20 @@ thread_slots s firsts slots count same c = record {
       let (x, first, l, ox) = thread_first s p t o in
       c.alike p q a x (place_below s t q oq) hp (same p ∙ first) (same q ∙ (thread_at s q t oq ∙ (sym (thread_at s p t o) ∙ first)));
 }
+
+-- no place of its thread before it: it is the first one
+thread_new : (s : Trace) (p t : ℕ) → OfThread s p t → last_place (of_thread s t) p ≡ None → Some p ≡ first_of_thread s p
+thread_new s p t o none =
+    let (x, first, l, ox) = thread_first s p t o in
+    elim (cases_lt x p) [
+      | inl less ↦ absurd (last_place_none (of_thread s t) p none x less (of_thread_from s t x ox))
+      | inr more ↦ let same : p ≡ x = omega arith in ap Some same ∙ sym first
+    ]
+
+thread_old : (s : Trace) (p q t : ℕ) → OfThread s p t → last_place (of_thread s t) p ≡ Some q → (q < p) × (first_of_thread s q ≡ first_of_thread s p)
+thread_old s p q t o last =
+    let is = last_place_some (of_thread s t) p q last in
+    (is.0, thread_at s q t (of_thread_so s t q is.1) ∙ sym (thread_at s p t o))
 
 -- the same of locks
 
@@ -162,3 +177,34 @@ lock_slots s firsts locks count same c = record {
 pub some_within : (o : Option ℕ) (n : ℕ) → ((p : ℕ) → o ≡ Some p → p < n) → IfSome o (λ p. p < n)
 some_within None n f = tt
 some_within (Some p) n f = f p refl
+
+lock_new : (s : Trace) (p k : ℕ) → BeginsOn s p k → last_place (does s (Acquire k)) p ≡ None → Some p ≡ first_of_lock s p
+lock_new s p k b none =
+    let (x, first, l, bx) = lock_first s p k b in
+    elim (cases_lt x p) [
+      | inl less ↦ absurd (last_place_none (does s (Acquire k)) p none x less (does_from s k x bx))
+      | inr more ↦ let same : p ≡ x = omega arith in ap Some same ∙ sym first
+    ]
+
+lock_old : (s : Trace) (p q k : ℕ) → BeginsOn s p k → last_place (does s (Acquire k)) p ≡ Some q → (q < p) × (first_of_lock s q ≡ first_of_lock s p)
+lock_old s p q k b last =
+    let is = last_place_some (does s (Acquire k)) p q last in
+    (is.0, lock_at s q k (op_is s k q is.1) ∙ sym (lock_at s p k b))
+
+-- from the place before it
+pub thread_first_none : (s : Trace) (p : ℕ) (e : Event) → At s p e → None ≡ thread_before s p → Some p ≡ first_of_thread s p
+thread_first_none s p e a none = thread_new s p e.thread (e.op, a) (sym (none ∙ ap (option_and_then (λ x. last_place (of_thread s x.thread) p)) a))
+
+pub thread_first_some : (s : Trace) (p q : ℕ) (e : Event) (firsts : List (Option ℕ)) → At s p e → Some q ≡ thread_before s p → AreFound (first_of_thread s) firsts p → class_of firsts q ≡ first_of_thread s p
+thread_first_some s p q e firsts a some found =
+    let old = thread_old s p q e.thread (e.op, a) (sym (some ∙ ap (option_and_then (λ x. last_place (of_thread s x.thread) p)) a)) in
+    ap (option_and_then (λ c. c)) (found q old.0) ∙ old.1
+
+pub lock_first_none : (s : Trace) (p t k : ℕ) → At s p (event t (Acquire k)) → None ≡ acquire_before s p → Some p ≡ first_of_lock s p
+lock_first_none s p t k a none = lock_new s p k (t, a) (sym (none ∙ ap (option_and_then (λ x. acquire_before_of s p x.op)) a))
+
+pub lock_first_some : (s : Trace) (p q t k : ℕ) (firsts : List (Option ℕ)) → At s p (event t (Acquire k)) → Some q ≡ acquire_before s p → AreFound (first_of_lock s) firsts p →
+    class_of firsts q ≡ first_of_lock s p
+lock_first_some s p q t k firsts a some found =
+    let old = lock_old s p q k (t, a) (sym (some ∙ ap (option_and_then (λ x. acquire_before_of s p x.op)) a)) in
+    ap (option_and_then (λ c. c)) (found q old.0) ∙ old.1

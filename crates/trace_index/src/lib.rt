@@ -18,8 +18,8 @@ ghost use Rattle.trace_model.specs.Trace.{Does, does};
 ghost use Rattle.trace_model.specs.Closure.{ascending};
 ghost use Rattle.trace_model.specs.Lawful.{IsWellFormed};
 ghost use Rattle.trace_model.specs.Lookups.{writer, release};
-ghost use Rattle.trace_index.specs.Numbers.{of_thread, number_at};
-ghost use Rattle.trace_index.specs.Links.{written_by};
+ghost use Rattle.trace_index.specs.Numbers.{of_thread, number_at, thread_before, acquire_before};
+ghost use Rattle.trace_index.specs.Links.{written_by, taken_before};
 
 pub use copies::Copies;
 use latest::Latest;
@@ -38,6 +38,17 @@ fn writer_in(row: &Row) -> Option<Place>
     ensures { result ≡ written_by row.now.event.op row.now.topic.earlier }
 {
     if let Op::Read(_) = row.event.op {
+        row.topic.earlier
+    } else {
+        None
+    }
+}
+
+/// The acquire before it that a row has: that of an acquire.
+fn taken_in(row: &Row) -> Option<Place>
+    ensures { result ≡ taken_before row.now.event.op row.now.topic.earlier }
+{
+    if let Op::Acquire(_) = row.event.op {
         row.topic.earlier
     } else {
         None
@@ -66,8 +77,11 @@ fn build_counted<L: Ledger>(
     Ok(index)
 }
 
-/// A well-formed trace with links between its places. Look-ups take no memory, and answer none or an empty
-/// view for what is not in the trace. Full segments may be shared with other indices.
+/// A well-formed trace with links between its places, which grows by `reserve` and `record`. Look-ups take no
+/// memory, and answer none or an empty view for what is not in the trace. Full segments may be shared with
+/// other indices.
+///
+/// Contracts see the events, and the event that is reserved.
 #[derive(Drop)]
 pub struct TraceIndex {
     alloc: Global,
@@ -85,13 +99,17 @@ impl Model for TraceIndex {
 
     ghost Value = { Indexed };
 
-    ghost view = { λ i. record { events = trace_of i.rows.0; reserved = option_map (λ row. row.event) i.next } };
+    ghost view = { λ i. record {
+      events = trace_of i.rows.0;
+      reserved = option_map (λ row. row.event) i.next;
+    } };
 
-    ghost invariant = { λ i. IsIndex i.rows i.marks.sealed.items i.marks.tail i.latest.places i.latest.noted i.next };
+    ghost invariant = { λ i. IsIndex i.rows i.marks.sealed.items i.marks.tail
+        i.latest.places i.latest.noted i.next };
 }
 
 impl TraceIndex {
-    /// The index of a trace, made in one pass over its events.
+    /// The index of a trace, made in one pass over its events: each is reserved and then recorded.
     ///
     /// The caller owes a well-formed trace. `state` hashes the keys of the tables. NoMemory where a growth
     /// was refused.
@@ -145,6 +163,26 @@ impl TraceIndex {
         }
     }
 
+    /// The place before a place in its thread, or none.
+    pub fn thread_before(&self, place: Place) -> Option<Place>
+        ensures { result ≡ thread_before self.now.events place }
+    {
+        match self.rows.get(place.get() as usize) {
+            Some(row) => row.thread.earlier,
+            None => None,
+        }
+    }
+
+    /// Of an acquire the last acquire of its lock before it, or none. None for any other event.
+    pub fn acquire_before(&self, place: Place) -> Option<Place>
+        ensures { result ≡ acquire_before self.now.events place }
+    {
+        match self.rows.get(place.get() as usize) {
+            Some(row) => taken_in(&row),
+            None => None,
+        }
+    }
+
     /// The release of an acquire: the first release of its lock after it, or none. None for any other event.
     pub fn release_of(&self, place: Place) -> Option<Place>
         ensures { result ≡ release self.now.events place }
@@ -180,7 +218,8 @@ impl TraceIndex {
 
     /// The places at which a lock is acquired, by whichever thread, ascending.
     pub fn acquires(&self, lock: u32) -> PlacesOf<'_>
-        ensures { result ≡ ascending (does self.now.events (Acquire lock)) (length self.now.events) }
+        ensures { result ≡ ascending (does self.now.events (Acquire lock))
+            (length self.now.events) }
     {
         let key = Key::Taking(lock);
         PlacesOf {

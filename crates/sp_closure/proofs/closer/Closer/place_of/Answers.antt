@@ -1,6 +1,5 @@
-use Rattle.std.proofs.Common.{◌≡◌, ◌++◌, ◌∷◌, [], slice_get, refl, inl, inr, ap, subst, sym, ◌∙◌, arith}
+use Rattle.std.proofs.Common.{slice_get, refl, inl, inr, ap, subst, sym, ◌∙◌, arith}
 use Rattle.std.proofs.lemmas.Option.{none-some}
-use Rattle.sp_closure.specs.declared.base.Base.{Base}
 use Rattle.sp_closure.specs.Closers.{IsKept}
 use Rattle.sp_closure.proofs.BaseLemmas.{front_none}
 use Rattle.sp_closure.proofs.OtherBases.{pushed_at, has_others}

@@ -1,6 +1,5 @@
-use Rattle.std.proofs.Common.{◌≡◌, ℕ, slice_get, Some, inl, inr, ap, subst, sym, ◌∙◌}
+use Rattle.std.proofs.Common.{◌≡◌, slice_get, Some, inl, inr, ap, subst, sym, ◌∙◌}
 use Rattle.std.proofs.lemmas.Option.{slice_get-get_or}
-use Rattle.sp_closure.specs.declared.base.Base.{Base}
 use Rattle.sp_closure.specs.declared.work.Work.{Work}
 use Rattle.sp_closure.specs.Work.{IsFit}
 use Rattle.sp_closure.specs.Closers.{IsBase, IsKept, total_over}
