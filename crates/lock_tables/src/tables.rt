@@ -126,6 +126,7 @@ impl LockTables {
     /// `NoMemory` where a growth was refused.
     pub fn catch_up(&mut self) -> Result<(), NoMemory>
         ensures follow { (s : Trace) → FollowTrace self.old s → FollowTrace self.new s }
+        ensures all { OnOk result (length (known self.new.dependencies) ≤ self.new.graphed) }
     {
         while self.graphed < self.dependencies.len() {
             self.graph_next()?;
@@ -153,6 +154,27 @@ impl LockTables {
             self.graphed,
             total as usize,
         )?;
+        Ok(LockParts {
+            dependencies,
+            graph,
+        })
+    }
+
+    /// The tables of the whole trace, by value.
+    ///
+    /// # Errors
+    ///
+    /// `NoMemory` where a growth was refused.
+    pub fn into_parts(self) -> Result<LockParts, NoMemory>
+        ensures { IfOk result (λ parts. (s : Trace) → FollowTrace self s → ArePartsOf parts s) }
+    {
+        let mut tables = self;
+        tables.catch_up()?;
+        let LockTables {
+            dependencies,
+            graph,
+            ..
+        } = tables;
         Ok(LockParts {
             dependencies,
             graph,

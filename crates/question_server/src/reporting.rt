@@ -7,7 +7,8 @@ ghost use Rattle.trace_model.specs.Lawful.{IsWellFormed};
 ghost use Rattle.findings.specs.Found.{AreRowsOf};
 ghost use Rattle.question_server.specs.Offline.{AreComputed, IsNotAdmitted, IsNotComputed, IsNotReported, IsRefused, IsReport};
 
-use findings::{ComputeRefused, Job, LockTables, Snapshot};
+use findings::{ComputeRefused, Job, Snapshot};
+use lock_tables::LockTables;
 use std::alloc::Global;
 use std::hash::RandomState;
 use std::sync::Arc;

@@ -10,7 +10,8 @@ ghost use Rattle.sequencer.specs.Printing.{printing};
 
 use crate::asked::Asked;
 use crate::book::{Book, NoSuchQuestion};
-use findings::{LockTables, Snapshot};
+use findings::Snapshot;
+use lock_tables::LockTables;
 use result_ledger::Ledger;
 use std::alloc::Global;
 use std::sync::Arc;
