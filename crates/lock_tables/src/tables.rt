@@ -124,6 +124,7 @@ impl LockTables {
     /// `NoMemory` where a growth was refused.
     pub fn catch_up(&mut self) -> Result<(), NoMemory>
         ensures follow { (s : Trace) → FollowTrace self.old s → FollowTrace self.new s }
+        ensures all { OnOk result (length (known self.new.dependencies) ≤ self.new.graphed) }
     {
         while self.graphed < self.dependencies.len() {
             self.graph_next()?;
@@ -158,6 +159,30 @@ impl LockTables {
         })
     }
 
+    /// The tables of the whole trace, by value.
+    ///
+    /// # Errors
+    ///
+    /// `NoMemory` where a growth was refused.
+    pub fn into_parts(self) -> Result<LockParts, NoMemory>
+        ensures { IfOk result (λ parts. (s : Trace) → FollowTrace self s → ArePartsOf parts s) }
+    {
+        let mut tables = self;
+        tables.catch_up()?;
+        let LockTables {
+            alloc,
+            state,
+            dependencies,
+            graph,
+            ..
+        } = tables;
+        let graph = graph_or_new(alloc, state, graph)?;
+        Ok(LockParts {
+            dependencies,
+            graph,
+        })
+    }
+
     /// Brings the next dependency into the graph.
     fn graph_next(&mut self) -> Result<(), NoMemory>
         requires { self.old.graphed < length (known self.old.dependencies) }
@@ -171,6 +196,20 @@ impl LockTables {
         add_to(self.alloc, self.state, &mut self.graph, number, dependency)?;
         self.graphed += 1;
         Ok(())
+    }
+}
+
+/// The graph, or a new one where there is none.
+fn graph_or_new(
+    alloc: Global,
+    state: RandomState,
+    graph: Option<Arc<LockGraph, Global>>,
+) -> Result<Arc<LockGraph, Global>, NoMemory>
+    ensures { IfOk result (λ own. (lock : ℕ) → holders (arc_value own) lock ≡ shared_holders graph lock) }
+{
+    match graph {
+        Some(own) => Ok(own),
+        None => Ok(Arc::new(alloc, LockGraph::new(alloc, state))?),
     }
 }
 
