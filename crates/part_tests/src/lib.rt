@@ -16,6 +16,8 @@ mod on_held_sets;
 #[cfg(test)]
 mod on_lock_graph;
 #[cfg(test)]
+mod on_lock_tables;
+#[cfg(test)]
 mod on_result_ledger;
 #[cfg(test)]
 mod on_trace_index;

@@ -1,75 +1,30 @@
-ghost use Rattle.std.specs.Prelude.{ℕ, suc, IfOk, OnOk};
-ghost use Rattle.dependencies.specs.Tables.{known, AllBelow};
-ghost use Rattle.lock_graph.specs.Graph.{IsGraphOf, holders};
+ghost use Rattle.std.specs.Prelude.{IfOk};
+ghost use Rattle.std.specs.Arc.{arc_value};
+ghost use Rattle.dependencies.specs.Tables.{known};
+ghost use Rattle.lock_graph.specs.Graph.{HasGraphOf};
 
+use crate::traces::gate_after_forks;
 use cycle_search::{Cycle, Ranks, SearchRefused, cycles_from, cycles_within};
-use dependencies::{DepTable, next_dependency};
-use held_sets::HeldTable;
-use lock_graph::LockGraph;
+use lock_tables::{LockParts, LockTables};
 use std::hash::RandomState;
 use std::test::Fail;
-use trace_model::{Bound, Event, MAX_HELD, NoMemory, Op, Place};
+use trace_model::{Bound, Event, NoMemory, Op};
 
-/// Notes the dependency of the event at the index, and adds a new one to the graph.
-fn note(
-    held: &HeldTable,
-    table: &mut DepTable,
-    graph: &mut LockGraph,
-    index: u32,
-    event: Event,
-) -> Result<(), NoMemory>
-    requires below { AllBelow table.old index }
-    requires graph { IsGraphOf (known table.old) (holders graph.old) }
-    ensures below { OnOk result (AllBelow table.new (suc index)) }
-    ensures graph { OnOk result (IsGraphOf (known table.new) (holders graph.new)) }
+/// The dependencies of a trace that forks the threads 1 to 8 first, and their graph.
+fn tables_of(rt: &HostRuntime, events: &[Event]) -> Result<LockParts, Fail>
+    ensures { IfOk result (λ parts. HasGraphOf (known parts.dependencies) (arc_value parts.graph)) }
 {
-    match next_dependency(held, event) {
-        None => Ok(()),
-        Some(dependency) => {
-            let total = table.len();
-            let number = table.note(Place::new(index), dependency)?;
-            if (number as usize) < total {
-                return Ok(());
-            }
-            graph.add(number, table.get(number))?;
-            Ok(())
-        },
-    }
-}
-
-/// What the event does to the held sets.
-fn follow(held: &mut HeldTable, event: Event) -> Result<(), NoMemory> {
-    let locks = held.held(event.thread);
-    match event.op {
-        Op::Acquire(lock) if !locks.contains(lock) && locks.locks().len() < MAX_HELD => {
-            held.acquire(event.thread, lock)?;
-        },
-        Op::Release(lock) => held.release(event.thread, lock),
-        _ => {},
-    }
-    Ok(())
-}
-
-/// The dependencies of a trace, and their graph.
-fn tables_of(rt: &HostRuntime, events: &[Event]) -> Result<(DepTable, LockGraph), Fail>
-    ensures { IfOk result (λ tables. IsGraphOf (known tables.0) (holders tables.1)) }
-{
-    let state = RandomState::new(rt)?;
-    let mut held = HeldTable::new(rt.alloc(), state);
-    let mut table = DepTable::new(rt.alloc(), state);
-    let mut graph = LockGraph::new(rt.alloc(), state);
-    let mut index = 0u32;
-    for event in events {
-        note(&held, &mut table, &mut graph, index, *event)?;
-        follow(&mut held, *event)?;
-        index = index.checked_add(1).ok_or("too long")?;
-    }
-    Ok((table, graph))
+    let gate = gate_after_forks(rt, events)?;
+    let tables = LockTables::of(rt.alloc(), RandomState::new(rt)?, gate.events())?;
+    Ok(tables.into_parts()?)
 }
 
 /// The cycles of a trace as text, those of each root on a line.
 fn cycles(rt: &HostRuntime, events: &[Event], bound: u8) -> Result<String, Fail> {
-    let (table, graph) = tables_of(rt, events)?;
+    let LockParts {
+        dependencies: table,
+        graph,
+    } = tables_of(rt, events)?;
     let ranks = Ranks::new(rt.alloc(), RandomState::new(rt)?, &table, &graph)?;
     let bound = Bound::new(bound).ok_or("no bound")?;
     let mut text = String::new(rt.alloc());
@@ -211,7 +166,10 @@ fn refused_within(rt: &HostRuntime, most: usize) -> Result<Option<SearchRefused>
         rt,
         [(1, 10, 20), (2, 20, 10), (3, 20, 10), (4, 20, 10)].as_slice(),
     )?;
-    let (table, graph) = tables_of(rt, &events)?;
+    let LockParts {
+        dependencies: table,
+        graph,
+    } = tables_of(rt, &events)?;
     if table.is_empty() {
         return Err(Fail::from("no dependency"));
     }
@@ -229,7 +187,10 @@ fn too_many_cycles_are_refused(rt: HostRuntime) -> Result<(), Fail> {
 
 /// Whether the first two dependencies of these sections have one rank; none where there are not two.
 fn have_one_rank(rt: &HostRuntime, nestings: &[(u32, u32, u32)]) -> Result<Option<bool>, Fail> {
-    let (table, graph) = tables_of(rt, &sections(rt, nestings)?)?;
+    let LockParts {
+        dependencies: table,
+        graph,
+    } = tables_of(rt, &sections(rt, nestings)?)?;
     let ranks = Ranks::new(rt.alloc(), RandomState::new(rt)?, &table, &graph)?;
     if table.len() < 2 {
         return Ok(None);

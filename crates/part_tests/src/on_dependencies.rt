@@ -1,73 +1,7 @@
-ghost use Rattle.std.specs.Prelude.{ℕ, suc, OnOk};
-ghost use Rattle.dependencies.specs.Tables.{AllBelow};
-
-use dependencies::{DepTable, next_dependency};
-use held_sets::HeldTable;
-use std::hash::RandomState;
+use crate::traces::{case_of, empty_gate, gate_of, offer_words};
+use dependencies::DepTable;
 use std::test::Fail;
-use trace_model::{Event, MAX_HELD, NoMemory, Op, Place};
-
-fn fork(child: u32) -> Event {
-    Event {
-        thread: 0,
-        op: Op::Fork(child),
-    }
-}
-
-fn acquire(thread: u32, lock: u32) -> Event {
-    Event {
-        thread,
-        op: Op::Acquire(lock),
-    }
-}
-
-fn release(thread: u32, lock: u32) -> Event {
-    Event {
-        thread,
-        op: Op::Release(lock),
-    }
-}
-
-/// Notes the dependency of the event at the index.
-fn note(held: &HeldTable, table: &mut DepTable, index: u32, event: Event) -> Result<(), NoMemory>
-    requires { AllBelow table.old index }
-    ensures { OnOk result (AllBelow table.new (suc index)) }
-{
-    match next_dependency(held, event) {
-        None => Ok(()),
-        Some(dependency) => {
-            table.note(Place::new(index), dependency)?;
-            Ok(())
-        },
-    }
-}
-
-/// What the event does to the held sets.
-fn follow(held: &mut HeldTable, event: Event) -> Result<(), NoMemory> {
-    let locks = held.held(event.thread);
-    match event.op {
-        Op::Acquire(lock) if !locks.contains(lock) && locks.locks().len() < MAX_HELD => {
-            held.acquire(event.thread, lock)?;
-        },
-        Op::Release(lock) => held.release(event.thread, lock),
-        _ => {},
-    }
-    Ok(())
-}
-
-/// The dependencies of a trace.
-fn table_of(rt: &HostRuntime, events: &[Event]) -> Result<DepTable, Fail> {
-    let state = RandomState::new(rt)?;
-    let mut held = HeldTable::new(rt.alloc(), state);
-    let mut table = DepTable::new(rt.alloc(), state);
-    let mut index = 0u32;
-    for event in events {
-        note(&held, &mut table, index, *event)?;
-        follow(&mut held, *event)?;
-        index = index.checked_add(1).ok_or("too long")?;
-    }
-    Ok(table)
-}
+use trace_model::Place;
 
 /// The dependency with the number is this one.
 fn is_at(table: &DepTable, number: u32, thread: u32, lock: u32, held: &[u32]) -> bool {
@@ -81,23 +15,11 @@ fn is_at(table: &DepTable, number: u32, thread: u32, lock: u32, held: &[u32]) ->
 
 #[test]
 fn gate_lock(rt: HostRuntime) -> Result<(), Fail> {
-    let events = [
-        fork(1),
-        fork(2),
-        acquire(1, 5),
-        acquire(1, 10),
-        acquire(1, 20),
-        release(1, 20),
-        release(1, 10),
-        release(1, 5),
-        acquire(2, 5),
-        acquire(2, 20),
-        acquire(2, 10),
-        release(2, 10),
-        release(2, 20),
-        release(2, 5),
-    ];
-    let table = table_of(&rt, events.as_slice())?;
+    let gate = gate_of(
+        &rt,
+        "0f1 0f2 1a5 1a10 1a20 1r20 1r10 1r5 2a5 2a20 2a10 2r10 2r20 2r5",
+    )?;
+    let table = case_of(&rt, &gate)?.table;
     assert_eq!(rt; table.len(), 4);
     assert!(rt; is_at(&table, 0, 1, 10, [5].as_slice()));
     assert!(rt; is_at(&table, 1, 1, 20, [5, 10].as_slice()));
@@ -108,23 +30,17 @@ fn gate_lock(rt: HostRuntime) -> Result<(), Fail> {
 
 /// The trace of opposite orders, its sections repeated.
 fn opposite_orders(rt: &HostRuntime, times: u32) -> Result<DepTable, Fail> {
-    let mut events = Vec::new(rt.alloc());
-    events.push(fork(1))?;
-    events.push(fork(2))?;
-    for _ in 0..times {
-        for (thread, outer, inner) in [(1, 10, 20), (2, 20, 10)] {
-            events.push(acquire(thread, outer))?;
-            events.push(acquire(thread, inner))?;
-            events.push(release(thread, inner))?;
-            events.push(release(thread, outer))?;
-        }
-    }
-    table_of(rt, events.as_slice())
+    let mut gate = empty_gate(rt)?;
+    offer_words(rt.alloc(), &mut gate, "0f1 0f2", 1)?;
+    let sections = "1a10 1a20 1r20 1r10 2a20 2a10 2r10 2r20";
+    offer_words(rt.alloc(), &mut gate, sections, times)?;
+    Ok(case_of(rt, &gate)?.table)
 }
 
+/// With 4,200 repetitions the places of each number go over the end of a segment.
 #[test]
-fn two_hundred_repetitions(rt: HostRuntime) -> Result<(), Fail> {
-    for times in [1, 200] {
+fn places_of_repetitions(rt: HostRuntime) -> Result<(), Fail> {
+    for times in [1, 200, 4200] {
         let table = opposite_orders(&rt, times)?;
         assert!(rt; table.len() == 2 && !table.is_empty());
         assert!(rt; is_at(&table, 0, 1, 20, [10].as_slice()));

@@ -1,21 +1,18 @@
 //! Traces for the tests: read from words, passed through the gate, with index and table.
 
-ghost use Rattle.std.specs.Prelude.{◌≡◌, ℕ, suc, ◌<◌, length, Some, IfOk, OnOk};
-ghost use Rattle.trace_model.specs.Trace.{At};
-ghost use Rattle.trace_model.specs.declared.event.Op.TheVariants.{Acquire};
-ghost use Rattle.held_sets.specs.Tables as Held;
+ghost use Rattle.std.specs.Prelude.{◌≡◌, ℕ, ◌<◌, length, IfOk};
 ghost use Rattle.std.specs.Prelude.{IsTrue};
 ghost use Rattle.std.specs.List.{Contains};
 ghost use Rattle.trace_model.specs.Dependencies.{dependencies};
 ghost use Rattle.dependencies.specs.Tables.{known, FollowsTrace};
 
 use cycle_search::Cycle;
-use dependencies::{DepTable, next_dependency};
+use dependencies::DepTable;
 use event_files::read_events;
-use held_sets::HeldTable;
+use lock_tables::LockTables;
 use sp_closure::{Steps, close, least_instance};
 use std::alloc::Global;
-use std::collections::hash_map::RandomState;
+use std::hash::RandomState;
 use std::marker::Brand;
 use std::sync::ledger::{Blank, Ledger};
 use std::test::Fail;
@@ -41,58 +38,6 @@ pub(crate) fn offer(gate: &mut Gate, event: &Event) -> Result<bool, NoMemory> {
     Ok(true)
 }
 
-fn follow_locks(held: &mut HeldTable, event: Event) -> Result<(), NoMemory>
-    requires { (l : ℕ) → event.op ≡ Acquire l → Held.Fits held.old event.thread l }
-    ensures { OnOk result (Held.IsAfter held.old event.thread event.op held.new) }
-{
-    match event.op {
-        Op::Acquire(lock) => held.acquire(event.thread, lock)?,
-        Op::Release(lock) => held.release(event.thread, lock),
-        _ => {}
-    }
-    Ok(())
-}
-
-fn note_place(
-    table: &mut DepTable,
-    held: &HeldTable,
-    index: &TraceIndex,
-    place: Place,
-    event: Event,
-) -> Result<(), NoMemory>
-    requires at { At index.now.events place event }
-    requires held { Held.FollowsTrace held.now index.now.events place }
-    requires table { FollowsTrace table.old index.now.events place }
-    ensures { OnOk result (FollowsTrace table.new index.now.events (suc place)) }
-{
-    dependencies::laws::tables_follow();
-    match next_dependency(held, event) {
-        None => Ok(()),
-        Some(dependency) => {
-            table.note(place, dependency)?;
-            Ok(())
-        }
-    }
-}
-
-/// The dependencies of a trace.
-fn table_of(alloc: Global, state: RandomState, index: &TraceIndex) -> Result<DepTable, NoMemory>
-    ensures { IfOk result (λ table. FollowsTrace table index.now.events (length index.now.events)) }
-{
-    dependencies::laws::tables_follow();
-    held_sets::laws::held_follows();
-    held_sets::laws::acquires_fit();
-    let mut held = HeldTable::new(alloc, state);
-    let mut table = DepTable::new(alloc, state);
-    for p in 0..index.len() {
-        let place = Place::new(p as u32);
-        let event = index.event(place).unwrap();
-        note_place(&mut table, &held, index, place, event)?;
-        follow_locks(&mut held, event)?;
-    }
-    Ok(table)
-}
-
 /// What is known of the events that passed the gate.
 pub(crate) fn case_of(rt: &HostRuntime, gate: &Gate) -> Result<Case, Fail>
     ensures { IfOk result (λ case. FollowsTrace case.table case.index.events (length case.index.events)) }
@@ -100,8 +45,12 @@ pub(crate) fn case_of(rt: &HostRuntime, gate: &Gate) -> Result<Case, Fail>
     let alloc = rt.alloc();
     let state = RandomState::new(rt)?;
     let index = TraceIndex::build(alloc, state, gate.events())?;
-    let table = table_of(alloc, state, &index)?;
-    Ok(Case { index, table })
+    let tables = LockTables::of(alloc, state, gate.events())?;
+    let parts = tables.into_parts()?;
+    Ok(Case {
+        index,
+        table: parts.dependencies,
+    })
 }
 
 /// Passes the events of the words through the gate, so many times.
@@ -130,6 +79,17 @@ pub(crate) fn empty_gate(rt: &HostRuntime) -> Result<Gate, Fail> {
 pub(crate) fn gate_of(rt: &HostRuntime, words: &str) -> Result<Gate, Fail> {
     let mut gate = empty_gate(rt)?;
     offer_words(rt.alloc(), &mut gate, words, 1)?;
+    Ok(gate)
+}
+
+/// A gate that these events passed, after the forks of the threads 1 to 8.
+pub(crate) fn gate_after_forks(rt: &HostRuntime, events: &[Event]) -> Result<Gate, Fail> {
+    let mut gate = gate_of(rt, "0f1 0f2 0f3 0f4 0f5 0f6 0f7 0f8")?;
+    for event in events {
+        if !offer(&mut gate, event)? {
+            return Err("an event is not lawful".into());
+        }
+    }
     Ok(gate)
 }
 

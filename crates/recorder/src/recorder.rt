@@ -126,7 +126,7 @@ impl Recorder {
         self.gate.record(event);
     }
 
-    /// The first `length` events with what is needed to compute their rows, `total` being the number of their
+    /// The first `count` events with what is needed to compute their rows, `total` being the number of their
     /// dependencies. Full segments are shared, and at most one is copied; `copies` counts the events in it.
     ///
     /// # Errors
@@ -134,17 +134,17 @@ impl Recorder {
     /// `NoMemory` where a growth was refused.
     pub fn snapshot<L: Ledger>(
         &self,
-        length: u32,
+        count: u32,
         total: u32,
         copies: &mut Copies<L>,
     ) -> Result<Arc<Snapshot, Global>, NoMemory>
-        requires within { length ≤ length self.now.events }
-        requires total { total ≡ length (dependencies (take length self.now.events)) }
-        ensures events { IfOk result (λ shared. arc_value shared ≡ take length self.now.events) }
+        requires within { count ≤ length self.now.events }
+        requires total { total ≡ length (dependencies (take count self.now.events)) }
+        ensures events { IfOk result (λ shared. arc_value shared ≡ take count self.now.events) }
         ensures copies { copies.new ≤ copies.old + 4096 }
     {
-        let index = self.index.share(length as usize, copies)?;
-        let parts = self.tables.share(total, length)?;
+        let index = self.index.share(count as usize, copies)?;
+        let parts = self.tables.share(total, count)?;
         let snapshot = Snapshot::of(self.state, index, parts);
         Ok(Arc::new(self.alloc, snapshot)?)
     }
