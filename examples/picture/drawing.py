@@ -23,6 +23,11 @@ def shorten(words, most):
     return words if len(words) <= most else words[: most - 1] + "…"
 
 
+def fitting(words, width, largest=12.0):
+    """The size at which words fit a width: a glyph of a usual face is about three fifths of its size wide."""
+    return max(6.0, min(largest, width / (0.6 * max(1, len(words)))))
+
+
 def text(x, y, words, **attributes):
     options = {"font_size": 12, "fill": INK, "text_anchor": "middle", **attributes}
     return f'<text x="{x:.1f}" y="{y:.1f}"{attributes_of(options)}>{escape(str(words))}</text>'

@@ -32,7 +32,7 @@ tr:first-child td { border-top: 0; } td:first-child { white-space: nowrap; width
   body { background: #fff; font-size: 11pt; -webkit-print-color-adjust: exact; print-color-adjust: exact; }
   main { max-width: none; padding: 0; } section { border: 0; padding: 0; margin: 0 0 22px; }
   .scroll { overflow: visible; } .scroll svg { max-width: 100%; max-height: 235mm; }
-  .head, h3 { break-after: avoid; } .pair, .why, svg { break-inside: avoid; }
+  .head, h2, h3, section > p { break-after: avoid; } .pair, .why, svg { break-inside: avoid; }
 }
 """
 

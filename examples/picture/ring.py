@@ -1,15 +1,15 @@
 """The ring of a cycle: each thread waits for a lock, and that lock is held by the next thread."""
 from math import cos, pi, sin
 
-from drawing import FAINT, INK, STUCK, drawing, shape, text
+from drawing import FAINT, INK, STUCK, drawing, fitting, shape, text
 
-THREAD_WIDTH, LOCK_WIDTH, NODE_HEIGHT, MARGIN = 86, 82, 32, 16
+THREAD_WIDTH, LOCK_WIDTH, NODE_HEIGHT, MARGIN = 88, 92, 32, 16
 
 
 def draw_ring(name, members, colours):
     """Threads and locks in turn round a circle, clockwise, from the first member at the top."""
     count = 2 * len(members)
-    radius = max(110, 20 * count)
+    radius = max(114, 20 * count)
     middle_x, middle_y = radius + THREAD_WIDTH / 2 + MARGIN, radius + NODE_HEIGHT / 2 + MARGIN
 
     def spot(step):
@@ -51,13 +51,18 @@ def clear(spot, step, direction):
 
 def thread_node(x, y, thread):
     box = shape("rect", x=x - THREAD_WIDTH / 2, y=y - NODE_HEIGHT / 2, width=THREAD_WIDTH, height=NODE_HEIGHT, rx=6, fill=INK)
-    return box + text(x, y + 4.5, f"thread {thread}", fill="#ffffff", font_weight=600, font_size=13)
+    words = f"thread {thread}"
+    return box + text(x, y + 4.5, words, fill="#ffffff", font_weight=600, font_size=fitting(words, THREAD_WIDTH - 14, 13.0))
 
 
 def lock_node(x, y, lock, colour):
     box = shape("rect", x=x - LOCK_WIDTH / 2, y=y - NODE_HEIGHT / 2, width=LOCK_WIDTH, height=NODE_HEIGHT, rx=16,
                 fill="#ffffff", stroke=colour, stroke_width=2.5)
-    return box + padlock(x - LOCK_WIDTH / 2 + 11, y - 7, colour) + text(x + 9, y + 4.5, f"lock {lock}", font_size=13)
+    return box + padlock(x - LOCK_WIDTH / 2 + 11, y - 7, colour) + lock_words(x + 9, y + 4.5, f"lock {lock}")
+
+
+def lock_words(x, y, words):
+    return text(x, y, words, font_size=fitting(words, LOCK_WIDTH - 32, 13.0))
 
 
 def padlock(x, y, colour):

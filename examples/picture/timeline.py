@@ -2,10 +2,10 @@
 from collections import namedtuple
 from html import escape
 
-from drawing import APART, FAINT, INK, OTHER, STUCK, drawing, shape, shorten, source_of, text, words_of
+from drawing import APART, FAINT, INK, OTHER, STUCK, drawing, fitting, shape, shorten, source_of, text, words_of
 
 GUTTER, HEAD, ROW, TALL_ROW, GAP_ROW, SCREEN = 58, 34, 31, 42, 26, 975
-NARROWEST, WIDEST, BETWEEN = 134, 168, 40
+NARROWEST, WIDEST, BETWEEN = 148, 168, 40
 # An event of the list, a run of events left out, or the members that wait at the end.
 Shown = namedtuple("Shown", "place")
 LeftOut = namedtuple("LeftOut", "places")
@@ -74,7 +74,8 @@ class TimeLine:
         for thread in self.threads:
             x = self.x_of(thread)
             parts.append(shape("rect", x=x - 48, y=4, width=96, height=26, rx=6, fill=INK))
-            parts.append(text(x, 21.5, f"thread {thread}", fill="#ffffff", font_weight=600, font_size=13))
+            words = f"thread {thread}"
+            parts.append(text(x, 21.5, words, fill="#ffffff", font_weight=600, font_size=fitting(words, 84, 13.0)))
         return "".join(parts)
 
     def lanes(self):
@@ -128,7 +129,7 @@ class TimeLine:
             return ""  # both in one run that is left out
         x, colour = self.bar_x(thread, slot), self.colours.get(lock, OTHER)
         tip = shape("title", f"thread {thread} holds lock {lock}")
-        return shape("rect", tip, x=x, y=begin, width=self.pitch - 2, height=max(end - begin, 2.0), rx=2, fill=colour)
+        return shape("rect", tip, x=x, y=begin, width=0.7 * self.pitch, height=max(end - begin, 2.0), rx=2, fill=colour)
 
     def row_drawn(self, row, top, width):
         if isinstance(row, LeftOut):
@@ -153,8 +154,11 @@ class TimeLine:
 
     def chip_words(self, x, y, words, source, colour=INK):
         if not self.has_sources:
-            return text(x, y + 4, shorten(words, 22), fill=colour)
-        return text(x, y - 2, shorten(words, 22), fill=colour) + self.small(x, y + 11, source)
+            return self.large(x, y + 4, words, colour)
+        return self.large(x, y - 2, words, colour) + self.small(x, y + 11, source)
+
+    def large(self, x, y, words, colour, **how):
+        return text(x, y, words, fill=colour, font_size=fitting(words, self.chip_width - 6), **how)
 
     def small(self, x, y, words):
         return text(x, y, shorten(words, int(self.chip_width / 5.2)), fill=FAINT, font_size=9.5)
@@ -203,13 +207,13 @@ class TimeLine:
         tip = shape("title", escape(f"thread {member.thread} stands before place {member.place}{tip_of(event)}"))
         box = shape("rect", tip, x=x - self.chip_width / 2, y=top + 1, width=self.chip_width, height=height - 2, rx=5, fill="#ffffff",
                     stroke=STUCK, stroke_width=2, stroke_dasharray="6 3")
-        words = text(x, top + 13, f"waits for lock {member.lock}", fill=STUCK, font_weight=600)
+        words = self.large(x, top + 13, f"waits for lock {member.lock}", STUCK, font_weight=600)
         return box + words + self.small(x, top + 24, f"at place {member.place}") + self.small(x, top + 35, source_of(event))
 
     def held_by(self, member, holder, begin, deep):
         slots = self.slots_at_end(holder.thread)
         slot = slots.index(member.lock) if member.lock in slots else 0
-        end_x = self.bar_x(holder.thread, slot) + (self.pitch - 2) / 2
+        end_x = self.bar_x(holder.thread, slot) + 0.35 * self.pitch
         colour = self.colours.get(member.lock, OTHER)
         path = f"M{self.x_of(member.thread):.1f} {begin - 5} V{deep} H{end_x:.1f} V{begin}"
         return shape("path", d=path, fill="none", stroke=colour, stroke_width=2, stroke_linejoin="round",

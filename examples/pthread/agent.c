@@ -161,7 +161,8 @@ static uint32_t fork_told(uint32_t parent, void *caller) {
     return threads_numbered++;
 }
 
-/* A thread that was created unseen is told as a child of thread 0: that orders it after more than was so, never after less. */
+/* A thread that was created unseen is told as a child of thread 0, and so comes after all that thread 0 did so far; that it comes
+ * after what the thread did that really created it is lost. */
 static void number_self(void *caller) {
     if (self != NOBODY) return;
     if (getpid() == gettid()) self = 0;

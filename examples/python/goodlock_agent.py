@@ -128,8 +128,8 @@ class Agent:
         return child
 
     def number(self, where):
-        """This thread's number. One that was started unseen is told as a child of thread 0: that orders it after more than
-        was so, never after less."""
+        """This thread's number. One that was started unseen is told as a child of thread 0, and so comes after all that thread 0
+        did so far; that it comes after what the thread did that really started it is lost."""
         if not hasattr(self.here, "number"):
             self.here.number = self.fork(0, where)
         return self.here.number
