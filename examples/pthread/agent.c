@@ -103,7 +103,7 @@ static int exchange(const uint8_t *body, size_t length, uint32_t rest[3], char *
         memset(rest, 0, 12);
         if (head <= 12 && receive(rest, head)) {
             if (kind != REPORT) return kind;
-            if ((*text = calloc(1, left - head + 1)) && receive(*text, left - head)) return kind;
+            if (text && (*text = calloc(1, left - head + 1)) && receive(*text, left - head)) return kind;
         }
     }
     give_up(LOST, "the server has ended or does not reply");
@@ -348,6 +348,13 @@ int ask(const uint8_t *body, size_t length, uint32_t rest[3], char **text) {
     return kind;
 }
 
+uint32_t accepted_so_far(void) {
+    REAL(pthread_mutex_lock)(&agent);
+    uint32_t so_far = accepted;
+    REAL(pthread_mutex_unlock)(&agent);
+    return so_far;
+}
+
 static void on_signal(int number) {
     int before = errno;
     if (write(wakes_watcher, "", number != 0) < 0) errno = before;
@@ -406,7 +413,7 @@ __attribute__((constructor)) static void at_start(void) {
 }
 
 __attribute__((destructor)) static void at_exit(void) {
-    if (inside || (state != STREAMING && state != STOPPED)) return;
+    if (inside || state == ABSENT || state == WAITING) return;
     inside = 1;
     write_report();
 }

@@ -19,10 +19,12 @@ struct event { uint32_t thread, object; void *caller; uint8_t kind; };
 extern struct event events[];
 /* Writes a body, and answers its length. */
 size_t put(uint8_t *body, uint8_t kind, uint32_t first, uint32_t second);
+/* How many events were accepted so far. */
+uint32_t accepted_so_far(void);
 /* Asks the server, and answers the kind of its reply, or 0 where it gave none. */
 int ask(const uint8_t *body, size_t length, uint32_t rest[3], char **text);
 /* Says what went wrong, and that the program runs on. */
 void say(const char *why);
-/* Asks for the report on the events so far and writes OUT.report and OUT.trace. */
+/* Asks for the report on the events so far and writes OUT.report and OUT.trace; the trace alone where there is no report. */
 void write_report(void);
 #pragma GCC visibility pop

@@ -4,7 +4,7 @@
 #include <dlfcn.h>
 #include <link.h>
 
-enum { SECONDS_TO_REPORT = 600, NOTED = 10000, HELD = 16 };
+enum { SECONDS_TO_REPORT = 60, NOTED = 10000, HELD = 16 };
 
 /* ---- source lines ---- */
 
@@ -24,7 +24,8 @@ static void name_site(struct site *site, char *line) {
     if (!file || file[4] == '?' || (inlined && strncmp(site->where, "/usr/", 5))) return;
     file[0] = 0, file += 4, file[strcspn(file, " \n")] = 0;
     if (!strncmp(file, here, strlen(here)) && file[strlen(here)] == '/') file += strlen(here) + 1;
-    snprintf(site->where, sizeof site->where, "%.160s in %.70s", file, function);
+    if (strlen(file) > 160) file += strlen(file) - 160;
+    snprintf(site->where, sizeof site->where, "%s in %.70s", file, function);
 }
 
 /* Names the first sites that lie in one file, by one run of addr2line, and answers how many. */
@@ -77,7 +78,7 @@ static const char *where(uint32_t place) {
 
 /* ---- the report ---- */
 
-/* The text of the report on the events so far, and how many they are; NULL if there is none. */
+/* The text of the report on the events so far, and how many they are; NULL if there is none, and then `length` as it was. */
 static char *ask_report(uint32_t *length) {
     const char *bound = getenv("GOODLOCK_BOUND");
     uint8_t body[9] = {ASK, bound ? atoi(bound) : 4};
@@ -88,7 +89,10 @@ static char *ask_report(uint32_t *length) {
     if (kind != OPENED) return NULL;
     question = ntohl(rest[0]), *length = ntohl(rest[1]);
     put(body, ANSWER, question, 0);
-    for (int tries = 0; tries < SECONDS_TO_REPORT * 100 && (kind = ask(body, 5, rest, &text)) == PENDING; tries++) usleep(10000);
+    for (int tries = 0; tries < SECONDS_TO_REPORT * 100; tries++) {
+        if ((kind = ask(body, 5, rest, &text)) != PENDING) break;
+        usleep(10000);
+    }
     return kind == REPORT ? text : NULL;
 }
 
@@ -162,17 +166,16 @@ static FILE *open_out(const char *kind, char *name, size_t size) {
 void write_report(void) {
     static pthread_mutex_t one_at_a_time = PTHREAD_MUTEX_INITIALIZER;
     char report_name[500], trace_name[500];
-    uint32_t length = 0;
-    pthread_mutex_lock(&one_at_a_time); /* the agent's own threads are not told of */
+    pthread_mutex_lock(&one_at_a_time); /* what the agent does itself is not told */
+    uint32_t length = accepted_so_far();
     char *text = ask_report(&length);
     FILE *report = text ? open_out("report", report_name, sizeof report_name) : NULL;
-    FILE *trace = report ? open_out("trace", trace_name, sizeof trace_name) : NULL;
-    if (trace) {
-        name_sites(length);
+    FILE *trace = length || text ? open_out("trace", trace_name, sizeof trace_name) : NULL;
+    if (trace) name_sites(length), write_trace(trace, length);
+    if (trace && report) {
         write_text(report, text, length);
-        write_trace(trace, length);
         fprintf(stderr, "goodlock agent: %.*s: %s, %s\n", (int)strcspn(text, "\n"), text, report_name, trace_name);
-    } else say(text ? "the report cannot be written" : "there is no report");
+    } else say(trace ? "there is no report, but the trace is written" : "there is no report");
     if (report) fclose(report);
     if (trace) fclose(trace);
     free(text);

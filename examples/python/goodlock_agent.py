@@ -27,7 +27,7 @@ import time
 FORK, JOIN, ACQUIRE, RELEASE, ASK, ANSWER = 1, 2, 3, 4, 7, 8
 PLACED, REFUSED, OPENED, PENDING, REPORT = 65, 66, 67, 68, 69
 LETTERS = {FORK: "f", JOIN: "j", ACQUIRE: "a", RELEASE: "r"}
-SECONDS_TO_REPLY, SECONDS_TO_REPORT = 10, 600
+SECONDS_TO_REPLY, SECONDS_TO_REPORT = 10, 60
 REAL_LOCK, REAL_RLOCK = _thread.allocate_lock, threading.RLock
 REAL_START, REAL_JOIN = threading.Thread.start, threading.Thread.join
 OWN_FILES = {__file__, threading.__file__, contextlib.__file__}
@@ -193,22 +193,32 @@ class Agent:
         raise TimeoutError("no report came in time")
 
     def write_report(self):
-        """Asks, waits, and writes the report and the trace."""
-        if not self.server:
-            return
+        """Asks, waits, and writes the report and the trace; the trace alone where there is no report."""
         self.here.is_inside = True
+        text, length = None, len(self.events)
         try:
-            text, length = self.ask()
-            events = self.events[:length]
-            with open(f"{self.out}.report", "w", encoding="utf-8") as file:
-                file.writelines(with_notes(text, events))
-            with open(f"{self.out}.trace", "w", encoding="utf-8") as file:
-                file.writelines(trace_lines(events))
-            say(f"{text.splitlines()[0]}: {self.out}.report, {self.out}.trace")
+            if self.server:
+                text, length = self.ask()
+        except Exception as error:
+            self.give_up(error)
+        try:
+            self.write(text, self.events[:length])
         except Exception as error:
             self.give_up(error)
         finally:
             self.here.is_inside = False
+
+    def write(self, text, events):
+        if not text and not events:
+            return
+        with open(f"{self.out}.trace", "w", encoding="utf-8") as file:
+            file.writelines(trace_lines(events))
+        if not text:
+            say("there is no report, but the trace is written")
+            return
+        with open(f"{self.out}.report", "w", encoding="utf-8") as file:
+            file.writelines(with_notes(text, events))
+        say(f"{text.splitlines()[0]}: {self.out}.report, {self.out}.trace")
 
 
 def source(where):
@@ -368,7 +378,7 @@ def begin(address, bound, out):
     agent = Agent(address, bound, out)
 
     def in_child():  # another process: what it does is not of this trace
-        agent.is_streaming, agent.server = False, None
+        agent.is_streaming, agent.server, agent.events = False, None, []
 
     if agent.is_streaming:
         os.register_at_fork(after_in_child=in_child)
