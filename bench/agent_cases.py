@@ -20,6 +20,14 @@ def run(function):
     thread.join()
 
 
+def another_process(lock):
+    child = os.fork()
+    if child == 0:
+        with lock:
+            os._exit(0)
+    assert os.waitpid(child, 0)[1] == 0 and os.system("true") == 0
+
+
 def main():
     plain, nested, condition, handed = threading.Lock(), threading.RLock(), threading.Condition(), threading.Lock()
     with plain:
@@ -47,6 +55,7 @@ def main():
     handed.release()
     given_back.set()
     holder.join()
+    another_process(plain)
     for wrong in (handed, nested):
         try:
             wrong.release()

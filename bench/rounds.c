@@ -1,4 +1,4 @@
-/* THREADS threads take two of eight locks, always in one order, ROUNDS times each, with a little work inside: rounds THREADS ROUNDS */
+/* Threads that take two of eight locks, always in one order, with a little work inside: rounds THREADS ROUNDS */
 #include <pthread.h>
 #include <stdio.h>
 #include <stdlib.h>

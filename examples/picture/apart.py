@@ -1,8 +1,8 @@
 """What keeps the members of a potential cycle apart, by a look of the picture's own at the observed events.
 
-For the members to stand before their acquires, all earlier events of their threads must have run, and with them what these need:
-a thread its fork, a join all of the joined thread, a read its write, and of two critical sections of one lock the earlier one's
-release. Where this brings in an event at which a member was to stand, the chain of needs that did so is the reason.
+For the members to stand before their acquires, all earlier events of their threads must have run, and with them what these
+need: a thread its fork, a join all of the joined thread, a read its write, and of two critical sections of one lock the earlier
+one's release. Where this brings in an event at which a member was to stand, the chain of needs that did so is the reason.
 """
 from collections import Counter, deque, namedtuple
 from itertools import islice, product

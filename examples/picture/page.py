@@ -1,4 +1,4 @@
-"""The page: for each report its cycles, each with its ring, a line for each member and a time line; and the trace, if it is short."""
+"""The page: for each report its cycles, each with its ring, its members and a time line; and the trace, if it is short."""
 from html import escape
 from math import inf
 
@@ -14,17 +14,19 @@ STYLE = """
 body { font: 15px/1.5 system-ui, "Segoe UI", "DejaVu Sans", sans-serif; color: var(--ink); background: #f4f6f8; margin: 0; }
 main { max-width: 1080px; margin: 0 auto; padding: 28px 24px 60px; }
 h1 { font-size: 25px; margin: 0 0 2px; } h2 { font-size: 18px; margin: 0; } h3 { font-size: 15px; margin: 22px 0 6px; }
-p { margin: 6px 0; } .faint { color: var(--faint); } code { font-family: ui-monospace, "DejaVu Sans Mono", monospace; font-size: 13px; }
+p { margin: 6px 0; } .faint { color: var(--faint); }
 section { background: #fff; border: 1px solid var(--line); border-radius: 10px; padding: 18px 22px; margin: 20px 0; }
 .head { display: flex; align-items: center; gap: 12px; flex-wrap: wrap; }
 .badge { border-radius: 20px; padding: 1px 12px; font-size: 13px; font-weight: 600; color: #fff; }
 .confirmed { background: #c62828; } .potential { background: #b26a00; }
 .pair { display: flex; flex-wrap: wrap; align-items: center; gap: 10px 30px; } .members { flex: 1 1 380px; }
-table { border-collapse: collapse; width: 100%; } td { border-top: 1px solid var(--line); padding: 8px 10px 8px 0; vertical-align: top; }
+table { border-collapse: collapse; width: 100%; }
+td { border-top: 1px solid var(--line); padding: 8px 10px 8px 0; vertical-align: top; }
 tr:first-child td { border-top: 0; } td:first-child { white-space: nowrap; width: 10em; }
-.where { font-family: ui-monospace, "DejaVu Sans Mono", monospace; font-size: 12px; color: var(--faint); overflow-wrap: anywhere; }
+.where { font: 12px ui-monospace, "DejaVu Sans Mono", monospace; color: var(--faint); overflow-wrap: anywhere; }
 .dot { display: inline-block; width: 10px; height: 10px; border-radius: 50%; margin-right: 5px; }
-.scroll { overflow-x: auto; } svg { display: block; font-family: system-ui, "Segoe UI", "DejaVu Sans", sans-serif; height: auto; }
+.scroll { overflow-x: auto; }
+svg { display: block; font-family: system-ui, "Segoe UI", "DejaVu Sans", sans-serif; height: auto; }
 .ring svg { max-width: 100%; } ol { margin: 4px 0 8px; padding-left: 22px; } li { margin: 3px 0; }
 .why { border-left: 4px solid #b26a00; background: #fff8ea; padding: 8px 14px; border-radius: 0 8px 8px 0; margin: 12px 0; }
 @page { margin: 14mm; }
@@ -77,7 +79,8 @@ def cycle_section(index, report, cycle, name):
     told, instance = below(index, report, cycle, colours, name)
     ring = draw_ring(name + "ring", cycle.members, colours)
     table = members_table(index, cycle.members, instance, colours, cycle.is_confirmed)
-    return f'<section>{head}<div class="pair"><div class="ring">{ring}</div><div class="members">{table}</div></div>{told}</section>'
+    pair = f'<div class="pair"><div class="ring">{ring}</div><div class="members">{table}</div></div>'
+    return f"<section>{head}{pair}{told}</section>"
 
 
 def colours_for(index, members):
@@ -186,8 +189,8 @@ def sentence(index, step):
     if step.kind == "read":
         return (f"At place {step.cause} thread {cause.thread} reads variable {cause.about}, and sees what thread {needed.thread} "
                 f"wrote at place {step.needed}.")
-    return (f"At place {step.cause} thread {cause.thread} acquires lock {cause.about}; thread {needed.thread} had it before, so it "
-            f"must have released it, at place {step.needed}.")
+    return (f"At place {step.cause} thread {cause.thread} acquires lock {cause.about}; thread {needed.thread} had it before, so "
+            f"it must have released it, at place {step.needed}.")
 
 
 def tally(kinds, looked, total):
@@ -196,7 +199,8 @@ def tally(kinds, looked, total):
         return ""
     counts = "; ".join(f"{' and '.join(BY[kind] for kind in of) or 'other'}: {count:,}" for of, count in kinds.most_common())
     which = f"all {total:,}" if looked == total else f"the first {looked:,} of {total:,}"
-    return f'<p class="faint">The acquires of this cycle may be placed in several ways; of {which}, by what each is kept apart: {counts}.</p>'
+    return ('<p class="faint">The acquires of this cycle may be placed in several ways; of '
+            f"{which}, by what each is kept apart: {counts}.</p>")
 
 
 def whole_trace(index):

@@ -1,4 +1,4 @@
-"""Reads the two files: a trace, as `goodlockd offline` or `script` takes it, and the report on it, as they or an agent write it."""
+"""Reads the two files: a trace, as `goodlockd offline` or `script` takes it, and a report, as they or an agent write it."""
 import re
 from collections import namedtuple
 

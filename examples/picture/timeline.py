@@ -96,8 +96,9 @@ class TimeLine:
         if parent not in self.threads:
             return ""
         side = 1 if x > self.x_of(parent) else -1
-        return shape("path", d=f"M{self.x_of(parent) + side * self.chip_width / 2:.1f} {y:.1f} H{x - side * 3:.1f}", fill="none", stroke=FAINT,
-                     stroke_width=1.3, marker_end=f"url(#{self.name}{FAINT[1:]})")
+        path = f"M{self.x_of(parent) + side * self.chip_width / 2:.1f} {y:.1f} H{x - side * 3:.1f}"
+        return shape("path", d=path, fill="none", stroke=FAINT, stroke_width=1.3,
+                     marker_end=f"url(#{self.name}{FAINT[1:]})")
 
     def bars(self):
         """Beside each thread a bar for each lock, from its acquire to its release, or to the end."""
@@ -175,7 +176,8 @@ class TimeLine:
         """The members before their acquires, and from each an arrow to the thread that holds its lock."""
         top, deep, parts = self.height, self.wait_height(), []
         band = shape("rect", x=4, y=top - 1, width=width - 8, height=deep + 6, rx=6, fill="#fdeaea")
-        parts.append(text(GUTTER - 14, top + deep / 2 + 6, "stuck", text_anchor="end", fill=STUCK, font_weight=600, font_size=11))
+        style = {"text_anchor": "end", "fill": STUCK, "font_weight": 600, "font_size": 11}
+        parts.append(text(GUTTER - 14, top + deep / 2 + 6, "stuck", **style))
         for at, member in enumerate(self.waiting):
             holder = self.waiting[(at + 1) % len(self.waiting)]
             parts.append(self.wait_chip(member, top + 2, deep))
@@ -205,8 +207,8 @@ class TimeLine:
     def wait_chip(self, member, top, height):
         x, event = self.x_of(member.thread), self.index.events[member.place]
         tip = shape("title", escape(f"thread {member.thread} stands before place {member.place}{tip_of(event)}"))
-        box = shape("rect", tip, x=x - self.chip_width / 2, y=top + 1, width=self.chip_width, height=height - 2, rx=5, fill="#ffffff",
-                    stroke=STUCK, stroke_width=2, stroke_dasharray="6 3")
+        box = shape("rect", tip, x=x - self.chip_width / 2, y=top + 1, width=self.chip_width, height=height - 2, rx=5,
+                    fill="#ffffff", stroke=STUCK, stroke_width=2, stroke_dasharray="6 3")
         words = self.large(x, top + 13, f"waits for lock {member.lock}", STUCK, font_weight=600)
         return box + words + self.small(x, top + 24, f"at place {member.place}") + self.small(x, top + 35, source_of(event))
 
@@ -231,8 +233,10 @@ class TimeLine:
         x, to_x = self.x_of(events[link.begin].thread), self.x_of(events[link.end].thread)
         side = 1 if to_x >= x else -1
         out_x, in_x = x + side * self.chip_width / 2, to_x - side * (self.chip_width / 2 + 2)
-        path = f"M{out_x:.1f} {begin:.1f} C{(out_x + in_x) / 2:.1f} {begin:.1f} {(out_x + in_x) / 2:.1f} {end:.1f} {in_x:.1f} {end:.1f}"
-        return shape("path", d=path, fill="none", stroke=APART, stroke_width=2.2, marker_end=f"url(#{self.name}{APART[1:]})")
+        middle = (out_x + in_x) / 2
+        path = f"M{out_x:.1f} {begin:.1f} C{middle:.1f} {begin:.1f} {middle:.1f} {end:.1f} {in_x:.1f} {end:.1f}"
+        return shape("path", d=path, fill="none", stroke=APART, stroke_width=2.2,
+                     marker_end=f"url(#{self.name}{APART[1:]})")
 
 
 def tip_of(event):

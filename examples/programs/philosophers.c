@@ -1,5 +1,5 @@
-/* Five philosophers share five forks. Each takes the fork on its left, then the one on its right, and eats. Here they come to the
- * table one after another, so that all of them eat: they need not. The deadlock has five members, so the bound must be 5.
+/* Five philosophers share five forks. Each takes the fork on its left, then the one on its right, and eats. Here they come to
+ * the table one after another, so that all of them eat: they need not. The deadlock has five members, so the bound must be 5.
  *
  *     cc -g -pthread -o philosophers philosophers.c
  */

@@ -41,7 +41,7 @@ static uint32_t accepted, threads_numbered = 1, mutexes_numbered;
 static struct thread threads[THREADS];
 static struct mutex mutexes[MUTEXES];
 THREAD_LOCAL uint32_t self = NOBODY;
-THREAD_LOCAL int inside, errno_before, cancel_before;
+THREAD_LOCAL int inside, inside_before_fork, errno_before, cancel_before;
 
 void say(const char *why) { dprintf(STDERR_FILENO, "goodlock agent: %s; the program runs on\n", why); }
 
@@ -161,8 +161,8 @@ static uint32_t fork_told(uint32_t parent, void *caller) {
     return threads_numbered++;
 }
 
-/* A thread that was created unseen is told as a child of thread 0, and so comes after all that thread 0 did so far; that it comes
- * after what the thread did that really created it is lost. */
+/* A thread that was created unseen is told as a child of thread 0, and so comes after all that thread 0 did so far; that it
+ * comes after what the thread did that really created it is lost. */
 static void number_self(void *caller) {
     if (self != NOBODY) return;
     if (getpid() == gettid()) self = 0;
@@ -384,11 +384,14 @@ static void start_watcher(void) {
     pthread_sigmask(SIG_SETMASK, &mask, NULL);
 }
 
-static void before_fork(void) {
+static void before_fork(void) { /* what other handlers of a fork do is not told: they may run between these */
+    inside_before_fork = inside;
     if (!inside) REAL(pthread_mutex_lock)(&agent);
+    inside = 1;
 }
 
 static void in_parent(void) {
+    inside = inside_before_fork;
     if (!inside) REAL(pthread_mutex_unlock)(&agent);
 }
 

@@ -18,14 +18,19 @@ static int by_caller(const void *left, const void *right) {
     return (a > b) - (a < b);
 }
 
+static const char *shortly(const char *path) {
+    size_t length = strlen(here);
+    return !strncmp(path, here, length) && path[length] == '/' ? path + length + 1 : path;
+}
+
 /* From addr2line's `FUNCTION at FILE:LINE`, with what it says of an inlined call's outer one. */
 static void name_site(struct site *site, char *line) {
-    char *inlined = strstr(line, "(inlined by) "), *function = inlined ? inlined + 13 : line, *file = strstr(function, " at ");
-    if (!file || file[4] == '?' || (inlined && strncmp(site->where, "/usr/", 5))) return;
-    file[0] = 0, file += 4, file[strcspn(file, " \n")] = 0;
-    if (!strncmp(file, here, strlen(here)) && file[strlen(here)] == '/') file += strlen(here) + 1;
+    char *inlined = strstr(line, "(inlined by) "), *function = inlined ? inlined + 13 : line, *at = strstr(function, " at ");
+    if (!at || at[4] == '?' || (inlined && strncmp(site->where, "/usr/", 5))) return;
+    at[0] = 0, at += 4, at[strcspn(at, " \n")] = 0;
+    const char *file = shortly(at);
     if (strlen(file) > 160) file += strlen(file) - 160;
-    snprintf(site->where, sizeof site->where, "%s in %.70s", file, function);
+    snprintf(site->where, sizeof site->where, "%.160s in %.70s", file, function);
 }
 
 /* Names the first sites that lie in one file, by one run of addr2line, and answers how many. */
@@ -59,7 +64,6 @@ static void name_sites(uint32_t length) {
     free(sites);
     sites = calloc(length + 1, sizeof *sites), sites_known = 0;
     void **callers = calloc(length + 1, sizeof *callers);
-    if (!getcwd(here, sizeof here)) here[0] = 0;
     if (readlink("/proc/self/exe", executable, sizeof executable - 1) < 0) executable[0] = 0;
     if (sites && callers) {
         for (uint32_t place = 0; place < length; place++) callers[place] = events[place].caller;
@@ -157,15 +161,20 @@ static void write_trace(FILE *out, uint32_t length) {
     }
 }
 
+__attribute__((constructor)) static void remember_folder(void) { /* the program may go to another one */
+    if (!getcwd(here, sizeof here)) here[0] = 0;
+}
+
 static FILE *open_out(const char *kind, char *name, size_t size) {
     const char *out = getenv("GOODLOCK_OUT");
-    snprintf(name, size, "%s.%s", out ? out : "goodlock", kind);
+    if (!out) out = "goodlock";
+    snprintf(name, size, "%s%s%.600s.%s", out[0] == '/' ? "" : here, out[0] == '/' ? "" : "/", out, kind);
     return fopen(name, "we");
 }
 
 void write_report(void) {
     static pthread_mutex_t one_at_a_time = PTHREAD_MUTEX_INITIALIZER;
-    char report_name[500], trace_name[500];
+    char report_name[1200], trace_name[1200];
     pthread_mutex_lock(&one_at_a_time); /* what the agent does itself is not told */
     uint32_t length = accepted_so_far();
     char *text = ask_report(&length);
@@ -174,7 +183,8 @@ void write_report(void) {
     if (trace) name_sites(length), write_trace(trace, length);
     if (trace && report) {
         write_text(report, text, length);
-        fprintf(stderr, "goodlock agent: %.*s: %s, %s\n", (int)strcspn(text, "\n"), text, report_name, trace_name);
+        text[strcspn(text, "\n")] = 0;
+        fprintf(stderr, "goodlock agent: %s: %s, %s\n", text, shortly(report_name), shortly(trace_name));
     } else say(trace ? "there is no report, but the trace is written" : "there is no report");
     if (report) fclose(report);
     if (trace) fclose(trace);

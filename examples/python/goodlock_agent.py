@@ -64,7 +64,7 @@ class Server:
     def read(self, length):
         data = self.replies.read(length)
         if len(data) < length:
-            raise OSError("the server has ended")
+            raise OSError("end of input")
         return data
 
 
@@ -77,7 +77,7 @@ class Agent:
         self.here.number = 0
         self.events = []
         self.threads, self.joined, self.locks = 1, set(), 0
-        self.bound, self.out = bound, out
+        self.bound, self.out, self.process = bound, os.path.abspath(out), os.getpid()
         self.is_streaming, self.server = False, None
         try:
             self.server = Server(address)
@@ -94,8 +94,8 @@ class Agent:
 
     @contextlib.contextmanager
     def telling(self):
-        """The agent's turn; what a signal handler or a finalizer does meanwhile is not told."""
-        if getattr(self.here, "is_inside", False) or not self.is_streaming:
+        """The agent's turn; what a signal handler or a finalizer does meanwhile is not told, nor what another process does."""
+        if getattr(self.here, "is_inside", False) or not self.is_streaming or os.getpid() != self.process:
             yield False
             return
         self.here.is_inside = True
@@ -103,7 +103,7 @@ class Agent:
             with self.turn:
                 yield self.is_streaming
         except Exception as error:
-            self.give_up(error)
+            self.give_up(f"the server has ended or does not reply ({error})")
         except BaseException:
             self.give_up("interrupted")
             raise
@@ -194,6 +194,8 @@ class Agent:
 
     def write_report(self):
         """Asks, waits, and writes the report and the trace; the trace alone where there is no report."""
+        if os.getpid() != self.process:
+            return
         self.here.is_inside = True
         text, length = None, len(self.events)
         try:
@@ -218,7 +220,8 @@ class Agent:
             return
         with open(f"{self.out}.report", "w", encoding="utf-8") as file:
             file.writelines(with_notes(text, events))
-        say(f"{text.splitlines()[0]}: {self.out}.report, {self.out}.trace")
+        out = os.path.relpath(self.out)
+        say(f"{text.splitlines()[0]}: {out}.report, {out}.trace")
 
 
 def source(where):
@@ -376,12 +379,7 @@ def step_aside(agent):
 
 def begin(address, bound, out):
     agent = Agent(address, bound, out)
-
-    def in_child():  # another process: what it does is not of this trace
-        agent.is_streaming, agent.server, agent.events = False, None, []
-
     if agent.is_streaming:
-        os.register_at_fork(after_in_child=in_child)
         stand_before(agent)
     return agent
 
