@@ -26,6 +26,7 @@ class TimeLine:
         self.pitch = min(7.0, (BETWEEN - 12) / max(1, self.most_held()))
         self.has_sources = any(index.events[row.place].where for row in rows if isinstance(row, Shown))
         self.tops, self.height = self.lay_out()
+        self.slots = {thread: [] for thread in self.threads}  # the locks that each holds so far, and where their bars begin
 
     def columns(self):
         events = self.index.events
@@ -85,9 +86,10 @@ class TimeLine:
             fork = self.index.fork_of.get(thread)
             begin = self.y_of(fork) if fork is not None and fork in self.order else None
             x = self.x_of(thread)
-            parts.append(shape("path", d=f"M{x} {begin or HEAD} V{end}", stroke="#d5dce2", stroke_width=2))
+            line = {"stroke": "#d5dce2", "stroke_width": 2}
+            parts.append(shape("path", d=f"M{x} {begin or HEAD} V{end}", **line))
             if begin:
-                parts.append(shape("path", d=f"M{x} {HEAD} V{begin}", stroke="#d5dce2", stroke_width=2, stroke_dasharray="1 5"))
+                parts.append(shape("path", d=f"M{x} {HEAD} V{begin}", stroke_dasharray="1 5", **line))
                 parts.append(self.fork_arrow(fork, x, begin))
         return "".join(parts)
 
@@ -102,32 +104,39 @@ class TimeLine:
 
     def bars(self):
         """Beside each thread a bar for each lock, from its acquire to its release, or to the end."""
-        parts, held = [], {thread: [] for thread in self.threads}
-        for place in self.order:
-            thread, letter, about, _ = self.index.events[place]
-            if thread not in held or letter not in "ar":
-                continue
-            slots = held[thread]
-            if letter == "a":
-                slot = next((at for at, lock in enumerate(slots) if lock is None), len(slots))
-                slots[slot:slot + 1] = [(about, self.y_of(place))]
-            else:
-                slot = next((at for at, lock in enumerate(slots) if lock and lock[0] == about), None)
-                if slot is not None:
-                    parts.append(self.bar(thread, slot, *slots[slot], self.y_of(place)))
-                    slots[slot] = None
-        for thread, slots in held.items():
-            for slot, lock in enumerate(slots):
-                if lock:
-                    parts.append(self.bar(thread, slot, *lock, self.height + (self.wait_height() if self.waiting else 0)))
+        parts = []
+        for row, top in zip(self.rows, self.tops):
+            y = top + (self.row_height() if isinstance(row, Shown) else GAP_ROW) / 2
+            places = [row.place] if isinstance(row, Shown) else row.places
+            within = set(places)
+            for place in places:
+                thread, letter, about, _ = self.index.events[place]
+                if thread in self.slots and letter == "a" and self.index.release_of.get(place) not in within:
+                    self.take_slot(thread, about, y)
+                elif thread in self.slots and letter == "r":
+                    parts += self.free_slot(thread, about, y)
+        end = self.height + (self.wait_height() if self.waiting else 0)
+        for thread, slots in self.slots.items():
+            parts += [self.bar(thread, slot, *taken, end) for slot, taken in enumerate(slots) if taken]
         return "".join(parts)
+
+    def take_slot(self, thread, lock, y):
+        slots = self.slots[thread]
+        slot = slots.index(None) if None in slots else len(slots)
+        slots[slot:slot + 1] = [(lock, y)]
+
+    def free_slot(self, thread, lock, y):
+        """The bar of a lock that ends here, if it began in an earlier row."""
+        for slot, taken in enumerate(self.slots[thread]):
+            if taken and taken[0] == lock:
+                self.slots[thread][slot] = None
+                return [self.bar(thread, slot, *taken, y)]
+        return []
 
     def bar_x(self, thread, slot):
         return self.x_of(thread) - self.chip_width / 2 - 1 - self.pitch * (slot + 1)
 
     def bar(self, thread, slot, lock, begin, end):
-        if begin == end:
-            return ""  # both in one run that is left out
         x, colour = self.bar_x(thread, slot), self.colours.get(lock, OTHER)
         tip = shape("title", f"thread {thread} holds lock {lock}")
         return shape("rect", tip, x=x, y=begin, width=0.7 * self.pitch, height=max(end - begin, 2.0), rx=2, fill=colour)
@@ -136,12 +145,14 @@ class TimeLine:
         if isinstance(row, LeftOut):
             return self.left_out(row.places, top, width)
         event, y = self.index.events[row.place], top + self.row_height() / 2
-        return text(GUTTER - 14, y + 4, row.place, text_anchor="end", fill=FAINT, font_size=11) + self.chip(row.place, event, y)
+        number = text(GUTTER - 14, y + 4, row.place, text_anchor="end", fill=FAINT, font_size=11)
+        return number + self.chip(row.place, event, y)
 
     def chip(self, place, event, y):
         x, height = self.x_of(event.thread), self.row_height() - 8
         tip = shape("title", escape(f"place {place}: thread {event.thread} {words_of(event)}{tip_of(event)}"))
-        box = shape("rect", tip, x=x - self.chip_width / 2, y=y - height / 2, width=self.chip_width, height=height, rx=5, **self.edge(place, event))
+        box = shape("rect", tip, x=x - self.chip_width / 2, y=y - height / 2, width=self.chip_width, height=height, rx=5,
+                    **self.edge(place, event))
         return box + self.chip_words(x, y, words_of(event), source_of(event))
 
     def edge(self, place, event):
@@ -188,21 +199,10 @@ class TimeLine:
         """The bars again over the band of those that wait."""
         parts = []
         for member in self.waiting:
-            for slot, lock in enumerate(self.slots_at_end(member.thread)):
-                if lock is not None:
-                    parts.append(self.bar(member.thread, slot, lock, top - 3, top + self.wait_height()))
+            for slot, taken in enumerate(self.slots[member.thread]):
+                if taken:
+                    parts.append(self.bar(member.thread, slot, taken[0], top - 3, top + self.wait_height()))
         return "".join(parts)
-
-    def slots_at_end(self, thread):
-        slots = []
-        for place in self.order:
-            event = self.index.events[place]
-            if event.thread == thread and event.letter == "a":
-                slot = next((at for at, lock in enumerate(slots) if lock is None), len(slots))
-                slots[slot:slot + 1] = [event.about]
-            elif event.thread == thread and event.letter == "r" and event.about in slots:
-                slots[slots.index(event.about)] = None
-        return slots
 
     def wait_chip(self, member, top, height):
         x, event = self.x_of(member.thread), self.index.events[member.place]
@@ -213,8 +213,8 @@ class TimeLine:
         return box + words + self.small(x, top + 24, f"at place {member.place}") + self.small(x, top + 35, source_of(event))
 
     def held_by(self, member, holder, begin, deep):
-        slots = self.slots_at_end(holder.thread)
-        slot = slots.index(member.lock) if member.lock in slots else 0
+        held = [taken[0] if taken else None for taken in self.slots[holder.thread]]
+        slot = held.index(member.lock) if member.lock in held else 0
         end_x = self.bar_x(holder.thread, slot) + 0.35 * self.pitch
         colour = self.colours.get(member.lock, OTHER)
         path = f"M{self.x_of(member.thread):.1f} {begin - 5} V{deep} H{end_x:.1f} V{begin}"
