@@ -1,0 +1,49 @@
+"""Looks things up in a trace: by thread, lock and variable."""
+from bisect import bisect_left
+from collections import defaultdict
+
+
+class Index:
+    def __init__(self, events):
+        self.events = events
+        self.thread_places = defaultdict(list)
+        self.at, self.held, self.writer, self.release_of = [], {}, {}, {}
+        self.fork_of, self.join_of, self.dependencies = {}, {}, defaultdict(list)
+        held, open_acquire, last_write = defaultdict(list), {}, {}
+        for place, (thread, letter, about, _) in enumerate(events):
+            self.at.append(len(self.thread_places[thread]))
+            self.thread_places[thread].append(place)
+            if letter == "a":
+                self.held[place] = tuple(sorted(held[thread]))
+                self.dependencies[thread, about, self.held[place]].append(place)
+                held[thread].append(about)
+                open_acquire[about] = place
+            elif letter == "r":
+                held[thread].remove(about)
+                self.release_of[open_acquire.pop(about)] = place
+            elif letter == "d":
+                self.writer[place] = last_write.get(about)
+            elif letter == "w":
+                last_write[about] = place
+            elif letter == "f":
+                self.fork_of[about] = place
+            else:
+                self.join_of[about] = place
+
+    def places_of(self, member):
+        """The places of the acquires that a member's line speaks of."""
+        return self.dependencies.get((member.thread, member.lock, tuple(sorted(member.held))), [])
+
+    def taken_at(self, thread, lock, place):
+        """Where the thread took a lock that it holds right before a place."""
+        mine = self.thread_places[thread]
+        for at in range(bisect_left(mine, place) - 1, -1, -1):
+            event = self.events[mine[at]]
+            if event.letter == "a" and event.about == lock:
+                return mine[at]
+        return None
+
+    def before(self, place):
+        """The place of the thread's event before this one, or None."""
+        at = self.at[place]
+        return self.thread_places[self.events[place].thread][at - 1] if at else None

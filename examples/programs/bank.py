@@ -1,0 +1,48 @@
+#!/usr/bin/env python3
+"""The bank in Python: two tellers move money in opposite directions, and lock the two accounts in opposite orders. Here the
+second comes a little later, so that all goes well: it need not.
+
+usage: bank.py     with GOODLOCKD=ADDRESS:PORT it tells the server there, and writes the report at exit
+"""
+import os
+import sys
+import threading
+import time
+
+sys.path.insert(0, os.path.join(os.path.dirname(os.path.abspath(__file__)), "..", "python"))
+import goodlock_agent
+
+goodlock_agent.start()
+
+
+class Account:
+    def __init__(self, balance):
+        self.lock = threading.Lock()
+        self.balance = balance
+
+
+def transfer(giver, taker, amount):
+    with giver.lock:
+        with taker.lock:
+            giver.balance -= amount
+            taker.balance += amount
+
+
+def late_teller(giver, taker, amount):
+    time.sleep(0.5)
+    transfer(giver, taker, amount)
+
+
+def main():
+    alice, bob = Account(100), Account(100)
+    early = threading.Thread(target=transfer, args=(alice, bob, 30))
+    late = threading.Thread(target=late_teller, args=(bob, alice, 10))
+    for teller in (early, late):
+        teller.start()
+    for teller in (early, late):
+        teller.join()
+    print(f"alice has {alice.balance}, bob has {bob.balance}")
+
+
+if __name__ == "__main__":
+    main()
