@@ -1,6 +1,7 @@
 -- What a recorder keeps of its events.
-use Rattle.std.specs.Prelude.{◌≡◌, Option, Some}
+use Rattle.std.specs.Prelude.{◌≡◌, ◌≤◌, Option, Some}
 use Rattle.trace_model.specs.declared.event.Event.{Event}
+use Rattle.trace_model.specs.declared.limits.TheConstants.{MAX_EVENTS}
 use Rattle.wellformed.specs.Gate.{Admitted}
 use Rattle.trace_index.specs.Room.{Indexed}
 use Rattle.lock_tables.specs.Tables.{FollowTrace, HasRoomFor}
@@ -14,6 +15,7 @@ pub record HaveRoom (gate : Admitted) (index : Indexed) (tables : LockTables) (e
 
 -- the index and the tables are those of the gate's events, and all have room for the event that is ready
 pub record IsRecording (gate : Admitted) (index : Indexed) (tables : LockTables) (ready : Option Event) : Type 0 where
+  pub small : gate.limit ≤ MAX_EVENTS
   pub index_is : index.events ≡ gate.events
   pub tables_are : FollowTrace tables gate.events
   pub room : (e : Event) → ready ≡ Some e → HaveRoom gate index tables e

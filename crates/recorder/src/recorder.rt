@@ -120,6 +120,7 @@ impl Recorder {
         requires lawful { refusal_of self.old.limit self.old.events event.now ≡ None }
         ensures { self.new ≡ record { limit = self.old.limit; events = self.old.events ++ event.now ∷ []; reserved = None } }
     {
+        let _len = self.index.len();
         self.ready = None;
         record_in::<Brand>(&mut self.index, event, Blank::new(1));
         self.tables.record(event);
