@@ -64,7 +64,7 @@ pub lent_total : (admitted limit : ℕ) (events : Trace) (asked : List Told) (k 
     IfSome lent (λ told. length told.now.tasks ≡ length (dependencies (take told.now.length events)))
 lent_total admitted limit events asked k None kept h = tt
 lent_total admitted limit events asked k (Some told) kept h =
-    sym (length-map (option_map rows_in) told.now.tasks) ∙ (fits_at admitted limit events asked k told.now kept (lent_at asked k (Some told) h)).total
+    sym (length-map told.now.tasks (option_map rows_in)) ∙ (fits_at admitted limit events asked k told.now kept (lent_at asked k (Some told) h)).total
 
 -- ---- an event more
 

@@ -8,6 +8,7 @@ mod book;
 mod delivering;
 mod input;
 mod session;
+mod sharing;
 mod step;
 
 pub use answering::{Answer, AnswerRefused, Status};

@@ -5,4 +5,4 @@ use Rattle.sequencer.proofs.book.Book.grow.Goals as goal
 pub overflow_cast-total : goal.overflow_cast-total
 overflow_cast-total c =
     let events = c.self.inside.recorder.events in
-    omega (arith, c.dependencies.ensures, dependencies_few events (length events), c.self.invariant.fits.within, c.self.invariant.fits.limit)
+    omega (arith, c.dependencies-total.ensures, dependencies_few events (length events), c.self.invariant.fits.within, c.self.invariant.fits.limit)

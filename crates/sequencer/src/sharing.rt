@@ -1,0 +1,69 @@
+//! What a question is about is handed out to be worked on.
+
+ghost use Rattle.std.specs.Prelude.{◌≡◌, ◌+◌, ◌<◌, ◌≤◌, slice_get, take, IfErr, IfOk, Some};
+ghost use Rattle.std.specs.Arc.{arc_value};
+ghost use Rattle.trace_model.specs.Machine.{Question};
+ghost use Rattle.sequencer.specs.Book.{RefusesSnapshot};
+
+use crate::book::Book;
+use findings::Snapshot;
+use std::alloc::Global;
+use std::marker::Brand;
+use std::sync::Arc;
+use std::sync::ledger::{Blank, Ledger};
+use trace_index::Copies;
+use trace_model::Refusal;
+
+impl Book {
+    /// Exactly the events that the question is about, with what is needed to compute its tasks.
+    ///
+    /// # Errors
+    ///
+    /// `NoSuchQuestion`, or `NoMemory` where a growth was refused.
+    pub fn snapshot(&self, question: u32) -> Result<Arc<Snapshot, Global>, Refusal>
+        ensures ok { IfOk result (λ shared. (q : Question) × (slice_get self.now.state.questions question ≡ Some q) × (arc_value shared ≡ take q.length self.now.state.accepted)) }
+        ensures refused { IfErr result (RefusesSnapshot self.now.state question) }
+    {
+        let _ = &self.recorder;
+        snapshot_of::<Brand>(self, question, Blank::new(1))
+    }
+
+    /// The same, with a count of the events that are copied: at most 4,096, however many there are. The others are
+    /// shared.
+    pub fn snapshot_counted<L: Ledger>(
+        &self,
+        question: u32,
+        copies: &mut Copies<L>,
+    ) -> Result<Arc<Snapshot, Global>, Refusal>
+        ensures ok { IfOk result (λ shared. (q : Question) × (slice_get self.now.state.questions question ≡ Some q) × (arc_value shared ≡ take q.length self.now.state.accepted)) }
+        ensures refused { IfErr result (RefusesSnapshot self.now.state question) }
+        ensures copies { copies.new ≤ copies.old + 4096 }
+    {
+        let Some(asked) = self.asked(question) else {
+            return Err(Refusal::NoSuchQuestion);
+        };
+        match self
+            .recorder
+            .snapshot(asked.events(), asked.total(), copies)
+        {
+            Ok(shared) => Ok(shared),
+            Err(_) => Err(Refusal::NoMemory),
+        }
+    }
+}
+
+/// The snapshot of a question, with a count of its own.
+fn snapshot_of<L: Ledger>(
+    book: &Book,
+    question: u32,
+    blank: Blank,
+) -> Result<Arc<Snapshot, Global>, Refusal>
+    requires name { blank.name ≡ L.name }
+    requires parts { blank.parts ≡ L.parts }
+    requires some { 0 < L.parts }
+    ensures ok { IfOk result (λ shared. (q : Question) × (slice_get book.now.state.questions question ≡ Some q) × (arc_value shared ≡ take q.length book.now.state.accepted)) }
+    ensures refused { IfErr result (RefusesSnapshot book.now.state question) }
+{
+    let mut copies = Copies::<L>::new(blank);
+    book.snapshot_counted(question, &mut copies)
+}
