@@ -7,4 +7,4 @@ pub returns : goal.returns
 returns c =
     let parts = c.in_ok-parts.parts in
     subst (λ (s : Trace). FollowsTrace parts.dependencies s (length s)) (sym c.in_ok-index.ensures)
-    (c.in_ok-parts.ensures c.events-2.result.now c.in_ok-tables.ensures).dependencies
+    (c.in_ok-parts.ensures c.events-events.result.now c.in_ok-tables.ensures).dependencies
