@@ -44,8 +44,9 @@ pub(crate) fn case_of(rt: &HostRuntime, gate: &Gate) -> Result<Case, Fail>
 {
     let alloc = rt.alloc();
     let state = RandomState::new(rt)?;
-    let index = TraceIndex::build(alloc, state, gate.events())?;
-    let tables = LockTables::of(alloc, state, gate.events())?;
+    let events = gate.events();
+    let index = TraceIndex::build(alloc, state, events)?;
+    let tables = LockTables::of(alloc, state, events)?;
     let parts = tables.into_parts()?;
     Ok(Case {
         index,

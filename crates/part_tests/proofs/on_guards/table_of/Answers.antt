@@ -8,6 +8,6 @@ note-requires c = subst (AllBelow c.loop-thread.table) (sym c.new-in-loop-thread
 
 pub loop-thread-preserved : goal.loop-thread-preserved
 loop-thread-preserved c =
-    later_below c.note.new.self (suc c.loop-thread.index) c.in_ok-index.index (search rules)
-    (noted_below c.loop-thread.table c.note.new.self c.loop-thread.index c.nested.result _ c.loop-thread.invariant
+    later_below c.note.new.self.shown (suc c.loop-thread.index) c.in_ok-index.index (search rules)
+    (noted_below c.loop-thread.table.shown c.note.new.self.shown c.loop-thread.index c.nested.result _ c.loop-thread.invariant
     (subst (λ p. IsNoted c.loop-thread.table p c.nested.result c.in_ok-note.field-0 c.note.new.self) c.new-in-loop-thread.ensures c.in_ok-note.ensures.ok))
