@@ -90,8 +90,10 @@ impl<N: Naming, R: Wait + Copy> Locked<N, R, Shown<N>> {
         if readers == 0 || readers > MAX_READERS {
             return Err(DeskRefused::BadCount);
         }
-        let (board, all) = new_board(alloc, rt, opened, readers).map_err(|_| DeskRefused::NotMade)?;
-        Ok((Locked { book, board }, all))
+        match new_board(alloc, rt, opened, readers) {
+            Ok((board, all)) => Ok((Locked { book, board }, all)),
+            Err(_) => Err(DeskRefused::NotMade),
+        }
     }
 }
 

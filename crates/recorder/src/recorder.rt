@@ -114,6 +114,19 @@ impl Recorder {
         Ok(())
     }
 
+    /// Brings all dependencies into the graph, so that no snapshot copies it before the next event. Room that was made
+    /// for an event is given up.
+    ///
+    /// # Errors
+    ///
+    /// `NoMemory` where a growth was refused. No look-up has changed.
+    pub fn catch_up(&mut self) -> Result<(), NoMemory>
+        ensures { (self.new.events ≡ self.old.events) × (self.new.limit ≡ self.old.limit) }
+    {
+        self.ready = None;
+        self.tables.catch_up()
+    }
+
     /// Records the event, which must be lawful, and the one that room was last made for. It takes no memory.
     pub fn record(&mut self, event: &Event)
         requires reserved { self.old.reserved ≡ Some event.now }

@@ -86,6 +86,7 @@ impl Book {
         ensures shown { self.new.state ≡ self.old.state }
         ensures ok { IfOk result (λ asked. (asked.bound ≡ bound) × HasRoom self.new (Open asked)) }
     {
+        self.recorder.catch_up()?;
         let total = self.recorder.dependencies() as u32;
         let ledger = Ledger::open(self.alloc, total)?;
         let length = self.recorder.events().len() as u32;
