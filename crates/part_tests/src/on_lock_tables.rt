@@ -36,7 +36,7 @@ fn part_of(rt: &HostRuntime, all: &[Event], events: usize, late: bool) -> Result
     requires within { events ≤ length all.now }
     ensures { IfOk result (λ parts. (lock : ℕ) → IsStrictlyIncreasing (holders (arc_value parts.graph) lock)) }
 {
-    let mut tables = LockTables::new(rt.alloc(), RandomState::new(rt)?)?;
+    let mut tables = LockTables::new(rt.alloc(), RandomState::new(rt)?);
     grow(&mut tables, all, 0, events)?;
     let total = tables.len() as u32;
     if late {

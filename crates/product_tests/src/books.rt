@@ -18,9 +18,9 @@ const OPPOSITE_ORDERS: &[u8] = b"0f1 0f2 1a10 1a20 1r20 1r10 2a20 2a10 2r10 2r20
 const REPORT: &str =
     "question 0 length 10 bound 2 cycles 1 confirmed 1\ncycle 0 1 confirmed\n  thread 1 lock 20 holds 10 place 3\n  thread 2 lock 10 holds 20 place 7\n  witness 0 1 2 6\n";
 
-fn is_report(answer: Result<Answer, AnswerRefused>) -> bool {
+fn is_settled(answer: Result<Answer, AnswerRefused>, report: &str) -> bool {
     match answer {
-        Ok(Answer::Settled(text)) => text.as_slice() == REPORT.as_bytes(),
+        Ok(Answer::Settled(text)) => text.as_slice() == report.as_bytes(),
         _ => false,
     }
 }
@@ -82,7 +82,7 @@ fn opposite_orders_are_reported(rt: HostRuntime) -> Result<(), Fail> {
     deliver_next(&rt, &mut book, 0)?;
     deliver_next(&rt, &mut book, 1)?;
     assert_eq!(rt; book.missing(0)?, None);
-    assert!(rt; is_report(book.answer(0)));
+    assert!(rt; is_settled(book.answer(0), REPORT));
     let status = Status {
         accepted: 11,
         opened: 1,
@@ -134,5 +134,38 @@ fn seventy_thousand_frames_in_one_piece(rt: HostRuntime) -> Result<(), Fail> {
     let inputs = vec![in alloc; Input::Piece(session, piece)]?;
     let run = play(alloc, RandomState::new(&rt)?, MOST, inputs)?;
     assert_eq!(rt; run.sent(session), placed.as_slice());
+    Ok(())
+}
+
+/// 4,092 writes and then the trace, with a question right before and one right after its fourth event: of a segment's
+/// events but one, and of all.
+fn book_over_a_segment(rt: &(impl RandomSource + AllocGlobal + Abort)) -> Result<Book, Fail> {
+    let mut book = Book::new(rt.alloc(), RandomState::new(rt)?, 5_000)?;
+    let write = Event {
+        thread: 0,
+        op: Op::Write(1),
+    };
+    for _ in 0..4_092u32 {
+        assert!(rt; book.offer(write).is_ok());
+    }
+    for (index, event) in read_events(rt.alloc(), OPPOSITE_ORDERS)?.iter().enumerate() {
+        if index == 3 || index == 4 {
+            book.ask(2)?;
+        }
+        assert!(rt; book.offer(*event).is_ok());
+    }
+    Ok(book)
+}
+
+#[test]
+fn questions_at_a_segment_border(rt: HostRuntime) -> Result<(), Fail> {
+    let mut book = book_over_a_segment(&rt)?;
+    let before = "question 0 length 4095 bound 2 cycles 0 confirmed 0\n";
+    assert!(rt; is_settled(book.answer(0), before));
+    let two = Bound::new(2).expect(&rt, "a bound is 2 to 8");
+    let finding = Finding::compute(rt.alloc(), book.snapshot(1)?, 1, two, 0)?;
+    assert!(rt; book.deliver(finding).is_ok());
+    let after = "question 1 length 4096 bound 2 cycles 0 confirmed 0\n";
+    assert!(rt; is_settled(book.answer(1), after));
     Ok(())
 }

@@ -110,7 +110,7 @@ impl Closer {
     /// bases, and at most `MOST_FRONTS` numbers. It takes no memory.
     pub fn are_pasts_small(&self, table: &DepTable) -> bool {
         let threads = self.demands.threads.count as usize;
-        threads <= MOST_BASES + 1 && table.len() <= MOST_FRONTS / MOST_BASES
+        threads <= MOST_BASES + 1 && table.len() <= MOST_FRONTS / (MOST_BASES + 1)
     }
 
     /// The past of the dependency with this number.
