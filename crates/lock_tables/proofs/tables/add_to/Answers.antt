@@ -8,7 +8,7 @@ use Rattle.lock_tables.proofs.tables.add_to.Goals.{in_default-via-in-None-1, in_
 pub returns-clause-ok : goal.returns-clause-ok
 returns-clause-ok c =
     on_ok_then c.add.result c.add.ensures.graph (λ adds ds number is.
-        adds ds number (subst (λ g. IsGraphOf ds (holders g)) (sym c.in-Some-get_mut.ensures.value) (subst (λ o. IsGraphOf ds (shared_holders o)) c.in-Some.is is)))
+    adds ds number (subst (λ g. IsGraphOf ds (holders g)) (sym c.in-Some-get_mut.ensures.value) (subst (λ o. IsGraphOf ds (shared_holders o)) c.in-Some.is is)))
 
 pub returns-2-clause-ok : goal.returns-2-clause-ok
 returns-2-clause-ok c ds number is =

@@ -23,9 +23,9 @@ returns-2 c =
     subst (HasGraphOf (take c.args.total all)) (sym c.in_ok-new.ensures.ok)
     (elim c.if-graphed-total.branch [
       | then-graphed-total+in_ok-extend w ↦ subst (HasGraphOf (take c.args.total all)) (sym w.copy-is)
-        (graph_part all c.args.total c.args.total _ w.in_ok-extend.ensures (omega arith) c.requires.total)
+          (graph_part all c.args.total c.args.total _ w.in_ok-extend.ensures (omega arith) c.requires.total)
       | else-graphed-total w ↦
-        let fewer = w.if-graphed-total.false in
-        subst (HasGraphOf (take c.args.total all)) (sym w.copy-is)
-        (graph_part all c.args.total c.args.graphed _ (graph_same _ _ _ c.in_ok-copy.ensures c.requires.graph) (omega arith) c.requires.graphed)
+          let fewer = w.if-graphed-total.false in
+          subst (HasGraphOf (take c.args.total all)) (sym w.copy-is)
+          (graph_part all c.args.total c.args.graphed _ (graph_same _ _ _ c.in_ok-copy.ensures c.requires.graph) (omega arith) c.requires.graphed)
     ])
