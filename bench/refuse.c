@@ -1,0 +1,118 @@
+/* Refuses allocations of the program that it is preloaded into, as a table says which bench/refused shares with it.
+
+   An allocation counts where the call stands in the program's own code: its return address lies in the program's file, so
+   that what the C library allocates for itself (for threads, names of hosts) is neither counted nor refused. Counting begins
+   before `main`, or where the table says so once a line was written to standard output. */
+#define _GNU_SOURCE
+#include <errno.h>
+#include <fcntl.h>
+#include <link.h>
+#include <stdatomic.h>
+#include <stdint.h>
+#include <stdlib.h>
+#include <string.h>
+#include <sys/mman.h>
+#include <sys/syscall.h>
+#include <unistd.h>
+
+/* The file that REFUSE_TABLE names: five numbers, of which the script may change the first two while the program runs. */
+struct table {
+    _Atomic uint64_t first;   /* the first allocation that is refused, from 1 */
+    _Atomic uint64_t last;    /* the last one */
+    _Atomic uint64_t begun;   /* whether allocations are counted */
+    _Atomic uint64_t counted; /* how many were made */
+    _Atomic uint64_t refused; /* how many of them were refused */
+};
+
+extern void *__libc_malloc(size_t size);
+extern void *__libc_calloc(size_t count, size_t size);
+extern void *__libc_realloc(void *block, size_t size);
+extern void *__libc_memalign(size_t alignment, size_t size);
+
+static struct table *table;
+static uintptr_t program_start, program_end;
+
+/* The program's own file is the first that is told. */
+static int note_program(struct dl_phdr_info *object, size_t size, void *data)
+{
+    (void)size;
+    (void)data;
+    program_start = UINTPTR_MAX;
+    for (int at = 0; at < object->dlpi_phnum; at++) {
+        const ElfW(Phdr) *part = &object->dlpi_phdr[at];
+        uintptr_t start = object->dlpi_addr + part->p_vaddr;
+        if (part->p_type != PT_LOAD)
+            continue;
+        if (start < program_start)
+            program_start = start;
+        if (start + part->p_memsz > program_end)
+            program_end = start + part->p_memsz;
+    }
+    return 1;
+}
+
+__attribute__((constructor)) static void open_table(void)
+{
+    const char *name = getenv("REFUSE_TABLE");
+    int file = name ? open(name, O_RDWR | O_CLOEXEC) : -1;
+    void *shared;
+    if (file < 0)
+        _exit(125);
+    shared = mmap(NULL, sizeof *table, PROT_READ | PROT_WRITE, MAP_SHARED, file, 0);
+    close(file);
+    if (shared == MAP_FAILED)
+        _exit(125);
+    dl_iterate_phdr(note_program, NULL);
+    table = shared;
+}
+
+/* Counts an allocation that this caller makes, and says whether it is refused. */
+static int refuses(const void *caller)
+{
+    uint64_t number;
+    if (!table || !table->begun || (uintptr_t)caller < program_start || (uintptr_t)caller >= program_end)
+        return 0;
+    number = ++table->counted;
+    if (number < table->first || number > table->last)
+        return 0;
+    table->refused++;
+    errno = ENOMEM;
+    return 1;
+}
+
+void *malloc(size_t size)
+{
+    return refuses(__builtin_return_address(0)) ? NULL : __libc_malloc(size);
+}
+
+void *calloc(size_t count, size_t size)
+{
+    return refuses(__builtin_return_address(0)) ? NULL : __libc_calloc(count, size);
+}
+
+void *realloc(void *block, size_t size)
+{
+    return refuses(__builtin_return_address(0)) ? NULL : __libc_realloc(block, size);
+}
+
+void *aligned_alloc(size_t alignment, size_t size)
+{
+    return refuses(__builtin_return_address(0)) ? NULL : __libc_memalign(alignment, size);
+}
+
+int posix_memalign(void **block, size_t alignment, size_t size)
+{
+    if (refuses(__builtin_return_address(0)))
+        return ENOMEM;
+    *block = __libc_memalign(alignment, size);
+    return *block ? 0 : ENOMEM;
+}
+
+/* Counting begins once a line is on standard output. */
+ssize_t write(int file, const void *bytes, size_t size)
+{
+    ssize_t written = syscall(SYS_write, file, bytes, size);
+    if (table && file == STDOUT_FILENO && written > 0 && memchr(bytes, '\n', written))
+        table->begun = 1;
+    return written;
+}
