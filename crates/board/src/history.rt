@@ -160,18 +160,18 @@ impl<N: Naming> Front<N> {
 
     /// The longer one of two beginnings. Both begin it.
     pub fn longer(&self, other: &Front<N>) -> Front<N>
-        ensures one { (result ≡ self.now) ⊎ (result ≡ other.now) }
-        ensures this { IsPrefix self.now result }
-        ensures that { IsPrefix other.now result }
+        ensures own { IsPrefix self.now result }
+        ensures others { IsPrefix other.now result }
+        ensures either { (result ≡ self.now) ⊎ (result ≡ other.now) }
         ensures legal { IsLegal result }
     {
-        let mut both = self.seen.again();
-        both.learn(&other.seen);
+        // neither count tells that one begins the other: that comes of seeing the history up to both
+        let mut up_to_both = self.seen.again();
+        up_to_both.learn(&other.seen);
         if self.count < other.count {
-            other.again()
-        } else {
-            self.again()
+            return other.again();
         }
+        self.again()
     }
 
     /// Goes on to a beginning that is no shorter.

@@ -1,5 +1,5 @@
 //! Reading the board.
-ghost use Rattle.std.specs.Prelude.{◌≡◌, true, IfOk, OnErr};
+ghost use Rattle.std.specs.Prelude.{◌≡◌, ◌⊎◌, true, IfOk, OnErr};
 ghost use mathlib.Core.List.{IsPrefix};
 ghost use Rattle.trace_model.specs.Runs.{IsLegal};
 ghost use Rattle.board.specs.Totals.{Shows};
@@ -44,6 +44,17 @@ impl<N: Naming> Receipt<N> {
         ensures { result ≡ self.now }
     {
         Receipt::of(&self.front)
+    }
+
+    /// The later one of two receipts. Both begin it, since there is one history.
+    pub fn later(&self, other: &Receipt<N>) -> Receipt<N>
+        ensures own { IsPrefix self.now result }
+        ensures others { IsPrefix other.now result }
+        ensures either { (result ≡ self.now) ⊎ (result ≡ other.now) }
+    {
+        Receipt {
+            front: self.front.longer(&other.front),
+        }
     }
 }
 

@@ -4,9 +4,9 @@ use Rattle.std.specs.Io.KnownBytes.{Appends}
 use Rattle.trace_model.specs.Trace.{Trace}
 use Rattle.trace_model.specs.declared.refusal.Refusal.{Refusal}
 use Rattle.trace_model.specs.declared.refusal.Refusal.TheVariants as refusals
-use Rattle.question_server.specs.declared.reporting.OfflineRefused.{OfflineRefused}
-use Rattle.question_server.specs.declared.reporting.OfflineRefused.TheVariants.{Gate, TooLong, TooManyCycles, NoMemory}
-use Rattle.question_server.specs.Offline.{IsReport, IsRefused}
+use Rattle.offline_report.specs.declared.refused.OfflineRefused.{OfflineRefused}
+use Rattle.offline_report.specs.declared.refused.OfflineRefused.TheVariants.{Gate, TooLong, TooManyCycles, NoMemory}
+use Rattle.offline_report.specs.Offline.{IsReport, IsRefused}
 use Rattle.commands.specs.Script.{refusal_words}
 use Rattle.commands.specs.Admission.{refused_at_line}
 use Rattle.event_files.specs.EventFile.{AreEventsOf}

@@ -1,17 +1,20 @@
 //! The command that reports on a file of events.
-ghost use Rattle.std.specs.Prelude.{◌≡◌, ◌++◌, IfOk, OnOk};
+ghost use Rattle.std.specs.Prelude.{◌≡◌, ◌++◌, IfOk, IfErr, OnOk};
 ghost use Rattle.commands.specs.declared.outcome.Status.TheVariants.{Done, Refused};
 ghost use Rattle.commands.specs.Offline.{OfflineTells, refusal_line, refused_line};
+ghost use Rattle.offline_report.specs.Offline.{IsRefused, IsReport};
 
 use crate::admission::push_refused_at;
 use crate::outcome::{Status, Stopped, write_text};
+use crate::progress::Progress;
 use crate::script_text::push_refusal;
 use event_files::read_events;
-use question_server::{OfflineRefused, offline};
+use offline_report::{Offline, OfflineRefused};
 use std::alloc::Global;
 use std::hash::RandomState;
 use std::io::Write;
-use trace_model::{Bound, NoMemory, Refusal};
+use std::thread::Threads;
+use trace_model::{Bound, Event, NoMemory, Refusal};
 
 /// Adds a line of its own for the refusal.
 fn push_refusal_line(text: &mut Vec<u8>, refusal: Refusal) -> Result<(), NoMemory>
@@ -34,19 +37,40 @@ fn push_refused(text: &mut Vec<u8>, refused: OfflineRefused) -> Result<(), NoMem
     }
 }
 
+/// The report on these events, of which the progress is told.
+fn report_on<R: Threads + Sync, P: Progress + Sync>(
+    rt: &R,
+    alloc: Global,
+    state: RandomState,
+    events: Vec<Event>,
+    bound: Bound,
+    progress: &P,
+) -> Result<Vec<u8>, OfflineRefused>
+    ensures text { IfOk result (λ text. IsReport events.items bound text.items) }
+    ensures refused { IfErr result (IsRefused events.items bound) }
+{
+    let offline = Offline::open(alloc, state, events, bound)?;
+    progress.begin(offline.tasks());
+    let text = offline.report(rt, progress);
+    progress.end();
+    text
+}
+
 /// Writes the report, or why there is none.
-fn report<O: Write>(
+fn report<R: Threads + Sync, P: Progress + Sync, O: Write>(
+    rt: &R,
     alloc: Global,
     state: RandomState,
     file: &[u8],
     bound: Bound,
+    progress: &P,
     out: &mut O,
 ) -> Result<Status, Stopped>
     ensures { IfOk result (λ status.
         OfflineTells file.now bound status (O.contents out.old) (O.contents out.new)) }
 {
     let events = read_events(alloc, file)?;
-    match offline(alloc, state, events, bound) {
+    match report_on(rt, alloc, state, events, bound, progress) {
         Ok(text) => {
             write_text(out, &text)?;
             Ok(Status::Done)
@@ -62,14 +86,16 @@ fn report<O: Write>(
 }
 
 /// Writes the report of question 0, with this bound, about the events in the bytes of the file of this name, or
-/// the first of them that is not lawful, or why there is no report. What ended the command early is told to
-/// `err`.
-pub fn run_offline<O: Write, E: Write>(
+/// the first of them that is not lawful, or why there is no report. Its tasks are computed by as many threads as there
+/// are processors, and the progress is told of each. What ended the command early is told to `err`.
+pub fn run_offline<R: Threads + Sync, P: Progress + Sync, O: Write, E: Write>(
+    rt: &R,
     alloc: Global,
     state: RandomState,
     name: &str,
     file: &[u8],
     bound: Bound,
+    progress: &P,
     out: &mut O,
     err: &mut E,
 ) -> Status
@@ -78,7 +104,7 @@ pub fn run_offline<O: Write, E: Write>(
     ensures refused { result ≡ Refused →
         OfflineTells file.now bound Refused (O.contents out.old) (O.contents out.new) }
 {
-    match report(alloc, state, file, bound, out) {
+    match report(rt, alloc, state, file, bound, progress, out) {
         Ok(status) => status,
         Err(stopped) => stopped.tell(name, err),
     }

@@ -1,6 +1,6 @@
 //! Scripts: commands that are run over one book.
-ghost use Rattle.std.specs.Prelude.{◌≡◌, false};
-ghost use Rattle.sequencer.specs.Book.{IsLimit};
+ghost use Rattle.std.specs.Prelude.{◌≡◌, false, IfOk};
+ghost use Rattle.sequencer.specs.Book.{AreKnown, IsLimit};
 
 use crate::commands::{Command, read_script};
 use crate::outcome::{Status, Stopped};
@@ -84,7 +84,9 @@ impl ScriptSession {
     }
 
     /// What the tasks of the question are computed from.
-    fn job(&self, question: u32) -> Result<Job, Refusal> {
+    fn job(&self, question: u32) -> Result<Job, Refusal>
+        ensures known { IfOk result (λ job. AreKnown self.now.book.state job.question job.events) }
+    {
         let snapshot = self.book.snapshot(question)?;
         let Ok(status) = self.book.status(question) else {
             return Err(Refusal::NoSuchQuestion);
@@ -95,10 +97,13 @@ impl ScriptSession {
         Ok(Job::new(self.alloc, snapshot, question, bound))
     }
 
-    /// Computes a task and delivers it.
-    fn deliver_task(&mut self, job: &mut Job, task: u32) -> Result<(), Refusal> {
+    /// Computes a task of a question of the book, and delivers it.
+    fn deliver_task(&mut self, job: &mut Job, task: u32) -> Result<(), Refusal>
+        requires known { AreKnown self.old.book.state job.old.question job.old.events }
+        ensures known { AreKnown self.new.book.state job.new.question job.new.events }
+    {
         match job.compute(task) {
-            Ok(finding) => match self.book.deliver(finding) {
+            Ok(finding) => match self.book.deliver_known(finding) {
                 Ok(()) => Ok(()),
                 Err((refusal, _)) => Err(refusal),
             },

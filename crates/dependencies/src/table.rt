@@ -82,13 +82,25 @@ impl DepTable {
         Ok(self.record(place, dependency))
     }
 
-    /// Makes room for a place of a dependency. What the table shows stays as it was. The room serves for any
-    /// one place of any dependency, and stands until `record` takes it.
+    /// Makes room for a place of a dependency, as `make_room` does.
     ///
     /// # Errors
     ///
     /// `NoMemory` where a growth was refused.
     pub fn reserve(&mut self, _place: Place, _dependency: &Dependency) -> Result<(), NoMemory>
+        ensures shown { self.new.shown ≡ self.old.shown }
+        ensures ok { OnOk result (self.new.room ≡ true) }
+    {
+        self.make_room()
+    }
+
+    /// Makes room for any one place of any dependency, which stands until `record` takes it. What the table shows
+    /// stays as it was.
+    ///
+    /// # Errors
+    ///
+    /// `NoMemory` where a growth was refused.
+    pub fn make_room(&mut self) -> Result<(), NoMemory>
         ensures shown { self.new.shown ≡ self.old.shown }
         ensures ok { OnOk result (self.new.room ≡ true) }
     {

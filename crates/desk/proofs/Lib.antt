@@ -1,3 +1,5 @@
 pub mod Bounds
+pub mod Known
 pub mod Requests
 pub mod Steps
+pub mod Together

@@ -1,3 +1,4 @@
 pub mod Published
 pub mod Questions
 pub mod Refused
+pub mod Together

@@ -1,6 +1,6 @@
 //! The desk that threads share.
 
-ghost use Rattle.std.specs.Prelude.{◌≡◌, length, slice_get, IfOk, IfErr, OnOk, None};
+ghost use Rattle.std.specs.Prelude.{◌≡◌, ◌<◌, length, slice_get, IfOk, IfErr, OnErr, OnOk, None};
 ghost use Rattle.std.specs.Arc.{arc_value};
 ghost use Rattle.trace_model.specs.Machine.{step};
 ghost use Rattle.trace_model.specs.Runs.{IsLegal};
@@ -14,15 +14,17 @@ ghost use Rattle.sequencer.specs.Sessions.{delivery};
 ghost use Rattle.desk.specs.Published.{Afterwards, EndsBy, delivery_step};
 ghost use Rattle.desk.specs.Questions.{AreEventsOf, IsFirstMissing};
 ghost use Rattle.desk.specs.Refused.{IsCount, RefusesDesk, RefusesFinding};
+ghost use Rattle.desk.specs.Together.{EndsByAll};
 
 use crate::locked::{DeskRefused, Locked};
+use crate::own::{OwnFinding, OwnJob};
 use board::{BoardReader, Follows, Naming, Receipt, Shown};
 use findings::{Finding, Snapshot};
-use sequencer::{Answer, AnswerRefused, AskRefused, NoSuchQuestion, Opened};
+use sequencer::{Answer, AnswerRefused, AskRefused, Delivered, NoSuchQuestion, Opened};
 use std::alloc::Global;
 use std::hash::RandomState;
 use std::sync::{Arc, Mutex, Wait};
-use trace_model::{Event, Place, Refusal};
+use trace_model::{Bound, Event, Place, Refusal};
 
 /// A book that threads share, with the board that shows it. Each call takes the lock for its own work alone;
 /// the rows of a task are computed outside. What is said of a receipt is said of the steps that it names.
@@ -30,7 +32,7 @@ use trace_model::{Event, Place, Refusal};
 pub struct Desk<N: Naming, R: Wait + Copy, T: Follows<N>> {
     locked: Mutex<Locked<N, R, T>>,
     rt: R,
-    pub(crate) alloc: Global,
+    alloc: Global,
 }
 
 impl<N: Naming, R: Wait + Copy> Desk<N, R, Shown<N>> {
@@ -108,6 +110,53 @@ impl<N: Naming, R: Wait + Copy, T: Follows<N>> Desk<N, R, T> {
         ensures legal { IsLegal result.1 }
     {
         self.locked.lock(&self.rt).deliver(finding)
+    }
+
+    /// The job of a question with this bound, about the events that it is about.
+    ///
+    /// # Errors
+    ///
+    /// As of `snapshot`.
+    pub(crate) fn own_job(&self, question: u32, bound: Bound) -> Result<OwnJob<N>, Refusal> {
+        let (shared, receipt) = self.snapshot(question);
+        Ok(OwnJob::new(self.alloc, shared?, question, bound, receipt))
+    }
+
+    /// Does what `deliver` does with a finding of one of the desk's own questions, whose events are not compared.
+    ///
+    /// # Errors
+    ///
+    /// As of `deliver`.
+    pub(crate) fn deliver_own(
+        &self,
+        own: OwnFinding<N>,
+    ) -> (Result<(), (Refusal, Finding)>, Receipt<N>)
+        ensures taken { OnOk result.0 (EndsBy N.limit result.1 (delivery_step own) (λ state next. delivery state own ≡ (None, next))) }
+        ensures exact { OnOk result.0 (AreRowsOf own.events own.bound own.task own.rows) }
+        ensures refused { IfErr result.0 (λ refused. Afterwards N.limit result.1 (λ state. RefusesFinding state own refused.0)) }
+        ensures back { IfErr result.0 (λ refused. refused.1 ≡ own) }
+        ensures legal { IsLegal result.1 }
+    {
+        self.locked.lock(&self.rt).deliver_own(own)
+    }
+
+    /// Delivers the findings in their order, each as by `deliver`, under one taking of the lock: nothing else comes
+    /// between them. Answers what became of each, in the same order. The receipt ends with those that were taken.
+    ///
+    /// # Errors
+    ///
+    /// All findings, handed back, where there is no memory for the list of what became of them, which an empty
+    /// list wants none of. Nothing has changed.
+    pub fn deliver_all(
+        &self,
+        findings: Vec<Finding>,
+    ) -> Result<(Vec<Delivered>, Receipt<N>), Vec<Finding>>
+        ensures outcomes { IfOk result (λ done. EndsByAll N.limit done.1 findings.items done.0.items) }
+        ensures back { IfErr result (λ all. all.items ≡ findings.items) }
+        ensures some { OnErr result (0 < length findings.items) }
+        ensures legal { IfOk result (λ done. IsLegal done.1) }
+    {
+        self.locked.lock(&self.rt).deliver_all(findings)
     }
 
     /// What is known of the question after all that the receipt names: the report once all its tasks are

@@ -6,9 +6,10 @@
 
 mod desk;
 mod locked;
+mod own;
 mod replies;
 mod worker;
 
 pub use desk::Desk;
 pub use locked::{DeskRefused, Locked};
-pub use worker::{Failed, Hold, Turn, Worker};
+pub use worker::{Failed, Turn, Worker};

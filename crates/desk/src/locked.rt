@@ -1,25 +1,28 @@
 //! What lies under the lock.
 
-ghost use Rattle.std.specs.Prelude.{◌≡◌, [], ◌∷◌, ◌++◌, length, slice_get, IfOk, IfErr, OnOk, OnErr, None};
+ghost use Rattle.std.specs.Prelude.{◌≡◌, ◌<◌, [], ◌∷◌, ◌++◌, length, slice_get, IfOk, IfErr, OnOk, OnErr, None};
 ghost use Rattle.std.specs.Arc.{arc_value};
+ghost use Rattle.std.specs.Result.{result_err};
 ghost use Rattle.trace_model.specs.Machine.{opening, step};
 ghost use Rattle.trace_model.specs.Runs.{IsLegal};
 ghost use Rattle.trace_model.specs.declared.step.BoardStep.TheVariants as steps;
 ghost use Rattle.trace_model.specs.declared.session.Request.TheVariants as requests;
 ghost use Rattle.trace_model.specs.declared.session.Reply.TheVariants.{Placed, Refused};
 ghost use Rattle.findings.specs.Found.{AreRowsOf};
-ghost use Rattle.sequencer.specs.Book.{IsLimit, Refuses, RefusesSnapshot, answer_refusal, answer_reply, ask_refusal, opened_reply};
+ghost use Rattle.sequencer.specs.Book.{IsLimit, Refuses, RefusesSnapshot, answer_refusal, answer_reply, ask_refusal, finding_refused, opened_reply};
 ghost use Rattle.sequencer.specs.Printing.{printing};
 ghost use Rattle.sequencer.specs.Sessions.{delivery};
 ghost use Rattle.board.specs.Totals.{Shows};
 ghost use Rattle.desk.specs.Published.{After, delivery_step};
 ghost use Rattle.desk.specs.Questions.{AreEventsOf, IsFirstMissing};
 ghost use Rattle.desk.specs.Refused.{IsCount, RefusesDesk, RefusesFinding};
+ghost use Rattle.desk.specs.Together.{AreOutcomes, taken_steps};
 
+use crate::own::OwnFinding;
 use crate::replies::{ask_refused_in, opened_in, place_in, refusal_in};
 use board::{BoardReader, BoardWriter, Follows, Naming, Receipt, Shown, Summary, new_board};
 use findings::{Finding, Snapshot};
-use sequencer::{Answer, AnswerRefused, AskRefused, Book, NoSuchQuestion, Opened};
+use sequencer::{Answer, AnswerRefused, AskRefused, Book, Delivered, NoSuchQuestion, Opened};
 use std::alloc::Global;
 use std::hash::RandomState;
 use std::marker::Model;
@@ -180,14 +183,99 @@ impl<N: Naming, R: Wait + Copy, T: Follows<N>> Locked<N, R, T> {
         ensures receipt { result.1 ≡ self.new.published }
         ensures legal { IsLegal self.new.published }
     {
-        if let Err(refusal) = self.book.admits(&finding) {
-            return (Err((refusal, finding)), self.board.receipt());
+        let admitted = self.book.admits(&finding);
+        self.take_if(admitted, finding)
+    }
+
+    /// Does what `deliver` does with a finding of one of the desk's own questions, whose events it does not compare:
+    /// its receipt says that they are those of the question.
+    ///
+    /// # Errors
+    ///
+    /// As of `deliver`.
+    pub(crate) fn deliver_own(
+        &mut self,
+        own: OwnFinding<N>,
+    ) -> (Result<(), (Refusal, Finding)>, Receipt<N>)
+        ensures before { After N.limit self.old.published self.old.state }
+        ensures after { After N.limit self.new.published self.new.state }
+        ensures taken { OnOk result.0 (delivery self.old.state own ≡ (None, self.new.state)) }
+        ensures published { OnOk result.0 (self.new.published ≡ self.old.published ++ delivery_step own ∷ []) }
+        ensures exact { OnOk result.0 (AreRowsOf own.events own.bound own.task own.rows) }
+        ensures refused { IfErr result.0 (λ refused. RefusesFinding self.old.state own refused.0) }
+        ensures back { IfErr result.0 (λ refused. refused.1 ≡ own) }
+        ensures same { OnErr result.0 (self.new ≡ self.old) }
+        ensures receipt { result.1 ≡ self.new.published }
+        ensures legal { IsLegal self.new.published }
+    {
+        let (finding, receipt) = own.into_parts();
+        // both name beginnings of one history: after either the question is about the same events
+        let _later = receipt.later(&self.board.receipt());
+        let admitted = self.book.admits_known(&finding);
+        self.take_if(admitted, finding)
+    }
+
+    /// Takes the finding where the book admits it, and hands it back with its refusal where not.
+    fn take_if(
+        &mut self,
+        admitted: Result<(), Refusal>,
+        finding: Finding,
+    ) -> (Result<(), (Refusal, Finding)>, Receipt<N>)
+        requires admitted { result_err admitted ≡ finding_refused self.old.state finding }
+        ensures before { After N.limit self.old.published self.old.state }
+        ensures after { After N.limit self.new.published self.new.state }
+        ensures taken { OnOk result.0 (delivery self.old.state finding ≡ (None, self.new.state)) }
+        ensures published { OnOk result.0 (self.new.published ≡ self.old.published ++ delivery_step finding ∷ []) }
+        ensures exact { OnOk result.0 (AreRowsOf finding.events finding.bound finding.task finding.rows) }
+        ensures refused { IfErr result.0 (λ refused. RefusesFinding self.old.state finding refused.0) }
+        ensures back { IfErr result.0 (λ refused. refused.1 ≡ finding) }
+        ensures same { OnErr result.0 (self.new ≡ self.old) }
+        ensures receipt { result.1 ≡ self.new.published }
+        ensures legal { IsLegal self.new.published }
+    {
+        match admitted {
+            Err(refusal) => (Err((refusal, finding)), self.board.receipt()),
+            Ok(()) => match self.board.grow(step_of(&finding)) {
+                Err(_) => (Err((Refusal::NoMemory, finding)), self.board.receipt()),
+                Ok(()) => {
+                    self.book.take(finding);
+                    (Ok(()), publish(&mut self.board))
+                }
+            },
         }
-        let Ok(()) = self.board.grow(step_of(&finding)) else {
-            return (Err((Refusal::NoMemory, finding)), self.board.receipt());
+    }
+
+    /// Delivers the findings in their order, one after another: each as by `deliver`, and each that is taken is
+    /// published by itself. Answers what became of each, in the same order. The receipt names all that is then
+    /// published.
+    ///
+    /// # Errors
+    ///
+    /// All findings, handed back, where there is no memory for the list of what became of them, which an empty
+    /// list wants none of. Nothing has changed.
+    pub fn deliver_all(
+        &mut self,
+        findings: Vec<Finding>,
+    ) -> Result<(Vec<Delivered>, Receipt<N>), Vec<Finding>>
+        ensures after { After N.limit self.new.published self.new.state }
+        ensures outcomes { IfOk result (λ done. AreOutcomes N.limit self.old.published findings.items done.0.items) }
+        ensures published { IfOk result (λ done. self.new.published ≡ self.old.published ++ taken_steps findings.items done.0.items) }
+        ensures receipt { IfOk result (λ done. done.1 ≡ self.new.published) }
+        ensures back { IfErr result (λ all. all.items ≡ findings.items) }
+        ensures same { OnErr result (self.new ≡ self.old) }
+        ensures some { OnErr result (0 < length findings.items) }
+        ensures legal { IsLegal self.new.published }
+    {
+        let _ = &self.book;
+        let mut outcomes = Vec::new(*findings.allocator());
+        let Ok(()) = outcomes.reserve(findings.len()) else {
+            return Err(findings);
         };
-        self.book.take(finding);
-        (Ok(()), publish(&mut self.board))
+        for finding in findings {
+            let (outcome, _) = self.deliver(finding);
+            outcomes.push_reserved(outcome);
+        }
+        Ok((outcomes, self.receipt()))
     }
 
     /// What is known of the question: the report once all its tasks are delivered. The receipt names all that

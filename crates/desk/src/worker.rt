@@ -6,17 +6,13 @@ ghost use Rattle.findings.specs.Found.{FoundRows};
 ghost use Rattle.desk.specs.Published.{WasTaken};
 
 use crate::desk::Desk;
+use crate::own::{OwnFinding, OwnJob};
 use board::{BoardReader, Follows, Naming, QuestionSummary, Summary};
 use claims::Claimant;
-use findings::{ComputeRefused, Finding, Job};
+use findings::{ComputeRefused, Hold};
 use std::marker::Model;
 use std::sync::{Arc, Wait};
 use trace_model::{Bound, MAX_QUESTIONS, Refusal};
-
-/// What a worker calls once a task is computed, before it delivers it. A test's may keep it there.
-pub trait Hold {
-    fn hold(&self, question: u32, task: u32);
-}
 
 /// Why a turn got no further.
 #[derive(Clone, Copy, Debug, PartialEq, Eq)]
@@ -68,7 +64,7 @@ pub struct Worker<N: Naming, R: Wait + Copy, T: Follows<N>> {
     desk: Arc<Desk<N, R, T>>,
     claimant: Claimant,
     reader: BoardReader<N>,
-    job: Option<Job>,
+    job: Option<OwnJob<N>>,
     given_up: [bool; MAX_QUESTIONS],
 }
 
@@ -120,9 +116,9 @@ impl<N: Naming, R: Wait + Copy, T: Follows<N>> Worker<N, R, T> {
             return Turn::Idle;
         };
         match self.compute(u32::from(question), bound, picked.task) {
-            Ok(finding) => {
+            Ok(own) => {
                 hold.hold(u32::from(question), picked.task);
-                self.deliver(finding)
+                self.deliver(own)
             }
             Err(turn) => {
                 if picked.left && turn == Turn::Failed(Failed::TooManyCycles) {
@@ -150,24 +146,18 @@ impl<N: Naming, R: Wait + Copy, T: Follows<N>> Worker<N, R, T> {
     }
 
     /// The job of the question: the one that it has, or a new one in its place.
-    fn job_of(&mut self, question: u32, bound: Bound) -> Result<Job, Turn>
+    fn job_of(&mut self, question: u32, bound: Bound) -> Result<OwnJob<N>, Turn>
         ensures same { self.new ≡ self.old }
         ensures refused { IfErr result (λ turn. turn ≢ Turn.Delivered) }
     {
         match self.job.take() {
             Some(job) if job.question() == question => Ok(job),
-            _ => {
-                let (shared, _) = self.desk.snapshot(question);
-                match shared {
-                    Ok(shared) => Ok(Job::new(self.desk.alloc, shared, question, bound)),
-                    Err(refusal) => Err(refused(refusal)),
-                }
-            }
+            _ => self.desk.own_job(question, bound).map_err(refused),
         }
     }
 
     /// Computes the rows of the task, with the lock free.
-    fn compute(&mut self, question: u32, bound: Bound, task: u32) -> Result<Finding, Turn>
+    fn compute(&mut self, question: u32, bound: Bound, task: u32) -> Result<OwnFinding<N>, Turn>
         ensures same { self.new ≡ self.old }
         ensures refused { IfErr result (λ turn. turn ≢ Turn.Delivered) }
     {
@@ -175,18 +165,18 @@ impl<N: Naming, R: Wait + Copy, T: Follows<N>> Worker<N, R, T> {
         let found = job.compute(task);
         self.job = Some(job);
         match found {
-            Ok(finding) => Ok(finding),
+            Ok(own) => Ok(own),
             Err(ComputeRefused::TooManyCycles) => Err(Turn::Failed(Failed::TooManyCycles)),
             Err(ComputeRefused::NoMemory) => Err(Turn::Failed(Failed::NoMemory)),
         }
     }
 
     /// Delivers, and learns the receipt.
-    fn deliver(&mut self, finding: Finding) -> Turn
+    fn deliver(&mut self, own: OwnFinding<N>) -> Turn
         ensures later { IsPrefix self.old self.new }
-        ensures delivered { result ≡ Turn.Delivered → WasTaken N.limit finding self.new }
+        ensures delivered { result ≡ Turn.Delivered → WasTaken N.limit own self.new }
     {
-        let (delivered, receipt) = self.desk.deliver(finding);
+        let (delivered, receipt) = self.desk.deliver_own(own);
         self.reader.learn(&receipt);
         match delivered {
             Ok(()) => Turn::Delivered,

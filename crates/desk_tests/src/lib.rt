@@ -11,3 +11,5 @@ mod on_claims;
 mod on_desk;
 #[cfg(test)]
 mod on_workers;
+#[cfg(test)]
+mod three_workers;

@@ -2,22 +2,21 @@
 
 ghost use Rattle.std.specs.Prelude.{◌≡◌};
 
-use board::{BoardReader, Naming, Opened, Receipt, Shown};
+use board::{BoardReader, Naming, Opened, Shown};
 use desk::{Desk, DeskRefused};
 use findings::Finding;
-use sequencer::{Answer, AnswerRefused, AskRefused, Book};
+use sequencer::{Answer, AnswerRefused, AskRefused};
 use std::alloc::Global;
 use std::hash::RandomState;
 use std::marker::Brand;
 use std::process::Abort;
-use std::random::RandomSource;
 use std::sync::Wait;
 use std::test::*;
 use trace_model::{Bound, Event, Op, Refusal};
 
 pub(crate) const MOST: u32 = 1_048_576;
 
-fn event(thread: u32, op: Op) -> Event {
+pub(crate) fn event(thread: u32, op: Op) -> Event {
     Event { thread, op }
 }
 
@@ -156,9 +155,9 @@ fn two_hundred_repetitions(rt: HostRuntime) -> Result<(), Fail> {
 const REPORT: &str =
     "question 0 length 1602 bound 2 cycles 1 confirmed 1\ncycle 0 1 confirmed\n  thread 1 lock 20 holds 10 place 3\n  thread 2 lock 10 holds 20 place 7\n  witness 0 1 2 6\n";
 
-fn is_report(answer: Result<Answer, AnswerRefused>) -> bool {
+pub(crate) fn is_report(answer: Result<Answer, AnswerRefused>, report: &str) -> bool {
     match answer {
-        Ok(Answer::Settled(text)) => text.as_slice() == REPORT.as_bytes(),
+        Ok(Answer::Settled(text)) => text.as_slice() == report.as_bytes(),
         _ => false,
     }
 }
@@ -204,97 +203,6 @@ fn repeats<N: Naming, R: Wait + Abort + Copy>(
     assert_eq!(rt; desk.missing(0).0.ok(), Some(None));
     assert!(rt; desk.missing(1).0.is_err());
     assert!(rt; matches!(desk.snapshot(1).0, Err(Refusal::NoSuchQuestion)));
-    assert!(rt; is_report(desk.answer(0).0));
-    Ok(())
-}
-
-/// The rows of a task, computed by someone who has a book of these events after two forks.
-fn finding(
-    rt: &(impl RandomSource + AllocGlobal + Abort),
-    events: &[Event],
-    question: u32,
-    bound: u8,
-    task: u32,
-) -> Result<Finding, Fail> {
-    let mut book = Book::new(rt.alloc(), RandomState::new(rt)?, MOST)?;
-    for event in &two_forks() {
-        assert!(rt; book.offer(*event).is_ok());
-    }
-    for event in events {
-        assert!(rt; book.offer(*event).is_ok());
-    }
-    book.ask(2)?;
-    let bound = Bound::new(bound).expect(rt, "a bound is 2 to 8");
-    Ok(Finding::compute(rt.alloc(), book.snapshot(0)?, question, bound, task)?)
-}
-
-#[test]
-fn findings_from_anyone(rt: HostRuntime) -> Result<(), Fail> {
-    let alloc = rt.alloc();
-    let events = opposite_sections();
-    let mut others = opposite_sections();
-    others[7].op = Op::Write(20);
-    let mut findings = Vec::new(alloc);
-    findings.push((finding(&rt, &events, 0, 2, 1)?, None))?;
-    findings.push((finding(&rt, &events, 0, 2, 1)?, Some(Refusal::Double)))?;
-    findings.push((finding(&rt, &events, 0, 2, 2)?, Some(Refusal::NoSuchTask)))?;
-    findings.push((finding(&rt, &events, 0, 3, 0)?, Some(Refusal::OtherBound)))?;
-    findings.push((finding(&rt, &others, 0, 2, 0)?, Some(Refusal::OtherTrace)))?;
-    findings.push((
-        finding(&rt, &events, 1, 2, 0)?,
-        Some(Refusal::NoSuchQuestion),
-    ))?;
-    let last = finding(&rt, &events, 0, 2, 0)?;
-    let state = RandomState::new(&rt)?;
-    takes_findings::<Brand, _>(rt, alloc, state, Opened::new(), MOST, findings, last)
-}
-
-/// Delivers task 1 and what is refused, and then task 0, and reads the board after both.
-fn takes_findings<N: Naming, R: Wait + Abort + Copy>(
-    rt: R,
-    alloc: Global,
-    state: RandomState,
-    opened: Opened,
-    limit: u32,
-    findings: Vec<(Finding, Option<Refusal>)>,
-    last: Finding,
-) -> Result<(), Fail>
-    requires book { opened.seen.book ≡ N.book }
-    requires limit { limit ≡ N.limit }
-{
-    let (desk, mut reader) = one_reader::<N, R>(rt, alloc, state, opened, limit)?;
-    accepted(&rt, &desk, &mut reader, &two_forks());
-    accepted(&rt, &desk, &mut reader, &opposite_sections());
-    assert!(rt; desk.ask(2).0.is_ok());
-    for (finding, refusal) in findings {
-        let (delivered, receipt) = desk.deliver(finding);
-        assert_eq!(rt; delivered.err().map(|refused| refused.0), refusal);
-        reader.learn(&receipt);
-    }
-    reads(&rt, &mut reader, (1, 0, 0))?;
-    let (delivered, receipt) = desk.deliver(last);
-    assert!(rt; delivered.is_ok());
-    reader.learn(&receipt);
-    reads(&rt, &mut reader, (2, 1, 1))
-}
-
-/// Question 0 has so many delivered tasks, cycles and confirmed ones.
-fn reads<N: Naming, R: Abort>(
-    rt: &R,
-    reader: &mut BoardReader<N>,
-    counts: (u32, u64, u64),
-) -> Result<(), Fail> {
-    let Ok(summary) = reader.status() else {
-        return Err(Fail::from("busy"));
-    };
-    let question = summary.question(0).ok_or("a question")?;
-    assert_eq!(rt;
-        (question.length, question.bound, question.total),
-        (10, 2, 2)
-    );
-    assert_eq!(rt;
-        (question.delivered, question.cycles, question.confirmed),
-        counts
-    );
+    assert!(rt; is_report(desk.answer(0).0, REPORT));
     Ok(())
 }

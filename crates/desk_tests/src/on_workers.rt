@@ -2,11 +2,11 @@
 
 ghost use Rattle.std.specs.Prelude.{◌≡◌};
 
-use crate::on_desk::{MOST, accepted, opposite_sections, two_forks};
+use crate::on_desk::{MOST, accepted, is_report, opposite_sections, two_forks};
 use board::{BoardReader, Naming, Opened, Shown};
 use claims::{Claimant, claimants};
-use desk::{Desk, Hold, Turn, Worker};
-use sequencer::{Answer, AnswerRefused};
+use desk::{Desk, Turn, Worker};
+use findings::Hold;
 use std::alloc::Global;
 use std::hash::RandomState;
 use std::marker::Brand;
@@ -17,10 +17,11 @@ use std::test::*;
 use std::thread;
 use std::thread::Threads;
 
-const REPORT: &str =
+/// What is reported of two threads that nest two locks in opposite orders.
+pub(crate) const REPORT: &str =
     "question 0 length 10 bound 2 cycles 1 confirmed 1\ncycle 0 1 confirmed\n  thread 1 lock 20 holds 10 place 3\n  thread 2 lock 10 holds 20 place 7\n  witness 0 1 2 6\n";
 
-const YIELDS: u32 = 1_000_000;
+pub(crate) const YIELDS: u32 = 1_000_000;
 
 /// Keeps task 0 until it was called for task 1, and task 1 until it was called for task 0.
 #[derive(Drop)]
@@ -58,13 +59,6 @@ impl Hold for Meeting {
     }
 }
 
-fn is_report(answer: Result<Answer, AnswerRefused>) -> bool {
-    match answer {
-        Ok(Answer::Settled(text)) => text.as_slice() == REPORT.as_bytes(),
-        _ => false,
-    }
-}
-
 #[test]
 fn two_workers_meet(rt: HostRuntime) -> Result<(), Fail> {
     two_workers::<Brand, _>(rt, rt.alloc(), RandomState::new(&rt)?, Opened::new(), MOST)
@@ -84,10 +78,11 @@ fn two_workers<N: Naming + Send + Sync, R: Threads + Wait + Abort + Copy + Send 
     let desk = Arc::new(alloc, desk)?;
     let mut claims = claimants(alloc, 3)?;
     ask_about_opposite_sections(&rt, &desk, &mut readers)?;
-    let late = worker(&desk, &mut claims, &mut readers)?;
+    let late = worker(&desk, &mut claims, &mut readers).ok_or("a worker")?;
     let mut workers = Vec::new(alloc);
     for _ in 0..2 {
-        workers.push(worker(&desk, &mut claims, &mut readers)?)?;
+        let worker = worker(&desk, &mut claims, &mut readers);
+        workers.push(worker.ok_or("a worker")?)?;
     }
     let meeting = Meeting::new();
     let turns = thread::map_vec(&rt, workers, &|worker| turn_of(worker, &meeting))?;
@@ -98,26 +93,26 @@ fn two_workers<N: Naming + Send + Sync, R: Threads + Wait + Abort + Copy + Send 
     assert_eq!(rt; meeting.first.load(Ordering::SeqCst), 1);
     assert_eq!(rt; meeting.second.load(Ordering::SeqCst), 1);
     assert_eq!(rt; meeting.gave_up.load(Ordering::SeqCst), 0);
-    assert!(rt; is_report(desk.answer(0).0));
+    assert!(rt; is_report(desk.answer(0).0, REPORT));
     Ok(())
 }
 
-fn turn_of<N: Naming, R: Wait + Copy>(
+pub(crate) fn turn_of<N: Naming, R: Wait + Copy>(
     mut worker: Worker<N, R, Shown<N>>,
     hold: &impl Hold,
 ) -> Turn {
     worker.turn(hold)
 }
 
-/// The next worker.
-fn worker<N: Naming, R: Wait + Copy>(
+/// The next worker, where there is memory for it.
+pub(crate) fn worker<N: Naming, R: Wait + Copy>(
     desk: &Arc<Desk<N, R, Shown<N>>>,
     claims: &mut Vec<Claimant>,
     readers: &mut Vec<BoardReader<N>>,
-) -> Result<Worker<N, R, Shown<N>>, Fail> {
-    let claimant = claims.pop().ok_or("a claimant")?;
-    let reader = readers.pop().ok_or("a reader")?;
-    Ok(Worker::new(Arc::try_clone(desk)?, claimant, reader))
+) -> Option<Worker<N, R, Shown<N>>> {
+    let claimant = claims.pop()?;
+    let reader = readers.pop()?;
+    Some(Worker::new(Arc::try_clone(desk).ok()?, claimant, reader))
 }
 
 /// Question 0 is opened, which has two tasks.
@@ -135,7 +130,7 @@ fn ask_about_opposite_sections<N: Naming, R: Wait + Abort + Copy>(
 
 /// A hold that keeps nobody.
 #[derive(Drop)]
-struct Free;
+pub(crate) struct Free;
 
 impl Hold for Free {
     fn hold(&self, _question: u32, _task: u32) {}
@@ -165,10 +160,10 @@ fn left_tasks<N: Naming, R: Wait + Abort + Copy>(
         assert_eq!(rt; gone.draw(0).ok(), Some(task));
     }
     ask_about_opposite_sections(&rt, &desk, &mut readers)?;
-    let mut worker = worker(&desk, &mut claims, &mut readers)?;
+    let mut worker = worker(&desk, &mut claims, &mut readers).ok_or("a worker")?;
     for turn in [Turn::Delivered, Turn::Delivered, Turn::Idle] {
         assert_eq!(rt; worker.turn(&Free), turn);
     }
-    assert!(rt; is_report(desk.answer(0).0));
+    assert!(rt; is_report(desk.answer(0).0, REPORT));
     Ok(())
 }

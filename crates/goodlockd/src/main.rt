@@ -4,13 +4,16 @@
 ghost use Rattle.std.specs.Prelude.{◌≤◌};
 ghost use Rattle.command_line.specs.CommandLine.{IsLimit, IsWithin};
 
+mod progress;
+
 use clap::error::ErrorKind;
 use command_line::{Invocation, parse};
 use commands::{Files, Names, Status, run_offline, run_replay, run_script};
+use progress::ProgressLine;
 use server::{ServerFault, Service, Unheld, run_server};
 use std::alloc::AllocError;
 use std::hash::RandomState;
-use std::io::BufWriter;
+use std::io::{BufWriter, IsTerminal};
 use std::net::TcpListener;
 use std::process::ExitCode;
 use std::sync::Wait;
@@ -42,9 +45,15 @@ fn script_file(rt: &HostRuntime, file: &str, limit: u32) -> io::Result<Status>
     Ok(run_script(rt.alloc(), state, file, &bytes, limit, &mut out, &mut err))
 }
 
-fn offline_file(rt: &HostRuntime, file: &str, bound: u32) -> io::Result<Status>
+fn offline_file<T: Threads + Sync>(
+    rt: &HostRuntime,
+    threads: &T,
+    file: &str,
+    bound: u32,
+) -> io::Result<Status>
     requires { IsWithin 2 8 bound }
 {
+    let progress = ProgressLine::new(rt, rt.stderr().is_terminal());
     let Some(bytes) = read(rt, file)? else {
         return Ok(Status::Failed);
     };
@@ -54,7 +63,17 @@ fn offline_file(rt: &HostRuntime, file: &str, bound: u32) -> io::Result<Status>
     let state = RandomState::new(rt)?;
     let mut out = rt.stdout();
     let mut err = rt.stderr();
-    Ok(run_offline(rt.alloc(), state, file, &bytes, bound, &mut out, &mut err))
+    Ok(run_offline(
+        threads,
+        rt.alloc(),
+        state,
+        file,
+        &bytes,
+        bound,
+        &progress,
+        &mut out,
+        &mut err,
+    ))
 }
 
 fn replay_files(rt: &HostRuntime, trace: &str, witness: &str) -> io::Result<Status> {
@@ -147,7 +166,7 @@ fn run<T: Threads + Wait + Copy + Send + Sync>(rt: &HostRuntime, threads: T) -> 
             serve_at(rt, threads, address, service)
         }
         Ok(Invocation::Script { file, limit }) => script_file(rt, file, limit),
-        Ok(Invocation::Offline { file, bound }) => offline_file(rt, file, bound),
+        Ok(Invocation::Offline { file, bound }) => offline_file(rt, &threads, file, bound),
         Ok(Invocation::Replay { trace, witness }) => replay_files(rt, trace, witness),
         Err(refused) if refused.kind() == ErrorKind::OutOfMemory => Err(AllocError.into()),
         Err(refused) => {

@@ -5,16 +5,18 @@ ghost use Rattle.trace_model.specs.Held.{has};
 ghost use Rattle.held_sets.specs.Tables.{held_in, HasEntry, IsAfter};
 
 use crate::set::HeldSet;
+use indexmap::IndexMap;
+use slots::{NumberTable, slot_of};
 use std::alloc::Global;
-use std::collections::HashMap;
 use std::collections::hash_map::RandomState;
 use std::marker::Model;
 use trace_model::NoMemory;
 
-/// The locks that each thread holds.
+/// The locks that each thread holds. It remembers where the last reserved thread stands.
 #[derive(Drop)]
 pub struct HeldTable {
-    threads: HashMap<u32, HeldSet, RandomState>,
+    threads: NumberTable<HeldSet>,
+    near: usize,
 }
 
 impl Model for HeldTable {
@@ -31,7 +33,8 @@ impl HeldTable {
         ensures { (t : ℕ) → held_in result t ≡ [] }
     {
         HeldTable {
-            threads: HashMap::with_hasher(alloc, state),
+            threads: IndexMap::with_hasher(alloc, state),
+            near: 0,
         }
     }
 
@@ -39,8 +42,11 @@ impl HeldTable {
     pub fn held(&self, thread: u32) -> HeldSet
         ensures { result ≡ held_in self.now thread }
     {
-        match self.threads.get(&thread) {
-            Some(locks) => locks.copied(),
+        match slot_of(&self.threads, self.near, thread) {
+            Some(slot) => match self.threads.get_index(slot) {
+                Some((_, locks)) => locks.copied(),
+                None => HeldSet::new(),
+            },
             None => HeldSet::new(),
         }
     }
@@ -71,9 +77,13 @@ impl HeldTable {
         ensures shown { (t : ℕ) → held_in self.new t ≡ held_in self.old t }
         ensures ok { OnOk result (HasEntry self.new thread) }
     {
-        if !self.threads.contains_key(&thread) {
-            self.threads.insert(thread, HeldSet::new())?;
+        if let Some(slot) = slot_of(&self.threads, self.near, thread) {
+            self.near = slot;
+            return Ok(());
         }
+        let slot = self.threads.len();
+        self.threads.insert(thread, HeldSet::new())?;
+        self.near = slot;
         Ok(())
     }
 
@@ -84,8 +94,12 @@ impl HeldTable {
         requires room { length (held_in self.old thread) < MAX_HELD }
         ensures { IsAfter self.old thread (Acquire lock) self.new }
     {
-        if let Some(locks) = self.threads.get_mut(&thread) {
-            locks.insert(lock);
+        match slot_of(&self.threads, self.near, thread) {
+            Some(slot) => match self.threads.get_index_mut(slot) {
+                Some(locks) => locks.insert(lock),
+                None => {}
+            },
+            None => {}
         }
     }
 
@@ -93,8 +107,12 @@ impl HeldTable {
     pub fn release(&mut self, thread: u32, lock: u32)
         ensures { IsAfter self.old thread (Release lock) self.new }
     {
-        if let Some(locks) = self.threads.get_mut(&thread) {
-            locks.remove(lock);
+        match slot_of(&self.threads, self.near, thread) {
+            Some(slot) => match self.threads.get_index_mut(slot) {
+                Some(locks) => locks.remove(lock),
+                None => {}
+            },
+            None => {}
         }
     }
 }

@@ -24,19 +24,14 @@ pub(crate) fn reserve_locks(held: &mut HeldTable, event: &Event) -> Result<(), N
     }
 }
 
-/// Makes room for the place of the event, if it has a dependency.
-pub(crate) fn reserve_place(
-    table: &mut DepTable,
-    held: &HeldTable,
-    event: &Event,
-    place: Place,
-) -> Result<(), NoMemory>
+/// Makes room for the place of the event, if it may have a dependency.
+pub(crate) fn reserve_place(table: &mut DepTable, event: &Event) -> Result<(), NoMemory>
     ensures shown { table.new.shown ≡ table.old.shown }
-    ensures ok { OnOk result (HasPlaceFor table.new held.now event.now) }
+    ensures ok { OnOk result ((held : Held.Table) → HasPlaceFor table.new held event.now) }
 {
-    match next_dependency(held, *event) {
-        Some(dependency) => table.reserve(place, &dependency),
-        None => Ok(()),
+    match event.op {
+        Op::Acquire(_) => table.make_room(),
+        _ => Ok(()),
     }
 }
 

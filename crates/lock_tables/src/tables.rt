@@ -90,12 +90,7 @@ impl LockTables {
         tables_follow();
         self.catch_up()?;
         reserve_locks(&mut self.held, event)?;
-        reserve_place(
-            &mut self.dependencies,
-            &self.held,
-            event,
-            Place::new(self.events),
-        )
+        reserve_place(&mut self.dependencies, event)
     }
 
     /// Goes on to the event, which must be lawful next, and for which room was made. It takes no memory.

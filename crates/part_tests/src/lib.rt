@@ -24,10 +24,6 @@ mod on_trace_index;
 #[cfg(test)]
 mod on_trace_model;
 #[cfg(test)]
-mod on_wellformed;
-#[cfg(test)]
 mod on_witness;
-#[cfg(test)]
-mod oracle;
 #[cfg(test)]
 mod traces;

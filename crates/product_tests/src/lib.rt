@@ -9,4 +9,8 @@ mod files;
 #[cfg(test)]
 mod long_traces;
 #[cfg(test)]
+mod longest_trace;
+#[cfg(test)]
+mod many_tasks;
+#[cfg(test)]
 mod outcomes;

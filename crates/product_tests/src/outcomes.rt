@@ -1,18 +1,19 @@
 //! How a command over bytes ends.
 ghost use Rattle.sequencer.specs.Book.{IsLimit};
 
-use commands::{Files, Names, run_offline, run_replay, run_script};
+use commands::{Files, Names, Unshown, run_offline, run_replay, run_script};
 use std::hash::RandomState;
 use std::process::Abort;
 use std::random::RandomSource;
 use std::test::*;
+use std::thread::Threads;
 use trace_model::Bound;
 
-pub const MOST: u32 = 1_048_576;
+pub(crate) const MOST: u32 = 1_048_576;
 
 /// How a command ended, and what it wrote.
 #[derive(Drop)]
-pub struct Outcome {
+pub(crate) struct Outcome {
     pub status: u8,
     pub out: Vec<u8>,
     pub err: Vec<u8>,
@@ -20,17 +21,17 @@ pub struct Outcome {
 
 impl Outcome {
     /// The command ended with status 2 and no output, and told this.
-    pub fn is_not_understood(&self, told: &[u8]) -> bool {
+    pub(crate) fn is_not_understood(&self, told: &[u8]) -> bool {
         self.status == 2 && self.out.is_empty() && self.err.as_slice() == told
     }
 
     /// The command ran to its end, and what it wrote ends with this.
-    pub fn is_done_with(&self, last: &[u8]) -> bool {
+    pub(crate) fn is_done_with(&self, last: &[u8]) -> bool {
         self.status == 0 && self.err.is_empty() && self.out.ends_with(last)
     }
 }
 
-pub fn script(
+pub(crate) fn script(
     rt: &(impl RandomSource + AllocGlobal),
     file: &[u8],
     limit: u32,
@@ -49,8 +50,8 @@ pub fn script(
     })
 }
 
-pub fn offline(
-    rt: &(impl RandomSource + AllocGlobal + Abort),
+pub(crate) fn offline(
+    rt: &(impl RandomSource + AllocGlobal + Abort + Threads + Sync),
     file: &[u8],
 ) -> Result<Outcome, Fail> {
     let alloc = rt.alloc();
@@ -58,7 +59,9 @@ pub fn offline(
     let mut err = Vec::new(alloc);
     let state = RandomState::new(rt)?;
     let bound = Bound::new(2).expect(rt, "a bound is 2 to 8");
-    let status = run_offline(alloc, state, "FILE", file, bound, &mut out, &mut err);
+    let status = run_offline(
+        rt, alloc, state, "FILE", file, bound, &Unshown, &mut out, &mut err,
+    );
     Ok(Outcome {
         status: status.code(),
         out,
@@ -66,7 +69,7 @@ pub fn offline(
     })
 }
 
-pub fn replay(
+pub(crate) fn replay(
     rt: &(impl RandomSource + AllocGlobal),
     trace: &[u8],
     witness: &[u8],

@@ -4,5 +4,4 @@ pub mod Answering
 pub mod Faults
 pub mod SessionTurns
 pub mod Machines
-pub mod Reports
 pub mod Told

@@ -1,5 +1,4 @@
 pub mod Serving
 pub mod Pending
 pub mod Books
-pub mod Offline
 pub mod Clients

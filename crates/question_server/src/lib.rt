@@ -1,4 +1,4 @@
-//! Sessions over a source and a sink of bytes, and the report of a file of events.
+//! Sessions over a source and a sink of bytes.
 #![tactic(auto)]
 
 mod books;
@@ -6,7 +6,6 @@ mod client;
 mod counting;
 mod ends;
 mod memory;
-mod reporting;
 mod sessions;
 mod streams;
 
@@ -15,6 +14,5 @@ pub use client::Client;
 pub use counting::count_failure;
 pub use ends::{Calls, Failed, Sink, Source};
 pub use memory::{MemorySink, MemorySource};
-pub use reporting::{OfflineRefused, offline};
 pub use sessions::{Ended, ServeFault, serve};
 pub use streams::{ReadSource, WriteSink};

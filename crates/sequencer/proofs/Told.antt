@@ -1,5 +1,5 @@
 -- What is answered about a question, and which snapshots are of its events.
-use Rattle.std.proofs.Common.{◌≡◌, ℕ, zero, suc, nat_le, if◌then◌else◌, ◌≤◌, ◌<◌, inl, inr, Bool, true, false, ◌&&◌, Result, Ok, Err, List, [], ◌∷◌, ◌++◌, length, map, take, slice_get, is_some, option_map, MatchOption, Option, Some, None, refl, sym, ap, subst, ◌∙◌, arith}
+use Rattle.std.proofs.Common.{◌≡◌, ℕ, zero, suc, nat_le, if◌then◌else◌, ◌≤◌, ◌<◌, inl, inr, Bool, true, false, not, ◌==◌, ◌&&◌, Result, Ok, Err, List, [], ◌∷◌, ◌++◌, length, map, take, slice_get, is_some, option_map, MatchOption, Option, Some, None, refl, sym, ap, subst, ◌∙◌, arith}
 use Rattle.std.proofs.lemmas.Bool.{and_parts, cases_lt, false≢true, le-leb, lt-leb}
 use Rattle.std.proofs.lemmas.List.{length-map, map-append}
 use Rattle.std.proofs.lemmas.List.Concat.{flat_map-cons}
@@ -12,24 +12,24 @@ use Rattle.std.specs.List.{flat_map, list_all, All}
 use Rattle.trace_model.specs.declared.event.Event.{Event}
 use Rattle.trace_model.specs.declared.limits.TheConstants.{MAX_REPORT}
 use Rattle.trace_model.specs.declared.refusal.Refusal.{Refusal}
-use Rattle.trace_model.specs.declared.refusal.Refusal.TheVariants.{ReportTooLong}
+use Rattle.trace_model.specs.declared.refusal.Refusal.TheVariants.{OtherBound, OtherTrace, ReportTooLong}
 use Rattle.trace_model.specs.declared.session.Reply.{Reply}
 use Rattle.trace_model.specs.declared.session.Reply.TheVariants.{Refused, Report, Pending}
 use Rattle.trace_model.specs.declared.session.Request.TheVariants.{Offer}
 use Rattle.trace_model.specs.Trace.{Trace}
 use Rattle.trace_model.specs.Lawful.{refusal_of}
 use Rattle.trace_model.specs.Dependencies.{Dependency, dependencies}
-use Rattle.trace_model.specs.Machine.{State, answer, answer_of, delivered, offer_next, offer_reply, rows_of, same_event, same_events, step, with_event}
+use Rattle.trace_model.specs.Machine.{Question, State, answer, answer_of, deliver_refused_by, delivered, offer_next, offer_reply, rows_of, same_event, same_events, step, task_refused, with_event}
 use Rattle.trace_model.proofs.Summary.{same_events_so, same_events_itself}
 use Rattle.witness.specs.Printed.{Printed, with_dependencies}
 use Rattle.witness.specs.Text.{report}
 use Rattle.witness.specs.declared.report.TextRefused.{TextRefused}
 use Rattle.witness.specs.declared.report.TextRefused.TheVariants.{TooLong, NoMemory}
-use Rattle.findings.specs.Found.{AreNamed}
+use Rattle.findings.specs.Found.{AreNamed, FoundRows}
 use Rattle.result_ledger.specs.Tasks.{Tasks, IsMissing}
 use Rattle.result_ledger.specs.Tasks as Ledger
 use Rattle.sequencer.specs.Asked.{Told, question_of, rows_in, TellsNamed}
-use Rattle.sequencer.specs.Book.{IsAccepted, IsLeastMissing}
+use Rattle.sequencer.specs.Book.{AreKnown, IsAccepted, IsLeastMissing, finding_refused}
 use Rattle.sequencer.specs.Printing.{printing}
 use Rattle.sequencer.proofs.Counted.{missing_row, row_missing}
 
@@ -82,6 +82,15 @@ other_at s r i l h = other_events s r (λ e.
 
 pub same_all : (s r : Trace) → s ≡ r → true ≡ same_events s r
 same_all s r e = sym (ap (same_events s) (sym e) ∙ same_events_itself s)
+
+-- a finding about the events of its question is refused for its task alone
+pub known_test : (s : State) (f : FoundRows) (q : Question) → Some q ≡ slice_get s.questions f.question → false ≡ not (f.bound == q.bound) → AreKnown s f.question f.events →
+    task_refused (slice_get q.tasks f.task) ≡ finding_refused s f
+known_test s f q found bound known =
+    let same : true ≡ same_events f.events (take q.length s.accepted) = same_all f.events (take q.length s.accepted) (known q (sym found)) in
+    let told : task_refused (slice_get q.tasks f.task) ≡ deliver_refused_by s (Some q) f.bound f.events f.task =
+    λ i. if bound i then Some OtherBound else (if not (same i) then Some OtherTrace else task_refused (slice_get q.tasks f.task)) in
+    told ∙ ap (λ o. deliver_refused_by s o f.bound f.events f.task) found
 
 -- ---- the report
 

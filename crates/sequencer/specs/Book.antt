@@ -12,7 +12,7 @@ use Rattle.trace_model.specs.Trace.{Trace}
 use Rattle.trace_model.specs.Lawful.{refusal_of}
 use Rattle.trace_model.specs.Dependencies.{dependencies}
 use Rattle.trace_model.specs.Rows.{Row, AreRows}
-use Rattle.trace_model.specs.Machine.{Question, State, ask_refused, answer, step}
+use Rattle.trace_model.specs.Machine.{Question, State, ask_refused, answer, deliver_refused, step}
 use Rattle.trace_model.specs.Bounds.{StateFits}
 use Rattle.findings.specs.Found.{FoundRows}
 use Rattle.sequencer.specs.Asked.{Told, question_of, rows_in, TellsNamed}
@@ -129,6 +129,14 @@ abbrev pub RefusesSnapshot : State → ℕ → Refusal → Type 0
 RefusesSnapshot s number r =
     ((r ≡ NoSuchQuestion) × (slice_get s.questions number ≡ None))
     ⊎ ((r ≡ NoMemory) × ((q : Question) × (slice_get s.questions number ≡ Some q)))
+
+-- the events are those that the question with this number is about, where there is one
+abbrev pub AreKnown : State → ℕ → Trace → Type 0
+AreKnown s number events = (q : Question) → slice_get s.questions number ≡ Some q → events ≡ take q.length s.accepted
+
+-- what the machine refuses of a finding
+abbrev pub finding_refused : State → FoundRows → Option Refusal
+finding_refused s f = deliver_refused s f.question f.bound f.events f.task
 
 -- the least task that is not delivered
 abbrev pub IsLeastMissing : Question → ℕ → Type 0

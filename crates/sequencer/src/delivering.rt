@@ -3,9 +3,9 @@
 ghost use Rattle.std.specs.Prelude.{◌≡◌, slice_get, IfErr, OnOk, None};
 ghost use Rattle.std.specs.Result.{result_err};
 ghost use Rattle.std.specs.Option.{option_eq};
-ghost use Rattle.trace_model.specs.Machine.{deliver, deliver_refused, same_event, same_events};
+ghost use Rattle.trace_model.specs.Machine.{deliver, same_event, same_events};
 ghost use Rattle.findings.specs.Found.{AreRowsOf};
-ghost use Rattle.sequencer.specs.Book.{findings_rows, outcome};
+ghost use Rattle.sequencer.specs.Book.{AreKnown, finding_refused, findings_rows, outcome};
 
 use crate::book::Book;
 use findings::{Finding, Snapshot};
@@ -22,13 +22,24 @@ impl Book {
         ensures back { IfErr result (λ refused. refused.1 ≡ finding) }
         ensures exact { OnOk result (AreRowsOf finding.events finding.bound finding.task finding.rows) }
     {
-        match self.admits(&finding) {
-            Ok(()) => {
-                self.take(finding);
-                Ok(())
-            }
-            Err(refusal) => Err((refusal, finding)),
-        }
+        let admitted = self.admits(&finding);
+        self.take_if(admitted, finding)
+    }
+
+    /// Does what `deliver` does with a finding about events that are known to be those of its question, which are
+    /// not compared. It takes no memory.
+    ///
+    /// # Errors
+    ///
+    /// As of `deliver`.
+    pub fn deliver_known(&mut self, finding: Finding) -> Result<(), (Refusal, Finding)>
+        requires known { AreKnown self.old.state finding.question finding.events }
+        ensures machine { deliver self.old.state finding.question finding.bound finding.events finding.task (findings_rows finding) ≡ (outcome result, self.new.state) }
+        ensures back { IfErr result (λ refused. refused.1 ≡ finding) }
+        ensures exact { OnOk result (AreRowsOf finding.events finding.bound finding.task finding.rows) }
+    {
+        let admitted = self.admits_known(&finding);
+        self.take_if(admitted, finding)
     }
 
     /// Whether the finding may be taken. It takes no memory.
@@ -38,7 +49,7 @@ impl Book {
     /// The first that applies: `NoSuchQuestion`; `OtherBound`; `OtherTrace` where its events, compared one by
     /// one, are not those that the question is about; `NoSuchTask`; `Double` where the task was delivered.
     pub fn admits(&self, finding: &Finding) -> Result<(), Refusal>
-        ensures { result_err result ≡ deliver_refused self.now.state finding.now.question finding.now.bound finding.now.events finding.now.task }
+        ensures { result_err result ≡ finding_refused self.now.state finding.now }
     {
         let Some(asked) = self.asked(finding.question()) else {
             return Err(Refusal::NoSuchQuestion);
@@ -53,9 +64,28 @@ impl Book {
         asked.test(finding.task())
     }
 
+    /// What `admits` answers for a finding about events that are known to be those of its question, which are not
+    /// compared. It takes no memory.
+    ///
+    /// # Errors
+    ///
+    /// As of `admits`, but for `OtherTrace`.
+    pub fn admits_known(&self, finding: &Finding) -> Result<(), Refusal>
+        requires known { AreKnown self.now.state finding.now.question finding.now.events }
+        ensures { result_err result ≡ finding_refused self.now.state finding.now }
+    {
+        let Some(asked) = self.asked(finding.question()) else {
+            return Err(Refusal::NoSuchQuestion);
+        };
+        if finding.bound() != asked.bound() {
+            return Err(Refusal::OtherBound);
+        }
+        asked.test(finding.task())
+    }
+
     /// Takes a finding that `admits` answers Ok for. It takes no memory.
     pub fn take(&mut self, finding: Finding)
-        requires { deliver_refused self.old.state finding.question finding.bound finding.events finding.task ≡ None }
+        requires { finding_refused self.old.state finding ≡ None }
         ensures machine { deliver self.old.state finding.question finding.bound finding.events finding.task (findings_rows finding) ≡ (None, self.new.state) }
         ensures exact { AreRowsOf finding.events finding.bound finding.task finding.rows }
     {
@@ -63,6 +93,26 @@ impl Book {
         let task = finding.task();
         let asked = &mut self.questions[question];
         asked.accept(task, finding.into_rows());
+    }
+
+    /// Takes the finding where it is admitted, and hands it back with its refusal where it is not.
+    fn take_if(
+        &mut self,
+        admitted: Result<(), Refusal>,
+        finding: Finding,
+    ) -> Result<(), (Refusal, Finding)>
+        requires { result_err admitted ≡ finding_refused self.old.state finding }
+        ensures machine { deliver self.old.state finding.question finding.bound finding.events finding.task (findings_rows finding) ≡ (outcome result, self.new.state) }
+        ensures back { IfErr result (λ refused. refused.1 ≡ finding) }
+        ensures exact { OnOk result (AreRowsOf finding.events finding.bound finding.task finding.rows) }
+    {
+        match admitted {
+            Ok(()) => {
+                self.take(finding);
+                Ok(())
+            }
+            Err(refusal) => Err((refusal, finding)),
+        }
     }
 }
 

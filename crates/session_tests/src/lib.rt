@@ -1,10 +1,8 @@
-//! Tests of sessions: over ends that fail, over clients of a desk, and over sockets.
+//! Tests of sessions: over ends that fail, and over clients of a desk.
 #![tactic(auto)]
 
 #[cfg(test)]
 mod on_clients;
-#[cfg(test)]
-mod on_server;
 #[cfg(test)]
 mod on_sessions;
 #[cfg(test)]

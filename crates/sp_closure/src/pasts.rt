@@ -1,21 +1,20 @@
-//! What stands in the past of each dependency, by which cycles are ruled out at a glance.
+//! How the pasts of all places of the dependencies are made.
 
-ghost use Rattle.std.specs.Prelude.{◌≡◌, ℕ, ◌<◌, ◌≤◌, IsTrue, length, slice_get, Some, IfOk};
-ghost use Rattle.trace_model.specs.Trace.{Trace};
-ghost use Rattle.trace_model.specs.Cycles.{IsConfirmed};
+ghost use Rattle.std.specs.Prelude.{◌≡◌, ℕ, ◌<◌, ◌≤◌, length, slice_get, Some, IfOk, IfSome};
 ghost use Rattle.dependencies.specs.Tables.{known, FollowsTrace};
-ghost use Rattle.sp_closure.specs.Slots.{class_of, AreSlots};
+ghost use Rattle.sp_closure.specs.Slots.{class_of, AreSlots, HasFirst};
 ghost use Rattle.sp_closure.specs.Layers.{front_of};
-ghost use Rattle.sp_closure.specs.Pointers.{AreKnown};
-ghost use Rattle.sp_closure.specs.Pasts.{ArePasts, IsPassed, IsPast, StandsBelow};
+ghost use Rattle.sp_closure.specs.declared.demands.Goal.{Goal};
+ghost use Rattle.sp_closure.specs.Pasts.{ArePasts, AreTracks, HasGoal, IsTrack, IsWithin, Puts, PutsAt};
 ghost use Rattle.sp_closure.specs.Closers.{IsCloser};
 
 use crate::classes::Classes;
 use crate::closer::{Closer, MOST_BASES};
-use crate::demands::{Goal, goal_of};
+use crate::demands::{Goal, goal_before};
 use crate::enter::first_member;
 use crate::layer::Layer;
 use crate::steps::Steps;
+use crate::tracks::{Past, Pasts, Pointer, Track};
 use dependencies::DepTable;
 use std::alloc::Global;
 use std::sync::ledger::Ledger;
@@ -24,63 +23,6 @@ use trace_model::NoMemory;
 
 /// How many numbers the pasts of a trace's dependencies may take, where they are only to save time.
 const MOST_FRONTS: usize = 4_194_304;
-
-/// Of a dependency: how many places of each thread stand in the closure of what stands before its first place,
-/// and the goal that has its last place in.
-#[derive(Drop)]
-pub(crate) struct Past {
-    pub(crate) fronts: Vec<u32>,
-    pub(crate) last: Goal,
-}
-
-/// The pasts of all dependencies, by their numbers.
-#[derive(Drop)]
-pub struct Pasts {
-    pub(crate) of: Vec<Past>,
-}
-
-impl Pasts {
-    /// Whether the past of one of these dependencies holds all places of another: then no reordering reaches an
-    /// instance of the cycle. It takes no memory. Where it is false nothing is said.
-    pub fn rules_out(&self, numbers: &[u32]) -> bool
-        ensures { IsTrue result → (s : Trace) → ArePasts s self.now → AreKnown s numbers.now → IsConfirmed s numbers.now → ⊥ }
-    {
-        for number in numbers {
-            if self.passes_any(*number, numbers) {
-                return true;
-            }
-        }
-        false
-    }
-
-    /// Whether the past of the dependency holds all places of one of these.
-    fn passes_any(&self, number: u32, numbers: &[u32]) -> bool
-        ensures { IsTrue result → (j other : ℕ) × (slice_get numbers.now j ≡ Some other) × IsPassed self.now number other }
-    {
-        for other in numbers {
-            if self.passes(number, *other) {
-                return true;
-            }
-        }
-        false
-    }
-
-    /// Whether the past of the dependency holds all places of the other.
-    fn passes(&self, number: u32, other: u32) -> bool
-        ensures { IsTrue result → IsPassed self.now number other }
-    {
-        let Some(past) = self.of.get(number as usize) else {
-            return false;
-        };
-        let Some(passed) = self.of.get(other as usize) else {
-            return false;
-        };
-        match past.fronts.get(passed.last.slot as usize) {
-            Some(front) if passed.last.count <= *front => true,
-            _ => false,
-        }
-    }
-}
 
 /// The fronts of the layer, slot by slot.
 fn fronts_of(alloc: Global, none: &Layer, layer: &Layer, count: u32) -> Result<Vec<u32>, NoMemory>
@@ -93,57 +35,219 @@ fn fronts_of(alloc: Global, none: &Layer, layer: &Layer, count: u32) -> Result<V
     Ok(fronts)
 }
 
-/// The goal that has the last place of the dependency in.
-fn last_of(index: &TraceIndex, threads: &Classes, table: &DepTable, number: u32) -> Goal
+/// The places of the dependency, of whose pasts nothing is known.
+fn track_of(
+    alloc: Global,
+    index: &TraceIndex,
+    threads: &Classes,
+    table: &DepTable,
+    number: u32,
+) -> Result<Track, NoMemory>
     requires slots { AreSlots index.now.events (class_of threads.now.of.items) threads.now.count }
     requires one_trace { FollowsTrace table.now index.now.events (length index.now.events) }
     requires known { number < length (known table.now) }
-    ensures { StandsBelow index.now.events (class_of threads.now.of.items) number result }
+    ensures { IfOk result (IsTrack index.now.events (class_of threads.now.of.items) number) }
 {
-    let places = table.places(number);
-    let last = places.get(places.len() - 1);
-    goal_of(index, threads, last)
+    let first = first_member(index, threads, table, number);
+    let count = first.places.len();
+    let mut pasts = Vec::with_capacity(alloc, count)?;
+    for entry in 0..count {
+        let place = first.places.get(entry);
+        let goal = goal_before(index, threads, place);
+        pasts.push(Past {
+            number: goal.count,
+            fronts: Vec::new(alloc),
+        })?;
+    }
+    Ok(Track {
+        slot: first.slot,
+        pasts,
+    })
+}
+
+/// The places of all dependencies, of whose pasts nothing is known.
+fn tracks_of(
+    alloc: Global,
+    index: &TraceIndex,
+    threads: &Classes,
+    table: &DepTable,
+) -> Result<Vec<Track>, NoMemory>
+    requires slots { AreSlots index.now.events (class_of threads.now.of.items) threads.now.count }
+    requires one_trace { FollowsTrace table.now index.now.events (length index.now.events) }
+    ensures { IfOk result (λ tracks. AreTracks index.now.events (class_of threads.now.of.items) tracks.items) }
+{
+    let mut tracks = Vec::with_capacity(alloc, table.len())?;
+    for number in 0..table.len() {
+        let track = track_of(alloc, index, threads, table, number as u32)?;
+        tracks.push(track)?;
+    }
+    Ok(tracks)
+}
+
+/// At each place of the trace the dependency that it has, and which of its places it is. By this the pasts are made
+/// in the order in which they grow; what they are does not hang on it.
+fn in_order(
+    alloc: Global,
+    index: &TraceIndex,
+    table: &DepTable,
+) -> Result<Vec<Option<Pointer>>, NoMemory> {
+    let mut order = Vec::with_capacity(alloc, index.len())?;
+    for _place in 0..index.len() {
+        order.push(None)?;
+    }
+    for number in 0..table.len() {
+        let places = table.places(number as u32);
+        for entry in 0..places.len() {
+            let place = places.get(entry).get() as usize;
+            if place < order.len() {
+                order[place] = Some(Pointer {
+                    number: number as u32,
+                    entry,
+                });
+            }
+        }
+    }
+    Ok(order)
+}
+
+/// The goal that has in all that stands before the place at which the pointer is.
+fn goal_at(tracks: &[Track], at: Pointer) -> Option<Goal>
+    ensures { IfSome result (HasGoal tracks.now at) }
+{
+    let Some(track) = tracks.get(at.number as usize) else {
+        return None;
+    };
+    let Some(past) = track.pasts.get(at.entry) else {
+        return None;
+    };
+    Some(Goal {
+        slot: track.slot,
+        count: past.number,
+    })
+}
+
+impl Track {
+    /// The past of a place is now known to have these fronts.
+    fn put(&mut self, entry: usize, fronts: Vec<u32>)
+        requires { entry < length self.old.pasts.items }
+        ensures { Puts self.old entry fronts self.new }
+    {
+        self.pasts[entry].fronts = fronts;
+    }
+}
+
+/// The past of the place at which the pointer is is now known to have these fronts.
+fn put_at(tracks: &mut [Track], at: Pointer, fronts: Vec<u32>)
+    requires { (goal : Goal) × HasGoal tracks.old at goal }
+    ensures { PutsAt tracks.old at fronts tracks.new }
+{
+    tracks[at.number as usize].put(at.entry, fronts);
 }
 
 impl Closer {
     /// Whether the pasts of these dependencies are made fast and take little room: there are no more threads than
-    /// bases, and at most `MOST_FRONTS` numbers. It takes no memory.
+    /// bases, and at most `MOST_FRONTS` numbers for their first places. It takes no memory.
     pub fn are_pasts_small(&self, table: &DepTable) -> bool {
         let threads = self.demands.threads.count as usize;
         threads <= MOST_BASES + 1 && table.len() <= MOST_FRONTS / (MOST_BASES + 1)
     }
 
-    /// The past of the dependency with this number.
-    fn past<L: Ledger>(
+    /// How many places of each thread stand in the closure of the goal's.
+    fn past_of<L: Ledger>(
         &mut self,
         index: &TraceIndex,
-        table: &DepTable,
-        number: u32,
+        goal: Goal,
         steps: &mut Steps<L>,
-    ) -> Result<Past, NoMemory>
+    ) -> Result<Vec<u32>, NoMemory>
         requires closer { IsCloser index.now.events self.old }
-        requires one_trace { FollowsTrace table.now index.now.events (length index.now.events) }
-        requires known { number < length (known table.now) }
+        requires reach { HasFirst index.now.events (class_of self.old.demands.threads.of.items) goal.slot goal.count }
         ensures closer { IsCloser index.now.events self.new }
         ensures slots { self.new.demands ≡ self.old.demands }
-        ensures past { IfOk result (IsPast index.now.events (class_of self.new.demands.threads.of.items) number) }
+        ensures past { IfOk result (λ fronts. IsWithin index.now.events (class_of self.new.demands.threads.of.items) goal fronts.items) }
     {
-        let first = first_member(index, &self.demands.threads, table, number);
-        self.turn_to(index, first.slot)?;
-        self.rebase(index, table, number, steps)?;
-        let fronts = fronts_of(
+        self.turn_to(index, goal.slot)?;
+        self.base_on(index, goal, steps)?;
+        fronts_of(
             self.alloc,
             &self.none,
             &self.base.layer,
             self.demands.threads.count,
-        )?;
-        let last = last_of(index, &self.demands.threads, table, number);
-        Ok(Past { fronts, last })
+        )
     }
 
-    /// The pasts of all dependencies. The caller owes the index that the closer was made over, and a table that
-    /// numbers the dependencies of its trace. It takes a list of one number a thread for each dependency, and
-    /// time for one closure of the whole trace a thread, where there are no more threads than bases.
+    /// Makes the past of the place at which the pointer is.
+    fn fill<L: Ledger>(
+        &mut self,
+        index: &TraceIndex,
+        tracks: &mut Vec<Track>,
+        at: Pointer,
+        steps: &mut Steps<L>,
+    ) -> Result<(), NoMemory>
+        requires closer { IsCloser index.now.events self.old }
+        requires tracks { AreTracks index.now.events (class_of self.old.demands.threads.of.items) tracks.old.items }
+        ensures closer { IsCloser index.now.events self.new }
+        ensures slots { self.new.demands ≡ self.old.demands }
+        ensures tracks { AreTracks index.now.events (class_of self.new.demands.threads.of.items) tracks.new.items }
+    {
+        let Some(goal) = goal_at(tracks.as_slice(), at) else {
+            return Ok(());
+        };
+        let fronts = self.past_of(index, goal, steps)?;
+        put_at(tracks.as_mut_slice(), at, fronts);
+        Ok(())
+    }
+
+    /// Makes the past of the place, if there is one and there is room for so many numbers, and answers what room is
+    /// left.
+    fn fill_within<L: Ledger>(
+        &mut self,
+        index: &TraceIndex,
+        tracks: &mut Vec<Track>,
+        at: Option<Pointer>,
+        room: usize,
+        steps: &mut Steps<L>,
+    ) -> Result<usize, NoMemory>
+        requires closer { IsCloser index.now.events self.old }
+        requires tracks { AreTracks index.now.events (class_of self.old.demands.threads.of.items) tracks.old.items }
+        ensures closer { IsCloser index.now.events self.new }
+        ensures slots { self.new.demands ≡ self.old.demands }
+        ensures tracks { AreTracks index.now.events (class_of self.new.demands.threads.of.items) tracks.new.items }
+    {
+        let Some(left) = room.checked_sub(self.demands.threads.count as usize) else {
+            return Ok(room);
+        };
+        let Some(at) = at else {
+            return Ok(room);
+        };
+        self.fill(index, tracks, at, steps)?;
+        Ok(left)
+    }
+
+    /// Makes the pasts of places in this order, while there is room for so many numbers.
+    fn fill_all<L: Ledger>(
+        &mut self,
+        index: &TraceIndex,
+        tracks: &mut Vec<Track>,
+        order: &[Option<Pointer>],
+        steps: &mut Steps<L>,
+    ) -> Result<(), NoMemory>
+        requires closer { IsCloser index.now.events self.old }
+        requires tracks { AreTracks index.now.events (class_of self.old.demands.threads.of.items) tracks.old.items }
+        ensures closer { IsCloser index.now.events self.new }
+        ensures slots { self.new.demands ≡ self.old.demands }
+        ensures tracks { AreTracks index.now.events (class_of self.new.demands.threads.of.items) tracks.new.items }
+    {
+        let mut room = MOST_FRONTS;
+        for at in order {
+            room = self.fill_within(index, tracks, *at, room, steps)?;
+        }
+        Ok(())
+    }
+
+    /// The pasts of the places of all dependencies. The caller owes the index that the closer was made over, and a
+    /// table that numbers the dependencies of its trace. It takes a list of one number a thread for each place, while
+    /// these are no more than `MOST_FRONTS`, and time for one closure of the whole trace a thread, where there are no
+    /// more threads than bases.
     ///
     /// # Errors
     ///
@@ -159,11 +263,9 @@ impl Closer {
         ensures closer { IsCloser index.now.events self.new }
         ensures pasts { IfOk result (ArePasts index.now.events) }
     {
-        let mut of = Vec::new(self.alloc);
-        for number in 0..table.len() {
-            let past = self.past(index, table, number as u32, steps)?;
-            of.push(past)?;
-        }
-        Ok(Pasts { of })
+        let mut tracks = tracks_of(self.alloc, index, &self.demands.threads, table)?;
+        let order = in_order(self.alloc, index, table)?;
+        self.fill_all(index, &mut tracks, order.as_slice(), steps)?;
+        Ok(Pasts { of: tracks })
     }
 }

@@ -1,19 +1,20 @@
-ghost use Rattle.std.specs.Prelude.{◌≡◌, ◌≤◌, ℕ, None, length, OnOk};
+ghost use Rattle.std.specs.Prelude.{◌≡◌, ◌≤◌, ◌*◌, ℕ, None, length, OnOk};
 ghost use Rattle.std.specs.HashMap.{get};
-ghost use Rattle.trace_model.specs.declared.limits.TheConstants.{MAX_EVENTS};
+ghost use Rattle.trace_model.specs.Trace.{Trace};
 ghost use Rattle.trace_index.specs.declared.row.Key.{Key as KeyValue};
 ghost use Rattle.trace_index.specs.Links.{same_key, AreLatest};
+ghost use Rattle.trace_index.specs.Marks.{AreSealed};
 
-use crate::places::{Places, note, reserve};
-use crate::row::Row;
-use segments::Segments;
+use crate::marks::Marked;
+use crate::places::{Places, note_all};
+use indexmap::IndexMap;
 use std::alloc::Global;
-use std::collections::HashMap;
 use std::collections::hash_map::RandomState;
-use trace_model::{NoMemory, Place};
+use std::sync::Arc;
+use trace_model::NoMemory;
 
-/// The last place of each key among the first rows, as many as noted. It lags behind the rows, since only
-/// the next row asks for it, and making room for that may be refused.
+/// The last place of each key in the first full segments, as many as noted. It lags behind, since only the next
+/// row asks for it, and making room for that may be refused.
 #[derive(Drop)]
 pub(crate) struct Latest {
     pub(crate) places: Places,
@@ -21,32 +22,27 @@ pub(crate) struct Latest {
 }
 
 impl Latest {
-    /// No row is noted.
+    /// No segment is noted.
     pub(crate) fn new(alloc: Global, state: RandomState) -> Latest
         ensures places { (q : KeyValue) → get same_key result.places q ≡ None }
         ensures noted { result.noted ≡ 0 }
     {
         Latest {
-            places: HashMap::with_hasher(alloc, state),
+            places: IndexMap::with_hasher(alloc, state),
             noted: 0,
         }
     }
 
-    /// Notes the rows that are not noted yet.
-    pub(crate) fn follow(&mut self, rows: &Segments<Row>) -> Result<(), NoMemory>
-        requires latest { AreLatest rows.now.0 self.old.noted self.old.places }
-        requires within { self.old.noted ≤ length rows.now.0 }
-        requires short { length rows.now.0 ≤ MAX_EVENTS }
-        ensures latest { AreLatest rows.now.0 self.new.noted self.new.places }
-        ensures within { self.new.noted ≤ length rows.now.0 }
-        ensures ok { OnOk result (self.new.noted ≡ length rows.now.0) }
+    /// Notes the segments that are not noted yet.
+    pub(crate) fn follow(&mut self, sealed: &[Arc<Marked>]) -> Result<(), NoMemory>
+        requires { self.old.noted ≤ length sealed.now }
+        ensures latest { (s : Trace) → AreSealed s sealed.now → AreLatest s (4096 * self.old.noted) self.old.places →
+            AreLatest s (4096 * self.new.noted) self.new.places }
+        ensures within { self.new.noted ≤ length sealed.now }
+        ensures ok { OnOk result (self.new.noted ≡ length sealed.now) }
     {
-        for index in self.noted..rows.len() {
-            let Some(row) = rows.get(index) else {
-                unreachable!()
-            };
-            reserve(&mut self.places)?;
-            note(&mut self.places, row.event, Place::new(index as u32));
+        for index in self.noted..sealed.len() {
+            note_all(&mut self.places, &sealed[index].last)?;
             self.noted = index + 1;
         }
         Ok(())

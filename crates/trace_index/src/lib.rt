@@ -25,7 +25,7 @@ pub use copies::Copies;
 use latest::Latest;
 pub use list::PlacesOf;
 use marks::{Marks, ended_in, last_marked};
-use row::{Key, Row};
+use row::{Key, Ready, Row, place_of};
 use segments::Segments;
 use std::alloc::Global;
 use std::collections::hash_map::RandomState;
@@ -38,7 +38,7 @@ fn writer_in(row: &Row) -> Option<Place>
     ensures { result ≡ written_by row.now.event.op row.now.topic.earlier }
 {
     if let Op::Read(_) = row.event.op {
-        row.topic.earlier
+        place_of(row.topic.earlier)
     } else {
         None
     }
@@ -49,7 +49,7 @@ fn taken_in(row: &Row) -> Option<Place>
     ensures { result ≡ taken_before row.now.event.op row.now.topic.earlier }
 {
     if let Op::Acquire(_) = row.event.op {
-        row.topic.earlier
+        place_of(row.topic.earlier)
     } else {
         None
     }
@@ -89,7 +89,7 @@ pub struct TraceIndex {
     rows: Segments<Row>,
     marks: Marks,
     latest: Latest,
-    next: Option<Row>,
+    next: Option<Ready>,
 }
 
 impl Model for TraceIndex {
@@ -101,7 +101,7 @@ impl Model for TraceIndex {
 
     ghost view = { λ i. record {
       events = trace_of i.rows.0;
-      reserved = option_map (λ row. row.event) i.next;
+      reserved = option_map (λ ready. ready.row.event) i.next;
     } };
 
     ghost invariant = { λ i. IsIndex i.rows i.marks.sealed.items i.marks.tail
@@ -168,7 +168,7 @@ impl TraceIndex {
         ensures { result ≡ thread_before self.now.events place }
     {
         match self.rows.get(place.get() as usize) {
-            Some(row) => row.thread.earlier,
+            Some(row) => place_of(row.thread.earlier),
             None => None,
         }
     }

@@ -1,7 +1,6 @@
 -- One more event, in the tables and in the events.
-use Rattle.std.proofs.Common.{◌≡◌, ℕ, ◌+◌, Bool, true, false, cond, ◌==◌, ◌||◌, [], ◌∷◌, ◌++◌, length, Option, None, refl, sym, ap, ◌∙◌, arith}
+use Rattle.std.proofs.Common.{◌≡◌, ℕ, ◌+◌, Bool, true, false, cond, ◌==◌, ◌||◌, [], ◌∷◌, ◌++◌, length, None, refl, sym, ap, ◌∙◌, arith}
 use Rattle.std.proofs.lemmas.Bool.{eqb-true}
-use Rattle.std.specs.HashMap.{HashMap}
 use Rattle.trace_model.specs.declared.event.Event.{Event}
 use Rattle.trace_model.specs.declared.event.Op.{Op}
 use Rattle.trace_model.specs.declared.event.Op.TheVariants.{Fork, Join, Acquire, Release}
@@ -13,9 +12,8 @@ use Rattle.trace_model.proofs.HeldAscends.{ascends_held}
 use Rattle.trace_model.proofs.OneMore.{stands-push, forks-push, held-push, lawful_acquire, lawful_release}
 use Rattle.trace_model.proofs.Owners.{owner-push}
 use Rattle.trace_model.proofs.Depths.{length-with, length-without}
-use Rattle.wellformed.specs.declared.threads.ThreadEntry.{ThreadEntry}
-use Rattle.wellformed.specs.Owners.{owner_in}
-use Rattle.wellformed.specs.Threads.{thread_in, thread_after, depth_after, unknown}
+use Rattle.wellformed.specs.Owners.{OwnerTable, owner_in}
+use Rattle.wellformed.specs.Threads.{ThreadTable, thread_in, thread_after, depth_after, unknown}
 use Rattle.wellformed.specs.Tables.{AreTables}
 
 depth_op : (t : ℕ) (s : Trace) (op : Op) → op_refusal_of s t op ≡ None → length (held_after op (held s (length s) t)) ≡ depth_after op (length (held s (length s) t))
@@ -29,7 +27,7 @@ depth_event true t s op lawful = depth_op t s op (lawful refl)
 depth_event false t s op lawful = refl
 
 -- entries that show nothing change nothing
-pub tables-shown : {S T : Type 0} (s : Trace) (threads threads' : HashMap ℕ ThreadEntry S) (owners owners' : HashMap ℕ (Option ℕ) T) (n : ℕ) →
+pub tables-shown : (s : Trace) (threads threads' : ThreadTable) (owners owners' : OwnerTable) (n : ℕ) →
     AreTables s threads owners n → ((t : ℕ) → thread_in threads' t ≡ thread_in threads t) → ((l : ℕ) → owner_in owners' l ≡ owner_in owners l) →
     AreTables s threads' owners' n
 tables-shown s threads threads' owners owners' n old by_thread by_lock = record {
@@ -40,7 +38,7 @@ tables-shown s threads threads' owners owners' n old by_thread by_lock = record 
   forks_is = old.forks_is;
 }
 
-pub tables-push : {S T : Type 0} (s : Trace) (e : Event) (threads threads' : HashMap ℕ ThreadEntry S) (owners owners' : HashMap ℕ (Option ℕ) T) (n m : ℕ) →
+pub tables-push : (s : Trace) (e : Event) (threads threads' : ThreadTable) (owners owners' : OwnerTable) (n m : ℕ) →
     AreTables s threads owners n → op_refusal_of s e.thread e.op ≡ None →
     ((t : ℕ) → thread_in threads' t ≡ thread_after e t (thread_in threads t)) →
     ((l : ℕ) → owner_in owners' l ≡ owner_after l (owner_in owners l) e) →
@@ -57,7 +55,7 @@ tables-push s e threads threads' owners owners' n m old lawful by_thread by_lock
   forks_is = more ∙ ap (λ k. k + cond (is_fork e.op) 1 0) old.forks_is ∙ sym (forks-push s e);
 }
 
-pub tables-none : {S T : Type 0} (threads : HashMap ℕ ThreadEntry S) (owners : HashMap ℕ (Option ℕ) T) → ((t : ℕ) → thread_in threads t ≡ unknown) → ((l : ℕ) → owner_in owners l ≡ None) → AreTables [] threads owners 0
+pub tables-none : (threads : ThreadTable) (owners : OwnerTable) → ((t : ℕ) → thread_in threads t ≡ unknown) → ((l : ℕ) → owner_in owners l ≡ None) → AreTables [] threads owners 0
 tables-none threads owners no_thread no_lock = record {
   forked_is = λ t. ap (λ x. x.forked) (no_thread t);
   joined_is = λ t. ap (λ x. x.joined) (no_thread t);

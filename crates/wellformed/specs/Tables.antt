@@ -1,6 +1,5 @@
 -- What the gate's tables have to do with the recorded events.
 use Rattle.std.specs.Prelude.{◌≡◌, ℕ, ◌<◌, ◌≤◌, length, Option, Some}
-use Rattle.std.specs.HashMap.{HashMap}
 use Rattle.trace_model.specs.declared.event.Event.{Event}
 use Rattle.trace_model.specs.declared.event.Op.{Op}
 use Rattle.trace_model.specs.declared.event.Op.TheVariants.{Fork, Join, Acquire, Release}
@@ -9,12 +8,11 @@ use Rattle.trace_model.specs.Trace.{Trace, stands}
 use Rattle.trace_model.specs.Held.{held}
 use Rattle.trace_model.specs.Holders.{owner}
 use Rattle.trace_model.specs.Lawful.{forks, IsWellFormed}
-use Rattle.wellformed.specs.declared.threads.ThreadEntry.{ThreadEntry}
-use Rattle.wellformed.specs.Owners.{owner_in, HasLock}
-use Rattle.wellformed.specs.Threads.{thread_in, HasThread}
+use Rattle.wellformed.specs.Owners.{OwnerTable, owner_in, HasLock}
+use Rattle.wellformed.specs.Threads.{ThreadTable, thread_in, HasThread}
 
 -- the tables say of each thread and lock what the events say
-pub record AreTables {S T : Type 0} (events : Trace) (threads : HashMap ℕ ThreadEntry S) (owners : HashMap ℕ (Option ℕ) T) (forked : ℕ) : Type 0 where
+pub record AreTables (events : Trace) (threads : ThreadTable) (owners : OwnerTable) (forked : ℕ) : Type 0 where
   pub forked_is : (t : ℕ) → (thread_in threads t).forked ≡ stands events (Fork t)
   pub joined_is : (t : ℕ) → (thread_in threads t).joined ≡ stands events (Join t)
   pub held_is : (t : ℕ) → (thread_in threads t).held ≡ length (held events (length events) t)
@@ -22,25 +20,25 @@ pub record AreTables {S T : Type 0} (events : Trace) (threads : HashMap ℕ Thre
   pub forks_is : forked ≡ forks events
 
 -- there is an entry for the thread that the operation names, if it names one
-abbrev pub HasOpThread : {S : Type 0} → HashMap ℕ ThreadEntry S → Op → Type 0
+abbrev pub HasOpThread : ThreadTable → Op → Type 0
 HasOpThread m (Fork c) = HasThread m c
 HasOpThread m (Join c) = HasThread m c
 HasOpThread m _ = Unit {0}
 
 -- there is an entry for the lock that the operation names, if it names one
-abbrev pub HasOpLock : {S : Type 0} → HashMap ℕ (Option ℕ) S → Op → Type 0
+abbrev pub HasOpLock : OwnerTable → Op → Type 0
 HasOpLock m (Acquire l) = HasLock m l
 HasOpLock m (Release l) = HasLock m l
 HasOpLock m _ = Unit {0}
 
 -- there are entries for all that the event names
-pub record HasEntries {S T : Type 0} (threads : HashMap ℕ ThreadEntry S) (owners : HashMap ℕ (Option ℕ) T) (e : Event) : Type 0 where
+pub record HasEntries (threads : ThreadTable) (owners : OwnerTable) (e : Event) : Type 0 where
   pub own : HasThread threads e.thread
   pub other : HasOpThread threads e.op
   pub lock : HasOpLock owners e.op
 
 -- what a gate keeps
-pub record IsKept {S T : Type 0} (limit : ℕ) (events : Trace) (reserved : Option Event) (len capacity : ℕ) (threads : HashMap ℕ ThreadEntry S) (owners : HashMap ℕ (Option ℕ) T) (forked : ℕ) : Type 0 where
+pub record IsKept (limit : ℕ) (events : Trace) (reserved : Option Event) (len capacity : ℕ) (threads : ThreadTable) (owners : OwnerTable) (forked : ℕ) : Type 0 where
   pub well_formed : IsWellFormed events
   pub within : length events ≤ limit
   pub small : limit ≤ MAX_EVENTS

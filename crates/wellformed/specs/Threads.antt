@@ -1,23 +1,27 @@
 -- What a table of threads shows.
-use Rattle.std.specs.Prelude.{ℕ, ◌+◌, ◌-◌, ◌==◌, false, ◌||◌, if◌then◌else◌, nat_eq, IsSome, unwrap_or}
-use Rattle.std.specs.HashMap.{get, HashMap}
+use Rattle.std.specs.Prelude.{ℕ, List, ◌+◌, ◌-◌, ◌==◌, false, ◌||◌, if◌then◌else◌, nat_eq, IsSome, unwrap_or}
+use Rattle.std.specs.Map.{lookup}
 use Rattle.trace_model.specs.declared.event.Event.{Event}
 use Rattle.trace_model.specs.declared.event.Op.{Op}
 use Rattle.trace_model.specs.declared.event.Op.TheVariants.{Fork, Join, Acquire, Release}
 use Rattle.trace_model.specs.Trace.{op_eq}
 use Rattle.wellformed.specs.declared.threads.ThreadEntry.{ThreadEntry}
 
+-- what is known of each thread, by its number
+abbrev pub ThreadTable : Type 0
+ThreadTable = List (ℕ × ThreadEntry)
+
 -- an entry that shows nothing
 abbrev pub unknown : ThreadEntry
 unknown = record { forked = false; joined = false; held = 0 }
 
 -- what the table has for a thread
-abbrev pub thread_in : {S : Type 0} → HashMap ℕ ThreadEntry S → ℕ → ThreadEntry
-thread_in m t = unwrap_or (get nat_eq m t) unknown
+abbrev pub thread_in : ThreadTable → ℕ → ThreadEntry
+thread_in m t = unwrap_or (lookup (nat_eq t) m) unknown
 
 -- there is an entry for the thread, empty or not
-abbrev pub HasThread : {S : Type 0} → HashMap ℕ ThreadEntry S → ℕ → Type 0
-HasThread m t = IsSome (get nat_eq m t)
+abbrev pub HasThread : ThreadTable → ℕ → Type 0
+HasThread m t = IsSome (lookup (nat_eq t) m)
 
 -- the number of held locks after an operation of the thread
 abbrev pub depth_after : Op → ℕ → ℕ

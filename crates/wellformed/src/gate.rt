@@ -12,6 +12,13 @@ use std::hash::RandomState;
 use std::marker::Model;
 use trace_model::{Event, MAX_FORKS, MAX_HELD, NoMemory, Op, Refusal};
 
+/// Whether a thread holds a lock itself, and whether another does.
+#[derive(Clone, Copy)]
+struct Holder {
+    itself: bool,
+    other: bool,
+}
+
 /// The recorded events, each lawful after those before it, and the event that there is room for.
 #[derive(Drop)]
 pub struct Gate {
@@ -72,7 +79,7 @@ impl Gate {
         match event.op {
             Op::Fork(child) => self.check_fork(event.thread, child),
             Op::Join(child) => self.check_join(event.thread, child),
-            Op::Acquire(lock) => self.check_acquire(event.thread, lock),
+            Op::Acquire(lock) => self.check_acquire(event.thread, lock, own.held),
             Op::Release(lock) => self.check_release(event.thread, lock),
             Op::Read(_) | Op::Write(_) => Ok(()),
         }
@@ -106,16 +113,18 @@ impl Gate {
         Ok(())
     }
 
-    fn check_acquire(&self, thread: u32, lock: u32) -> Result<(), Refusal>
+    fn check_acquire(&self, thread: u32, lock: u32, depth: u32) -> Result<(), Refusal>
+        requires { depth ≡ length (held self.now.events (length self.now.events) thread) }
         ensures { result_err result ≡ op_refusal_of self.now.events thread (Op.Acquire lock) }
     {
-        if self.is_held_by(thread, lock) {
+        let holder = self.holder(thread, lock);
+        if holder.itself {
             return Err(Refusal::HeldByItself);
         }
-        if self.is_held_by_other(thread, lock) {
+        if holder.other {
             return Err(Refusal::HeldByOther);
         }
-        if self.held_len(thread) >= MAX_HELD {
+        if depth as usize >= MAX_HELD {
             return Err(Refusal::TooDeep);
         }
         Ok(())
@@ -124,35 +133,27 @@ impl Gate {
     fn check_release(&self, thread: u32, lock: u32) -> Result<(), Refusal>
         ensures { result_err result ≡ op_refusal_of self.now.events thread (Op.Release lock) }
     {
-        if self.is_held_by(thread, lock) {
+        if self.holder(thread, lock).itself {
             Ok(())
         } else {
             Err(Refusal::NotHeld)
         }
     }
 
-    fn is_held_by(&self, thread: u32, lock: u32) -> bool
-        ensures { result ≡ held_by self.now.events thread lock }
+    fn holder(&self, thread: u32, lock: u32) -> Holder
+        ensures itself { result.itself ≡ held_by self.now.events thread lock }
+        ensures other { result.other ≡ held_by_other self.now.events thread lock }
     {
         match owner_of(&self.owners, lock) {
-            Some(owner) => owner == thread,
-            None => false,
+            Some(owner) => Holder {
+                itself: owner == thread,
+                other: owner != thread,
+            },
+            None => Holder {
+                itself: false,
+                other: false,
+            },
         }
-    }
-
-    fn is_held_by_other(&self, thread: u32, lock: u32) -> bool
-        ensures { result ≡ held_by_other self.now.events thread lock }
-    {
-        match owner_of(&self.owners, lock) {
-            Some(owner) => owner != thread,
-            None => false,
-        }
-    }
-
-    fn held_len(&self, thread: u32) -> usize
-        ensures { result ≡ length (held self.now.events (length self.now.events) thread) }
-    {
-        known(&self.threads, thread).held as usize
     }
 
     /// The recorded events.

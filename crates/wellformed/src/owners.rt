@@ -2,26 +2,43 @@
 ghost use Rattle.std.specs.Prelude.{◌≡◌, ℕ, None, nat_eq, cond, OnErr, OnOk};
 ghost use Rattle.wellformed.specs.Owners.{owner_in, HasLock};
 
+use indexmap::IndexMap;
+use slots::{NumberTable, slot_of, value_of, write_value};
 use std::alloc::Global;
-use std::collections::HashMap;
 use std::hash::RandomState;
+use std::marker::Model;
 use trace_model::NoMemory;
 
-/// The owner of each lock. An entry may be empty.
-pub type Owners = HashMap<u32, Option<u32>, RandomState>;
+/// The owner of each lock. An entry may be empty. It remembers where the last reserved one stands.
+#[derive(Drop)]
+pub struct Owners {
+    table: NumberTable<Option<u32>>,
+    near: usize,
+}
+
+impl Model for Owners {
+    ghost use Rattle.wellformed.specs.Owners.{OwnerTable};
+
+    ghost Value = { OwnerTable };
+
+    ghost view = { λ o. o.table.entries };
+}
 
 /// An empty table.
 pub fn no_owners(alloc: Global, state: RandomState) -> Owners
     ensures { (lock : ℕ) → owner_in result lock ≡ None }
 {
-    HashMap::with_hasher(alloc, state)
+    Owners {
+        table: IndexMap::with_hasher(alloc, state),
+        near: 0,
+    }
 }
 
 /// The thread that owns a lock.
 pub fn owner_of(owners: &Owners, lock: u32) -> Option<u32>
     ensures { result ≡ owner_in owners.now lock }
 {
-    owners.get(&lock).copied().flatten()
+    value_of(&owners.table, owners.near, lock).flatten()
 }
 
 /// Makes an entry for a lock, which shows nothing until it is written.
@@ -31,9 +48,13 @@ pub fn reserve_owner(owners: &mut Owners, lock: u32) -> Result<(), NoMemory>
     ensures kept { (other : ℕ) → HasLock owners.old other → HasLock owners.new other }
     ensures wanting { OnErr result (¬ HasLock owners.old lock) }
 {
-    if !owners.contains_key(&lock) {
-        owners.insert(lock, None)?;
+    if let Some(slot) = slot_of(&owners.table, owners.near, lock) {
+        owners.near = slot;
+        return Ok(());
     }
+    let slot = owners.table.len();
+    owners.table.insert(lock, None)?;
+    owners.near = slot;
     Ok(())
 }
 
@@ -42,7 +63,5 @@ pub fn set_owner(owners: &mut Owners, lock: u32, owner: Option<u32>)
     requires { HasLock owners.old lock }
     ensures { (other : ℕ) → owner_in owners.new other ≡ (cond (nat_eq lock other) owner (owner_in owners.old other)) }
 {
-    if let Some(entry) = owners.get_mut(&lock) {
-        *entry = owner;
-    }
+    write_value(&mut owners.table, owners.near, lock, owner);
 }

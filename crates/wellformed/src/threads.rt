@@ -2,9 +2,11 @@
 ghost use Rattle.std.specs.Prelude.{◌≡◌, ℕ, nat_eq, cond, OnErr, OnOk};
 ghost use Rattle.wellformed.specs.Threads.{thread_in, unknown, HasThread};
 
+use indexmap::IndexMap;
+use slots::{NumberTable, slot_of, value_of, write_value};
 use std::alloc::Global;
-use std::collections::HashMap;
 use std::hash::RandomState;
+use std::marker::Model;
 use trace_model::NoMemory;
 
 /// What is known of a thread: whether it was forked and joined, and how many locks it holds.
@@ -15,8 +17,20 @@ pub struct ThreadEntry {
     pub held: u32,
 }
 
-/// What is known of each thread. An entry may show nothing.
-pub type Threads = HashMap<u32, ThreadEntry, RandomState>;
+/// What is known of each thread. An entry may show nothing. It remembers where the last reserved one stands.
+#[derive(Drop)]
+pub struct Threads {
+    table: NumberTable<ThreadEntry>,
+    near: usize,
+}
+
+impl Model for Threads {
+    ghost use Rattle.wellformed.specs.Threads.{ThreadTable};
+
+    ghost Value = { ThreadTable };
+
+    ghost view = { λ t. t.table.entries };
+}
 
 const UNKNOWN: ThreadEntry = ThreadEntry {
     forked: false,
@@ -28,14 +42,17 @@ const UNKNOWN: ThreadEntry = ThreadEntry {
 pub fn no_threads(alloc: Global, state: RandomState) -> Threads
     ensures { (t : ℕ) → thread_in result t ≡ unknown }
 {
-    HashMap::with_hasher(alloc, state)
+    Threads {
+        table: IndexMap::with_hasher(alloc, state),
+        near: 0,
+    }
 }
 
 /// What is known of a thread.
 pub fn known(threads: &Threads, thread: u32) -> ThreadEntry
     ensures { result ≡ thread_in threads.now thread }
 {
-    threads.get(&thread).copied().unwrap_or(UNKNOWN)
+    value_of(&threads.table, threads.near, thread).unwrap_or(UNKNOWN)
 }
 
 /// Makes an entry for a thread, which shows nothing until it is written.
@@ -45,9 +62,13 @@ pub fn reserve_thread(threads: &mut Threads, thread: u32) -> Result<(), NoMemory
     ensures kept { (t : ℕ) → HasThread threads.old t → HasThread threads.new t }
     ensures wanting { OnErr result (¬ HasThread threads.old thread) }
 {
-    if !threads.contains_key(&thread) {
-        threads.insert(thread, UNKNOWN)?;
+    if let Some(slot) = slot_of(&threads.table, threads.near, thread) {
+        threads.near = slot;
+        return Ok(());
     }
+    let slot = threads.table.len();
+    threads.table.insert(thread, UNKNOWN)?;
+    threads.near = slot;
     Ok(())
 }
 
@@ -56,7 +77,5 @@ pub fn set_thread(threads: &mut Threads, thread: u32, entry: ThreadEntry)
     requires { HasThread threads.old thread }
     ensures { (t : ℕ) → thread_in threads.new t ≡ cond (nat_eq thread t) entry (thread_in threads.old t) }
 {
-    if let Some(place) = threads.get_mut(&thread) {
-        *place = entry;
-    }
+    write_value(&mut threads.table, threads.near, thread, entry);
 }

@@ -4,6 +4,7 @@ ghost use Rattle.std.specs.Prelude.{◌≡◌, ℕ, ◌<◌, ◌≤◌, ◌^◌,
 ghost use Rattle.std.specs.List.{flat_map, zip};
 ghost use Rattle.std.specs.Prelude.{Some, None};
 ghost use Rattle.witness.specs.Text.{spaced, member, member_line, placed_line, witness_line, verdict, row_text, about, counts, is_confirmed, Spends};
+ghost use Rattle.witness.specs.Decades.{IsDecade};
 
 use crate::row::{Found, Row};
 use dependencies::Dependency;
@@ -34,13 +35,59 @@ pub(crate) fn after_numbers(left: u64, numbers: &[u32]) -> Option<u64>
     Some(left)
 }
 
-/// The same of places.
+/// Numbers that have equally many digits, from `low` on and below `high`; each is `width` bytes with its space.
+#[derive(Clone, Copy)]
+struct Decade {
+    low: u64,
+    high: u64,
+    width: u64,
+}
+
+/// The numbers that have as many digits as this one.
+fn decade_of(number: u32) -> Decade
+    ensures decade { IsDecade result }
+    ensures within { (result.low ≤ number) × (number < result.high) }
+{
+    let number = u64::from(number);
+    let mut decade = Decade {
+        low: 0,
+        high: 10,
+        width: 2,
+    };
+    while decade.high <= number {
+        decade = Decade {
+            low: decade.high,
+            high: decade.high * 10,
+            width: decade.width + 1,
+        };
+    }
+    decade
+}
+
+impl Decade {
+    /// This one, if it has the number, and else the one that does.
+    fn with(self, number: u32) -> Decade
+        requires { IsDecade self }
+        ensures decade { IsDecade result }
+        ensures within { (result.low ≤ number) × (number < result.high) }
+    {
+        if self.low <= u64::from(number) && u64::from(number) < self.high {
+            self
+        } else {
+            decade_of(number)
+        }
+    }
+}
+
+/// The same of places. Places that follow one another mostly have equally many digits.
 pub(crate) fn after_places(left: u64, places: &[Place]) -> Option<u64>
     ensures { Spends left (spaced places.now) result }
 {
     let mut left = left;
+    let mut decade = decade_of(0);
     for place in places {
-        left = left.checked_sub(1 + digits(u64::from(place.get())))?;
+        decade = decade.with(place.get());
+        left = left.checked_sub(decade.width)?;
     }
     Some(left)
 }

@@ -21,6 +21,7 @@ use running::{Told, run};
 use sessions::run_sessions;
 use std::fs;
 use std::process::ExitCode;
+use std::thread::Threads;
 use witnesses::are_accepted;
 
 /// What is wrong with what the commands told, if anything is.
@@ -75,7 +76,11 @@ fn judged_sessions(rt: &HostRuntime, case: Case<'_>) -> Result<Option<&'static s
 }
 
 /// Runs a case of a command. It answers what is wrong, if anything is.
-fn judged_command(rt: &HostRuntime, case: Case<'_>) -> Result<Option<&'static str>> {
+fn judged_command<T: Threads + Sync>(
+    rt: &HostRuntime,
+    threads: &T,
+    case: Case<'_>,
+) -> Result<Option<&'static str>> {
     let alloc = rt.alloc();
     let given = case.words(rt)?;
     let mut words = Vec::new(alloc);
@@ -83,18 +88,22 @@ fn judged_command(rt: &HostRuntime, case: Case<'_>) -> Result<Option<&'static st
         words.push(word.as_str())?;
     }
     let invocation = parse(alloc, &words)?;
-    let told = run(rt, &invocation)?;
+    let told = run(rt, threads, &invocation)?;
     match fault_of(rt, case, &told)? {
         Some(fault) => Ok(Some(fault)),
         None => other_fault_of(rt, &invocation, &told),
     }
 }
 
-fn judged(rt: &HostRuntime, case: Case<'_>) -> Result<Option<&'static str>> {
+fn judged<T: Threads + Sync>(
+    rt: &HostRuntime,
+    threads: &T,
+    case: Case<'_>,
+) -> Result<Option<&'static str>> {
     if case.folder == "sessions" {
         judged_sessions(rt, case)
     } else {
-        judged_command(rt, case)
+        judged_command(rt, threads, case)
     }
 }
 
@@ -105,7 +114,7 @@ fn main(rt: HostRuntime) -> Result<ExitCode> {
         for name in &names_in(&rt, folder)? {
             let name = name.as_str();
             count = count.saturating_add(1);
-            match judged(&rt, Case { folder, name })? {
+            match judged(&rt, &rt, Case { folder, name })? {
                 None => println!(rt; "{folder}/{name} ok")?,
                 Some(fault) => {
                     wrong = wrong.saturating_add(1);

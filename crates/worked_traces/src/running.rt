@@ -3,9 +3,10 @@ ghost use Rattle.command_line.specs.CommandLine.{IsInRange};
 
 use anyhow::{Result, bail};
 use command_line::Invocation;
-use commands::{Files, Names, Status, run_offline, run_replay, run_script};
+use commands::{Files, Names, Status, Unshown, run_offline, run_replay, run_script};
 use std::fs;
 use std::hash::RandomState;
+use std::thread::Threads;
 use trace_model::Bound;
 
 /// How a command ended, and what it told.
@@ -16,8 +17,12 @@ pub struct Told {
     pub err: Vec<u8>,
 }
 
-/// Runs what a command line asks for.
-pub(crate) fn run(rt: &HostRuntime, invocation: &Invocation<'_>) -> Result<Told>
+/// Runs what a command line asks for; a report is made by the threads.
+pub(crate) fn run<T: Threads + Sync>(
+    rt: &HostRuntime,
+    threads: &T,
+    invocation: &Invocation<'_>,
+) -> Result<Told>
     requires { IsInRange invocation.now }
 {
     let alloc = rt.alloc();
@@ -34,7 +39,9 @@ pub(crate) fn run(rt: &HostRuntime, invocation: &Invocation<'_>) -> Result<Told>
             let Some(bound) = Bound::new(*bound as u8) else {
                 unreachable!()
             };
-            run_offline(alloc, state, file, &bytes, bound, &mut out, &mut err)
+            run_offline(
+                threads, alloc, state, file, &bytes, bound, &Unshown, &mut out, &mut err,
+            )
         }
         Invocation::Replay { trace, witness } => {
             let events = fs::read(rt, *trace)?;

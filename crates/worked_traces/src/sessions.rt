@@ -26,21 +26,34 @@ fn bytes_of(alloc: Global, digits: &[u8]) -> Result<Vec<u8>> {
     Ok(bytes)
 }
 
+/// The book accepts the event of a word.
+fn offer_word(book: &mut Book, word: &[u8]) -> Result<()> {
+    let event = event(word).context("an event")?;
+    if book.offer(event).is_err() {
+        bail!("an event of a finding is not lawful");
+    }
+    Ok(())
+}
+
+/// A book of these events, with a question about them.
+fn book_of(rt: &HostRuntime, words: &[&[u8]]) -> Result<Book> {
+    let state = RandomState::new(rt)?;
+    let mut book = Book::new(rt.alloc(), state, MAX_EVENTS as u32)?;
+    for word in words {
+        offer_word(&mut book, word)?;
+    }
+    book.ask(2)?;
+    Ok(book)
+}
+
 /// The rows of a task, computed by someone who has a book of these events.
 fn finding_of(rt: &HostRuntime, about: [u32; 3], words: &[&[u8]]) -> Result<Finding> {
     let [question, bound, task] = about;
-    let mut book = Book::new(rt.alloc(), RandomState::new(rt)?, MAX_EVENTS as u32)?;
-    for word in words {
-        let offered = book.offer(event(word).context("an event")?);
-        if offered.is_err() {
-            bail!("an event of a finding is not lawful");
-        }
-    }
-    book.ask(2)?;
+    let bound = Bound::new(u8::try_from(bound)?).context("a bound")?;
+    let book = book_of(rt, words)?;
     let Ok(snapshot) = book.snapshot(0) else {
         bail!("no snapshot");
     };
-    let bound = Bound::new(u8::try_from(bound)?).context("a bound")?;
     Ok(Finding::compute(rt.alloc(), snapshot, question, bound, task)?)
 }
 
@@ -78,9 +91,8 @@ fn print_sent(text: &mut Vec<u8>, run: &Played, number: u8) -> Result<()> {
     Ok(())
 }
 
-/// Runs the inputs of a file, a line each: `piece S BYTES`, `end S`, or `finding Q K J EVENTS`. It prints what each
-/// session was sent, a line each, and then what became of each finding.
-pub(crate) fn run_sessions(rt: &HostRuntime, file: &[u8]) -> Result<Vec<u8>> {
+/// What the lines of a file bring, in their order.
+fn inputs_of(rt: &HostRuntime, file: &[u8]) -> Result<Vec<Input>> {
     let alloc = rt.alloc();
     let mut inputs = Vec::new(alloc);
     for line in &lines_of(alloc, file)? {
@@ -89,16 +101,31 @@ pub(crate) fn run_sessions(rt: &HostRuntime, file: &[u8]) -> Result<Vec<u8>> {
             inputs.push(input_of(rt, &words)?)?;
         }
     }
-    let run = play(alloc, RandomState::new(rt)?, MAX_EVENTS as u32, inputs)?;
-    let mut text = Vec::new(alloc);
+    Ok(inputs)
+}
+
+/// Prints what each session was sent, a line each, and then what became of each finding.
+fn print_run(text: &mut Vec<u8>, run: &Played) -> Result<()> {
     for number in 0..64u8 {
-        print_sent(&mut text, &run, number)?;
+        print_sent(text, run, number)?;
     }
     for delivered in run.deliveries() {
         match delivered {
             Ok(()) => writeln!(text, "taken")?,
-            Err((refusal, _)) => print_refusal(&mut text, refusal.number())?,
+            Err((refusal, _)) => print_refusal(text, refusal.number())?,
         }
     }
+    Ok(())
+}
+
+/// Runs the inputs of a file, a line each: `piece S BYTES`, `end S`, or `finding Q K J EVENTS`. It prints what each
+/// session was sent, and what became of the findings.
+pub(crate) fn run_sessions(rt: &HostRuntime, file: &[u8]) -> Result<Vec<u8>> {
+    let alloc = rt.alloc();
+    let state = RandomState::new(rt)?;
+    let inputs = inputs_of(rt, file)?;
+    let run = play(alloc, state, MAX_EVENTS as u32, inputs)?;
+    let mut text = Vec::new(alloc);
+    print_run(&mut text, &run)?;
     Ok(text)
 }

@@ -1,0 +1,69 @@
+-- One finding more that is delivered.
+use Rattle.std.proofs.Common.{◌≡◌, ℕ, ◌<◌, List, [], ◌∷◌, ◌++◌, length, map, take, slice_get, Some, None, Ok, Err, OnOk, OnErr, IfErr, inl, inr, refl, sym, ap, subst, ◌∙◌, arith, append_assoc}
+use Rattle.std.proofs.lemmas.List.{append-nil, map-append, take-append-le}
+use Rattle.std.proofs.lemmas.Option.{none-some, same_Some, slice_get_within}
+use Rattle.trace_model.specs.declared.step.BoardStep.{BoardStep}
+use Rattle.trace_model.specs.declared.refusal.Refusal.{Refusal}
+use Rattle.trace_model.specs.Machine.{State}
+use Rattle.trace_model.proofs.Lists.{get-append, get-push, get-push_last, length-push, take-push}
+use Rattle.findings.specs.Found.{AreRowsOf, FoundRows}
+use Rattle.sequencer.specs.Sessions.{Delivered, delivery}
+use Rattle.desk.specs.Published.{After, Kept, delivery_step}
+use Rattle.desk.specs.Refused.{RefusesFinding}
+use Rattle.desk.specs.Together.{AreOutcomes, IsOutcome, taken, taken_steps}
+
+taken_more : (fs : List FoundRows) (os : List Delivered) (f : FoundRows) (o : Delivered) → length os ≡ length fs →
+    taken (fs ++ f ∷ []) (os ++ o ∷ []) ≡ taken fs os ++ taken (f ∷ []) (o ∷ [])
+taken_more [] [] f o same = refl
+taken_more (g ∷ fs) (Ok u ∷ os) f o same = ap (λ xs. g ∷ xs) (taken_more fs os f o (omega (arith, same)))
+taken_more (g ∷ fs) (Err r ∷ os) f o same = taken_more fs os f o (omega (arith, same))
+taken_more [] (p ∷ os) f o same = absurd (omega (arith, same))
+taken_more (g ∷ fs) [] f o same = absurd (omega (arith, same))
+
+-- what was published before, with what one finding more publishes
+pub steps_more : (run now next : List BoardStep) (fs : List FoundRows) (os : List Delivered) (f : FoundRows) (o : Delivered) → length os ≡ length fs →
+    now ≡ run ++ taken_steps fs os → next ≡ now ++ taken_steps (f ∷ []) (o ∷ []) → next ≡ run ++ taken_steps (fs ++ f ∷ []) (os ++ o ∷ [])
+steps_more run now next fs os f o same was is =
+    is ∙ (ap (λ xs. xs ++ taken_steps (f ∷ []) (o ∷ [])) was
+    ∙ (append_assoc run (taken_steps fs os) (taken_steps (f ∷ []) (o ∷ []))
+    ∙ ap (λ xs. run ++ xs) (sym (map-append delivery_step (taken fs os) (taken (f ∷ []) (o ∷ []))) ∙ ap (map delivery_step) (sym (taken_more fs os f o same)))))
+
+-- what became of the findings before, with what became of one more
+pub outcomes_more : (limit : ℕ) (run now : List BoardStep) (fs : List FoundRows) (os : List Delivered) (f : FoundRows) (o : Delivered) →
+    AreOutcomes limit run fs os → now ≡ run ++ taken_steps fs os → IsOutcome limit now f o → AreOutcomes limit run (fs ++ f ∷ []) (os ++ o ∷ [])
+outcomes_more limit run now fs os f o are was is = record {
+  count = omega (arith, length-push os o, length-push fs f, are.count);
+  each = λ k g p at got. elim (get-push fs f k g at) [
+    | inl early ↦
+        let low = slice_get_within fs k g early in
+        let told : slice_get os k ≡ Some p = sym (get-append os (o ∷ []) k (omega (arith, low, are.count))) ∙ got in
+        let left : take k (fs ++ f ∷ []) ≡ take k fs = take-append-le k fs (f ∷ []) (omega (arith, low)) in
+        let right : take k (os ++ o ∷ []) ≡ take k os = take-append-le k os (o ∷ []) (omega (arith, low, are.count)) in
+        subst (λ xs. IsOutcome limit (run ++ taken_steps xs (take k (os ++ o ∷ []))) g p) (sym left)
+        (subst (λ xs. IsOutcome limit (run ++ taken_steps (take k fs) xs) g p) (sym right) (are.each k g p early told))
+    | inr last ↦
+        let own : o ≡ p = same_Some o p (sym (get-push_last os o) ∙ (ap (slice_get (os ++ o ∷ [])) (are.count ∙ sym last.0) ∙ got)) in
+        let left : take k (fs ++ f ∷ []) ≡ fs = ap (λ n. take n (fs ++ f ∷ [])) last.0 ∙ take-push fs f in
+        let right : take k (os ++ o ∷ []) ≡ os = ap (λ n. take n (os ++ o ∷ [])) (last.0 ∙ sym are.count) ∙ take-push os o in
+        subst (λ xs. IsOutcome limit xs g p) (was ∙ (λ i. run ++ taken_steps (sym left i) (sym right i)))
+        (subst (λ x. IsOutcome limit now x p) last.1 (subst (IsOutcome limit now f) own is))
+  ];
+}
+
+-- what `deliver` says of one
+pub outcome_of : (limit : ℕ) (s next : Kept) (f : FoundRows) (o : Delivered) → After limit s.published s.state →
+    OnOk o (delivery s.state f ≡ (None, next.state)) → OnOk o (AreRowsOf f.events f.bound f.task f.rows) →
+    IfErr o (λ refused. RefusesFinding s.state f refused.0) → IfErr o (λ refused. refused.1 ≡ f) → IsOutcome limit s.published f o
+outcome_of limit s next f (Ok u) after took exact refused back = ((s.state, after, ap (λ r. r.0) took), exact)
+outcome_of limit s next f (Err r) after took exact refused back = ((s.state, after, refused), back)
+
+pub steps_of : (s next : Kept) (f : FoundRows) (o : Delivered) → OnOk o (next.published ≡ s.published ++ delivery_step f ∷ []) → OnErr o (next ≡ s) →
+    next.published ≡ s.published ++ taken_steps (f ∷ []) (o ∷ [])
+steps_of s next f (Ok u) published same = published
+steps_of s next f (Err r) published same = ap (λ (k : Kept). k.published) same ∙ sym (append-nil s.published)
+
+pub none_yet : (limit : ℕ) (run : List BoardStep) (outcomes : List Delivered) → outcomes ≡ [] → AreOutcomes limit run [] outcomes
+none_yet limit run outcomes none = record {
+  count = ap length none;
+  each = λ k f o at got. absurd (none-some f at);
+}

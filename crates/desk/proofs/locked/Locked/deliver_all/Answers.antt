@@ -1,0 +1,49 @@
+use Rattle.std.proofs.Common.{◌≡◌, List, [], ◌∷◌, ◌++◌, length, sym, ap, subst, ◌∙◌, arith, append_assoc}
+use Rattle.std.proofs.lemmas.List.{append-nil, nil_from_length}
+use Rattle.findings.specs.Found.{FoundRows}
+use Rattle.sequencer.specs.Sessions.{Delivered}
+use Rattle.trace_model.specs.declared.step.BoardStep.{BoardStep}
+use Rattle.trace_model.specs.Runs.{IsLegal}
+use Rattle.desk.specs.Published.{After, Kept}
+use Rattle.desk.specs.Together.{AreOutcomes, taken_steps}
+use Rattle.desk.proofs.Steps.{legal_kept}
+use Rattle.desk.proofs.Together.{none_yet, outcome_of, outcomes_more, steps_more, steps_of}
+use Rattle.desk.proofs.locked.Locked.deliver_all.Goals as goal
+
+pub push_reserved-requires : goal.push_reserved-requires
+push_reserved-requires g c =
+    omega (arith, c.loop-finding.invariant.room, ap length c.in-Some.ensures.steps.0)
+
+pub loop-finding-init : goal.loop-finding-init
+loop-finding-init g c = record {
+  are = none_yet g.N.Naming.limit _ _ (c.in-Ok.ensures.items ∙ c.new-outcomes.ensures.items);
+  run = sym (append-nil c.args.self.now.published);
+  after = subst (λ (k : Kept). After g.N.Naming.limit k.published k.state) c.self.view_is c.self.invariant.after;
+  rest = c.into_iter-finding-iterator.ensures.into_iter_gives.0;
+  room = omega (arith, c.in-Ok.ensures.ok, c.in-Ok.ensures.len, c.new-outcomes.ensures.len, c.len.ensures, ap length c.into_iter-finding-iterator.ensures.into_iter_gives.0);
+}
+
+pub loop-finding-preserved : goal.loop-finding-preserved
+loop-finding-preserved g c =
+    let i = c.loop-finding.invariant in
+    let d = c.deliver-outcome.ensures in
+    let f = c.in-Some.finding in
+    let o = c.deliver-outcome.result.0 in
+    let is = outcome_of g.N.Naming.limit c.loop-finding.self c.deliver-outcome.new.self f o i.after d.taken d.exact d.refused d.back in
+    let items = c.push_reserved.ensures.items in
+    record {
+      are = subst (λ (os : List Delivered). AreOutcomes g.N.Naming.limit c.args.self.now.published (c.loop-finding.yielded ++ f ∷ []) os) (sym items)
+          (outcomes_more g.N.Naming.limit c.args.self.now.published c.loop-finding.self.published c.loop-finding.yielded c.loop-finding.outcomes.items f o i.are i.run is);
+      run = steps_more c.args.self.now.published c.loop-finding.self.published c.deliver-outcome.new.self.published c.loop-finding.yielded c.loop-finding.outcomes.items f o i.are.count i.run
+          (steps_of c.loop-finding.self c.deliver-outcome.new.self f o d.published d.same)
+          ∙ ap (λ (os : List Delivered). c.args.self.now.published ++ taken_steps (c.loop-finding.yielded ++ f ∷ []) os) (sym items);
+      after = d.after;
+      rest = append_assoc c.loop-finding.yielded (f ∷ []) c.next.new.self.rest.items
+          ∙ ap (λ (xs : List FoundRows). c.loop-finding.yielded ++ xs) (sym c.in-Some.ensures.steps.0) ∙ i.rest;
+      room = omega (arith, i.room, c.push_reserved.ensures.len, c.push_reserved.ensures.capacity, ap length c.in-Some.ensures.steps.0);
+    }
+
+pub returns-in_default-clause-legal : goal.returns-in_default-clause-legal
+returns-in_default-clause-legal g c =
+    let b = c.self.inside.board in
+    subst (λ (k : Kept). IsLegal k.published) c.self.view_is (legal_kept g.N.Naming.limit b.published b.waiting c.self.inside.book.state c.self.invariant)

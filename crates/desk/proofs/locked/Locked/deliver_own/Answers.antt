@@ -1,0 +1,18 @@
+use Rattle.std.proofs.Common.{sym, subst}
+use Rattle.findings.specs.Found.{FoundRows}
+use Rattle.sequencer.specs.Book.{AreKnown}
+use Rattle.desk.specs.Published.{After}
+use Rattle.desk.proofs.Known.{known_of}
+use Rattle.desk.proofs.locked.Locked.deliver_own.Goals as goal
+
+pub admits_known-admitted-requires : goal.admits_known-admitted-requires
+admits_known-admitted-requires g c =
+    let limit = g.N.Naming.limit in
+    let state = c.self.inside.book.state in
+    let own = c.args.own in
+    let parts = c.into_parts-finding in
+    let both = c.later-later in
+    let now = subst (λ run. After limit run state) (sym c.receipt-2.ensures) c.self.invariant.after in
+    let known : AreKnown state own.question own.events = known_of limit parts.result.1 c.receipt-2.result both.result state own.question own.events
+    c.self.invariant.allowed both.ensures.own both.ensures.others both.ensures.either now parts.ensures.known in
+    record { known = subst (λ (f : FoundRows). AreKnown state f.question f.events) (sym parts.ensures.finding) known }

@@ -1,0 +1,138 @@
+//! Three workers, which deliver in an order that the board tells them.
+
+ghost use Rattle.std.specs.Prelude.{◌≡◌};
+
+use crate::on_desk::{MOST, accepted, event, is_report};
+use crate::on_workers::{YIELDS, turn_of, worker};
+use board::{BoardReader, Naming, Opened, Shown};
+use claims::claimants;
+use desk::{Desk, Turn};
+use findings::Hold;
+use std::alloc::Global;
+use std::hash::RandomState;
+use std::marker::Brand;
+use std::process::Abort;
+use std::sync::atomic::{AtomicU64, Ordering};
+use std::sync::{Arc, Mutex, Wait};
+use std::test::*;
+use std::thread;
+use std::thread::Threads;
+use trace_model::{Event, Op};
+
+const REPORT: &str =
+    "question 0 length 15 bound 3 cycles 1 confirmed 1\ncycle 0 1 2 confirmed\n  thread 1 lock 20 holds 10 place 4\n  thread 2 lock 30 holds 20 place 8\n  thread 3 lock 10 holds 30 place 12\n  witness 0 1 2 3 7 11\n";
+
+/// `0f1 0f2 0f3 1a10 1a20 1r20 1r10 2a20 2a30 2r30 2r20 3a30 3a10 3r10 3r30`
+fn ring_of_three() -> [Event; 15] {
+    [
+        event(0, Op::Fork(1)),
+        event(0, Op::Fork(2)),
+        event(0, Op::Fork(3)),
+        event(1, Op::Acquire(10)),
+        event(1, Op::Acquire(20)),
+        event(1, Op::Release(20)),
+        event(1, Op::Release(10)),
+        event(2, Op::Acquire(20)),
+        event(2, Op::Acquire(30)),
+        event(2, Op::Release(30)),
+        event(2, Op::Release(20)),
+        event(3, Op::Acquire(30)),
+        event(3, Op::Acquire(10)),
+        event(3, Op::Release(10)),
+        event(3, Op::Release(30)),
+    ]
+}
+
+/// Keeps each task until it was called for all three; then task 0 until the board shows two delivered ones, and
+/// task 1 until it shows one.
+#[derive(Drop)]
+struct Order<N: Naming, R: Wait + Copy> {
+    rt: R,
+    reader: Mutex<BoardReader<N>>,
+    called: [AtomicU64; 3],
+    gave_up: AtomicU64,
+}
+
+impl<N: Naming, R: Wait + Copy> Order<N, R> {
+    fn new(rt: R, reader: BoardReader<N>) -> Order<N, R> {
+        Order {
+            rt,
+            reader: Mutex::new(reader),
+            called: [AtomicU64::new(0), AtomicU64::new(0), AtomicU64::new(0)],
+            gave_up: AtomicU64::new(0),
+        }
+    }
+
+    fn was_called_for_all(&self) -> bool {
+        self.called[0].load(Ordering::SeqCst) > 0
+            && self.called[1].load(Ordering::SeqCst) > 0
+            && self.called[2].load(Ordering::SeqCst) > 0
+    }
+
+    /// How many tasks of the question the board shows as delivered.
+    fn delivered(&self, question: u32) -> u32 {
+        let Ok(summary) = self.reader.lock(&self.rt).status() else {
+            return 0;
+        };
+        match summary.question(question) {
+            Some(asked) => asked.delivered,
+            None => 0,
+        }
+    }
+}
+
+impl<N: Naming, R: Wait + Copy> Hold for Order<N, R> {
+    fn hold(&self, question: u32, task: u32) {
+        let Some(called) = self.called.get(task as usize) else {
+            return;
+        };
+        called.fetch_add(1, Ordering::SeqCst);
+        let earlier = 2u32.saturating_sub(task);
+        for _ in 0..YIELDS {
+            if self.was_called_for_all() && self.delivered(question) >= earlier {
+                return;
+            }
+            thread::yield_now();
+        }
+        self.gave_up.store(1, Ordering::SeqCst);
+    }
+}
+
+#[test]
+fn three_workers_meet(rt: HostRuntime) -> Result<(), Fail> {
+    three_workers::<Brand, _>(rt, rt.alloc(), RandomState::new(&rt)?, Opened::new(), MOST)
+}
+
+fn three_workers<N: Naming + Send + Sync, R: Threads + Wait + Abort + Copy + Send + Sync>(
+    rt: R,
+    alloc: Global,
+    state: RandomState,
+    opened: Opened,
+    limit: u32,
+) -> Result<(), Fail>
+    requires book { opened.seen.book ≡ N.book }
+    requires limit { limit ≡ N.limit }
+{
+    let (desk, mut readers) = Desk::<N, R, Shown<N>>::new(alloc, state, rt, opened, limit, 4)?;
+    let desk = Arc::new(alloc, desk)?;
+    let mut reader = readers.pop().ok_or("a reader")?;
+    accepted(&rt, &desk, &mut reader, &ring_of_three());
+    assert!(rt; desk.ask(3).0.is_ok());
+    let order = Order::new(rt, reader);
+    let mut claims = claimants(alloc, 3)?;
+    let mut workers = Vec::new(alloc);
+    for _ in 0..3 {
+        let worker = worker(&desk, &mut claims, &mut readers);
+        workers.push(worker.ok_or("a worker")?)?;
+    }
+    let turns = thread::map_vec(&rt, workers, &|worker| turn_of(worker, &order))?;
+    for turn in &turns {
+        assert_eq!(rt; *turn, Turn::Delivered);
+    }
+    for called in &order.called {
+        assert_eq!(rt; called.load(Ordering::SeqCst), 1);
+    }
+    assert_eq!(rt; order.gave_up.load(Ordering::SeqCst), 0);
+    assert!(rt; is_report(desk.answer(0).0, REPORT));
+    Ok(())
+}

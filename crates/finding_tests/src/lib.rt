@@ -1,0 +1,9 @@
+//! Tests of findings that are delivered to a desk: of all sorts, by many threads, and where growths are refused.
+#![tactic(auto)]
+
+#[cfg(test)]
+mod desks;
+#[cfg(test)]
+mod many_findings;
+#[cfg(test)]
+mod refused_growth;

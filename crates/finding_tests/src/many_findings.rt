@@ -1,0 +1,372 @@
+//! Findings of all sorts, by lists and by many threads.
+
+ghost use Rattle.std.specs.Prelude.{◌≡◌};
+
+use crate::desks::{MOST, accepted, event, one_reader, opposite_sections, two_forks};
+use board::{BoardReader, Follows, Naming, Opened, Receipt, Shown};
+use desk::Desk;
+use findings::{Finding, Snapshot};
+use sequencer::{Book, Delivered};
+use std::alloc::{AllocError, Global};
+use std::hash::RandomState;
+use std::marker::Brand;
+use std::process::Abort;
+use std::random::RandomSource;
+use std::sync::{Arc, Wait};
+use std::test::*;
+use std::thread;
+use std::thread::Threads;
+use trace_model::{Bound, Event, Op, Refusal};
+
+const THREADS: usize = 8;
+
+/// Of which question, with which bound and of which task a finding is, and whether its events end in another way.
+#[derive(Clone, Copy)]
+pub(crate) struct About {
+    question: u32,
+    bound: u8,
+    task: u32,
+    ends_otherwise: bool,
+}
+
+pub(crate) const FIRST: About = About {
+    question: 0,
+    bound: 2,
+    task: 0,
+    ends_otherwise: false,
+};
+
+pub(crate) const SECOND: About = About {
+    question: 0,
+    bound: 2,
+    task: 1,
+    ends_otherwise: false,
+};
+
+const PAST_THE_LAST: About = About {
+    question: 0,
+    bound: 2,
+    task: 2,
+    ends_otherwise: false,
+};
+
+const OTHER_BOUND: About = About {
+    question: 0,
+    bound: 3,
+    task: 0,
+    ends_otherwise: false,
+};
+
+const OTHER_TRACE: About = About {
+    question: 0,
+    bound: 2,
+    task: 0,
+    ends_otherwise: true,
+};
+
+const OTHER_QUESTION: About = About {
+    question: 1,
+    bound: 2,
+    task: 0,
+    ends_otherwise: false,
+};
+
+/// Somebody who has the events of the opposite sections, and those that end with a write of 20.
+#[derive(Drop)]
+pub(crate) struct Stranger {
+    alloc: Global,
+    same: Arc<Snapshot, Global>,
+    other: Arc<Snapshot, Global>,
+}
+
+impl Stranger {
+    /// None where there is no memory for it.
+    pub(crate) fn new(rt: &(impl RandomSource + AllocGlobal)) -> Option<Stranger> {
+        let mut others = opposite_sections();
+        others[7] = event(2, Op::Write(20));
+        Some(Stranger {
+            alloc: rt.alloc(),
+            same: shared(rt, &opposite_sections())?,
+            other: shared(rt, &others)?,
+        })
+    }
+
+    fn finding(&self, about: About) -> Option<Finding> {
+        let shared = if about.ends_otherwise {
+            &self.other
+        } else {
+            &self.same
+        };
+        let shared = Arc::try_clone(shared).ok()?;
+        let bound = Bound::new(about.bound)?;
+        Finding::compute(self.alloc, shared, about.question, bound, about.task).ok()
+    }
+
+    /// The findings about these. None where there is no memory for them.
+    pub(crate) fn findings(&self, all: &[About]) -> Option<Vec<Finding>> {
+        let mut findings = Vec::new(self.alloc);
+        for about in all {
+            findings.push(self.finding(*about)?).ok()?;
+        }
+        Some(findings)
+    }
+}
+
+/// Two forks and these events, as a book of its own shares them.
+fn shared(
+    rt: &(impl RandomSource + AllocGlobal),
+    events: &[Event],
+) -> Option<Arc<Snapshot, Global>> {
+    let mut book = Book::new(rt.alloc(), RandomState::new(rt).ok()?, MOST).ok()?;
+    for event in &two_forks() {
+        book.offer(*event).ok()?;
+    }
+    for event in events {
+        book.offer(*event).ok()?;
+    }
+    book.ask(2).ok()?;
+    book.snapshot(0).ok()
+}
+
+/// How findings are delivered.
+#[derive(Clone, Copy)]
+enum Way {
+    OneByOne,
+    Together,
+}
+
+/// What became of findings, and the receipts.
+type Outcomes<N> = (Vec<Option<Refusal>>, Vec<Receipt<N>>);
+
+fn refusal_in(outcome: Delivered) -> Option<Refusal> {
+    match outcome {
+        Ok(()) => None,
+        Err((refusal, _)) => Some(refusal),
+    }
+}
+
+fn delivered<N: Naming, R: Wait + Copy, T: Follows<N>>(
+    alloc: Global,
+    desk: &Desk<N, R, T>,
+    findings: Vec<Finding>,
+    way: Way,
+) -> Result<Outcomes<N>, AllocError> {
+    match way {
+        Way::OneByOne => delivered_one_by_one(alloc, desk, findings),
+        Way::Together => delivered_together(alloc, desk, findings),
+    }
+}
+
+fn delivered_one_by_one<N: Naming, R: Wait + Copy, T: Follows<N>>(
+    alloc: Global,
+    desk: &Desk<N, R, T>,
+    findings: Vec<Finding>,
+) -> Result<Outcomes<N>, AllocError> {
+    let mut refusals = Vec::new(alloc);
+    let mut receipts = Vec::new(alloc);
+    for finding in findings {
+        let (outcome, receipt) = desk.deliver(finding);
+        refusals.push(refusal_in(outcome))?;
+        receipts.push(receipt)?;
+    }
+    Ok((refusals, receipts))
+}
+
+fn delivered_together<N: Naming, R: Wait + Copy, T: Follows<N>>(
+    alloc: Global,
+    desk: &Desk<N, R, T>,
+    findings: Vec<Finding>,
+) -> Result<Outcomes<N>, AllocError> {
+    let mut refusals = Vec::new(alloc);
+    let mut receipts = Vec::new(alloc);
+    if let Ok((outcomes, receipt)) = desk.deliver_all(findings) {
+        receipts.push(receipt)?;
+        for outcome in outcomes {
+            refusals.push(refusal_in(outcome))?;
+        }
+    }
+    Ok((refusals, receipts))
+}
+
+/// Question 0 about the opposite sections.
+fn asked<N: Naming, R: Wait + Abort + Copy>(
+    rt: &R,
+    desk: &Desk<N, R, Shown<N>>,
+    reader: &mut BoardReader<N>,
+) {
+    accepted(rt, desk, reader, &two_forks());
+    accepted(rt, desk, reader, &opposite_sections());
+    assert!(rt; desk.ask(2).0.is_ok());
+}
+
+#[test]
+fn findings_from_anyone(rt: HostRuntime) -> Result<(), Fail> {
+    from_anyone(rt, Way::OneByOne)
+}
+
+#[test]
+fn lists_of_findings_from_anyone(rt: HostRuntime) -> Result<(), Fail> {
+    from_anyone(rt, Way::Together)
+}
+
+fn from_anyone<R: RandomSource + AllocGlobal + Wait + Abort + Copy>(
+    rt: R,
+    way: Way,
+) -> Result<(), Fail> {
+    let stranger = Stranger::new(&rt).ok_or("a stranger")?;
+    let state = RandomState::new(&rt)?;
+    takes_findings::<Brand, _>(rt, rt.alloc(), state, Opened::new(), MOST, &stranger, way)
+}
+
+/// Delivers task 1 and what is refused, and then task 0, and reads the board after each.
+fn takes_findings<N: Naming, R: Wait + Abort + Copy>(
+    rt: R,
+    alloc: Global,
+    state: RandomState,
+    opened: Opened,
+    limit: u32,
+    stranger: &Stranger,
+    way: Way,
+) -> Result<(), Fail>
+    requires book { opened.seen.book ≡ N.book }
+    requires limit { limit ≡ N.limit }
+{
+    let (desk, mut reader) = one_reader::<N, R>(rt, alloc, state, opened, limit)?;
+    asked(&rt, &desk, &mut reader);
+    let early = [
+        SECOND,
+        SECOND,
+        PAST_THE_LAST,
+        OTHER_BOUND,
+        OTHER_TRACE,
+        OTHER_QUESTION,
+    ];
+    let refusals = [
+        None,
+        Some(Refusal::Double),
+        Some(Refusal::NoSuchTask),
+        Some(Refusal::OtherBound),
+        Some(Refusal::OtherTrace),
+        Some(Refusal::NoSuchQuestion),
+    ];
+    let lists: [(&[About], &[Option<Refusal>], (u32, u64, u64)); 4] = [
+        (&early, &refusals, (1, 0, 0)),
+        (&[], &[], (1, 0, 0)),
+        (&[FIRST], &[None], (2, 1, 1)),
+        (
+            &[OTHER_BOUND, FIRST],
+            &[Some(Refusal::OtherBound), Some(Refusal::Double)],
+            (2, 1, 1),
+        ),
+    ];
+    for (list, wanted, counts) in lists {
+        let findings = stranger.findings(list).ok_or("findings")?;
+        let (outcomes, receipts) = delivered(alloc, &desk, findings, way)?;
+        assert_eq!(rt; outcomes.as_slice(), wanted);
+        learn_all(&mut reader, &receipts);
+        reads(&rt, &mut reader, counts)?;
+    }
+    Ok(())
+}
+
+fn learn_all<N: Naming>(reader: &mut BoardReader<N>, receipts: &[Receipt<N>]) {
+    for receipt in receipts {
+        reader.learn(receipt);
+    }
+}
+
+/// Question 0 has so many delivered tasks, cycles and confirmed ones.
+fn reads<N: Naming, R: Abort>(
+    rt: &R,
+    reader: &mut BoardReader<N>,
+    counts: (u32, u64, u64),
+) -> Result<(), Fail> {
+    let Ok(summary) = reader.status() else {
+        return Err(Fail::from("busy"));
+    };
+    let question = summary.question(0).ok_or("a question")?;
+    assert_eq!(rt;
+        (question.length, question.bound, question.total),
+        (10, 2, 2)
+    );
+    assert_eq!(rt;
+        (question.delivered, question.cycles, question.confirmed),
+        counts
+    );
+    Ok(())
+}
+
+#[test]
+fn thirty_two_deliveries(rt: HostRuntime) -> Result<(), Fail> {
+    from_eight_threads(rt, Way::OneByOne)
+}
+
+#[test]
+fn thirty_two_deliveries_by_lists_of_four(rt: HostRuntime) -> Result<(), Fail> {
+    from_eight_threads(rt, Way::Together)
+}
+
+/// Each thread delivers both tasks, a finding with another bound, and one of other events.
+fn from_eight_threads<R: RandomSource + AllocGlobal + Threads + Wait + Abort + Copy + Send + Sync>(
+    rt: R,
+    way: Way,
+) -> Result<(), Fail> {
+    let alloc = rt.alloc();
+    let stranger = Stranger::new(&rt).ok_or("a stranger")?;
+    let mut lists = Vec::new(alloc);
+    for _ in 0..THREADS {
+        let list = stranger.findings(&[FIRST, SECOND, OTHER_BOUND, OTHER_TRACE]);
+        lists.push(list.ok_or("findings")?)?;
+    }
+    let state = RandomState::new(&rt)?;
+    takes_lists::<Brand, _>(rt, alloc, state, Opened::new(), MOST, lists, way)
+}
+
+/// Two findings are taken; of the others each is refused for its own reason.
+fn takes_lists<N: Naming + Send + Sync, R: Threads + Wait + Abort + Copy + Send + Sync>(
+    rt: R,
+    alloc: Global,
+    state: RandomState,
+    opened: Opened,
+    limit: u32,
+    lists: Vec<Vec<Finding>>,
+    way: Way,
+) -> Result<(), Fail>
+    requires book { opened.seen.book ≡ N.book }
+    requires limit { limit ≡ N.limit }
+{
+    let (desk, mut reader) = one_reader::<N, R>(rt, alloc, state, opened, limit)?;
+    asked(&rt, &desk, &mut reader);
+    let done = thread::map_vec(
+        &rt,
+        lists,
+        &|findings| delivered(alloc, &desk, findings, way),
+    )?;
+    let mut outcomes = Vec::new(alloc);
+    for one in done {
+        let (refusals, receipts) = one?;
+        outcomes.extend_from_slice(&refusals)?;
+        learn_all(&mut reader, &receipts);
+    }
+    assert_eq!(rt; outcomes.len(), 32);
+    for (outcome, count) in [
+        (None, 2),
+        (Some(Refusal::Double), 14),
+        (Some(Refusal::OtherBound), 8),
+        (Some(Refusal::OtherTrace), 8),
+    ] {
+        assert_eq!(rt; count_of(&outcomes, outcome), count);
+    }
+    reads(&rt, &mut reader, (2, 1, 1))
+}
+
+/// How many of the outcomes are this one.
+fn count_of(outcomes: &[Option<Refusal>], wanted: Option<Refusal>) -> u32 {
+    let mut count = 0u32;
+    for outcome in outcomes {
+        if *outcome == wanted {
+            count = count.saturating_add(1);
+        }
+    }
+    count
+}

@@ -1,0 +1,2 @@
+pub mod WholeReports
+pub mod Collected

@@ -1,0 +1,91 @@
+-- The report on all tasks, and the first event that is not lawful.
+use Rattle.std.proofs.Common.{◌≡◌, ℕ, ◌+◌, ◌<◌, List, [], ◌∷◌, ◌++◌, length, map, take, slice_get, option_map, Option, Some, None, refl, sym, ap, subst, ◌∙◌, arith}
+use Rattle.std.specs.Global.{Vec}
+use Rattle.std.specs.List.{flat_map, All}
+use Rattle.std.proofs.lemmas.List.{length-map, length-take, map-append}
+use Rattle.std.proofs.lemmas.List.Concat.{flat_map-cons}
+use Rattle.std.proofs.lemmas.List.Elements.{All-head, All-tail}
+use Rattle.std.proofs.lemmas.Option.{none-some, same_Some, slice_get-map, slice_get_within, get_or_from_slice_get}
+use Rattle.trace_model.specs.declared.event.Event.{Event}
+use Rattle.trace_model.specs.declared.limits.TheConstants.{MAX_EVENTS}
+use Rattle.trace_model.specs.declared.refusal.Refusal.{Refusal}
+use Rattle.trace_model.specs.Trace.{Trace, At}
+use Rattle.trace_model.specs.Lawful.{IsWellFormed, refusal_of}
+use Rattle.trace_model.specs.Dependencies.{Dependency, dependencies}
+use Rattle.trace_model.specs.Rows.{Row, AreRows}
+use Rattle.witness.specs.Printed.{Printed, with_dependencies}
+use Rattle.witness.specs.Text.{report}
+use Rattle.offline_report.specs.Offline.{AreComputed, AreTasks, report_of, IsFirstUnlawful, IsNotAdmitted, IsNotComputed, IsRefused}
+use Rattle.offline_report.specs.declared.refused.OfflineRefused.{OfflineRefused}
+use Rattle.offline_report.specs.declared.refused.OfflineRefused.TheVariants.{Gate, TooLong, TooManyCycles, NoMemory}
+
+-- the rows of a task, and of each task, without the dependencies that they name
+abbrev pub plain : Vec Printed → List Row
+plain rows = map (λ p. p.row) rows.items
+
+abbrev pub all_plain : List (Vec Printed) → List (List Row)
+all_plain tasks = map plain tasks
+
+named_rows : (ds : List Dependency) (rows : List Printed) → All (λ p. p ≡ with_dependencies ds p.row) rows → map (with_dependencies ds) (map (λ p. p.row) rows) ≡ rows
+named_rows ds [] h = refl
+named_rows ds (p ∷ rows) h =
+    let P : Printed → Type 0 = λ q. q ≡ with_dependencies ds q.row in
+    let first = All-head P p rows h in
+    let rest = named_rows ds rows (All-tail P p rows h) in
+    λ i. sym first i ∷ rest i
+
+named_tasks : (ds : List Dependency) (tasks : List (Vec Printed)) → All (λ (v : Vec Printed). All (λ p. p ≡ with_dependencies ds p.row) v.items) tasks → map (with_dependencies ds) (flat_map (λ rows. rows) (all_plain tasks)) ≡ flat_map (λ (v : Vec Printed). v.items) tasks
+named_tasks ds [] h = refl
+named_tasks ds (v ∷ tasks) h =
+    let P : Vec Printed → Type 0 = λ w. All (λ p. p ≡ with_dependencies ds p.row) w.items in
+    let first = named_rows ds v.items (All-head P v tasks h) in
+    let rest = named_tasks ds tasks (All-tail P v tasks h) in
+    ap (map (with_dependencies ds)) (flat_map-cons (λ (rows : List Row). rows) (plain v) (all_plain tasks))
+    ∙ map-append (with_dependencies ds) (plain v) (flat_map (λ rows. rows) (all_plain tasks))
+    ∙ (λ i. first i ++ rest i)
+    ∙ sym (flat_map-cons (λ (w : Vec Printed). w.items) v tasks)
+
+-- the text on what was computed is that on its rows
+report_is : (s : Trace) (bound n : ℕ) (tasks : List (Vec Printed)) → AreComputed s bound n tasks → report 0 (length s) bound (flat_map (λ (v : Vec Printed). v.items) tasks) ≡ report_of s bound (all_plain tasks)
+unfolding report_of
+report_is s bound n tasks c =
+    let each : All (λ (v : Vec Printed). All (λ p. p ≡ with_dependencies (dependencies s) p.row) v.items) tasks = λ k d h. (c.each k d (subst (λ m. k < m) c.total h)).named in
+    ap (report 0 (length s) bound) (sym (named_tasks (dependencies s) tasks each))
+
+-- the same, where length and tasks are seen otherwise
+pub report_on : (s : Trace) (bound n len : ℕ) (tasks seen : List (Vec Printed)) → AreComputed s bound n tasks → len ≡ length s → seen ≡ tasks → report 0 len bound (flat_map (λ (v : Vec Printed). v.items) seen) ≡ report_of s bound (all_plain tasks)
+report_on s bound n len tasks seen c l e =
+    ap (λ k. report 0 k bound (flat_map (λ (v : Vec Printed). v.items) seen)) l
+    ∙ ap (λ xs. report 0 (length s) bound (flat_map (λ (v : Vec Printed). v.items) xs)) e
+    ∙ report_is s bound n tasks c
+
+task_rows : (s : Trace) (bound n : ℕ) (tasks : List (Vec Printed)) (task : ℕ) (rows : List Row) (found : Option (Vec Printed)) → AreComputed s bound n tasks → slice_get tasks task ≡ found → option_map plain found ≡ Some rows → AreRows s bound task rows
+task_rows s bound n tasks task rows None c f e = absurd (none-some rows e)
+task_rows s bound n tasks task rows (Some v) c f e =
+    let within : task < n = subst (λ m. task < m) c.total (slice_get_within tasks task v f) in
+    subst (AreRows s bound task) (same_Some (plain v) rows e) (subst (λ (w : Vec Printed). AreRows s bound task (plain w)) (get_or_from_slice_get tasks task v v f) (c.each task v within).exact)
+
+pub are_tasks : (s : Trace) (bound : ℕ) (tasks : List (Vec Printed)) → AreComputed s bound (length (dependencies s)) tasks → AreTasks s bound (all_plain tasks)
+are_tasks s bound tasks c = record {
+  total = length-map tasks plain ∙ c.total;
+  each = λ task rows e. task_rows s bound (length (dependencies s)) tasks task rows (slice_get tasks task) c refl (sym (slice_get-map plain tasks task) ∙ e);
+}
+
+pub first_unlawful : (s recorded : Trace) (index : ℕ) (e : Event) (refusal : Refusal) → recorded ≡ take index s → index < length s → At s index e → IsWellFormed recorded → refusal_of MAX_EVENTS recorded e ≡ Some refusal → IsFirstUnlawful s (length recorded) refusal
+first_unlawful s recorded index e refusal r l a w n =
+    let len : length recorded ≡ index = omega (arith, ap length r, length-take index s) in
+    subst (λ k. IsFirstUnlawful s k refusal) (sym len)
+    (subst IsWellFormed r w, (e, a, subst (λ t. refusal_of MAX_EVENTS t e ≡ Some refusal) r n))
+
+-- what is refused on the way to a report is rightly refused
+pub not_admitted : (s : Trace) (bound : ℕ) (refused : OfflineRefused) → IsNotAdmitted s refused → IsRefused s bound refused
+not_admitted s bound (Gate refusal index) h = h
+not_admitted s bound TooLong h = absurd h
+not_admitted s bound TooManyCycles h = absurd h
+not_admitted s bound NoMemory h = tt
+
+pub not_computed : (s : Trace) (bound : ℕ) (refused : OfflineRefused) → IsWellFormed s → IsNotComputed s bound refused → IsRefused s bound refused
+not_computed s bound (Gate refusal index) w h = absurd h
+not_computed s bound TooLong w h = absurd h
+not_computed s bound TooManyCycles w h = (w, h)
+not_computed s bound NoMemory w h = tt

@@ -1,0 +1,127 @@
+//! Events that passed the gate, with their tables.
+ghost use Rattle.std.specs.Prelude.{◌≡◌, length, IfOk, IfErr};
+ghost use Rattle.std.specs.Arc.{arc_value};
+ghost use Rattle.trace_model.specs.declared.limits.TheConstants.{MAX_EVENTS};
+ghost use Rattle.trace_model.specs.Dependencies.{dependencies};
+ghost use Rattle.trace_model.specs.Lawful.{IsWellFormed};
+ghost use Rattle.offline_report.specs.Offline.{IsNotAdmitted, IsRefused, IsReport};
+
+use crate::refused::OfflineRefused;
+use crate::tasks::tasks_of;
+use findings::{Hold, Snapshot};
+use std::alloc::Global;
+use std::hash::RandomState;
+use std::marker::Model;
+use std::sync::Arc;
+use std::thread::Threads;
+use trace_model::{Bound, Event, MAX_EVENTS, NoMemory};
+use wellformed::Gate;
+use witness::{TextRefused, report_text};
+
+/// Well-formed events with the tables that the tasks of a question with a bound are computed from. Contracts see
+/// it as that question, number 0.
+#[derive(Drop)]
+pub struct Offline {
+    pub(crate) alloc: Global,
+    pub(crate) snapshot: Arc<Snapshot, Global>,
+    pub(crate) bound: Bound,
+}
+
+impl Model for Offline {
+    ghost use Rattle.std.specs.Arc.{arc_value};
+    ghost use Rattle.findings.specs.Found.{Asked};
+
+    ghost Value = { Asked };
+
+    ghost view = { λ o. record { question = 0; bound = o.bound; events = arc_value o.snapshot } };
+}
+
+impl Offline {
+    /// Passes the events through a gate, in their order, and makes their tables.
+    ///
+    /// # Errors
+    ///
+    /// `Gate` with the first event that is not lawful, where there is one, and `NoMemory` where a growth was refused.
+    pub fn open(
+        alloc: Global,
+        state: RandomState,
+        events: Vec<Event>,
+        bound: Bound,
+    ) -> Result<Offline, OfflineRefused>
+        ensures asked { IfOk result (λ offline. offline ≡ record { question = 0; bound = bound; events = events.items }) }
+        ensures well_formed { IfOk result (λ offline. IsWellFormed events.items) }
+        ensures refused { IfErr result (IsNotAdmitted events.items) }
+    {
+        let gate = admit(alloc, state, &events)?;
+        let Ok(snapshot) = share(alloc, state, gate.events()) else {
+            return Err(OfflineRefused::NoMemory);
+        };
+        Ok(Offline {
+            alloc,
+            snapshot,
+            bound,
+        })
+    }
+
+    /// How many tasks there are: as many as the events have dependencies. It takes no memory.
+    pub fn tasks(&self) -> u32
+        ensures { result ≡ length (dependencies self.now.events) }
+    {
+        self.snapshot.tasks()
+    }
+
+    /// The report, exactly as a book would give it. Its tasks are computed by as many threads as there are processors;
+    /// each calls the hold, with question 0, once its rows are there.
+    ///
+    /// # Errors
+    ///
+    /// `TooManyCycles` where a task has too many, `TooLong` where the text is, and `NoMemory` where a growth was refused;
+    /// where several tasks fail, what one of them refused.
+    pub fn report<R: Threads + Sync, H: Hold + Sync>(
+        &self,
+        rt: &R,
+        hold: &H,
+    ) -> Result<Vec<u8>, OfflineRefused>
+        ensures text { IfOk result (λ text. IsReport self.now.events self.now.bound text.items) }
+        ensures refused { IfErr result (IsRefused self.now.events self.now.bound) }
+    {
+        let length = self.snapshot.len() as u32;
+        let tasks = tasks_of(rt, self.alloc, &self.snapshot, self.bound, hold)?;
+        match report_text(self.alloc, 0, length, self.bound, &tasks) {
+            Ok(text) => Ok(text),
+            Err(TextRefused::TooLong) => Err(OfflineRefused::TooLong),
+            Err(TextRefused::NoMemory) => Err(OfflineRefused::NoMemory),
+        }
+    }
+}
+
+/// Passes the events through a gate, in their order.
+fn admit(alloc: Global, state: RandomState, events: &[Event]) -> Result<Gate, OfflineRefused>
+    ensures ok { IfOk result (λ gate. (gate.events ≡ events.now) × (gate.limit ≡ MAX_EVENTS)) }
+    ensures refused { IfErr result (IsNotAdmitted events.now) }
+{
+    let mut gate = Gate::new(alloc, state, MAX_EVENTS);
+    for event in events {
+        if let Err(refusal) = gate.check(event) {
+            let index = gate.events().len();
+            return Err(OfflineRefused::Gate { refusal, index });
+        }
+        let Ok(()) = gate.reserve(event) else {
+            return Err(OfflineRefused::NoMemory);
+        };
+        gate.record(event);
+    }
+    Ok(gate)
+}
+
+fn share(
+    alloc: Global,
+    state: RandomState,
+    events: &[Event],
+) -> Result<Arc<Snapshot, Global>, NoMemory>
+    requires { IsWellFormed events.now }
+    ensures { IfOk result (λ shared. arc_value shared ≡ events.now) }
+{
+    let snapshot = Snapshot::build(alloc, state, events)?;
+    Ok(Arc::new(alloc, snapshot)?)
+}

@@ -1,0 +1,139 @@
+//! The rows of all tasks, by as many threads as there are processors.
+ghost use Rattle.std.specs.Prelude.{◌≡◌, ℕ, [], IfOk};
+ghost use Rattle.std.specs.Arc.{arc_value};
+ghost use Rattle.trace_model.specs.Trace.{Trace};
+ghost use Rattle.offline_report.specs.Offline.{AreAllTasks, IsTask};
+
+use crate::refused::OfflineRefused;
+use findings::{ComputeRefused, Hold, Job, Snapshot};
+use rayon::prelude::*;
+use std::alloc::{AllocError, Global};
+use std::marker::{Brand, Model, PhantomData};
+use std::sync::Arc;
+use std::thread::Threads;
+use trace_model::Bound;
+use witness::Row;
+
+/// The number of the one question that is asked about a file.
+const QUESTION: u32 = 0;
+
+/// With fewer tasks than two such pieces no thread is started: a piece makes anew what its tasks keep from one to the
+/// next.
+const LEAST_PIECE: usize = 16;
+
+/// Names the events and the bound of a question, in proofs alone.
+pub trait About {
+    ghost events: { Trace };
+
+    ghost bound: { ℕ };
+}
+
+impl About for Brand {
+    ghost events = { [] };
+
+    ghost bound = { 0 };
+}
+
+/// What the tasks of one piece keep from one to the next. By its type it is about the named question, whichever
+/// thread has it.
+#[derive(Drop)]
+struct Piece<A: About> {
+    job: Job,
+    name: PhantomData<A>,
+}
+
+impl<A: About> Model for Piece<A> {
+    ghost use Rattle.std.specs.Prelude.{◌≡◌};
+    ghost use Rattle.findings.specs.Found.{Asked};
+
+    ghost Value = { Asked };
+
+    ghost view = { λ p. p.job };
+
+    ghost invariant = { λ p. (p.job.events ≡ A.events) × (p.job.bound ≡ A.bound) };
+}
+
+impl<A: About> Piece<A> {
+    /// A piece of which nothing is computed, none where the snapshot is not shared once more.
+    fn new(alloc: Global, snapshot: &Arc<Snapshot, Global>, bound: Bound) -> Option<Piece<A>>
+        requires events { arc_value snapshot.now ≡ A.events }
+        requires bound { bound ≡ A.bound }
+    {
+        let snapshot = Arc::try_clone(snapshot).ok()?;
+        let job = Job::new(alloc, snapshot, QUESTION, bound);
+        Some(Piece {
+            job,
+            name: PhantomData,
+        })
+    }
+
+    /// The rows of a task.
+    fn rows(&mut self, task: u32) -> Result<Vec<Row>, OfflineRefused>
+        ensures { IsTask A.events A.bound task result }
+    {
+        match self.job.compute(task) {
+            Ok(finding) => Ok(finding.into_rows()),
+            Err(ComputeRefused::TooManyCycles) => Err(OfflineRefused::TooManyCycles),
+            Err(ComputeRefused::NoMemory) => Err(OfflineRefused::NoMemory),
+        }
+    }
+}
+
+/// The rows of a task, by its piece. Calls the hold once they are there.
+fn rows_by<A: About, H: Hold>(
+    piece: &mut Option<Piece<A>>,
+    hold: &H,
+    task: u32,
+) -> Result<Vec<Row>, OfflineRefused>
+    ensures { IsTask A.events A.bound task result }
+{
+    let Some(piece) = piece else {
+        return Err(OfflineRefused::NoMemory);
+    };
+    let rows = piece.rows(task)?;
+    hold.hold(QUESTION, task);
+    Ok(rows)
+}
+
+/// The rows of all tasks of the named question, in the order of the tasks.
+fn compute_all<A: About + Send, R: Threads + Sync, H: Hold + Sync>(
+    rt: &R,
+    alloc: Global,
+    snapshot: &Arc<Snapshot, Global>,
+    bound: Bound,
+    hold: &H,
+) -> Result<Result<Vec<Vec<Row>>, OfflineRefused>, AllocError>
+    requires events { arc_value snapshot.now ≡ A.events }
+    requires bound { bound ≡ A.bound }
+    ensures { IfOk result (AreAllTasks A.events A.bound) }
+{
+    (0..snapshot.tasks())
+        .into_par_iter()
+        .with_min_len(LEAST_PIECE)
+        .map_init(
+            || -> Option<Piece<A>>
+                requires { (arc_value snapshot.now ≡ A.events) × (bound ≡ A.bound) }
+            { Piece::new(alloc, snapshot, bound) },
+            |piece: &mut Option<Piece<A>>, task: u32| -> Result<Vec<Row>, OfflineRefused>
+                ensures { IsTask A.events A.bound task result }
+            { rows_by(piece, hold, task) },
+        )
+        .collect(rt, alloc)
+}
+
+/// The rows of all tasks of a question with this bound about the snapshot's events, in the order of the tasks. Each task
+/// calls the hold once its rows are there.
+pub(crate) fn tasks_of<R: Threads + Sync, H: Hold + Sync>(
+    rt: &R,
+    alloc: Global,
+    snapshot: &Arc<Snapshot, Global>,
+    bound: Bound,
+    hold: &H,
+) -> Result<Vec<Vec<Row>>, OfflineRefused>
+    ensures { AreAllTasks (arc_value snapshot.now) bound result }
+{
+    match compute_all::<Brand, R, H>(rt, alloc, snapshot, bound, hold) {
+        Ok(computed) => computed,
+        Err(_) => Err(OfflineRefused::NoMemory),
+    }
+}

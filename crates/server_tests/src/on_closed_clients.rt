@@ -1,0 +1,56 @@
+//! A client that closes its socket before its reply comes.
+
+use crate::on_server::{Peers, asked, serves};
+use server::Unheld;
+use std::alloc::Global;
+use std::hash::RandomState;
+use std::io::{self, Write};
+use std::net::{Net, SocketAddr, TcpStream};
+use std::test::*;
+
+/// `0w7`
+const WRITE: [u8; 11] = [0, 9, 6, 0, 0, 0, 0, 0, 0, 0, 7];
+
+/// How many writes the other client offers at most.
+const MOST: u32 = 10_000;
+
+/// A client offers a write and closes without reading. Another offers writes, until one is placed above its own count
+/// of earlier ones: the first client's write was accepted. It answers whether that came.
+pub(crate) fn one_closes_early<R: Net<Stream = TcpStream>>(
+    rt: &R,
+    alloc: Global,
+    address: SocketAddr,
+) -> io::Result<bool> {
+    write_and_close(rt, address)?;
+    let stream = TcpStream::connect(rt, address)?;
+    for earlier in 0..MOST {
+        if placed(&asked(alloc, &stream, &WRITE)?)? > earlier {
+            return Ok(true);
+        }
+    }
+    Ok(false)
+}
+
+fn write_and_close<R: Net<Stream = TcpStream>>(rt: &R, address: SocketAddr) -> io::Result<()> {
+    let stream = TcpStream::connect(rt, address)?;
+    (&mut &stream).write_all(&WRITE)
+}
+
+/// The place in the body of a reply that gives one.
+fn placed(body: &[u8]) -> io::Result<u32> {
+    match body {
+        [65, a, b, c, d] => Ok(u32::from_be_bytes([*a, *b, *c, *d])),
+        _ => Err(io::Error::from(io::ErrorKind::InvalidData)),
+    }
+}
+
+#[test]
+fn a_client_that_closes_without_reading(rt: HostRuntime) -> Result<(), Fail> {
+    serves(
+        rt,
+        rt.alloc(),
+        RandomState::new(&rt)?,
+        &Unheld,
+        Peers::OneClosesEarly,
+    )
+}

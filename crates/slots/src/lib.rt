@@ -1,0 +1,51 @@
+//! Tables by number, in which a number is looked for first where the last one was found: there it is not hashed.
+#![tactic(auto)]
+
+ghost use Rattle.std.specs.Prelude.{◌≡◌, ℕ, Some, IsSome, cond, nat_eq};
+ghost use Rattle.std.specs.HashMap.{get};
+ghost use Rattle.slots.specs.Slots.{HasSlot};
+
+use indexmap::IndexMap;
+use std::collections::hash_map::RandomState;
+
+/// A table by number.
+pub type NumberTable<V> = IndexMap<u32, V, RandomState>;
+
+/// The index of a number in the table, if it is there. It takes no memory, and neither do the others.
+pub fn slot_of<V>(table: &NumberTable<V>, near: usize, number: u32) -> Option<usize>
+    ensures { HasSlot nat_eq table.now number result }
+{
+    if let Some((known, _)) = table.get_index(near)
+        && *known == number
+    {
+        return Some(near);
+    }
+    table.get_index_of(&number)
+}
+
+/// What the table has for a number.
+pub fn value_of<V: Copy>(table: &NumberTable<V>, near: usize, number: u32) -> Option<V>
+    ensures { result ≡ get nat_eq table.now number }
+{
+    match slot_of(table, near, number) {
+        Some(slot) => match table.get_index(slot) {
+            Some((_, value)) => Some(*value),
+            None => None,
+        },
+        None => None,
+    }
+}
+
+/// Writes what the table has for a number, which must be there.
+pub fn write_value<V: Copy>(table: &mut NumberTable<V>, near: usize, number: u32, value: V)
+    requires { IsSome (get nat_eq table.old number) }
+    ensures { (q : ℕ) → get nat_eq table.new q ≡ cond (nat_eq number q) (Some value) (get nat_eq table.old q) }
+{
+    match slot_of(table, near, number) {
+        Some(slot) => match table.get_index_mut(slot) {
+            Some(known) => *known = value,
+            None => {}
+        },
+        None => {}
+    }
+}

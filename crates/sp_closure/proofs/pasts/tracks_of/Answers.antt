@@ -1,0 +1,20 @@
+use Rattle.std.proofs.Common.{inl, inr, [], ◌∷◌, length, slice_get, sym, ap, subst, ◌∙◌, arith}
+use Rattle.std.proofs.lemmas.List.{length-append}
+use Rattle.trace_model.proofs.Lists.{get-push}
+use Rattle.sp_closure.specs.Slots.{class_of}
+use Rattle.sp_closure.specs.Pasts.{IsTrack}
+use Rattle.sp_closure.proofs.pasts.tracks_of.Goals as goal
+
+pub loop-number-preserved : goal.loop-number-preserved
+loop-number-preserved c =
+    let s = c.args.index.now.events in
+    let was = c.loop-number.invariant in
+    let fresh = c.in_ok-track.track in
+    let slots = class_of c.args.threads.now.of.items in
+    record {
+      count = omega (arith, ap length c.in_ok-push.ensures.items, length-append c.loop-number.tracks.items (fresh ∷ []), was.count);
+      each = λ m track at. elim (get-push c.loop-number.tracks.items fresh m track (ap (λ xs. slice_get xs m) (sym c.in_ok-push.ensures.items) ∙ at)) [
+        | inl old ↦ was.each m track old
+        | inr new ↦ subst (λ z. IsTrack s slots z track) (sym (new.0 ∙ was.count)) (subst (IsTrack s slots c.loop-number.number) new.1 c.in_ok-track.ensures)
+      ];
+    }
