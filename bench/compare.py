@@ -1,14 +1,15 @@
 #!/usr/bin/env python3
-"""Compares the offline report on small random traces with a plain program.
+"""Compares the offline report on small random traces, and the refusals of random events, with a plain program.
 
   compare.py PROGRAM [TRACES] [EVENTS] [FIRST]
 
 The plain program lists the cycles by trying all tuples of dependencies, makes a closure by repeating its rules until
-nothing is added, and tries the instances of a cycle one after another in lexicographic order. It is slow, and shares
-nothing with the program but the text of the report.
+nothing is added, tries the instances of a cycle one after another in lexicographic order, and tells whether an event is
+lawful by looking through all events before it. It is slow, and shares nothing with the program but what is printed.
 """
 import itertools
 import os
+import random
 import re
 import subprocess
 import sys
@@ -128,12 +129,63 @@ def report(events, bound):
     return "\n".join([head] + lines) + "\n", len(found), confirmed
 
 
+MOST_HELD = 16
+
+
+def holds(events, thread, lock):
+    kinds = [kind for other, kind, target in events if other == thread and kind in "ar" and target == lock]
+    return kinds[-1:] == ["a"]
+
+
+def refusal(events, event, limit):
+    """What is printed where the event is not lawful after these, in the order of the tests; none where it is."""
+    thread, kind, target = event
+    stands = lambda kind, target: any(other[1:] == (kind, target) for other in events)
+    held = [lock for lock in {other[2] for other in events if other[1] == "a"} if holds(events, thread, lock)]
+    tests = [
+        ("1 Full", len(events) >= limit),
+        ("2 Unforked", thread != 0 and not stands("f", thread)),
+        ("3 Ended", stands("j", thread)),
+        ("4 AlreadyForked", kind == "f" and (target == 0 or stands("f", target))),
+        ("6 JoinsItself", kind == "j" and target == thread),
+        ("7 JoinUnknown", kind == "j" and (target == 0 or not stands("f", target))),
+        ("8 JoinedTwice", kind == "j" and stands("j", target)),
+        ("9 HeldByItself", kind == "a" and target in held),
+        ("10 HeldByOther", kind == "a" and any(holds(events, other[0], target) for other in events)),
+        ("11 TooDeep", kind == "a" and len(held) >= MOST_HELD),
+        ("12 NotHeld", kind == "r" and target not in held),
+    ]
+    return next((words for words, applies in tests if applies), None)
+
+
+def compare_refusals(program, path, seed, events):
+    """Runs random events, lawful or not, as a script."""
+    numbers = random.Random(seed)
+    limit = events // 2
+    few = numbers.choice([3, 20])
+    offered = [
+        (numbers.randrange(4), numbers.choice("fjaaaaarrrdw"), numbers.randrange(few)) for _ in range(events)
+    ]
+    accepted, wanted = [], []
+    for event in offered:
+        refused = refusal(accepted, event, limit)
+        wanted.append(f"refused {refused}" if refused else f"placed {len(accepted)}")
+        accepted += [] if refused else [event]
+    with open(path, "w") as out:
+        out.write("".join("%d%s%d\n" % event for event in offered))
+    got = subprocess.run([program, "script", path, "--limit", str(limit)], capture_output=True, text=True)
+    if got.returncode != 0 or got.stdout.splitlines() != wanted:
+        print(f"seed {seed}, {events} events, limit {limit}: they refuse other events")
+        sys.exit(1)
+    return sum(line.startswith("refused") for line in wanted)
+
+
 def main(arguments):
     if not arguments:
         sys.exit(__doc__)
     program = os.path.abspath(arguments[0])
     count, events, first = [int(a) for a in arguments[1:]] + [200, 60, 0][len(arguments) - 1 :]
-    total = sum_confirmed = 0
+    total = sum_confirmed = refused = 0
     with tempfile.TemporaryDirectory() as folder:
         path = os.path.join(folder, "small.trace")
         for seed in range(first, first + count):
@@ -150,7 +202,8 @@ def main(arguments):
                 sys.exit(1)
             total += found
             sum_confirmed += confirmed
-    print(f"{count} traces of {events} events agree: {total} cycles, {sum_confirmed} confirmed")
+            refused += compare_refusals(program, path, seed, 2 * events)
+    print(f"{count} traces of {events} events agree: {total} cycles, {sum_confirmed} confirmed; {refused} refusals agree")
 
 
 if __name__ == "__main__":

@@ -15,10 +15,11 @@
 #include <sys/syscall.h>
 #include <unistd.h>
 
-/* The file that REFUSE_TABLE names: five numbers, of which the script may change the first two while the program runs. */
+/* The file that REFUSE_TABLE names: six numbers, of which the script may change the first two while the program runs. */
 struct table {
     _Atomic uint64_t first;   /* the first allocation that is refused, from 1 */
-    _Atomic uint64_t last;    /* the last one */
+    _Atomic uint64_t last;    /* none is refused after this one */
+    _Atomic uint64_t every;   /* of these one in so many is refused */
     _Atomic uint64_t begun;   /* whether allocations are counted */
     _Atomic uint64_t counted; /* how many were made */
     _Atomic uint64_t refused; /* how many of them were refused */
@@ -73,7 +74,7 @@ static int refuses(const void *caller)
     if (!table || !table->begun || (uintptr_t)caller < program_start || (uintptr_t)caller >= program_end)
         return 0;
     number = ++table->counted;
-    if (number < table->first || number > table->last)
+    if (number < table->first || number > table->last || (number - table->first) % table->every)
         return 0;
     table->refused++;
     errno = ENOMEM;
