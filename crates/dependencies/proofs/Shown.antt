@@ -1,5 +1,5 @@
 -- The dependencies and their places by number, as a table.
-use Rattle.std.proofs.Common.{◌≡◌, ◌≢◌, ◌<◌, ◌≤◌, ◌+◌, ◌==◌, nat_eq, inl, inr, ℕ, zero, suc, Bool, true, false, cond, List, [], ◌∷◌, ◌++◌, length, take, min, map, get_or, slice_get, position, Option, Some, None, is_some, subst, refl, sym, ap, ◌∙◌, arith}
+use Rattle.std.proofs.Common.{◌≡◌, ◌≢◌, ◌<◌, ◌≤◌, ◌+◌, ◌==◌, nat_eq, inl, inr, ℕ, zero, suc, Bool, true, false, cond, List, [], ◌∷◌, ◌++◌, length, take, map, get_or, slice_get, position, Option, Some, None, is_some, subst, refl, sym, ap, ◌∙◌, arith}
 use Rattle.std.proofs.lemmas.Bool.{true≢false, cases_lt, cases_eq, eq-eqb, ne_eqb}
 use Rattle.std.proofs.lemmas.Map.Made.{is_some-lookup}
 use Rattle.indexmap.proofs.MapLemmas.{some_index, absent_before, distinct-take}
@@ -8,7 +8,7 @@ use Rattle.std.proofs.lemmas.List.Quantifiers.{position-Some}
 use Rattle.std.specs.List.{list_any, filter, Contains, IsDistinct}
 use Rattle.std.specs.Cmp.{IsEquivalence}
 use Rattle.std.specs.Map.{keys_of, lookup}
-use Rattle.indexmap.specs.IndexMap.{IndexMap, insert_entry, IsUnique}
+use Rattle.indexmap.specs.IndexMap.{IndexMap, insert_entry}
 use Rattle.indexmap.proofs.CallerLemmas.{insert_entry-new}
 use Rattle.numbered.specs.Notes.{places_in, Ascend}
 use Rattle.trace_model.specs.Dependencies.{Dependency, same_dependency}
@@ -35,6 +35,19 @@ absent_lookup {V} d es h = none_is _ (sym (some_index (same_dependency d) es) �
 
 pub absent : {V : Type 0} → (d : Dependency) (es : List (Dependency × V)) → position (same_dependency d) (keys_of es) ≡ None → list_any (same_dependency d) (keys_of es) ≡ false
 absent {V} d es h = sym (is_some-lookup (same_dependency d) es) ∙ ap is_some (absent_lookup d es h)
+
+abbrev numbered_all : List Dependency → List (Dependency × ℕ)
+numbered_all [] = []
+numbered_all (d ∷ ds) = (d, zero) ∷ numbered_all ds
+
+keys_numbered : (ds : List Dependency) → keys_of (numbered_all ds) ≡ ds
+keys_numbered [] = refl
+keys_numbered (d ∷ ds) = ap (λ ks. d ∷ ks) (keys_numbered ds)
+
+pub unlisted : (d : Dependency) (ds : List Dependency) → position (same_dependency d) ds ≡ None → list_any (same_dependency d) ds ≡ false
+unlisted d ds h =
+    subst (λ (ks : List Dependency). list_any (same_dependency d) ks ≡ false) (keys_numbered ds)
+    (absent d (numbered_all ds) (ap (position (same_dependency d)) (keys_numbered ds) ∙ h))
 
 keys_push : {V : Type 0} → (es : List (Dependency × V)) (d : Dependency) (v : V) → keys_of (es ++ (d, v) ∷ []) ≡ keys_of es ++ d ∷ []
 keys_push {V} [] d v = refl
@@ -139,15 +152,6 @@ new_noted ds ds' notes notes' p d n none gone at is keys =
     (subst (λ i. HaveOneMore (rows_from 0 ds notes) p d i (rows_from 0 ds notes ++ (d, p ∷ []) ∷ [])) (len ∙ sym at)
     (noted_new (rows_from 0 ds notes) p d (ap (list_any (same_dependency d)) (known_from 0 ds notes) ∙ gone)))
 
-pub keys_len : {V : Type 0} → (es : List (Dependency × V)) → length (keys_of es) ≡ length es
-keys_len {V} [] = refl
-keys_len {V} (e ∷ es) = ap suc (keys_len es)
-
-pub key_at : {V : Type 0} → (es : List (Dependency × V)) (n : ℕ) (d : Dependency) (v : V) → Some (d, v) ≡ slice_get es n → slice_get (keys_of es) n ≡ Some d
-key_at {V} [] n d v h = absurd (none-some (d, v) (sym h))
-key_at {V} (e ∷ es) zero d v h = ap (λ x. Some x.0) (sym (same_Some (d, v) e h))
-key_at {V} (e ∷ es) (suc n) d v h = key_at es n d v h
-
 pub same_kept : (ds ds' : List Dependency) (notes notes' : List (ℕ × ℕ)) (k k' : ℕ) → ds' ≡ ds → notes' ≡ notes → k' ≡ k → IsKeptOf ds notes k → IsKeptOf ds' notes' k'
 same_kept ds ds' notes notes' k k' a b c h =
     subst (λ x. IsKeptOf x notes' k') (sym a) (subst (λ x. IsKeptOf ds x k') (sym b) (subst (IsKeptOf ds notes) (sym c) h))
@@ -239,32 +243,20 @@ kept_new ds ds' notes notes' p d n k k' kept below at is keys after =
       ascend = ascend_push ds notes notes' n p kept.beyond kept.ascend below is;
     }
 
--- ---- the first entries of a map
-
-keys_take : {V : Type 0} → (n : ℕ) (es : List (Dependency × V)) → keys_of (take n es) ≡ take n (keys_of es)
-keys_take {V} zero es = refl
-keys_take {V} (suc n) [] = refl
-keys_take {V} (suc n) (e ∷ es) = ap (λ ks. e.0 ∷ ks) (keys_take n es)
+-- ---- the first ones, and the next
 
 pub take_next : {X : Type 0} → (n : ℕ) (xs : List X) (x : X) → slice_get xs n ≡ Some x → take (suc n) xs ≡ take n xs ++ x ∷ []
 take_next {X} n [] x h = absurd (none-some x h)
 take_next {X} zero (y ∷ xs) x h = ap (λ z. z ∷ []) (same_Some y x h)
 take_next {X} (suc n) (y ∷ xs) x h = ap (λ zs. y ∷ zs) (take_next n xs x h)
 
-take_past : {X : Type 0} → (n : ℕ) (xs : List X) → length xs ≤ n → take n xs ≡ xs
+pub take_past : {X : Type 0} → (n : ℕ) (xs : List X) → length xs ≤ n → take n xs ≡ xs
 take_past {X} zero [] l = refl
 take_past {X} zero (x ∷ xs) l = absurd (omega arith)
 take_past {X} (suc n) [] l = refl
 take_past {X} (suc n) (x ∷ xs) l = ap (λ ys. x ∷ ys) (take_past n xs (omega arith))
 
--- the first entries, as many as there are
-pub first_keys : {V : Type 0} → (n k : ℕ) (es first : List (Dependency × V)) → k ≡ min n (length es) → first ≡ take k es → keys_of first ≡ take n (keys_of es)
-first_keys {V} n k es first least is = elim (cases_lt n (length es)) [
-  | inl l ↦ let same : k ≡ n = omega arith in ap keys_of is ∙ keys_take k es ∙ ap (λ i. take i (keys_of es)) same
-  | inr l ↦ let len = keys_len es in ap keys_of is ∙ keys_take k es ∙ take_past k (keys_of es) (omega arith) ∙ sym (take_past n (keys_of es) (omega arith))
-]
-
-dependencies_are : IsEquivalence same_dependency
+pub dependencies_are : IsEquivalence same_dependency
 dependencies_are = record {
   refl = same_dependency_itself;
   symm = λ a b. same_bool (same_dependency a b) (same_dependency b a) (λ h. turned a b h) (λ h. turned b a h);
@@ -274,14 +266,13 @@ dependencies_are = record {
     turned : (a b : Dependency) → same_dependency a b ≡ true → same_dependency b a ≡ true
     turned a b h = subst (λ x. same_dependency x a ≡ true) (same_dependency_so a b h) (same_dependency_itself a)
 
--- the next entry of a map is new to those before it
-pub next_entry : {V S T : Type 0} → (m : IndexMap Dependency V S) (first : IndexMap Dependency V T) (after : List (Dependency × V)) (n : ℕ) (d : Dependency) (v : V) →
-    IsUnique same_dependency m → first.entries ≡ take n m.entries → slice_get m.entries n ≡ Some (d, v) → after ≡ insert_entry same_dependency first.entries d v →
-    after ≡ take (suc n) m.entries
-next_entry {V} {S} {T} m first after n d v unique so_far at is =
-    let next = take_next n m.entries (d, v) at in
-    let apart : IsDistinct same_dependency (keys_of (take n m.entries ++ (d, v) ∷ [])) =
-    subst (IsDistinct same_dependency) (sym (keys_take (suc n) m.entries) ∙ ap keys_of next) (distinct-take dependencies_are (suc n) (keys_of m.entries) unique) in
-    let new : lookup (same_dependency d) first.entries ≡ None =
-    ap (lookup (same_dependency d)) so_far ∙ absent_before dependencies_are (take n m.entries) [] (d, v) apart in
-    is ∙ insert_entry-new same_dependency first d v new ∙ ap (λ es. es ++ (d, v) ∷ []) so_far ∙ sym next
+-- what stands next in a list where each stands once is new to a map of those before it
+pub next_key : {V S : Type 0} → (ds : List Dependency) (m : IndexMap Dependency V S) (after : List (Dependency × V)) (n : ℕ) (d : Dependency) (v : V) →
+    IsDistinct same_dependency ds → keys_of m.entries ≡ take n ds → slice_get ds n ≡ Some d → after ≡ insert_entry same_dependency m.entries d v →
+    keys_of after ≡ take (suc n) ds
+next_key {V} {S} ds m after n d v once first at is =
+    let next = take_next n ds d at in
+    let pushed : keys_of (m.entries ++ (d, v) ∷ []) ≡ take (suc n) ds = keys_push m.entries d v ∙ ap (λ ks. ks ++ d ∷ []) first ∙ sym next in
+    let apart : IsDistinct same_dependency (keys_of (m.entries ++ (d, v) ∷ [])) =
+    subst (IsDistinct same_dependency) (sym pushed) (distinct-take dependencies_are (suc n) ds once) in
+    ap keys_of (is ∙ insert_entry-new same_dependency m d v (absent_before dependencies_are m.entries [] (d, v) apart)) ∙ pushed

@@ -1,7 +1,5 @@
 -- The dependencies of a map and their places by number, and the room for one more place.
-use Rattle.std.specs.Prelude.{◌≡◌, ℕ, suc, ◌≤◌, ◌&&◌, List, [], ◌∷◌, length, nat_lt}
-use Rattle.std.specs.Map.{keys_of}
-use Rattle.indexmap.specs.IndexMap.{spare}
+use Rattle.std.specs.Prelude.{◌≡◌, ℕ, suc, ◌≤◌, ◌&&◌, List, [], ◌∷◌, length}
 use Rattle.numbered.specs.Notes.{places_in, Ascend}
 use Rattle.trace_model.specs.Dependencies.{Dependency}
 use Rattle.dependencies.specs.declared.entries.Entries.{Entries}
@@ -13,10 +11,10 @@ rows_from k [] notes = []
 rows_from k (d ∷ ds) notes = (d, places_in notes k) ∷ rows_from (suc k) ds notes
 
 abbrev pub rows_of : Entries → Rows
-rows_of e = rows_from 0 (keys_of e.table.entries) e.places.notes
+rows_of e = rows_from 0 e.keys.keys e.places.notes
 
 abbrev pub shown_by : Entries → Table
-shown_by e = record { shown = rows_of e; room = e.places.room && nat_lt 0 (spare e.table) }
+shown_by e = record { shown = rows_of e; room = e.places.room && e.keys.room }
 
 -- there is a number for each dependency, and for none beyond; the places ascend from note to note
 pub record IsKeptOf (ds : List Dependency) (notes : List (ℕ × ℕ)) (numbers : ℕ) : Type 0 where
@@ -25,4 +23,4 @@ pub record IsKeptOf (ds : List Dependency) (notes : List (ℕ × ℕ)) (numbers 
   pub ascend : Ascend notes
 
 abbrev pub IsKept : Entries → Type 0
-IsKept e = IsKeptOf (keys_of e.table.entries) e.places.notes e.places.numbers
+IsKept e = IsKeptOf e.keys.keys e.places.notes e.places.numbers

@@ -120,7 +120,7 @@ impl DepTable {
 
     /// The table that a beginning of the trace has: the dependencies below the total, with their places below
     /// `events`. The total must be the number of dependencies with such a place. What was noted later is not
-    /// shown. It takes time for each dependency below the total, and for at most 4,096 places.
+    /// shown. It takes time for at most 4,096 dependencies and 4,096 places, and for each full segment of either.
     ///
     /// # Errors
     ///

@@ -128,8 +128,8 @@ impl LockTables {
     }
 
     /// The tables of the first events, which have so many dependencies: what came later is left out. It takes
-    /// time for each dependency that there is, for each segment of their places, and for at most 4,096 places; a
-    /// graph that lacks the last of these dependencies is copied.
+    /// time for each full segment of dependencies and of places, and for at most 4,096 of either; a graph that
+    /// lacks the last of these dependencies is copied.
     ///
     /// # Errors
     ///

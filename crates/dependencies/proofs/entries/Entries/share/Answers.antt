@@ -1,24 +1,38 @@
-use Rattle.std.proofs.Common.{sym, subst}
-use Rattle.std.specs.Map.{keys_of}
+use Rattle.std.proofs.Common.{sym, subst, arith}
 use Rattle.dependencies.specs.Entries.{IsKeptOf}
+use Rattle.dependencies.proofs.Shown.{length_from}
 use Rattle.dependencies.proofs.Parts.{part_is, part_rows, part_kept}
 use Rattle.dependencies.proofs.entries.Entries.share.Goals as goal
+
+pub share-requires-clause-within : goal.share-requires-clause-within
+share-requires-clause-within c =
+    let e = c.args.self.now in
+    let len = length_from 0 e.keys.keys e.places.notes in
+    let within = c.requires.total.within in
+    omega arith
+
+pub share-requires-clause-few : goal.share-requires-clause-few
+share-requires-clause-few c =
+    let e = c.args.self.now in
+    let len = length_from 0 e.keys.keys e.places.notes in
+    let few = c.requires.rows.few in
+    omega arith
 
 pub returns-clause-part : goal.returns-clause-part
 returns-clause-part c =
     let e = c.args.self.now in
-    part_is (keys_of e.table.entries) (keys_of c.in_ok-first_of.field-0.entries) e.places.notes c.in_ok-share.field-0.notes e.places.numbers c.args.total c.args.bound
-    c.requires.kept c.requires.rows c.requires.total c.in_ok-first_of.ensures c.in_ok-share.ensures.notes
+    part_is e.keys.keys c.in_ok-share.field-0.keys e.places.notes c.in_ok-share-2.field-0.notes e.places.numbers c.args.total c.args.bound
+    c.requires.kept c.requires.rows c.requires.total c.in_ok-share.ensures c.in_ok-share-2.ensures.notes
 
 pub returns-clause-rows : goal.returns-clause-rows
 returns-clause-rows c =
     let e = c.args.self.now in
-    part_rows (keys_of e.table.entries) (keys_of c.in_ok-first_of.field-0.entries) e.places.notes c.in_ok-share.field-0.notes e.places.numbers c.args.total c.args.bound
-    c.requires.kept c.requires.rows c.requires.total c.in_ok-first_of.ensures c.in_ok-share.ensures.notes
+    part_rows e.keys.keys c.in_ok-share.field-0.keys e.places.notes c.in_ok-share-2.field-0.notes e.places.numbers c.args.total c.args.bound
+    c.requires.kept c.requires.rows c.requires.total c.in_ok-share.ensures c.in_ok-share-2.ensures.notes
 
 pub returns-clause-kept : goal.returns-clause-kept
 returns-clause-kept c =
     let e = c.args.self.now in
-    subst (IsKeptOf (keys_of c.in_ok-first_of.field-0.entries) c.in_ok-share.field-0.notes) (sym c.in_ok-share.ensures.numbers)
-    (part_kept (keys_of e.table.entries) (keys_of c.in_ok-first_of.field-0.entries) e.places.notes c.in_ok-share.field-0.notes e.places.numbers c.args.total c.args.bound
-    c.requires.kept c.requires.rows c.requires.total c.in_ok-first_of.ensures c.in_ok-share.ensures.notes)
+    subst (IsKeptOf c.in_ok-share.field-0.keys c.in_ok-share-2.field-0.notes) (sym c.in_ok-share-2.ensures.numbers)
+    (part_kept e.keys.keys c.in_ok-share.field-0.keys e.places.notes c.in_ok-share-2.field-0.notes e.places.numbers c.args.total c.args.bound
+    c.requires.kept c.requires.rows c.requires.total c.in_ok-share.ensures c.in_ok-share-2.ensures.notes)

@@ -1,0 +1,24 @@
+use Rattle.std.proofs.Common.{◌≡◌, ◌+◌, ◌++◌, ◌∷◌, [], suc, length, take, slice_get, Some, refl, sym, ap, subst, ◌∙◌, arith}
+use Rattle.std.specs.List.{IsDistinct}
+use Rattle.std.specs.Map.{keys_of}
+use Rattle.indexmap.proofs.MapLemmas.{distinct-take}
+use Rattle.trace_model.specs.Dependencies.{same_dependency}
+use Rattle.dependencies.proofs.Shown.{take_next, dependencies_are}
+use Rattle.dependencies.proofs.keys.Keys.share.Goals as goal
+
+pub loop-number-preserved : goal.loop-number-preserved
+loop-number-preserved c =
+    let next : suc c.loop-number.number ≡ c.loop-number.number + 1 = omega arith in
+    let at : slice_get c.args.self.now.keys c.loop-number.number ≡ Some c.copied.result = c.get.ensures ∙ ap Some (sym c.copied.ensures) in
+    c.put.ensures ∙ ap (λ ks. ks ++ c.copied.result ∷ []) (c.in_ok-reserve.ensures.shown ∙ c.loop-number.invariant)
+    ∙ sym (take_next c.loop-number.number c.args.self.now.keys c.copied.result at) ∙ ap (λ n. take n c.args.self.now.keys) next
+
+pub invariant_of-result : goal.invariant_of-result
+invariant_of-result c =
+    let keys = ap (λ l. l.keys) c.self.view_is in
+    let none : keys_of c.with_hasher.result.entries ≡ [] = ap keys_of c.with_hasher.ensures.empty in
+    record {
+      once = subst (IsDistinct same_dependency) (sym (c.loop-number.invariant ∙ ap (take c.loop-number.number) (sym keys)))
+          (distinct-take dependencies_are c.loop-number.number c.self.inside.list.0 c.self.invariant.once);
+      first = subst (λ ks. ks ≡ take (length ks) c.loop-number.list.0) (sym none) refl;
+    }
