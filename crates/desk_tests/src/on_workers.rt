@@ -59,6 +59,15 @@ impl Hold for Meeting {
     }
 }
 
+impl Meeting {
+    /// Whether each task was called for once, and neither was given up.
+    fn was_held(&self) -> bool {
+        self.first.load(Ordering::SeqCst) == 1
+            && self.second.load(Ordering::SeqCst) == 1
+            && self.gave_up.load(Ordering::SeqCst) == 0
+    }
+}
+
 #[test]
 fn two_workers_meet(rt: HostRuntime) -> Result<(), Fail> {
     two_workers::<Brand, _>(rt, rt.alloc(), RandomState::new(&rt)?, Opened::new(), MOST)
@@ -76,28 +85,58 @@ fn two_workers<N: Naming + Send + Sync, R: Threads + Wait + Abort + Copy + Send 
 {
     let (desk, mut readers) = Desk::<N, R, Shown<N>>::new(alloc, state, rt, opened, limit, 4)?;
     let desk = Arc::new(alloc, desk)?;
-    let mut claims = claimants(alloc, 3)?;
     ask_about_opposite_sections(&rt, &desk, &mut readers)?;
-    let late = worker(&desk, &mut claims, &mut readers).ok_or("a worker")?;
-    let mut workers = Vec::new(alloc);
-    for _ in 0..2 {
-        let worker = worker(&desk, &mut claims, &mut readers);
-        workers.push(worker.ok_or("a worker")?)?;
-    }
     let meeting = Meeting::new();
-    let turns = thread::map_vec(&rt, workers, &|worker| turn_of(worker, &meeting))?;
-    for turn in &turns {
-        assert_eq!(rt; *turn, Turn::Delivered);
-    }
-    assert_eq!(rt; turn_of(late, &meeting), Turn::Idle);
-    assert_eq!(rt; meeting.first.load(Ordering::SeqCst), 1);
-    assert_eq!(rt; meeting.second.load(Ordering::SeqCst), 1);
-    assert_eq!(rt; meeting.gave_up.load(Ordering::SeqCst), 0);
+    let workers = workers_at(alloc, &desk, &mut readers, 2)?;
+    all_deliver(&rt, workers, &meeting)?;
+    let late = workers_at(alloc, &desk, &mut readers, 1)?;
+    all_are_idle(&rt, late, &meeting);
+    assert!(rt; meeting.was_held());
     assert!(rt; is_report(desk.answer(0).0, REPORT));
     Ok(())
 }
 
-pub(crate) fn turn_of<N: Naming, R: Wait + Copy>(
+/// So many workers at the desk.
+pub(crate) fn workers_at<N: Naming, R: Wait + Copy>(
+    alloc: Global,
+    desk: &Arc<Desk<N, R, Shown<N>>>,
+    readers: &mut Vec<BoardReader<N>>,
+    count: usize,
+) -> Result<Vec<Worker<N, R, Shown<N>>>, Fail> {
+    let mut claims = claimants(alloc, count)?;
+    let mut workers = Vec::new(alloc);
+    for _ in 0..count {
+        let worker = worker(desk, &mut claims, readers).ok_or("a worker")?;
+        workers.push(worker)?;
+    }
+    Ok(workers)
+}
+
+/// All of them deliver a task, each on a thread of its own.
+pub(crate) fn all_deliver<N: Naming + Send + Sync, R: Threads + Wait + Abort + Copy + Send + Sync>(
+    rt: &R,
+    workers: Vec<Worker<N, R, Shown<N>>>,
+    hold: &(impl Hold + Sync),
+) -> Result<(), Fail> {
+    let turns = thread::map_vec(rt, workers, &|worker| turn_of(worker, hold))?;
+    for turn in &turns {
+        assert_eq!(rt; *turn, Turn::Delivered);
+    }
+    Ok(())
+}
+
+/// Each of them finds nothing to do.
+fn all_are_idle<N: Naming, R: Wait + Abort + Copy>(
+    rt: &R,
+    workers: Vec<Worker<N, R, Shown<N>>>,
+    hold: &impl Hold,
+) {
+    for worker in workers {
+        assert_eq!(rt; turn_of(worker, hold), Turn::Idle);
+    }
+}
+
+fn turn_of<N: Naming, R: Wait + Copy>(
     mut worker: Worker<N, R, Shown<N>>,
     hold: &impl Hold,
 ) -> Turn {
@@ -105,7 +144,7 @@ pub(crate) fn turn_of<N: Naming, R: Wait + Copy>(
 }
 
 /// The next worker, where there is memory for it.
-pub(crate) fn worker<N: Naming, R: Wait + Copy>(
+fn worker<N: Naming, R: Wait + Copy>(
     desk: &Arc<Desk<N, R, Shown<N>>>,
     claims: &mut Vec<Claimant>,
     readers: &mut Vec<BoardReader<N>>,
@@ -154,16 +193,27 @@ fn left_tasks<N: Naming, R: Wait + Abort + Copy>(
 {
     let (desk, mut readers) = Desk::<N, R, Shown<N>>::new(alloc, state, rt, opened, limit, 2)?;
     let desk = Arc::new(alloc, desk)?;
+    ask_about_opposite_sections(&rt, &desk, &mut readers)?;
+    works_alone(&rt, alloc, &desk, &mut readers)?;
+    assert!(rt; is_report(desk.answer(0).0, REPORT));
+    Ok(())
+}
+
+/// A worker delivers both tasks, which another one has drawn.
+fn works_alone<N: Naming, R: Wait + Abort + Copy>(
+    rt: &R,
+    alloc: Global,
+    desk: &Arc<Desk<N, R, Shown<N>>>,
+    readers: &mut Vec<BoardReader<N>>,
+) -> Result<(), Fail> {
     let mut claims = claimants(alloc, 2)?;
     let mut gone = claims.pop().ok_or("a claimant")?;
     for task in 0..2u64 {
         assert_eq!(rt; gone.draw(0).ok(), Some(task));
     }
-    ask_about_opposite_sections(&rt, &desk, &mut readers)?;
-    let mut worker = worker(&desk, &mut claims, &mut readers).ok_or("a worker")?;
+    let mut worker = worker(desk, &mut claims, readers).ok_or("a worker")?;
     for turn in [Turn::Delivered, Turn::Delivered, Turn::Idle] {
         assert_eq!(rt; worker.turn(&Free), turn);
     }
-    assert!(rt; is_report(desk.answer(0).0, REPORT));
     Ok(())
 }

@@ -3,10 +3,9 @@
 ghost use Rattle.std.specs.Prelude.{◌≡◌};
 
 use crate::on_desk::{MOST, accepted, event, is_report};
-use crate::on_workers::{YIELDS, turn_of, worker};
+use crate::on_workers::{YIELDS, all_deliver, workers_at};
 use board::{BoardReader, Naming, Opened, Shown};
-use claims::claimants;
-use desk::{Desk, Turn};
+use desk::Desk;
 use findings::Hold;
 use std::alloc::Global;
 use std::hash::RandomState;
@@ -69,6 +68,14 @@ impl<N: Naming, R: Wait + Copy> Order<N, R> {
             && self.called[2].load(Ordering::SeqCst) > 0
     }
 
+    /// Whether each task was called for once, and none was given up.
+    fn was_kept(&self) -> bool {
+        self.called[0].load(Ordering::SeqCst) == 1
+            && self.called[1].load(Ordering::SeqCst) == 1
+            && self.called[2].load(Ordering::SeqCst) == 1
+            && self.gave_up.load(Ordering::SeqCst) == 0
+    }
+
     /// How many tasks of the question the board shows as delivered.
     fn delivered(&self, question: u32) -> u32 {
         let Ok(summary) = self.reader.lock(&self.rt).status() else {
@@ -119,20 +126,9 @@ fn three_workers<N: Naming + Send + Sync, R: Threads + Wait + Abort + Copy + Sen
     accepted(&rt, &desk, &mut reader, &ring_of_three());
     assert!(rt; desk.ask(3).0.is_ok());
     let order = Order::new(rt, reader);
-    let mut claims = claimants(alloc, 3)?;
-    let mut workers = Vec::new(alloc);
-    for _ in 0..3 {
-        let worker = worker(&desk, &mut claims, &mut readers);
-        workers.push(worker.ok_or("a worker")?)?;
-    }
-    let turns = thread::map_vec(&rt, workers, &|worker| turn_of(worker, &order))?;
-    for turn in &turns {
-        assert_eq!(rt; *turn, Turn::Delivered);
-    }
-    for called in &order.called {
-        assert_eq!(rt; called.load(Ordering::SeqCst), 1);
-    }
-    assert_eq!(rt; order.gave_up.load(Ordering::SeqCst), 0);
+    let workers = workers_at(alloc, &desk, &mut readers, 3)?;
+    all_deliver(&rt, workers, &order)?;
+    assert!(rt; order.was_kept());
     assert!(rt; is_report(desk.answer(0).0, REPORT));
     Ok(())
 }

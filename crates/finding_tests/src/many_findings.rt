@@ -112,12 +112,8 @@ impl Stranger {
     }
 }
 
-/// Two forks and these events, as a book of its own shares them.
-fn shared(
-    rt: &(impl RandomSource + AllocGlobal),
-    events: &[Event],
-) -> Option<Arc<Snapshot, Global>> {
-    let mut book = Book::new(rt.alloc(), RandomState::new(rt).ok()?, MOST).ok()?;
+/// The book has two forks and these events, and a question about them.
+fn ask_about(book: &mut Book, events: &[Event]) -> Option<()> {
     for event in &two_forks() {
         book.offer(*event).ok()?;
     }
@@ -125,6 +121,17 @@ fn shared(
         book.offer(*event).ok()?;
     }
     book.ask(2).ok()?;
+    Some(())
+}
+
+/// Two forks and these events, as a book of its own shares them.
+fn shared(
+    rt: &(impl RandomSource + AllocGlobal),
+    events: &[Event],
+) -> Option<Arc<Snapshot, Global>> {
+    let state = RandomState::new(rt).ok()?;
+    let mut book = Book::new(rt.alloc(), state, MOST).ok()?;
+    ask_about(&mut book, events)?;
     book.snapshot(0).ok()
 }
 
@@ -218,7 +225,40 @@ fn from_anyone<R: RandomSource + AllocGlobal + Wait + Abort + Copy>(
     takes_findings::<Brand, _>(rt, rt.alloc(), state, Opened::new(), MOST, &stranger, way)
 }
 
-/// Delivers task 1 and what is refused, and then task 0, and reads the board after each.
+/// Findings, what becomes of each, and what the board then has of question 0.
+type Wanted = (&'static [About], &'static [Option<Refusal>], Counts);
+
+/// Task 1 and what is refused beside it; nothing; task 0; and what is refused in the end.
+const LISTS: [Wanted; 4] = [
+    (
+        &[
+            SECOND,
+            SECOND,
+            PAST_THE_LAST,
+            OTHER_BOUND,
+            OTHER_TRACE,
+            OTHER_QUESTION,
+        ],
+        &[
+            None,
+            Some(Refusal::Double),
+            Some(Refusal::NoSuchTask),
+            Some(Refusal::OtherBound),
+            Some(Refusal::OtherTrace),
+            Some(Refusal::NoSuchQuestion),
+        ],
+        (1, 0, 0),
+    ),
+    (&[], &[], (1, 0, 0)),
+    (&[FIRST], &[None], (2, 1, 1)),
+    (
+        &[OTHER_BOUND, FIRST],
+        &[Some(Refusal::OtherBound), Some(Refusal::Double)],
+        (2, 1, 1),
+    ),
+];
+
+/// Delivers each list in turn, and reads the board after it.
 fn takes_findings<N: Naming, R: Wait + Abort + Copy>(
     rt: R,
     alloc: Global,
@@ -233,40 +273,26 @@ fn takes_findings<N: Naming, R: Wait + Abort + Copy>(
 {
     let (desk, mut reader) = one_reader::<N, R>(rt, alloc, state, opened, limit)?;
     asked(&rt, &desk, &mut reader);
-    let early = [
-        SECOND,
-        SECOND,
-        PAST_THE_LAST,
-        OTHER_BOUND,
-        OTHER_TRACE,
-        OTHER_QUESTION,
-    ];
-    let refusals = [
-        None,
-        Some(Refusal::Double),
-        Some(Refusal::NoSuchTask),
-        Some(Refusal::OtherBound),
-        Some(Refusal::OtherTrace),
-        Some(Refusal::NoSuchQuestion),
-    ];
-    let lists: [(&[About], &[Option<Refusal>], (u32, u64, u64)); 4] = [
-        (&early, &refusals, (1, 0, 0)),
-        (&[], &[], (1, 0, 0)),
-        (&[FIRST], &[None], (2, 1, 1)),
-        (
-            &[OTHER_BOUND, FIRST],
-            &[Some(Refusal::OtherBound), Some(Refusal::Double)],
-            (2, 1, 1),
-        ),
-    ];
-    for (list, wanted, counts) in lists {
-        let findings = stranger.findings(list).ok_or("findings")?;
-        let (outcomes, receipts) = delivered(alloc, &desk, findings, way)?;
-        assert_eq!(rt; outcomes.as_slice(), wanted);
-        learn_all(&mut reader, &receipts);
-        reads(&rt, &mut reader, counts)?;
+    for wanted in LISTS {
+        takes_list(&rt, &desk, &mut reader, stranger, way, wanted)?;
     }
     Ok(())
+}
+
+fn takes_list<N: Naming, R: Wait + Abort + Copy>(
+    rt: &R,
+    desk: &Desk<N, R, Shown<N>>,
+    reader: &mut BoardReader<N>,
+    stranger: &Stranger,
+    way: Way,
+    wanted: Wanted,
+) -> Result<(), Fail> {
+    let (list, refusals, counts) = wanted;
+    let findings = stranger.findings(list).ok_or("findings")?;
+    let (outcomes, receipts) = delivered(stranger.alloc, desk, findings, way)?;
+    assert_eq!(rt; outcomes.as_slice(), refusals);
+    learn_all(reader, &receipts);
+    reads(rt, reader, counts)
 }
 
 fn learn_all<N: Naming>(reader: &mut BoardReader<N>, receipts: &[Receipt<N>]) {
@@ -275,11 +301,14 @@ fn learn_all<N: Naming>(reader: &mut BoardReader<N>, receipts: &[Receipt<N>]) {
     }
 }
 
-/// Question 0 has so many delivered tasks, cycles and confirmed ones.
+/// How many tasks are delivered, and how many cycles and confirmed ones they have.
+type Counts = (u32, u64, u64);
+
+/// Question 0 has so many of each.
 fn reads<N: Naming, R: Abort>(
     rt: &R,
     reader: &mut BoardReader<N>,
-    counts: (u32, u64, u64),
+    counts: Counts,
 ) -> Result<(), Fail> {
     let Ok(summary) = reader.status() else {
         return Err(Fail::from("busy"));
@@ -311,15 +340,20 @@ fn from_eight_threads<R: RandomSource + AllocGlobal + Threads + Wait + Abort + C
     rt: R,
     way: Way,
 ) -> Result<(), Fail> {
-    let alloc = rt.alloc();
     let stranger = Stranger::new(&rt).ok_or("a stranger")?;
-    let mut lists = Vec::new(alloc);
-    for _ in 0..THREADS {
-        let list = stranger.findings(&[FIRST, SECOND, OTHER_BOUND, OTHER_TRACE]);
-        lists.push(list.ok_or("findings")?)?;
-    }
+    let lists = lists_of_four(&stranger).ok_or("findings")?;
     let state = RandomState::new(&rt)?;
-    takes_lists::<Brand, _>(rt, alloc, state, Opened::new(), MOST, lists, way)
+    takes_lists::<Brand, _>(rt, rt.alloc(), state, Opened::new(), MOST, lists, way)
+}
+
+/// For each thread the findings that it delivers.
+fn lists_of_four(stranger: &Stranger) -> Option<Vec<Vec<Finding>>> {
+    let mut lists = Vec::new(stranger.alloc);
+    for _ in 0..THREADS {
+        let list = stranger.findings(&[FIRST, SECOND, OTHER_BOUND, OTHER_TRACE])?;
+        lists.push(list).ok()?;
+    }
+    Some(lists)
 }
 
 /// Two findings are taken; of the others each is refused for its own reason.
@@ -337,17 +371,31 @@ fn takes_lists<N: Naming + Send + Sync, R: Threads + Wait + Abort + Copy + Send 
 {
     let (desk, mut reader) = one_reader::<N, R>(rt, alloc, state, opened, limit)?;
     asked(&rt, &desk, &mut reader);
-    let done = thread::map_vec(
-        &rt,
-        lists,
-        &|findings| delivered(alloc, &desk, findings, way),
-    )?;
+    let outcomes = delivered_at_once(&rt, alloc, &desk, &mut reader, lists, way)?;
+    are_refused(&rt, &outcomes);
+    reads(&rt, &mut reader, (2, 1, 1))
+}
+
+/// Each list is delivered by a thread of its own: what became of the findings.
+fn delivered_at_once<N: Naming + Send + Sync, R: Threads + Wait + Abort + Copy + Send + Sync>(
+    rt: &R,
+    alloc: Global,
+    desk: &Desk<N, R, Shown<N>>,
+    reader: &mut BoardReader<N>,
+    lists: Vec<Vec<Finding>>,
+    way: Way,
+) -> Result<Vec<Option<Refusal>>, Fail> {
+    let done = thread::map_vec(rt, lists, &|findings| delivered(alloc, desk, findings, way))?;
     let mut outcomes = Vec::new(alloc);
     for one in done {
         let (refusals, receipts) = one?;
+        learn_all(reader, &receipts);
         outcomes.extend_from_slice(&refusals)?;
-        learn_all(&mut reader, &receipts);
     }
+    Ok(outcomes)
+}
+
+fn are_refused(rt: &impl Abort, outcomes: &[Option<Refusal>]) {
     assert_eq!(rt; outcomes.len(), 32);
     for (outcome, count) in [
         (None, 2),
@@ -355,9 +403,8 @@ fn takes_lists<N: Naming + Send + Sync, R: Threads + Wait + Abort + Copy + Send 
         (Some(Refusal::OtherBound), 8),
         (Some(Refusal::OtherTrace), 8),
     ] {
-        assert_eq!(rt; count_of(&outcomes, outcome), count);
+        assert_eq!(rt; count_of(outcomes, outcome), count);
     }
-    reads(&rt, &mut reader, (2, 1, 1))
 }
 
 /// How many of the outcomes are this one.

@@ -2,10 +2,12 @@ ghost use Rattle.std.specs.Prelude.{IfOk};
 ghost use Rattle.std.specs.Arc.{arc_value};
 ghost use Rattle.dependencies.specs.Tables.{known};
 ghost use Rattle.lock_graph.specs.Graph.{HasGraphOf};
+ghost use Rattle.cycle_search.specs.Ranked.{AreRanks};
 
 use crate::traces::gate_after_forks;
 use cycle_search::{Cycle, Ranks, SearchRefused, cycles_from, cycles_within};
 use lock_tables::{LockParts, LockTables};
+use std::alloc::Global;
 use std::hash::RandomState;
 use std::test::Fail;
 use trace_model::{Bound, Event, NoMemory, Op};
@@ -19,24 +21,46 @@ fn tables_of(rt: &HostRuntime, events: &[Event]) -> Result<LockParts, Fail>
     Ok(tables.into_parts()?)
 }
 
+/// Adds the numbers of these cycles as a line.
+fn push_cycles(text: &mut String, alloc: Global, cycles: &[Cycle]) -> Result<(), NoMemory> {
+    for cycle in cycles {
+        for number in cycle.numbers() {
+            let word = format!(in alloc; "{number} ")?;
+            text.push_str(word.as_str())?;
+        }
+        text.push_str(";")?;
+    }
+    text.push_str("\n")?;
+    Ok(())
+}
+
+/// Adds a line for each root.
+fn push_roots(
+    text: &mut String,
+    alloc: Global,
+    parts: &LockParts,
+    ranks: &Ranks,
+    bound: Bound,
+) -> Result<(), Fail>
+    requires graph { HasGraphOf (known parts.now.dependencies) (arc_value parts.now.graph) }
+    requires ranks { AreRanks (known parts.now.dependencies) ranks.now }
+{
+    let table = &parts.dependencies;
+    for root in 0..table.len() {
+        let found = cycles_from(alloc, table, &parts.graph, ranks, root as u32, bound)?;
+        push_cycles(text, alloc, &found)?;
+    }
+    Ok(())
+}
+
 /// The cycles of a trace as text, those of each root on a line.
 fn cycles(rt: &HostRuntime, events: &[Event], bound: u8) -> Result<String, Fail> {
-    let LockParts {
-        dependencies: table,
-        graph,
-    } = tables_of(rt, events)?;
-    let ranks = Ranks::new(rt.alloc(), RandomState::new(rt)?, &table, &graph)?;
     let bound = Bound::new(bound).ok_or("no bound")?;
+    let parts = tables_of(rt, events)?;
+    let state = RandomState::new(rt)?;
+    let ranks = Ranks::new(rt.alloc(), state, &parts.dependencies, &parts.graph)?;
     let mut text = String::new(rt.alloc());
-    for root in 0..table.len() {
-        for cycle in &cycles_from(rt.alloc(), &table, &graph, &ranks, root as u32, bound)? {
-            for number in cycle.numbers() {
-                text.push_str(format!(in rt.alloc(); "{number} ")?.as_str())?;
-            }
-            text.push_str(";")?;
-        }
-        text.push_str("\n")?;
-    }
+    push_roots(&mut text, rt.alloc(), &parts, &ranks, bound)?;
     Ok(text)
 }
 
@@ -56,8 +80,9 @@ fn nested(events: &mut Vec<Event>, thread: u32, outer: u32, inner: u32) -> Resul
 /// The trace of these sections: a thread, its outer and its inner lock.
 fn sections(rt: &HostRuntime, nestings: &[(u32, u32, u32)]) -> Result<Vec<Event>, Fail> {
     let mut events = Vec::new(rt.alloc());
-    for (thread, outer, inner) in nestings {
-        nested(&mut events, *thread, *outer, *inner)?;
+    for nesting in nestings {
+        let (thread, outer, inner) = *nesting;
+        nested(&mut events, thread, outer, inner)?;
     }
     Ok(events)
 }
@@ -160,22 +185,33 @@ fn a_cycle_has_two_to_eight_members(rt: HostRuntime) {
     }
 }
 
-/// How a search is refused that may find so many cycles, where there are three.
-fn refused_within(rt: &HostRuntime, most: usize) -> Result<Option<SearchRefused>, Fail> {
-    let events = sections(
-        rt,
-        [(1, 10, 20), (2, 20, 10), (3, 20, 10), (4, 20, 10)].as_slice(),
-    )?;
-    let LockParts {
-        dependencies: table,
-        graph,
-    } = tables_of(rt, &events)?;
+/// How a search from the first dependency is refused that may find so many cycles.
+fn refusal(
+    alloc: Global,
+    parts: &LockParts,
+    ranks: &Ranks,
+    bound: Bound,
+    most: usize,
+) -> Option<SearchRefused>
+    requires graph { HasGraphOf (known parts.now.dependencies) (arc_value parts.now.graph) }
+    requires ranks { AreRanks (known parts.now.dependencies) ranks.now }
+{
+    let table = &parts.dependencies;
     if table.is_empty() {
-        return Err(Fail::from("no dependency"));
+        return None;
     }
-    let ranks = Ranks::new(rt.alloc(), RandomState::new(rt)?, &table, &graph)?;
+    cycles_within(alloc, table, &parts.graph, ranks, 0, bound, most).err()
+}
+
+/// The same, where there are three.
+fn refused_within(rt: &HostRuntime, most: usize) -> Result<Option<SearchRefused>, Fail> {
     let bound = Bound::new(2).ok_or("no bound")?;
-    Ok(cycles_within(rt.alloc(), &table, &graph, &ranks, 0, bound, most).err())
+    let nestings = [(1, 10, 20), (2, 20, 10), (3, 20, 10), (4, 20, 10)];
+    let events = sections(rt, nestings.as_slice())?;
+    let parts = tables_of(rt, &events)?;
+    let state = RandomState::new(rt)?;
+    let ranks = Ranks::new(rt.alloc(), state, &parts.dependencies, &parts.graph)?;
+    Ok(refusal(rt.alloc(), &parts, &ranks, bound, most))
 }
 
 #[test]

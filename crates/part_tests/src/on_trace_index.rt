@@ -17,78 +17,115 @@ use wellformed::Gate;
 /// thread then nests them once more.
 const LATER_INSTANCE: &str = "0f1 0f2 1a10 1a20 1r20 1r10 1w7 2d7 2a20 2a10 2r10 2r20 1a10 1a20";
 
-#[test]
-fn later_instance(rt: HostRuntime) -> Result<(), Fail> {
-    let gate = gate_of(&rt, LATER_INSTANCE)?;
-    let index = TraceIndex::build(rt.alloc(), RandomState::new(&rt)?, gate.events())?;
-    assert_eq!(rt; index.len(), 14);
-    assert_eq!(rt;
-        index.event(Place::new(7)),
-        Some(Event {
-            thread: 2,
-            op: Op::Read(7)
-        })
-    );
-    assert_eq!(rt; index.event(Place::new(14)), None);
-    for (place, writer) in [(7, Some(6)), (6, None), (2, None), (99, None)] {
-        assert_eq!(rt;
-            index.writer(Place::new(place)).map(Place::get),
-            writer,
-            "at {place}"
-        );
+/// An index of that trace.
+fn index_of(rt: &HostRuntime) -> Result<TraceIndex, Fail> {
+    let gate = gate_of(rt, LATER_INSTANCE)?;
+    let index = TraceIndex::build(rt.alloc(), RandomState::new(rt)?, gate.events())?;
+    Ok(index)
+}
+
+/// What is looked up of a place, or of a thread.
+#[derive(Clone, Copy, Debug)]
+enum Look {
+    Writer,
+    Release,
+    Number,
+    ThreadBefore,
+    AcquireBefore,
+    Fork,
+}
+
+fn looked_up(index: &TraceIndex, look: Look, number: u32) -> Option<u32> {
+    let place = Place::new(number);
+    let found = match look {
+        Look::Writer => index.writer(place),
+        Look::Release => index.release_of(place),
+        Look::Number => return index.number(place),
+        Look::ThreadBefore => index.thread_before(place),
+        Look::AcquireBefore => index.acquire_before(place),
+        Look::Fork => index.fork_of(number),
+    };
+    Some(found?.get())
+}
+
+type Wanted = (Look, u32, Option<u32>);
+
+const OF_PLACES: [Wanted; 18] = [
+    (Look::Writer, 7, Some(6)),
+    (Look::Writer, 6, None),
+    (Look::Writer, 2, None),
+    (Look::Writer, 99, None),
+    (Look::Release, 2, Some(5)),
+    (Look::Release, 8, Some(11)),
+    (Look::Release, 13, None),
+    (Look::Release, 5, None),
+    (Look::Release, 99, None),
+    (Look::Number, 2, Some(0)),
+    (Look::Number, 6, Some(4)),
+    (Look::Number, 13, Some(6)),
+    (Look::Number, 9, Some(2)),
+    (Look::Number, 99, None),
+    (Look::Fork, 1, Some(0)),
+    (Look::Fork, 2, Some(1)),
+    (Look::Fork, 0, None),
+    (Look::Fork, 3, None),
+];
+
+const OF_EARLIER_PLACES: [Wanted; 8] = [
+    (Look::ThreadBefore, 2, None),
+    (Look::ThreadBefore, 12, Some(6)),
+    (Look::ThreadBefore, 13, Some(12)),
+    (Look::ThreadBefore, 99, None),
+    (Look::AcquireBefore, 2, None),
+    (Look::AcquireBefore, 12, Some(9)),
+    (Look::AcquireBefore, 9, Some(2)),
+    (Look::AcquireBefore, 5, None),
+];
+
+fn answers(rt: &impl Abort, index: &TraceIndex, wanted: &[Wanted]) -> Result<(), Fail> {
+    for (look, number, answer) in wanted {
+        let found = looked_up(index, *look, *number);
+        assert_eq!(rt; found, *answer, "{look:?} of {number}");
     }
-    for (place, release) in [
-        (2, Some(5)),
-        (8, Some(11)),
-        (13, None),
-        (5, None),
-        (99, None),
-    ] {
-        assert_eq!(rt;
-            index.release_of(Place::new(place)).map(Place::get),
-            release,
-            "at {place}"
-        );
-    }
-    for (place, number) in [
-        (2, Some(0)),
-        (6, Some(4)),
-        (13, Some(6)),
-        (9, Some(2)),
-        (99, None),
-    ] {
-        assert_eq!(rt; index.number(Place::new(place)), number, "at {place}");
-    }
-    for (place, before) in [(2, None), (12, Some(6)), (13, Some(12)), (99, None)] {
-        assert_eq!(rt;
-            index.thread_before(Place::new(place)).map(Place::get),
-            before,
-            "at {place}"
-        );
-    }
-    for (place, before) in [(2, None), (12, Some(9)), (9, Some(2)), (5, None)] {
-        assert_eq!(rt;
-            index.acquire_before(Place::new(place)).map(Place::get),
-            before,
-            "at {place}"
-        );
-    }
-    for (thread, fork) in [(1, Some(0)), (2, Some(1)), (0, None), (3, None)] {
-        assert_eq!(rt; index.fork_of(thread).map(Place::get), fork, "of {thread}");
-    }
-    let acquires = index.acquires(10);
-    assert_eq!(rt; acquires.len(), 3);
-    for (i, place) in [2, 9, 12].into_iter().enumerate() {
-        assert_eq!(rt; acquires.get(i), Place::new(place));
-    }
-    assert!(rt; index.acquires(7).is_empty());
-    let places = index.thread_places(1);
-    assert_eq!(rt; places.len(), 7);
-    for (i, place) in [2, 3, 4, 5, 6, 12, 13].into_iter().enumerate() {
-        assert_eq!(rt; places.get(i), Place::new(place));
-    }
-    assert!(rt; index.thread_places(3).is_empty());
     Ok(())
+}
+
+/// Exactly these places, in order.
+fn are_places(rt: &impl Abort, places: &PlacesOf<'_>, wanted: &[u32]) -> Result<(), Fail> {
+    assert_eq!(rt; places.len(), wanted.len());
+    for index in 0..places.len() {
+        assert_eq!(rt; places.get(index).get(), wanted[index], "the place {index}");
+    }
+    Ok(())
+}
+
+#[test]
+fn places_of_a_small_trace(rt: HostRuntime) -> Result<(), Fail> {
+    let index = index_of(&rt)?;
+    answers(&rt, &index, &OF_PLACES)?;
+    answers(&rt, &index, &OF_EARLIER_PLACES)
+}
+
+#[test]
+fn events_of_a_small_trace(rt: HostRuntime) -> Result<(), Fail> {
+    let index = index_of(&rt)?;
+    assert_eq!(rt; index.len(), 14);
+    let read = Event {
+        thread: 2,
+        op: Op::Read(7),
+    };
+    assert_eq!(rt; index.event(Place::new(7)), Some(read));
+    assert_eq!(rt; index.event(Place::new(14)), None);
+    Ok(())
+}
+
+#[test]
+fn lists_of_a_small_trace(rt: HostRuntime) -> Result<(), Fail> {
+    let index = index_of(&rt)?;
+    are_places(&rt, &index.acquires(10), &[2, 9, 12])?;
+    are_places(&rt, &index.acquires(7), &[])?;
+    are_places(&rt, &index.thread_places(1), &[2, 3, 4, 5, 6, 12, 13])?;
+    are_places(&rt, &index.thread_places(3), &[])
 }
 
 // ---- a trace that is longer than two segments
@@ -248,14 +285,28 @@ const SHARED: [(u32, usize, usize); 5] = [
     (LENGTH, 2250, 2250),
 ];
 
+fn long_index(rt: &HostRuntime) -> Result<TraceIndex, Fail> {
+    let gate = long_gate(rt)?;
+    let index = TraceIndex::build(rt.alloc(), RandomState::new(rt)?, gate.events())?;
+    Ok(index)
+}
+
+fn is_shared(
+    rt: &impl Abort,
+    index: &TraceIndex,
+    lengths: (u32, usize, usize),
+) -> Result<(), Fail> {
+    let (len, writes, sections) = lengths;
+    let within = (len as usize).min(index.len());
+    let part = shared::<Brand>(index, within, Blank::new(1))?;
+    is_index_of_first(rt, &part, len, writes, sections)
+}
+
 #[test]
 fn first_events_are_shared(rt: HostRuntime) -> Result<(), Fail> {
-    let gate = long_gate(&rt)?;
-    let index = TraceIndex::build(rt.alloc(), RandomState::new(&rt)?, gate.events())?;
-    for (len, writes, sections) in SHARED {
-        let within = (len as usize).min(index.len());
-        let part = shared::<Brand>(&index, within, Blank::new(1))?;
-        is_index_of_first(&rt, &part, len, writes, sections)?;
+    let index = long_index(&rt)?;
+    for lengths in SHARED {
+        is_shared(&rt, &index, lengths)?;
     }
     Ok(())
 }

@@ -7,6 +7,7 @@ use sequencer::{
     Answer, AnswerRefused, AskRefused, Book, BookRefused, Input, NoSuchQuestion, PlayRefused,
     Session, Status, play,
 };
+use std::alloc::{AllocError, Global};
 use std::hash::RandomState;
 use std::process::Abort;
 use std::random::RandomSource;
@@ -25,12 +26,16 @@ fn is_settled(answer: Result<Answer, AnswerRefused>, report: &str) -> bool {
     }
 }
 
-/// A book of the trace, with question 0 about it, and one event more.
-fn asked_book(rt: &(impl RandomSource + AllocGlobal + Abort)) -> Result<Book, Fail> {
-    let mut book = Book::new(rt.alloc(), RandomState::new(rt)?, 100)?;
-    for event in &read_events(rt.alloc(), OPPOSITE_ORDERS)? {
+/// The book accepts these events.
+fn offer_all(rt: &impl Abort, book: &mut Book, events: &[Event]) {
+    for event in events {
         assert!(rt; book.offer(*event).is_ok());
     }
+}
+
+/// The trace, question 0 about it, and one event more.
+fn ask_about_trace(rt: &impl Abort, book: &mut Book, trace: &[Event]) -> Result<(), Fail> {
+    offer_all(rt, book, trace);
     let opened = book.ask(2)?;
     assert_eq!(rt; (opened.question, opened.length, opened.total), (0, 10, 2));
     let write = Event {
@@ -38,14 +43,27 @@ fn asked_book(rt: &(impl RandomSource + AllocGlobal + Abort)) -> Result<Book, Fa
         op: Op::Write(7),
     };
     assert!(rt; book.offer(write).is_ok());
+    Ok(())
+}
+
+// A function that owns a book has few ways out: on each of them the book is dropped, which is long to prove.
+fn asked_book(rt: &(impl RandomSource + AllocGlobal + Abort)) -> Result<Book, Fail> {
+    let trace = read_events(rt.alloc(), OPPOSITE_ORDERS)?;
+    let mut book = Book::new(rt.alloc(), RandomState::new(rt)?, 100)?;
+    ask_about_trace(rt, &mut book, &trace)?;
     Ok(book)
 }
 
-/// The rows of a task of question 0.
-fn finding_of(rt: &(impl AllocGlobal + Abort), book: &Book, task: u32) -> Result<Finding, Fail> {
+/// The rows of a task of a question with the bound 2.
+fn finding_of(
+    rt: &(impl AllocGlobal + Abort),
+    book: &Book,
+    question: u32,
+    task: u32,
+) -> Result<Finding, Fail> {
     let two = Bound::new(2).expect(rt, "a bound is 2 to 8");
-    let snapshot = book.snapshot(0)?;
-    Ok(Finding::compute(rt.alloc(), snapshot, 0, two, task)?)
+    let snapshot = book.snapshot(question)?;
+    Ok(Finding::compute(rt.alloc(), snapshot, question, two, task)?)
 }
 
 fn is_pending(answer: &Result<Answer, AnswerRefused>) -> bool {
@@ -59,28 +77,35 @@ fn is_pending(answer: &Result<Answer, AnswerRefused>) -> bool {
 }
 
 /// Delivers the least missing task.
-fn deliver_next(rt: &(impl AllocGlobal + Abort), book: &mut Book, task: u32) -> Result<(), Fail> {
-    assert_eq!(rt; book.missing(0)?, Some(task));
-    let finding = finding_of(rt, book, task)?;
+fn deliver_next(
+    rt: &(impl AllocGlobal + Abort),
+    book: &mut Book,
+    question: u32,
+    task: u32,
+) -> Result<(), Fail> {
+    assert_eq!(rt; book.missing(question)?, Some(task));
+    let finding = finding_of(rt, book, question, task)?;
     assert!(rt; book.deliver(finding).is_ok());
     Ok(())
+}
+
+fn refuses_questions(rt: &impl Abort, book: &mut Book) {
+    assert_eq!(rt; book.ask(1).err(), Some(AskRefused::BadBound));
+    assert!(rt; matches!(book.answer(1), Err(AnswerRefused::NoSuchQuestion)));
+    assert_eq!(rt; book.status(1).err(), Some(NoSuchQuestion));
+    assert!(rt; is_pending(&book.answer(0)));
 }
 
 #[test]
 fn questions_are_refused(rt: HostRuntime) -> Result<(), Fail> {
     let mut book = asked_book(&rt)?;
-    assert_eq!(rt; book.ask(1).err(), Some(AskRefused::BadBound));
-    assert!(rt; matches!(book.answer(1), Err(AnswerRefused::NoSuchQuestion)));
-    assert_eq!(rt; book.status(1).err(), Some(NoSuchQuestion));
-    assert!(rt; is_pending(&book.answer(0)));
+    refuses_questions(&rt, &mut book);
     Ok(())
 }
 
-#[test]
-fn opposite_orders_are_reported(rt: HostRuntime) -> Result<(), Fail> {
-    let mut book = asked_book(&rt)?;
-    deliver_next(&rt, &mut book, 0)?;
-    deliver_next(&rt, &mut book, 1)?;
+fn reports(rt: &(impl AllocGlobal + Abort), book: &mut Book) -> Result<(), Fail> {
+    deliver_next(rt, book, 0, 0)?;
+    deliver_next(rt, book, 0, 1)?;
     assert_eq!(rt; book.missing(0)?, None);
     assert!(rt; is_settled(book.answer(0), REPORT));
     let status = Status {
@@ -98,13 +123,23 @@ fn opposite_orders_are_reported(rt: HostRuntime) -> Result<(), Fail> {
 }
 
 #[test]
-fn a_task_comes_once(rt: HostRuntime) -> Result<(), Fail> {
+fn opposite_orders_are_reported(rt: HostRuntime) -> Result<(), Fail> {
     let mut book = asked_book(&rt)?;
-    deliver_next(&rt, &mut book, 0)?;
-    let again = finding_of(&rt, &book, 0)?;
+    reports(&rt, &mut book)
+}
+
+fn takes_a_task_once(rt: &(impl AllocGlobal + Abort), book: &mut Book) -> Result<(), Fail> {
+    deliver_next(rt, book, 0, 0)?;
+    let again = finding_of(rt, book, 0, 0)?;
     assert_eq!(rt; book.admits(&again).err(), Some(Refusal::Double));
     assert!(rt; matches!(book.deliver(again), Err((Refusal::Double, _))));
     Ok(())
+}
+
+#[test]
+fn a_task_comes_once(rt: HostRuntime) -> Result<(), Fail> {
+    let mut book = asked_book(&rt)?;
+    takes_a_task_once(&rt, &mut book)
 }
 
 #[test]
@@ -120,27 +155,31 @@ fn limits_of_a_book(rt: HostRuntime) -> Result<(), Fail> {
     Ok(())
 }
 
-#[test]
-fn seventy_thousand_frames_in_one_piece(rt: HostRuntime) -> Result<(), Fail> {
-    let alloc = rt.alloc();
-    let session = Session::new(63).ok_or("a session")?;
+/// So many frames of `0w7`, and their replies.
+fn writes_and_replies(alloc: Global, count: u32) -> Result<(Vec<u8>, Vec<u8>), AllocError> {
     let mut piece = Vec::new(alloc);
     let mut placed = Vec::new(alloc);
-    for place in 0..70_000u32 {
+    for place in 0..count {
         piece.extend_from_slice(&[0, 9, 6, 0, 0, 0, 0, 0, 0, 0, 7])?;
         placed.extend_from_slice(&[0, 0, 0, 5, 65])?;
         placed.extend_from_slice(&place.to_be_bytes())?;
     }
-    let inputs = vec![in alloc; Input::Piece(session, piece)]?;
-    let run = play(alloc, RandomState::new(&rt)?, MOST, inputs)?;
+    Ok((piece, placed))
+}
+
+#[test]
+fn seventy_thousand_frames_in_one_piece(rt: HostRuntime) -> Result<(), Fail> {
+    let session = Session::new(63).ok_or("a session")?;
+    let (piece, placed) = writes_and_replies(rt.alloc(), 70_000)?;
+    let inputs = vec![in rt.alloc(); Input::Piece(session, piece)]?;
+    let run = play(rt.alloc(), RandomState::new(&rt)?, MOST, inputs)?;
     assert_eq!(rt; run.sent(session), placed.as_slice());
     Ok(())
 }
 
 /// 4,092 writes and then the trace, with a question right before and one right after its fourth event: of a segment's
 /// events but one, and of all.
-fn book_over_a_segment(rt: &(impl RandomSource + AllocGlobal + Abort)) -> Result<Book, Fail> {
-    let mut book = Book::new(rt.alloc(), RandomState::new(rt)?, 5_000)?;
+fn ask_round_a_segment(rt: &impl Abort, book: &mut Book, trace: &[Event]) -> Result<(), Fail> {
     let write = Event {
         thread: 0,
         op: Op::Write(1),
@@ -148,24 +187,28 @@ fn book_over_a_segment(rt: &(impl RandomSource + AllocGlobal + Abort)) -> Result
     for _ in 0..4_092u32 {
         assert!(rt; book.offer(write).is_ok());
     }
-    for (index, event) in read_events(rt.alloc(), OPPOSITE_ORDERS)?.iter().enumerate() {
+    for (index, event) in trace.iter().enumerate() {
         if index == 3 || index == 4 {
             book.ask(2)?;
         }
         assert!(rt; book.offer(*event).is_ok());
     }
-    Ok(book)
+    Ok(())
+}
+
+fn answers_of_both_lengths(rt: &(impl AllocGlobal + Abort), book: &mut Book) -> Result<(), Fail> {
+    let before = "question 0 length 4095 bound 2 cycles 0 confirmed 0\n";
+    assert!(rt; is_settled(book.answer(0), before));
+    deliver_next(rt, book, 1, 0)?;
+    let after = "question 1 length 4096 bound 2 cycles 0 confirmed 0\n";
+    assert!(rt; is_settled(book.answer(1), after));
+    Ok(())
 }
 
 #[test]
 fn questions_at_a_segment_border(rt: HostRuntime) -> Result<(), Fail> {
-    let mut book = book_over_a_segment(&rt)?;
-    let before = "question 0 length 4095 bound 2 cycles 0 confirmed 0\n";
-    assert!(rt; is_settled(book.answer(0), before));
-    let two = Bound::new(2).expect(&rt, "a bound is 2 to 8");
-    let finding = Finding::compute(rt.alloc(), book.snapshot(1)?, 1, two, 0)?;
-    assert!(rt; book.deliver(finding).is_ok());
-    let after = "question 1 length 4096 bound 2 cycles 0 confirmed 0\n";
-    assert!(rt; is_settled(book.answer(1), after));
-    Ok(())
+    let trace = read_events(rt.alloc(), OPPOSITE_ORDERS)?;
+    let mut book = Book::new(rt.alloc(), RandomState::new(&rt)?, 5_000)?;
+    ask_round_a_segment(&rt, &mut book, &trace)?;
+    answers_of_both_lengths(&rt, &mut book)
 }

@@ -35,7 +35,8 @@ cycle 0 2100 confirmed
 cycle 1 2101 potential
 ";
 
-const YIELDS: u32 = 1_000_000;
+// enough for a thread that has to compute many tasks on a busy machine before it comes to a late one
+const YIELDS: u32 = 20_000_000;
 
 /// The least task that is late.
 const LATE: u32 = 2_048;

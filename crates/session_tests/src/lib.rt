@@ -10,4 +10,6 @@ mod one_byte;
 #[cfg(test)]
 mod sending;
 #[cfg(test)]
+mod served;
+#[cfg(test)]
 mod told_faults;

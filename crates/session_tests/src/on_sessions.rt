@@ -1,20 +1,15 @@
 //! Sessions over a book.
 
 use crate::one_byte::{OneByteSink, OneByteSource};
-use question_server::{
-    Ended, MemorySink, MemorySource, ReadSource, ServeFault, WriteSink, serve, serve_book,
-};
-use sequencer::Book;
+use crate::served::{Session, serve_anew};
+use question_server::{Ended, MemorySink, MemorySource, ReadSource, ServeFault, WriteSink};
 use std::alloc::{AllocError, Global};
-use std::hash::RandomState;
 use std::io;
 use std::io::{Read, Write};
 use std::random::RandomSource;
 use std::sync::Wait;
 use std::test::{Fail, *};
 use trace_model::Fault;
-
-const MOST: u32 = 1_048_576;
 
 /// What is reported of two threads that nest two locks in opposite orders.
 pub(crate) const REPORT: &str =
@@ -63,116 +58,116 @@ pub(crate) fn replies(alloc: Global) -> Result<Vec<u8>, AllocError> {
     Ok(bytes)
 }
 
-fn new_book(rt: &(impl RandomSource + AllocGlobal)) -> Result<Book, Fail> {
-    Ok(Book::new(rt.alloc(), RandomState::new(rt)?, MOST)?)
-}
-
-/// How the session of these bytes ends, and what is written, over a new book.
+/// What comes of the session of these bytes, and what is written.
 fn session_of(
     rt: &(impl RandomSource + AllocGlobal + Wait),
     bytes: &[u8],
-) -> Result<(Result<Ended, ServeFault>, MemorySink, Book), Fail> {
+) -> Result<(Session, MemorySink), Fail> {
     let alloc = rt.alloc();
-    let mut book = new_book(rt)?;
     let mut source = MemorySource::new(Vec::from_slice(alloc, bytes)?);
     let mut sink = MemorySink::new(alloc);
-    let ended = serve_book(rt, alloc, &mut source, &mut sink, &mut book);
-    Ok((ended, sink, book))
+    let session = serve_anew(rt, &mut source, &mut sink)?;
+    Ok((session, sink))
 }
 
 #[test]
 fn opposite_orders_from_memory(rt: HostRuntime) -> Result<(), Fail> {
     let alloc = rt.alloc();
-    let (ended, sink, book) = session_of(&rt, &questions(alloc)?)?;
-    assert!(rt; ended == Ok(Ended::Input));
+    let (session, sink) = session_of(&rt, &questions(alloc)?)?;
+    assert!(rt; session.ended == Ok(Ended::Input) && session.events == 10);
     assert!(rt; sink.bytes() == replies(alloc)?.as_slice());
-    assert!(rt; book.events().len() == 10);
     Ok(())
 }
 
 #[test]
 fn opposite_orders_byte_by_byte(rt: HostRuntime) -> Result<(), Fail> {
     let alloc = rt.alloc();
-    let mut book = new_book(&rt)?;
     let mut source = OneByteSource::new(questions(alloc)?, EVER);
     let mut sink = OneByteSink::new(alloc, EVER);
-    let ended = serve(&rt, alloc, &mut source, &mut sink, &mut book);
-    assert!(rt; ended == Ok(Ended::Input));
+    let session = serve_anew(&rt, &mut source, &mut sink)?;
+    assert!(rt; session.ended == Ok(Ended::Input) && session.events == 10);
     assert!(rt; sink.bytes.as_slice() == replies(alloc)?.as_slice());
     Ok(())
 }
 
+/// Bytes, their fault, what is written, and how many events were placed: an unknown kind, and a valid frame after
+/// it, which has no reply and no effect; a length of 0; the end after one event and a byte.
+const FAULTS: [(&[u8], Fault, &[u8], usize); 3] = [
+    (
+        &[0, 1, 200, 0, 9, 1, 0, 0, 0, 0, 0, 0, 0, 1],
+        Fault::BadKind,
+        &[0, 0, 0, 2, 71, 1],
+        0,
+    ),
+    (&[0, 0], Fault::BadLength, &[0, 0, 0, 2, 71, 2], 0),
+    (
+        &[0, 9, 1, 0, 0, 0, 0, 0, 0, 0, 1, 0],
+        Fault::Truncated,
+        &[0, 0, 0, 5, 65, 0, 0, 0, 0, 0, 0, 0, 2, 71, 3],
+        1,
+    ),
+];
+
 #[test]
 fn faults_end_a_session(rt: HostRuntime) -> Result<(), Fail> {
-    let event = frame(1, 0, 1);
-    // an unknown kind, and a valid frame after it, which has no reply and no effect
-    let mut unknown = Vec::from_slice(rt.alloc(), &[0, 1, 200])?;
-    unknown.extend_from_slice(&event)?;
-    let (ended, sink, book) = session_of(&rt, &unknown)?;
-    assert!(rt; ended == Ok(Ended::Frame(Fault::BadKind)));
-    assert!(rt; sink.bytes() == [0, 0, 0, 2, 71, 1].as_slice());
-    assert!(rt; book.events().is_empty());
-
-    let (ended, sink, _) = session_of(&rt, &[0, 0])?;
-    assert!(rt; ended == Ok(Ended::Frame(Fault::BadLength)));
-    assert!(rt; sink.bytes() == [0, 0, 0, 2, 71, 2].as_slice());
-
-    // the end after one event and a byte
-    let mut cut = Vec::from_slice(rt.alloc(), &event)?;
-    cut.push(0)?;
-    let (ended, sink, book) = session_of(&rt, &cut)?;
-    assert!(rt; ended == Ok(Ended::Frame(Fault::Truncated)));
-    assert!(rt; sink.bytes() == [0, 0, 0, 5, 65, 0, 0, 0, 0, 0, 0, 0, 2, 71, 3].as_slice());
-    assert!(rt; book.events().len() == 1);
+    for (bytes, fault, written, events) in FAULTS {
+        let (session, sink) = session_of(&rt, bytes)?;
+        assert!(rt; session.ended == Ok(Ended::Frame(fault)) && session.events == events);
+        assert!(rt; sink.bytes() == written);
+    }
     Ok(())
 }
 
-/// The session of the questions, whose source fails at this call: what is written.
+/// What comes of the session of the questions, whose source fails at this call, and what is written.
 fn with_failing_read(
     rt: &(impl RandomSource + AllocGlobal + Wait),
     call: u64,
-) -> Result<(Result<Ended, ServeFault>, Vec<u8>), Fail> {
+) -> Result<(Session, Vec<u8>), Fail> {
     let alloc = rt.alloc();
-    let mut book = new_book(rt)?;
     let mut source = OneByteSource::new(questions(alloc)?, call.saturating_sub(1));
     let mut sink = OneByteSink::new(alloc, EVER);
-    let ended = serve_book(rt, alloc, &mut source, &mut sink, &mut book);
-    Ok((ended, sink.bytes))
+    let session = serve_anew(rt, &mut source, &mut sink)?;
+    Ok((session, sink.bytes))
 }
 
 #[test]
 fn one_failing_read(rt: HostRuntime) -> Result<(), Fail> {
-    let alloc = rt.alloc();
-    let all = replies(alloc)?;
+    let all = replies(rt.alloc())?;
     for call in 1..112u64 {
-        let (ended, written) = with_failing_read(&rt, call)?;
-        assert!(rt; ended == Err(ServeFault::Read));
+        let (session, written) = with_failing_read(&rt, call)?;
+        assert!(rt; session.ended == Err(ServeFault::Read));
         // the replies to the whole frames that were read
         let len = (9 * ((call - 1) / 11)) as usize;
         assert!(rt; all.get(..len) == Some(written.as_slice()));
     }
-    let (ended, written) = with_failing_read(&rt, 122)?;
-    assert!(rt; ended == Err(ServeFault::Read));
+    let (session, written) = with_failing_read(&rt, 122)?;
+    assert!(rt; session.ended == Err(ServeFault::Read));
     assert!(rt; written.as_slice() == all.as_slice());
     Ok(())
 }
 
+/// What comes of the session of the questions, whose sink fails at this call, and what is written.
+fn with_failing_write(
+    rt: &(impl RandomSource + AllocGlobal + Wait),
+    call: u64,
+) -> Result<(Session, Vec<u8>), Fail> {
+    let alloc = rt.alloc();
+    let mut source = MemorySource::new(questions(alloc)?);
+    let mut sink = OneByteSink::new(alloc, call.saturating_sub(1));
+    let session = serve_anew(rt, &mut source, &mut sink)?;
+    Ok((session, sink.bytes))
+}
+
 #[test]
 fn one_failing_write(rt: HostRuntime) -> Result<(), Fail> {
-    let alloc = rt.alloc();
-    let all = replies(alloc)?;
+    let all = replies(rt.alloc())?;
     for call in 1..108u64 {
-        let mut book = new_book(&rt)?;
-        let mut source = MemorySource::new(questions(alloc)?);
-        let mut sink = OneByteSink::new(alloc, call - 1);
-        let ended = serve_book(&rt, alloc, &mut source, &mut sink, &mut book);
-        assert!(rt; ended == Err(ServeFault::Write));
-        assert!(rt; all.get(..(call - 1) as usize) == Some(sink.bytes.as_slice()));
+        let (session, written) = with_failing_write(&rt, call)?;
+        assert!(rt; session.ended == Err(ServeFault::Write));
+        assert!(rt; all.get(..(call - 1) as usize) == Some(written.as_slice()));
         // each event but one was answered whole
         let events = if call <= 90 { (call + 8) / 9 } else { 10 };
-        assert!(rt; book.events().len() as u64 == events);
-        let opened = book.status(0).is_ok();
-        assert!(rt; opened == (call > 90));
+        assert!(rt; session.events as u64 == events && session.opened == (call > 90));
     }
     Ok(())
 }
@@ -213,12 +208,16 @@ impl Write for Taken<'_> {
     }
 }
 
-/// How the session of these bytes ends, what it writes, and how many reads and writes that takes.
-fn counted(
-    rt: &(impl RandomSource + AllocGlobal + Wait),
-    bytes: &[u8],
-) -> Result<(Result<Ended, ServeFault>, Vec<u8>, u32, u32), Fail> {
-    let mut book = new_book(rt)?;
+/// What comes of a session, what it writes, and how many reads and writes that takes.
+#[derive(Drop)]
+struct Calls {
+    session: Session,
+    written: Vec<u8>,
+    reads: u32,
+    writes: u32,
+}
+
+fn counted(rt: &(impl RandomSource + AllocGlobal + Wait), bytes: &[u8]) -> Result<Calls, Fail> {
     let mut written = Vec::new(rt.alloc());
     let mut reads = 0u32;
     let mut writes = 0u32;
@@ -230,10 +229,15 @@ fn counted(
         bytes: &mut written,
         writes: &mut writes,
     });
-    let ended = serve_book(rt, rt.alloc(), &mut source, &mut sink, &mut book);
+    let session = serve_anew(rt, &mut source, &mut sink)?;
     drop(source);
     drop(sink);
-    Ok((ended, written, reads, writes))
+    Ok(Calls {
+        session,
+        written,
+        reads,
+        writes,
+    })
 }
 
 #[test]
@@ -245,11 +249,10 @@ fn frames_in_flight_cost_one_read_and_one_write(rt: HostRuntime) -> Result<(), F
         bytes.extend_from_slice(&frame(6, 0, 1))?;
         placed.extend_from_slice(&[0, 0, 0, 5, 65, 0, 0, 0, place])?;
     }
-    let (ended, written, reads, writes) = counted(&rt, &bytes)?;
-    assert!(rt; ended == Ok(Ended::Input));
-    assert!(rt; written == placed);
-    assert_eq!(rt; writes, 1);
+    let found = counted(&rt, &bytes)?;
+    assert!(rt; found.session.ended == Ok(Ended::Input));
+    assert!(rt; found.written == placed);
     // the second read finds the end
-    assert_eq!(rt; reads, 2);
+    assert!(rt; found.writes == 1 && found.reads == 2);
     Ok(())
 }

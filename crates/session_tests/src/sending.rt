@@ -1,16 +1,13 @@
 //! When replies are sent.
 
-use question_server::{Ended, ReadSource, WriteSink, serve_book};
-use sequencer::Book;
+use crate::served::serve_anew;
+use question_server::{Ended, ReadSource, WriteSink};
 use std::alloc::Global;
-use std::hash::RandomState;
 use std::io;
 use std::io::{Read, Write};
 use std::sync::Arc;
 use std::sync::atomic::{AtomicU64, Ordering};
 use std::test::*;
-
-const MOST: u32 = 1_048_576;
 
 /// `0w1`
 const FRAME: [u8; 11] = [0, 9, 6, 0, 0, 0, 0, 0, 0, 0, 1];
@@ -64,10 +61,9 @@ fn replies_are_sent_before_the_next_read(rt: HostRuntime) -> Result<(), Fail> {
         noted: &mut noted,
     });
     let mut sink = WriteSink::new(Counted { written });
-    let mut book = Book::new(alloc, RandomState::new(&rt)?, MOST)?;
-    let ended = serve_book(&rt, alloc, &mut source, &mut sink, &mut book);
-    assert!(rt; ended == Ok(Ended::Input));
+    let session = serve_anew(&rt, &mut source, &mut sink)?;
     drop(source);
+    assert!(rt; session.ended == Ok(Ended::Input));
     // each reply has 9 bytes; the fourth read finds the end
     assert!(rt; noted.as_slice() == [0, 9, 18, 27].as_slice());
     Ok(())

@@ -1,18 +1,13 @@
 //! When a session tells a fault.
 ghost use Rattle.std.specs.Prelude.{None};
 
-use question_server::{
-    Ended, Failed, MemorySink, MemorySource, ServeFault, Source, count_failure, serve_book,
-};
-use sequencer::Book;
+use crate::served::{Session, serve_anew};
+use question_server::{Ended, Failed, MemorySink, MemorySource, Source, count_failure};
 use std::alloc::Global;
-use std::hash::RandomState;
 use std::random::RandomSource;
 use std::sync::Wait;
 use std::test::*;
 use trace_model::Fault;
-
-const MOST: u32 = 1_048_576;
 
 /// Gives its bytes at its first read; after that it gives bytes without end, or fails.
 #[derive(Drop)]
@@ -55,55 +50,56 @@ impl Source for Front {
     }
 }
 
-/// How the session of these bytes over a new book ends, what it writes, and how often it reads.
+/// What comes of the session of these bytes, what it writes, and how often it reads.
 fn session_of(
     rt: &(impl RandomSource + AllocGlobal + Wait),
     bytes: &[u8],
     goes_on: bool,
-) -> Result<(Result<Ended, ServeFault>, MemorySink, u64), Fail> {
+) -> Result<(Session, MemorySink, u64), Fail> {
     let alloc = rt.alloc();
-    let mut book = Book::new(alloc, RandomState::new(rt)?, MOST)?;
     let mut source = Front::new(alloc, bytes, goes_on)?;
     let mut sink = MemorySink::new(alloc);
-    let ended = serve_book(rt, alloc, &mut source, &mut sink, &mut book);
-    Ok((ended, sink, source.reads))
+    let session = serve_anew(rt, &mut source, &mut sink)?;
+    Ok((session, sink, source.reads))
 }
+
+/// A length of 0; kinds that nobody knows; known kinds of another length.
+const FAULTS: [(&[u8], Fault, u8); 5] = [
+    (&[0, 0], Fault::BadLength, 2),
+    (&[0, 1, 200], Fault::BadKind, 1),
+    (&[0, 9, 0], Fault::BadKind, 1),
+    (&[0, 2, 1], Fault::BadLength, 2),
+    (&[0, 9, 7], Fault::BadLength, 2),
+];
 
 #[test]
 fn nothing_is_read_after_a_fault(rt: HostRuntime) -> Result<(), Fail> {
-    // a length of 0; kinds that nobody knows; known kinds of another length
-    let cases: [(&[u8], Fault, u8); 5] = [
-        (&[0, 0], Fault::BadLength, 2),
-        (&[0, 1, 200], Fault::BadKind, 1),
-        (&[0, 9, 0], Fault::BadKind, 1),
-        (&[0, 2, 1], Fault::BadLength, 2),
-        (&[0, 9, 7], Fault::BadLength, 2),
-    ];
-    for (bytes, fault, number) in cases {
+    for (bytes, fault, number) in FAULTS {
         for goes_on in [true, false] {
-            let (ended, sink, reads) = session_of(&rt, bytes, goes_on)?;
-            assert!(rt; ended == Ok(Ended::Frame(fault)));
+            let (session, sink, reads) = session_of(&rt, bytes, goes_on)?;
+            assert!(rt; session.ended == Ok(Ended::Frame(fault)) && reads == 1);
             assert!(rt; sink.bytes() == [0, 0, 0, 2, 71, number].as_slice());
-            assert_eq!(rt; reads, 1);
         }
     }
     Ok(())
 }
 
-#[test]
-fn a_full_piece_cuts_no_frame(rt: HostRuntime) -> Result<(), Fail> {
-    // 400 events of 11 bytes each: the first read of 4,096 bytes ends inside the 373rd
-    let alloc = rt.alloc();
+/// Frames of `0w1`, so many.
+fn writes(alloc: Global, count: usize) -> Result<Vec<u8>, Fail> {
     let mut bytes = Vec::new(alloc);
-    for _ in 0..400 {
+    for _ in 0..count {
         bytes.extend_from_slice(&[0, 9, 6, 0, 0, 0, 0, 0, 0, 0, 1])?;
     }
-    let mut book = Book::new(alloc, RandomState::new(&rt)?, MOST)?;
-    let mut sink = MemorySink::new(alloc);
-    let mut source = MemorySource::new(bytes);
-    let ended = serve_book(&rt, alloc, &mut source, &mut sink, &mut book);
-    assert!(rt; ended == Ok(Ended::Input));
-    assert_eq!(rt; book.events().len(), 400);
+    Ok(bytes)
+}
+
+#[test]
+fn a_full_piece_cuts_no_frame(rt: HostRuntime) -> Result<(), Fail> {
+    // of 400 events of 11 bytes each, the first read of 4,096 bytes ends inside the 373rd
+    let mut source = MemorySource::new(writes(rt.alloc(), 400)?);
+    let mut sink = MemorySink::new(rt.alloc());
+    let session = serve_anew(&rt, &mut source, &mut sink)?;
+    assert!(rt; session.ended == Ok(Ended::Input) && session.events == 400);
     assert_eq!(rt; sink.bytes().len(), 3_600);
     Ok(())
 }

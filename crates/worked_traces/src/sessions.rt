@@ -2,12 +2,13 @@
 use crate::replies::print_refusal;
 use anyhow::{Context, Result, bail};
 use event_files::{event, lines_of, number, words_of};
-use findings::Finding;
+use findings::{Finding, Snapshot};
 use sequencer::{Book, Input, Played, Session, play};
 use std::alloc::Global;
 use std::hash::RandomState;
 use std::io::Write;
 use std::str;
+use std::sync::Arc;
 use trace_model::{Bound, MAX_EVENTS};
 
 /// The session of a number from 0 to 63.
@@ -35,26 +36,33 @@ fn offer_word(book: &mut Book, word: &[u8]) -> Result<()> {
     Ok(())
 }
 
-/// A book of these events, with a question about them.
-fn book_of(rt: &HostRuntime, words: &[&[u8]]) -> Result<Book> {
-    let state = RandomState::new(rt)?;
-    let mut book = Book::new(rt.alloc(), state, MAX_EVENTS as u32)?;
+/// The book accepts the events of the words, and has a question about them.
+fn ask_about(book: &mut Book, words: &[&[u8]]) -> Result<()> {
     for word in words {
-        offer_word(&mut book, word)?;
+        offer_word(book, word)?;
     }
     book.ask(2)?;
-    Ok(book)
+    Ok(())
 }
 
-/// The rows of a task, computed by someone who has a book of these events.
+/// These events, as a book of its own shares them.
+fn snapshot_of(rt: &HostRuntime, words: &[&[u8]]) -> Result<Arc<Snapshot, Global>> {
+    let state = RandomState::new(rt)?;
+    let mut book = Book::new(rt.alloc(), state, MAX_EVENTS as u32)?;
+    ask_about(&mut book, words)?;
+    match book.snapshot(0) {
+        Ok(snapshot) => Ok(snapshot),
+        Err(_) => bail!("no snapshot"),
+    }
+}
+
+/// The rows of a task, computed by someone who has these events.
 fn finding_of(rt: &HostRuntime, about: [u32; 3], words: &[&[u8]]) -> Result<Finding> {
     let [question, bound, task] = about;
     let bound = Bound::new(u8::try_from(bound)?).context("a bound")?;
-    let book = book_of(rt, words)?;
-    let Ok(snapshot) = book.snapshot(0) else {
-        bail!("no snapshot");
-    };
-    Ok(Finding::compute(rt.alloc(), snapshot, question, bound, task)?)
+    let snapshot = snapshot_of(rt, words)?;
+    let finding = Finding::compute(rt.alloc(), snapshot, question, bound, task)?;
+    Ok(finding)
 }
 
 /// What a line of these words brings.

@@ -1,0 +1,34 @@
+//! A session over a book of its own. The book stays in one function: each one that has a book to drop is long to
+//! prove.
+
+use question_server::{Ended, ServeFault, Sink, Source, serve_book};
+use sequencer::Book;
+use std::hash::RandomState;
+use std::random::RandomSource;
+use std::sync::Wait;
+use std::test::*;
+
+const MOST: u32 = 1_048_576;
+
+/// How a session ended, how many events its book then has, and whether that has a question.
+#[derive(Drop)]
+pub(crate) struct Session {
+    pub(crate) ended: Result<Ended, ServeFault>,
+    pub(crate) events: usize,
+    pub(crate) opened: bool,
+}
+
+/// Serves a session over a new book.
+pub(crate) fn serve_anew<S: Source, K: Sink>(
+    rt: &(impl RandomSource + AllocGlobal + Wait),
+    source: &mut S,
+    sink: &mut K,
+) -> Result<Session, Fail> {
+    let mut book = Book::new(rt.alloc(), RandomState::new(rt)?, MOST)?;
+    let ended = serve_book(rt, rt.alloc(), source, sink, &mut book);
+    Ok(Session {
+        ended,
+        events: book.events().len(),
+        opened: book.status(0).is_ok(),
+    })
+}
