@@ -7,3 +7,5 @@ mod desks;
 mod many_findings;
 #[cfg(test)]
 mod refused_growth;
+#[cfg(test)]
+mod segment_edges;
