@@ -18,28 +18,37 @@ fn fault_of(alloc: Global, bytes: &[u8], ended: bool) -> Result<Option<Fault>, N
     Ok(reader.next().err())
 }
 
+const FORKS: Event = Event {
+    thread: 0,
+    op: Op::Fork(1),
+};
+
+const ACQUIRES: Event = Event {
+    thread: 1,
+    op: Op::Acquire(10),
+};
+
+/// The reader's next request is to offer this event.
+fn offers(reader: &mut FrameReader, wanted: Event) -> bool {
+    matches!(reader.next(), Ok(Some(Request::Offer(event))) if event == wanted)
+}
+
+/// The reader has no request.
+fn waits(reader: &mut FrameReader) -> bool {
+    matches!(reader.next(), Ok(None))
+}
+
 #[test]
 fn requests_of_cut_frames(rt: HostRuntime) -> Result<(), Fail> {
     let mut reader = FrameReader::new(rt.alloc());
     reader.feed(&FORK[..1])?;
-    assert!(rt; matches!(reader.next(), Ok(None)));
+    assert!(rt; waits(&mut reader));
     reader.feed(&FORK[1..])?;
     reader.feed(&ACQUIRE[..10])?;
-    let forks = Event {
-        thread: 0,
-        op: Op::Fork(1),
-    };
-    let acquires = Event {
-        thread: 1,
-        op: Op::Acquire(10),
-    };
-    assert!(rt; matches!(reader.next(), Ok(Some(Request::Offer(event))) if event == forks));
-    assert!(rt; matches!(reader.next(), Ok(None)));
+    assert!(rt; offers(&mut reader, FORKS) && waits(&mut reader));
     reader.feed(&ACQUIRE[10..])?;
     reader.finish();
-    assert!(rt; matches!(reader.next(), Ok(Some(Request::Offer(event))) if event == acquires));
-    assert!(rt; matches!(reader.next(), Ok(None)));
-    assert!(rt; reader.is_closed());
+    assert!(rt; offers(&mut reader, ACQUIRES) && waits(&mut reader) && reader.is_closed());
     Ok(())
 }
 
