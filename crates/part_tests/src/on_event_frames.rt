@@ -1,3 +1,5 @@
+ghost use Rattle.std.specs.Prelude.{◌≡◌};
+
 use event_frames::{FrameReader, encode_reply};
 use std::alloc::Global;
 use std::test::*;
@@ -29,12 +31,16 @@ const ACQUIRES: Event = Event {
 };
 
 /// The reader's next request is to offer this event.
-fn offers(reader: &mut FrameReader, wanted: Event) -> bool {
+fn offers(reader: &mut FrameReader, wanted: Event) -> bool
+    ensures { reader.new.ended ≡ reader.old.ended }
+{
     matches!(reader.next(), Ok(Some(Request::Offer(event))) if event == wanted)
 }
 
 /// The reader has no request.
-fn waits(reader: &mut FrameReader) -> bool {
+fn waits(reader: &mut FrameReader) -> bool
+    ensures { reader.new.ended ≡ reader.old.ended }
+{
     matches!(reader.next(), Ok(None))
 }
 
