@@ -142,14 +142,28 @@ fn a_task_comes_once(rt: HostRuntime) -> Result<(), Fail> {
     takes_a_task_once(&rt, &mut book)
 }
 
+/// Why there is no book of this limit.
+fn refused_book(alloc: Global, state: RandomState, limit: u32) -> Option<BookRefused> {
+    Book::new(alloc, state, limit).err()
+}
+
+/// Why there is no run over a book of this limit.
+fn refused_run(alloc: Global, state: RandomState, limit: u32) -> Option<PlayRefused> {
+    play(alloc, state, limit, Vec::new(alloc)).err()
+}
+
 #[test]
 fn limits_of_a_book(rt: HostRuntime) -> Result<(), Fail> {
     let state = RandomState::new(&rt)?;
     for limit in [0, MOST + 1] {
-        let made = Book::new(rt.alloc(), state, limit);
-        assert!(rt; matches!(made, Err(BookRefused::BadLimit)));
-        let run = play(rt.alloc(), state, limit, Vec::new(rt.alloc()));
-        assert!(rt; matches!(run, Err(PlayRefused::BadLimit)));
+        assert_eq!(rt;
+            refused_book(rt.alloc(), state, limit),
+            Some(BookRefused::BadLimit)
+        );
+        assert_eq!(rt;
+            refused_run(rt.alloc(), state, limit),
+            Some(PlayRefused::BadLimit)
+        );
     }
     assert!(rt; Session::new(64).is_none());
     Ok(())
