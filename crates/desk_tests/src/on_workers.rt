@@ -1,6 +1,6 @@
 //! Workers at a desk.
 
-ghost use Rattle.std.specs.Prelude.{◌≡◌};
+ghost use Rattle.std.specs.Prelude.{◌≡◌, ◌≤◌};
 
 use crate::on_desk::{MOST, accepted, is_report, opposite_sections, two_forks};
 use board::{BoardReader, Naming, Opened, Shown};
@@ -102,7 +102,10 @@ pub(crate) fn workers_at<N: Naming, R: Wait + Copy>(
     desk: &Arc<Desk<N, R, Shown<N>>>,
     readers: &mut Vec<BoardReader<N>>,
     count: usize,
-) -> Result<Vec<Worker<N, R, Shown<N>>>, Fail> {
+) -> Result<Vec<Worker<N, R, Shown<N>>>, Fail>
+    requires some { 1 ≤ count }
+    requires few { count ≤ 64 }
+{
     let mut claims = claimants(alloc, count)?;
     let mut workers = Vec::new(alloc);
     for _ in 0..count {
