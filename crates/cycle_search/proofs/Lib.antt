@@ -2,4 +2,5 @@ pub mod Listing
 pub mod Paths
 pub mod Turns
 pub mod Ranked
+pub mod Listed
 pub mod Left

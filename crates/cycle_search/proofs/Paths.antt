@@ -16,7 +16,7 @@ use Rattle.trace_model.specs.Held.{has}
 use Rattle.held_sets.proofs.Locks.{has_contains, contains_has}
 use Rattle.guards.specs.Compatible.{NumbersApart, IsCompatible}
 use Rattle.lock_graph.specs.Graph.{IsGraphOf}
-use Rattle.cycle_search.specs.Search.{IsPath, Follows, Closes, LinksTo, AboveFirst, AreNexts}
+use Rattle.cycle_search.specs.Search.{IsPath, Follows, Closes, LinksTo, TakesBack, AboveFirst, AreNexts}
 use Rattle.cycle_search.proofs.Listing.{get-left}
 
 -- the number's dependency
@@ -204,6 +204,14 @@ module _ (ds : List Dependency) (path : List ℕ) (p : IsPath ds path) (last : D
       let one : get_or path (length path - 1) 0 ≡ n = ap (λ i. get_or path i 0) (sym same) ∙ get_or_from_slice_get path k n 0 x in
       same_Some last a (sym at ∙ ap (slice_get ds) one ∙ y)
 
+  pub links-decided : (m : ℕ) (next : Dependency) → slice_get ds m ≡ Some next → (b : Bool) →
+      IsTrue b ↔ Contains next.held last.lock → IsTrue b ↔ LinksTo ds path m
+  links-decided m next here b decides = (
+    (λ t k a n e x y.
+        subst (λ z. Contains z.held a.lock) (same_Some next n (sym here ∙ y)) (subst (λ z. Contains next.held z.lock) (is-last k a e x) (decides.0 t))),
+    (λ links. decides.1 (links (length path - 1) last next (omega (arith, p.begun)) last-member here)),
+  )
+
   pub closes-decided : (first : Dependency) → slice_get ds (get_or path 0 0) ≡ Some first → (b : Bool) →
       IsTrue b ↔ Contains first.held last.lock → IsTrue b ↔ Closes ds path
   closes-decided first head b decides = (
@@ -241,6 +249,21 @@ closed-back ds path m first last begun head at closes =
     closes (length path) first last (sym (length-push path m))
     (get_or path 0 0, get-push_kept path m 0 (get_or path 0 0) (slice_get-get_or path 0 0 begun), head)
     (m, at-end path m [], at)
+
+-- the last member of a cycle takes such a lock
+pub last-takes_back : (ds : List Dependency) (bound : ℕ) (path : List ℕ) (m : ℕ) (rest : List ℕ) → IsPath ds path → bound ≤ length path + 1 →
+    IsCycle ds bound (path ++ m ∷ rest) → TakesBack ds path m
+last-takes_back ds bound path m (x ∷ rest) p full c = absurd (omega (arith, full, c.at_most, length-append path (m ∷ x ∷ rest)))
+last-takes_back ds bound path m [] p full c =
+    let f = follows-from_cycle ds bound path m [] p.begun c in
+    let first = found ds (get_or path 0 0) (p.known 0 0 p.begun) in
+    let last = found ds m f.known in (
+      first.0,
+      last.0,
+      (get_or path 0 0, slice_get-get_or path 0 0 p.begun, first.1),
+      last.1,
+      closed-back ds path m first.0 last.0 p.begun first.1 last.1 (closes-from_cycle ds bound (path ++ m ∷ []) c),
+    )
 
 -- a number that passed the test of the code
 pub path-tested : (ds : List Dependency) (path : List ℕ) (m : ℕ) (members : List ℕ) → IsPath ds path → m < length ds → AboveFirst path m → LinksTo ds path m →

@@ -9,11 +9,13 @@ use Rattle.trace_model.specs.Cycles.{Member, next, IsCycle}
 use Rattle.trace_model.proofs.Unique.{contains_had}
 use Rattle.cycle_search.specs.Search.{CycleThrough, AreAll}
 use Rattle.lock_graph.specs.Graph.{IsGraphOf}
+use Rattle.cycle_search.specs.declared.ranks.Ranks.{Ranks}
 use Rattle.cycle_search.specs.Ranked.{AreRanks, Rises}
+use Rattle.cycle_search.specs.Takers.{takers_of, AreTakers}
 use Rattle.cycle_search.proofs.Listing.{all-none, get-left}
 use Rattle.cycle_search.proofs.Paths.{found, next-inside, next-last, at-end}
 
-module _ (ds : List Dependency) (bound : ℕ) (numbers : List ℕ) (c : IsCycle ds bound numbers) (ranks : List ℕ) (are : AreRanks ds ranks) where
+module _ (ds : List Dependency) (bound : ℕ) (numbers : List ℕ) (c : IsCycle ds bound numbers) (ranks : Ranks) (are : AreRanks ds ranks) where
   at : (i : ℕ) → i < length numbers → (d : Dependency) × Member ds numbers i d
   at i l =
       let x = slice_get-get_or numbers i 0 l in
@@ -21,7 +23,7 @@ module _ (ds : List Dependency) (bound : ℕ) (numbers : List ℕ) (c : IsCycle 
       (d.0, (get_or numbers i 0, x, d.1))
 
   step : (i j : ℕ) → next numbers i ≡ j → i < length numbers → j < length numbers →
-      get_or ranks (get_or numbers i 0) 0 ≤ get_or ranks (get_or numbers j 0) 0
+      get_or ranks.numbers.items (get_or numbers i 0) 0 ≤ get_or ranks.numbers.items (get_or numbers j 0) 0
   unfolding at
   step i j e k l =
       let a = at i k in
@@ -29,17 +31,17 @@ module _ (ds : List Dependency) (bound : ℕ) (numbers : List ℕ) (c : IsCycle 
       are.rise (get_or numbers i 0) (get_or numbers j 0) a.0 b.0 a.1.2 b.1.2
       (c.linked i a.0 b.0 a.1 (subst (λ n. Member ds numbers n b.0) (sym e) b.1))
 
-  rises : (i j : ℕ) → i ≤ j → j < length numbers → get_or ranks (get_or numbers i 0) 0 ≤ get_or ranks (get_or numbers j 0) 0
-  rises i zero l inside = let e = ap (λ n. get_or ranks (get_or numbers n 0) 0) (let same : i ≡ 0 = omega arith in same) in omega (arith, e)
+  rises : (i j : ℕ) → i ≤ j → j < length numbers → get_or ranks.numbers.items (get_or numbers i 0) 0 ≤ get_or ranks.numbers.items (get_or numbers j 0) 0
+  rises i zero l inside = let e = ap (λ n. get_or ranks.numbers.items (get_or numbers n 0) 0) (let same : i ≡ 0 = omega arith in same) in omega (arith, e)
   rises i (suc j) l inside = elim (cases_eq i (suc j)) [
-    | inl same ↦ let e = ap (λ n. get_or ranks (get_or numbers n 0) 0) same in omega (arith, e)
+    | inl same ↦ let e = ap (λ n. get_or ranks.numbers.items (get_or numbers n 0) 0) same in omega (arith, e)
     | inr differ ↦ omega (arith, rises i j (omega (arith, differ, l)) (omega arith), step j (suc j) (next-inside numbers j inside) (omega arith) inside)
   ]
 
-  pub ranks-equal : (j : ℕ) → j < length numbers → get_or ranks (get_or numbers 0 0) 0 ≡ get_or ranks (get_or numbers j 0) 0
+  pub ranks-equal : (j : ℕ) → j < length numbers → get_or ranks.numbers.items (get_or numbers 0 0) 0 ≡ get_or ranks.numbers.items (get_or numbers j 0) 0
   ranks-equal j inside = go (length numbers) refl
     where
-      go : (n : ℕ) → length numbers ≡ n → get_or ranks (get_or numbers 0 0) 0 ≡ get_or ranks (get_or numbers j 0) 0
+      go : (n : ℕ) → length numbers ≡ n → get_or ranks.numbers.items (get_or numbers 0 0) 0 ≡ get_or ranks.numbers.items (get_or numbers j 0) 0
       go zero e = absurd (omega (arith, e, inside))
       go (suc n) e = omega (
         arith,
@@ -49,30 +51,32 @@ module _ (ds : List Dependency) (bound : ℕ) (numbers : List ℕ) (c : IsCycle 
       )
 
 -- nothing goes on with a number of another rank than the first
-pub other-rank : (ds : List Dependency) (bound : ℕ) (path : List ℕ) (m : ℕ) (ranks : List ℕ) → AreRanks ds ranks → 0 < length path →
-    (get_or ranks (get_or path 0 0) 0 ≡ get_or ranks m 0 → ⊥) → AreAll (CycleThrough ds bound path m) []
+pub other-rank : (ds : List Dependency) (bound : ℕ) (path : List ℕ) (m : ℕ) (ranks : Ranks) → AreRanks ds ranks → 0 < length path →
+    (get_or ranks.numbers.items (get_or path 0 0) 0 ≡ get_or ranks.numbers.items m 0 → ⊥) → AreAll (CycleThrough ds bound path m) []
 other-rank ds bound path m ranks are begun differ = all-none (CycleThrough ds bound path m) (λ n h.
     let rest = h.1.0 in
     let c : IsCycle ds bound (path ++ m ∷ rest) = subst (λ x. IsCycle ds bound x) h.1.1 h.0 in
     let head = get_or_from_slice_get (path ++ m ∷ rest) 0 (get_or path 0 0) 0 (get-left path (m ∷ rest) 0 (get_or path 0 0) (slice_get-get_or path 0 0 begun)) in
     let last = get_or_from_slice_get (path ++ m ∷ rest) (length path) m 0 (at-end path m rest) in
     let e = ranks-equal ds bound (path ++ m ∷ rest) c ranks are (length path) (omega (arith, length-append path (m ∷ rest))) in
-    differ (ap (λ x. get_or ranks x 0) (sym head) ∙ e ∙ ap (λ x. get_or ranks x 0) last))
+    differ (ap (λ x. get_or ranks.numbers.items x 0) (sym head) ∙ e ∙ ap (λ x. get_or ranks.numbers.items x 0) last))
 
 -- ranks of the locks that the dependencies take
-pub map-more : {X : Type 0} (f : X → ℕ) (xs : List X) (i : ℕ) (x : X) → slice_get xs i ≡ Some x → map f (take (suc i) xs) ≡ map f (take i xs) ++ f x ∷ []
+pub map-more : {X Y : Type 0} (f : X → Y) (xs : List X) (i : ℕ) (x : X) → slice_get xs i ≡ Some x → map f (take (suc i) xs) ≡ map f (take i xs) ++ f x ∷ []
 map-more f [] i x h = absurd (none-some x h)
 map-more f (y ∷ xs) zero x h = ap (λ z. f z ∷ []) (same_Some y x h)
 map-more f (y ∷ xs) (suc i) x h = ap (λ ys. f y ∷ ys) (map-more f xs i x h)
 
-pub ranks-rise : (ds : List Dependency) (rank : ℕ → ℕ) (ranks : List ℕ) → ranks ≡ map (λ d. rank d.lock) ds → Rises ds rank → AreRanks ds ranks
-ranks-rise ds rank ranks e up = record {
+pub ranks-rise : (ds : List Dependency) (rank : ℕ → ℕ) (ranks : Ranks) → ranks.numbers.items ≡ map (λ d. rank d.lock) ds → Rises ds rank →
+    AreTakers ds (takers_of ranks.takers) → AreRanks ds ranks
+ranks-rise ds rank ranks e up takers = record {
   each = ap (λ (xs : List ℕ). length xs) e ∙ length-map ds (λ d. rank d.lock);
   rise = λ m n a b x y c. omega (arith, of m a x, of n b y, up n a.lock b y c);
+  takers = takers;
 }
   where
-    of : (m : ℕ) (a : Dependency) → slice_get ds m ≡ Some a → get_or ranks m 0 ≡ rank a.lock
-    of m a x = get_or_from_slice_get ranks m (rank a.lock) 0 (ap (λ (xs : List ℕ). slice_get xs m) e ∙ slice_get-map (λ d. rank d.lock) ds m ∙ ap (option_map (λ d. rank d.lock)) x)
+    of : (m : ℕ) (a : Dependency) → slice_get ds m ≡ Some a → get_or ranks.numbers.items m 0 ≡ rank a.lock
+    of m a x = get_or_from_slice_get ranks.numbers.items m (rank a.lock) 0 (ap (λ (xs : List ℕ). slice_get xs m) e ∙ slice_get-map (λ d. rank d.lock) ds m ∙ ap (option_map (λ d. rank d.lock)) x)
 
 -- a number that the graph lists for a lock is one of a dependency
 pub listed-known : (ds : List Dependency) (graph : ℕ → List ℕ) → IsGraphOf ds graph → (lock n : ℕ) (listed : List ℕ) → listed ≡ graph lock → Contains listed n → n < length ds

@@ -1,5 +1,5 @@
 -- One turn of the search after another.
-use Rattle.std.proofs.Common.{◌≡◌, ℕ, ◌+◌, ◌<◌, ◌≤◌, inl, inr, List, [], ◌∷◌, ◌++◌, length, slice_get, Some, refl, sym, ap, ◌∙◌, subst, append_assoc, arith}
+use Rattle.std.proofs.Common.{◌≡◌, ℕ, ◌+◌, ◌<◌, ◌≤◌, ◌⊎◌, inl, inr, None, List, [], ◌∷◌, ◌++◌, length, slice_get, Some, refl, sym, ap, ◌∙◌, subst, append_assoc, arith}
 use Rattle.std.proofs.lemmas.Option.{none-some, same_Some, slice_get_within}
 use Rattle.std.proofs.lemmas.List.{length-append}
 use Rattle.std.proofs.lemmas.Bool.{cases_lt}
@@ -7,10 +7,11 @@ use Rattle.std.specs.List.Sorted.{IsStrictlyIncreasing}
 use Rattle.trace_model.specs.Dependencies.{Dependency}
 use Rattle.trace_model.specs.Cycles.{ListBelow, IsCycle, AreCyclesFrom}
 use Rattle.trace_model.proofs.Unique.{has_contained, increasing_ordered}
-use Rattle.cycle_search.specs.Search.{AreSome, AreAll, Adds, Exceeds, MoreThan, CycleFrom, CycleBeyond, CycleThrough, CycleAmong, IsPath, Follows, Closes, AreNexts}
-use Rattle.cycle_search.proofs.Listing.{below-after, some-join, all-join, some-weaker, all-same, all-none, all-one}
+use Rattle.cycle_search.specs.Search.{AreSome, AreAll, Adds, Exceeds, MoreThan, CycleFrom, CycleBeyond, CycleThrough, CycleOver, IsAmong, CycleAmong, CycleUpTo, IsPath, Follows, Closes, TakesBack, AreNexts}
+use Rattle.cycle_search.specs.Takers.{IsNext}
+use Rattle.cycle_search.proofs.Listing.{below-after, some-join, all-join, some-weaker, all-same, all-none, all-one, append-nil}
 use Rattle.trace_model.proofs.Lists.{length-push}
-use Rattle.cycle_search.proofs.Paths.{cycle-from_path, follows-from_cycle, closed-no_more, closes-from_cycle}
+use Rattle.cycle_search.proofs.Paths.{cycle-from_path, follows-from_cycle, closed-no_more, closes-from_cycle, last-takes_back}
 
 module _ (ds : List Dependency) (bound : ℕ) (path : List ℕ) (m : ℕ) where
   -- nothing goes on with a number that does not follow
@@ -59,60 +60,124 @@ module _ (ds : List Dependency) (bound : ℕ) (path : List ℕ) (m : ℕ) where
       over : (n : List ℕ) → CycleBeyond ds bound (path ++ m ∷ []) n → ⊥
       over n (c, (x, rest, e)) = omega (arith, c.at_most, ap length e, length-append (path ++ m ∷ []) (x ∷ rest), long)
 
+module _ (ds : List Dependency) (bound : ℕ) (path : List ℕ) (P : ℕ → Type 0) where
+  module _ (m : ℕ) (less : (n : ℕ) → P n → n < m) where
+    below : (a b : List ℕ) → CycleOver ds bound path P a → CycleThrough ds bound path m b → ListBelow a b
+    below a b (n, p, (c, (rest, e))) (d, (more, f)) =
+        subst (λ z. ListBelow z b) (sym e) (subst (λ z. ListBelow (path ++ n ∷ rest) z) (sym f) (below-after path n m rest more (less n p)))
+
+    -- the numbers so far, and a greater one
+    pub over-more : (Q : ℕ → Type 0) → ((n : ℕ) → P n → Q n) → Q m →
+        ((n : ℕ) (numbers : List ℕ) → Q n → CycleThrough ds bound path n numbers → P n ⊎ (n ≡ m)) → (old mid new : List (List ℕ)) →
+        Adds (CycleOver ds bound path P) old mid → Adds (CycleThrough ds bound path m) mid new → Adds (CycleOver ds bound path Q) old new
+    over-more Q grows here split old mid new (xs, e, p) (ys, f, q) = (
+      xs ++ ys,
+      f ∙ ap (λ z. z ++ ys) e ∙ append_assoc old xs ys,
+      all-join (CycleOver ds bound path P) (CycleThrough ds bound path m) (CycleOver ds bound path Q) xs ys p q
+          (λ n h. (h.0, grows h.0 h.1, h.2))
+          (λ n h. (m, here, h))
+          (λ n h. elim (split h.0 n h.1 h.2) [
+            | inl u ↦ inl (h.0, u, h.2)
+            | inr u ↦ inr (subst (λ x. CycleThrough ds bound path x n) u h.2)
+          ])
+          below,
+    )
+
+    pub over-exceeds : (most : ℕ) (old mid : List (List ℕ)) → Adds (CycleOver ds bound path P) old mid →
+        Exceeds (CycleThrough ds bound path m) most mid → Exceeds (CycleBeyond ds bound path) most old
+    over-exceeds most old mid (xs, e, p) (ys, q, l) = (
+      xs ++ ys,
+      some-join (CycleOver ds bound path P) (CycleThrough ds bound path m) (CycleBeyond ds bound path) xs ys p.some q
+          (λ n h. (h.2.0, (h.0, h.2.1.0, h.2.1.1)))
+          (λ n h. (h.0, (m, h.1.0, h.1.1)))
+          below,
+      omega (arith, l, ap length e, length-append old xs, length-append xs ys),
+    )
+
+  -- every cycle that goes on has such a number next
+  pub over-end : ((n : ℕ) (numbers : List ℕ) → CycleThrough ds bound path n numbers → P n) → (old new : List (List ℕ)) →
+      Adds (CycleOver ds bound path P) old new → Adds (CycleBeyond ds bound path) old new
+  over-end covers old new (xs, e, p) = (
+    xs,
+    e,
+    all-same (CycleOver ds bound path P) (CycleBeyond ds bound path) xs
+        (λ n h. (h.2.0, (h.0, h.2.1.0, h.2.1.1)))
+        (λ n h. (h.1.0, covers h.1.0 n (h.0, (h.1.1, h.1.2)), (h.0, (h.1.1, h.1.2))))
+        p,
+  )
+
+-- the numbers of a list, one after another
 module _ (ds : List Dependency) (bound : ℕ) (path nexts : List ℕ) where
-  below : IsStrictlyIncreasing nexts → (i m : ℕ) → slice_get nexts i ≡ Some m → (a b : List ℕ) →
-      CycleAmong ds bound path nexts i a → CycleThrough ds bound path m b → ListBelow a b
-  below up i m at a b (k, n, l, g, (c, (rest, e))) (d, (more, f)) =
-      let less : n < m = increasing_ordered nexts up k i n m l g at in
-      subst (λ z. ListBelow z b) (sym e) (subst (λ z. ListBelow (path ++ n ∷ rest) z) (sym f) (below-after path n m rest more less))
+  module _ (up : IsStrictlyIncreasing nexts) (i m : ℕ) (at : slice_get nexts i ≡ Some m) where
+    less : (n : ℕ) → IsAmong nexts i n → n < m
+    less n (k, l, g) = increasing_ordered nexts up k i n m l g at
 
-  module _ (up : IsStrictlyIncreasing nexts) (i m : ℕ) (at : slice_get nexts i ≡ Some m) (xs ys : List (List ℕ)) where
-    pub among-more : AreAll (CycleAmong ds bound path nexts i) xs → AreAll (CycleThrough ds bound path m) ys →
-        AreAll (CycleAmong ds bound path nexts (i + 1)) (xs ++ ys)
-    among-more p q = all-join (CycleAmong ds bound path nexts i) (CycleThrough ds bound path m) (CycleAmong ds bound path nexts (i + 1)) xs ys p q
-        (λ n h. (h.0, h.1, omega (arith, h.2), h.3, h.4))
-        (λ n h. (i, m, omega arith, at, h))
-        (λ n h. elim (cases_lt h.0 i) [
-          | inl l ↦ inl (h.0, h.1, l, h.3, h.4)
-          | inr l ↦
-              let same : h.0 ≡ i = omega (arith, l, h.2) in
-              let one : h.1 ≡ m = same_Some h.1 m (sym h.3 ∙ ap (slice_get nexts) same ∙ at) in
-              inr (subst (λ x. CycleThrough ds bound path x n) one h.4)
+    pub adds-more : (old mid new : List (List ℕ)) → Adds (CycleAmong ds bound path nexts i) old mid → Adds (CycleThrough ds bound path m) mid new →
+        Adds (CycleAmong ds bound path nexts (i + 1)) old new
+    adds-more = over-more ds bound path (IsAmong nexts i) m less (IsAmong nexts (i + 1))
+        (λ n h. (h.0, omega (arith, h.1), h.2))
+        (i, omega arith, at)
+        (λ n numbers h c. elim (cases_lt h.0 i) [
+          | inl l ↦ inl (h.0, l, h.2)
+          | inr l ↦ let same : h.0 ≡ i = omega (arith, l, h.1) in inr (same_Some n m (sym h.2 ∙ ap (slice_get nexts) same ∙ at))
         ])
-        (below up i m at)
 
-    pub among-some : AreAll (CycleAmong ds bound path nexts i) xs → AreSome (CycleThrough ds bound path m) ys →
-        AreSome (CycleBeyond ds bound path) (xs ++ ys)
-    among-some p q = some-join (CycleAmong ds bound path nexts i) (CycleThrough ds bound path m) (CycleBeyond ds bound path) xs ys p.some q
-        (λ n h. (h.4.0, (h.1, h.4.1.0, h.4.1.1)))
-        (λ n h. (h.0, (m, h.1.0, h.1.1)))
-        (below up i m at)
-
-  pub among-end : (i : ℕ) (xs : List (List ℕ)) → 0 < length path → AreNexts ds path nexts → length nexts ≤ i →
-      AreAll (CycleAmong ds bound path nexts i) xs → AreAll (CycleBeyond ds bound path) xs
-  among-end i xs begun a end p = all-same (CycleAmong ds bound path nexts i) (CycleBeyond ds bound path) xs
-      (λ n h. (h.4.0, (h.1, h.4.1.0, h.4.1.1)))
-      (λ n h.
-      let f = follows-from_cycle ds bound path h.1.0 h.1.1 begun (subst (λ x. IsCycle ds bound x) h.1.2 h.0) in
-      let k = has_contained nexts h.1.0 (a.complete h.1.0 f.known f.above f.linked) in
-      let l = slice_get_within nexts k.0 h.1.0 k.1 in
-      (k.0, h.1.0, omega (arith, l, end), k.1, (h.0, (h.1.1, h.1.2))))
-      p
-
-  pub adds-more : IsStrictlyIncreasing nexts → (i m : ℕ) → slice_get nexts i ≡ Some m → (old mid new : List (List ℕ)) →
-      Adds (CycleAmong ds bound path nexts i) old mid → Adds (CycleThrough ds bound path m) mid new →
-      Adds (CycleAmong ds bound path nexts (i + 1)) old new
-  adds-more up i m at old mid new (xs, e, p) (ys, f, q) =
-      (xs ++ ys, f ∙ ap (λ z. z ++ ys) e ∙ append_assoc old xs ys, among-more up i m at xs ys p q)
-
-  pub exceeds-more : IsStrictlyIncreasing nexts → (most i m : ℕ) → slice_get nexts i ≡ Some m → (old mid : List (List ℕ)) →
-      Adds (CycleAmong ds bound path nexts i) old mid → Exceeds (CycleThrough ds bound path m) most mid → Exceeds (CycleBeyond ds bound path) most old
-  exceeds-more up most i m at old mid (xs, e, p) (ys, q, l) =
-      (xs ++ ys, among-some up i m at xs ys p q, omega (arith, l, ap length e, length-append old xs, length-append xs ys))
+    pub exceeds-more : (most : ℕ) (old mid : List (List ℕ)) → Adds (CycleAmong ds bound path nexts i) old mid →
+        Exceeds (CycleThrough ds bound path m) most mid → Exceeds (CycleBeyond ds bound path) most old
+    exceeds-more = over-exceeds ds bound path (IsAmong nexts i) m less
 
   pub adds-end : (i : ℕ) (old new : List (List ℕ)) → 0 < length path → AreNexts ds path nexts → length nexts ≤ i →
       Adds (CycleAmong ds bound path nexts i) old new → Adds (CycleBeyond ds bound path) old new
-  adds-end i old new begun a end (xs, e, p) = (xs, e, among-end i xs begun a end p)
+  adds-end i old new begun a end = over-end ds bound path (IsAmong nexts i)
+      (λ n numbers h.
+      let f = follows-from_cycle ds bound path n h.1.0 begun (subst (λ x. IsCycle ds bound x) h.1.1 h.0) in
+      let k = has_contained nexts n (a.complete n f.known f.above f.linked) in
+      let l = slice_get_within nexts k.0 n k.1 in
+      (k.0, omega (arith, l, end), k.1))
+      old new
+
+-- the last members, by the locks that they take
+module _ (ds : List Dependency) (bound : ℕ) (path : List ℕ) (p : IsPath ds path) (one : length path + 1 ≡ bound) where
+  closer : (n : ℕ) (numbers : List ℕ) → CycleThrough ds bound path n numbers → TakesBack ds path n
+  closer n numbers (c, (rest, e)) = last-takes_back ds bound path n rest p (omega arith) (subst (λ x. IsCycle ds bound x) e c)
+
+  module _ (last m : ℕ) (least : IsNext last (TakesBack ds path) (Some m)) where
+    above : last < m
+    above = (least.sound m refl).0
+
+    pub closers-more : (old mid new : List (List ℕ)) → Adds (CycleUpTo ds bound path last) old mid → Adds (CycleThrough ds bound path m) mid new →
+        Adds (CycleUpTo ds bound path m) old new
+    closers-more = over-more ds bound path (λ n. n ≤ last) m (λ n l. omega (arith, above)) (λ n. n ≤ m)
+        (λ n l. omega (arith, above))
+        (omega arith)
+        (λ n numbers l c. elim (cases_lt last n) [
+          | inl more ↦
+              let (k, e, within) = least.least n (more, closer n numbers c) in
+              inr (omega (arith, same_Some m k e))
+          | inr less ↦ inl less
+        ])
+
+    pub closers-exceed : (most : ℕ) (old mid : List (List ℕ)) → Adds (CycleUpTo ds bound path last) old mid →
+        Exceeds (CycleThrough ds bound path m) most mid → Exceeds (CycleBeyond ds bound path) most old
+    closers-exceed = over-exceeds ds bound path (λ n. n ≤ last) m (λ n l. omega (arith, above))
+
+  pub closers-end : (last : ℕ) → IsNext last (TakesBack ds path) None → (old new : List (List ℕ)) →
+      Adds (CycleUpTo ds bound path last) old new → Adds (CycleBeyond ds bound path) old new
+  closers-end last least = over-end ds bound path (λ n. n ≤ last)
+      (λ n numbers c. elim (cases_lt last n) [
+        | inl more ↦ let (k, e, within) = least.least n (more, closer n numbers c) in absurd (none-some k e)
+        | inr less ↦ less
+      ])
+
+  -- no cycle goes on with a number up to the first
+  pub closers-begin : (first : ℕ) (old : List (List ℕ)) → slice_get path 0 ≡ Some first → Adds (CycleUpTo ds bound path first) old old
+  closers-begin first old at = (
+    [],
+    sym (append-nil old),
+    all-none (CycleUpTo ds bound path first) (λ n (m, l, (c, (rest, e))).
+        let f = follows-from_cycle ds bound path m rest p.begun (subst (λ x. IsCycle ds bound x) e c) in
+        omega (arith, l, f.above first at)),
+  )
 
 module _ (ds : List Dependency) (bound root : ℕ) where
   beyond-root : (n : List ℕ) → CycleBeyond ds bound (root ∷ []) n → CycleFrom ds bound root n

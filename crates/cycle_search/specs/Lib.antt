@@ -1,3 +1,4 @@
 pub mod Search
 pub mod Ranked
+pub mod Takers
 pub mod Walk

@@ -1,14 +1,18 @@
--- Ranks of dependencies, which are equal all round a cycle.
+-- Ranks of dependencies, which are equal all round a cycle, and the takers of locks beside them.
 use Rattle.std.specs.Prelude.{◌≡◌, ◌≤◌, ℕ, List, length, slice_get, slice_index, Some, nat_eq, unwrap_or}
 use Rattle.std.specs.List.{Contains}
 use Rattle.std.specs.HashMap.{get, HashMap}
 use Rattle.trace_model.specs.Dependencies.{Dependency}
+use Rattle.cycle_search.specs.declared.ranks.Ranks.{Ranks}
+use Rattle.cycle_search.specs.Takers.{takers_of, AreTakers}
 
--- a rank for each dependency, which does not fall from a dependency to one that holds its lock
-pub record AreRanks (ds : List Dependency) (ranks : List ℕ) : Type 0 where
-  pub each : length ranks ≡ length ds
+-- a rank for each dependency, which does not fall from a dependency to one that holds its lock, and for each
+-- lock the dependencies that take it
+pub record AreRanks (ds : List Dependency) (ranks : Ranks) : Type 0 where
+  pub each : length ranks.numbers.items ≡ length ds
   pub rise : (m n : ℕ) (a b : Dependency) → slice_get ds m ≡ Some a → slice_get ds n ≡ Some b → Contains b.held a.lock →
-      slice_index ranks m ≤ slice_index ranks n
+      slice_index ranks.numbers.items m ≤ slice_index ranks.numbers.items n
+  pub takers : AreTakers ds (takers_of ranks.takers)
 
 -- the rank that a table has for a lock, 0 where it has none
 abbrev pub rank_in : {S : Type 0} → HashMap ℕ ℕ S → ℕ → ℕ

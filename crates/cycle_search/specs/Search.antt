@@ -43,10 +43,21 @@ abbrev pub CycleThrough : List Dependency → ℕ → List ℕ → ℕ → List 
 CycleThrough ds bound path next numbers =
     IsCycle ds bound numbers × ((rest : List ℕ) × (numbers ≡ path ++ next ∷ rest))
 
--- one that goes on with one of the first i of these numbers
+-- one that goes on with a number that has the property
+abbrev pub CycleOver : List Dependency → ℕ → List ℕ → (ℕ → Type 0) → List ℕ → Type 0
+CycleOver ds bound path P numbers = (next : ℕ) × P next × CycleThrough ds bound path next numbers
+
+-- the number is one of the first i of these
+abbrev pub IsAmong : List ℕ → ℕ → ℕ → Type 0
+IsAmong nexts i next = (k : ℕ) × (k < i) × (slice_get nexts k ≡ Some next)
+
+-- a cycle that goes on with one of the first i of these numbers
 abbrev pub CycleAmong : List Dependency → ℕ → List ℕ → List ℕ → ℕ → List ℕ → Type 0
-CycleAmong ds bound path nexts i numbers =
-    (k next : ℕ) × (k < i) × (slice_get nexts k ≡ Some next) × CycleThrough ds bound path next numbers
+CycleAmong ds bound path nexts i = CycleOver ds bound path (IsAmong nexts i)
+
+-- one that goes on with a number up to the last
+abbrev pub CycleUpTo : List Dependency → ℕ → List ℕ → ℕ → List ℕ → Type 0
+CycleUpTo ds bound path last = CycleOver ds bound path (λ next. next ≤ last)
 
 -- the path may be the beginning of a cycle
 pub record IsPath (ds : List Dependency) (path : List ℕ) : Type 0 where
@@ -60,6 +71,11 @@ pub record IsPath (ds : List Dependency) (path : List ℕ) : Type 0 where
 -- the lock of the last member is in the held set of the number's dependency
 abbrev pub LinksTo : List Dependency → List ℕ → ℕ → Type 0
 LinksTo ds path next = (k : ℕ) (a b : Dependency) → suc k ≡ length path → Member ds path k a → slice_get ds next ≡ Some b → Contains b.held a.lock
+
+-- the number's dependency takes a lock that is in the held set of the first member
+abbrev pub TakesBack : List Dependency → List ℕ → ℕ → Type 0
+TakesBack ds path next =
+    (first last : Dependency) × Member ds path 0 first × (slice_get ds next ≡ Some last) × Contains first.held last.lock
 
 -- the number is above the first one of the path
 abbrev pub AboveFirst : List ℕ → ℕ → Type 0

@@ -1,11 +1,13 @@
 //! The cycles of a table of dependencies.
 #![tactic(auto)]
 
+mod ascending;
 mod cycle;
 mod parts;
 mod ranks;
 mod refused;
 mod search;
+mod takers;
 
 pub use cycle::Cycle;
 pub use ranks::Ranks;

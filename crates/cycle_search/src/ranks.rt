@@ -5,33 +5,29 @@ ghost use Rattle.lock_graph.specs.Graph.{HasGraphOf};
 ghost use Rattle.cycle_search.specs.Ranked.{AreRanks, rank_in, Rises};
 
 use crate::parts::{LockRanks, lock_ranks};
+use crate::takers::Takers;
 use dependencies::DepTable;
 use lock_graph::LockGraph;
 use std::alloc::Global;
 use std::collections::HashMap;
 use std::collections::hash_map::RandomState;
-use std::marker::Model;
 use trace_model::NoMemory;
 
 /// A rank for each dependency of a table, which never falls from a dependency to one that holds its lock.
-/// So the members of a cycle have one rank, and a search leaves all others out. No answer depends on it.
+/// So the members of a cycle have one rank, and a search leaves all others out. Beside it, for each lock the
+/// dependencies that take it: a search finds a cycle's last member among those that take what the first one
+/// holds. No answer depends on either.
 #[derive(Drop)]
 pub struct Ranks {
     numbers: Vec<u32>,
-}
-
-impl Model for Ranks {
-    ghost use Rattle.std.specs.Prelude.{List, ℕ};
-
-    ghost Value = { List ℕ };
-
-    ghost view = { λ r. r.numbers.items };
+    takers: Takers,
 }
 
 impl Ranks {
     /// The ranks of the table's dependencies, whose graph is given (later ones that it may have besides are
     /// left out): the strongly connected parts of
-    /// their locks, in order. It takes time in proportion to the locks that the dependencies hold.
+    /// their locks, in order. It takes time in proportion to the locks that the dependencies hold, and the ranks
+    /// keep two numbers for each dependency.
     ///
     /// # Errors
     ///
@@ -48,16 +44,24 @@ impl Ranks {
         let found = lock_ranks(alloc, state, table, graph)?;
         let ranks = rising(alloc, state, table, found);
         let numbers = ranks_of(alloc, table, &ranks)?;
-        Ok(Ranks { numbers })
+        let takers = Takers::new(alloc, state, table)?;
+        Ok(Ranks { numbers, takers })
     }
 
     /// Whether the dependencies of two numbers have one rank.
     pub fn are_equal(&self, first: u32, second: u32) -> bool
-        requires first { first < length self.now }
-        requires second { second < length self.now }
-        ensures { result ≡ nat_eq (slice_index self.now first) (slice_index self.now second) }
+        requires first { first < length self.now.numbers.items }
+        requires second { second < length self.now.numbers.items }
+        ensures { result ≡ nat_eq (slice_index self.now.numbers.items first) (slice_index self.now.numbers.items second) }
     {
         self.numbers[first as usize] == self.numbers[second as usize]
+    }
+
+    /// The dependencies that take each lock.
+    pub(crate) fn takers(&self) -> &Takers
+        ensures { result.now ≡ self.now.takers }
+    {
+        &self.takers
     }
 }
 

@@ -1,13 +1,13 @@
-ghost use Rattle.std.specs.Prelude.{◌≡◌, ◌<◌, ◌≤◌, ◌↔◌, ◌+◌, ◌++◌, ◌∷◌, [], slice_index, length, IsTrue, IfOk, OnOk, Err, ℕ};
-ghost use Rattle.std.specs.List.{Contains};
-ghost use Rattle.std.specs.List.Sorted.{IsStrictlyIncreasing};
+ghost use Rattle.std.specs.Prelude.{◌≡◌, ◌<◌, ◌≤◌, ◌↔◌, ◌+◌, ◌++◌, ◌∷◌, [], slice_index, length, IsTrue, IfOk, OnOk, Err};
 ghost use Rattle.trace_model.specs.declared.limits.TheConstants.{MAX_CYCLES};
 ghost use Rattle.trace_model.specs.Cycles.{AreCyclesFrom};
 ghost use Rattle.dependencies.specs.Tables.{known};
 ghost use Rattle.lock_graph.specs.Graph.{HasGraphOf};
 ghost use Rattle.cycle_search.specs.Ranked.{AreRanks};
-ghost use Rattle.cycle_search.specs.Search.{IsPath, Closes, AboveFirst, LinksTo, AreNexts, Adds, Exceeds, MoreThan, CycleFrom, CycleBeyond, CycleThrough};
+ghost use Rattle.cycle_search.specs.Takers.{IsNext};
+ghost use Rattle.cycle_search.specs.Search.{IsPath, Closes, AboveFirst, LinksTo, TakesBack, AreNexts, Adds, Exceeds, MoreThan, CycleFrom, CycleBeyond, CycleThrough};
 
+use crate::ascending::above;
 use crate::cycle::MOST;
 use crate::{Cycle, Ranks, SearchRefused};
 use arrayvec::ArrayVec;
@@ -20,11 +20,16 @@ use trace_model::{Bound, MAX_CYCLES};
 /// The numbers of a path that may grow into a cycle.
 type Path = ArrayVec<u32, MOST>;
 
+/// How many successors are visited in the time of one search among the takers of a lock.
+const VISITS_PER_SEARCH: usize = 4;
+
 /// The most members of a cycle, and the most cycles.
 #[derive(Clone, Copy)]
 struct Limits {
     members: usize,
     cycles: usize,
+    /// Of a path with more successors, the last members are found by the locks that they take.
+    successors: usize,
 }
 
 /// All cycles up to the bound whose first number is `root`, each once, in lexicographic order.
@@ -72,12 +77,23 @@ pub fn cycles_within(
     let limits = Limits {
         members: bound.get() as usize,
         cycles: most,
+        successors: closing_visits(table, ranks, root),
     };
     let mut found = Vec::new(alloc);
     let mut path = Path::new();
     path.push(root);
     extend(table, graph, ranks, limits, &mut path, &mut found)?;
     Ok(found)
+}
+
+/// How many successors are visited in the time that it takes to find all members that may close a path of
+/// the root.
+fn closing_visits(table: &DepTable, ranks: &Ranks, root: u32) -> usize
+    requires { root < length (known table.now) }
+{
+    let locks = table.get(root).held.locks();
+    let searches = ranks.takers().count(locks).saturating_mul(locks.len());
+    searches.saturating_mul(VISITS_PER_SEARCH)
 }
 
 /// Adds all cycles that begin with the path and go on.
@@ -101,8 +117,44 @@ fn extend(
     ensures few { OnOk result (length found.new.items ≤ limits.cycles) }
     ensures too_many { result ≡ Err SearchRefused.TooMany → Exceeds (CycleBeyond (known table.now) limits.members path.old.items) limits.cycles found.old.items }
 {
-    for next in successors(table, graph, path) {
+    let nexts = successors(table, graph, path);
+    // many may hold the lock of the last member where few take one that the first member holds
+    if path.len() + 1 == limits.members && limits.successors < nexts.len() {
+        return close(table, graph, ranks, limits, path, found);
+    }
+    for next in nexts {
         visit(table, graph, ranks, limits, path, *next, found)?;
+    }
+    Ok(())
+}
+
+/// Adds all cycles of the path and one member more, which is found by the locks that the first one holds.
+#[cycle(search)]
+fn close(
+    table: &DepTable,
+    graph: &LockGraph,
+    ranks: &Ranks,
+    limits: Limits,
+    path: &mut Path,
+    found: &mut Vec<Cycle>,
+) -> Result<(), SearchRefused>
+    requires graph { HasGraphOf (known table.now) graph.now }
+    requires ranks { AreRanks (known table.now) ranks.now }
+    requires path { IsPath (known table.now) path.old.items }
+    requires room { length path.old.items + 1 ≡ limits.members }
+    requires bound { limits.members ≤ 8 }
+    requires few { length found.old.items ≤ limits.cycles }
+    ensures path { OnOk result (path.new.items ≡ path.old.items) }
+    ensures all { OnOk result (Adds (CycleBeyond (known table.now) limits.members path.old.items) found.old.items found.new.items) }
+    ensures few { OnOk result (length found.new.items ≤ limits.cycles) }
+    ensures too_many { result ≡ Err SearchRefused.TooMany → Exceeds (CycleBeyond (known table.now) limits.members path.old.items) limits.cycles found.old.items }
+{
+    let mut last = path[0];
+    while let Some(next) = next_closer(table, ranks, path, last) {
+        if links(table, path, next) {
+            visit(table, graph, ranks, limits, path, next, found)?;
+        }
+        last = next;
     }
     Ok(())
 }
@@ -157,9 +209,9 @@ fn visit(
 /// Whether the number has the rank of the path's first member.
 fn same_rank(ranks: &Ranks, path: &Path, next: u32) -> bool
     requires begun { 0 < length path.now.items }
-    requires first { slice_index path.now.items 0 < length ranks.now }
-    requires next { next < length ranks.now }
-    ensures { IsTrue result ↔ (slice_index ranks.now (slice_index path.now.items 0) ≡ slice_index ranks.now next) }
+    requires first { slice_index path.now.items 0 < length ranks.now.numbers.items }
+    requires next { next < length ranks.now.numbers.items }
+    ensures { IsTrue result ↔ (slice_index ranks.now.numbers.items (slice_index path.now.items 0) ≡ slice_index ranks.now.numbers.items next) }
 {
     ranks.are_equal(path[0], next)
 }
@@ -210,11 +262,22 @@ fn successors<'a>(table: &DepTable, graph: &'a LockGraph, path: &Path) -> &'a [u
     above(graph.successors_below(last.lock, table.len()), path[0])
 }
 
-/// Those of ascending numbers that are above `first`.
-fn above(numbers: &[u32], first: u32) -> &[u32]
-    requires { IsStrictlyIncreasing numbers.now }
-    ensures exact { (m : ℕ) → Contains result.now m ↔ ((first < m) × Contains numbers.now m) }
-    ensures ascends { IsStrictlyIncreasing result.now }
+/// The least number above a bound whose dependency takes a lock that the path's first member holds.
+fn next_closer(table: &DepTable, ranks: &Ranks, path: &Path, bound: u32) -> Option<u32>
+    requires ranks { AreRanks (known table.now) ranks.now }
+    requires path { IsPath (known table.now) path.now.items }
+    ensures { IsNext bound (TakesBack (known table.now) path.now.items) result }
 {
-    &numbers[numbers.partition_point(|number| *number <= first)..]
+    let first = table.get(path[0]);
+    ranks.takers().next(first.held.locks(), bound)
+}
+
+/// Whether the number's dependency holds the lock of the path's last member.
+fn links(table: &DepTable, path: &Path, next: u32) -> bool
+    requires path { IsPath (known table.now) path.now.items }
+    requires next { next < length (known table.now) }
+    ensures { IsTrue result ↔ LinksTo (known table.now) path.now.items next }
+{
+    let last = table.get(path[path.len() - 1]);
+    table.get(next).held.contains(last.lock)
 }

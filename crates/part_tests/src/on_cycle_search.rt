@@ -242,3 +242,68 @@ fn ranks_part_locks_of_one_order(rt: HostRuntime) -> Result<(), Fail> {
     assert_eq!(rt; opposite, Some(true));
     Ok(())
 }
+
+/// Sections of the thread on the outer lock, one for each of the inner locks from the first on.
+fn many_nested(
+    events: &mut Vec<Event>,
+    thread: u32,
+    outer: u32,
+    first: u32,
+    many: u32,
+) -> Result<(), NoMemory> {
+    for number in 0..many {
+        nested(events, thread, outer, first.wrapping_add(number))?;
+    }
+    Ok(())
+}
+
+/// A section of thread 1 on the locks 1, 2 and 10, each in the one before.
+fn held_two(events: &mut Vec<Event>) -> Result<(), NoMemory> {
+    for op in [Op::Acquire(1), Op::Acquire(2), Op::Acquire(10)] {
+        events.push(Event { thread: 1, op })?;
+    }
+    for op in [Op::Release(10), Op::Release(2), Op::Release(1)] {
+        events.push(Event { thread: 1, op })?;
+    }
+    Ok(())
+}
+
+/// Many hold the lock 10 that the root takes, and few take one of the two that it holds.
+#[test]
+fn few_second_members_among_many(rt: HostRuntime) -> Result<(), Fail> {
+    let mut events = Vec::new(rt.alloc());
+    held_two(&mut events)?;
+    many_nested(&mut events, 2, 10, 100, 20)?;
+    nested(&mut events, 2, 10, 1)?;
+    many_nested(&mut events, 2, 10, 200, 20)?;
+    nested(&mut events, 3, 10, 2)?;
+    nested(&mut events, 2, 10, 2)?;
+    many_nested(&mut events, 2, 10, 300, 20)?;
+    nested(&mut events, 3, 10, 1)?;
+    for bound in [2, 3] {
+        let text = cycles(&rt, &events, bound)?;
+        assert_eq!(rt; text.len(), 66 + 24);
+        assert!(rt; text.as_str().starts_with("\n1 22 ;1 43 ;1 44 ;1 65 ;\n\n"));
+    }
+    Ok(())
+}
+
+/// Many hold the lock 11 that the second member takes; two that take a lock of the root make no cycle.
+#[test]
+fn few_third_members_among_many(rt: HostRuntime) -> Result<(), Fail> {
+    let mut events = Vec::new(rt.alloc());
+    held_two(&mut events)?;
+    nested(&mut events, 2, 10, 11)?;
+    many_nested(&mut events, 3, 11, 100, 30)?;
+    nested(&mut events, 4, 11, 1)?;
+    nested(&mut events, 3, 11, 2)?;
+    nested(&mut events, 5, 99, 1)?;
+    nested(&mut events, 2, 11, 2)?;
+    many_nested(&mut events, 3, 11, 200, 30)?;
+    nested(&mut events, 4, 11, 2)?;
+    let text = cycles(&rt, &events, 3)?;
+    assert_eq!(rt; text.len(), 68 + 24);
+    assert!(rt; text.as_str().starts_with("\n1 2 33 ;1 2 34 ;1 2 67 ;\n\n"));
+    assert_eq!(rt; cycles(&rt, &events, 2)?.len(), 68);
+    Ok(())
+}

@@ -1,14 +1,16 @@
-use Rattle.std.proofs.Common.{◌<◌, ◌++◌, ◌∷◌, [], length, Err, ℕ, List, get_or, sym, ap, subst, ◌∙◌, arith, true≢false}
-use Rattle.std.proofs.lemmas.Option.{slice_get-get_or}
+use Rattle.std.proofs.Common.{◌≡◌, ◌<◌, ◌-◌, ◌++◌, ◌∷◌, [], length, Err, ℕ, List, Option, Some, get_or, slice_get, refl, sym, ap, subst, ◌∙◌, arith, true≢false}
+use Rattle.std.proofs.lemmas.Option.{slice_get-get_or, slice_get_within, get_or_from_slice_get}
 use Rattle.std.proofs.lemmas.Grind.{get_or_default_zero}
 use Rattle.std.proofs.lemmas.Result.{err_from_is_err_and}
 use Rattle.std.specs.List.{Contains}
+use Rattle.trace_model.specs.Dependencies.{Dependency}
 use Rattle.guards.specs.Compatible.{IsCompatible}
 use Rattle.dependencies.specs.Tables.{known}
-use Rattle.cycle_search.specs.Search.{IsPath, Closes, AboveFirst, LinksTo, AreSome, AreAll, Adds, Exceeds, CycleBeyond, CycleThrough}
+use Rattle.cycle_search.specs.Search.{IsPath, Closes, AboveFirst, LinksTo, TakesBack, AreSome, AreAll, Adds, Exceeds, CycleBeyond, CycleThrough}
+use Rattle.cycle_search.specs.Takers.{IsNext}
 use Rattle.trace_model.proofs.Lists.{length-push}
 use Rattle.cycle_search.proofs.Listing.{append-nil}
-use Rattle.cycle_search.proofs.Turns.{adds-more, adds-end, exceeds-more, rejected, closed, one-closed, deeper, deeper-some, full}
+use Rattle.cycle_search.proofs.Turns.{adds-more, adds-end, exceeds-more, closers-begin, closers-more, closers-exceed, closers-end, rejected, closed, one-closed, deeper, deeper-some, full}
 use Rattle.cycle_search.proofs.Paths.{path-tested}
 use Rattle.cycle_search.proofs.Ranked.{other-rank}
 use Rattle.cycle_search.proofs.search.+search.Goals as goal
@@ -17,9 +19,9 @@ use Rattle.cycle_search.proofs.search.+search.Goals.{visit-then-closes+else-len-
 pub extend-visit-requires : goal.extend-visit-requires
 extend-visit-requires t c =
     let i = c.loop-next.next-index in
-    let items = c.successors-next-items.result.now in
+    let items = c.successors-nexts.result.now in
     let m = get_or items i 0 in
-    let n = c.successors-next-items.ensures in
+    let n = c.successors-nexts.ensures in
     let here : Contains items m = (i, c.loop-next-test.true, get_or_default_zero items i m c.loop-next-test.true) in
     let same = sym c.loop-next.invariant.same in
     let shorter = ap (λ (p : List ℕ). length p) same in
@@ -29,28 +31,110 @@ pub extend-returns-in_err-visit-clause-too_many : goal.extend-returns-in_err-vis
 extend-returns-in_err-visit-clause-too_many t c e =
     let p = err_from_is_err_and c.from_residual.result c.from_residual.ensures.1 in
     let i = c.loop-next.next-index in
-    let items = c.successors-next-items.result.now in
+    let items = c.successors-nexts.result.now in
     let q = c.visit.ensures.too_many (c.in_err-visit.was ∙ ap Err (sym p.2) ∙ sym p.1 ∙ e) in
-    exceeds-more (known c.args.table.now) c.args.limits.members c.args.path.now.items items c.successors-next-items.ensures.ascends c.args.limits.cycles i (get_or items i 0)
-    (slice_get-get_or items i 0 c.loop-next-test.true) _ _ c.loop-next.invariant.added
+    exceeds-more (known c.args.table.now) c.args.limits.members c.args.path.now.items items c.successors-nexts.ensures.ascends i (get_or items i 0)
+    (slice_get-get_or items i 0 c.loop-next-test.true) c.args.limits.cycles _ _ c.loop-next.invariant.added
     (subst (λ p. Exceeds (CycleThrough (known c.args.table.now) c.args.limits.members p (get_or items i 0)) c.args.limits.cycles c.loop-next.found.items) c.loop-next.invariant.same q)
 
 pub extend-loop-next-preserved : goal.extend-loop-next-preserved
 extend-loop-next-preserved t c = let e = c.in_ok-visit.ensures in
     let i = c.loop-next.next-index in
-    let items = c.successors-next-items.result.now in
+    let items = c.successors-nexts.result.now in
     record {
       same = e.path ∙ c.loop-next.invariant.same;
       few = e.few;
-      added = adds-more (known c.args.table.now) c.args.limits.members c.args.path.now.items items c.successors-next-items.ensures.ascends i (get_or items i 0)
+      added = adds-more (known c.args.table.now) c.args.limits.members c.args.path.now.items items c.successors-nexts.ensures.ascends i (get_or items i 0)
           (slice_get-get_or items i 0 c.loop-next-test.true) _ _ _ c.loop-next.invariant.added
           (subst (λ p. Adds (CycleThrough (known c.args.table.now) c.args.limits.members p (get_or items i 0)) c.loop-next.found.items c.visit.new.found.items) c.loop-next.invariant.same e.all);
     }
 
 pub extend-returns-clause-all : goal.extend-returns-clause-all
 extend-returns-clause-all t c =
-    adds-end (known c.args.table.now) c.args.limits.members c.args.path.now.items c.successors-next-items.result.now c.loop-next.next-index _ _ c.requires.path.begun
-    c.successors-next-items.ensures c.loop-next-test.false c.loop-next.invariant.added
+    adds-end (known c.args.table.now) c.args.limits.members c.args.path.now.items c.successors-nexts.result.now c.loop-next.next-index _ _ c.requires.path.begun
+    c.successors-nexts.ensures c.loop-next-test.false c.loop-next.invariant.added
+
+-- what the search for the next closer answers, of the path as it was
+closer-of : (ds : List Dependency) (path path' : List ℕ) (last : ℕ) (found answer : Option ℕ) → path' ≡ path → found ≡ answer →
+    IsNext last (TakesBack ds path') found → IsNext last (TakesBack ds path) answer
+closer-of ds path path' last found answer same is least =
+    subst (IsNext last (TakesBack ds path)) is (subst (λ p. IsNext last (TakesBack ds p) found) same least)
+
+pub close-loop-next-init : goal.close-loop-next-init
+close-loop-next-init t c =
+    let head = ap (λ (xs : List ℕ). get_or xs 0 0) (sym c.deref.ensures.0) in
+    record {
+      same = refl;
+      few = c.requires.few;
+      first = omega (arith, head);
+      added = closers-begin (known c.args.table.now) c.args.limits.members c.args.path.now.items c.requires.path c.requires.room _ _
+          (slice_get-get_or c.args.path.now.items 0 0 c.requires.path.begun ∙ ap Some head);
+    }
+
+pub close-links-requires-clause-next : goal.close-links-requires-clause-next
+close-links-requires-clause-next t c =
+    let back = (c.next_closer.ensures.sound c.in-Some.next c.in-Some.is).1 in
+    slice_get_within (known c.args.table.now) c.in-Some.next back.1 back.3
+
+pub close-visit-requires : goal.close-visit-requires
+close-visit-requires t c =
+    let d = c.decreases in
+    let more = c.next_closer.ensures.sound c.in-Some.next c.in-Some.is in
+    let same = sym c.loop-next.invariant.same in
+    let shorter = ap (λ (p : List ℕ). length p) same in
+    let head = ap (λ (p : List ℕ). get_or p 0 0) same in
+    let begun = λ (first : ℕ) (at : slice_get c.loop-next.path.items 0 ≡ Some first). get_or_from_slice_get c.loop-next.path.items 0 first 0 at in
+    (omega (arith, shorter, c.requires.room), (c.requires.graph, (c.requires.ranks, (subst (λ p. IsPath (known c.args.table.now) p) same c.requires.path, (omega (arith, shorter, c.requires.room), (c.requires.bound, (c.loop-next.invariant.few, (slice_get_within (known c.args.table.now) c.in-Some.next more.1.1 more.1.3, (λ first at. omega (arith, head, more.0, begun first at, c.loop-next.invariant.first), c.links.ensures.0 c.if-links.true)))))))))
+
+pub close-returns-in_err-visit-clause-too_many : goal.close-returns-in_err-visit-clause-too_many
+close-returns-in_err-visit-clause-too_many t c e =
+    let p = err_from_is_err_and c.from_residual.result c.from_residual.ensures.1 in
+    let q = c.visit.ensures.too_many (c.in_err-visit.was ∙ ap Err (sym p.2) ∙ sym p.1 ∙ e) in
+    closers-exceed (known c.args.table.now) c.args.limits.members c.args.path.now.items c.requires.path c.requires.room c.loop-next.last c.in-Some.next
+    (closer-of (known c.args.table.now) c.args.path.now.items _ c.loop-next.last _ _ c.loop-next.invariant.same c.in-Some.is c.next_closer.ensures)
+    c.args.limits.cycles _ _ c.loop-next.invariant.added
+    (subst (λ p. Exceeds (CycleThrough (known c.args.table.now) c.args.limits.members p c.in-Some.next) c.args.limits.cycles c.loop-next.found.items) c.loop-next.invariant.same q)
+
+smaller : (ds : List Dependency) (path : List ℕ) (last next : ℕ) → (last < next) × TakesBack ds path next → length ds - next < length ds - last
+smaller ds path last next (more, (first, d, head, at, takes)) = omega (arith, more, slice_get_within ds next d at)
+
+pub close-loop-next-smaller-in_ok-visit : goal.close-loop-next-smaller-in_ok-visit
+close-loop-next-smaller-in_ok-visit t c = smaller (known c.args.table.now) _ _ _ (c.next_closer.ensures.sound c.in-Some.next c.in-Some.is)
+
+pub close-loop-next-preserved-in_ok-visit : goal.close-loop-next-preserved-in_ok-visit
+close-loop-next-preserved-in_ok-visit t c = let e = c.in_ok-visit.ensures in record {
+  same = e.path ∙ c.loop-next.invariant.same;
+  few = e.few;
+  first = omega (arith, c.loop-next.invariant.first, (c.next_closer.ensures.sound c.in-Some.next c.in-Some.is).0);
+  added = closers-more (known c.args.table.now) c.args.limits.members c.args.path.now.items c.requires.path c.requires.room c.loop-next.last c.in-Some.next
+      (closer-of (known c.args.table.now) c.args.path.now.items _ c.loop-next.last _ _ c.loop-next.invariant.same c.in-Some.is c.next_closer.ensures)
+      _ _ _ c.loop-next.invariant.added
+      (subst (λ p. Adds (CycleThrough (known c.args.table.now) c.args.limits.members p c.in-Some.next) c.loop-next.found.items c.visit.new.found.items) c.loop-next.invariant.same e.all);
+}
+
+pub close-loop-next-smaller : goal.close-loop-next-smaller
+close-loop-next-smaller t c = smaller (known c.args.table.now) _ _ _ (c.next_closer.ensures.sound c.in-Some.next c.in-Some.is)
+
+pub close-loop-next-preserved : goal.close-loop-next-preserved
+close-loop-next-preserved t c = record {
+  same = c.loop-next.invariant.same;
+  few = c.loop-next.invariant.few;
+  first = omega (arith, c.loop-next.invariant.first, (c.next_closer.ensures.sound c.in-Some.next c.in-Some.is).0);
+  added = closers-more (known c.args.table.now) c.args.limits.members c.args.path.now.items c.requires.path c.requires.room c.loop-next.last c.in-Some.next
+      (closer-of (known c.args.table.now) c.args.path.now.items _ c.loop-next.last _ _ c.loop-next.invariant.same c.in-Some.is c.next_closer.ensures)
+      _ _ _ c.loop-next.invariant.added (
+        [],
+        sym (append-nil c.loop-next.found.items),
+        rejected (known c.args.table.now) c.args.limits.members c.args.path.now.items c.in-Some.next c.requires.path.begun
+            (λ f. true≢false (sym (c.links.ensures.1 (subst (λ p. LinksTo (known c.args.table.now) p c.in-Some.next) (sym c.loop-next.invariant.same) f.linked)) ∙ c.if-links.false)),
+      );
+}
+
+pub close-returns-clause-all : goal.close-returns-clause-all
+close-returns-clause-all t c =
+    closers-end (known c.args.table.now) c.args.limits.members c.args.path.now.items c.requires.path c.requires.room c.loop-next.last
+    (closer-of (known c.args.table.now) c.args.path.now.items _ c.loop-next.last _ _ c.loop-next.invariant.same c.in_default.is c.next_closer.ensures)
+    _ _ c.loop-next.invariant.added
 
 pub visit-returns-then-not-compatible-clause-all : goal.visit-returns-then-not-compatible-clause-all
 visit-returns-then-not-compatible-clause-all t c = (

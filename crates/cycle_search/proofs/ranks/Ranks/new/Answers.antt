@@ -4,4 +4,5 @@ use Rattle.cycle_search.proofs.Ranked.{ranks-rise}
 use Rattle.cycle_search.proofs.ranks.Ranks.new.Goals as goal
 
 pub returns : goal.returns
-returns c = ranks-rise (known c.args.table.now) (rank_in c.rising-ranks.result) c.in_ok-numbers.numbers.items c.in_ok-numbers.ensures c.rising-ranks.ensures
+returns c = ranks-rise (known c.args.table.now) (rank_in c.rising-ranks.result)
+    (record { numbers = c.in_ok-numbers.numbers; takers = c.in_ok-takers.takers }) c.in_ok-numbers.ensures c.rising-ranks.ensures c.in_ok-takers.ensures
