@@ -1,4 +1,4 @@
--- The dependencies of a map and their places by number, and the room for one more place.
+-- Dependencies and their places, both by number, and the room for one more place.
 use Rattle.std.specs.Prelude.{◌≡◌, ℕ, suc, ◌≤◌, ◌&&◌, List, [], ◌∷◌, length}
 use Rattle.numbered.specs.Notes.{places_in, Ascend}
 use Rattle.trace_model.specs.Dependencies.{Dependency}

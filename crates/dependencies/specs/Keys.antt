@@ -3,6 +3,7 @@ use Rattle.std.specs.Prelude.{◌≡◌, ℕ, List, Bool, ◌&&◌, length, take
 use Rattle.std.specs.List.{IsDistinct}
 use Rattle.trace_model.specs.Dependencies.{Dependency, same_dependency}
 
+-- distinct dependencies in their order, how many of them have a number by hash, and whether there is room for one more
 pub record Listed : Type 0 where
   pub keys : List Dependency
   pub numbered : ℕ

@@ -9,7 +9,7 @@ use std::hash::RandomState;
 use std::process::Abort;
 use std::sync::Arc;
 use std::test::*;
-use trace_model::{Event, Op, Place, Refusal};
+use trace_model::{Op, Place, Refusal};
 
 /// How many threads are forked, and how many locks each of them nests, each in each other.
 const FORKED: u32 = 8;
@@ -24,12 +24,12 @@ const EVENTS: u32 = FORKED + 4 * DEPENDENCIES;
 
 /// Offers an event, again where it was answered `NoMemory`. The book then has what it had before.
 fn offers(rt: &impl Abort, book: &mut Book, thread: u32, op: Op) {
-    let before = book.events().len();
+    let before = book.len();
     let Err(refused) = book.offer(event(thread, op)) else {
         return;
     };
     assert_eq!(rt; refused, Refusal::NoMemory);
-    assert_eq!(rt; book.events().len(), before);
+    assert_eq!(rt; book.len(), before);
     assert!(rt; book.offer(event(thread, op)).is_ok());
 }
 
@@ -73,26 +73,25 @@ fn shared(book: &Book) -> Option<Arc<Snapshot, Global>> {
     }
 }
 
-/// Whether these are all events of the snapshot.
-fn has_events(snapshot: &Snapshot, events: &[Event]) -> bool {
-    let mut place = 0u32;
-    for event in events {
-        if snapshot.event(Place::new(place)) != Some(*event) {
+/// Whether the snapshot has the book's events, and none besides.
+fn has_events(snapshot: &Snapshot, book: &Book) -> bool {
+    for index in 0..EVENTS {
+        let place = Place::new(index);
+        if snapshot.event(place) != book.event(place) {
             return false;
         }
-        place = place.wrapping_add(1);
     }
-    snapshot.len() == events.len()
+    snapshot.len() == book.len()
 }
 
 /// Fills the book, asks, and looks at what the question is about.
 fn grows(rt: &impl Abort, book: &mut Book) -> Result<(), Fail> {
     fills(rt, book);
-    assert_eq!(rt; book.events().len(), EVENTS as usize);
+    assert_eq!(rt; book.len(), EVENTS as usize);
     let opened = asked(book).ok_or("a question")?;
     assert_eq!(rt; (opened.length, opened.total), (EVENTS, DEPENDENCIES));
     let snapshot = shared(book).ok_or("a snapshot")?;
-    assert!(rt; has_events(&snapshot, book.events()));
+    assert!(rt; has_events(&snapshot, book));
     Ok(())
 }
 

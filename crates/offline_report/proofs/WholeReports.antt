@@ -1,21 +1,19 @@
 -- The report on all tasks, and the first event that is not lawful.
-use Rattle.std.proofs.Common.{◌≡◌, ℕ, ◌+◌, ◌<◌, List, [], ◌∷◌, ◌++◌, length, map, take, slice_get, option_map, Option, Some, None, refl, sym, ap, subst, ◌∙◌, arith}
+use Rattle.std.proofs.Common.{◌≡◌, ℕ, zero, suc, ◌<◌, List, [], ◌∷◌, ◌++◌, length, map, take, slice_get, option_map, Option, Some, None, refl, sym, ap, subst, ◌∙◌}
 use Rattle.std.specs.Global.{Vec}
 use Rattle.std.specs.List.{flat_map, All}
-use Rattle.std.proofs.lemmas.List.{length-map, length-take, map-append}
+use Rattle.std.proofs.lemmas.List.{length-map, map-append}
 use Rattle.std.proofs.lemmas.List.Concat.{flat_map-cons}
 use Rattle.std.proofs.lemmas.List.Elements.{All-head, All-tail}
 use Rattle.std.proofs.lemmas.Option.{none-some, same_Some, slice_get-map, slice_get_within, get_or_from_slice_get}
 use Rattle.trace_model.specs.declared.event.Event.{Event}
-use Rattle.trace_model.specs.declared.limits.TheConstants.{MAX_EVENTS}
-use Rattle.trace_model.specs.declared.refusal.Refusal.{Refusal}
 use Rattle.trace_model.specs.Trace.{Trace, At}
-use Rattle.trace_model.specs.Lawful.{IsWellFormed, refusal_of}
+use Rattle.trace_model.specs.Lawful.{IsWellFormed}
 use Rattle.trace_model.specs.Dependencies.{Dependency, dependencies}
 use Rattle.trace_model.specs.Rows.{Row, AreRows}
 use Rattle.witness.specs.Printed.{Printed, with_dependencies}
 use Rattle.witness.specs.Text.{report}
-use Rattle.offline_report.specs.Offline.{AreComputed, AreTasks, report_of, IsFirstUnlawful, IsNotAdmitted, IsNotComputed, IsRefused}
+use Rattle.offline_report.specs.Offline.{AreComputed, AreTasks, report_of, IsNotAdmitted, IsNotComputed, IsRefused}
 use Rattle.offline_report.specs.declared.refused.OfflineRefused.{OfflineRefused}
 use Rattle.offline_report.specs.declared.refused.OfflineRefused.TheVariants.{Gate, TooLong, TooManyCycles, NoMemory}
 
@@ -71,11 +69,11 @@ are_tasks s bound tasks c = record {
   each = λ task rows e. task_rows s bound (length (dependencies s)) tasks task rows (slice_get tasks task) c refl (sym (slice_get-map plain tasks task) ∙ e);
 }
 
-pub first_unlawful : (s recorded : Trace) (index : ℕ) (e : Event) (refusal : Refusal) → recorded ≡ take index s → index < length s → At s index e → IsWellFormed recorded → refusal_of MAX_EVENTS recorded e ≡ Some refusal → IsFirstUnlawful s (length recorded) refusal
-first_unlawful s recorded index e refusal r l a w n =
-    let len : length recorded ≡ index = omega (arith, ap length r, length-take index s) in
-    subst (λ k. IsFirstUnlawful s k refusal) (sym len)
-    (subst IsWellFormed r w, (e, a, subst (λ t. refusal_of MAX_EVENTS t e ≡ Some refusal) r n))
+-- one event more of a beginning
+pub take_next : (s : Trace) (n : ℕ) (e : Event) → At s n e → take (suc n) s ≡ take n s ++ e ∷ []
+take_next [] n e h = absurd (none-some e h)
+take_next (d ∷ s) zero e h = ap (λ x. x ∷ []) (same_Some d e h)
+take_next (d ∷ s) (suc n) e h = ap (λ r. d ∷ r) (take_next s n e h)
 
 -- what is refused on the way to a report is rightly refused
 pub not_admitted : (s : Trace) (bound : ℕ) (refused : OfflineRefused) → IsNotAdmitted s refused → IsRefused s bound refused

@@ -1,5 +1,5 @@
 //! Events that passed the gate, with their tables.
-ghost use Rattle.std.specs.Prelude.{◌≡◌, length, IfOk, IfErr};
+ghost use Rattle.std.specs.Prelude.{◌≡◌, length, IfOk, IfErr, OnOk};
 ghost use Rattle.std.specs.Arc.{arc_value};
 ghost use Rattle.trace_model.specs.declared.limits.TheConstants.{MAX_EVENTS};
 ghost use Rattle.trace_model.specs.Dependencies.{dependencies};
@@ -15,7 +15,7 @@ use std::marker::Model;
 use std::sync::Arc;
 use std::thread::Threads;
 use trace_model::{Bound, Event, MAX_EVENTS, NoMemory};
-use wellformed::Gate;
+use wellformed::GateTables;
 use witness::{TextRefused, report_text};
 
 /// Well-formed events with the tables that the tasks of a question with a bound are computed from. Contracts see
@@ -52,8 +52,8 @@ impl Offline {
         ensures well_formed { IfOk result (λ offline. IsWellFormed events.items) }
         ensures refused { IfErr result (IsNotAdmitted events.items) }
     {
-        let gate = admit(alloc, state, &events)?;
-        let Ok(snapshot) = share(alloc, state, gate.events()) else {
+        admit(alloc, state, &events)?;
+        let Ok(snapshot) = share(alloc, state, &events) else {
             return Err(OfflineRefused::NoMemory);
         };
         Ok(Offline {
@@ -95,15 +95,14 @@ impl Offline {
     }
 }
 
-/// Passes the events through a gate, in their order.
-fn admit(alloc: Global, state: RandomState, events: &[Event]) -> Result<Gate, OfflineRefused>
-    ensures ok { IfOk result (λ gate. (gate.events ≡ events.now) × (gate.limit ≡ MAX_EVENTS)) }
+/// Tests each event after those before it, in their order.
+fn admit(alloc: Global, state: RandomState, events: &[Event]) -> Result<(), OfflineRefused>
+    ensures ok { OnOk result (IsWellFormed events.now) }
     ensures refused { IfErr result (IsNotAdmitted events.now) }
 {
-    let mut gate = Gate::new(alloc, state, MAX_EVENTS);
-    for event in events {
-        if let Err(refusal) = gate.check(event) {
-            let index = gate.events().len();
+    let mut gate = GateTables::new(alloc, state);
+    for (index, event) in events.iter().enumerate() {
+        if let Err(refusal) = gate.check(MAX_EVENTS, event) {
             return Err(OfflineRefused::Gate { refusal, index });
         }
         let Ok(()) = gate.reserve(event) else {
@@ -111,7 +110,7 @@ fn admit(alloc: Global, state: RandomState, events: &[Event]) -> Result<Gate, Of
         };
         gate.record(event);
     }
-    Ok(gate)
+    Ok(())
 }
 
 fn share(

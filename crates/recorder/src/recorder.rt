@@ -1,4 +1,4 @@
-ghost use Rattle.std.specs.Prelude.{◌≡◌, ◌+◌, ◌≤◌, ◌<◌, [], ◌∷◌, ◌++◌, length, take, Some, None, IfOk, OnOk};
+ghost use Rattle.std.specs.Prelude.{◌≡◌, ◌+◌, ◌≤◌, ◌<◌, [], ◌∷◌, ◌++◌, length, take, nat_eq, slice_get, Some, None, IfOk, OnOk};
 ghost use Rattle.std.specs.Arc.{arc_value};
 ghost use Rattle.std.specs.Result.{result_err};
 ghost use Rattle.trace_model.specs.declared.limits.TheConstants.{MAX_EVENTS};
@@ -13,8 +13,8 @@ use std::marker::{Brand, Model};
 use std::sync::Arc;
 use std::sync::ledger::{Blank, Ledger};
 use trace_index::{Copies, TraceIndex};
-use trace_model::{Event, NoMemory, Refusal};
-use wellformed::Gate;
+use trace_model::{Event, NoMemory, Place, Refusal};
+use wellformed::GateTables;
 
 /// The accepted events, each lawful after those before it, with their index and their lock tables, and the event
 /// that there is room for. Contracts see what a gate shows.
@@ -22,7 +22,8 @@ use wellformed::Gate;
 pub struct Recorder {
     alloc: Global,
     state: RandomState,
-    gate: Gate,
+    limit: usize,
+    gate: GateTables,
     index: TraceIndex,
     tables: LockTables,
     ready: Option<Event>,
@@ -34,9 +35,9 @@ impl Model for Recorder {
 
     ghost Value = { Admitted };
 
-    ghost view = { λ r. record { limit = r.gate.limit; events = r.gate.events; reserved = r.ready } };
+    ghost view = { λ r. record { limit = r.limit; events = r.index.events; reserved = r.ready } };
 
-    ghost invariant = { λ r. IsRecording r.gate r.index r.tables r.ready };
+    ghost invariant = { λ r. IsRecording r.limit r.gate r.index r.tables r.ready };
 }
 
 /// Puts the event, for which there is room, into the index, with a count of its own.
@@ -61,7 +62,8 @@ impl Recorder {
         Recorder {
             alloc,
             state,
-            gate: Gate::new(alloc, state, max_events),
+            limit: max_events,
+            gate: GateTables::new(alloc, state),
             index: TraceIndex::new(alloc, state),
             tables: LockTables::new(alloc, state),
             ready: None,
@@ -76,23 +78,37 @@ impl Recorder {
     pub fn check(&self, event: &Event) -> Result<(), Refusal>
         ensures { result_err result ≡ refusal_of self.now.limit self.now.events event.now }
     {
-        self.gate.check(event)
+        self.gate.check(self.limit, event)
     }
 
-    /// The recorded events. It takes no memory.
-    pub fn events(&self) -> &[Event]
-        ensures value { result.now ≡ self.now.events }
+    /// How many events are recorded. It takes no memory.
+    pub fn len(&self) -> usize
+        ensures length { result ≡ length self.now.events }
         ensures well_formed { IsWellFormed self.now.events }
         ensures within { length self.now.events ≤ self.now.limit }
     {
-        self.gate.events()
+        self.index.len()
+    }
+
+    /// Whether no event is recorded. It takes no memory.
+    pub fn is_empty(&self) -> bool
+        ensures { result ≡ nat_eq (length self.now.events) 0 }
+    {
+        self.len() == 0
+    }
+
+    /// The event at a place, or none. It takes no memory.
+    pub fn event(&self, place: Place) -> Option<Event>
+        ensures { result ≡ slice_get self.now.events place }
+    {
+        self.index.event(place)
     }
 
     /// How many dependencies the recorded events have. It takes no memory.
     pub fn dependencies(&self) -> usize
         ensures { result ≡ length (dependencies self.now.events) }
     {
-        let _ = &self.gate;
+        let _ = &self.index;
         self.tables.len()
     }
 

@@ -1,5 +1,5 @@
 -- What is kept at every time: the rows that were delivered are exactly those of their tasks.
-use Rattle.std.proofs.Common.{◌≡◌, ℕ, zero, suc, ◌+◌, ◌-◌, ◌<◌, ◌≤◌, List, [], ◌∷◌, ◌++◌, length, map, take, get_or, slice_get, inl, inr, Option, Some, None, Result, Ok, Err, refl, sym, ap, subst, ◌∙◌, arith}
+use Rattle.std.proofs.Common.{◌≡◌, ℕ, zero, suc, ◌+◌, ◌-◌, ◌<◌, ◌≤◌, List, [], ◌∷◌, ◌++◌, length, map, take, get_or, slice_get, inl, inr, Option, Some, None, Ok, Err, refl, sym, ap, subst, ◌∙◌, arith}
 use Rattle.std.specs.Prelude.{OnOk}
 use Rattle.std.specs.List.{All, Contains, count_by, flat_map}
 use Rattle.std.proofs.Math.Seq.{take-length, take-append-add}
@@ -25,7 +25,7 @@ use Rattle.trace_model.proofs.Taking.{machine_steps}
 use Rattle.findings.specs.Found.{FoundRows, AreRowsOf}
 use Rattle.sequencer.specs.Book.{outcome, findings_rows}
 use Rattle.sequencer.specs.Printing.{printing}
-use Rattle.sequencer.specs.Sessions.{Action, calls, brings, delivery, state_after, Delivered}
+use Rattle.sequencer.specs.Sessions.{Action, brings, delivery, state_after, Delivered}
 use Rattle.sequencer.specs.Exact.{IsAlwaysExact, LeadsToDeadlock, TellsDeadlocks, AlwaysTellsDeadlocks}
 use Rattle.sequencer.proofs.Sent.{after_append, called}
 

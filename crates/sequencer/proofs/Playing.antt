@@ -1,5 +1,5 @@
 -- What the loop over the inputs keeps.
-use Rattle.std.proofs.Common.{◌≡◌, ◌≢◌, ℕ, ◌<◌, Bool, false, List, [], ◌∷◌, ◌++◌, length, get_or, map, slice_get, Option, Some, Result, Ok, Err, refl, sym, ap, subst, ◌∙◌, arith, inl, inr}
+use Rattle.std.proofs.Common.{◌≡◌, ◌≢◌, ℕ, ◌<◌, Bool, false, List, [], ◌∷◌, ◌++◌, length, get_or, map, slice_get, Option, Some, Ok, Err, refl, sym, ap, subst, ◌∙◌, arith, inl, inr}
 use Rattle.std.specs.Prelude.{option_map, IfErr, OnOk}
 use Rattle.trace_model.specs.declared.refusal.Refusal.{Refusal}
 use Rattle.std.proofs.Math.ListN.{set, length-set}
@@ -20,7 +20,7 @@ use Rattle.sequencer.specs.declared.session.Slot.{Slot}
 use Rattle.sequencer.specs.declared.session.Run.{Run}
 use Rattle.sequencer.specs.Book.{outcome}
 use Rattle.sequencer.specs.Sessions.{session_of, text_of, has_ended, fault_of, fresh, actions_of, actions, frames_to, fault_frames, Delivered, handed_back, delivery, deliveries_of, final_state, sent_to}
-use Rattle.sequencer.specs.Drains.{IsPlayed, IsReadAt, IsServed, IsAnswered, IsNew}
+use Rattle.sequencer.specs.Drains.{IsPlayed, IsServed, IsAnswered, IsNew}
 use Rattle.sequencer.specs.Exact.{IsAlwaysExact}
 use Rattle.sequencer.specs.Played.{AreSent}
 use Rattle.sequencer.proofs.Exact.{fits_brought, always_called, always_brought, always_nothing, always_append, always_last}

@@ -10,7 +10,7 @@ use Rattle.findings.specs.Found.{FoundRows}
 use Rattle.sequencer.specs.declared.input.Input.{Input}
 use Rattle.sequencer.specs.declared.input.Input.TheVariants.{Piece, End, Finding}
 use Rattle.sequencer.specs.Printing.{printing}
-use Rattle.sequencer.specs.Sessions.{session_of, text_of, has_ended, Action, calls, brings, fresh, actions_of, actions_after, actions, delivery, after_action, state_after, frame_to, frames_to, Delivered, handed_back, delivery_of, deliveries, deliveries_of, final_state}
+use Rattle.sequencer.specs.Sessions.{session_of, text_of, has_ended, Action, calls, fresh, actions_of, actions_after, actions, delivery, after_action, state_after, frame_to, frames_to, Delivered, handed_back, delivery_of, deliveries, deliveries_of, final_state}
 use Rattle.sequencer.specs.Drains.{state_called, answer_to}
 
 pub same_session : (s : ℕ) → eqb s s ≡ true

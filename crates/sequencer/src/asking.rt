@@ -62,8 +62,13 @@ impl Book {
         Ok(opened)
     }
 
-    /// Tests a bound, and makes room for a question about the present events.
-    pub(crate) fn open(&mut self, bound: u8) -> Result<Asked, AskRefused>
+    /// Tests a bound, and makes a question about the present events, and room for it. What a reply shows is unchanged.
+    ///
+    /// # Errors
+    ///
+    /// `BadBound` where the bound is not 2 to 8, then `TooManyQuestions` where there are `MAX_QUESTIONS`, then
+    /// `NoMemory`.
+    pub fn open(&mut self, bound: u8) -> Result<Asked, AskRefused>
         ensures shown { self.new.state ≡ self.old.state }
         ensures ok { IfOk result (λ asked. (asked.bound ≡ bound) × HasRoom self.new (Open asked)) }
         ensures allowed { IfOk result (λ asked. ask_refused self.old.state bound ≡ None) }
@@ -89,13 +94,14 @@ impl Book {
         self.recorder.catch_up()?;
         let total = self.recorder.dependencies() as u32;
         let ledger = Ledger::open(self.alloc, total)?;
-        let length = self.recorder.events().len() as u32;
+        let length = self.recorder.len() as u32;
         self.questions.reserve(1)?;
         Ok(Asked::open(length, bound, total, ledger))
     }
 
-    /// What is answered where this question is opened next.
-    pub(crate) fn opens(&self, asked: &Asked) -> Opened
+    /// What is answered where this question, which `open` must have made for this book as it is, is added next. It takes
+    /// no memory.
+    pub fn opens(&self, asked: &Asked) -> Opened
         requires allowed { ask_refused self.now.state asked.now.bound ≡ None }
         requires fresh { asked.now ≡ fresh self.now.state asked.now.bound }
         ensures { (step printing self.now.state (Ask asked.now.bound)).0 ≡ opened_reply result }

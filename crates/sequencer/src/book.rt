@@ -1,6 +1,6 @@
 //! The book: its events and its questions.
 
-ghost use Rattle.std.specs.Prelude.{◌≡◌, ◌<◌, ◌≤◌, ◌↔◌, length, take, slice_get, option_map, IfSome, IfErr, IfOk, IsOk, MatchOption, OnOk, Some, None};
+ghost use Rattle.std.specs.Prelude.{◌≡◌, ◌<◌, ◌≤◌, ◌↔◌, length, take, nat_eq, slice_get, option_map, IfSome, IfErr, IfOk, IsOk, MatchOption, OnOk, Some, None};
 ghost use Rattle.trace_model.specs.Dependencies.{dependencies};
 ghost use Rattle.trace_model.specs.Lawful.{refusal_of};
 ghost use Rattle.trace_model.specs.Rows.{AreRows};
@@ -77,14 +77,28 @@ impl Book {
         })
     }
 
-    /// The accepted events. The book's state is within its limits, and the rows that were delivered are exactly
-    /// those of the first events of their questions. It takes no memory.
-    pub fn events(&self) -> &[Event]
-        ensures value { result.now ≡ self.now.state.accepted }
+    /// How many events are accepted. The book's state is within its limits, and the rows that were delivered are
+    /// exactly those of the first events of their questions. It takes no memory.
+    pub fn len(&self) -> usize
+        ensures value { result ≡ length self.now.state.accepted }
         ensures fits { StateFits AreRows self.now.state }
     {
         let _ = &self.questions;
-        self.recorder.events()
+        self.recorder.len()
+    }
+
+    /// Whether no event is accepted. It takes no memory.
+    pub fn is_empty(&self) -> bool
+        ensures { result ≡ nat_eq (length self.now.state.accepted) 0 }
+    {
+        self.len() == 0
+    }
+
+    /// The accepted event at a place, or none. It takes no memory.
+    pub fn event(&self, place: Place) -> Option<Event>
+        ensures { result ≡ slice_get self.now.state.accepted place }
+    {
+        self.recorder.event(place)
     }
 
     /// How many questions were opened.
@@ -104,8 +118,12 @@ impl Book {
         self.questions.get(question as usize)
     }
 
-    /// Tests an event and makes room for it.
-    pub(crate) fn admit(&mut self, event: &Event) -> Result<(), Refusal>
+    /// Tests an event and makes room for it. What a reply shows is unchanged.
+    ///
+    /// # Errors
+    ///
+    /// The first refusal that applies, and `NoMemory` where none does.
+    pub fn admit(&mut self, event: &Event) -> Result<(), Refusal>
         ensures shown { self.new.state ≡ self.old.state }
         ensures ok { OnOk result ((self.new.reserved ≡ Some event.now) × (refusal_of self.old.state.limit self.old.state.accepted event.now ≡ None)) }
         ensures refused { IfErr result (RefusesOffer self.old.state event.now) }
@@ -121,11 +139,11 @@ impl Book {
     pub(crate) fn length(&self) -> u32
         ensures { result ≡ length self.now.state.accepted }
     {
-        self.recorder.events().len() as u32
+        self.recorder.len() as u32
     }
 
-    /// Accepts a lawful event that there is room for.
-    pub(crate) fn accept(&mut self, event: &Event)
+    /// Accepts the event, which `admit` must have admitted to this book as it is. It takes no memory.
+    pub fn accept(&mut self, event: &Event)
         requires reserved { self.old.reserved ≡ Some event.now }
         requires lawful { refusal_of self.old.state.limit self.old.state.accepted event.now ≡ None }
         ensures { self.new.state ≡ with_event self.old.state event.now }
@@ -133,8 +151,8 @@ impl Book {
         self.recorder.record(event);
     }
 
-    /// Adds a question that there is room for.
-    pub(crate) fn add(&mut self, asked: Asked)
+    /// Adds the question, which `open` must have made for this book as it is. It takes no memory.
+    pub fn add(&mut self, asked: Asked)
         requires room { 0 < self.old.room }
         requires allowed { ask_refused self.old.state asked.bound ≡ None }
         requires fresh { asked ≡ fresh self.old.state asked.bound }

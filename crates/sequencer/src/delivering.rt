@@ -1,6 +1,6 @@
 //! Findings come in, from anyone.
 
-ghost use Rattle.std.specs.Prelude.{◌≡◌, slice_get, IfErr, OnOk, None};
+ghost use Rattle.std.specs.Prelude.{◌≡◌, ◌≤◌, length, take, slice_get, IfErr, OnOk, None};
 ghost use Rattle.std.specs.Result.{result_err};
 ghost use Rattle.std.specs.Option.{option_eq};
 ghost use Rattle.trace_model.specs.Machine.{deliver, same_event, same_events};
@@ -9,7 +9,8 @@ ghost use Rattle.sequencer.specs.Book.{AreKnown, finding_refused, findings_rows,
 
 use crate::book::Book;
 use findings::{Finding, Snapshot};
-use trace_model::{Event, Place, Refusal};
+use recorder::Recorder;
+use trace_model::{Place, Refusal};
 
 impl Book {
     /// Takes the rows of a task of a question. It takes no memory.
@@ -57,8 +58,7 @@ impl Book {
         if finding.bound() != asked.bound() {
             return Err(Refusal::OtherBound);
         }
-        let events = &self.recorder.events()[..asked.events() as usize];
-        if !is_of(finding.snapshot(), events) {
+        if !is_of(finding.snapshot(), &self.recorder, asked.events()) {
             return Err(Refusal::OtherTrace);
         }
         asked.test(finding.task())
@@ -116,15 +116,16 @@ impl Book {
     }
 }
 
-/// Whether the snapshot is of these events, which are compared one by one.
-fn is_of(snapshot: &Snapshot, events: &[Event]) -> bool
-    ensures { result ≡ same_events snapshot.now events.now }
+/// Whether the snapshot is of the first so many recorded events, which are compared one by one.
+fn is_of(snapshot: &Snapshot, recorder: &Recorder, count: u32) -> bool
+    requires { count ≤ length recorder.now.events }
+    ensures { result ≡ same_events snapshot.now (take count recorder.now.events) }
 {
-    if snapshot.len() != events.len() {
+    if snapshot.len() != count as usize {
         return false;
     }
-    for index in 0..events.len() {
-        if !is_at(snapshot, events, index as u32) {
+    for index in 0..count {
+        if !is_at(snapshot, recorder, index) {
             return false;
         }
     }
@@ -132,13 +133,12 @@ fn is_of(snapshot: &Snapshot, events: &[Event]) -> bool
 }
 
 /// Whether both have the same event at this place, or none.
-fn is_at(snapshot: &Snapshot, events: &[Event], index: u32) -> bool
-    ensures { result ≡ option_eq same_event (slice_get snapshot.now index) (slice_get events.now index) }
+fn is_at(snapshot: &Snapshot, recorder: &Recorder, index: u32) -> bool
+    ensures { result ≡ option_eq same_event (slice_get snapshot.now index)
+        (slice_get recorder.now.events index) }
 {
-    match (
-        snapshot.event(Place::new(index)),
-        events.get(index as usize).copied(),
-    ) {
+    let place = Place::new(index);
+    match (snapshot.event(place), recorder.event(place)) {
         (Some(own), Some(event)) => own == event,
         (None, None) => true,
         _ => false,

@@ -28,7 +28,7 @@ pub(crate) fn serve_anew<S: Source, K: Sink>(
     let ended = serve_book(rt, rt.alloc(), source, sink, &mut book);
     Ok(Session {
         ended,
-        events: book.events().len(),
+        events: book.len(),
         opened: book.status(0).is_ok(),
     })
 }

@@ -1,5 +1,5 @@
 -- What the gate's tables have to do with the recorded events.
-use Rattle.std.specs.Prelude.{◌≡◌, ℕ, ◌<◌, ◌≤◌, length, Option, Some}
+use Rattle.std.specs.Prelude.{◌≡◌, ℕ, ◌<◌, ◌≤◌, length, Option, Some, None}
 use Rattle.trace_model.specs.declared.event.Event.{Event}
 use Rattle.trace_model.specs.declared.event.Op.{Op}
 use Rattle.trace_model.specs.declared.event.Op.TheVariants.{Fork, Join, Acquire, Release}
@@ -7,7 +7,8 @@ use Rattle.trace_model.specs.declared.limits.TheConstants.{MAX_EVENTS}
 use Rattle.trace_model.specs.Trace.{Trace, stands}
 use Rattle.trace_model.specs.Held.{held}
 use Rattle.trace_model.specs.Holders.{owner}
-use Rattle.trace_model.specs.Lawful.{forks, IsWellFormed}
+use Rattle.trace_model.specs.Lawful.{forks, refusal_of, IsWellFormed}
+use Rattle.wellformed.specs.declared.tables.GateTables.{GateTables}
 use Rattle.wellformed.specs.Owners.{OwnerTable, owner_in, HasLock}
 use Rattle.wellformed.specs.Threads.{ThreadTable, thread_in, HasThread}
 
@@ -37,11 +38,24 @@ pub record HasEntries (threads : ThreadTable) (owners : OwnerTable) (e : Event) 
   pub other : HasOpThread threads e.op
   pub lock : HasOpLock owners e.op
 
--- what a gate keeps
-pub record IsKept (limit : ℕ) (events : Trace) (reserved : Option Event) (len capacity : ℕ) (threads : ThreadTable) (owners : OwnerTable) (forked : ℕ) : Type 0 where
+-- there is room for the event
+abbrev pub HasRoomFor : GateTables → Event → Type 0
+HasRoomFor tables e = HasEntries tables.threads tables.owners e
+
+-- the tables are those of the events, which are well formed
+pub record FollowEvents (tables : GateTables) (events : Trace) : Type 0 where
+  pub counted : tables.count ≡ length events
   pub well_formed : IsWellFormed events
+  pub shown : AreTables events tables.threads tables.owners tables.forks
+
+-- the tables are those of events after which the event is lawful
+abbrev pub IsLawfulNext : GateTables → Event → Type 0
+IsLawfulNext tables e = (s : Trace) × FollowEvents tables s × (refusal_of MAX_EVENTS s e ≡ None)
+
+-- what a gate keeps
+pub record IsKept (limit : ℕ) (events : Trace) (reserved : Option Event) (len capacity : ℕ) (tables : GateTables) : Type 0 where
   pub within : length events ≤ limit
   pub small : limit ≤ MAX_EVENTS
-  pub tables : AreTables events threads owners forked
-  pub entries : (e : Event) → reserved ≡ Some e → HasEntries threads owners e
+  pub follow : FollowEvents tables events
+  pub entries : (e : Event) → reserved ≡ Some e → HasRoomFor tables e
   pub room : (e : Event) → reserved ≡ Some e → len < capacity

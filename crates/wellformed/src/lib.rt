@@ -4,6 +4,8 @@
 mod entries;
 mod gate;
 mod owners;
+mod tables;
 mod threads;
 
 pub use gate::Gate;
+pub use tables::GateTables;

@@ -1,16 +1,31 @@
-use Rattle.std.proofs.Common.{◌≡◌, Some, get_or, sym, subst, ◌∙◌}
-use Rattle.trace_model.specs.declared.limits.TheConstants.{MAX_EVENTS}
+use Rattle.std.proofs.Common.{◌≡◌, ◌+◌, suc, take, sym, ap, subst, ◌∙◌, arith}
+use Rattle.std.proofs.lemmas.List.{take_all}
 use Rattle.std.proofs.lemmas.Option.{slice_get-get_or}
-use Rattle.trace_model.specs.Lawful.{IsWellFormed, refusal_of}
 use Rattle.trace_model.specs.declared.event.Op.TheVariants.{Fork}
-use Rattle.offline_report.proofs.WholeReports.{first_unlawful}
+use Rattle.trace_model.specs.Lawful.{IsWellFormed}
+use Rattle.wellformed.specs.Tables.{FollowEvents}
+use Rattle.offline_report.proofs.WholeReports.{take_next}
 use Rattle.offline_report.proofs.opening.admit.Goals as goal
 
 pub returns-in-Err-clause-refused : goal.returns-in-Err-clause-refused
 returns-in-Err-clause-refused c =
     let s = c.args.events.now in
-    let i = c.loop-event.event-index in
-    let e = get_or s i record { thread = 0; op = Fork 0 } in
-    let m = c.events-index.ensures in
-    let refused = subst (λ n. refusal_of n c.loop-event.gate.events e ≡ Some c.in-Err.refusal) c.loop-event.invariant.limit (sym c.in-Err.ensures) in
-    first_unlawful s c.events-index.result.now i e c.in-Err.refusal (m.value ∙ c.loop-event.invariant.recorded) c.loop-event-test.true (slice_get-get_or s i record { thread = 0; op = Fork 0 } c.loop-event-test.true) (subst IsWellFormed (sym m.value) m.well_formed) (subst (λ t. refusal_of MAX_EVENTS t e ≡ Some c.in-Err.refusal) (sym m.value) refused)
+    let i = c.loop-index.index in
+    let f = c.loop-index.invariant in
+    (f.well_formed, (_, slice_get-get_or s i (record { thread = 0; op = Fork 0 }) c.loop-index-test.true, sym (c.in-Err.ensures (take i s) f)))
+
+pub loop-index-preserved : goal.loop-index-preserved
+loop-index-preserved c =
+    let s = c.args.events.now in
+    let i = c.loop-index.index in
+    let next : suc i ≡ i + 1 = omega arith in
+    let more = take_next s i _ (slice_get-get_or s i (record { thread = 0; op = Fork 0 }) c.loop-index-test.true) in
+    let f = c.loop-index.invariant in
+    let room = c.reserve.ensures.follow (take i s) f in
+    subst (FollowEvents c.record.new.self) (sym more ∙ ap (λ n. take n s) next) (c.record.ensures (take i s) room (sym (c.in_default.ensures (take i s) f)))
+
+pub returns-clause-ok : goal.returns-clause-ok
+returns-clause-ok c =
+    let s = c.args.events.now in
+    let past = c.loop-index-test.false in
+    subst IsWellFormed (take_all c.loop-index.index s (omega arith)) (c.loop-index.invariant).well_formed

@@ -1,9 +1,7 @@
-use Rattle.std.proofs.Common.{◌≡◌, take}
-use Rattle.trace_model.specs.declared.limits.TheConstants.{MAX_EVENTS}
+use Rattle.std.proofs.Common.{take}
+use Rattle.wellformed.specs.Tables.{FollowEvents}
 use Rattle.offline_report.proofs.opening.admit.Given as goal
 
-abbrev pub invariant-loop-event : goal.invariant-loop-event
-invariant-loop-event l = record {
-  recorded : l.gate.events ≡ take l.event-index l.events;
-  limit : l.gate.limit ≡ MAX_EVENTS;
-}
+-- the tables are those of the events so far
+abbrev pub invariant-loop-index : goal.invariant-loop-index
+invariant-loop-index l = FollowEvents l.gate (take l.index l.events)
