@@ -7,7 +7,6 @@
 mod desk;
 mod locked;
 mod own;
-mod replies;
 mod worker;
 
 pub use desk::Desk;

@@ -19,7 +19,6 @@ ghost use Rattle.desk.specs.Refused.{IsCount, RefusesDesk, RefusesFinding};
 ghost use Rattle.desk.specs.Together.{AreOutcomes, taken_steps};
 
 use crate::own::OwnFinding;
-use crate::replies::{ask_refused_in, opened_in, place_in, refusal_in};
 use board::{BoardReader, BoardWriter, Follows, Naming, Receipt, Shown, Summary, new_board};
 use findings::{Finding, Snapshot};
 use sequencer::{Answer, AnswerRefused, AskRefused, Book, Delivered, NoSuchQuestion, Opened};
@@ -28,7 +27,7 @@ use std::hash::RandomState;
 use std::marker::Model;
 use std::sync::{Arc, Wait};
 use thiserror::Error;
-use trace_model::{BoardStep, Event, Place, Refusal, Request};
+use trace_model::{BoardStep, Event, Place, Refusal};
 use witness::confirmed_in;
 
 /// The most readers of a desk.
@@ -125,14 +124,14 @@ impl<N: Naming, R: Wait + Copy, T: Follows<N>> Locked<N, R, T> {
         ensures receipt { result.1 ≡ self.new.published }
         ensures legal { IsLegal self.new.published }
     {
-        let planned = match self.book.prepare(&Request::Offer(event)) {
-            Ok(planned) => planned,
-            Err(reply) => return (Err(refusal_in(&reply)), self.board.receipt()),
-        };
+        if let Err(refusal) = self.book.admit(&event) {
+            return (Err(refusal), self.board.receipt());
+        }
         let Ok(()) = self.board.grow(BoardStep::Accept(event)) else {
             return (Err(Refusal::NoMemory), self.board.receipt());
         };
-        let place = place_in(&self.book.commit(planned));
+        let place = Place::new(self.book.len() as u32);
+        self.book.accept(&event);
         (Ok(place), publish(&mut self.board))
     }
 
@@ -152,16 +151,16 @@ impl<N: Naming, R: Wait + Copy, T: Follows<N>> Locked<N, R, T> {
         ensures receipt { result.1 ≡ self.new.published }
         ensures legal { IsLegal self.new.published }
     {
-        let planned = match self.book.prepare(&Request::Ask(bound)) {
-            Ok(planned) => planned,
-            Err(reply) => return (Err(ask_refused_in(&reply)), self.board.receipt()),
+        let asked = match self.book.open(bound) {
+            Ok(asked) => asked,
+            Err(refused) => return (Err(refused), self.board.receipt()),
         };
-        let opened = opened_in(planned.reply());
+        let opened = self.book.opens(&asked);
         let total = opened.total;
         let Ok(()) = self.board.grow(BoardStep::Open { bound, total }) else {
             return (Err(AskRefused::NoMemory), self.board.receipt());
         };
-        let _ = self.book.commit(planned);
+        self.book.add(asked);
         (Ok(opened), publish(&mut self.board))
     }
 

@@ -1,8 +1,7 @@
-use Rattle.std.proofs.Common.{◌≡◌, List, [], ◌∷◌, ◌++◌, length, sym, ap, subst, ◌∙◌, arith, append_assoc}
-use Rattle.std.proofs.lemmas.List.{append-nil, nil_from_length}
+use Rattle.std.proofs.Common.{List, [], ◌∷◌, ◌++◌, length, sym, ap, subst, ◌∙◌, arith, append_assoc}
+use Rattle.std.proofs.lemmas.List.{append-nil}
 use Rattle.findings.specs.Found.{FoundRows}
 use Rattle.sequencer.specs.Sessions.{Delivered}
-use Rattle.trace_model.specs.declared.step.BoardStep.{BoardStep}
 use Rattle.trace_model.specs.Runs.{IsLegal}
 use Rattle.desk.specs.Published.{After, Kept}
 use Rattle.desk.specs.Together.{AreOutcomes, taken_steps}
