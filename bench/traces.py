@@ -3,6 +3,7 @@
 
   traces.py opposite ROUNDS        two threads that take two locks in opposite orders, ROUNDS times each
   traces.py rows LOCKS             two threads that take lock 1 and each of LOCKS locks in opposite orders
+  traces.py taken LOCKS            the same the other way round: lock 1 is taken under each of them first
   traces.py accounts SECTIONS      16 threads that take two of 64 locks each time, SECTIONS times in all
   traces.py nested SECTIONS        12 threads that hold one to five of 40 locks, SECTIONS times in all
   traces.py pairs LOCKS            four threads that take all pairs of LOCKS locks, in one order
@@ -36,6 +37,16 @@ def rows(locks):
         words += section(0, [1, lock])
     for lock in range(2, locks + 1):
         words += section(1, [lock, 1])
+    return words
+
+
+def taken(locks):
+    """Thread 0 holds each other lock while it takes lock 1, and then thread 1 holds lock 1 while it takes each."""
+    words = forks(1)
+    for lock in range(2, locks + 1):
+        words += section(0, [lock, 1])
+    for lock in range(2, locks + 1):
+        words += section(1, [1, lock])
     return words
 
 
@@ -117,6 +128,7 @@ def small(seed, events):
 KINDS = {
     "opposite": opposite,
     "rows": rows,
+    "taken": taken,
     "accounts": accounts,
     "nested": nested,
     "pairs": pairs,
