@@ -3,7 +3,7 @@
 
   traces.py opposite ROUNDS        two threads that take two locks in opposite orders, ROUNDS times each
   traces.py rows LOCKS             two threads that take lock 1 and each of LOCKS locks in opposite orders
-  traces.py taken LOCKS            the same the other way round: lock 1 is taken under each of them first
+  traces.py taken LOCKS            the same the other way round, lock 1 being taken under each of them first, and with the fork between
   traces.py accounts SECTIONS      16 threads that take two of 64 locks each time, SECTIONS times in all
   traces.py nested SECTIONS        12 threads that hold one to five of 40 locks, SECTIONS times in all
   traces.py pairs LOCKS            four threads that take all pairs of LOCKS locks, in one order
@@ -41,10 +41,11 @@ def rows(locks):
 
 
 def taken(locks):
-    """Thread 0 holds each other lock while it takes lock 1, and then thread 1 holds lock 1 while it takes each."""
-    words = forks(1)
+    """Thread 0 holds each other lock while it takes lock 1, and then forks thread 1, which holds lock 1 while it takes each."""
+    words = []
     for lock in range(2, locks + 1):
         words += section(0, [lock, 1])
+    words += forks(1)
     for lock in range(2, locks + 1):
         words += section(1, [1, lock])
     return words
