@@ -47,58 +47,87 @@ fn limit<'a>(alloc: Global) -> Arg<'a> {
         .default_value("1048576")
 }
 
-fn serve<'a>(alloc: Global) -> Result<Command<'a>, AllocError> {
-    let address = Arg::new(alloc, "address")
-        .value_name("ADDRESS")
-        .required(true);
-    let workers = Arg::new(alloc, "workers")
+/// An argument that must be there, by its place.
+fn given<'a>(alloc: Global, id: &'a str, name: &'a str) -> Arg<'a> {
+    Arg::new(alloc, id).value_name(name).required(true)
+}
+
+fn workers<'a>(alloc: Global) -> Arg<'a> {
+    Arg::new(alloc, "workers")
         .long("workers")
         .value_name("W")
         .value_parser(value_parser!(u32).range(1..=16))
-        .default_value("1");
-    let sessions = Arg::new(alloc, "sessions")
+        .default_value("1")
+}
+
+fn sessions<'a>(alloc: Global) -> Arg<'a> {
+    Arg::new(alloc, "sessions")
         .long("sessions")
         .value_name("S")
         .value_parser(value_parser!(u32).range(0..=1_000_000))
-        .default_value("0");
+        .default_value("0")
+}
+
+fn bound<'a>(alloc: Global) -> Arg<'a> {
+    Arg::new(alloc, "bound")
+        .long("bound")
+        .value_name("K")
+        .value_parser(value_parser!(u32).range(2..=8))
+        .required(true)
+}
+
+fn serve<'a>(alloc: Global) -> Result<Command<'a>, AllocError> {
     Command::new(alloc, "serve")
         .about("Serves agents over TCP: takes their events and answers their questions")
-        .arg(address)?
-        .arg(workers)?
-        .arg(sessions)?
+        .arg(given(alloc, "address", "ADDRESS"))?
+        .arg(workers(alloc))?
+        .arg(sessions(alloc))?
         .arg(limit(alloc))
 }
 
 fn script<'a>(alloc: Global) -> Result<Command<'a>, AllocError> {
-    let file = Arg::new(alloc, "file").value_name("FILE").required(true);
     Command::new(alloc, "script")
         .about("Runs a script of events and prints the replies")
-        .arg(file)?
+        .arg(given(alloc, "file", "FILE"))?
         .arg(limit(alloc))
 }
 
 fn offline<'a>(alloc: Global) -> Result<Command<'a>, AllocError> {
-    let file = Arg::new(alloc, "file").value_name("FILE").required(true);
-    let bound = Arg::new(alloc, "bound")
-        .long("bound")
-        .value_name("K")
-        .value_parser(value_parser!(u32).range(2..=8))
-        .required(true);
     Command::new(alloc, "offline")
         .about("Reports the cycles of a file of events")
-        .arg(file)?
-        .arg(bound)
+        .arg(given(alloc, "file", "FILE"))?
+        .arg(bound(alloc))
 }
 
 fn replay<'a>(alloc: Global) -> Result<Command<'a>, AllocError> {
-    let trace = Arg::new(alloc, "trace").value_name("TRACE").required(true);
-    let witness = Arg::new(alloc, "witness")
-        .value_name("WITNESS")
-        .required(true);
     Command::new(alloc, "replay")
         .about("Checks a witness against a trace")
-        .arg(trace)?
-        .arg(witness)
+        .arg(given(alloc, "trace", "TRACE"))?
+        .arg(given(alloc, "witness", "WITNESS"))
+}
+
+/// The program with this command too.
+fn with<'a>(
+    program: Command<'a>,
+    command: Result<Command<'a>, AllocError>,
+) -> Result<Command<'a>, AllocError> {
+    match command {
+        Ok(command) => program.subcommand(command),
+        Err(refused) => {
+            drop(program);
+            Err(refused)
+        }
+    }
+}
+
+fn program<'a>(alloc: Global) -> Result<Command<'a>, AllocError> {
+    let program = Command::new(alloc, "goodlockd")
+        .about("Predicts the deadlocks of a traced program from its events")
+        .subcommand_required(true);
+    let program = with(program, serve(alloc))?;
+    let program = with(program, script(alloc))?;
+    let program = with(program, offline(alloc))?;
+    with(program, replay(alloc))
 }
 
 /// The number of this argument, if it is in the range.
@@ -140,6 +169,22 @@ fn chosen<'a>(matches: &ArgMatches<'a>) -> Option<Invocation<'a>>
     }
 }
 
+/// What the words ask of the program.
+fn invocation_of<'a>(
+    program: &mut Command<'a>,
+    words: &'a [&'a str],
+) -> Result<Invocation<'a>, Error>
+    ensures { IfOk result IsInRange }
+{
+    let matches = program.try_get_matches_from_mut(words)?;
+    let invocation = chosen(&matches);
+    drop(matches);
+    match invocation {
+        Some(invocation) => Ok(invocation),
+        None => Err(program.error(ErrorKind::ValueValidation, "a number is out of its range")?),
+    }
+}
+
 /// What the words ask for, the first of which names the program. Each number is in its range.
 ///
 /// # Errors
@@ -148,16 +193,8 @@ fn chosen<'a>(matches: &ArgMatches<'a>) -> Option<Invocation<'a>>
 pub fn parse<'a>(alloc: Global, words: &'a [&'a str]) -> Result<Invocation<'a>, Error>
     ensures { IfOk result IsInRange }
 {
-    let mut command = Command::new(alloc, "goodlockd")
-        .about("Predicts the deadlocks of a traced program from its events")
-        .subcommand_required(true)
-        .subcommand(serve(alloc)?)?
-        .subcommand(script(alloc)?)?
-        .subcommand(offline(alloc)?)?
-        .subcommand(replay(alloc)?)?;
-    let matches = command.try_get_matches_from_mut(words)?;
-    match chosen(&matches) {
-        Some(invocation) => Ok(invocation),
-        None => Err(command.error(ErrorKind::ValueValidation, "a number is out of its range")?),
-    }
+    let mut program = program(alloc)?;
+    let invocation = invocation_of(&mut program, words);
+    drop(program);
+    invocation
 }

@@ -1,8 +1,9 @@
 //! The command that reports on a file of events.
 ghost use Rattle.std.specs.Prelude.{◌≡◌, ◌++◌, IfOk, IfErr, OnOk};
+ghost use Rattle.std.specs.Io.KnownBytes.{Appends};
 ghost use Rattle.commands.specs.declared.outcome.Status.TheVariants.{Done, Refused};
 ghost use Rattle.commands.specs.Offline.{OfflineTells, refusal_line, refused_line};
-ghost use Rattle.offline_report.specs.Offline.{IsRefused, IsReport};
+ghost use Rattle.offline_report.specs.Offline.{IsRefused, IsReport, whole};
 
 use crate::admission::push_refused_at;
 use crate::outcome::{Status, Stopped, write_text};
@@ -37,7 +38,7 @@ fn push_refused(text: &mut Vec<u8>, refused: OfflineRefused) -> Result<(), NoMem
     }
 }
 
-/// The report on these events, of which the progress is told.
+/// The report on these events, in pieces one after another, of which the progress is told.
 fn report_on<R: Threads + Sync, P: Progress + Sync>(
     rt: &R,
     alloc: Global,
@@ -45,15 +46,40 @@ fn report_on<R: Threads + Sync, P: Progress + Sync>(
     events: Vec<Event>,
     bound: Bound,
     progress: &P,
-) -> Result<Vec<u8>, OfflineRefused>
-    ensures text { IfOk result (λ text. IsReport events.items bound text.items) }
+) -> Result<Vec<Vec<u8>>, OfflineRefused>
+    ensures text { IfOk result (λ pieces. IsReport events.items bound (whole pieces.items)) }
     ensures refused { IfErr result (IsRefused events.items bound) }
 {
     let offline = Offline::open(alloc, state, events, bound)?;
     progress.begin(offline.tasks());
-    let text = offline.report(rt, progress);
+    let pieces = offline.pieces(rt, progress);
     progress.end();
-    text
+    pieces
+}
+
+/// Writes the pieces of a text, one after another.
+fn write_pieces<O: Write>(out: &mut O, pieces: &[Vec<u8>]) -> Result<(), Stopped>
+    ensures { OnOk result (Appends (O.contents out.old) (O.contents out.new) (whole pieces.now)) }
+{
+    for piece in pieces {
+        out.write_all(piece)?;
+    }
+    out.flush()?;
+    Ok(())
+}
+
+/// Writes why there is no report.
+fn write_refused<O: Write>(
+    alloc: Global,
+    refused: OfflineRefused,
+    out: &mut O,
+) -> Result<Status, Stopped>
+    ensures { IfOk result (λ status. (status ≡ Refused) × Appends (O.contents out.old) (O.contents out.new) (refused_line refused)) }
+{
+    let mut text = Vec::new(alloc);
+    push_refused(&mut text, refused)?;
+    write_text(out, &text)?;
+    Ok(Status::Refused)
 }
 
 /// Writes the report, or why there is none.
@@ -71,17 +97,14 @@ fn report<R: Threads + Sync, P: Progress + Sync, O: Write>(
 {
     let events = read_events(alloc, file)?;
     match report_on(rt, alloc, state, events, bound, progress) {
-        Ok(text) => {
-            write_text(out, &text)?;
+        Ok(pieces) => {
+            let written = write_pieces(out, &pieces);
+            drop(pieces);
+            written?;
             Ok(Status::Done)
         }
         Err(OfflineRefused::NoMemory) => Err(Stopped::Memory),
-        Err(refused) => {
-            let mut text = Vec::new(alloc);
-            push_refused(&mut text, refused)?;
-            write_text(out, &text)?;
-            Ok(Status::Refused)
-        }
+        Err(refused) => write_refused(alloc, refused, out),
     }
 }
 

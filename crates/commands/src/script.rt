@@ -42,6 +42,14 @@ impl ScriptSession {
         }
     }
 
+    /// Runs the commands, one after another.
+    fn run_all<O: Write>(&mut self, commands: &[Command], out: &mut O) -> Result<(), Stopped> {
+        for command in commands {
+            self.run(*command, out)?;
+        }
+        Ok(())
+    }
+
     /// Sends the frame of a request, and writes what is printed of its reply.
     fn request<O: Write>(&mut self, frame: &[u8], out: &mut O) -> Result<(), Stopped> {
         self.reader.feed(frame)?;
@@ -105,7 +113,10 @@ impl ScriptSession {
         match job.compute(task) {
             Ok(finding) => match self.book.deliver_known(finding) {
                 Ok(()) => Ok(()),
-                Err((refusal, _)) => Err(refusal),
+                Err((refusal, finding)) => {
+                    drop(finding);
+                    Err(refusal)
+                }
             },
             Err(ComputeRefused::TooManyCycles) => Err(Refusal::TooManyCycles),
             Err(ComputeRefused::NoMemory) => Err(Refusal::NoMemory),
@@ -153,10 +164,9 @@ fn run_commands<O: Write>(
         book,
         text: Vec::new(alloc),
     };
-    for command in &commands {
-        session.run(*command, out)?;
-    }
-    Ok(())
+    let ran = session.run_all(&commands, out);
+    drop(session);
+    ran
 }
 
 /// Runs the script in the bytes of the file of this name, over a book that accepts at most `limit` events, which

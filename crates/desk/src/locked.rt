@@ -90,11 +90,15 @@ impl<N: Naming, R: Wait + Copy> Locked<N, R, Shown<N>> {
             return Err(DeskRefused::BadLimit);
         };
         if readers == 0 || readers > MAX_READERS {
+            drop(book);
             return Err(DeskRefused::BadCount);
         }
         match new_board(alloc, rt, opened, readers) {
             Ok((board, all)) => Ok((Locked { book, board }, all)),
-            Err(_) => Err(DeskRefused::NotMade),
+            Err(_) => {
+                drop(book);
+                Err(DeskRefused::NotMade)
+            }
         }
     }
 }

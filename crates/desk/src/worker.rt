@@ -106,7 +106,7 @@ impl<N: Naming, R: Wait + Copy, T: Follows<N>> Worker<N, R, T> {
             return Turn::Failed(Failed::BoardBusy);
         };
         let Some((question, asked)) = least_unsettled(&summary, &self.given_up) else {
-            self.job = None;
+            drop(self.job.take());
             return Turn::Idle;
         };
         let Some(bound) = Bound::new(asked.bound) else {
@@ -152,7 +152,10 @@ impl<N: Naming, R: Wait + Copy, T: Follows<N>> Worker<N, R, T> {
     {
         match self.job.take() {
             Some(job) if job.question() == question => Ok(job),
-            _ => self.desk.own_job(question, bound).map_err(refused),
+            other => {
+                drop(other);
+                self.desk.own_job(question, bound).map_err(refused)
+            }
         }
     }
 
@@ -163,7 +166,7 @@ impl<N: Naming, R: Wait + Copy, T: Follows<N>> Worker<N, R, T> {
     {
         let mut job = self.job_of(question, bound)?;
         let found = job.compute(task);
-        self.job = Some(job);
+        drop(self.job.replace(job));
         match found {
             Ok(own) => Ok(own),
             Err(ComputeRefused::TooManyCycles) => Err(Turn::Failed(Failed::TooManyCycles)),
@@ -180,7 +183,10 @@ impl<N: Naming, R: Wait + Copy, T: Follows<N>> Worker<N, R, T> {
         self.reader.learn(&receipt);
         match delivered {
             Ok(()) => Turn::Delivered,
-            Err((refusal, _)) => refused(refusal),
+            Err((refusal, finding)) => {
+                drop(finding);
+                refused(refusal)
+            }
         }
     }
 }

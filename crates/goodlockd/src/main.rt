@@ -61,7 +61,7 @@ fn offline_file<T: Threads + Sync>(
         unreachable!()
     };
     let state = RandomState::new(rt)?;
-    let mut out = rt.stdout();
+    let mut out = BufWriter::new(rt.alloc(), rt.stdout())?;
     let mut err = rt.stderr();
     Ok(run_offline(
         threads,

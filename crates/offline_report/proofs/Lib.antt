@@ -1,2 +1,4 @@
 pub mod WholeReports
 pub mod Collected
+pub mod Sizes
+pub mod Texts

@@ -1,11 +1,10 @@
 -- The report on all tasks, and the first event that is not lawful.
-use Rattle.std.proofs.Common.{◌≡◌, ℕ, zero, suc, ◌<◌, List, [], ◌∷◌, ◌++◌, length, map, take, slice_get, option_map, Option, Some, None, refl, sym, ap, subst, ◌∙◌}
-use Rattle.std.specs.Global.{Vec}
+use Rattle.std.proofs.Common.{◌≡◌, ℕ, zero, suc, List, [], ◌∷◌, ◌++◌, length, map, take, slice_get, option_map, Option, Some, None, refl, sym, ap, subst, ◌∙◌}
 use Rattle.std.specs.List.{flat_map, All}
 use Rattle.std.proofs.lemmas.List.{length-map, map-append}
 use Rattle.std.proofs.lemmas.List.Concat.{flat_map-cons}
 use Rattle.std.proofs.lemmas.List.Elements.{All-head, All-tail}
-use Rattle.std.proofs.lemmas.Option.{none-some, same_Some, slice_get-map, slice_get_within, get_or_from_slice_get}
+use Rattle.std.proofs.lemmas.Option.{none-some, same_Some, slice_get-map}
 use Rattle.trace_model.specs.declared.event.Event.{Event}
 use Rattle.trace_model.specs.Trace.{Trace, At}
 use Rattle.trace_model.specs.Lawful.{IsWellFormed}
@@ -13,15 +12,16 @@ use Rattle.trace_model.specs.Dependencies.{Dependency, dependencies}
 use Rattle.trace_model.specs.Rows.{Row, AreRows}
 use Rattle.witness.specs.Printed.{Printed, with_dependencies}
 use Rattle.witness.specs.Text.{report}
-use Rattle.offline_report.specs.Offline.{AreComputed, AreTasks, report_of, IsNotAdmitted, IsNotComputed, IsRefused}
+use Rattle.offline_report.specs.Offline.{AreComputed, AreTasks, report_of, IsNotAdmitted, IsNotComputed, IsRefused, tasks_report}
+use Rattle.offline_report.specs.declared.parts.Part.{Part}
 use Rattle.offline_report.specs.declared.refused.OfflineRefused.{OfflineRefused}
 use Rattle.offline_report.specs.declared.refused.OfflineRefused.TheVariants.{Gate, TooLong, TooManyCycles, NoMemory}
 
 -- the rows of a task, and of each task, without the dependencies that they name
-abbrev pub plain : Vec Printed → List Row
-plain rows = map (λ p. p.row) rows.items
+abbrev pub plain : List Printed → List Row
+plain rows = map (λ p. p.row) rows
 
-abbrev pub all_plain : List (Vec Printed) → List (List Row)
+abbrev pub all_plain : List (List Printed) → List (List Row)
 all_plain tasks = map plain tasks
 
 named_rows : (ds : List Dependency) (rows : List Printed) → All (λ p. p ≡ with_dependencies ds p.row) rows → map (with_dependencies ds) (map (λ p. p.row) rows) ≡ rows
@@ -32,41 +32,34 @@ named_rows ds (p ∷ rows) h =
     let rest = named_rows ds rows (All-tail P p rows h) in
     λ i. sym first i ∷ rest i
 
-named_tasks : (ds : List Dependency) (tasks : List (Vec Printed)) → All (λ (v : Vec Printed). All (λ p. p ≡ with_dependencies ds p.row) v.items) tasks → map (with_dependencies ds) (flat_map (λ rows. rows) (all_plain tasks)) ≡ flat_map (λ (v : Vec Printed). v.items) tasks
+named_tasks : (ds : List Dependency) (tasks : List (List Printed)) → ((k : ℕ) (rows : List Printed) → slice_get tasks k ≡ Some rows → All (λ p. p ≡ with_dependencies ds p.row) rows) →
+    map (with_dependencies ds) (flat_map (λ rows. rows) (all_plain tasks)) ≡ flat_map (λ rows. rows) tasks
 named_tasks ds [] h = refl
 named_tasks ds (v ∷ tasks) h =
-    let P : Vec Printed → Type 0 = λ w. All (λ p. p ≡ with_dependencies ds p.row) w.items in
-    let first = named_rows ds v.items (All-head P v tasks h) in
-    let rest = named_tasks ds tasks (All-tail P v tasks h) in
+    let first = named_rows ds v (h 0 v refl) in
+    let rest = named_tasks ds tasks (λ k rows is. h (suc k) rows is) in
     ap (map (with_dependencies ds)) (flat_map-cons (λ (rows : List Row). rows) (plain v) (all_plain tasks))
     ∙ map-append (with_dependencies ds) (plain v) (flat_map (λ rows. rows) (all_plain tasks))
     ∙ (λ i. first i ++ rest i)
-    ∙ sym (flat_map-cons (λ (w : Vec Printed). w.items) v tasks)
+    ∙ sym (flat_map-cons (λ (rows : List Printed). rows) v tasks)
 
 -- the text on what was computed is that on its rows
-report_is : (s : Trace) (bound n : ℕ) (tasks : List (Vec Printed)) → AreComputed s bound n tasks → report 0 (length s) bound (flat_map (λ (v : Vec Printed). v.items) tasks) ≡ report_of s bound (all_plain tasks)
-unfolding report_of
-report_is s bound n tasks c =
-    let each : All (λ (v : Vec Printed). All (λ p. p ≡ with_dependencies (dependencies s) p.row) v.items) tasks = λ k d h. (c.each k d (subst (λ m. k < m) c.total h)).named in
-    ap (report 0 (length s) bound) (sym (named_tasks (dependencies s) tasks each))
+pub report_is : (s : Trace) (bound n len : ℕ) (tasks : List (List Printed)) (parts : List Part) → AreComputed s bound n tasks parts → len ≡ length s →
+    tasks_report len bound tasks ≡ report_of s bound (all_plain tasks)
+unfolding report_of tasks_report
+report_is s bound n len tasks parts c l =
+    ap (λ k. report 0 k bound (flat_map (λ rows. rows) tasks)) l
+    ∙ ap (report 0 (length s) bound) (sym (named_tasks (dependencies s) tasks (λ k rows is. (c.each k rows is).named)))
 
--- the same, where length and tasks are seen otherwise
-pub report_on : (s : Trace) (bound n len : ℕ) (tasks seen : List (Vec Printed)) → AreComputed s bound n tasks → len ≡ length s → seen ≡ tasks → report 0 len bound (flat_map (λ (v : Vec Printed). v.items) seen) ≡ report_of s bound (all_plain tasks)
-report_on s bound n len tasks seen c l e =
-    ap (λ k. report 0 k bound (flat_map (λ (v : Vec Printed). v.items) seen)) l
-    ∙ ap (λ xs. report 0 (length s) bound (flat_map (λ (v : Vec Printed). v.items) xs)) e
-    ∙ report_is s bound n tasks c
+task_rows : (s : Trace) (bound n : ℕ) (tasks : List (List Printed)) (parts : List Part) (task : ℕ) (rows : List Row) (found : Option (List Printed)) →
+    AreComputed s bound n tasks parts → slice_get tasks task ≡ found → option_map plain found ≡ Some rows → AreRows s bound task rows
+task_rows s bound n tasks parts task rows None c f e = absurd (none-some rows e)
+task_rows s bound n tasks parts task rows (Some v) c f e = subst (AreRows s bound task) (same_Some (plain v) rows e) (c.each task v f).exact
 
-task_rows : (s : Trace) (bound n : ℕ) (tasks : List (Vec Printed)) (task : ℕ) (rows : List Row) (found : Option (Vec Printed)) → AreComputed s bound n tasks → slice_get tasks task ≡ found → option_map plain found ≡ Some rows → AreRows s bound task rows
-task_rows s bound n tasks task rows None c f e = absurd (none-some rows e)
-task_rows s bound n tasks task rows (Some v) c f e =
-    let within : task < n = subst (λ m. task < m) c.total (slice_get_within tasks task v f) in
-    subst (AreRows s bound task) (same_Some (plain v) rows e) (subst (λ (w : Vec Printed). AreRows s bound task (plain w)) (get_or_from_slice_get tasks task v v f) (c.each task v within).exact)
-
-pub are_tasks : (s : Trace) (bound : ℕ) (tasks : List (Vec Printed)) → AreComputed s bound (length (dependencies s)) tasks → AreTasks s bound (all_plain tasks)
-are_tasks s bound tasks c = record {
+pub are_tasks : (s : Trace) (bound : ℕ) (tasks : List (List Printed)) (parts : List Part) → AreComputed s bound (length (dependencies s)) tasks parts → AreTasks s bound (all_plain tasks)
+are_tasks s bound tasks parts c = record {
   total = length-map tasks plain ∙ c.total;
-  each = λ task rows e. task_rows s bound (length (dependencies s)) tasks task rows (slice_get tasks task) c refl (sym (slice_get-map plain tasks task) ∙ e);
+  each = λ task rows e. task_rows s bound (length (dependencies s)) tasks parts task rows (slice_get tasks task) c refl (sym (slice_get-map plain tasks task) ∙ e);
 }
 
 -- one event more of a beginning

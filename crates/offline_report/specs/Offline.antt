@@ -1,7 +1,8 @@
 -- The report on a whole list of events.
-use Rattle.std.specs.Prelude.{◌≡◌, ℕ, ◌<◌, List, length, map, take, slice_get, slice_index_or, Some, Result, MatchResult}
+use Rattle.std.specs.Prelude.{◌≡◌, ℕ, suc, ◌<◌, List, [], length, map, take, slice_get, count_by, Option, Some, MatchOption, Result, MatchResult}
 use Rattle.std.specs.Global.{Vec}
-use Rattle.std.specs.List.{flat_map}
+use Rattle.std.specs.List.{AllZip, flat_map}
+use Rattle.std.specs.Option.{option_map_or}
 use Rattle.trace_model.specs.declared.event.Event.{Event}
 use Rattle.trace_model.specs.declared.limits.TheConstants.{MAX_EVENTS, MAX_REPORT, MAX_CYCLES}
 use Rattle.trace_model.specs.declared.refusal.Refusal.{Refusal}
@@ -10,9 +11,10 @@ use Rattle.trace_model.specs.Lawful.{IsWellFormed, refusal_of}
 use Rattle.trace_model.specs.Dependencies.{dependencies}
 use Rattle.trace_model.specs.Rows.{Row, AreRows}
 use Rattle.witness.specs.Printed.{Printed, with_dependencies}
-use Rattle.witness.specs.Text.{report}
+use Rattle.witness.specs.Text.{report, row_text, is_confirmed}
 use Rattle.cycle_search.specs.Search.{CycleFrom, MoreThan}
 use Rattle.findings.specs.Found.{AreRowsOf}
+use Rattle.offline_report.specs.declared.parts.Part.{Part}
 use Rattle.offline_report.specs.declared.refused.OfflineRefused.{OfflineRefused}
 use Rattle.offline_report.specs.declared.refused.OfflineRefused.TheVariants.{Gate, TooLong, TooManyCycles, NoMemory}
 
@@ -55,15 +57,47 @@ IsNotComputed s bound TooLong = ⊥
 IsNotComputed s bound TooManyCycles = (task : ℕ) × MoreThan (CycleFrom (dependencies s) bound task) MAX_CYCLES
 IsNotComputed s bound NoMemory = Unit {0}
 
--- a task's rows, or rightly none
-abbrev pub IsTask : Trace → ℕ → ℕ → Result (Vec Printed) OfflineRefused → Type 0
-IsTask s bound task result = MatchResult result (λ rows. AreRowsOf s bound task rows.items) (IsNotComputed s bound)
+-- what a report has of these rows: their text, or none where that alone is too long, and how many they are
+pub record Tells (rows : List Printed) (part : Part) : Type 0 where
+  pub text : MatchOption part.text (MAX_REPORT < length (flat_map row_text rows)) (λ text. text.items ≡ flat_map row_text rows)
+  pub cycles : part.cycles ≡ length rows
+  pub confirmed : part.confirmed ≡ count_by is_confirmed rows
 
--- the rows of the first n tasks
-pub record AreComputed (s : Trace) (bound n : ℕ) (tasks : List (Vec Printed)) : Type 0 where
+-- what a report has of a task, or rightly none
+abbrev pub IsTask : Trace → ℕ → ℕ → Result Part OfflineRefused → Type 0
+IsTask s bound task result =
+    MatchResult result (λ part. (rows : List Printed) × AreRowsOf s bound task rows × Tells rows part) (IsNotComputed s bound)
+
+-- the rows of the first n tasks, with what a report has of them
+pub record AreComputed (s : Trace) (bound n : ℕ) (tasks : List (List Printed)) (parts : List Part) : Type 0 where
   pub total : length tasks ≡ n
-  pub each : (task : ℕ) (d : Vec Printed) → task < n → AreRowsOf s bound task (slice_index_or tasks task d).items
+  pub each : (task : ℕ) (rows : List Printed) → slice_get tasks task ≡ Some rows → AreRowsOf s bound task rows
+  pub told : AllZip Tells tasks parts
 
--- the rows of all tasks, or rightly none
-abbrev pub AreAllTasks : Trace → ℕ → Result (Vec (Vec Printed)) OfflineRefused → Type 0
-AreAllTasks s bound result = MatchResult result (λ tasks. AreComputed s bound (length (dependencies s)) tasks.items) (IsNotComputed s bound)
+-- what a report has of all tasks, or rightly none
+abbrev pub AreAllParts : Trace → ℕ → Result (Vec Part) OfflineRefused → Type 0
+AreAllParts s bound result =
+    MatchResult result (λ parts. (tasks : List (List Printed)) × AreComputed s bound (length (dependencies s)) tasks parts.items) (IsNotComputed s bound)
+
+-- the text of all rows of the tasks
+abbrev pub tasks_text : List (List Printed) → List ℕ
+tasks_text tasks = flat_map (λ rows. flat_map row_text rows) tasks
+
+-- the report of question 0 on the rows of all tasks
+unfoldable pub tasks_report : ℕ → ℕ → List (List Printed) → List ℕ
+tasks_report events bound tasks = report 0 events bound (flat_map (λ rows. rows) tasks)
+
+-- how long the part's text is, longer than any report where there is none
+abbrev pub size_of : Part → ℕ
+size_of part = option_map_or (λ text. length text.items) part.text (suc MAX_REPORT)
+
+-- the text of a part, and the pieces of a text one after another
+abbrev pub text_of : Part → List ℕ
+text_of part = option_map_or (λ text. text.items) part.text []
+
+abbrev pub whole : List (Vec ℕ) → List ℕ
+whole pieces = flat_map (λ piece. piece.items) pieces
+
+-- the pieces of this text, or none where it is too long
+abbrev pub IsToldAs : List ℕ → Option (Vec (Vec ℕ)) → Type 0
+IsToldAs text told = MatchOption told (MAX_REPORT < length text) (λ pieces. whole pieces.items ≡ text)

@@ -3,6 +3,7 @@
 #![tactic(auto)]
 
 mod opening;
+mod parts;
 mod refused;
 mod reporting;
 mod tasks;

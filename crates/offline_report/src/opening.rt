@@ -4,10 +4,11 @@ ghost use Rattle.std.specs.Arc.{arc_value};
 ghost use Rattle.trace_model.specs.declared.limits.TheConstants.{MAX_EVENTS};
 ghost use Rattle.trace_model.specs.Dependencies.{dependencies};
 ghost use Rattle.trace_model.specs.Lawful.{IsWellFormed};
-ghost use Rattle.offline_report.specs.Offline.{IsNotAdmitted, IsRefused, IsReport};
+ghost use Rattle.offline_report.specs.Offline.{IsNotAdmitted, IsRefused, IsReport, whole};
 
+use crate::parts::{joined, report_pieces};
 use crate::refused::OfflineRefused;
-use crate::tasks::tasks_of;
+use crate::tasks::parts_of;
 use findings::{Hold, Snapshot};
 use std::alloc::Global;
 use std::hash::RandomState;
@@ -16,7 +17,6 @@ use std::sync::Arc;
 use std::thread::Threads;
 use trace_model::{Bound, Event, MAX_EVENTS, NoMemory};
 use wellformed::GateTables;
-use witness::{TextRefused, report_text};
 
 /// Well-formed events with the tables that the tasks of a question with a bound are computed from. Contracts see
 /// it as that question, number 0.
@@ -70,13 +70,35 @@ impl Offline {
         self.snapshot.tasks()
     }
 
-    /// The report, exactly as a book would give it. Its tasks are computed by as many threads as there are processors;
-    /// each calls the hold, with question 0, once its rows are there.
+    /// The report, exactly as a book would give it, in pieces one after another. Its tasks are computed, and their texts
+    /// written, by as many threads as there are processors; each calls the hold, with question 0, once its rows are there.
     ///
     /// # Errors
     ///
     /// `TooManyCycles` where a task has too many, `TooLong` where the text is, and `NoMemory` where a growth was refused;
     /// where several tasks fail, what one of them refused.
+    pub fn pieces<R: Threads + Sync, H: Hold + Sync>(
+        &self,
+        rt: &R,
+        hold: &H,
+    ) -> Result<Vec<Vec<u8>>, OfflineRefused>
+        ensures text { IfOk result (λ pieces. IsReport self.now.events self.now.bound (whole pieces.items)) }
+        ensures refused { IfErr result (IsRefused self.now.events self.now.bound) }
+    {
+        let length = self.snapshot.len() as u32;
+        let parts = parts_of(rt, self.alloc, &self.snapshot, self.bound, hold)?;
+        match report_pieces(self.alloc, length, self.bound, parts) {
+            Ok(Some(pieces)) => Ok(pieces),
+            Ok(None) => Err(OfflineRefused::TooLong),
+            Err(_) => Err(OfflineRefused::NoMemory),
+        }
+    }
+
+    /// The report as one text: see `pieces`.
+    ///
+    /// # Errors
+    ///
+    /// As of `pieces`.
     pub fn report<R: Threads + Sync, H: Hold + Sync>(
         &self,
         rt: &R,
@@ -85,12 +107,10 @@ impl Offline {
         ensures text { IfOk result (λ text. IsReport self.now.events self.now.bound text.items) }
         ensures refused { IfErr result (IsRefused self.now.events self.now.bound) }
     {
-        let length = self.snapshot.len() as u32;
-        let tasks = tasks_of(rt, self.alloc, &self.snapshot, self.bound, hold)?;
-        match report_text(self.alloc, 0, length, self.bound, &tasks) {
+        let pieces = self.pieces(rt, hold)?;
+        match joined(self.alloc, &pieces) {
             Ok(text) => Ok(text),
-            Err(TextRefused::TooLong) => Err(OfflineRefused::TooLong),
-            Err(TextRefused::NoMemory) => Err(OfflineRefused::NoMemory),
+            Err(_) => Err(OfflineRefused::NoMemory),
         }
     }
 }

@@ -1,9 +1,11 @@
-//! The rows of all tasks, by as many threads as there are processors.
-ghost use Rattle.std.specs.Prelude.{◌≡◌, ℕ, [], IfOk};
+//! What the report has of all tasks, by as many threads as there are processors.
+ghost use Rattle.std.specs.Prelude.{◌≡◌, ℕ, [], IfOk, MatchResult};
 ghost use Rattle.std.specs.Arc.{arc_value};
 ghost use Rattle.trace_model.specs.Trace.{Trace};
-ghost use Rattle.offline_report.specs.Offline.{AreAllTasks, IsTask};
+ghost use Rattle.findings.specs.Found.{AreRowsOf};
+ghost use Rattle.offline_report.specs.Offline.{AreAllParts, IsNotComputed, IsTask};
 
+use crate::parts::{Part, part_of};
 use crate::refused::OfflineRefused;
 use findings::{ComputeRefused, Hold, Job, Snapshot};
 use rayon::prelude::*;
@@ -69,7 +71,7 @@ impl<A: About> Piece<A> {
 
     /// The rows of a task.
     fn rows(&mut self, task: u32) -> Result<Vec<Row>, OfflineRefused>
-        ensures { IsTask A.events A.bound task result }
+        ensures { MatchResult result (λ rows. AreRowsOf A.events A.bound task rows.items) (IsNotComputed A.events A.bound) }
     {
         match self.job.compute(task) {
             Ok(finding) => Ok(finding.into_rows()),
@@ -79,12 +81,13 @@ impl<A: About> Piece<A> {
     }
 }
 
-/// The rows of a task, by its piece. Calls the hold once they are there.
-fn rows_by<A: About, H: Hold>(
+/// What the report has of a task, by its piece. Calls the hold once its rows are there.
+fn part_by<A: About, H: Hold>(
+    alloc: Global,
     piece: &mut Option<Piece<A>>,
     hold: &H,
     task: u32,
-) -> Result<Vec<Row>, OfflineRefused>
+) -> Result<Part, OfflineRefused>
     ensures { IsTask A.events A.bound task result }
 {
     let Some(piece) = piece else {
@@ -92,20 +95,20 @@ fn rows_by<A: About, H: Hold>(
     };
     let rows = piece.rows(task)?;
     hold.hold(QUESTION, task);
-    Ok(rows)
+    part_of(alloc, &rows)
 }
 
-/// The rows of all tasks of the named question, in the order of the tasks.
+/// What the report has of all tasks of the named question, in the order of the tasks.
 fn compute_all<A: About + Send, R: Threads + Sync, H: Hold + Sync>(
     rt: &R,
     alloc: Global,
     snapshot: &Arc<Snapshot, Global>,
     bound: Bound,
     hold: &H,
-) -> Result<Result<Vec<Vec<Row>>, OfflineRefused>, AllocError>
+) -> Result<Result<Vec<Part>, OfflineRefused>, AllocError>
     requires events { arc_value snapshot.now ≡ A.events }
     requires bound { bound ≡ A.bound }
-    ensures { IfOk result (AreAllTasks A.events A.bound) }
+    ensures { IfOk result (AreAllParts A.events A.bound) }
 {
     (0..snapshot.tasks())
         .into_par_iter()
@@ -114,23 +117,23 @@ fn compute_all<A: About + Send, R: Threads + Sync, H: Hold + Sync>(
             || -> Option<Piece<A>>
                 requires { (arc_value snapshot.now ≡ A.events) × (bound ≡ A.bound) }
             { Piece::new(alloc, snapshot, bound) },
-            |piece: &mut Option<Piece<A>>, task: u32| -> Result<Vec<Row>, OfflineRefused>
+            |piece: &mut Option<Piece<A>>, task: u32| -> Result<Part, OfflineRefused>
                 ensures { IsTask A.events A.bound task result }
-            { rows_by(piece, hold, task) },
+            { part_by(alloc, piece, hold, task) },
         )
         .collect(rt, alloc)
 }
 
-/// The rows of all tasks of a question with this bound about the snapshot's events, in the order of the tasks. Each task
-/// calls the hold once its rows are there.
-pub(crate) fn tasks_of<R: Threads + Sync, H: Hold + Sync>(
+/// What the report has of all tasks of a question with this bound about the snapshot's events, in the order of the
+/// tasks. Each task calls the hold once its rows are there.
+pub(crate) fn parts_of<R: Threads + Sync, H: Hold + Sync>(
     rt: &R,
     alloc: Global,
     snapshot: &Arc<Snapshot, Global>,
     bound: Bound,
     hold: &H,
-) -> Result<Vec<Vec<Row>>, OfflineRefused>
-    ensures { AreAllTasks (arc_value snapshot.now) bound result }
+) -> Result<Vec<Part>, OfflineRefused>
+    ensures { AreAllParts (arc_value snapshot.now) bound result }
 {
     match compute_all::<Brand, R, H>(rt, alloc, snapshot, bound, hold) {
         Ok(computed) => computed,

@@ -46,12 +46,17 @@ fn ask_about_trace(rt: &impl Abort, book: &mut Book, trace: &[Event]) -> Result<
     Ok(())
 }
 
-// A function that owns a book has few ways out: on each of them the book is dropped, which is long to prove.
+/// A book with question 0 about the trace. What is big is dropped by a call: to drop it in place is long to prove.
 fn asked_book(rt: &(impl RandomSource + AllocGlobal + Abort)) -> Result<Book, Fail> {
     let trace = read_events(rt.alloc(), OPPOSITE_ORDERS)?;
     let mut book = Book::new(rt.alloc(), RandomState::new(rt)?, 100)?;
-    ask_about_trace(rt, &mut book, &trace)?;
-    Ok(book)
+    match ask_about_trace(rt, &mut book, &trace) {
+        Ok(()) => Ok(book),
+        Err(fail) => {
+            drop(book);
+            Err(fail)
+        }
+    }
 }
 
 /// The rows of a task of a question with the bound 2.
@@ -100,6 +105,7 @@ fn refuses_questions(rt: &impl Abort, book: &mut Book) {
 fn questions_are_refused(rt: HostRuntime) -> Result<(), Fail> {
     let mut book = asked_book(&rt)?;
     refuses_questions(&rt, &mut book);
+    drop(book);
     Ok(())
 }
 
@@ -125,7 +131,9 @@ fn reports(rt: &(impl AllocGlobal + Abort), book: &mut Book) -> Result<(), Fail>
 #[test]
 fn opposite_orders_are_reported(rt: HostRuntime) -> Result<(), Fail> {
     let mut book = asked_book(&rt)?;
-    reports(&rt, &mut book)
+    let told = reports(&rt, &mut book);
+    drop(book);
+    told
 }
 
 fn takes_a_task_once(rt: &(impl AllocGlobal + Abort), book: &mut Book) -> Result<(), Fail> {
@@ -139,7 +147,9 @@ fn takes_a_task_once(rt: &(impl AllocGlobal + Abort), book: &mut Book) -> Result
 #[test]
 fn a_task_comes_once(rt: HostRuntime) -> Result<(), Fail> {
     let mut book = asked_book(&rt)?;
-    takes_a_task_once(&rt, &mut book)
+    let taken = takes_a_task_once(&rt, &mut book);
+    drop(book);
+    taken
 }
 
 /// Why there is no book of this limit.
@@ -188,6 +198,7 @@ fn seventy_thousand_frames_in_one_piece(rt: HostRuntime) -> Result<(), Fail> {
     let inputs = vec![in rt.alloc(); Input::Piece(session, piece)]?;
     let run = play(rt.alloc(), RandomState::new(&rt)?, MOST, inputs)?;
     assert_eq!(rt; run.sent(session), placed.as_slice());
+    drop(run);
     Ok(())
 }
 
@@ -219,10 +230,20 @@ fn answers_of_both_lengths(rt: &(impl AllocGlobal + Abort), book: &mut Book) -> 
     Ok(())
 }
 
+fn asks_round_a_segment(
+    rt: &(impl AllocGlobal + Abort),
+    book: &mut Book,
+    trace: &[Event],
+) -> Result<(), Fail> {
+    ask_round_a_segment(rt, book, trace)?;
+    answers_of_both_lengths(rt, book)
+}
+
 #[test]
 fn questions_at_a_segment_border(rt: HostRuntime) -> Result<(), Fail> {
     let trace = read_events(rt.alloc(), OPPOSITE_ORDERS)?;
     let mut book = Book::new(rt.alloc(), RandomState::new(&rt)?, 5_000)?;
-    ask_round_a_segment(&rt, &mut book, &trace)?;
-    answers_of_both_lengths(&rt, &mut book)
+    let answered = asks_round_a_segment(&rt, &mut book, &trace);
+    drop(book);
+    answered
 }

@@ -1,13 +1,15 @@
 //! A report whose tasks are computed by more threads than one.
+use commands::Unshown;
 use event_files::read_events;
 use findings::Hold;
-use offline_report::offline_with;
+use offline_report::{Offline, offline_with};
 use std::alloc::Global;
 use std::hash::RandomState;
 use std::io::{self, Write};
+use std::process::Abort;
 use std::sync::atomic::{AtomicU64, Ordering};
 use std::test::*;
-use std::thread;
+use std::thread::{self, Threads};
 use trace_model::Bound;
 
 /// How many pairs of nested locks each of two threads takes.
@@ -96,4 +98,39 @@ fn tasks_on_two_threads(rt: HostRuntime) -> Result<(), Fail> {
     assert_eq!(rt; meeting.first.load(Ordering::SeqCst), 1);
     assert_eq!(rt; meeting.gave_up.load(Ordering::SeqCst), 0);
     Ok(())
+}
+
+const OPPOSITE_ORDERS: &[u8] = b"0f1 0f2 1a10 1a20 1r20 1r10 2a20 2a10 2r10 2r20";
+
+const REPORT: &[u8] = b"question 0 length 10 bound 2 cycles 1 confirmed 1
+cycle 0 1 confirmed
+  thread 1 lock 20 holds 10 place 3
+  thread 2 lock 10 holds 20 place 7
+  witness 0 1 2 6
+";
+
+/// The report as one text and its pieces one after another are the same.
+fn tells_as_pieces(
+    rt: &(impl AllocGlobal + Abort + Threads + Sync),
+    offline: &Offline,
+) -> Result<(), Fail> {
+    let mut text = Vec::new(rt.alloc());
+    let pieces = offline.pieces(rt, &Unshown)?;
+    for piece in &pieces {
+        text.extend_from_slice(piece)?;
+    }
+    assert_eq!(rt; text.as_slice(), REPORT);
+    assert_eq!(rt; offline.report(rt, &Unshown)?.as_slice(), REPORT);
+    Ok(())
+}
+
+#[test]
+fn a_report_in_pieces(rt: HostRuntime) -> Result<(), Fail> {
+    let events = read_events(rt.alloc(), OPPOSITE_ORDERS)?;
+    let two = Bound::new(2).expect(&rt, "a bound is 2 to 8");
+    let offline = Offline::open(rt.alloc(), RandomState::new(&rt)?, events, two)?;
+    assert_eq!(rt; offline.tasks(), 2);
+    let told = tells_as_pieces(&rt, &offline);
+    drop(offline);
+    told
 }

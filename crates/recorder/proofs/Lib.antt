@@ -1,1 +1,1 @@
-pub mod Lawful
+pub mod Beginnings

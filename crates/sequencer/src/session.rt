@@ -106,6 +106,19 @@ pub struct Run {
 }
 
 impl Run {
+    /// A run without inputs.
+    fn new(alloc: Global, slots: Vec<Slot>, book: Book) -> Run
+        ensures slots { result.slots ≡ slots }
+        ensures deliveries { result.deliveries.items ≡ [] }
+        ensures book { result.book ≡ book }
+    {
+        Run {
+            slots,
+            deliveries: Vec::new(alloc),
+            book,
+        }
+    }
+
     /// Takes one input more.
     fn take(&mut self, input: Input) -> Result<(), NoMemory>
         requires { length self.old.slots.items ≡ 64 }
@@ -132,9 +145,7 @@ impl Run {
 /// What a run leaves: the bytes that each session was sent, what became of each finding, and the book.
 #[derive(Drop)]
 pub struct Played {
-    slots: Vec<Slot>,
-    deliveries: Vec<Delivered>,
-    book: Book,
+    run: Run,
 }
 
 impl Model for Played {
@@ -143,9 +154,13 @@ impl Model for Played {
 
     ghost Value = { Left };
 
-    ghost view = { λ p. record { sent = map (λ slot. slot.sent.items) p.slots.items; deliveries = p.deliveries.items; book = p.book } };
+    ghost view = { λ p. record {
+      sent = map (λ slot. slot.sent.items) p.run.slots.items;
+      deliveries = p.run.deliveries.items;
+      book = p.run.book;
+    } };
 
-    ghost invariant = { λ p. length p.slots.items ≡ 64 };
+    ghost invariant = { λ p. length p.run.slots.items ≡ 64 };
 }
 
 impl Played {
@@ -153,21 +168,21 @@ impl Played {
     pub fn sent(&self, session: Session) -> &[u8]
         ensures { slice_get self.now.sent session ≡ Some result.now }
     {
-        self.slots[session.index()].sent.as_slice()
+        self.run.slots[session.index()].sent.as_slice()
     }
 
     /// What became of each finding, in the order in which they came.
     pub fn deliveries(&self) -> &[Delivered]
         ensures { result.now ≡ self.now.deliveries }
     {
-        self.deliveries.as_slice()
+        self.run.deliveries.as_slice()
     }
 
     /// The book after all inputs.
     pub fn book(&self) -> &Book
         ensures { result.now ≡ self.now.book }
     {
-        &self.book
+        &self.run.book
     }
 }
 
@@ -184,6 +199,17 @@ fn open_slots(alloc: Global) -> Result<Vec<Slot>, NoMemory>
     Ok(slots)
 }
 
+/// Takes the inputs, one after another.
+fn take_all(run: &mut Run, inputs: Vec<Input>) -> Result<(), NoMemory>
+    requires { (start : State) × (past : List Input) × IsPlayed start past run.old }
+    ensures { OnOk result ((start : State) (past : List Input) → IsPlayed start past run.old → IsPlayed start (past ++ inputs.items) run.new) }
+{
+    for input in inputs {
+        run.take(input)?;
+    }
+    Ok(())
+}
+
 /// Plays the inputs over this book.
 fn play_over(alloc: Global, book: Book, inputs: Vec<Input>) -> Result<Played, NoMemory>
     ensures sent { IfOk result (λ played. AreSent played.sent book.state inputs.items) }
@@ -191,24 +217,20 @@ fn play_over(alloc: Global, book: Book, inputs: Vec<Input>) -> Result<Played, No
     ensures book { IfOk result (λ played. played.book.state ≡ final_state book.state inputs.items) }
     ensures exact { IfOk result (λ _. StateFits AreRows book.state → IsAlwaysExact book.state (actions inputs.items)) }
 {
-    let mut run = Run {
-        slots: open_slots(alloc)?,
-        deliveries: Vec::new(alloc),
-        book,
+    let slots = match open_slots(alloc) {
+        Ok(slots) => slots,
+        Err(refused) => {
+            drop(book);
+            drop(inputs);
+            return Err(refused);
+        }
     };
-    for input in inputs {
-        run.take(input)?;
+    let mut run = Run::new(alloc, slots, book);
+    if let Err(refused) = take_all(&mut run, inputs) {
+        drop(run);
+        return Err(refused);
     }
-    let Run {
-        slots,
-        deliveries,
-        book,
-    } = run;
-    Ok(Played {
-        slots,
-        deliveries,
-        book,
-    })
+    Ok(Played { run })
 }
 
 /// Plays the inputs over a new book that accepts at most `max_events`: each session is sent the replies to its

@@ -6,7 +6,7 @@ ghost use Rattle.server.specs.Service.{IsWorkers};
 use crate::seats::{MAX_SESSIONS, Seats};
 use crate::sessions::hold_session;
 use board::{BoardReader, Naming, Opened, Shown};
-use claims::claimants;
+use claims::{Claimant, claimants};
 use desk::{Desk, Turn, Worker};
 use findings::Hold;
 use std::alloc::Global;
@@ -43,6 +43,42 @@ impl Hold for Unheld {
     fn hold(&self, _question: u32, _task: u32) {}
 }
 
+/// One more worker of the desk, with a reader of its own.
+fn add_worker<N: Naming, R: Wait + Copy>(
+    desk: &Arc<Desk<N, R, Shown<N>>>,
+    readers: &mut Vec<BoardReader<N>>,
+    claimant: Claimant,
+    workers: &mut Vec<Worker<N, R, Shown<N>>>,
+) -> Result<(), ServerFault> {
+    let Ok(desk) = Arc::try_clone(desk) else {
+        return Err(ServerFault::NotMade);
+    };
+    let Some(reader) = readers.pop() else {
+        drop(desk);
+        return Err(ServerFault::NotMade);
+    };
+    match workers.push(Worker::new(desk, claimant, reader)) {
+        Ok(()) => Ok(()),
+        Err(refused) => {
+            drop(refused);
+            Err(ServerFault::NotMade)
+        }
+    }
+}
+
+/// A worker of the desk for each claimant.
+fn add_workers<N: Naming, R: Wait + Copy>(
+    desk: &Arc<Desk<N, R, Shown<N>>>,
+    readers: &mut Vec<BoardReader<N>>,
+    claimants: Vec<Claimant>,
+    workers: &mut Vec<Worker<N, R, Shown<N>>>,
+) -> Result<(), ServerFault> {
+    for claimant in claimants {
+        add_worker(desk, readers, claimant, workers)?;
+    }
+    Ok(())
+}
+
 /// The workers of a desk, each with a reader of its own.
 fn make_workers<N: Naming, R: Wait + Copy>(
     alloc: Global,
@@ -56,21 +92,19 @@ fn make_workers<N: Naming, R: Wait + Copy>(
         return Err(ServerFault::NotMade);
     };
     let mut made = Vec::new(alloc);
-    for claimant in claims {
-        let (Ok(desk), Some(reader)) = (Arc::try_clone(desk), readers.pop()) else {
-            return Err(ServerFault::NotMade);
-        };
-        let Ok(()) = made.push(Worker::new(desk, claimant, reader)) else {
-            return Err(ServerFault::NotMade);
-        };
+    match add_workers(desk, readers, claims, &mut made) {
+        Ok(()) => Ok(made),
+        Err(fault) => {
+            drop(made);
+            Err(fault)
+        }
     }
-    Ok(made)
 }
 
 /// Takes turns until the flag is set.
-fn work<N: Naming, R: Wait + Copy>(
+fn take_turns<N: Naming, R: Wait + Copy>(
     rt: R,
-    mut worker: Worker<N, R, Shown<N>>,
+    worker: &mut Worker<N, R, Shown<N>>,
     stop: &AtomicU64,
     hold: &impl Hold,
 ) {
@@ -83,6 +117,18 @@ fn work<N: Naming, R: Wait + Copy>(
             _ => thread::yield_now(),
         }
     }
+}
+
+/// Has the worker take turns until the flag is set.
+fn work<N: Naming, R: Wait + Copy>(
+    rt: R,
+    worker: Worker<N, R, Shown<N>>,
+    stop: &AtomicU64,
+    hold: &impl Hold,
+) {
+    let mut worker = worker;
+    take_turns(rt, &mut worker, stop, hold);
+    drop(worker);
 }
 
 /// Takes sessions, each in a thread of its own, up to so many, and answers how many they were once they have

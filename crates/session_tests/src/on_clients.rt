@@ -26,22 +26,36 @@ impl Hold for NoHold {
     }
 }
 
-/// A session of these bytes at the desk is answered so; the reader is given back.
+/// A session of these bytes over the client is answered so.
+fn is_answered<N: Naming, R: Wait + Abort + Copy, T: Follows<N>>(
+    rt: &R,
+    alloc: Global,
+    client: &mut Client<N, R, T>,
+    bytes: Vec<u8>,
+    wanted: &[u8],
+) {
+    let mut source = MemorySource::new(bytes);
+    let mut sink = MemorySink::new(alloc);
+    let ended = serve(rt, alloc, &mut source, &mut sink, client);
+    assert!(rt; ended == Ok(Ended::Input));
+    assert!(rt; sink.bytes() == wanted);
+}
+
+/// A session of these bytes at the desk is answered so. It has the last of the readers, which it gives back.
 fn answered<N: Naming, R: Wait + Abort + Copy, T: Follows<N>>(
     rt: &R,
     alloc: Global,
     desk: &Arc<Desk<N, R, T>>,
-    reader: BoardReader<N>,
+    readers: &mut Vec<BoardReader<N>>,
     bytes: Vec<u8>,
     wanted: &[u8],
-) -> Result<BoardReader<N>, Fail> {
-    let mut client = Client::new(Arc::try_clone(desk)?, reader);
-    let mut source = MemorySource::new(bytes);
-    let mut sink = MemorySink::new(alloc);
-    let ended = serve(rt, alloc, &mut source, &mut sink, &mut client);
-    assert!(rt; ended == Ok(Ended::Input));
-    assert!(rt; sink.bytes() == wanted);
-    Ok(client.into_reader())
+) -> Result<(), Fail> {
+    let desk = Arc::try_clone(desk).ok();
+    let (desk, reader) = desk.zip(readers.pop()).ok_or("a client")?;
+    let mut client = Client::new(desk, reader);
+    is_answered(rt, alloc, &mut client, bytes, wanted);
+    readers.push(client.into_reader())?;
+    Ok(())
 }
 
 /// The answer of question 0 and its status, once all its tasks are delivered, and a status of question 1.
@@ -62,38 +76,60 @@ fn asked(alloc: Global) -> Result<Vec<u8>, AllocError> {
     Ok(bytes)
 }
 
-/// A worker does both tasks.
-fn work<N: Naming, R: Wait + Abort + Copy, T: Follows<N>>(
-    rt: &R,
+/// A worker at the desk, with the last of the readers.
+fn worker<N: Naming, R: Wait + Copy, T: Follows<N>>(
     alloc: Global,
-    desk: Arc<Desk<N, R, T>>,
-    reader: BoardReader<N>,
-) -> Result<(), Fail> {
+    desk: &Arc<Desk<N, R, T>>,
+    readers: &mut Vec<BoardReader<N>>,
+) -> Result<Worker<N, R, T>, Fail> {
     let mut claims = claimants(alloc, 1)?;
-    let Some(claimant) = claims.pop() else {
-        return Err(Fail::from("no claimant"));
-    };
-    let mut worker = Worker::new(desk, claimant, reader);
+    let claimant = claims.pop();
+    drop(claims);
+    let desk = Arc::try_clone(desk).ok();
+    let parts = desk.zip(claimant).zip(readers.pop());
+    let ((desk, claimant), reader) = parts.ok_or("a worker")?;
+    Ok(Worker::new(desk, claimant, reader))
+}
+
+/// The worker does both tasks.
+fn works<N: Naming, R: Wait + Abort + Copy, T: Follows<N>>(rt: &R, worker: &mut Worker<N, R, T>) {
     for _ in 0..2 {
         assert!(rt; worker.turn(&NoHold) == Turn::Delivered);
     }
     assert!(rt; worker.turn(&NoHold) == Turn::Idle);
-    Ok(())
 }
 
-/// A session asks, a worker works, and a later session reads what came of it.
+/// A session asks, the worker works, and a later session reads what came of it.
+fn serves_around<N: Naming, R: Wait + Abort + Copy, T: Follows<N>>(
+    rt: &R,
+    alloc: Global,
+    desk: &Arc<Desk<N, R, T>>,
+    readers: &mut Vec<BoardReader<N>>,
+    worker: &mut Worker<N, R, T>,
+) -> Result<(), Fail> {
+    answered(
+        rt,
+        alloc,
+        desk,
+        readers,
+        questions(alloc)?,
+        &replies(alloc)?,
+    )?;
+    works(rt, worker);
+    answered(rt, alloc, desk, readers, asked(alloc)?, &settled(alloc)?)
+}
+
+/// Two sessions, and a worker between them.
 fn serves_and_works<N: Naming, R: Wait + Abort + Copy, T: Follows<N>>(
     rt: &R,
     alloc: Global,
-    desk: Desk<N, R, T>,
-    first: BoardReader<N>,
-    second: BoardReader<N>,
+    desk: &Arc<Desk<N, R, T>>,
+    readers: &mut Vec<BoardReader<N>>,
 ) -> Result<(), Fail> {
-    let desk = Arc::new(alloc, desk)?;
-    let reader = answered(rt, alloc, &desk, first, questions(alloc)?, &replies(alloc)?)?;
-    work(rt, alloc, Arc::try_clone(&desk)?, second)?;
-    answered(rt, alloc, &desk, reader, asked(alloc)?, &settled(alloc)?)?;
-    Ok(())
+    let mut worker = worker(alloc, desk, readers)?;
+    let served = serves_around(rt, alloc, desk, readers, &mut worker);
+    drop(worker);
+    served
 }
 
 #[test]
@@ -111,9 +147,11 @@ fn asks_at_a_desk<N: Naming, R: Wait + Abort + Copy>(
     requires book { opened.seen.book ≡ N.book }
     requires limit { limit ≡ N.limit }
 {
-    let (desk, mut readers) = Desk::<N, R, Shown<N>>::new(alloc, state, rt, opened, limit, 2)?;
-    let (Some(first), Some(second)) = (readers.pop(), readers.pop()) else {
-        return Err(Fail::from("two readers"));
-    };
-    serves_and_works(&rt, alloc, desk, first, second)
+    let (desk, readers) = Desk::<N, R, Shown<N>>::new(alloc, state, rt, opened, limit, 2)?;
+    let shared = Arc::new(alloc, desk).ok().zip(Some(readers));
+    let (desk, mut readers) = shared.ok_or("memory for a desk")?;
+    let served = serves_and_works(&rt, alloc, &desk, &mut readers);
+    drop(desk);
+    drop(readers);
+    served
 }

@@ -1,5 +1,4 @@
-//! A session over a book of its own. The book stays in one function: each one that has a book to drop is long to
-//! prove.
+//! A session over a book of its own.
 
 use question_server::{Ended, ServeFault, Sink, Source, serve_book};
 use sequencer::Book;
@@ -18,6 +17,7 @@ pub(crate) struct Session {
     pub(crate) opened: bool,
 }
 
+// What is big is dropped by a call: to drop it in place is long to prove.
 /// Serves a session over a new book.
 pub(crate) fn serve_anew<S: Source, K: Sink>(
     rt: &(impl RandomSource + AllocGlobal + Wait),
@@ -26,9 +26,11 @@ pub(crate) fn serve_anew<S: Source, K: Sink>(
 ) -> Result<Session, Fail> {
     let mut book = Book::new(rt.alloc(), RandomState::new(rt)?, MOST)?;
     let ended = serve_book(rt, rt.alloc(), source, sink, &mut book);
-    Ok(Session {
+    let session = Session {
         ended,
         events: book.len(),
         opened: book.status(0).is_ok(),
-    })
+    };
+    drop(book);
+    Ok(session)
 }

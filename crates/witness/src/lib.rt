@@ -10,5 +10,5 @@ mod write;
 
 pub use measure::confirmed_in;
 pub use order::write_witness;
-pub use report::{TextRefused, report_text};
+pub use report::{TextRefused, head_text, report_text, rows_text};
 pub use row::{Found, Row};

@@ -4,9 +4,11 @@ ghost use Rattle.std.specs.Prelude.{◌≡◌, ℕ, ◌<◌, ◌≤◌, ◌+◌,
 ghost use Rattle.trace_model.specs.declared.limits.TheConstants.{MAX_REPORT};
 ghost use Rattle.witness.specs.Text.{report, about, counts, row_text, IsPlan};
 
-use crate::measure::{after_about, after_counts, after_tasks, count_confirmed, count_rows};
+use crate::measure::{
+    after_about, after_counts, after_rows, after_tasks, count_confirmed, count_rows,
+};
 use crate::row::Row;
-use crate::write::{write_about, write_counts, write_tasks};
+use crate::write::{write_about, write_counts, write_rows, write_tasks};
 use std::alloc::Global;
 use thiserror::Error;
 use trace_model::{Bound, MAX_REPORT, NoMemory};
@@ -96,4 +98,56 @@ pub fn report_text(
         Ok(text) => Ok(text),
         Err(_) => Err(TextRefused::NoMemory),
     }
+}
+
+/// The rows, in a text for which this room is made.
+fn written_rows(alloc: Global, room: usize, rows: &[Row]) -> Result<Vec<u8>, NoMemory>
+    requires { room < 2 ^ 63 }
+    ensures { IfOk result (λ text. text.items ≡ flat_map row_text rows.now) }
+{
+    let mut text = Vec::with_capacity(alloc, room)?;
+    write_rows(&mut text, rows)?;
+    Ok(text)
+}
+
+/// What the text of a report has of these rows: the text of a report is its head with this of all its rows.
+///
+/// # Errors
+///
+/// `TooLong` exactly where that alone has more than `MAX_REPORT` bytes, which is known before any of it is
+/// written; `NoMemory` where a growth was refused.
+pub fn rows_text(alloc: Global, rows: &[Row]) -> Result<Vec<u8>, TextRefused>
+    ensures text { IfOk result (λ text. text.items ≡ flat_map row_text rows.now) }
+    ensures too_long { IsErrOf result TextRefused.TooLong ↔ (MAX_REPORT < length (flat_map row_text rows.now)) }
+{
+    let Some(rest) = after_rows(MAX_REPORT as u64, rows) else {
+        return Err(TextRefused::TooLong);
+    };
+    let room = MAX_REPORT as u64 - rest;
+    match written_rows(alloc, room as usize, rows) {
+        Ok(text) => Ok(text),
+        Err(_) => Err(TextRefused::NoMemory),
+    }
+}
+
+/// How the text of a report begins, before its rows: with the number, the length and the bound of its question,
+/// and how many rows and confirmed ones it has.
+///
+/// # Errors
+///
+/// `NoMemory` where a growth was refused.
+pub fn head_text(
+    alloc: Global,
+    question: u32,
+    events: u32,
+    bound: Bound,
+    cycles: u64,
+    confirmed: u64,
+) -> Result<Vec<u8>, NoMemory>
+    ensures { IfOk result (λ text. text.items ≡ about question events bound ++ counts cycles confirmed) }
+{
+    let mut text = Vec::new(alloc);
+    write_about(&mut text, question, events, bound.get())?;
+    write_counts(&mut text, cycles, confirmed)?;
+    Ok(text)
 }

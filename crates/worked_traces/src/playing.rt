@@ -56,6 +56,22 @@ impl Sender {
         }
     }
 
+    /// Sends the commands, one after another. It answers what the run is to print of each.
+    fn send_all(&mut self, commands: &[Command]) -> Result<Vec<Awaited>> {
+        let mut awaited = Vec::new(self.alloc);
+        for command in commands {
+            awaited.push(self.send(*command)?)?;
+        }
+        Ok(awaited)
+    }
+
+    /// What was sent.
+    fn into_inputs(self) -> Vec<Input> {
+        let Sender { book, inputs, .. } = self;
+        drop(book);
+        inputs
+    }
+
     fn request(&mut self, frame: &[u8]) -> Result<Awaited> {
         for piece in frame.chunks(self.piece.max(1)) {
             let bytes = Vec::from_slice(self.alloc, piece)?;
@@ -150,6 +166,30 @@ fn printed(alloc: Global, run: &Played, session: Session, awaited: &[Awaited]) -
     Ok(text)
 }
 
+/// What a run is given of these commands, and what it is to print of each.
+fn inputs_of(
+    alloc: Global,
+    book: Book,
+    session: Session,
+    commands: &[Command],
+    piece: usize,
+) -> Result<(Vec<Input>, Vec<Awaited>)> {
+    let mut sender = Sender {
+        alloc,
+        session,
+        book,
+        inputs: Vec::new(alloc),
+        piece,
+    };
+    match sender.send_all(commands) {
+        Ok(awaited) => Ok((sender.into_inputs(), awaited)),
+        Err(error) => {
+            drop(sender);
+            Err(error)
+        }
+    }
+}
+
 /// What the script in these bytes prints, by one run of `play`: the requests are the bytes of one session, in pieces of
 /// at most so many, and the findings of `work` and `deliver` come between them.
 pub(crate) fn played(rt: &HostRuntime, file: &[u8], limit: u32, piece: usize) -> Result<Vec<u8>>
@@ -161,17 +201,10 @@ pub(crate) fn played(rt: &HostRuntime, file: &[u8], limit: u32, piece: usize) ->
     let Ok(commands) = read_script(alloc, file) else {
         bail!("a script that is not understood");
     };
-    let mut sender = Sender {
-        alloc,
-        session,
-        book: Book::new(alloc, state, limit)?,
-        inputs: Vec::new(alloc),
-        piece,
-    };
-    let mut awaited = Vec::new(alloc);
-    for command in &commands {
-        awaited.push(sender.send(*command)?)?;
-    }
-    let run = play(alloc, state, limit, sender.inputs)?;
-    printed(alloc, &run, session, &awaited)
+    let book = Book::new(alloc, state, limit)?;
+    let (inputs, awaited) = inputs_of(alloc, book, session, &commands, piece)?;
+    let run = play(alloc, state, limit, inputs)?;
+    let text = printed(alloc, &run, session, &awaited);
+    drop(run);
+    text
 }

@@ -45,15 +45,20 @@ fn ask_about(book: &mut Book, words: &[&[u8]]) -> Result<()> {
     Ok(())
 }
 
+/// The events of the words, as this book shares them.
+fn share(book: &mut Book, words: &[&[u8]]) -> Result<Arc<Snapshot, Global>> {
+    ask_about(book, words)?;
+    book.snapshot(0).ok().context("a snapshot")
+}
+
 /// These events, as a book of its own shares them.
 fn snapshot_of(rt: &HostRuntime, words: &[&[u8]]) -> Result<Arc<Snapshot, Global>> {
     let state = RandomState::new(rt)?;
     let mut book = Book::new(rt.alloc(), state, MAX_EVENTS as u32)?;
-    ask_about(&mut book, words)?;
-    match book.snapshot(0) {
-        Ok(snapshot) => Ok(snapshot),
-        Err(_) => bail!("no snapshot"),
-    }
+    let shared = share(&mut book, words);
+    // What is big is dropped by a call: to drop it in place is long to prove.
+    drop(book);
+    shared
 }
 
 /// The rows of a task, computed by someone who has these events.
@@ -134,6 +139,7 @@ pub(crate) fn run_sessions(rt: &HostRuntime, file: &[u8]) -> Result<Vec<u8>> {
     let inputs = inputs_of(rt, file)?;
     let run = play(alloc, state, MAX_EVENTS as u32, inputs)?;
     let mut text = Vec::new(alloc);
-    print_run(&mut text, &run)?;
-    Ok(text)
+    let printed = print_run(&mut text, &run);
+    drop(run);
+    printed.and(Ok(text))
 }

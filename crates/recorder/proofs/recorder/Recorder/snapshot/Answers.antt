@@ -3,7 +3,7 @@ use Rattle.trace_model.specs.Trace.{Trace}
 use Rattle.trace_model.specs.Dependencies.{dependencies}
 use Rattle.wellformed.specs.Gate.{Admitted}
 use Rattle.lock_tables.specs.Tables.{ArePartsOf, CountsBelow}
-use Rattle.recorder.proofs.Lawful.{dependencies_first}
+use Rattle.recorder.proofs.Beginnings.{dependencies_first}
 use Rattle.recorder.proofs.recorder.Recorder.snapshot.Goals as goal
 
 pub share-requires-2 : goal.share-requires-2

@@ -1,5 +1,5 @@
 use Rattle.std.specs.Arc.{arc_value}
-use Rattle.offline_report.proofs.tasks.tasks_of.Given as goal
+use Rattle.offline_report.proofs.tasks.parts_of.Given as goal
 
 -- the question that is computed
 abbrev pub ghosts-compute_all : goal.ghosts-compute_all

@@ -1,0 +1,11 @@
+-- The dependencies of a beginning.
+use Rattle.std.proofs.Common.{◌≡◌, ℕ, ◌≤◌, length, take, ap, ◌∙◌}
+use Rattle.std.proofs.lemmas.List.{length-take-le}
+use Rattle.trace_model.specs.Dependencies.{dependencies, dependencies_below}
+use Rattle.trace_model.proofs.Dependencies.{dependencies-agree}
+use Rattle.trace_model.proofs.Lists.{get-take}
+use Rattle.trace_model.specs.Trace.{Trace}
+
+-- the dependencies of the first events are those below their number
+pub dependencies_first : (s : Trace) (n : ℕ) → n ≤ length s → dependencies (take n s) ≡ dependencies_below s n
+dependencies_first s n within = ap (dependencies_below (take n s)) (length-take-le n s within) ∙ dependencies-agree (take n s) s n (λ p below. get-take n s p below)
