@@ -39,6 +39,7 @@ pub(crate) fn opposite_sections() -> [Event; 8] {
     ]
 }
 
+// What is big is dropped by a call: to drop it in place is long to prove.
 /// A desk with one reader.
 pub(crate) fn one_reader<N: Naming, R: Wait + Copy>(
     rt: R,
@@ -51,8 +52,10 @@ pub(crate) fn one_reader<N: Naming, R: Wait + Copy>(
     requires limit { limit ≡ N.limit }
 {
     let (desk, mut readers) = Desk::new(alloc, state, rt, opened, limit, 1)?;
-    let reader = readers.pop().ok_or("a reader")?;
-    Ok((desk, reader))
+    let reader = readers.pop();
+    drop(readers);
+    let made = Some(desk).zip(reader).ok_or("a reader")?;
+    Ok(made)
 }
 
 /// All of these events are accepted.
@@ -86,9 +89,9 @@ pub(crate) fn worker<N: Naming, R: Wait + Copy>(
     claims: &mut Vec<Claimant>,
     readers: &mut Vec<BoardReader<N>>,
 ) -> Option<Worker<N, R, Shown<N>>> {
-    let claimant = claims.pop()?;
-    let reader = readers.pop()?;
-    Some(Worker::new(Arc::try_clone(desk).ok()?, claimant, reader))
+    let desk = Arc::try_clone(desk).ok();
+    let ((desk, claimant), reader) = desk.zip(claims.pop()).zip(readers.pop())?;
+    Some(Worker::new(desk, claimant, reader))
 }
 
 /// A hold that keeps nobody.

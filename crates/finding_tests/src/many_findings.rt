@@ -84,10 +84,12 @@ impl Stranger {
     pub(crate) fn new(rt: &(impl RandomSource + AllocGlobal)) -> Option<Stranger> {
         let mut others = opposite_sections();
         others[7] = event(2, Op::Write(20));
+        let same = shared(rt, &opposite_sections());
+        let (same, other) = same.zip(shared(rt, &others))?;
         Some(Stranger {
             alloc: rt.alloc(),
-            same: shared(rt, &opposite_sections())?,
-            other: shared(rt, &others)?,
+            same,
+            other,
         })
     }
 
@@ -97,23 +99,27 @@ impl Stranger {
         } else {
             &self.same
         };
-        let shared = Arc::try_clone(shared).ok()?;
         let bound = Bound::new(about.bound)?;
+        let shared = Arc::try_clone(shared).ok()?;
         Finding::compute(self.alloc, shared, about.question, bound, about.task).ok()
     }
 
     /// The findings about these. None where there is no memory for them.
     pub(crate) fn findings(&self, all: &[About]) -> Option<Vec<Finding>> {
         let mut findings = Vec::new(self.alloc);
+        self.push_findings(all, &mut findings).and(Some(findings))
+    }
+
+    fn push_findings(&self, all: &[About], findings: &mut Vec<Finding>) -> Option<()> {
         for about in all {
             findings.push(self.finding(*about)?).ok()?;
         }
-        Some(findings)
+        Some(())
     }
 }
 
-/// The book has two forks and these events, and a question about them.
-fn ask_about(book: &mut Book, events: &[Event]) -> Option<()> {
+/// What a question is about, once the book has two forks and these events.
+fn asked_about(book: &mut Book, events: &[Event]) -> Option<Arc<Snapshot, Global>> {
     for event in &two_forks() {
         book.offer(*event).ok()?;
     }
@@ -121,7 +127,7 @@ fn ask_about(book: &mut Book, events: &[Event]) -> Option<()> {
         book.offer(*event).ok()?;
     }
     book.ask(2).ok()?;
-    Some(())
+    book.snapshot(0).ok()
 }
 
 /// Two forks and these events, as a book of its own shares them.
@@ -131,8 +137,9 @@ fn shared(
 ) -> Option<Arc<Snapshot, Global>> {
     let state = RandomState::new(rt).ok()?;
     let mut book = Book::new(rt.alloc(), state, MOST).ok()?;
-    ask_about(&mut book, events)?;
-    book.snapshot(0).ok()
+    let snapshot = asked_about(&mut book, events);
+    drop(book);
+    snapshot
 }
 
 /// How findings are delivered.
@@ -148,7 +155,10 @@ type Outcomes<N> = (Vec<Option<Refusal>>, Vec<Receipt<N>>);
 fn refusal_in(outcome: Delivered) -> Option<Refusal> {
     match outcome {
         Ok(()) => None,
-        Err((refusal, _)) => Some(refusal),
+        Err((refusal, finding)) => {
+            drop(finding);
+            Some(refusal)
+        }
     }
 }
 
@@ -158,41 +168,40 @@ fn delivered<N: Naming, R: Wait + Copy, T: Follows<N>>(
     findings: Vec<Finding>,
     way: Way,
 ) -> Result<Outcomes<N>, AllocError> {
-    match way {
-        Way::OneByOne => delivered_one_by_one(alloc, desk, findings),
-        Way::Together => delivered_together(alloc, desk, findings),
-    }
+    let mut outcomes = (Vec::new(alloc), Vec::new(alloc));
+    let delivered = match way {
+        Way::OneByOne => deliver_one_by_one(desk, findings, &mut outcomes),
+        Way::Together => deliver_together(desk, findings, &mut outcomes),
+    };
+    delivered.and(Ok(outcomes))
 }
 
-fn delivered_one_by_one<N: Naming, R: Wait + Copy, T: Follows<N>>(
-    alloc: Global,
+fn deliver_one_by_one<N: Naming, R: Wait + Copy, T: Follows<N>>(
     desk: &Desk<N, R, T>,
     findings: Vec<Finding>,
-) -> Result<Outcomes<N>, AllocError> {
-    let mut refusals = Vec::new(alloc);
-    let mut receipts = Vec::new(alloc);
+    outcomes: &mut Outcomes<N>,
+) -> Result<(), AllocError> {
     for finding in findings {
         let (outcome, receipt) = desk.deliver(finding);
-        refusals.push(refusal_in(outcome))?;
-        receipts.push(receipt)?;
+        outcomes.0.push(refusal_in(outcome))?;
+        outcomes.1.push(receipt)?;
     }
-    Ok((refusals, receipts))
+    Ok(())
 }
 
-fn delivered_together<N: Naming, R: Wait + Copy, T: Follows<N>>(
-    alloc: Global,
+fn deliver_together<N: Naming, R: Wait + Copy, T: Follows<N>>(
     desk: &Desk<N, R, T>,
     findings: Vec<Finding>,
-) -> Result<Outcomes<N>, AllocError> {
-    let mut refusals = Vec::new(alloc);
-    let mut receipts = Vec::new(alloc);
-    if let Ok((outcomes, receipt)) = desk.deliver_all(findings) {
-        receipts.push(receipt)?;
-        for outcome in outcomes {
-            refusals.push(refusal_in(outcome))?;
-        }
+    outcomes: &mut Outcomes<N>,
+) -> Result<(), AllocError> {
+    let Some((delivered, receipt)) = desk.deliver_all(findings).ok() else {
+        return Ok(());
+    };
+    for outcome in delivered {
+        outcomes.0.push(refusal_in(outcome))?;
     }
-    Ok((refusals, receipts))
+    outcomes.1.push(receipt)?;
+    Ok(())
 }
 
 /// Question 0 about the opposite sections.
@@ -220,9 +229,19 @@ fn from_anyone<R: RandomSource + AllocGlobal + Wait + Abort + Copy>(
     rt: R,
     way: Way,
 ) -> Result<(), Fail> {
-    let stranger = Stranger::new(&rt).ok_or("a stranger")?;
     let state = RandomState::new(&rt)?;
-    takes_findings::<Brand, _>(rt, rt.alloc(), state, Opened::new(), MOST, &stranger, way)
+    let stranger = Stranger::new(&rt).ok_or("a stranger")?;
+    let taken = takes_findings::<Brand, _>(
+        rt,
+        rt.alloc(),
+        state,
+        Opened::new(),
+        MOST,
+        &stranger,
+        way,
+    );
+    drop(stranger);
+    taken
 }
 
 /// Findings, what becomes of each, and what the board then has of question 0.
@@ -258,7 +277,7 @@ const LISTS: [Wanted; 4] = [
     ),
 ];
 
-/// Delivers each list in turn, and reads the board after it.
+/// Delivers each list in turn at a desk of its own.
 fn takes_findings<N: Naming, R: Wait + Abort + Copy>(
     rt: R,
     alloc: Global,
@@ -272,9 +291,23 @@ fn takes_findings<N: Naming, R: Wait + Abort + Copy>(
     requires limit { limit ≡ N.limit }
 {
     let (desk, mut reader) = one_reader::<N, R>(rt, alloc, state, opened, limit)?;
-    asked(&rt, &desk, &mut reader);
+    let taken = takes_in_turn(&rt, &desk, &mut reader, stranger, way);
+    drop(desk);
+    drop(reader);
+    taken
+}
+
+/// Delivers each list in turn, and reads the board after it.
+fn takes_in_turn<N: Naming, R: Wait + Abort + Copy>(
+    rt: &R,
+    desk: &Desk<N, R, Shown<N>>,
+    reader: &mut BoardReader<N>,
+    stranger: &Stranger,
+    way: Way,
+) -> Result<(), Fail> {
+    asked(rt, desk, reader);
     for wanted in LISTS {
-        takes_list(&rt, &desk, &mut reader, stranger, way, wanted)?;
+        takes_list(rt, desk, reader, stranger, way, wanted)?;
     }
     Ok(())
 }
@@ -292,6 +325,7 @@ fn takes_list<N: Naming, R: Wait + Abort + Copy>(
     let (outcomes, receipts) = delivered(stranger.alloc, desk, findings, way)?;
     assert_eq!(rt; outcomes.as_slice(), refusals);
     learn_all(reader, &receipts);
+    drop(receipts);
     reads(rt, reader, counts)
 }
 
@@ -340,40 +374,60 @@ fn from_eight_threads<R: RandomSource + AllocGlobal + Threads + Wait + Abort + C
     rt: R,
     way: Way,
 ) -> Result<(), Fail> {
-    let stranger = Stranger::new(&rt).ok_or("a stranger")?;
-    let lists = lists_of_four(&stranger).ok_or("findings")?;
     let state = RandomState::new(&rt)?;
-    takes_lists::<Brand, _>(rt, rt.alloc(), state, Opened::new(), MOST, lists, way)
+    let stranger = Stranger::new(&rt).ok_or("a stranger")?;
+    let taken = takes_lists::<Brand, _>(rt, rt.alloc(), state, Opened::new(), MOST, &stranger, way);
+    drop(stranger);
+    taken
 }
 
 /// For each thread the findings that it delivers.
 fn lists_of_four(stranger: &Stranger) -> Option<Vec<Vec<Finding>>> {
     let mut lists = Vec::new(stranger.alloc);
+    push_lists(stranger, &mut lists).and(Some(lists))
+}
+
+fn push_lists(stranger: &Stranger, lists: &mut Vec<Vec<Finding>>) -> Option<()> {
     for _ in 0..THREADS {
         let list = stranger.findings(&[FIRST, SECOND, OTHER_BOUND, OTHER_TRACE])?;
         lists.push(list).ok()?;
     }
-    Some(lists)
+    Some(())
 }
 
-/// Two findings are taken; of the others each is refused for its own reason.
+/// Delivers the lists at a desk of their own.
 fn takes_lists<N: Naming + Send + Sync, R: Threads + Wait + Abort + Copy + Send + Sync>(
     rt: R,
     alloc: Global,
     state: RandomState,
     opened: Opened,
     limit: u32,
-    lists: Vec<Vec<Finding>>,
+    stranger: &Stranger,
     way: Way,
 ) -> Result<(), Fail>
     requires book { opened.seen.book ≡ N.book }
     requires limit { limit ≡ N.limit }
 {
     let (desk, mut reader) = one_reader::<N, R>(rt, alloc, state, opened, limit)?;
-    asked(&rt, &desk, &mut reader);
-    let outcomes = delivered_at_once(&rt, alloc, &desk, &mut reader, lists, way)?;
-    are_refused(&rt, &outcomes);
-    reads(&rt, &mut reader, (2, 1, 1))
+    let taken = takes_at_once(&rt, &desk, &mut reader, stranger, way);
+    drop(desk);
+    drop(reader);
+    taken
+}
+
+/// Two findings are taken; of the others each is refused for its own reason.
+fn takes_at_once<N: Naming + Send + Sync, R: Threads + Wait + Abort + Copy + Send + Sync>(
+    rt: &R,
+    desk: &Desk<N, R, Shown<N>>,
+    reader: &mut BoardReader<N>,
+    stranger: &Stranger,
+    way: Way,
+) -> Result<(), Fail> {
+    asked(rt, desk, reader);
+    let lists = lists_of_four(stranger).ok_or("findings")?;
+    let outcomes = delivered_at_once(rt, stranger.alloc, desk, reader, lists, way)?;
+    are_refused(rt, &outcomes);
+    reads(rt, reader, (2, 1, 1))
 }
 
 /// Each list is delivered by a thread of its own: what became of the findings.
@@ -386,13 +440,23 @@ fn delivered_at_once<N: Naming + Send + Sync, R: Threads + Wait + Abort + Copy +
     way: Way,
 ) -> Result<Vec<Option<Refusal>>, Fail> {
     let done = thread::map_vec(rt, lists, &|findings| delivered(alloc, desk, findings, way))?;
-    let mut outcomes = Vec::new(alloc);
+    let mut refusals = Vec::new(alloc);
     for one in done {
-        let (refusals, receipts) = one?;
-        learn_all(reader, &receipts);
-        outcomes.extend_from_slice(&refusals)?;
+        learn_outcomes(reader, one?, &mut refusals)?;
     }
-    Ok(outcomes)
+    Ok(refusals)
+}
+
+/// Learns the receipts, and adds the refusals to those before.
+fn learn_outcomes<N: Naming>(
+    reader: &mut BoardReader<N>,
+    outcomes: Outcomes<N>,
+    before: &mut Vec<Option<Refusal>>,
+) -> Result<(), AllocError> {
+    let (refusals, receipts) = outcomes;
+    learn_all(reader, &receipts);
+    drop(receipts);
+    before.extend_from_slice(&refusals)
 }
 
 fn are_refused(rt: &impl Abort, outcomes: &[Option<Refusal>]) {

@@ -8,6 +8,7 @@ use crate::many_findings::{FIRST, SECOND, Stranger};
 use board::{BoardReader, Naming, Opened, QuestionSummary, Shown};
 use claims::claimants;
 use desk::{Desk, Failed, Turn, Worker};
+use findings::Finding;
 use sequencer::{Answer, AnswerRefused, AskRefused, Input, PlayRefused, Played, Session, play};
 use std::alloc::Global;
 use std::hash::RandomState;
@@ -16,7 +17,7 @@ use std::process::Abort;
 use std::random::RandomSource;
 use std::sync::{Arc, Wait};
 use std::test::*;
-use trace_model::{Event, Refusal};
+use trace_model::{Event, Place, Refusal};
 
 /// `0f1 0f2 1a10 1a20 1r20 1r10 2a20 2a10 2r10 2r20`, each as a kind, a thread and an object.
 const OPPOSITE_ORDERS: [(u8, u8, u8); 10] = [
@@ -32,10 +33,8 @@ const OPPOSITE_ORDERS: [(u8, u8, u8); 10] = [
     (4, 2, 20),
 ];
 
-/// One session: the frames of the events and of a question; then the findings of both tasks, and the frame of an
-/// answer. None where there is no memory for it.
-fn inputs(rt: &(impl RandomSource + AllocGlobal), session: Session) -> Option<Vec<Input>> {
-    let alloc = rt.alloc();
+/// The frames of the events and of a question.
+fn frames(alloc: Global) -> Option<Vec<u8>> {
     let mut bytes = Vec::new(alloc);
     for (kind, thread, object) in OPPOSITE_ORDERS {
         bytes
@@ -43,14 +42,41 @@ fn inputs(rt: &(impl RandomSource + AllocGlobal), session: Session) -> Option<Ve
             .ok()?;
     }
     bytes.extend_from_slice(&[0, 2, 7, 2]).ok()?;
-    let mut inputs = Vec::new(alloc);
-    inputs.push(Input::Piece(session, bytes)).ok()?;
-    for finding in Stranger::new(rt)?.findings(&[FIRST, SECOND])? {
+    Some(bytes)
+}
+
+/// The findings of both tasks.
+fn findings(rt: &(impl RandomSource + AllocGlobal)) -> Option<Vec<Finding>> {
+    let stranger = Stranger::new(rt)?;
+    let findings = stranger.findings(&[FIRST, SECOND]);
+    drop(stranger);
+    findings
+}
+
+fn push_findings(rt: &(impl RandomSource + AllocGlobal), inputs: &mut Vec<Input>) -> Option<()> {
+    for finding in findings(rt)? {
         inputs.push(Input::Finding(finding)).ok()?;
     }
-    let answer = Vec::from_slice(alloc, &[0, 5, 8, 0, 0, 0, 0]).ok()?;
-    inputs.push(Input::Piece(session, answer)).ok()?;
-    Some(inputs)
+    Some(())
+}
+
+fn push_inputs(
+    rt: &(impl RandomSource + AllocGlobal),
+    session: Session,
+    inputs: &mut Vec<Input>,
+) -> Option<()> {
+    let frames = frames(rt.alloc())?;
+    inputs.push(Input::Piece(session, frames)).ok()?;
+    push_findings(rt, inputs)?;
+    let answer = Vec::from_slice(rt.alloc(), &[0, 5, 8, 0, 0, 0, 0]).ok()?;
+    inputs.push(Input::Piece(session, answer)).ok()
+}
+
+/// One session: the frames of the events and of a question; then the findings of both tasks, and the frame of an
+/// answer. None where there is no memory for it.
+fn inputs(rt: &(impl RandomSource + AllocGlobal), session: Session) -> Option<Vec<Input>> {
+    let mut inputs = Vec::new(rt.alloc());
+    push_inputs(rt, session, &mut inputs).and(Some(inputs))
 }
 
 /// All events were placed, the question was opened with two tasks, both were taken, and the answer is the report.
@@ -81,6 +107,7 @@ fn play_answers_all_or_no_memory(rt: HostRuntime) -> Result<(), Fail> {
         match play(alloc, state, MOST, inputs) {
             Ok(run) => {
                 assert!(rt; is_full(&run, session));
+                drop(run);
                 return Ok(());
             }
             Err(refused) => assert_eq!(rt; refused, PlayRefused::NoMemory),
@@ -97,6 +124,18 @@ fn shown<N: Naming>(reader: &mut BoardReader<N>) -> Option<Shows> {
     Some((summary.accepted, summary.opened, summary.question(0)))
 }
 
+/// Offers the event, and learns the receipt.
+fn offer<N: Naming, R: Wait + Copy>(
+    desk: &Desk<N, R, Shown<N>>,
+    reader: &mut BoardReader<N>,
+    event: Event,
+) -> Result<Place, Refusal> {
+    let (answer, receipt) = desk.offer(event);
+    reader.learn(&receipt);
+    drop(receipt);
+    answer
+}
+
 /// Offers the event, again where it was answered `NoMemory`. The board then shows what it showed before.
 fn offers<N: Naming, R: Wait + Abort + Copy>(
     rt: &R,
@@ -105,16 +144,13 @@ fn offers<N: Naming, R: Wait + Abort + Copy>(
     event: Event,
 ) {
     let before = shown(reader);
-    let (first, receipt) = desk.offer(event);
-    reader.learn(&receipt);
+    let first = offer(desk, reader, event);
     if first.is_ok() {
         return;
     }
     assert_eq!(rt; first.err(), Some(Refusal::NoMemory));
     assert_eq!(rt; shown(reader), before);
-    let (second, receipt) = desk.offer(event);
-    reader.learn(&receipt);
-    assert!(rt; second.is_ok());
+    assert!(rt; offer(desk, reader, event).is_ok());
 }
 
 /// Opens question 0, again where that was answered `NoMemory`. The board then shows what it showed before.
@@ -126,6 +162,7 @@ fn asks<N: Naming, R: Wait + Abort + Copy>(
     let before = shown(reader);
     let (first, receipt) = desk.ask(2);
     reader.learn(&receipt);
+    drop(receipt);
     if first.is_ok() {
         return;
     }
@@ -134,7 +171,26 @@ fn asks<N: Naming, R: Wait + Abort + Copy>(
     assert!(rt; desk.ask(2).0.is_ok());
 }
 
-/// The worker does both tasks. A turn that failed for want of memory left its task missing, and a later one does it.
+/// Whether a turn of the worker delivers. One that failed for want of memory left its task missing.
+fn delivers<N: Naming, R: Wait + Abort + Copy>(
+    rt: &R,
+    desk: &Desk<N, R, Shown<N>>,
+    reader: &mut BoardReader<N>,
+    worker: &mut Worker<N, R, Shown<N>>,
+    done: u32,
+) -> bool {
+    let before = shown(reader);
+    let turn = worker.turn(&Free);
+    if turn == Turn::Delivered {
+        return true;
+    }
+    assert_eq!(rt; turn, Turn::Failed(Failed::NoMemory));
+    assert_eq!(rt; shown(reader), before);
+    assert_eq!(rt; desk.missing(0).0.ok(), Some(Some(done)));
+    false
+}
+
+/// The worker does both tasks: where a turn failed, a later one does its task.
 fn works<N: Naming, R: Wait + Abort + Copy>(
     rt: &R,
     desk: &Desk<N, R, Shown<N>>,
@@ -146,14 +202,8 @@ fn works<N: Naming, R: Wait + Abort + Copy>(
         if done == 2 {
             break;
         }
-        let before = shown(reader);
-        let turn = worker.turn(&Free);
-        if turn == Turn::Delivered {
+        if delivers(rt, desk, reader, worker, done) {
             done = done.saturating_add(1);
-        } else {
-            assert_eq!(rt; turn, Turn::Failed(Failed::NoMemory));
-            assert_eq!(rt; shown(reader), before);
-            assert_eq!(rt; desk.missing(0).0.ok(), Some(Some(done)));
         }
     }
     assert_eq!(rt; done, 2);
@@ -198,19 +248,45 @@ fn goes_on<N: Naming, R: Wait + Abort + Copy>(
     requires book { opened.seen.book ≡ N.book }
     requires limit { limit ≡ N.limit }
 {
-    let (desk, mut readers) = Desk::<N, R, Shown<N>>::new(alloc, state, rt, opened, limit, 2).ok()?;
-    let desk = Arc::new(alloc, desk).ok()?;
+    let (desk, readers) = Desk::<N, R, Shown<N>>::new(alloc, state, rt, opened, limit, 2).ok()?;
+    let (desk, mut readers) = Arc::new(alloc, desk).ok().zip(Some(readers))?;
+    let went_on = goes_on_with_worker(&rt, alloc, &desk, &mut readers);
+    drop(desk);
+    drop(readers);
+    went_on
+}
+
+/// One worker, from the first event to the report. None where it was not made.
+fn goes_on_with_worker<N: Naming, R: Wait + Abort + Copy>(
+    rt: &R,
+    alloc: Global,
+    desk: &Arc<Desk<N, R, Shown<N>>>,
+    readers: &mut Vec<BoardReader<N>>,
+) -> Option<()> {
     let mut claims = claimants(alloc, 1).ok()?;
-    let mut worker = worker(&desk, &mut claims, &mut readers)?;
-    let mut reader = readers.pop()?;
+    let worker = worker(desk, &mut claims, readers);
+    drop(claims);
+    let (mut worker, mut reader) = worker.zip(readers.pop())?;
+    goes_to_report(rt, desk, &mut reader, &mut worker);
+    drop(worker);
+    drop(reader);
+    Some(())
+}
+
+/// From the first event to the report.
+fn goes_to_report<N: Naming, R: Wait + Abort + Copy>(
+    rt: &R,
+    desk: &Desk<N, R, Shown<N>>,
+    reader: &mut BoardReader<N>,
+    worker: &mut Worker<N, R, Shown<N>>,
+) {
     for event in two_forks() {
-        offers(&rt, &desk, &mut reader, event);
+        offers(rt, desk, reader, event);
     }
     for event in opposite_sections() {
-        offers(&rt, &desk, &mut reader, event);
+        offers(rt, desk, reader, event);
     }
-    asks(&rt, &desk, &mut reader);
-    works(&rt, &desk, &mut reader, &mut worker);
-    answers(&rt, &desk, &mut reader);
-    Some(())
+    asks(rt, desk, reader);
+    works(rt, desk, reader, worker);
+    answers(rt, desk, reader);
 }
