@@ -3,7 +3,7 @@
 ghost use Rattle.std.specs.Prelude.{◌≡◌};
 
 use crate::on_desk::{MOST, one_reader};
-use board::{Follows, Naming, Opened, Receipt};
+use board::{BoardReader, Follows, Naming, Opened, Receipt, Shown};
 use desk::Desk;
 use std::alloc::{AllocError, Global};
 use std::hash::RandomState;
@@ -58,20 +58,58 @@ fn offers_of_eight<N: Naming + Send + Sync, R: Threads + Wait + Abort + Copy + S
     requires limit { limit ≡ N.limit }
 {
     let (desk, mut reader) = one_reader::<N, R>(rt, alloc, state, opened, limit)?;
-    let all = thread::map_indices(&rt, alloc, THREADS, &|_| offers(alloc, &desk))?;
+    let accepted = accepts_all(&rt, alloc, &desk, &mut reader);
+    drop(desk);
+    drop(reader);
+    accepted
+}
+
+/// The places that all were given, in order. Their receipts are learnt.
+fn places_of_all<N: Naming>(
+    alloc: Global,
+    reader: &mut BoardReader<N>,
+    all: Vec<Result<Offered<N>, AllocError>>,
+) -> Result<Vec<u32>, AllocError> {
     let mut places = Vec::new(alloc);
     for one in all {
-        let (given, receipts) = one?;
-        places.extend_from_slice(&given)?;
-        for receipt in &receipts {
-            reader.learn(receipt);
-        }
+        learn_offered(reader, one?, &mut places)?;
     }
     places.sort()?;
+    Ok(places)
+}
+
+/// Learns the receipts, and adds the places to those before.
+fn learn_offered<N: Naming>(
+    reader: &mut BoardReader<N>,
+    offered: Offered<N>,
+    before: &mut Vec<u32>,
+) -> Result<(), AllocError> {
+    let (given, receipts) = offered;
+    for receipt in &receipts {
+        reader.learn(receipt);
+    }
+    drop(receipts);
+    before.extend_from_slice(&given)
+}
+
+fn expected_places(alloc: Global) -> Result<Vec<u32>, AllocError> {
     let mut expected = Vec::new(alloc);
     for place in 0..800u32 {
         expected.push(place)?;
     }
+    Ok(expected)
+}
+
+/// Eight threads offer at once, and each place is given once.
+fn accepts_all<N: Naming + Send + Sync, R: Threads + Wait + Abort + Copy + Send + Sync>(
+    rt: &R,
+    alloc: Global,
+    desk: &Desk<N, R, Shown<N>>,
+    reader: &mut BoardReader<N>,
+) -> Result<(), Fail> {
+    let all = thread::map_indices(rt, alloc, THREADS, &|_| offers(alloc, desk))?;
+    let places = places_of_all(alloc, reader, all)?;
+    let expected = expected_places(alloc)?;
     assert_eq!(rt; places.as_slice(), expected.as_slice());
     let Ok(summary) = reader.status() else {
         return Err(Fail::from("busy"));

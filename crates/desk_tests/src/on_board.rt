@@ -21,14 +21,40 @@ fn first_event<N: Naming, R: Wait + Abort + Copy>(
 ) -> Result<(), Fail>
     requires { opened.seen.book ≡ N.book }
 {
-    let Ok((mut writer, mut readers)) = new_board::<N, R>(alloc, rt, opened, 2) else {
-        return Err(Fail::from("no board"));
+    let (mut writer, mut readers) = match new_board::<N, R>(alloc, rt, opened, 2) {
+        Ok(made) => made,
+        Err(_) => return Err(Fail::from("no board")),
     };
-    let first = readers.pop().ok_or("a reader")?;
-    let second = readers.pop().ok_or("another reader")?;
-    publish_write(&mut writer)?;
-    reads_one(&rt, &writer, first)?;
-    reads_one(&rt, &writer, second)
+    let read = two_read(&rt, &mut writer, &mut readers);
+    drop(writer);
+    drop(readers);
+    read
+}
+
+/// Two of the readers read the event that is published.
+fn two_read<N: Naming, R: Wait + Abort + Copy>(
+    rt: &R,
+    writer: &mut BoardWriter<N, R, Shown<N>>,
+    readers: &mut Vec<BoardReader<N>>,
+) -> Result<(), Fail>
+    requires published { writer.old.published ≡ [] }
+    requires waiting { writer.old.waiting ≡ [] }
+{
+    publish_write(writer)?;
+    next_reads(rt, writer, readers, "a reader")?;
+    next_reads(rt, writer, readers, "another reader")
+}
+
+fn next_reads<N: Naming, R: Wait + Abort + Copy>(
+    rt: &R,
+    writer: &BoardWriter<N, R, Shown<N>>,
+    readers: &mut Vec<BoardReader<N>>,
+    which: &'static str,
+) -> Result<(), Fail> {
+    let mut reader = readers.pop().ok_or(which)?;
+    let read = reads_one(rt, writer, &mut reader);
+    drop(reader);
+    read
 }
 
 /// The published steps are then one accepted event.
@@ -47,15 +73,23 @@ fn publish_write<N: Naming, R: Wait + Copy>(
     Ok(())
 }
 
+fn learns_twice<N: Naming, R: Wait + Copy>(
+    writer: &BoardWriter<N, R, Shown<N>>,
+    reader: &mut BoardReader<N>,
+) {
+    let receipt = writer.receipt();
+    reader.learn(&receipt);
+    reader.learn(&receipt.again());
+    drop(receipt);
+}
+
 /// A reader that learns the receipt of one event reads it.
 fn reads_one<N: Naming, R: Wait + Abort + Copy>(
     rt: &R,
     writer: &BoardWriter<N, R, Shown<N>>,
-    mut reader: BoardReader<N>,
+    reader: &mut BoardReader<N>,
 ) -> Result<(), Fail> {
-    let receipt = writer.receipt();
-    reader.learn(&receipt);
-    reader.learn(&receipt.again());
+    learns_twice(writer, reader);
     let Ok(summary) = reader.status() else {
         return Err(Fail::from("busy"));
     };

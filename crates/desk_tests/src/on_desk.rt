@@ -12,7 +12,7 @@ use std::marker::Brand;
 use std::process::Abort;
 use std::sync::Wait;
 use std::test::*;
-use trace_model::{Bound, Event, Op, Refusal};
+use trace_model::{Bound, Event, Op, Place, Refusal};
 
 pub(crate) const MOST: u32 = 1_048_576;
 
@@ -39,6 +39,7 @@ pub(crate) fn opposite_sections() -> [Event; 8] {
     ]
 }
 
+// What is big is dropped by a call: to drop it in place is long to prove.
 /// A desk with one reader.
 pub(crate) fn one_reader<N: Naming, R: Wait + Copy>(
     rt: R,
@@ -51,8 +52,10 @@ pub(crate) fn one_reader<N: Naming, R: Wait + Copy>(
     requires limit { limit ≡ N.limit }
 {
     let (desk, mut readers) = Desk::new(alloc, state, rt, opened, limit, 1)?;
-    let reader = readers.pop().ok_or("a reader")?;
-    Ok((desk, reader))
+    let reader = readers.pop();
+    drop(readers);
+    let made = Some(desk).zip(reader).ok_or("a reader")?;
+    Ok(made)
 }
 
 /// All of these events are accepted.
@@ -85,6 +88,30 @@ fn refuses_each_once<N: Naming, R: Wait + Abort + Copy>(
     requires limit { limit ≡ N.limit }
 {
     let (desk, mut reader) = one_reader::<N, R>(rt, alloc, state, opened, limit)?;
+    let refused = refuses_in_script(&rt, &desk, &mut reader);
+    drop(desk);
+    drop(reader);
+    refused
+}
+
+/// Offers the event, and learns the receipt.
+fn offer<N: Naming, R: Wait + Copy>(
+    desk: &Desk<N, R, Shown<N>>,
+    reader: &mut BoardReader<N>,
+    event: Event,
+) -> Result<Place, Refusal> {
+    let (answer, receipt) = desk.offer(event);
+    reader.learn(&receipt);
+    drop(receipt);
+    answer
+}
+
+/// Each event of a script has its reply.
+fn offers_script<N: Naming, R: Wait + Abort + Copy>(
+    rt: &R,
+    desk: &Desk<N, R, Shown<N>>,
+    reader: &mut BoardReader<N>,
+) {
     let script = [
         (0, Op::Fork(1), Ok(0)),
         (0, Op::Fork(2), Ok(1)),
@@ -104,10 +131,18 @@ fn refuses_each_once<N: Naming, R: Wait + Abort + Copy>(
         (1, Op::Release(10), Ok(4)),
     ];
     for (thread, op, reply) in script {
-        let (answer, receipt) = desk.offer(event(thread, op));
+        let answer = offer(desk, reader, event(thread, op));
         assert_eq!(rt; answer.map(|place| place.get()), reply);
-        reader.learn(&receipt);
     }
+}
+
+/// The events of a script are placed or refused, and the board shows those that were placed.
+fn refuses_in_script<N: Naming, R: Wait + Abort + Copy>(
+    rt: &R,
+    desk: &Desk<N, R, Shown<N>>,
+    reader: &mut BoardReader<N>,
+) -> Result<(), Fail> {
+    offers_script(rt, desk, reader);
     let Ok(summary) = reader.status() else {
         return Err(Fail::from("busy"));
     };
@@ -173,14 +208,48 @@ fn repeats<N: Naming, R: Wait + Abort + Copy>(
     requires limit { limit ≡ N.limit }
 {
     let (desk, mut reader) = one_reader::<N, R>(rt, alloc, state, opened, limit)?;
-    accepted(&rt, &desk, &mut reader, &two_forks());
+    let reported = reports_repetitions(&rt, alloc, &desk, &mut reader);
+    drop(desk);
+    drop(reader);
+    reported
+}
+
+fn reports_repetitions<N: Naming, R: Wait + Abort + Copy>(
+    rt: &R,
+    alloc: Global,
+    desk: &Desk<N, R, Shown<N>>,
+    reader: &mut BoardReader<N>,
+) -> Result<(), Fail> {
+    accepts_repetitions(rt, desk, reader)?;
+    delivers_both(rt, alloc, desk)?;
+    assert_eq!(rt; desk.missing(0).0.ok(), Some(None));
+    assert!(rt; desk.missing(1).0.is_err());
+    assert!(rt; matches!(desk.snapshot(1).0.err(), Some(Refusal::NoSuchQuestion)));
+    assert!(rt; is_report(desk.answer(0).0, REPORT));
+    Ok(())
+}
+
+fn accepts_repetitions<N: Naming, R: Wait + Abort + Copy>(
+    rt: &R,
+    desk: &Desk<N, R, Shown<N>>,
+    reader: &mut BoardReader<N>,
+) -> Result<(), Fail> {
+    accepted(rt, desk, reader, &two_forks());
     for _ in 0..200 {
-        accepted(&rt, &desk, &mut reader, &opposite_sections());
+        accepted(rt, desk, reader, &opposite_sections());
     }
     let Ok(summary) = reader.status() else {
         return Err(Fail::from("busy"));
     };
     assert!(rt; summary.accepted >= 1602);
+    Ok(())
+}
+
+/// Question 0 is opened. It answers how many tasks it has.
+fn opens<N: Naming, R: Wait + Abort + Copy>(
+    rt: &R,
+    desk: &Desk<N, R, Shown<N>>,
+) -> Result<u32, Fail> {
     assert!(rt; matches!(desk.ask(1).0, Err(AskRefused::BadBound)));
     let Ok(opened) = desk.ask(2).0 else {
         return Err(Fail::from("no question"));
@@ -189,20 +258,46 @@ fn repeats<N: Naming, R: Wait + Abort + Copy>(
         (opened.question, opened.length, opened.total),
         (0, 1602, 2)
     );
-    let two = Bound::new(2).expect(&rt, "a bound is 2 to 8");
-    for task in 0..opened.total {
-        assert_eq!(rt; desk.missing(0).0.ok(), Some(Some(task)));
-        assert!(rt; matches!(desk.answer(0).0, Ok(Answer::Pending { .. })));
-        let (snapshot, _) = desk.snapshot(0);
-        let Ok(snapshot) = snapshot else {
-            return Err(Fail::from("no snapshot"));
-        };
-        let finding = Finding::compute(alloc, snapshot, 0, two, task)?;
-        assert!(rt; desk.deliver(finding).0.is_ok());
+    Ok(opened.total)
+}
+
+/// The rows of a task of question 0.
+fn finding_of<N: Naming, R: Wait + Copy>(
+    alloc: Global,
+    desk: &Desk<N, R, Shown<N>>,
+    bound: Bound,
+    task: u32,
+) -> Result<Finding, Fail> {
+    let snapshot = desk.snapshot(0).0.ok().ok_or("no snapshot")?;
+    let finding = Finding::compute(alloc, snapshot, 0, bound, task)?;
+    Ok(finding)
+}
+
+/// The task is the least missing one, the answer is pending, and then the task is delivered.
+fn delivers<N: Naming, R: Wait + Abort + Copy>(
+    rt: &R,
+    alloc: Global,
+    desk: &Desk<N, R, Shown<N>>,
+    bound: Bound,
+    task: u32,
+) -> Result<(), Fail> {
+    assert_eq!(rt; desk.missing(0).0.ok(), Some(Some(task)));
+    assert!(rt; matches!(desk.answer(0).0, Ok(Answer::Pending { .. })));
+    let finding = finding_of(alloc, desk, bound, task)?;
+    assert!(rt; desk.deliver(finding).0.ok().is_some());
+    Ok(())
+}
+
+/// Question 0 is opened, and its two tasks are delivered one after another.
+fn delivers_both<N: Naming, R: Wait + Abort + Copy>(
+    rt: &R,
+    alloc: Global,
+    desk: &Desk<N, R, Shown<N>>,
+) -> Result<(), Fail> {
+    let total = opens(rt, desk)?;
+    let two = Bound::new(2).expect(rt, "a bound is 2 to 8");
+    for task in 0..total {
+        delivers(rt, alloc, desk, two, task)?;
     }
-    assert_eq!(rt; desk.missing(0).0.ok(), Some(None));
-    assert!(rt; desk.missing(1).0.is_err());
-    assert!(rt; matches!(desk.snapshot(1).0, Err(Refusal::NoSuchQuestion)));
-    assert!(rt; is_report(desk.answer(0).0, REPORT));
     Ok(())
 }

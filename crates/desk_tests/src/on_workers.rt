@@ -23,6 +23,27 @@ pub(crate) const REPORT: &str =
 
 pub(crate) const YIELDS: u32 = 1_000_000;
 
+/// A desk, and the readers of its board that nobody has.
+type SharedDesk<N, R> = (Arc<Desk<N, R, Shown<N>>>, Vec<BoardReader<N>>);
+
+/// A desk that is shared, with so many readers.
+pub(crate) fn shared_desk<N: Naming, R: Wait + Copy>(
+    rt: R,
+    alloc: Global,
+    state: RandomState,
+    opened: Opened,
+    limit: u32,
+    readers: usize,
+) -> Result<SharedDesk<N, R>, Fail>
+    requires book { opened.seen.book ≡ N.book }
+    requires limit { limit ≡ N.limit }
+{
+    let (desk, readers) = Desk::new(alloc, state, rt, opened, limit, readers)?;
+    let desk = Arc::new(alloc, desk).ok();
+    let shared = desk.zip(Some(readers)).ok_or("memory for a desk")?;
+    Ok(shared)
+}
+
 /// Keeps task 0 until it was called for task 1, and task 1 until it was called for task 0.
 #[derive(Drop)]
 struct Meeting {
@@ -83,14 +104,26 @@ fn two_workers<N: Naming + Send + Sync, R: Threads + Wait + Abort + Copy + Send 
     requires book { opened.seen.book ≡ N.book }
     requires limit { limit ≡ N.limit }
 {
-    let (desk, mut readers) = Desk::<N, R, Shown<N>>::new(alloc, state, rt, opened, limit, 4)?;
-    let desk = Arc::new(alloc, desk)?;
-    ask_about_opposite_sections(&rt, &desk, &mut readers)?;
+    let (desk, mut readers) = shared_desk::<N, R>(rt, alloc, state, opened, limit, 4)?;
+    let met = two_meet(&rt, alloc, &desk, &mut readers);
+    drop(desk);
+    drop(readers);
+    met
+}
+
+/// Two workers deliver a task each, and a late one finds nothing to do.
+fn two_meet<N: Naming + Send + Sync, R: Threads + Wait + Abort + Copy + Send + Sync>(
+    rt: &R,
+    alloc: Global,
+    desk: &Arc<Desk<N, R, Shown<N>>>,
+    readers: &mut Vec<BoardReader<N>>,
+) -> Result<(), Fail> {
+    ask_about_opposite_sections(rt, desk, readers)?;
     let meeting = Meeting::new();
-    let workers = workers_at(alloc, &desk, &mut readers, 2)?;
-    all_deliver(&rt, workers, &meeting)?;
-    let late = workers_at(alloc, &desk, &mut readers, 1)?;
-    all_are_idle(&rt, late, &meeting);
+    let workers = workers_at(alloc, desk, readers, 2)?;
+    all_deliver(rt, workers, &meeting)?;
+    let late = workers_at(alloc, desk, readers, 1)?;
+    all_are_idle(rt, late, &meeting);
     assert!(rt; meeting.was_held());
     assert!(rt; is_report(desk.answer(0).0, REPORT));
     Ok(())
@@ -108,11 +141,29 @@ pub(crate) fn workers_at<N: Naming, R: Wait + Copy>(
 {
     let mut claims = claimants(alloc, count)?;
     let mut workers = Vec::new(alloc);
-    for _ in 0..count {
-        let worker = worker(desk, &mut claims, readers).ok_or("a worker")?;
+    let pushed = push_workers(desk, &mut claims, readers, &mut workers);
+    drop(claims);
+    match pushed {
+        Ok(()) => Ok(workers),
+        Err(failed) => {
+            drop(workers);
+            Err(failed)
+        }
+    }
+}
+
+/// A worker for each claimant.
+fn push_workers<N: Naming, R: Wait + Copy>(
+    desk: &Arc<Desk<N, R, Shown<N>>>,
+    claims: &mut Vec<Claimant>,
+    readers: &mut Vec<BoardReader<N>>,
+    workers: &mut Vec<Worker<N, R, Shown<N>>>,
+) -> Result<(), Fail> {
+    for _ in 0..claims.len() {
+        let worker = worker(desk, claims, readers).ok_or("a worker")?;
         workers.push(worker)?;
     }
-    Ok(workers)
+    Ok(())
 }
 
 /// All of them deliver a task, each on a thread of its own.
@@ -143,7 +194,9 @@ fn turn_of<N: Naming, R: Wait + Copy>(
     mut worker: Worker<N, R, Shown<N>>,
     hold: &impl Hold,
 ) -> Turn {
-    worker.turn(hold)
+    let turn = worker.turn(hold);
+    drop(worker);
+    turn
 }
 
 /// The next worker, where there is memory for it.
@@ -152,9 +205,9 @@ fn worker<N: Naming, R: Wait + Copy>(
     claims: &mut Vec<Claimant>,
     readers: &mut Vec<BoardReader<N>>,
 ) -> Option<Worker<N, R, Shown<N>>> {
-    let claimant = claims.pop()?;
-    let reader = readers.pop()?;
-    Some(Worker::new(Arc::try_clone(desk).ok()?, claimant, reader))
+    let desk = Arc::try_clone(desk).ok();
+    let ((desk, claimant), reader) = desk.zip(claims.pop()).zip(readers.pop())?;
+    Some(Worker::new(desk, claimant, reader))
 }
 
 /// Question 0 is opened, which has two tasks.
@@ -166,6 +219,7 @@ fn ask_about_opposite_sections<N: Naming, R: Wait + Abort + Copy>(
     let mut reader = readers.pop().ok_or("a reader")?;
     accepted(rt, desk, &mut reader, &two_forks());
     accepted(rt, desk, &mut reader, &opposite_sections());
+    drop(reader);
     assert!(rt; desk.ask(2).0.is_ok());
     Ok(())
 }
@@ -194,10 +248,21 @@ fn left_tasks<N: Naming, R: Wait + Abort + Copy>(
     requires book { opened.seen.book ≡ N.book }
     requires limit { limit ≡ N.limit }
 {
-    let (desk, mut readers) = Desk::<N, R, Shown<N>>::new(alloc, state, rt, opened, limit, 2)?;
-    let desk = Arc::new(alloc, desk)?;
-    ask_about_opposite_sections(&rt, &desk, &mut readers)?;
-    works_alone(&rt, alloc, &desk, &mut readers)?;
+    let (desk, mut readers) = shared_desk::<N, R>(rt, alloc, state, opened, limit, 2)?;
+    let reported = reports_left_tasks(&rt, alloc, &desk, &mut readers);
+    drop(desk);
+    drop(readers);
+    reported
+}
+
+fn reports_left_tasks<N: Naming, R: Wait + Abort + Copy>(
+    rt: &R,
+    alloc: Global,
+    desk: &Arc<Desk<N, R, Shown<N>>>,
+    readers: &mut Vec<BoardReader<N>>,
+) -> Result<(), Fail> {
+    ask_about_opposite_sections(rt, desk, readers)?;
+    works_alone(rt, alloc, desk, readers)?;
     assert!(rt; is_report(desk.answer(0).0, REPORT));
     Ok(())
 }
@@ -210,13 +275,25 @@ fn works_alone<N: Naming, R: Wait + Abort + Copy>(
     readers: &mut Vec<BoardReader<N>>,
 ) -> Result<(), Fail> {
     let mut claims = claimants(alloc, 2)?;
-    let mut gone = claims.pop().ok_or("a claimant")?;
+    let gone = claims.pop();
+    let worker = worker(desk, &mut claims, readers);
+    drop(claims);
+    let (mut gone, mut worker) = gone.zip(worker).ok_or("a claimant and a worker")?;
+    delivers_what_is_drawn(rt, &mut gone, &mut worker);
+    drop(gone);
+    drop(worker);
+    Ok(())
+}
+
+fn delivers_what_is_drawn<N: Naming, R: Wait + Abort + Copy>(
+    rt: &R,
+    gone: &mut Claimant,
+    worker: &mut Worker<N, R, Shown<N>>,
+) {
     for task in 0..2u64 {
         assert_eq!(rt; gone.draw(0).ok(), Some(task));
     }
-    let mut worker = worker(desk, &mut claims, readers).ok_or("a worker")?;
     for turn in [Turn::Delivered, Turn::Delivered, Turn::Idle] {
         assert_eq!(rt; worker.turn(&Free), turn);
     }
-    Ok(())
 }

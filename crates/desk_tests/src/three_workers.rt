@@ -3,7 +3,7 @@
 ghost use Rattle.std.specs.Prelude.{◌≡◌};
 
 use crate::on_desk::{MOST, accepted, event, is_report};
-use crate::on_workers::{YIELDS, all_deliver, workers_at};
+use crate::on_workers::{YIELDS, all_deliver, shared_desk, workers_at};
 use board::{BoardReader, Naming, Opened, Shown};
 use desk::Desk;
 use findings::Hold;
@@ -120,14 +120,38 @@ fn three_workers<N: Naming + Send + Sync, R: Threads + Wait + Abort + Copy + Sen
     requires book { opened.seen.book ≡ N.book }
     requires limit { limit ≡ N.limit }
 {
-    let (desk, mut readers) = Desk::<N, R, Shown<N>>::new(alloc, state, rt, opened, limit, 4)?;
-    let desk = Arc::new(alloc, desk)?;
+    let (desk, mut readers) = shared_desk::<N, R>(rt, alloc, state, opened, limit, 4)?;
+    let met = three_meet(rt, alloc, &desk, &mut readers);
+    drop(desk);
+    drop(readers);
+    met
+}
+
+/// Question 0 is opened, and its three tasks are delivered in the order.
+fn three_meet<N: Naming + Send + Sync, R: Threads + Wait + Abort + Copy + Send + Sync>(
+    rt: R,
+    alloc: Global,
+    desk: &Arc<Desk<N, R, Shown<N>>>,
+    readers: &mut Vec<BoardReader<N>>,
+) -> Result<(), Fail> {
     let mut reader = readers.pop().ok_or("a reader")?;
-    accepted(&rt, &desk, &mut reader, &ring_of_three());
+    accepted(&rt, desk, &mut reader, &ring_of_three());
     assert!(rt; desk.ask(3).0.is_ok());
     let order = Order::new(rt, reader);
-    let workers = workers_at(alloc, &desk, &mut readers, 3)?;
-    all_deliver(&rt, workers, &order)?;
+    let delivered = three_deliver(&rt, alloc, desk, readers, &order);
+    drop(order);
+    delivered
+}
+
+fn three_deliver<N: Naming + Send + Sync, R: Threads + Wait + Abort + Copy + Send + Sync>(
+    rt: &R,
+    alloc: Global,
+    desk: &Arc<Desk<N, R, Shown<N>>>,
+    readers: &mut Vec<BoardReader<N>>,
+    order: &Order<N, R>,
+) -> Result<(), Fail> {
+    let workers = workers_at(alloc, desk, readers, 3)?;
+    all_deliver(rt, workers, order)?;
     assert!(rt; order.was_kept());
     assert!(rt; is_report(desk.answer(0).0, REPORT));
     Ok(())
