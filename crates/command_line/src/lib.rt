@@ -142,29 +142,53 @@ fn number(matches: &ArgMatches<'_>, id: &str, least: u32, most: u32) -> Option<u
     }
 }
 
+fn chosen_serve<'a>(given: &ArgMatches<'a>) -> Option<Invocation<'a>>
+    ensures { IfSome result IsInRange }
+{
+    Some(Invocation::Serve {
+        address: given.get_str("address")?,
+        workers: number(given, "workers", 1, 16)?,
+        sessions: number(given, "sessions", 0, 1_000_000)?,
+        limit: number(given, "limit", 1, 1_048_576)?,
+    })
+}
+
+fn chosen_script<'a>(given: &ArgMatches<'a>) -> Option<Invocation<'a>>
+    ensures { IfSome result IsInRange }
+{
+    Some(Invocation::Script {
+        file: given.get_str("file")?,
+        limit: number(given, "limit", 1, 1_048_576)?,
+    })
+}
+
+fn chosen_offline<'a>(given: &ArgMatches<'a>) -> Option<Invocation<'a>>
+    ensures { IfSome result IsInRange }
+{
+    Some(Invocation::Offline {
+        file: given.get_str("file")?,
+        bound: number(given, "bound", 2, 8)?,
+    })
+}
+
+fn chosen_replay<'a>(given: &ArgMatches<'a>) -> Option<Invocation<'a>>
+    ensures { IfSome result IsInRange }
+{
+    Some(Invocation::Replay {
+        trace: given.get_str("trace")?,
+        witness: given.get_str("witness")?,
+    })
+}
+
 fn chosen<'a>(matches: &ArgMatches<'a>) -> Option<Invocation<'a>>
     ensures { IfSome result IsInRange }
 {
     let (name, given) = matches.subcommand()?;
     match name {
-        "serve" => Some(Invocation::Serve {
-            address: given.get_str("address")?,
-            workers: number(given, "workers", 1, 16)?,
-            sessions: number(given, "sessions", 0, 1_000_000)?,
-            limit: number(given, "limit", 1, 1_048_576)?,
-        }),
-        "script" => Some(Invocation::Script {
-            file: given.get_str("file")?,
-            limit: number(given, "limit", 1, 1_048_576)?,
-        }),
-        "offline" => Some(Invocation::Offline {
-            file: given.get_str("file")?,
-            bound: number(given, "bound", 2, 8)?,
-        }),
-        "replay" => Some(Invocation::Replay {
-            trace: given.get_str("trace")?,
-            witness: given.get_str("witness")?,
-        }),
+        "serve" => chosen_serve(given),
+        "script" => chosen_script(given),
+        "offline" => chosen_offline(given),
+        "replay" => chosen_replay(given),
         _ => None,
     }
 }

@@ -1,5 +1,5 @@
 -- What comes of passing events through the gate.
-use Rattle.std.specs.Prelude.{◌≡◌, ℕ, List, take, Some, ◌++◌, codes, decimal}
+use Rattle.std.specs.Prelude.{◌≡◌, ℕ, List, Option, take, Some, None, ◌++◌, codes, decimal}
 use Rattle.trace_model.specs.declared.event.Event.{Event}
 use Rattle.trace_model.specs.declared.refusal.Refusal.{Refusal}
 use Rattle.trace_model.specs.declared.limits.TheConstants.{MAX_EVENTS}
@@ -18,6 +18,11 @@ IsFirstRefused events refusal index =
 abbrev pub IsAdmissionOf : Trace → Admission → Type 0
 IsAdmissionOf events (Admitted gate) = (gate.events ≡ events) × IsWellFormed events
 IsAdmissionOf events (Refused refusal index) = IsFirstRefused events refusal index
+
+-- all of the events were recorded, or the first one that is not lawful is told
+abbrev pub IsPassage : Trace → Trace → Option (Refusal × ℕ) → Type 0
+IsPassage events recorded None = (recorded ≡ events) × IsWellFormed events
+IsPassage events recorded (Some (refusal, index)) = IsFirstRefused events refusal index
 
 -- the line that tells of that event
 abbrev pub refused_at_line : Refusal → ℕ → List ℕ

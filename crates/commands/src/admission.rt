@@ -1,6 +1,7 @@
 //! Event files through the gate.
-ghost use Rattle.std.specs.Prelude.{◌≡◌, ◌++◌, IfOk, OnOk};
-ghost use Rattle.commands.specs.Admission.{IsAdmissionOf, refused_at_line};
+ghost use Rattle.std.specs.Prelude.{◌≡◌, ◌++◌, [], None, IfOk, OnOk};
+ghost use Rattle.trace_model.specs.declared.limits.TheConstants.{MAX_EVENTS};
+ghost use Rattle.commands.specs.Admission.{IsAdmissionOf, IsPassage, refused_at_line};
 
 use crate::outcome::Stopped;
 use crate::script_text::push_refusal;
@@ -20,19 +21,37 @@ pub enum Admission {
     Refused(Refusal, usize),
 }
 
+/// Records the events in the gate, in their order, up to the first that is not lawful: its refusal, and its index.
+fn record_lawful(gate: &mut Gate, events: &[Event]) -> Result<Option<(Refusal, usize)>, NoMemory>
+    requires { gate.old ≡ record { limit = MAX_EVENTS; events = []; reserved = None } }
+    ensures { IfOk result (IsPassage events.now gate.new.events) }
+{
+    for index in 0..events.len() {
+        if let Err(refusal) = gate.check(&events[index]) {
+            return Ok(Some((refusal, index)));
+        }
+        gate.reserve(&events[index])?;
+        gate.record(&events[index]);
+    }
+    Ok(None)
+}
+
 /// Passes the events through the gate, in their order.
 fn admit(alloc: Global, state: RandomState, events: &[Event]) -> Result<Admission, NoMemory>
     ensures { IfOk result (IsAdmissionOf events.now) }
 {
     let mut gate = Gate::new(alloc, state, MAX_EVENTS);
-    for index in 0..events.len() {
-        if let Err(refusal) = gate.check(&events[index]) {
-            return Ok(Admission::Refused(refusal, index));
+    match record_lawful(&mut gate, events) {
+        Ok(None) => Ok(Admission::Admitted(gate)),
+        Ok(Some((refusal, index))) => {
+            drop(gate);
+            Ok(Admission::Refused(refusal, index))
         }
-        gate.reserve(&events[index])?;
-        gate.record(&events[index]);
+        Err(refused) => {
+            drop(gate);
+            Err(refused)
+        }
     }
-    Ok(Admission::Admitted(gate))
 }
 
 /// Reads an event file and passes its events through the gate.

@@ -10,7 +10,7 @@ use replay::{Verdict, check};
 use std::alloc::Global;
 use std::hash::RandomState;
 use std::io::Write;
-use trace_model::NoMemory;
+use trace_model::{NoMemory, Refusal};
 use wellformed::Gate;
 
 /// The files of a replay: a trace, and a witness.
@@ -63,31 +63,36 @@ enum Part {
     Witness,
 }
 
+/// Tells the first event of the trace that is not lawful.
+fn tell_refused<O: Write>(
+    alloc: Global,
+    refusal: Refusal,
+    index: usize,
+    out: &mut O,
+) -> Result<Status, Stopped> {
+    let mut text = Vec::new(alloc);
+    push_refused_at(&mut text, refusal, index)?;
+    write_text(out, &text)?;
+    Ok(Status::Refused)
+}
+
 fn checked<O: Write>(
     alloc: Global,
     state: RandomState,
     files: Files<'_>,
     out: &mut O,
 ) -> Result<Status, (Part, Stopped)> {
-    let admission = match admit_file(alloc, state, files.trace) {
-        Ok(admission) => admission,
-        Err(stopped) => return Err((Part::Trace, stopped)),
-    };
-    match admission {
-        Admission::Admitted(gate) => match verdict_of(alloc, state, &gate, files.witness, out) {
-            Ok(status) => Ok(status),
-            Err(stopped) => Err((Part::Witness, stopped)),
-        },
-        Admission::Refused(refusal, index) => {
-            let mut text = Vec::new(alloc);
-            if push_refused_at(&mut text, refusal, index).is_err() {
-                return Err((Part::Trace, Stopped::Memory));
-            }
-            match write_text(out, &text) {
-                Ok(()) => Ok(Status::Refused),
-                Err(stopped) => Err((Part::Trace, stopped)),
-            }
+    match admit_file(alloc, state, files.trace) {
+        Ok(Admission::Admitted(gate)) => {
+            let verdict = verdict_of(alloc, state, &gate, files.witness, out);
+            drop(gate);
+            verdict.map_err(|stopped| (Part::Witness, stopped))
         }
+        Ok(Admission::Refused(refusal, index)) => {
+            let told = tell_refused(alloc, refusal, index, out);
+            told.map_err(|stopped| (Part::Trace, stopped))
+        }
+        Err(stopped) => Err((Part::Trace, stopped)),
     }
 }
 

@@ -58,7 +58,9 @@ impl ScriptSession {
                 Ok(reply) => reply,
                 Err(_) => Reply::Refused(Refusal::NoMemory),
             };
-            self.write(&reply, out)?;
+            let written = self.write(&reply, out);
+            drop(reply);
+            written?;
         }
         Ok(())
     }
@@ -95,13 +97,13 @@ impl ScriptSession {
     fn job(&self, question: u32) -> Result<Job, Refusal>
         ensures known { IfOk result (λ job. AreKnown self.now.book.state job.question job.events) }
     {
-        let snapshot = self.book.snapshot(question)?;
         let Ok(status) = self.book.status(question) else {
             return Err(Refusal::NoSuchQuestion);
         };
         let Some(bound) = Bound::new(status.bound) else {
             return Err(Refusal::BadBound);
         };
+        let snapshot = self.book.snapshot(question)?;
         Ok(Job::new(self.alloc, snapshot, question, bound))
     }
 
@@ -126,21 +128,32 @@ impl ScriptSession {
     /// Computes a task of the question and delivers it. It answers the task.
     fn deliver(&mut self, question: u32, task: u32) -> Result<u32, Refusal> {
         let mut job = self.job(question)?;
-        self.deliver_task(&mut job, task)?;
+        let delivered = self.deliver_task(&mut job, task);
+        drop(job);
+        delivered?;
         Ok(task)
+    }
+
+    /// Computes and delivers the missing tasks of the job's question, from the least one on.
+    fn deliver_missing(&mut self, job: &mut Job, question: u32) -> Result<u32, Refusal>
+        requires known { AreKnown self.old.book.state job.old.question job.old.events }
+    {
+        for worked in 0..MAX_EVENTS as u32 {
+            let Ok(Some(task)) = self.book.missing(question) else {
+                return Ok(worked);
+            };
+            self.deliver_task(job, task)?;
+        }
+        Ok(MAX_EVENTS as u32)
     }
 
     /// Computes and delivers the least missing task of the question until none is missing, and answers how many
     /// these were. A question has no more tasks than a trace has events.
     fn work(&mut self, question: u32) -> Result<u32, Refusal> {
         let mut job = self.job(question)?;
-        for worked in 0..MAX_EVENTS as u32 {
-            let Ok(Some(task)) = self.book.missing(question) else {
-                return Ok(worked);
-            };
-            self.deliver_task(&mut job, task)?;
-        }
-        Ok(MAX_EVENTS as u32)
+        let worked = self.deliver_missing(&mut job, question);
+        drop(job);
+        worked
     }
 }
 

@@ -63,12 +63,13 @@ impl LockTables {
         ensures { IfOk result (λ tables. FollowTrace tables events.now) }
     {
         let mut tables = LockTables::new(alloc, state);
-        for event in events {
-            tables.reserve(event)?;
-            tables.record(event);
+        match tables.record_all(events) {
+            Ok(()) => Ok(tables),
+            Err(refused) => {
+                drop(tables);
+                Err(refused)
+            }
         }
-        tables.catch_up()?;
-        Ok(tables)
     }
 
     /// How many dependencies there are. It takes no memory.
@@ -163,19 +164,53 @@ impl LockTables {
         ensures { IfOk result (λ parts. (s : Trace) → FollowTrace self s → ArePartsOf parts s) }
     {
         let mut tables = self;
-        tables.catch_up()?;
+        match tables.catch_up() {
+            Ok(()) => tables.parts(),
+            Err(refused) => {
+                drop(tables);
+                Err(refused)
+            }
+        }
+    }
+
+    /// The dependencies, and the graph that has all of them.
+    fn parts(self) -> Result<LockParts, NoMemory>
+        requires { length (known self.dependencies) ≤ self.graphed }
+        ensures { IfOk result (λ parts. (s : Trace) → FollowTrace self s → ArePartsOf parts s) }
+    {
         let LockTables {
             alloc,
             state,
+            held,
             dependencies,
             graph,
             ..
-        } = tables;
-        let graph = graph_or_new(alloc, state, graph)?;
-        Ok(LockParts {
-            dependencies,
-            graph,
-        })
+        } = self;
+        drop(held);
+        match graph_or_new(alloc, state, graph) {
+            Ok(graph) => Ok(LockParts {
+                dependencies,
+                graph,
+            }),
+            Err(refused) => {
+                drop(dependencies);
+                Err(refused)
+            }
+        }
+    }
+
+    /// Goes on from the empty trace to all of these events.
+    fn record_all(&mut self, events: &[Event]) -> Result<(), NoMemory>
+        requires lawful { IsWellFormed events.now }
+        requires empty { FollowTrace self.old [] }
+        ensures { OnOk result (FollowTrace self.new events.now) }
+    {
+        for event in events {
+            self.reserve(event)?;
+            self.record(event);
+        }
+        self.catch_up()?;
+        Ok(())
     }
 
     /// Brings the next dependency into the graph.

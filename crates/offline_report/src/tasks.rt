@@ -95,7 +95,9 @@ fn part_by<A: About, H: Hold>(
     };
     let rows = piece.rows(task)?;
     hold.hold(QUESTION, task);
-    part_of(alloc, &rows)
+    let part = part_of(alloc, &rows);
+    drop(rows);
+    part
 }
 
 /// What the report has of all tasks of the named question, in the order of the tasks.

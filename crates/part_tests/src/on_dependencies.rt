@@ -1,6 +1,5 @@
-use crate::traces::{case_of, empty_gate, gate_of, offer_words};
-use dependencies::DepTable;
-use std::process::Abort;
+use crate::traces::{gate_of, kept_if, offer_words, table_at};
+use dependencies::{DepTable, PlacesOf};
 use std::test::Fail;
 
 /// The dependency with the number is this one.
@@ -19,42 +18,56 @@ fn under_a_gate_lock(rt: &HostRuntime) -> Result<DepTable, Fail> {
         rt,
         "0f1 0f2 1a5 1a10 1a20 1r20 1r10 1r5 2a5 2a20 2a10 2r10 2r20 2r5",
     )?;
-    Ok(case_of(rt, &gate)?.table)
+    table_at(rt, gate)
+}
+
+fn hold_a_gate_lock(table: &DepTable) -> bool {
+    table.len() == 4
+        && is_at(table, 0, 1, 10, &[5])
+        && is_at(table, 1, 1, 20, &[5, 10])
+        && is_at(table, 2, 2, 20, &[5])
+        && is_at(table, 3, 2, 10, &[5, 20])
 }
 
 #[test]
 fn gate_lock(rt: HostRuntime) -> Result<(), Fail> {
     let table = under_a_gate_lock(&rt)?;
-    assert_eq!(rt; table.len(), 4);
-    assert!(rt; is_at(&table, 0, 1, 10, [5].as_slice()));
-    assert!(rt; is_at(&table, 1, 1, 20, [5, 10].as_slice()));
-    assert!(rt; is_at(&table, 2, 2, 20, [5].as_slice()));
-    assert!(rt; is_at(&table, 3, 2, 10, [5, 20].as_slice()));
+    let hold = hold_a_gate_lock(&table);
+    drop(table);
+    assert!(rt; hold);
     Ok(())
 }
 
 /// The trace of opposite orders, its sections repeated.
 fn opposite_orders(rt: &HostRuntime, times: u32) -> Result<DepTable, Fail> {
-    let mut gate = empty_gate(rt)?;
-    offer_words(rt.alloc(), &mut gate, "0f1 0f2", 1)?;
+    let mut gate = gate_of(rt, "0f1 0f2")?;
     let sections = "1a10 1a20 1r20 1r10 2a20 2a10 2r10 2r20";
-    offer_words(rt.alloc(), &mut gate, sections, times)?;
-    Ok(case_of(rt, &gate)?.table)
+    let offered = offer_words(rt.alloc(), &mut gate, sections, times);
+    table_at(rt, kept_if(offered, gate)?)
+}
+
+/// These are so many places, every eighth from the first one on.
+fn are_every_eighth(places: PlacesOf<'_>, first: u32, times: u32) -> bool {
+    if places.len() != times as usize {
+        return false;
+    }
+    for i in 0..times {
+        let place = u64::from(first) + 8 * u64::from(i);
+        if u64::from(places.get(i as usize).get()) != place {
+            return false;
+        }
+    }
+    true
 }
 
 /// The table has both dependencies, each at so many places.
-fn repeats(rt: &impl Abort, table: &DepTable, times: u32) {
-    assert!(rt; table.len() == 2 && !table.is_empty());
-    assert!(rt; is_at(table, 0, 1, 20, [10].as_slice()));
-    assert!(rt; is_at(table, 1, 2, 10, [20].as_slice()));
-    for (number, first) in [(0u32, 3u32), (1, 7)] {
-        let places = table.places(number);
-        assert_eq!(rt; places.len(), times as usize);
-        for i in 0..times {
-            let place = u64::from(first) + 8 * u64::from(i);
-            assert_eq!(rt; u64::from(places.get(i as usize).get()), place);
-        }
-    }
+fn repeats(table: &DepTable, times: u32) -> bool {
+    table.len() == 2
+        && !table.is_empty()
+        && is_at(table, 0, 1, 20, &[10])
+        && is_at(table, 1, 2, 10, &[20])
+        && are_every_eighth(table.places(0), 3, times)
+        && are_every_eighth(table.places(1), 7, times)
 }
 
 /// With 4,200 repetitions the places of each number go over the end of a segment.
@@ -62,15 +75,28 @@ fn repeats(rt: &impl Abort, table: &DepTable, times: u32) {
 fn places_of_repetitions(rt: HostRuntime) -> Result<(), Fail> {
     for times in [1, 200, 4200] {
         let table = opposite_orders(&rt, times)?;
-        repeats(&rt, &table, times);
+        let repeats = repeats(&table, times);
+        drop(table);
+        assert!(rt; repeats, "{times} times");
     }
     Ok(())
+}
+
+fn are_copied(table: &DepTable) -> bool {
+    if table.len() != 2 {
+        return false;
+    }
+    let copy = table.get(0).copied();
+    let same = copy == *table.get(0) && copy != *table.get(1);
+    drop(copy);
+    same
 }
 
 #[test]
 fn copies_are_the_same(rt: HostRuntime) -> Result<(), Fail> {
     let table = opposite_orders(&rt, 1)?;
-    assert!(rt; table.len() == 2);
-    assert!(rt; table.get(0).copied() == *table.get(0) && table.get(0).copied() != *table.get(1));
+    let copied = are_copied(&table);
+    drop(table);
+    assert!(rt; copied);
     Ok(())
 }

@@ -1,5 +1,7 @@
-ghost use Rattle.std.specs.Prelude.{◌≡◌};
+ghost use Rattle.std.specs.Prelude.{◌≡◌, false};
+ghost use Rattle.trace_model.specs.Replies.{IsReply};
 
+use crate::traces::kept_if;
 use event_frames::{FrameReader, encode_reply};
 use std::alloc::Global;
 use std::test::*;
@@ -13,6 +15,18 @@ const ACQUIRE: [u8; 11] = [0, 9, 3, 0, 0, 0, 1, 0, 0, 0, 10];
 /// The fault of these bytes, where no request stands before it.
 fn fault_of(alloc: Global, bytes: &[u8], ended: bool) -> Result<Option<Fault>, NoMemory> {
     let mut reader = FrameReader::new(alloc);
+    let fault = fault_at(&mut reader, bytes, ended);
+    drop(reader);
+    fault
+}
+
+fn fault_at(
+    reader: &mut FrameReader,
+    bytes: &[u8],
+    ended: bool,
+) -> Result<Option<Fault>, NoMemory>
+    requires { reader.old.ended ≡ false }
+{
     reader.feed(bytes)?;
     if ended {
         reader.finish();
@@ -44,28 +58,52 @@ fn waits(reader: &mut FrameReader) -> bool
     matches!(reader.next(), Ok(None))
 }
 
+fn reads_cut_frames(reader: &mut FrameReader) -> Result<bool, NoMemory>
+    requires { reader.old.ended ≡ false }
+{
+    reader.feed(&FORK[..1])?;
+    let waits_first = waits(reader);
+    reader.feed(&FORK[1..])?;
+    reader.feed(&ACQUIRE[..10])?;
+    let offers_fork = offers(reader, FORKS);
+    let waits_again = waits(reader);
+    reader.feed(&ACQUIRE[10..])?;
+    reader.finish();
+    let offers_acquire = offers(reader, ACQUIRES);
+    let ends = waits(reader) && reader.is_closed();
+    Ok(waits_first && offers_fork && waits_again && offers_acquire && ends)
+}
+
 #[test]
 fn requests_of_cut_frames(rt: HostRuntime) -> Result<(), Fail> {
     let mut reader = FrameReader::new(rt.alloc());
-    reader.feed(&FORK[..1])?;
-    assert!(rt; waits(&mut reader));
-    reader.feed(&FORK[1..])?;
-    reader.feed(&ACQUIRE[..10])?;
-    assert!(rt; offers(&mut reader, FORKS) && waits(&mut reader));
-    reader.feed(&ACQUIRE[10..])?;
-    reader.finish();
-    assert!(rt; offers(&mut reader, ACQUIRES) && waits(&mut reader) && reader.is_closed());
+    let read = reads_cut_frames(&mut reader);
+    drop(reader);
+    assert!(rt; read?);
     Ok(())
+}
+
+/// A reader that was fed these bytes.
+fn reader_of(alloc: Global, bytes: &[u8]) -> Result<FrameReader, NoMemory> {
+    let mut reader = FrameReader::new(alloc);
+    let fed = reader.feed(bytes);
+    kept_if(fed, reader)
+}
+
+fn reads_questions(reader: &mut FrameReader) -> bool {
+    matches!(reader.next(), Ok(Some(Request::Ask(2))))
+        && matches!(reader.next(), Ok(Some(Request::Answer(0))))
+        && matches!(reader.next(), Ok(Some(Request::Status(256))))
+        && waits(reader)
 }
 
 #[test]
 fn requests_about_questions(rt: HostRuntime) -> Result<(), Fail> {
-    let mut reader = FrameReader::new(rt.alloc());
-    reader.feed(&[0, 2, 7, 2, 0, 5, 8, 0, 0, 0, 0, 0, 5, 9, 0, 0, 1, 0])?;
-    assert!(rt; matches!(reader.next(), Ok(Some(Request::Ask(2)))));
-    assert!(rt; matches!(reader.next(), Ok(Some(Request::Answer(0)))));
-    assert!(rt; matches!(reader.next(), Ok(Some(Request::Status(256)))));
-    assert!(rt; matches!(reader.next(), Ok(None)));
+    let bytes = [0, 2, 7, 2, 0, 5, 8, 0, 0, 0, 0, 0, 5, 9, 0, 0, 1, 0];
+    let mut reader = reader_of(rt.alloc(), &bytes)?;
+    let read = reads_questions(&mut reader);
+    drop(reader);
+    assert!(rt; read);
     Ok(())
 }
 
@@ -83,32 +121,45 @@ fn faults_of_frames(rt: HostRuntime) -> Result<(), Fail> {
         (&[], true, None),
     ];
     for (bytes, ended, fault) in table {
-        assert_eq!(rt; fault_of(rt.alloc(), bytes, ended)?, fault, "of {bytes:?}");
+        assert!(rt; fault_of(rt.alloc(), bytes, ended)? == fault, "of {bytes:?}");
     }
     Ok(())
 }
 
+/// The reader tells that there is no such kind.
+fn tells_bad_kind(reader: &mut FrameReader) -> bool {
+    matches!(reader.next(), Err(Fault::BadKind))
+}
+
 #[test]
 fn a_fault_stays(rt: HostRuntime) -> Result<(), Fail> {
-    let mut reader = FrameReader::new(rt.alloc());
-    reader.feed(&[0, 1, 200])?;
-    assert!(rt; matches!(reader.next(), Err(Fault::BadKind)));
-    assert!(rt; reader.is_closed());
-    assert!(rt; matches!(reader.next(), Err(Fault::BadKind)));
+    let mut reader = reader_of(rt.alloc(), &[0, 1, 200])?;
+    let told = tells_bad_kind(&mut reader) && reader.is_closed() && tells_bad_kind(&mut reader);
+    drop(reader);
+    assert!(rt; told);
     Ok(())
+}
+
+/// Whether the reply has this frame.
+fn has_frame(alloc: Global, reply: Reply, frame: &[u8]) -> Result<bool, NoMemory>
+    requires { IsReply reply }
+{
+    let bytes = encode_reply(alloc, &reply);
+    drop(reply);
+    let bytes = bytes?;
+    let same = bytes.as_slice() == frame;
+    drop(bytes);
+    Ok(same)
 }
 
 #[test]
 fn frames_of_replies(rt: HostRuntime) -> Result<(), Fail> {
-    let placed = encode_reply(rt.alloc(), &Reply::Placed(Place::new(0)))?;
-    assert_eq!(rt;
-        placed.as_slice(),
-        [0, 0, 0, 5, 0x41, 0, 0, 0, 0].as_slice()
-    );
-    let refused = encode_reply(rt.alloc(), &Reply::Refused(Refusal::NotHeld))?;
-    assert_eq!(rt; refused.as_slice(), [0, 0, 0, 2, 0x42, 0x0c].as_slice());
-    let fault = encode_reply(rt.alloc(), &Reply::Fault(Fault::Truncated))?;
-    assert_eq!(rt; fault.as_slice(), [0, 0, 0, 2, 0x47, 3].as_slice());
+    let placed = [0, 0, 0, 5, 0x41, 0, 0, 0, 0];
+    assert!(rt; has_frame(rt.alloc(), Reply::Placed(Place::new(0)), &placed)?);
+    let refused = [0, 0, 0, 2, 0x42, 0x0c];
+    assert!(rt; has_frame(rt.alloc(), Reply::Refused(Refusal::NotHeld), &refused)?);
+    let fault = [0, 0, 0, 2, 0x47, 3];
+    assert!(rt; has_frame(rt.alloc(), Reply::Fault(Fault::Truncated), &fault)?);
     Ok(())
 }
 
@@ -119,30 +170,20 @@ fn frames_of_replies_about_questions(rt: HostRuntime) -> Result<(), Fail> {
         length: 0,
         total: 0,
     };
-    let bytes = encode_reply(rt.alloc(), &opened)?;
-    assert_eq!(rt;
-        bytes.as_slice(),
-        [0, 0, 0, 13, 0x43, 0, 0, 0, 0, 0, 0, 0, 0, 0, 0, 0, 0].as_slice()
-    );
+    let frame = [0, 0, 0, 13, 0x43, 0, 0, 0, 0, 0, 0, 0, 0, 0, 0, 0, 0];
+    assert!(rt; has_frame(rt.alloc(), opened, &frame)?);
     let pending = Reply::Pending {
         question: 0,
         delivered: 0,
         total: 1,
     };
-    let bytes = encode_reply(rt.alloc(), &pending)?;
-    assert_eq!(rt;
-        bytes.as_slice(),
-        [0, 0, 0, 13, 0x44, 0, 0, 0, 0, 0, 0, 0, 0, 0, 0, 0, 1].as_slice()
-    );
+    let frame = [0, 0, 0, 13, 0x44, 0, 0, 0, 0, 0, 0, 0, 0, 0, 0, 0, 1];
+    assert!(rt; has_frame(rt.alloc(), pending, &frame)?);
     let report = Reply::Report {
         question: 0,
         text: ReportText::from_vec(Vec::from_slice(rt.alloc(), b"text")?),
     };
-    let bytes = encode_reply(rt.alloc(), &report)?;
-    assert_eq!(rt;
-        bytes.as_slice(),
-        b"\x00\x00\x00\x09E\x00\x00\x00\x00text".as_slice()
-    );
+    assert!(rt; has_frame(rt.alloc(), report, b"\x00\x00\x00\x09E\x00\x00\x00\x00text")?);
     Ok(())
 }
 
@@ -159,14 +200,10 @@ fn frame_of_a_status(rt: HostRuntime) -> Result<(), Fail> {
         cycles: 1,
         confirmed: 1,
     };
-    let bytes = encode_reply(rt.alloc(), &status)?;
-    assert_eq!(rt;
-        bytes.as_slice(),
-        [
-            0, 0, 0, 0x2a, 0x46, 0, 0, 0, 0, 0, 0, 0, 10, 0, 0, 0, 1, 0, 0, 0, 10, 2, 0, 0, 0, 2,
-            0, 0, 0, 2, 0, 0, 0, 0, 0, 0, 0, 1, 0, 0, 0, 0, 0, 0, 0, 1
-        ]
-        .as_slice()
-    );
+    let frame = [
+        0, 0, 0, 0x2a, 0x46, 0, 0, 0, 0, 0, 0, 0, 10, 0, 0, 0, 1, 0, 0, 0, 10, 2, 0, 0, 0, 2, 0, 0,
+        0, 2, 0, 0, 0, 0, 0, 0, 0, 1, 0, 0, 0, 0, 0, 0, 0, 1,
+    ];
+    assert!(rt; has_frame(rt.alloc(), status, &frame)?);
     Ok(())
 }

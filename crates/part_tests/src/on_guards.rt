@@ -1,5 +1,6 @@
 ghost use Rattle.dependencies.specs.Tables.{AllBelow};
 
+use crate::traces::kept_if;
 use dependencies::{DepTable, Dependency};
 use guards::compatible;
 use held_sets::HeldSet;
@@ -14,25 +15,37 @@ fn nested(thread: u32, lock: u32, other: u32) -> Dependency {
     Dependency { thread, lock, held }
 }
 
-/// A table of these dependencies: each is a thread, the lock that it takes and a lock that it holds.
-fn table_of(rt: &HostRuntime, entries: &[(u32, u32, u32)]) -> Result<DepTable, Fail> {
-    let mut table = DepTable::new(rt.alloc(), RandomState::new(rt)?);
+/// Adds these dependencies to an empty table: each is a thread, the lock that it takes and a lock that it holds.
+fn note_all(table: &mut DepTable, entries: &[(u32, u32, u32)]) -> Result<(), Fail>
+    requires { AllBelow table.old 0 }
+{
     let mut index = 0u32;
     for (thread, lock, other) in entries {
         table.note(Place::new(index), nested(*thread, *lock, *other))?;
         index = index.checked_add(1).ok_or("too long")?;
     }
-    Ok(table)
+    Ok(())
+}
+
+fn table_of(rt: &HostRuntime, entries: &[(u32, u32, u32)]) -> Result<DepTable, Fail> {
+    let mut table = DepTable::new(rt.alloc(), RandomState::new(rt)?);
+    kept_if(note_all(&mut table, entries), table)
+}
+
+fn are_apart(table: &DepTable) -> bool {
+    table.len() == 4
+        && compatible(table, &[0], 1)
+        && !compatible(table, &[1], 2)
+        && !compatible(table, &[1, 0], 3)
+        && compatible(table, &[], 3)
 }
 
 #[test]
 fn members_are_apart(rt: HostRuntime) -> Result<(), Fail> {
     let entries = [(1, 20, 10), (2, 10, 20), (2, 30, 40), (3, 30, 10)];
     let table = table_of(&rt, entries.as_slice())?;
-    assert!(rt; table.len() == 4);
-    assert!(rt; compatible(&table, [0].as_slice(), 1));
-    assert!(rt; !compatible(&table, [1].as_slice(), 2));
-    assert!(rt; !compatible(&table, [1, 0].as_slice(), 3));
-    assert!(rt; compatible(&table, [].as_slice(), 3));
+    let are_apart = are_apart(&table);
+    drop(table);
+    assert!(rt; are_apart);
     Ok(())
 }

@@ -1,20 +1,42 @@
 use held_sets::{HeldSet, HeldTable};
 use std::hash::RandomState;
 use std::test::Fail;
+use trace_model::NoMemory;
+
+/// Thread 1 takes the lock, if it may.
+fn acquire(table: &mut HeldTable, lock: u32) -> Result<(), NoMemory> {
+    let held = table.held(1);
+    let may_acquire = !held.contains(lock) && held.locks().len() < 16;
+    drop(held);
+    if may_acquire {
+        table.acquire(1, lock)?;
+    }
+    Ok(())
+}
+
+/// The thread holds these locks.
+fn holds(table: &HeldTable, thread: u32, locks: &[u32]) -> bool {
+    let held = table.held(thread);
+    let same = held.locks() == locks;
+    drop(held);
+    same
+}
+
+fn ascend_and_are_given_back(table: &mut HeldTable) -> Result<bool, NoMemory> {
+    let empty = holds(table, 1, &[]);
+    acquire(table, 20)?;
+    acquire(table, 10)?;
+    let ascend = holds(table, 1, &[10, 20]) && holds(table, 2, &[]);
+    table.release(1, 20);
+    Ok(empty && ascend && holds(table, 1, &[10]))
+}
 
 #[test]
 fn locks_ascend_and_are_given_back(rt: HostRuntime) -> Result<(), Fail> {
     let mut table = HeldTable::new(rt.alloc(), RandomState::new(&rt)?);
-    assert!(rt; table.held(1).locks().is_empty());
-    for lock in [20, 10] {
-        if !table.held(1).contains(lock) && table.held(1).locks().len() < 16 {
-            table.acquire(1, lock)?;
-        }
-    }
-    assert_eq!(rt; table.held(1).locks(), [10, 20].as_slice());
-    assert!(rt; table.held(2).locks().is_empty());
-    table.release(1, 20);
-    assert_eq!(rt; table.held(1).locks(), [10].as_slice());
+    let told = ascend_and_are_given_back(&mut table);
+    drop(table);
+    assert!(rt; told?);
     Ok(())
 }
 

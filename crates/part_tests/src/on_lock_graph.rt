@@ -1,8 +1,11 @@
+use crate::traces::kept_if;
 use dependencies::Dependency;
 use held_sets::HeldSet;
 use lock_graph::LockGraph;
 use std::hash::RandomState;
+use std::process::Abort;
 use std::test::Fail;
+use trace_model::NoMemory;
 
 /// A dependency whose thread holds one lock, or two.
 fn dependency(thread: u32, lock: u32, held: u32, other: u32) -> Dependency {
@@ -18,16 +21,25 @@ fn dependency(thread: u32, lock: u32, held: u32, other: u32) -> Dependency {
     }
 }
 
-#[test]
-fn lists_who_holds_a_lock(rt: HostRuntime) -> Result<(), Fail> {
-    let mut graph = LockGraph::new(rt.alloc(), RandomState::new(&rt)?);
+fn add_four(graph: &mut LockGraph) -> Result<(), NoMemory> {
     graph.add(0, &dependency(1, 10, 5, 5))?;
     graph.add(1, &dependency(1, 20, 10, 5))?;
     graph.add(2, &dependency(2, 20, 5, 5))?;
-    graph.add(3, &dependency(2, 10, 20, 5))?;
-    assert_eq!(rt; graph.successors(5), [0, 1, 2, 3].as_slice());
-    assert_eq!(rt; graph.successors(10), [1].as_slice());
-    assert_eq!(rt; graph.successors(20), [3].as_slice());
-    assert!(rt; graph.successors(7).is_empty());
+    graph.add(3, &dependency(2, 10, 20, 5))
+}
+
+fn lists_holders(rt: &impl Abort, graph: &LockGraph) {
+    let holders: [(u32, &[u32]); 4] = [(5, &[0, 1, 2, 3]), (10, &[1]), (20, &[3]), (7, &[])];
+    for (lock, numbers) in holders {
+        assert_eq!(rt; graph.successors(lock), numbers, "of lock {lock}");
+    }
+}
+
+#[test]
+fn lists_who_holds_a_lock(rt: HostRuntime) -> Result<(), Fail> {
+    let mut graph = LockGraph::new(rt.alloc(), RandomState::new(&rt)?);
+    let graph = kept_if(add_four(&mut graph), graph)?;
+    lists_holders(&rt, &graph);
+    drop(graph);
     Ok(())
 }

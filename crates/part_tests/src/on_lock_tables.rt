@@ -1,15 +1,17 @@
-ghost use Rattle.std.specs.Prelude.{◌≤◌, ℕ, length, take, IfOk, OnOk};
+ghost use Rattle.std.specs.Prelude.{◌≤◌, ℕ, [], length, take, IfOk, OnOk};
 ghost use Rattle.std.specs.Arc.{arc_value};
 ghost use Rattle.std.specs.List.Sorted.{IsStrictlyIncreasing};
 ghost use Rattle.trace_model.specs.declared.limits.TheConstants.{MAX_EVENTS};
 ghost use Rattle.trace_model.specs.Lawful.{IsWellFormed};
 ghost use Rattle.lock_graph.specs.Graph.{holders};
-ghost use Rattle.lock_tables.specs.Tables.{FollowTrace};
+ghost use Rattle.lock_tables.specs.Tables.{FollowTrace, CountsBelow};
 
-use crate::traces::{empty_gate, offer_words};
+use crate::traces::{gate_of, kept_if, offer_words};
 use lock_tables::{LockParts, LockTables};
 use std::hash::RandomState;
-use std::test::Fail;
+use std::process::Abort;
+use std::random::RandomSource;
+use std::test::*;
 use trace_model::{Event, NoMemory};
 use wellformed::Gate;
 
@@ -29,52 +31,96 @@ fn grow(tables: &mut LockTables, all: &[Event], from: usize, to: usize) -> Resul
     Ok(())
 }
 
+/// Begins with the first events. It answers how many dependencies they have.
+fn begin(tables: &mut LockTables, all: &[Event], events: usize) -> Result<u32, NoMemory>
+    requires well_formed { IsWellFormed all.now }
+    requires short { length all.now ≤ MAX_EVENTS }
+    requires within { events ≤ length all.now }
+    requires empty { FollowTrace tables.old [] }
+    ensures follow { OnOk result (FollowTrace tables.new (take events all.now)) }
+    ensures total { IfOk result (λ total. (m : ℕ) → events ≤ m → m ≤ length all.now → CountsBelow (take m all.now) total events) }
+{
+    grow(tables, all, 0, events)?;
+    Ok(tables.len() as u32)
+}
+
+/// The part of the first events, shared when all events have come.
+fn part_late(tables: &mut LockTables, all: &[Event], events: usize) -> Result<LockParts, NoMemory>
+    requires well_formed { IsWellFormed all.now }
+    requires short { length all.now ≤ MAX_EVENTS }
+    requires within { events ≤ length all.now }
+    requires empty { FollowTrace tables.old [] }
+    ensures { IfOk result (λ parts. (lock : ℕ) → IsStrictlyIncreasing (holders (arc_value parts.graph) lock)) }
+{
+    let total = begin(tables, all, events)?;
+    grow(tables, all, events, all.len())?;
+    tables.share(total, events as u32)
+}
+
+/// The part of the first events, shared as soon as these have come.
+fn part_early(
+    tables: &mut LockTables,
+    all: &[Event],
+    events: usize,
+) -> Result<LockParts, NoMemory>
+    requires well_formed { IsWellFormed all.now }
+    requires short { length all.now ≤ MAX_EVENTS }
+    requires within { events ≤ length all.now }
+    requires empty { FollowTrace tables.old [] }
+    ensures { IfOk result (λ parts. (lock : ℕ) → IsStrictlyIncreasing (holders (arc_value parts.graph) lock)) }
+{
+    let total = begin(tables, all, events)?;
+    let parts = tables.share(total, events as u32)?;
+    kept_if(grow(tables, all, events, all.len()), parts)
+}
+
 /// The part of the first events, shared when all events have come, or as soon as these have.
-fn part_of(rt: &HostRuntime, all: &[Event], events: usize, late: bool) -> Result<LockParts, Fail>
+fn part_of(
+    rt: &(impl RandomSource + AllocGlobal),
+    all: &[Event],
+    events: usize,
+    late: bool,
+) -> Result<LockParts, Fail>
     requires well_formed { IsWellFormed all.now }
     requires short { length all.now ≤ MAX_EVENTS }
     requires within { events ≤ length all.now }
     ensures { IfOk result (λ parts. (lock : ℕ) → IsStrictlyIncreasing (holders (arc_value parts.graph) lock)) }
 {
     let mut tables = LockTables::new(rt.alloc(), RandomState::new(rt)?);
-    grow(&mut tables, all, 0, events)?;
-    let total = tables.len() as u32;
-    if late {
-        grow(&mut tables, all, events, all.len())?;
-        return Ok(tables.share(total, events as u32)?);
-    }
-    let parts = tables.share(total, events as u32)?;
-    grow(&mut tables, all, events, all.len())?;
-    Ok(parts)
+    let parts = if late {
+        part_late(&mut tables, all, events)
+    } else {
+        part_early(&mut tables, all, events)
+    };
+    drop(tables);
+    Ok(parts?)
 }
 
 /// Two threads that nest two locks in opposite orders, again and again: places 3, 11, 19 and on have the first
 /// dependency, and places 7, 15, 23 and on the second one.
 fn opposite_orders(rt: &HostRuntime) -> Result<Gate, Fail> {
-    let mut gate = empty_gate(rt)?;
-    offer_words(rt.alloc(), &mut gate, "0f1 0f2", 1)?;
+    let mut gate = gate_of(rt, "0f1 0f2")?;
     let sections = "1a10 1a20 1r20 1r10 2a20 2a10 2r10 2r20";
-    offer_words(rt.alloc(), &mut gate, sections, 2060)?;
-    Ok(gate)
+    kept_if(offer_words(rt.alloc(), &mut gate, sections, 2060), gate)
 }
 
-/// Whether the part shows so many places of each of the two dependencies, up to the last ones.
-fn shows_places(parts: &LockParts, first: usize, second: usize) -> bool {
+/// Whether the part shows so many places of the dependency, every eighth up to the last one.
+fn shows_places_of(parts: &LockParts, number: u32, count: usize) -> bool {
     let table = &parts.dependencies;
-    let mut shown = true;
-    for (number, count) in [(0u32, first), (1, second)] {
-        if (number as usize) < table.len() {
-            let places = table.places(number);
-            let last = (3 + 4 * number as usize).wrapping_add(8usize.wrapping_mul(count));
-            let end = last.wrapping_sub(8);
-            shown = shown
-                && places.len() == count
-                && (places.is_empty() || places.get(places.len() - 1).get() as usize == end);
-        } else {
-            shown = shown && count == 0;
-        }
+    if (number as usize) < table.len() {
+        let places = table.places(number);
+        let last = (3 + 4 * number as usize).wrapping_add(8usize.wrapping_mul(count));
+        let end = last.wrapping_sub(8);
+        places.len() == count
+            && (places.is_empty() || places.get(places.len() - 1).get() as usize == end)
+    } else {
+        count == 0
     }
-    shown
+}
+
+/// Whether the part shows so many places of each of the two dependencies.
+fn shows_places(parts: &LockParts, first: usize, second: usize) -> bool {
+    shows_places_of(parts, 0, first) && shows_places_of(parts, 1, second)
 }
 
 /// How many dependencies below the part's total hold lock 10, and lock 20.
@@ -88,29 +134,65 @@ fn holders_in(parts: &LockParts) -> (usize, usize)
     )
 }
 
+/// How many events come first, how many dependencies they have, and how many places each of the two has.
+type Wanted = (usize, usize, usize, usize);
+
+const PARTS: [Wanted; 9] = [
+    (3, 0, 0, 0),
+    (4, 1, 1, 0),
+    (7, 1, 1, 0),
+    (8, 2, 1, 1),
+    (16_379, 2, 2047, 2047),
+    (16_380, 2, 2048, 2047),
+    (16_384, 2, 2048, 2048),
+    (16_388, 2, 2049, 2048),
+    (16_482, 2, 2060, 2060),
+];
+
+fn shows(rt: &impl Abort, parts: &LockParts, wanted: Wanted)
+    requires { (lock : ℕ) → IsStrictlyIncreasing (holders (arc_value parts.now.graph) lock) }
+{
+    let (_, total, first, second) = wanted;
+    assert!(rt; parts.dependencies.len() == total && shows_places(parts, first, second));
+    assert!(rt; holders_in(parts) == (first.min(1), second.min(1)));
+}
+
+fn shares(
+    rt: &(impl RandomSource + AllocGlobal + Abort),
+    all: &[Event],
+    wanted: Wanted,
+    late: bool,
+) -> Result<(), Fail>
+    requires well_formed { IsWellFormed all.now }
+    requires short { length all.now ≤ MAX_EVENTS }
+{
+    if wanted.0 > all.len() {
+        return Err("too short".into());
+    }
+    let parts = part_of(rt, all, wanted.0, late)?;
+    shows(rt, &parts, wanted);
+    drop(parts);
+    Ok(())
+}
+
+fn shares_all(
+    rt: &(impl RandomSource + AllocGlobal + Abort),
+    all: &[Event],
+) -> Result<(), Fail>
+    requires well_formed { IsWellFormed all.now }
+    requires short { length all.now ≤ MAX_EVENTS }
+{
+    for wanted in PARTS {
+        shares(rt, all, wanted, false)?;
+        shares(rt, all, wanted, true)?;
+    }
+    Ok(())
+}
+
 #[test]
 fn parts_of_the_first_events(rt: HostRuntime) -> Result<(), Fail> {
     let gate = opposite_orders(&rt)?;
-    let all = gate.events();
-    for (events, total, first, second) in [
-        (3, 0, 0, 0),
-        (4, 1, 1, 0),
-        (7, 1, 1, 0),
-        (8, 2, 1, 1),
-        (16_379, 2, 2047, 2047),
-        (16_380, 2, 2048, 2047),
-        (16_384, 2, 2048, 2048),
-        (16_388, 2, 2049, 2048),
-        (16_482, 2, 2060, 2060),
-    ] {
-        if events > all.len() {
-            return Err("too short".into());
-        }
-        for late in [false, true] {
-            let parts = part_of(&rt, all, events, late)?;
-            assert!(rt; parts.dependencies.len() == total && shows_places(&parts, first, second));
-            assert!(rt; holders_in(&parts) == (first.min(1), second.min(1)));
-        }
-    }
-    Ok(())
+    let shared = shares_all(&rt, gate.events());
+    drop(gate);
+    shared
 }

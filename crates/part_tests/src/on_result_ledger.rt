@@ -2,48 +2,63 @@
 
 use result_ledger::{Ledger, LedgerRefused};
 use std::alloc::Global;
-use std::process::Abort;
 use std::test::Fail;
 
+/// How the ledger refuses that the task has no rows; none where it takes it.
+fn refused(alloc: Global, ledger: &mut Ledger, task: u32) -> Option<LedgerRefused> {
+    match ledger.accept(task, Vec::new(alloc)) {
+        Ok(()) => None,
+        Err((refused, rows)) => {
+            drop(rows);
+            Some(refused)
+        }
+    }
+}
+
+/// The least missing task, how many are delivered, and how many are settled, once all are.
+fn state(ledger: &Ledger) -> (Option<u32>, u32, Option<usize>) {
+    let settled = match ledger.settled() {
+        Some(tasks) => Some(tasks.len()),
+        None => None,
+    };
+    (ledger.missing(), ledger.delivered(), settled)
+}
+
 /// A ledger of two tasks takes task 1 once.
-fn takes_the_second(rt: &impl Abort, alloc: Global, ledger: &mut Ledger) {
-    assert_eq!(rt; ledger.missing(), Some(0));
-    assert!(rt; ledger.settled().is_none());
-    assert!(rt; ledger.accept(1, Vec::new(alloc)).is_ok());
-    assert_eq!(rt; ledger.delivered(), 1);
-    assert_eq!(rt; ledger.missing(), Some(0));
+fn takes_the_second(alloc: Global, ledger: &mut Ledger) -> bool {
+    state(ledger) == (Some(0), 0, None)
+        && refused(alloc, ledger, 1).is_none()
+        && state(ledger) == (Some(0), 1, None)
 }
 
 /// It refuses task 1, which it has, and task 2, which there is not.
-fn refuses_others(rt: &impl Abort, alloc: Global, ledger: &mut Ledger) {
-    assert_eq!(rt; ledger.test(1), Err(LedgerRefused::Double));
-    assert_eq!(rt; ledger.test(2), Err(LedgerRefused::NoSuchTask));
-    let again = ledger.accept(1, Vec::new(alloc));
-    assert!(rt; matches!(again, Err((LedgerRefused::Double, _))));
-    assert!(rt; ledger.settled().is_none());
+fn refuses_others(alloc: Global, ledger: &mut Ledger) -> bool {
+    ledger.test(1) == Err(LedgerRefused::Double)
+        && ledger.test(2) == Err(LedgerRefused::NoSuchTask)
+        && refused(alloc, ledger, 1) == Some(LedgerRefused::Double)
+        && state(ledger) == (Some(0), 1, None)
 }
 
 /// With task 0 it is settled.
-fn takes_the_first(rt: &impl Abort, alloc: Global, ledger: &mut Ledger) {
-    assert!(rt; ledger.accept(0, Vec::new(alloc)).is_ok());
-    assert_eq!(rt; ledger.missing(), None);
-    assert_eq!(rt; ledger.delivered(), 2);
-    assert_eq!(rt; ledger.settled().map(|tasks| tasks.len()), Some(2));
+fn takes_the_first(alloc: Global, ledger: &mut Ledger) -> bool {
+    refused(alloc, ledger, 0).is_none() && state(ledger) == (None, 2, Some(2))
 }
 
 #[test]
 fn each_task_once(rt: HostRuntime) -> Result<(), Fail> {
     let mut ledger = Ledger::open(rt.alloc(), 2)?;
-    takes_the_second(&rt, rt.alloc(), &mut ledger);
-    refuses_others(&rt, rt.alloc(), &mut ledger);
-    takes_the_first(&rt, rt.alloc(), &mut ledger);
+    assert!(rt; takes_the_second(rt.alloc(), &mut ledger));
+    assert!(rt; refuses_others(rt.alloc(), &mut ledger));
+    assert!(rt; takes_the_first(rt.alloc(), &mut ledger));
+    drop(ledger);
     Ok(())
 }
 
 #[test]
 fn no_task_is_settled_at_once(rt: HostRuntime) -> Result<(), Fail> {
     let ledger = Ledger::open(rt.alloc(), 0)?;
-    assert_eq!(rt; ledger.missing(), None);
-    assert_eq!(rt; ledger.settled().map(|tasks| tasks.len()), Some(0));
+    let settled = state(&ledger) == (None, 0, Some(0));
+    drop(ledger);
+    assert!(rt; settled);
     Ok(())
 }

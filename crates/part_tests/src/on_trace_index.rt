@@ -1,14 +1,15 @@
 //! Look-ups in a small trace, in one that is longer than two segments, and in its first events, shared.
 
-ghost use Rattle.std.specs.Prelude.{◌≡◌, ◌≤◌, ◌<◌, length};
+ghost use Rattle.std.specs.Prelude.{◌≡◌, ◌≤◌, ◌<◌, length, take, IfOk};
 ghost use Rattle.trace_model.specs.Lawful.{IsWellFormed};
 
-use crate::traces::{empty_gate, gate_of, offer};
+use crate::traces::{empty_gate, gate_of, kept_if, offer};
 use std::collections::hash_map::RandomState;
 use std::marker::Brand;
 use std::process::Abort;
+use std::random::RandomSource;
 use std::sync::ledger::{Blank, Ledger};
-use std::test::Fail;
+use std::test::*;
 use trace_index::{Copies, PlacesOf, TraceIndex};
 use trace_model::{Event, NoMemory, Op, Place};
 use wellformed::Gate;
@@ -17,11 +18,20 @@ use wellformed::Gate;
 /// thread then nests them once more.
 const LATER_INSTANCE: &str = "0f1 0f2 1a10 1a20 1r20 1r10 1w7 2d7 2a20 2a10 2r10 2r20 1a10 1a20";
 
+/// An index of what passed the gate.
+fn index_at(rt: &(impl RandomSource + AllocGlobal), gate: &Gate) -> Result<TraceIndex, Fail>
+    ensures { IfOk result (λ index. index.events ≡ gate.now.events) }
+{
+    let state = RandomState::new(rt)?;
+    Ok(TraceIndex::build(rt.alloc(), state, gate.events())?)
+}
+
 /// An index of that trace.
 fn index_of(rt: &HostRuntime) -> Result<TraceIndex, Fail> {
     let gate = gate_of(rt, LATER_INSTANCE)?;
-    let index = TraceIndex::build(rt.alloc(), RandomState::new(rt)?, gate.events())?;
-    Ok(index)
+    let index = index_at(rt, &gate);
+    drop(gate);
+    index
 }
 
 /// What is looked up of a place, or of a thread.
@@ -37,15 +47,21 @@ enum Look {
 
 fn looked_up(index: &TraceIndex, look: Look, number: u32) -> Option<u32> {
     let place = Place::new(number);
-    let found = match look {
-        Look::Writer => index.writer(place),
-        Look::Release => index.release_of(place),
-        Look::Number => return index.number(place),
-        Look::ThreadBefore => index.thread_before(place),
-        Look::AcquireBefore => index.acquire_before(place),
-        Look::Fork => index.fork_of(number),
-    };
-    Some(found?.get())
+    match look {
+        Look::Writer => number_of(index.writer(place)),
+        Look::Release => number_of(index.release_of(place)),
+        Look::Number => index.number(place),
+        Look::ThreadBefore => number_of(index.thread_before(place)),
+        Look::AcquireBefore => number_of(index.acquire_before(place)),
+        Look::Fork => number_of(index.fork_of(number)),
+    }
+}
+
+fn number_of(place: Option<Place>) -> Option<u32> {
+    match place {
+        Some(place) => Some(place.get()),
+        None => None,
+    }
 }
 
 type Wanted = (Look, u32, Option<u32>);
@@ -82,50 +98,68 @@ const OF_EARLIER_PLACES: [Wanted; 8] = [
     (Look::AcquireBefore, 5, None),
 ];
 
-fn answers(rt: &impl Abort, index: &TraceIndex, wanted: &[Wanted]) -> Result<(), Fail> {
+fn answers(rt: &impl Abort, index: &TraceIndex, wanted: &[Wanted]) {
     for (look, number, answer) in wanted {
         let found = looked_up(index, *look, *number);
         assert_eq!(rt; found, *answer, "{look:?} of {number}");
     }
-    Ok(())
 }
 
 /// Exactly these places, in order.
-fn are_places(rt: &impl Abort, places: &PlacesOf<'_>, wanted: &[u32]) -> Result<(), Fail> {
-    assert_eq!(rt; places.len(), wanted.len());
-    for index in 0..places.len() {
-        assert_eq!(rt; places.get(index).get(), wanted[index], "the place {index}");
+fn are_places(places: PlacesOf<'_>, wanted: &[u32]) -> bool {
+    if places.len() != wanted.len() {
+        return false;
     }
-    Ok(())
+    for index in 0..places.len() {
+        if places.get(index).get() != wanted[index] {
+            return false;
+        }
+    }
+    true
 }
 
 #[test]
 fn places_of_a_small_trace(rt: HostRuntime) -> Result<(), Fail> {
     let index = index_of(&rt)?;
-    answers(&rt, &index, &OF_PLACES)?;
-    answers(&rt, &index, &OF_EARLIER_PLACES)
+    answers(&rt, &index, &OF_PLACES);
+    answers(&rt, &index, &OF_EARLIER_PLACES);
+    drop(index);
+    Ok(())
+}
+
+fn has_events(index: &TraceIndex) -> bool {
+    let read = Event {
+        thread: 2,
+        op: Op::Read(7),
+    };
+    index.len() == 14
+        && index.event(Place::new(7)) == Some(read)
+        && index.event(Place::new(14)).is_none()
 }
 
 #[test]
 fn events_of_a_small_trace(rt: HostRuntime) -> Result<(), Fail> {
     let index = index_of(&rt)?;
-    assert_eq!(rt; index.len(), 14);
-    let read = Event {
-        thread: 2,
-        op: Op::Read(7),
-    };
-    assert_eq!(rt; index.event(Place::new(7)), Some(read));
-    assert_eq!(rt; index.event(Place::new(14)), None);
+    let has_events = has_events(&index);
+    drop(index);
+    assert!(rt; has_events);
     Ok(())
+}
+
+fn has_lists(index: &TraceIndex) -> bool {
+    are_places(index.acquires(10), &[2, 9, 12])
+        && are_places(index.acquires(7), &[])
+        && are_places(index.thread_places(1), &[2, 3, 4, 5, 6, 12, 13])
+        && are_places(index.thread_places(3), &[])
 }
 
 #[test]
 fn lists_of_a_small_trace(rt: HostRuntime) -> Result<(), Fail> {
     let index = index_of(&rt)?;
-    are_places(&rt, &index.acquires(10), &[2, 9, 12])?;
-    are_places(&rt, &index.acquires(7), &[])?;
-    are_places(&rt, &index.thread_places(1), &[2, 3, 4, 5, 6, 12, 13])?;
-    are_places(&rt, &index.thread_places(3), &[])
+    let has_lists = has_lists(&index);
+    drop(index);
+    assert!(rt; has_lists);
+    Ok(())
 }
 
 // ---- a trace that is longer than two segments
@@ -148,14 +182,18 @@ fn long_event(place: u32) -> Event {
     Event { thread, op }
 }
 
-fn long_gate(rt: &HostRuntime) -> Result<Gate, Fail> {
-    let mut gate = empty_gate(rt)?;
+fn offer_long(gate: &mut Gate) -> Result<(), Fail> {
     for place in 0..LENGTH {
-        if !offer(&mut gate, &long_event(place))? {
+        if !offer(gate, &long_event(place))? {
             return Err("an event is not lawful".into());
         }
     }
-    Ok(gate)
+    Ok(())
+}
+
+fn long_gate(rt: &HostRuntime) -> Result<Gate, Fail> {
+    let mut gate = empty_gate(rt)?;
+    kept_if(offer_long(&mut gate), gate)
 }
 
 /// A place of the long trace, its writer, its release, and how many places of its thread stand before it.
@@ -178,49 +216,43 @@ const LOOKED: [Looked; 12] = [
 ];
 
 /// What an index of the first `len` events answers of a place.
-fn looks_up(rt: &impl Abort, index: &TraceIndex, len: u32, looked: Looked) -> Result<(), Fail> {
+fn looks_up(index: &TraceIndex, len: u32, looked: Looked) -> bool {
+    let place = looked.0;
+    if place < len {
+        return finds(index, len, looked);
+    }
+    let at = Place::new(place);
+    index.event(at).is_none() && index.release_of(at).is_none()
+}
+
+/// What it answers of one of these events.
+fn finds(index: &TraceIndex, len: u32, looked: Looked) -> bool {
     let (place, writer, release, number) = looked;
     let at = Place::new(place);
-    if place < len {
-        assert_eq!(rt;
-            index.event(at),
-            Some(long_event(place)),
-            "at {place} of {len}"
-        );
-        assert_eq!(rt;
-            index.writer(at).map(Place::get),
-            writer,
-            "at {place} of {len}"
-        );
-        assert_eq!(rt; index.number(at), Some(number), "at {place} of {len}");
-        let ends = release.filter(|end| *end < len);
-        assert_eq!(rt;
-            index.release_of(at).map(Place::get),
-            ends,
-            "at {place} of {len}"
-        );
-    } else {
-        assert_eq!(rt; index.event(at), None, "at {place} of {len}");
-        assert_eq!(rt; index.release_of(at), None, "at {place} of {len}");
-    }
-    Ok(())
+    let ends = match release {
+        Some(end) if end < len => Some(end),
+        _ => None,
+    };
+    index.event(at) == Some(long_event(place))
+        && number_of(index.writer(at)) == writer
+        && index.number(at) == Some(number)
+        && number_of(index.release_of(at)) == ends
 }
 
 /// The places `first`, `first + 4` and so on, `count` of them.
-fn are_every_fourth(
-    rt: &impl Abort,
-    places: &PlacesOf<'_>,
-    first: u32,
-    count: usize,
-) -> Result<(), Fail> {
-    assert_eq!(rt; places.len(), count, "from {first} on");
+fn are_every_fourth(places: PlacesOf<'_>, first: u32, count: usize) -> bool {
+    if places.len() != count {
+        return false;
+    }
     for i in [0, 1, 1022, 1023, 1024, 2047, 2048, 2249] {
         if i < places.len() {
             let place = u64::from(places.get(i).get());
-            assert_eq!(rt; place, u64::from(first) + 4 * i as u64, "of {count}");
+            if place != u64::from(first) + 4 * i as u64 {
+                return false;
+            }
         }
     }
-    Ok(())
+    true
 }
 
 /// All look-ups of an index of the first `len` events; `writes` are thread 1's places, `sections` those of
@@ -231,14 +263,13 @@ fn is_index_of_first(
     len: u32,
     writes: usize,
     sections: usize,
-) -> Result<(), Fail> {
+) {
     assert_eq!(rt; index.len(), len as usize);
     for looked in LOOKED {
-        looks_up(rt, index, len, looked)?;
+        assert!(rt; looks_up(index, len, looked), "at {} of {len}", looked.0);
     }
-    are_every_fourth(rt, &index.thread_places(1), 1, writes)?;
-    are_every_fourth(rt, &index.acquires(7), 3, sections)?;
-    Ok(())
+    assert!(rt; are_every_fourth(index.thread_places(1), 1, writes), "{writes} of {len}");
+    assert!(rt; are_every_fourth(index.acquires(7), 3, sections), "{sections} of {len}");
 }
 
 /// The first events of an index, shared.
@@ -249,7 +280,28 @@ fn shared<L: Ledger>(index: &TraceIndex, len: usize, blank: Blank) -> Result<Tra
     requires within { len ≤ length index.now.events }
 {
     let mut copies = Copies::<L>::new(blank);
-    index.share(len, &mut copies)
+    let part = index.share(len, &mut copies);
+    drop(copies);
+    part
+}
+
+/// Goes on from so many events to all of them.
+fn grow<L: Ledger>(
+    part: &mut TraceIndex,
+    events: &[Event],
+    from: usize,
+    copies: &mut Copies<L>,
+) -> Result<(), NoMemory>
+    requires trace { IsWellFormed events.now }
+    requires begun { part.old.events ≡ take from events.now }
+    requires within { from ≤ length events.now }
+{
+    for place in from..events.len() {
+        let event = events[place];
+        part.reserve(&event)?;
+        part.record(&event, copies);
+    }
+    Ok(())
 }
 
 /// The first events of an index, shared, and then all others, recorded.
@@ -268,12 +320,9 @@ fn shared_and_grown<L: Ledger>(
 {
     let mut copies = Copies::<L>::new(blank);
     let mut part = index.share(len, &mut copies)?;
-    for place in len..events.len() {
-        let event = events[place];
-        part.reserve(&event)?;
-        part.record(&event, &mut copies);
-    }
-    Ok(part)
+    let grown = grow(&mut part, events, len, &mut copies);
+    drop(copies);
+    kept_if(grown, part)
 }
 
 /// The lengths that are shared, with how many places of thread 1 and acquires of lock 7 they have.
@@ -287,36 +336,62 @@ const SHARED: [(u32, usize, usize); 5] = [
 
 fn long_index(rt: &HostRuntime) -> Result<TraceIndex, Fail> {
     let gate = long_gate(rt)?;
-    let index = TraceIndex::build(rt.alloc(), RandomState::new(rt)?, gate.events())?;
-    Ok(index)
+    let index = index_at(rt, &gate);
+    drop(gate);
+    index
 }
 
 fn is_shared(
     rt: &impl Abort,
     index: &TraceIndex,
     lengths: (u32, usize, usize),
-) -> Result<(), Fail> {
+) -> Result<(), NoMemory> {
     let (len, writes, sections) = lengths;
     let within = (len as usize).min(index.len());
     let part = shared::<Brand>(index, within, Blank::new(1))?;
-    is_index_of_first(rt, &part, len, writes, sections)
+    is_index_of_first(rt, &part, len, writes, sections);
+    drop(part);
+    Ok(())
 }
 
-#[test]
-fn first_events_are_shared(rt: HostRuntime) -> Result<(), Fail> {
-    let index = long_index(&rt)?;
+fn are_shared(rt: &impl Abort, index: &TraceIndex) -> Result<(), NoMemory> {
     for lengths in SHARED {
-        is_shared(&rt, &index, lengths)?;
+        is_shared(rt, index, lengths)?;
     }
     Ok(())
 }
 
 #[test]
+fn first_events_are_shared(rt: HostRuntime) -> Result<(), Fail> {
+    let index = long_index(&rt)?;
+    let shared = are_shared(&rt, &index);
+    drop(index);
+    Ok(shared?)
+}
+
+/// The first 4,095 events are shared, and then grow to all of these.
+fn shares_and_grows(rt: &impl Abort, index: &TraceIndex, events: &[Event]) -> Result<(), NoMemory>
+    requires trace { IsWellFormed events.now }
+    requires same { index.now.events ≡ events.now }
+{
+    let within = 4095.min(events.len());
+    let grown = shared_and_grown::<Brand>(index, events, within, Blank::new(1))?;
+    is_index_of_first(rt, &grown, LENGTH, 2250, 2250);
+    drop(grown);
+    Ok(())
+}
+
+fn grows(rt: &(impl RandomSource + AllocGlobal + Abort), gate: &Gate) -> Result<(), Fail> {
+    let index = index_at(rt, gate)?;
+    let grown = shares_and_grows(rt, &index, gate.events());
+    drop(index);
+    Ok(grown?)
+}
+
+#[test]
 fn a_shared_index_grows(rt: HostRuntime) -> Result<(), Fail> {
     let gate = long_gate(&rt)?;
-    let events = gate.events();
-    let index = TraceIndex::build(rt.alloc(), RandomState::new(&rt)?, events)?;
-    let within = 4095.min(events.len());
-    let grown = shared_and_grown::<Brand>(&index, events, within, Blank::new(1))?;
-    is_index_of_first(&rt, &grown, LENGTH, 2250, 2250)
+    let grown = grows(&rt, &gate);
+    drop(gate);
+    grown
 }

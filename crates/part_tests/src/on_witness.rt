@@ -3,12 +3,15 @@
 ghost use Rattle.std.specs.Prelude.{length, IfOk};
 ghost use Rattle.dependencies.specs.Tables.{FollowsTrace};
 
-use crate::traces::{Case, case_of, closure_of, empty_gate, found_of, gate_of, offer_words};
+use crate::traces::{
+    Case, case_in, case_of, closure_of, empty_gate, found_of, kept_if, offer_words,
+};
 use cycle_search::Cycle;
 use dependencies::{DepTable, Dependency};
 use std::alloc::Global;
 use std::test::Fail;
 use trace_model::{Bound, Instance, NoMemory, Place};
+use wellformed::Gate;
 use witness::{Found, Row, report_text};
 
 const OPPOSITE_ORDERS: &str = "0f1 0f2 1a10 1a20 1r20 1r10 2a20 2a10 2r10 2r20 ";
@@ -89,20 +92,38 @@ const NOT_FOUND: [Wanted; 4] = [
     ("0f1 1a20 1a10 1r10 1r20 0j1 0a10 0a20 ", &[0, 1], &[], &[]),
 ];
 
+/// What a trace has of the cycle with these numbers.
+fn found_by(alloc: Global, case: &Case, numbers: &[u32]) -> Result<Option<Found>, Fail>
+    requires { FollowsTrace case.now.table case.now.index.events (length case.now.index.events) }
+{
+    let cycle = Cycle::new(numbers).ok_or("no cycle")?;
+    let found = found_of(alloc, case, &cycle);
+    drop(cycle);
+    found
+}
+
 /// What the trace of the words has of the cycle.
 fn found_in(rt: &HostRuntime, words: &str, numbers: &[u32]) -> Result<Option<Found>, Fail> {
-    let cycle = Cycle::new(numbers).ok_or("no cycle")?;
-    let gate = gate_of(rt, words)?;
-    let case = case_of(rt, &gate)?;
-    found_of(rt.alloc(), &case, &cycle)
+    let case = case_in(rt, words)?;
+    let found = found_by(rt.alloc(), &case, numbers);
+    drop(case);
+    found
+}
+
+/// Whether what is wanted is found.
+fn finds(rt: &HostRuntime, wanted: &Wanted) -> Result<bool, Fail> {
+    let (words, numbers, places, witness) = wanted;
+    let found = found_in(rt, words, numbers)?;
+    let finds = is_found(&found, places, witness);
+    drop(found);
+    Ok(finds)
 }
 
 /// The words of the first trace of which something else is found.
 fn first_missed(rt: &HostRuntime, wanted: &[Wanted]) -> Result<Option<&'static str>, Fail> {
-    for (words, numbers, places, witness) in wanted {
-        let found = found_in(rt, words, numbers)?;
-        if !is_found(&found, places, witness) {
-            return Ok(Some(words));
+    for one in wanted {
+        if !finds(rt, one)? {
+            return Ok(Some(one.0));
         }
     }
     Ok(None)
@@ -122,129 +143,223 @@ fn cycles_that_no_reordering_reaches(rt: HostRuntime) -> Result<(), Fail> {
 
 /// The closure of two places of the trace of the words.
 fn closure_in(rt: &HostRuntime, words: &str, places: &[u32; 2]) -> Result<Vec<Place>, Fail> {
-    let gate = gate_of(rt, words)?;
-    let case = case_of(rt, &gate)?;
-    closure_of(rt.alloc(), &case.index, &places.map(Place::new))
+    let case = case_in(rt, words)?;
+    let closure = closure_of(rt.alloc(), &case.index, &places.map(Place::new));
+    drop(case);
+    closure
+}
+
+/// Whether that closure is these places.
+fn closes(
+    rt: &HostRuntime,
+    words: &str,
+    places: &[u32; 2],
+    closure: &[u32],
+) -> Result<bool, Fail> {
+    let held = closure_in(rt, words, places)?;
+    let closes = are_places(held.as_slice(), closure);
+    drop(held);
+    Ok(closes)
 }
 
 #[test]
 fn closures_of_places(rt: HostRuntime) -> Result<(), Fail> {
-    let held = closure_in(&rt, OPPOSITE_ORDERS, &[3, 7])?;
-    assert!(rt; are_places(held.as_slice(), &[0, 1, 2, 6]));
-    let held = closure_in(&rt, READ_NEEDS_EARLIER_SECTION, &[3, 9])?;
-    assert!(rt; are_places(held.as_slice(), &[0, 1, 2, 3, 4, 5, 6, 7, 8]));
+    assert!(rt; closes(&rt, OPPOSITE_ORDERS, &[3, 7], &[0, 1, 2, 6])?);
+    let earlier_section = [0, 1, 2, 3, 4, 5, 6, 7, 8];
+    assert!(rt; closes(&rt, READ_NEEDS_EARLIER_SECTION, &[3, 9], &earlier_section)?);
     Ok(())
 }
 
 /// Two threads that nest two locks in opposite orders three hundred times each, with a write and a read between
 /// them, and the first thread once more.
-fn three_hundred(rt: &HostRuntime) -> Result<Case, Fail>
-    ensures { IfOk result (λ case. FollowsTrace case.table case.index.events (length case.index.events)) }
-{
-    let alloc = rt.alloc();
-    let mut gate = empty_gate(rt)?;
-    offer_words(alloc, &mut gate, "0f1 0f2 ", 1)?;
-    offer_words(alloc, &mut gate, "1a10 1a20 1r20 1r10 ", 300)?;
-    offer_words(alloc, &mut gate, "1w7 2d7 ", 1)?;
-    offer_words(alloc, &mut gate, "2a20 2a10 2r10 2r20 ", 300)?;
-    offer_words(alloc, &mut gate, "1a10 1a20 ", 1)?;
-    case_of(rt, &gate)
-}
+const THREE_HUNDRED: [(&str, u32); 5] = [
+    ("0f1 0f2 ", 1),
+    ("1a10 1a20 1r20 1r10 ", 300),
+    ("1w7 2d7 ", 1),
+    ("2a20 2a10 2r10 2r20 ", 300),
+    ("1a10 1a20 ", 1),
+];
 
-#[test]
-fn three_hundred_sections(rt: HostRuntime) -> Result<(), Fail> {
-    let cycle = Cycle::new(&[0, 1]).ok_or("no cycle")?;
-    let case = three_hundred(&rt)?;
-    assert_eq!(rt; case.index.len(), 2406);
-    let found = found_of(rt.alloc(), &case, &cycle)?.ok_or("nothing is found")?;
-    assert!(rt; are_members(&found.places, &[2405, 1205]));
-    assert_eq!(rt; found.witness.len(), 1206);
-    for index in 0..found.witness.len() {
-        let wanted = if index < 1205 { index as u32 } else { 2404 };
-        assert_eq!(rt; found.witness[index].get(), wanted);
+fn offer_three_hundred(alloc: Global, gate: &mut Gate) -> Result<(), Fail> {
+    for (words, times) in THREE_HUNDRED {
+        offer_words(alloc, gate, words, times)?;
     }
     Ok(())
 }
 
-/// The dependencies with these numbers.
-fn dependencies_of(
-    alloc: Global,
+fn three_hundred(rt: &HostRuntime) -> Result<Case, Fail>
+    ensures { IfOk result (λ case. FollowsTrace case.table case.index.events (length case.index.events)) }
+{
+    let mut gate = empty_gate(rt)?;
+    let offered = offer_three_hundred(rt.alloc(), &mut gate);
+    let gate = kept_if(offered, gate)?;
+    let case = case_of(rt, &gate);
+    drop(gate);
+    case
+}
+
+/// The places of the last sections, and a witness of all events before the second one and one of the first.
+fn is_three_hundredth(found: &Found) -> bool {
+    let witness = found.witness.as_slice();
+    if !are_members(&found.places, &[2405, 1205]) || witness.len() != 1206 {
+        return false;
+    }
+    for index in 0..witness.len() {
+        let wanted = if index < 1205 { index as u32 } else { 2404 };
+        if witness[index].get() != wanted {
+            return false;
+        }
+    }
+    true
+}
+
+#[test]
+fn three_hundred_sections(rt: HostRuntime) -> Result<(), Fail> {
+    let case = three_hundred(&rt)?;
+    assert_eq!(rt; case.index.len(), 2406);
+    let found = found_by(rt.alloc(), &case, &[0, 1]);
+    drop(case);
+    let found = found?.ok_or("nothing is found")?;
+    let is_three_hundredth = is_three_hundredth(&found);
+    drop(found);
+    assert!(rt; is_three_hundredth);
+    Ok(())
+}
+
+/// Adds the dependencies with these numbers.
+fn push_dependencies(
+    dependencies: &mut Vec<Dependency>,
     table: &DepTable,
     numbers: &[u32],
-) -> Result<Vec<Dependency>, NoMemory> {
-    let mut dependencies = Vec::new(alloc);
+) -> Result<(), NoMemory> {
     for number in numbers {
         if (*number as usize) < table.len() {
             let dependency = table.get(*number).copied();
             dependencies.push(dependency)?;
         }
     }
-    Ok(dependencies)
+    Ok(())
+}
+
+/// The cycle with these numbers, and its dependencies.
+fn dependencies_of(
+    alloc: Global,
+    table: &DepTable,
+    numbers: &[u32],
+) -> Result<(Cycle, Vec<Dependency>), Fail> {
+    let cycle = Cycle::new(numbers).ok_or("no cycle")?;
+    let mut dependencies = Vec::new(alloc);
+    let pushed = push_dependencies(&mut dependencies, table, numbers);
+    Ok(kept_if(pushed, (cycle, dependencies))?)
 }
 
 /// What the report has of a cycle.
 fn row_of(alloc: Global, case: &Case, numbers: &[u32]) -> Result<Row, Fail>
     requires { FollowsTrace case.now.table case.now.index.events (length case.now.index.events) }
 {
-    let numbers = Cycle::new(numbers).ok_or("no cycle")?;
-    let dependencies = dependencies_of(alloc, &case.table, numbers.numbers())?;
-    let found = found_of(alloc, case, &numbers)?;
-    Ok(Row {
-        numbers,
-        dependencies,
-        found,
-    })
+    let found = found_by(alloc, case, numbers)?;
+    match dependencies_of(alloc, &case.table, numbers) {
+        Ok((numbers, dependencies)) => Ok(Row {
+            numbers,
+            dependencies,
+            found,
+        }),
+        Err(fail) => {
+            drop(found);
+            Err(fail)
+        }
+    }
 }
 
-fn rows_of(alloc: Global, case: &Case, cycles: &[[u32; 2]]) -> Result<Vec<Row>, Fail>
+fn push_rows(
+    rows: &mut Vec<Row>,
+    alloc: Global,
+    case: &Case,
+    cycles: &[[u32; 2]],
+) -> Result<(), Fail>
     requires { FollowsTrace case.now.table case.now.index.events (length case.now.index.events) }
 {
-    let mut rows = Vec::new(alloc);
     for numbers in cycles {
         let row = row_of(alloc, case, numbers.as_slice())?;
         rows.push(row)?;
     }
-    Ok(rows)
+    Ok(())
 }
 
-/// The report of these rows, all of task 0.
-fn report_of(alloc: Global, length: u32, bound: u8, rows: Vec<Row>) -> Result<Vec<u8>, Fail> {
+/// The report of these rows, by task.
+fn report_of(
+    alloc: Global,
+    length: u32,
+    bound: u8,
+    tasks: &[Vec<Row>],
+) -> Result<Vec<u8>, Fail> {
     let bound = Bound::new(bound).ok_or("no bound")?;
-    let mut tasks = Vec::new(alloc);
-    tasks.push(rows)?;
-    tasks.push(Vec::new(alloc))?;
-    let text = report_text(alloc, 0, length, bound, tasks.as_slice())?;
-    Ok(text)
+    Ok(report_text(alloc, 0, length, bound, tasks)?)
+}
+
+/// The report of these cycles of the trace, all of task 0 of two.
+fn text_by(alloc: Global, case: &Case, bound: u8, cycles: &[[u32; 2]]) -> Result<Vec<u8>, Fail>
+    requires { FollowsTrace case.now.table case.now.index.events (length case.now.index.events) }
+{
+    let mut rows = Vec::new(alloc);
+    let pushed = push_rows(&mut rows, alloc, case, cycles);
+    let tasks = [kept_if(pushed, rows)?, Vec::new(alloc)];
+    let text = report_of(alloc, case.index.len() as u32, bound, &tasks);
+    drop(tasks);
+    text
 }
 
 /// The report of these cycles of the trace of the words.
 fn text_of(rt: &HostRuntime, words: &str, bound: u8, cycles: &[[u32; 2]]) -> Result<Vec<u8>, Fail> {
-    let gate = gate_of(rt, words)?;
-    let case = case_of(rt, &gate)?;
-    let rows = rows_of(rt.alloc(), &case, cycles)?;
-    report_of(rt.alloc(), case.index.len() as u32, bound, rows)
+    let case = case_in(rt, words)?;
+    let text = text_by(rt.alloc(), &case, bound, cycles);
+    drop(case);
+    text
 }
+
+/// How long the report of no cycle of the trace of the words is.
+fn length_of_text(rt: &HostRuntime, words: &str) -> Result<usize, Fail> {
+    let text = text_of(rt, words, 2, &[])?;
+    let length = text.len();
+    drop(text);
+    Ok(length)
+}
+
+/// How long the report of these cycles of the trace of the words is, if it is this text.
+fn length_if(
+    rt: &HostRuntime,
+    words: &str,
+    bound: u8,
+    cycles: &[[u32; 2]],
+    wanted: &[u8],
+) -> Result<Option<usize>, Fail> {
+    let text = text_of(rt, words, bound, cycles)?;
+    let length = if text.as_slice() == wanted {
+        Some(text.len())
+    } else {
+        None
+    };
+    drop(text);
+    Ok(length)
+}
+
+const ONE_CONFIRMED: &[u8] =
+    b"question 0 length 10 bound 2 cycles 1 confirmed 1\ncycle 0 1 confirmed\n  thread 1 lock 20 holds 10 place 3\n  thread 2 lock 10 holds 20 place 7\n  witness 0 1 2 6\n";
+
+const ONE_POTENTIAL: &[u8] =
+    b"question 0 length 10 bound 2 cycles 1 confirmed 0\ncycle 0 1 potential\n  thread 1 lock 20 holds 10\n  thread 2 lock 10 holds 20\n";
+
+const TWO_CONFIRMED: &[u8] =
+    b"question 0 length 15 bound 3 cycles 2 confirmed 2\ncycle 0 1 confirmed\n  thread 1 lock 20 holds 10 place 4\n  thread 2 lock 10 holds 20 place 8\n  witness 0 1 3 7\ncycle 0 2 confirmed\n  thread 1 lock 20 holds 10 place 4\n  thread 3 lock 10 holds 20 place 12\n  witness 0 1 2 3 11\n";
 
 #[test]
 fn reported_texts(rt: HostRuntime) -> Result<(), Fail> {
-    let text = text_of(&rt, OPPOSITE_ORDERS, 2, &[[0, 1]])?;
-    assert_eq!(rt; text.len(), 160);
-    assert!(rt;
-        text.as_slice()
-            == b"question 0 length 10 bound 2 cycles 1 confirmed 1\ncycle 0 1 confirmed\n  thread 1 lock 20 holds 10 place 3\n  thread 2 lock 10 holds 20 place 7\n  witness 0 1 2 6\n".as_slice()
-    );
-    let text = text_of(&rt, READ_NEEDS_EARLIER_SECTION, 2, &[[0, 1]])?;
-    assert_eq!(rt; text.len(), 126);
-    assert!(rt;
-        text.as_slice()
-            == b"question 0 length 10 bound 2 cycles 1 confirmed 0\ncycle 0 1 potential\n  thread 1 lock 20 holds 10\n  thread 2 lock 10 holds 20\n".as_slice()
-    );
-    let text = text_of(&rt, ONE_ROOT_TWO_CYCLES, 3, &[[0, 1], [0, 2]])?;
-    assert!(rt;
-        text.as_slice()
-            == b"question 0 length 15 bound 3 cycles 2 confirmed 2\ncycle 0 1 confirmed\n  thread 1 lock 20 holds 10 place 4\n  thread 2 lock 10 holds 20 place 8\n  witness 0 1 3 7\ncycle 0 2 confirmed\n  thread 1 lock 20 holds 10 place 4\n  thread 3 lock 10 holds 20 place 12\n  witness 0 1 2 3 11\n".as_slice()
-    );
-    let text = text_of(&rt, "", 2, &[])?;
-    assert_eq!(rt; text.len(), 49);
+    let confirmed = length_if(&rt, OPPOSITE_ORDERS, 2, &[[0, 1]], ONE_CONFIRMED)?;
+    assert_eq!(rt; confirmed, Some(160));
+    let potential = length_if(&rt, READ_NEEDS_EARLIER_SECTION, 2, &[[0, 1]], ONE_POTENTIAL)?;
+    assert_eq!(rt; potential, Some(126));
+    let two = length_if(&rt, ONE_ROOT_TWO_CYCLES, 3, &[[0, 1], [0, 2]], TWO_CONFIRMED)?;
+    assert!(rt; two.is_some());
+    assert_eq!(rt; length_of_text(&rt, "")?, 49);
     Ok(())
 }

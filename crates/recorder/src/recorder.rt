@@ -173,9 +173,16 @@ impl Recorder {
         ensures events { IfOk result (λ shared. arc_value shared ≡ take count self.now.events) }
         ensures copies { copies.new ≤ copies.old + 4096 }
     {
-        let index = self.index.share(count as usize, copies)?;
         let parts = self.tables.share(total, count)?;
-        let snapshot = Snapshot::of(self.state, index, parts);
-        Ok(Arc::new(self.alloc, snapshot)?)
+        match self.index.share(count as usize, copies) {
+            Ok(index) => {
+                let snapshot = Snapshot::of(self.state, index, parts);
+                Ok(Arc::new(self.alloc, snapshot)?)
+            }
+            Err(refused) => {
+                drop(parts);
+                Err(refused)
+            }
+        }
     }
 }

@@ -4,6 +4,7 @@
 mod answering;
 mod asked;
 mod asking;
+mod batching;
 mod book;
 mod delivering;
 mod input;
@@ -14,6 +15,7 @@ mod step;
 pub use answering::{Answer, AnswerRefused, Status};
 pub use asked::Asked;
 pub use asking::{AskRefused, Opened};
+pub use batching::Batched;
 pub use book::{Book, BookRefused, NoSuchQuestion};
 pub use input::{Input, MAX_SESSIONS, Session};
 pub use session::{Delivered, PlayRefused, Played, play};

@@ -222,12 +222,24 @@ fn serve_named<N: Naming + Send + Sync, R: Threads + Wait + Copy + Send + Sync, 
         return Err(ServerFault::NotMade);
     };
     let Ok(desk) = Arc::new(alloc, desk) else {
+        drop(readers);
         return Err(ServerFault::NotMade);
     };
-    let workers = make_workers(alloc, &desk, &mut readers, service.workers)?;
-    let seats = Mutex::new(Seats::new(readers));
-    let most = u64::from(service.sessions);
-    serve_desk(rt, alloc, listener, most, &desk, workers, &seats, hold)
+    let served = match make_workers(alloc, &desk, &mut readers, service.workers) {
+        Ok(workers) => {
+            let seats = Mutex::new(Seats::new(readers));
+            let most = u64::from(service.sessions);
+            let served = serve_desk(rt, alloc, listener, most, &desk, workers, &seats, hold);
+            drop(seats);
+            served
+        }
+        Err(fault) => {
+            drop(readers);
+            Err(fault)
+        }
+    };
+    drop(desk);
+    served
 }
 
 /// Serves the connections of the listener over one desk with its workers: a thread for each session, at most

@@ -3,6 +3,7 @@
 //! what a session asks and is answered, with the bytes of both, and the machine that answers.
 #![tactic(auto)]
 
+mod batch;
 mod bound;
 mod event;
 mod instance;
@@ -14,6 +15,7 @@ mod report;
 mod session;
 mod step;
 
+pub use batch::MAX_BATCH;
 pub use bound::Bound;
 pub use event::{Event, Op};
 pub use instance::Instance;

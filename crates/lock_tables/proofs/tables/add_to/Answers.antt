@@ -1,4 +1,4 @@
-use Rattle.std.proofs.Common.{◌≡◌, ◌++◌, ◌∷◌, [], sym, ap, subst, ◌∙◌}
+use Rattle.std.proofs.Common.{◌≡◌, ◌++◌, ◌∷◌, [], sym, subst, ◌∙◌}
 use Rattle.lock_graph.specs.Graph.{IsGraphOf, holders}
 use Rattle.lock_tables.specs.Tables.{shared_holders}
 use Rattle.lock_tables.proofs.OneFurther.{graph_same, on_ok_then}

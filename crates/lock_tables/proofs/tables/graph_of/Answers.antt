@@ -1,7 +1,7 @@
-use Rattle.std.proofs.Common.{◌≡◌, take, sym, subst, refl, ap, ◌∙◌, arith}
+use Rattle.std.proofs.Common.{take, sym, subst, arith}
 use Rattle.std.specs.Arc.{arc_value}
 use Rattle.dependencies.specs.Tables.{known}
-use Rattle.lock_graph.specs.Graph.{HasGraphOf, IsGraphOf, holders}
+use Rattle.lock_graph.specs.Graph.{HasGraphOf, IsGraphOf}
 use Rattle.lock_tables.specs.Tables.{shared_holders}
 use Rattle.lock_tables.proofs.OneFurther.{graph_same, graph_part}
 use Rattle.lock_tables.proofs.tables.graph_of.Goals as goal

@@ -6,8 +6,8 @@ use Rattle.lock_tables.specs.Tables.{ArePartsOf, CountsBelow}
 use Rattle.recorder.proofs.Beginnings.{dependencies_first}
 use Rattle.recorder.proofs.recorder.Recorder.snapshot.Goals as goal
 
-pub share-requires-2 : goal.share-requires-2
-share-requires-2 g c =
+pub share-requires : goal.share-requires
+share-requires g c =
     let s = c.self.inside.index.events in
     let is : c.args.self.now.events ≡ s = ap (λ (a : Admitted). a.events) (sym c.self.view_is) in
     let within : c.args.count ≤ length s = subst (λ (r : Trace). c.args.count ≤ length r) is c.requires.within in
@@ -24,5 +24,5 @@ of-snapshot-requires g c =
     let total : c.args.total ≡ length (dependencies (take n s)) =
     subst (λ (r : Trace). c.args.total ≡ length (dependencies (take n r))) is c.requires.total in
     let counts : CountsBelow s c.args.total n = record { within = within; counted = total ∙ ap length (dependencies_first s n within) } in
-    subst (ArePartsOf c.in_ok-parts.parts) (sym c.in_ok-index.ensures.index)
+    subst (ArePartsOf c.in_ok-parts.parts) (sym c.in-Ok.ensures.index)
     (c.in_ok-parts.ensures s c.self.invariant.tables_are counts)

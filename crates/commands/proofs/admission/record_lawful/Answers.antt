@@ -5,7 +5,7 @@ use Rattle.trace_model.specs.declared.event.Op.TheVariants.{Fork}
 use Rattle.trace_model.specs.Trace.{Trace}
 use Rattle.trace_model.specs.Lawful.{refusal_of, IsWellFormed}
 use Rattle.trace_model.proofs.Growing.{well_formed_push}
-use Rattle.commands.proofs.admission.admit.Goals as goal
+use Rattle.commands.proofs.admission.record_lawful.Goals as goal
 
 pub returns : goal.returns
 returns c =

@@ -4,13 +4,13 @@ use Rattle.std.proofs.lemmas.Option.{slice_get-get_or}
 use Rattle.trace_model.specs.declared.event.Op.TheVariants.{Fork}
 use Rattle.dependencies.proofs.Shown.{take_next}
 use Rattle.lock_tables.specs.Tables.{FollowTrace}
-use Rattle.lock_tables.proofs.tables.LockTables.of.Goals as goal
+use Rattle.lock_tables.proofs.tables.LockTables.record_all.Goals as goal
 
 pub record-requires-clause-lawful : goal.record-requires-clause-lawful
 record-requires-clause-lawful c =
     let s = c.args.events.now in
     let i = c.loop-event.event-index in
-    (take i s, c.in_ok-reserve.ensures.follow (take i s) c.loop-event.invariant, c.requires i _ (slice_get-get_or s i (record { thread = 0; op = Fork 0 }) c.loop-event-test.true))
+    (take i s, c.in_ok-reserve.ensures.follow (take i s) c.loop-event.invariant, c.requires.lawful i _ (slice_get-get_or s i (record { thread = 0; op = Fork 0 }) c.loop-event-test.true))
 
 pub loop-event-preserved : goal.loop-event-preserved
 loop-event-preserved c =

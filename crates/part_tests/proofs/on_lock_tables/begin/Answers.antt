@@ -9,7 +9,7 @@ use Rattle.trace_model.proofs.Dependencies.{dependencies-agree}
 use Rattle.dependencies.specs.Tables.{known}
 use Rattle.lock_tables.specs.declared.tables.LockTables.{LockTables}
 use Rattle.lock_tables.specs.Tables.{FollowTrace, CountsBelow}
-use Rattle.part_tests.proofs.on_lock_tables.part_of.Goals as goal
+use Rattle.part_tests.proofs.on_lock_tables.begin.Goals as goal
 
 -- how many dependencies there were is how many the first events of a longer trace have
 counts : (all : Trace) (tables : LockTables) (total n m : ℕ) → FollowTrace tables (take n all) → total ≡ length (known tables.dependencies) → n ≤ m → m ≤ length all →
@@ -30,16 +30,8 @@ few all tables total n f is l short =
     let same = ap length f.dependencies.0 in
     Fits-below {w = w32} {m = total} {n = 4294967295} tt (omega arith)
 
-pub overflow_cast-total : goal.overflow_cast-total
-overflow_cast-total c = few c.args.all.now c.grow.new.tables c.len-total.result c.args.events c.in_ok-grow.ensures c.len-total.ensures c.requires.within c.requires.short
+pub overflow_cast-result : goal.overflow_cast-result
+overflow_cast-result c = few c.args.all.now c.grow.new.tables c.len.result c.args.events c.in_ok-grow.ensures c.len.ensures c.requires.within c.requires.short
 
-pub share-requires : goal.share-requires
-share-requires c =
-    let all = c.args.all.now in
-    (take (length all) all, c.in_ok-grow-2.ensures, counts all c.grow.new.tables c.len-total.result c.args.events (length all) c.in_ok-grow.ensures c.len-total.ensures c.requires.within (omega arith))
-
-pub returns-then-late : goal.returns-then-late
-returns-then-late c =
-    let all = c.args.all.now in
-    (c.in_ok-share.ensures (take (length all) all) c.in_ok-grow-2.ensures
-    (counts all c.grow.new.tables c.len-total.result c.args.events (length all) c.in_ok-grow.ensures c.len-total.ensures c.requires.within (omega arith))).graph.ascends
+pub returns-clause-total : goal.returns-clause-total
+returns-clause-total c = λ m l within. counts c.args.all.now c.grow.new.tables c.len.result c.args.events m c.in_ok-grow.ensures c.len.ensures l within

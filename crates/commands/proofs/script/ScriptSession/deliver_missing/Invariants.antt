@@ -1,5 +1,5 @@
 use Rattle.sequencer.specs.Book.{AreKnown}
-use Rattle.commands.proofs.script.ScriptSession.work.Given as goal
+use Rattle.commands.proofs.script.ScriptSession.deliver_missing.Given as goal
 
 -- the job's events stay those that the question is about
 abbrev pub invariant-loop-worked : goal.invariant-loop-worked

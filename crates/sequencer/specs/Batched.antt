@@ -1,0 +1,22 @@
+-- What becomes of events that are offered at once.
+use Rattle.std.specs.Prelude.{◌≡◌, ◌≤◌, List, length, take, slice_get, Option, Some, None}
+use Rattle.trace_model.specs.declared.event.Event.{Event}
+use Rattle.trace_model.specs.declared.refusal.Refusal.{Refusal}
+use Rattle.trace_model.specs.Batches.{AreLawful, with_events}
+use Rattle.trace_model.specs.Machine.{State}
+use Rattle.sequencer.specs.Book.{RefusesOffer}
+use Rattle.sequencer.specs.declared.batching.Batched.{Batched}
+
+-- no event is left and none is refused, or the next one is, by the machine or for want of memory
+abbrev pub EndsBatch : State → Option Event → Option Refusal → Type 0
+EndsBatch s None None = Unit {0}
+EndsBatch s (Some e) (Some r) = RefusesOffer s e r
+EndsBatch s _ _ = ⊥
+
+-- so many of the events, from the first on, came in, each lawful after those before it, and why not the next one
+pub record IsBatched (s : State) (events : List Event) (batched : Batched) (after : State) : Type 0 where
+  pub first : batched.length ≡ length s.accepted
+  pub within : batched.accepted ≤ length events
+  pub lawful : AreLawful s.limit s.accepted (take batched.accepted events)
+  pub appended : after ≡ with_events s (take batched.accepted events)
+  pub ended : EndsBatch after (slice_get events batched.accepted) batched.refusal
