@@ -9,6 +9,7 @@ use cycle_search::{Cycle, Ranks, SearchRefused, cycles_from, cycles_within};
 use lock_tables::{LockParts, LockTables};
 use std::alloc::Global;
 use std::hash::RandomState;
+use std::io::{self, Write};
 use std::test::Fail;
 use trace_model::{Bound, Event, NoMemory, Op};
 use wellformed::Gate;
@@ -32,31 +33,24 @@ fn tables_of(rt: &HostRuntime, events: &[Event]) -> Result<LockParts, Fail>
     parts
 }
 
-fn push_number(text: &mut String, alloc: Global, number: u32) -> Result<(), NoMemory> {
-    let word = format!(in alloc; "{number} ")?;
-    let pushed = text.push_str(word.as_str());
-    drop(word);
-    Ok(pushed?)
-}
-
-fn push_cycle(text: &mut String, alloc: Global, cycle: &Cycle) -> Result<(), NoMemory> {
+fn push_cycle(text: &mut Vec<u8>, cycle: &Cycle) -> io::Result<()> {
     for number in cycle.numbers() {
-        push_number(text, alloc, *number)?;
+        write!(text, "{number} ")?;
     }
-    Ok(text.push_str(";")?)
+    write!(text, ";")
 }
 
 /// Adds the numbers of these cycles as a line.
-fn push_cycles(text: &mut String, alloc: Global, cycles: &[Cycle]) -> Result<(), NoMemory> {
+fn push_cycles(text: &mut Vec<u8>, cycles: &[Cycle]) -> io::Result<()> {
     for cycle in cycles {
-        push_cycle(text, alloc, cycle)?;
+        push_cycle(text, cycle)?;
     }
-    Ok(text.push_str("\n")?)
+    writeln!(text)
 }
 
 /// Adds a line for each root.
 fn push_roots(
-    text: &mut String,
+    text: &mut Vec<u8>,
     alloc: Global,
     parts: &LockParts,
     ranks: &Ranks,
@@ -68,7 +62,7 @@ fn push_roots(
     let table = &parts.dependencies;
     for root in 0..table.len() {
         let found = cycles_from(alloc, table, &parts.graph, ranks, root as u32, bound)?;
-        let pushed = push_cycles(text, alloc, &found);
+        let pushed = push_cycles(text, &found);
         drop(found);
         pushed?;
     }
@@ -83,22 +77,16 @@ fn ranks_of(alloc: Global, state: RandomState, parts: &LockParts) -> Result<Rank
     Ranks::new(alloc, state, &parts.dependencies, &parts.graph)
 }
 
-fn text_with(
-    alloc: Global,
-    parts: &LockParts,
-    ranks: &Ranks,
-    bound: u8,
-) -> Result<String, Fail>
+fn text_with(alloc: Global, parts: &LockParts, ranks: &Ranks, bound: Bound) -> Result<Vec<u8>, Fail>
     requires graph { HasGraphOf (known parts.now.dependencies) (arc_value parts.now.graph) }
     requires ranks { AreRanks (known parts.now.dependencies) ranks.now }
 {
-    let bound = Bound::new(bound).ok_or("no bound")?;
-    let mut text = String::new(alloc);
+    let mut text = Vec::new(alloc);
     let pushed = push_roots(&mut text, alloc, parts, ranks, bound);
     kept_if(pushed, text)
 }
 
-fn text_of(rt: &HostRuntime, parts: &LockParts, bound: u8) -> Result<String, Fail>
+fn text_of(rt: &HostRuntime, parts: &LockParts, bound: Bound) -> Result<Vec<u8>, Fail>
     requires { HasGraphOf (known parts.now.dependencies) (arc_value parts.now.graph) }
 {
     let ranks = ranks_of(rt.alloc(), RandomState::new(rt)?, parts)?;
@@ -108,7 +96,8 @@ fn text_of(rt: &HostRuntime, parts: &LockParts, bound: u8) -> Result<String, Fai
 }
 
 /// The cycles of a trace as text, those of each root on a line.
-fn cycles(rt: &HostRuntime, events: &[Event], bound: u8) -> Result<String, Fail> {
+fn cycles(rt: &HostRuntime, events: &[Event], bound: u8) -> Result<Vec<u8>, Fail> {
+    let bound = Bound::new(bound).ok_or("no bound")?;
     let parts = tables_of(rt, events)?;
     let text = text_of(rt, &parts, bound);
     drop(parts);
@@ -128,140 +117,142 @@ fn nested(events: &mut Vec<Event>, thread: u32, outer: u32, inner: u32) -> Resul
     Ok(())
 }
 
-/// A section of a thread: the thread, its outer and its inner lock.
-type Nesting = (u32, u32, u32);
+/// Some sections of a thread.
+#[derive(Clone, Copy)]
+enum Sections {
+    /// On an outer lock with an inner one in it.
+    Nested(u32, u32, u32),
+    /// On a gate lock with such a section in it.
+    Gated(u32, u32, u32, u32),
+    /// On an outer lock with one inner lock in it, for each of so many inner locks from the first on.
+    Many(u32, u32, u32, u32),
+    /// Of the threads 1 to 8, which take each pair of twelve locks in one order, from a first lock on.
+    OneOrder(u32),
+}
 
-fn push_sections(events: &mut Vec<Event>, nestings: &[Nesting]) -> Result<(), NoMemory> {
-    for nesting in nestings {
-        let (thread, outer, inner) = *nesting;
-        nested(events, thread, outer, inner)?;
+use Sections::{Gated, Many, Nested, OneOrder};
+
+fn gated(
+    events: &mut Vec<Event>,
+    thread: u32,
+    gate: u32,
+    (outer, inner): (u32, u32),
+) -> Result<(), NoMemory> {
+    let op = Op::Acquire(gate);
+    events.push(Event { thread, op })?;
+    nested(events, thread, outer, inner)?;
+    let op = Op::Release(gate);
+    Ok(events.push(Event { thread, op })?)
+}
+
+fn many_nested(
+    events: &mut Vec<Event>,
+    thread: u32,
+    outer: u32,
+    (first, many): (u32, u32),
+) -> Result<(), NoMemory> {
+    for number in 0..many {
+        nested(events, thread, outer, first.wrapping_add(number))?;
     }
     Ok(())
 }
 
-/// The trace of these sections.
-fn sections(alloc: Global, nestings: &[Nesting]) -> Result<Vec<Event>, NoMemory> {
-    let mut events = Vec::new(alloc);
-    let pushed = push_sections(&mut events, nestings);
-    kept_if(pushed, events)
-}
-
-/// Whether the cycles of the trace are told by this text.
-fn tells(rt: &HostRuntime, events: &[Event], bound: u8, wanted: &str) -> Result<bool, Fail> {
-    let text = cycles(rt, events, bound)?;
-    let told = text.as_str() == wanted;
-    drop(text);
-    Ok(told)
-}
-
-/// The same, of the trace of these sections.
-fn tells_of(
-    rt: &HostRuntime,
-    nestings: &[Nesting],
-    bound: u8,
-    wanted: &str,
-) -> Result<bool, Fail> {
-    let events = sections(rt.alloc(), nestings)?;
-    let told = tells(rt, &events, bound, wanted);
-    drop(events);
-    told
-}
-
-#[test]
-fn one_root_two_cycles(rt: HostRuntime) -> Result<(), Fail> {
-    let nestings = [(1, 10, 20), (2, 20, 10), (3, 20, 10)];
-    assert!(rt; tells_of(&rt, &nestings, 3, "0 1 ;0 2 ;\n\n\n")?);
-    Ok(())
-}
-
-#[test]
-fn opposite_orders(rt: HostRuntime) -> Result<(), Fail> {
-    let nestings = [(1, 10, 20), (2, 20, 10)];
-    assert!(rt; tells_of(&rt, &nestings, 2, "0 1 ;\n\n")?);
-    Ok(())
-}
-
-/// A section on lock 5 with one on the outer lock in it, and in that one on the inner lock.
-fn gated(events: &mut Vec<Event>, thread: u32, outer: u32, inner: u32) -> Result<(), NoMemory> {
-    events.push(Event {
-        thread,
-        op: Op::Acquire(5),
-    })?;
-    nested(events, thread, outer, inner)?;
-    events.push(Event {
-        thread,
-        op: Op::Release(5),
-    })?;
-    Ok(())
-}
-
-fn both_gated(events: &mut Vec<Event>) -> Result<(), NoMemory> {
-    gated(events, 1, 10, 20)?;
-    gated(events, 2, 20, 10)
-}
-
-#[test]
-fn gate_lock(rt: HostRuntime) -> Result<(), Fail> {
-    let mut events = Vec::new(rt.alloc());
-    let pushed = both_gated(&mut events);
-    let events = kept_if(pushed, events)?;
-    let told = tells(&rt, &events, 2, "\n\n\n\n");
-    drop(events);
-    assert!(rt; told?);
-    Ok(())
-}
-
-#[test]
-fn three_locks(rt: HostRuntime) -> Result<(), Fail> {
-    let nestings = [(1, 10, 20), (2, 20, 30), (3, 30, 10)];
-    assert!(rt; tells_of(&rt, &nestings, 2, "\n\n\n")?);
-    assert!(rt; tells_of(&rt, &nestings, 3, "0 1 2 ;\n\n\n")?);
-    Ok(())
-}
-
-#[test]
-fn one_thread_no_cycle(rt: HostRuntime) -> Result<(), Fail> {
-    let nestings = [(0, 10, 20), (0, 20, 10)];
-    assert!(rt; tells_of(&rt, &nestings, 2, "\n\n")?);
-    Ok(())
-}
-
-/// Eight threads that take each pair of twelve locks in one order, from a first lock on.
 fn one_order(events: &mut Vec<Event>, first: u32) -> Result<(), NoMemory> {
     for thread in 1..9u32 {
-        for outer in 0..12u32 {
-            for inner in outer + 1..12 {
-                nested(
-                    events,
-                    thread,
-                    first.wrapping_add(outer),
-                    first.wrapping_add(inner),
-                )?;
-            }
+        for number in 0..12u32 {
+            let outer = first.wrapping_add(number);
+            many_nested(events, thread, outer, (outer.wrapping_add(1), 11 - number))?;
         }
     }
     Ok(())
 }
 
-/// Whether the cycles of the trace are told by so many bytes, which begin and end with these.
-fn tells_from_to(
-    rt: &HostRuntime,
-    events: &[Event],
-    bound: u8,
-    length: usize,
-    (first, last): (&str, &str),
-) -> Result<bool, Fail> {
-    let text = cycles(rt, events, bound)?;
-    let bytes = text.as_bytes();
-    let told = bytes.len() == length
-        && bytes.starts_with(first.as_bytes())
-        && bytes.ends_with(last.as_bytes());
+fn push_sections(events: &mut Vec<Event>, all: &[Sections]) -> Result<(), NoMemory> {
+    for sections in all {
+        match *sections {
+            Nested(thread, outer, inner) => nested(events, thread, outer, inner)?,
+            Gated(thread, gate, outer, inner) => gated(events, thread, gate, (outer, inner))?,
+            Many(thread, outer, first, many) => many_nested(events, thread, outer, (first, many))?,
+            OneOrder(first) => one_order(events, first)?,
+        }
+    }
+    Ok(())
+}
+
+/// The trace of these sections.
+fn trace_of(alloc: Global, all: &[Sections]) -> Result<Vec<Event>, NoMemory> {
+    let mut events = Vec::new(alloc);
+    let pushed = push_sections(&mut events, all);
+    kept_if(pushed, events)
+}
+
+/// The cycles of the trace of these sections as text.
+fn cycles_of(rt: &HostRuntime, all: &[Sections], bound: u8) -> Result<Vec<u8>, Fail> {
+    let events = trace_of(rt.alloc(), all)?;
+    let text = cycles(rt, &events, bound);
+    drop(events);
+    text
+}
+
+/// Whether the cycles of the trace of these sections are told by this text.
+fn tells(rt: &HostRuntime, all: &[Sections], bound: u8, wanted: &[u8]) -> Result<bool, Fail> {
+    let text = cycles_of(rt, all, bound)?;
+    let told = text.as_slice() == wanted;
     drop(text);
     Ok(told)
 }
 
-fn are_newlines(text: &str) -> bool {
-    for byte in text.as_bytes() {
+#[test]
+fn one_root_two_cycles(rt: HostRuntime) -> Result<(), Fail> {
+    let all = [Nested(1, 10, 20), Nested(2, 20, 10), Nested(3, 20, 10)];
+    assert!(rt; tells(&rt, &all, 3, b"0 1 ;0 2 ;\n\n\n")?);
+    Ok(())
+}
+
+#[test]
+fn opposite_orders(rt: HostRuntime) -> Result<(), Fail> {
+    let all = [Nested(1, 10, 20), Nested(2, 20, 10)];
+    assert!(rt; tells(&rt, &all, 2, b"0 1 ;\n\n")?);
+    Ok(())
+}
+
+#[test]
+fn gate_lock(rt: HostRuntime) -> Result<(), Fail> {
+    let all = [Gated(1, 5, 10, 20), Gated(2, 5, 20, 10)];
+    assert!(rt; tells(&rt, &all, 2, b"\n\n\n\n")?);
+    Ok(())
+}
+
+#[test]
+fn three_locks(rt: HostRuntime) -> Result<(), Fail> {
+    let all = [Nested(1, 10, 20), Nested(2, 20, 30), Nested(3, 30, 10)];
+    assert!(rt; tells(&rt, &all, 2, b"\n\n\n")?);
+    assert!(rt; tells(&rt, &all, 3, b"0 1 2 ;\n\n\n")?);
+    Ok(())
+}
+
+#[test]
+fn one_thread_no_cycle(rt: HostRuntime) -> Result<(), Fail> {
+    let all = [Nested(0, 10, 20), Nested(0, 20, 10)];
+    assert!(rt; tells(&rt, &all, 2, b"\n\n")?);
+    Ok(())
+}
+
+/// Whether the cycles of the trace of these sections are told by so many bytes, which begin and end with these.
+fn tells_from_to(
+    rt: &HostRuntime,
+    all: &[Sections],
+    bound: u8,
+    (length, first, last): (usize, &[u8], &[u8]),
+) -> Result<bool, Fail> {
+    let text = cycles_of(rt, all, bound)?;
+    let told = text.len() == length && text.starts_with(first) && text.ends_with(last);
+    drop(text);
+    Ok(told)
+}
+
+fn are_newlines(text: &[u8]) -> bool {
+    for byte in text {
         if *byte != b'\n' {
             return false;
         }
@@ -269,46 +260,30 @@ fn are_newlines(text: &str) -> bool {
     true
 }
 
-/// Whether the trace has no cycle and so many roots.
-fn has_no_cycle(
-    rt: &HostRuntime,
-    events: &[Event],
-    bound: u8,
-    roots: usize,
-) -> Result<bool, Fail> {
-    let text = cycles(rt, events, bound)?;
-    let has_none = text.len() == roots && are_newlines(text.as_str());
-    drop(text);
-    Ok(has_none)
-}
-
 #[test]
 fn one_consistent_order(rt: HostRuntime) -> Result<(), Fail> {
-    let mut events = Vec::new(rt.alloc());
-    let pushed = one_order(&mut events, 10);
-    let events = kept_if(pushed, events)?;
-    let told = has_no_cycle(&rt, &events, 8, 528);
-    drop(events);
-    assert!(rt; told?);
+    let text = cycles_of(&rt, &[OneOrder(10)], 8)?;
+    let has_no_cycle = text.len() == 528 && are_newlines(&text);
+    drop(text);
+    assert!(rt; has_no_cycle);
     Ok(())
 }
 
-fn push_two_cycles(events: &mut Vec<Event>) -> Result<(), NoMemory> {
-    push_sections(events, &[(1, 1, 2), (2, 2, 1), (1, 2, 10), (1, 21, 30)])?;
-    one_order(events, 10)?;
-    push_sections(events, &[(1, 30, 31), (2, 31, 30)])
-}
+const TWO_CYCLES: [Sections; 7] = [
+    Nested(1, 1, 2),
+    Nested(2, 2, 1),
+    Nested(1, 2, 10),
+    Nested(1, 21, 30),
+    OneOrder(10),
+    Nested(1, 30, 31),
+    Nested(2, 31, 30),
+];
 
 /// Between two cycles stands a part without one.
 #[test]
 fn one_order_between_two_cycles(rt: HostRuntime) -> Result<(), Fail> {
-    let mut events = Vec::new(rt.alloc());
-    let pushed = push_two_cycles(&mut events);
-    let events = kept_if(pushed, events)?;
-    let ends = ("0 1 ;\n", "532 533 ;\n\n");
-    let told = tells_from_to(&rt, &events, 8, 534 + 14, ends);
-    drop(events);
-    assert!(rt; told?);
+    let text: (usize, &[u8], &[u8]) = (534 + 14, b"0 1 ;\n", b"532 533 ;\n\n");
+    assert!(rt; tells_from_to(&rt, &TWO_CYCLES, 8, text)?);
     Ok(())
 }
 
@@ -348,10 +323,14 @@ fn refusal(
     cycles_within(alloc, table, &parts.graph, ranks, 0, bound, most).err()
 }
 
-fn refusal_in(rt: &HostRuntime, parts: &LockParts, most: usize) -> Result<Option<SearchRefused>, Fail>
+fn refusal_in(
+    rt: &HostRuntime,
+    parts: &LockParts,
+    bound: Bound,
+    most: usize,
+) -> Result<Option<SearchRefused>, Fail>
     requires { HasGraphOf (known parts.now.dependencies) (arc_value parts.now.graph) }
 {
-    let bound = Bound::new(2).ok_or("no bound")?;
     let ranks = ranks_of(rt.alloc(), RandomState::new(rt)?, parts)?;
     let refused = refusal(rt.alloc(), parts, &ranks, bound, most);
     drop(ranks);
@@ -359,28 +338,35 @@ fn refusal_in(rt: &HostRuntime, parts: &LockParts, most: usize) -> Result<Option
 }
 
 /// The dependencies of the trace of these sections, and their graph.
-fn tables_of_sections(rt: &HostRuntime, nestings: &[Nesting]) -> Result<LockParts, Fail>
+fn tables_of_sections(rt: &HostRuntime, all: &[Sections]) -> Result<LockParts, Fail>
     ensures { IfOk result (λ parts. HasGraphOf (known parts.dependencies) (arc_value parts.graph)) }
 {
-    let events = sections(rt.alloc(), nestings)?;
+    let events = trace_of(rt.alloc(), all)?;
     let parts = tables_of(rt, &events);
     drop(events);
     parts
 }
 
+const THREE_CYCLES: [Sections; 4] = [
+    Nested(1, 10, 20),
+    Nested(2, 20, 10),
+    Nested(3, 20, 10),
+    Nested(4, 20, 10),
+];
+
 /// The same, where there are three.
 fn refused_within(rt: &HostRuntime, most: usize) -> Result<Option<SearchRefused>, Fail> {
-    let nestings = [(1, 10, 20), (2, 20, 10), (3, 20, 10), (4, 20, 10)];
-    let parts = tables_of_sections(rt, &nestings)?;
-    let refused = refusal_in(rt, &parts, most);
+    let bound = Bound::new(2).ok_or("no bound")?;
+    let parts = tables_of_sections(rt, &THREE_CYCLES)?;
+    let refused = refusal_in(rt, &parts, bound, most);
     drop(parts);
     refused
 }
 
 #[test]
 fn too_many_cycles_are_refused(rt: HostRuntime) -> Result<(), Fail> {
-    assert_eq!(rt; refused_within(&rt, 2)?, Some(SearchRefused::TooMany));
-    assert_eq!(rt; refused_within(&rt, 3)?, None);
+    assert!(rt; refused_within(&rt, 2)? == Some(SearchRefused::TooMany));
+    assert!(rt; refused_within(&rt, 3)?.is_none());
     Ok(())
 }
 
@@ -398,8 +384,8 @@ fn are_equal(rt: &HostRuntime, parts: &LockParts) -> Result<Option<bool>, Fail>
 }
 
 /// The same, of the trace of these sections.
-fn have_one_rank(rt: &HostRuntime, nestings: &[Nesting]) -> Result<Option<bool>, Fail> {
-    let parts = tables_of_sections(rt, nestings)?;
+fn have_one_rank(rt: &HostRuntime, all: &[Sections]) -> Result<Option<bool>, Fail> {
+    let parts = tables_of_sections(rt, all)?;
     let equal = are_equal(rt, &parts);
     drop(parts);
     equal
@@ -407,92 +393,50 @@ fn have_one_rank(rt: &HostRuntime, nestings: &[Nesting]) -> Result<Option<bool>,
 
 #[test]
 fn ranks_part_locks_of_one_order(rt: HostRuntime) -> Result<(), Fail> {
-    let one_order = have_one_rank(&rt, &[(1, 10, 20), (2, 20, 30)])?;
-    assert_eq!(rt; one_order, Some(false));
-    let opposite = have_one_rank(&rt, &[(1, 10, 20), (2, 20, 10)])?;
-    assert_eq!(rt; opposite, Some(true));
+    let one_order = have_one_rank(&rt, &[Nested(1, 10, 20), Nested(2, 20, 30)])?;
+    let opposite = have_one_rank(&rt, &[Nested(1, 10, 20), Nested(2, 20, 10)])?;
+    assert!(rt; one_order == Some(false) && opposite == Some(true));
     Ok(())
 }
 
-/// Sections of the thread on the outer lock, one for each of the inner locks from the first on.
-fn many_nested(
-    events: &mut Vec<Event>,
-    thread: u32,
-    outer: u32,
-    first: u32,
-    many: u32,
-) -> Result<(), NoMemory> {
-    for number in 0..many {
-        nested(events, thread, outer, first.wrapping_add(number))?;
-    }
-    Ok(())
-}
-
-/// A section of thread 1 on the locks 1, 2 and 10, each in the one before.
-fn held_two(events: &mut Vec<Event>) -> Result<(), NoMemory> {
-    for op in [Op::Acquire(1), Op::Acquire(2), Op::Acquire(10)] {
-        events.push(Event { thread: 1, op })?;
-    }
-    for op in [Op::Release(10), Op::Release(2), Op::Release(1)] {
-        events.push(Event { thread: 1, op })?;
-    }
-    Ok(())
-}
-
-fn push_few_second(events: &mut Vec<Event>) -> Result<(), NoMemory> {
-    held_two(events)?;
-    many_nested(events, 2, 10, 100, 20)?;
-    nested(events, 2, 10, 1)?;
-    many_nested(events, 2, 10, 200, 20)?;
-    push_sections(events, &[(3, 10, 2), (2, 10, 2)])?;
-    many_nested(events, 2, 10, 300, 20)?;
-    nested(events, 3, 10, 1)
-}
-
-/// With the bounds 2 and 3 the same cycles are found.
-fn finds_few_second(rt: &HostRuntime, events: &[Event]) -> Result<bool, Fail> {
-    let ends = ("\n1 22 ;1 43 ;1 44 ;1 65 ;\n\n", "");
-    let with_two = tells_from_to(rt, events, 2, 66 + 24, ends)?;
-    let with_three = tells_from_to(rt, events, 3, 66 + 24, ends)?;
-    Ok(with_two && with_three)
-}
+// Thread 1 first takes the locks 1, 2 and 10, each in the one before.
+const FEW_SECOND: [Sections; 8] = [
+    Gated(1, 1, 2, 10),
+    Many(2, 10, 100, 20),
+    Nested(2, 10, 1),
+    Many(2, 10, 200, 20),
+    Nested(3, 10, 2),
+    Nested(2, 10, 2),
+    Many(2, 10, 300, 20),
+    Nested(3, 10, 1),
+];
 
 /// Many hold the lock 10 that the root takes, and few take one of the two that it holds.
 #[test]
 fn few_second_members_among_many(rt: HostRuntime) -> Result<(), Fail> {
-    let mut events = Vec::new(rt.alloc());
-    let pushed = push_few_second(&mut events);
-    let events = kept_if(pushed, events)?;
-    let found = finds_few_second(&rt, &events);
-    drop(events);
-    assert!(rt; found?);
+    let text: (usize, &[u8], &[u8]) = (66 + 24, b"\n1 22 ;1 43 ;1 44 ;1 65 ;\n\n", b"");
+    assert!(rt; tells_from_to(&rt, &FEW_SECOND, 2, text)?);
+    assert!(rt; tells_from_to(&rt, &FEW_SECOND, 3, text)?);
     Ok(())
 }
 
-fn push_few_third(events: &mut Vec<Event>) -> Result<(), NoMemory> {
-    held_two(events)?;
-    nested(events, 2, 10, 11)?;
-    many_nested(events, 3, 11, 100, 30)?;
-    push_sections(events, &[(4, 11, 1), (3, 11, 2), (5, 99, 1), (2, 11, 2)])?;
-    many_nested(events, 3, 11, 200, 30)?;
-    nested(events, 4, 11, 2)
-}
-
-fn finds_few_third(rt: &HostRuntime, events: &[Event]) -> Result<bool, Fail> {
-    let ends = ("\n1 2 33 ;1 2 34 ;1 2 67 ;\n\n", "");
-    let with_three = tells_from_to(rt, events, 3, 68 + 24, ends)?;
-    let with_two = tells_from_to(rt, events, 2, 68, ("", ""))?;
-    Ok(with_three && with_two)
-}
+const FEW_THIRD: [Sections; 9] = [
+    Gated(1, 1, 2, 10),
+    Nested(2, 10, 11),
+    Many(3, 11, 100, 30),
+    Nested(4, 11, 1),
+    Nested(3, 11, 2),
+    Nested(5, 99, 1),
+    Nested(2, 11, 2),
+    Many(3, 11, 200, 30),
+    Nested(4, 11, 2),
+];
 
 /// Many hold the lock 11 that the second member takes; two that take a lock of the root make no cycle.
 #[test]
 fn few_third_members_among_many(rt: HostRuntime) -> Result<(), Fail> {
-    let mut events = Vec::new(rt.alloc());
-    let pushed = push_few_third(&mut events);
-    let events = kept_if(pushed, events)?;
-    let found = finds_few_third(&rt, &events);
-    drop(events);
-    assert!(rt; found?);
+    let text: (usize, &[u8], &[u8]) = (68 + 24, b"\n1 2 33 ;1 2 34 ;1 2 67 ;\n\n", b"");
+    assert!(rt; tells_from_to(&rt, &FEW_THIRD, 3, text)?);
+    assert!(rt; tells_from_to(&rt, &FEW_THIRD, 2, (68, b"", b""))?);
     Ok(())
 }

@@ -20,11 +20,7 @@ fn fault_of(alloc: Global, bytes: &[u8], ended: bool) -> Result<Option<Fault>, N
     fault
 }
 
-fn fault_at(
-    reader: &mut FrameReader,
-    bytes: &[u8],
-    ended: bool,
-) -> Result<Option<Fault>, NoMemory>
+fn fault_at(reader: &mut FrameReader, bytes: &[u8], ended: bool) -> Result<Option<Fault>, NoMemory>
     requires { reader.old.ended ≡ false }
 {
     reader.feed(bytes)?;
@@ -121,7 +117,10 @@ fn faults_of_frames(rt: HostRuntime) -> Result<(), Fail> {
         (&[], true, None),
     ];
     for (bytes, ended, fault) in table {
-        assert!(rt; fault_of(rt.alloc(), bytes, ended)? == fault, "of {bytes:?}");
+        assert!(rt;
+            fault_of(rt.alloc(), bytes, ended)? == fault,
+            "of {bytes:?}"
+        );
     }
     Ok(())
 }

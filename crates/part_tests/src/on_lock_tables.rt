@@ -58,11 +58,7 @@ fn part_late(tables: &mut LockTables, all: &[Event], events: usize) -> Result<Lo
 }
 
 /// The part of the first events, shared as soon as these have come.
-fn part_early(
-    tables: &mut LockTables,
-    all: &[Event],
-    events: usize,
-) -> Result<LockParts, NoMemory>
+fn part_early(tables: &mut LockTables, all: &[Event], events: usize) -> Result<LockParts, NoMemory>
     requires well_formed { IsWellFormed all.now }
     requires short { length all.now ≤ MAX_EVENTS }
     requires within { events ≤ length all.now }
@@ -175,10 +171,7 @@ fn shares(
     Ok(())
 }
 
-fn shares_all(
-    rt: &(impl RandomSource + AllocGlobal + Abort),
-    all: &[Event],
-) -> Result<(), Fail>
+fn shares_all(rt: &(impl RandomSource + AllocGlobal + Abort), all: &[Event]) -> Result<(), Fail>
     requires well_formed { IsWellFormed all.now }
     requires short { length all.now ≤ MAX_EVENTS }
 {

@@ -7,9 +7,8 @@ use crate::traces::{empty_gate, gate_of, kept_if, offer};
 use std::collections::hash_map::RandomState;
 use std::marker::Brand;
 use std::process::Abort;
-use std::random::RandomSource;
 use std::sync::ledger::{Blank, Ledger};
-use std::test::*;
+use std::test::Fail;
 use trace_index::{Copies, PlacesOf, TraceIndex};
 use trace_model::{Event, NoMemory, Op, Place};
 use wellformed::Gate;
@@ -19,7 +18,7 @@ use wellformed::Gate;
 const LATER_INSTANCE: &str = "0f1 0f2 1a10 1a20 1r20 1r10 1w7 2d7 2a20 2a10 2r10 2r20 1a10 1a20";
 
 /// An index of what passed the gate.
-fn index_at(rt: &(impl RandomSource + AllocGlobal), gate: &Gate) -> Result<TraceIndex, Fail>
+fn index_at(rt: &HostRuntime, gate: &Gate) -> Result<TraceIndex, Fail>
     ensures { IfOk result (λ index. index.events ≡ gate.now.events) }
 {
     let state = RandomState::new(rt)?;
@@ -255,21 +254,22 @@ fn are_every_fourth(places: PlacesOf<'_>, first: u32, count: usize) -> bool {
     true
 }
 
+fn looks_up_all(index: &TraceIndex, len: u32) -> bool {
+    for looked in &LOOKED {
+        if !looks_up(index, len, *looked) {
+            return false;
+        }
+    }
+    true
+}
+
 /// All look-ups of an index of the first `len` events; `writes` are thread 1's places, `sections` those of
 /// lock 7.
-fn is_index_of_first(
-    rt: &impl Abort,
-    index: &TraceIndex,
-    len: u32,
-    writes: usize,
-    sections: usize,
-) {
-    assert_eq!(rt; index.len(), len as usize);
-    for looked in LOOKED {
-        assert!(rt; looks_up(index, len, looked), "at {} of {len}", looked.0);
-    }
-    assert!(rt; are_every_fourth(index.thread_places(1), 1, writes), "{writes} of {len}");
-    assert!(rt; are_every_fourth(index.acquires(7), 3, sections), "{sections} of {len}");
+fn is_index_of_first(index: &TraceIndex, len: u32, writes: usize, sections: usize) -> bool {
+    index.len() == len as usize
+        && looks_up_all(index, len)
+        && are_every_fourth(index.thread_places(1), 1, writes)
+        && are_every_fourth(index.acquires(7), 3, sections)
 }
 
 /// The first events of an index, shared.
@@ -341,22 +341,19 @@ fn long_index(rt: &HostRuntime) -> Result<TraceIndex, Fail> {
     index
 }
 
-fn is_shared(
-    rt: &impl Abort,
-    index: &TraceIndex,
-    lengths: (u32, usize, usize),
-) -> Result<(), NoMemory> {
+/// Whether the first events are shared: so many, with so many places of thread 1 and acquires of lock 7.
+fn is_shared(index: &TraceIndex, lengths: (u32, usize, usize)) -> Result<bool, NoMemory> {
     let (len, writes, sections) = lengths;
     let within = (len as usize).min(index.len());
     let part = shared::<Brand>(index, within, Blank::new(1))?;
-    is_index_of_first(rt, &part, len, writes, sections);
+    let is_index = is_index_of_first(&part, len, writes, sections);
     drop(part);
-    Ok(())
+    Ok(is_index)
 }
 
 fn are_shared(rt: &impl Abort, index: &TraceIndex) -> Result<(), NoMemory> {
     for lengths in SHARED {
-        is_shared(rt, index, lengths)?;
+        assert!(rt; is_shared(index, lengths)?, "the first {}", lengths.0);
     }
     Ok(())
 }
@@ -369,21 +366,21 @@ fn first_events_are_shared(rt: HostRuntime) -> Result<(), Fail> {
     Ok(shared?)
 }
 
-/// The first 4,095 events are shared, and then grow to all of these.
-fn shares_and_grows(rt: &impl Abort, index: &TraceIndex, events: &[Event]) -> Result<(), NoMemory>
+/// Whether the first 4,095 events are shared, and then grow to all of these.
+fn shares_and_grows(index: &TraceIndex, events: &[Event]) -> Result<bool, NoMemory>
     requires trace { IsWellFormed events.now }
     requires same { index.now.events ≡ events.now }
 {
     let within = 4095.min(events.len());
     let grown = shared_and_grown::<Brand>(index, events, within, Blank::new(1))?;
-    is_index_of_first(rt, &grown, LENGTH, 2250, 2250);
+    let is_index = is_index_of_first(&grown, LENGTH, 2250, 2250);
     drop(grown);
-    Ok(())
+    Ok(is_index)
 }
 
-fn grows(rt: &(impl RandomSource + AllocGlobal + Abort), gate: &Gate) -> Result<(), Fail> {
+fn grows(rt: &HostRuntime, gate: &Gate) -> Result<bool, Fail> {
     let index = index_at(rt, gate)?;
-    let grown = shares_and_grows(rt, &index, gate.events());
+    let grown = shares_and_grows(&index, gate.events());
     drop(index);
     Ok(grown?)
 }
@@ -393,5 +390,6 @@ fn a_shared_index_grows(rt: HostRuntime) -> Result<(), Fail> {
     let gate = long_gate(&rt)?;
     let grown = grows(&rt, &gate);
     drop(gate);
-    grown
+    assert!(rt; grown?);
+    Ok(())
 }

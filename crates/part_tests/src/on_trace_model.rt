@@ -29,9 +29,9 @@ const NAMES: [(u8, &str); 23] = [
 
 /// The name that the table has for the number.
 fn listed_name(number: u8) -> Option<&'static str> {
-    for (listed, name) in NAMES {
-        if listed == number {
-            return Some(name);
+    for (listed, name) in &NAMES {
+        if *listed == number {
+            return Some(*name);
         }
     }
     None
@@ -49,10 +49,8 @@ fn each_number_has_its_name(rt: HostRuntime) {
 
 #[test]
 fn numbers_of_the_first_and_the_last(rt: HostRuntime) {
-    assert!(rt; Refusal::Full.number() == 1);
-    assert!(rt; Refusal::NoMemory.number() == 13);
-    assert!(rt; Refusal::BadBound.number() == 20);
-    assert!(rt; Refusal::TooManyCycles.number() == 41);
+    assert!(rt; Refusal::Full.number() == 1 && Refusal::NoMemory.number() == 13);
+    assert!(rt; Refusal::BadBound.number() == 20 && Refusal::TooManyCycles.number() == 41);
 }
 
 #[test]
@@ -90,7 +88,6 @@ fn a_list_of_places_is_read_by_index(rt: HostRuntime) {
     let places = [Place::new(2), Place::new(9)];
     let list = PlaceList::new(&places);
     assert!(rt; list.len() == 2);
-    assert!(rt; list.get(0) == Place::new(2));
-    assert!(rt; list.get(1) == Place::new(9));
+    assert!(rt; list.get(0) == Place::new(2) && list.get(1) == Place::new(9));
     assert!(rt; PlaceList::none().is_empty());
 }

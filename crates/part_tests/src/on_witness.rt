@@ -131,13 +131,13 @@ fn first_missed(rt: &HostRuntime, wanted: &[Wanted]) -> Result<Option<&'static s
 
 #[test]
 fn instances_and_witnesses(rt: HostRuntime) -> Result<(), Fail> {
-    assert_eq!(rt; first_missed(&rt, &FOUND)?, None);
+    assert!(rt; first_missed(&rt, &FOUND)?.is_none());
     Ok(())
 }
 
 #[test]
 fn cycles_that_no_reordering_reaches(rt: HostRuntime) -> Result<(), Fail> {
-    assert_eq!(rt; first_missed(&rt, &NOT_FOUND)?, None);
+    assert!(rt; first_missed(&rt, &NOT_FOUND)?.is_none());
     Ok(())
 }
 
@@ -150,12 +150,7 @@ fn closure_in(rt: &HostRuntime, words: &str, places: &[u32; 2]) -> Result<Vec<Pl
 }
 
 /// Whether that closure is these places.
-fn closes(
-    rt: &HostRuntime,
-    words: &str,
-    places: &[u32; 2],
-    closure: &[u32],
-) -> Result<bool, Fail> {
+fn closes(rt: &HostRuntime, words: &str, places: &[u32; 2], closure: &[u32]) -> Result<bool, Fail> {
     let held = closure_in(rt, words, places)?;
     let closes = are_places(held.as_slice(), closure);
     drop(held);
@@ -287,12 +282,7 @@ fn push_rows(
 }
 
 /// The report of these rows, by task.
-fn report_of(
-    alloc: Global,
-    length: u32,
-    bound: u8,
-    tasks: &[Vec<Row>],
-) -> Result<Vec<u8>, Fail> {
+fn report_of(alloc: Global, length: u32, bound: u8, tasks: &[Vec<Row>]) -> Result<Vec<u8>, Fail> {
     let bound = Bound::new(bound).ok_or("no bound")?;
     Ok(report_text(alloc, 0, length, bound, tasks)?)
 }
@@ -305,7 +295,9 @@ fn text_by(alloc: Global, case: &Case, bound: u8, cycles: &[[u32; 2]]) -> Result
     let pushed = push_rows(&mut rows, alloc, case, cycles);
     let tasks = [kept_if(pushed, rows)?, Vec::new(alloc)];
     let text = report_of(alloc, case.index.len() as u32, bound, &tasks);
-    drop(tasks);
+    let [rows, others] = tasks;
+    drop(rows);
+    drop(others);
     text
 }
 
@@ -317,30 +309,16 @@ fn text_of(rt: &HostRuntime, words: &str, bound: u8, cycles: &[[u32; 2]]) -> Res
     text
 }
 
-/// How long the report of no cycle of the trace of the words is.
-fn length_of_text(rt: &HostRuntime, words: &str) -> Result<usize, Fail> {
-    let text = text_of(rt, words, 2, &[])?;
-    let length = text.len();
-    drop(text);
-    Ok(length)
-}
+/// A trace, a bound, members of cycles, the report on them, and how long it is.
+type Reported = (&'static str, u8, &'static [[u32; 2]], &'static [u8], usize);
 
-/// How long the report of these cycles of the trace of the words is, if it is this text.
-fn length_if(
-    rt: &HostRuntime,
-    words: &str,
-    bound: u8,
-    cycles: &[[u32; 2]],
-    wanted: &[u8],
-) -> Result<Option<usize>, Fail> {
-    let text = text_of(rt, words, bound, cycles)?;
-    let length = if text.as_slice() == wanted {
-        Some(text.len())
-    } else {
-        None
-    };
+/// Whether this is reported.
+fn is_reported(rt: &HostRuntime, reported: &Reported) -> Result<bool, Fail> {
+    let (words, bound, cycles, wanted, length) = reported;
+    let text = text_of(rt, words, *bound, cycles)?;
+    let same = text.as_slice() == *wanted && text.len() == *length;
     drop(text);
-    Ok(length)
+    Ok(same)
 }
 
 const ONE_CONFIRMED: &[u8] =
@@ -352,14 +330,25 @@ const ONE_POTENTIAL: &[u8] =
 const TWO_CONFIRMED: &[u8] =
     b"question 0 length 15 bound 3 cycles 2 confirmed 2\ncycle 0 1 confirmed\n  thread 1 lock 20 holds 10 place 4\n  thread 2 lock 10 holds 20 place 8\n  witness 0 1 3 7\ncycle 0 2 confirmed\n  thread 1 lock 20 holds 10 place 4\n  thread 3 lock 10 holds 20 place 12\n  witness 0 1 2 3 11\n";
 
+const NONE: &[u8] = b"question 0 length 0 bound 2 cycles 0 confirmed 0\n";
+
+const REPORTED: [Reported; 4] = [
+    (OPPOSITE_ORDERS, 2, &[[0, 1]], ONE_CONFIRMED, 160),
+    (READ_NEEDS_EARLIER_SECTION, 2, &[[0, 1]], ONE_POTENTIAL, 126),
+    (
+        ONE_ROOT_TWO_CYCLES,
+        3,
+        &[[0, 1], [0, 2]],
+        TWO_CONFIRMED,
+        274,
+    ),
+    ("", 2, &[], NONE, 49),
+];
+
 #[test]
 fn reported_texts(rt: HostRuntime) -> Result<(), Fail> {
-    let confirmed = length_if(&rt, OPPOSITE_ORDERS, 2, &[[0, 1]], ONE_CONFIRMED)?;
-    assert_eq!(rt; confirmed, Some(160));
-    let potential = length_if(&rt, READ_NEEDS_EARLIER_SECTION, 2, &[[0, 1]], ONE_POTENTIAL)?;
-    assert_eq!(rt; potential, Some(126));
-    let two = length_if(&rt, ONE_ROOT_TWO_CYCLES, 3, &[[0, 1], [0, 2]], TWO_CONFIRMED)?;
-    assert!(rt; two.is_some());
-    assert_eq!(rt; length_of_text(&rt, "")?, 49);
+    for reported in &REPORTED {
+        assert!(rt; is_reported(&rt, reported)?, "{}", reported.0);
+    }
     Ok(())
 }
