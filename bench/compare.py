@@ -129,7 +129,7 @@ def report(events, bound):
     return "\n".join([head] + lines) + "\n", len(found), confirmed
 
 
-MOST_HELD = 16
+MOST_HELD = 32
 
 
 def holds(events, thread, lock):

@@ -10,8 +10,8 @@ CYCLE = re.compile(rf"cycle ({NUMBER}(?: {NUMBER})+) (confirmed|potential)")
 MEMBER = re.compile(rf"  thread {NUMBER} lock {NUMBER} holds((?: {NUMBER})+)(?: place {NUMBER})?")
 WITNESS = re.compile(rf"  witness((?: {NUMBER})*)")
 NOTE = re.compile(r"    \S.*")
-OTHER_LINE = re.compile(r"(placed|refused|opened|pending|worked|delivered|status) .*")
-LARGEST, MOST_HELD, MOST_THREADS = 4_294_967_295, 16, 1_024
+OTHER_LINE = re.compile(r"(placed|batch|refused|opened|pending|worked|delivered|status) .*")
+LARGEST, MOST_HELD, MOST_THREADS = 4_294_967_295, 32, 1_024
 
 Event = namedtuple("Event", "thread letter about where")
 Member = namedtuple("Member", "thread lock held place")
@@ -76,13 +76,17 @@ def read_trace(name):
             continue
         if SCRIPT_LINE.fullmatch(" ".join(words)):
             continue
-        for word in words:
+        is_batch, goes_on = words[0] == "batch", True
+        for word in words[1:] if is_batch else words:
             match = EVENT.fullmatch(word)
             if not match or int(match[1]) > LARGEST or int(match[3]) > LARGEST:
                 raise NotUnderstood(name, number)
             thread, letter, about = int(match[1]), match[2], int(match[3])
-            if gate.accepts(thread, letter, about):
+            # the events of a batch after a refused one are not tried
+            if goes_on and gate.accepts(thread, letter, about):
                 events.append(Event(thread, letter, about, where))
+            elif is_batch:
+                goes_on = False
     return events
 
 

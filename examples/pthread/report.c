@@ -4,7 +4,7 @@
 #include <dlfcn.h>
 #include <link.h>
 
-enum { SECONDS_TO_REPORT = 60, NOTED = 10000, HELD = 16 };
+enum { SECONDS_TO_REPORT = 60, NOTED = 10000, HELD = 32 };
 
 /* ---- source lines ---- */
 

@@ -19,7 +19,7 @@ use Rattle.trace_model.proofs.Bounds.{run_is_within}
 use Rattle.trace_model.proofs.Taking.{run_parts}
 use Rattle.board.specs.declared.summary.QuestionSummary.{QuestionSummary}
 use Rattle.board.specs.declared.summary.Summary.{Summary}
-use Rattle.board.specs.Totals.{none, nones, blank, shown_as, added, ShowsCounts, Shows}
+use Rattle.board.specs.Totals.{none, nones, blank, shown_as, added, count_of, EndsCounted, ShowsCounts, Shows}
 use Rattle.board.proofs.Beginnings.{as_long}
 
 count_steps-push : (b : runs.Summary) (steps : List BoardStep) (x : BoardStep) → count_steps b (steps ++ x ∷ []) ≡ count_step (count_steps b steps) x
@@ -42,14 +42,14 @@ legal_counts run x (last, is) =
     )
   where
     about : (x : BoardStep) (mid : _) → runs.ShowsState (summary run) mid → runs.IsRun AreRows mid (x ∷ []) last → IsAbout (summary run) x
-    about (Accept e) mid shows r = tt
+    about (Accept events) mid shows r = tt
     about (Open bound total) mid shows r = tt
     about (Deliver number task cycles confirmed) mid (a, l, each) (next, takes, r) =
         at_index (summary run).questions number (omega (arith, slice_get_within mid.questions number takes.0 takes.2, l))
 
 -- the board's numbers stay within their words
-added_counts : (s : Summary) (b : runs.Summary) (x : BoardStep) → ShowsCounts s b → SummaryFits (count_step b x) → IsAbout b x → ShowsCounts (added s x) (count_step b x)
-added_counts s b (Accept e) h fits about = record {
+added_counts : (s : Summary) (b : runs.Summary) (x : BoardStep) → ShowsCounts s b → SummaryFits (count_step b x) → IsAbout b x → ShowsCounts (added s (count_of x)) (count_step b x)
+added_counts s b (Accept events) h fits about = record {
   accepted = omega (arith, h.accepted, fits.accepted);
   opened = h.opened;
   width = h.width;
@@ -92,7 +92,7 @@ added_counts s b (Deliver number task cycles confirmed) h fits (shown, at) =
     let k : (old.confirmed + confirmed) % 2 ^ 64 ≡ shown.confirmed + confirmed = omega (arith, ap (λ (a : QuestionSummary). a.confirmed) known, g.confirmed, g.cycles, g.total, g.before, f.accepted) in
     let v : QuestionSummary = record { length = old.length; bound = old.bound; total = old.total; delivered = (old.delivered + 1) % 2 ^ 32; cycles = (old.cycles + cycles) % 2 ^ 64; confirmed = (old.confirmed + confirmed) % 2 ^ 64 } in
     let same : v ≡ shown_as told = λ i. record { length = (known i).length; bound = (known i).bound; total = (known i).total; delivered = d i; cycles = c i; confirmed = k i } in
-    let all : ShowsCounts (added s (Deliver number task cycles confirmed)) next = record {
+    let all : ShowsCounts (added s (count_of (Deliver number task cycles confirmed))) next = record {
       accepted = h.accepted;
       opened = h.opened ∙ sym (length-set b.questions number told);
       width = length-set s.questions number v ∙ h.width;
@@ -106,12 +106,12 @@ added_counts s b (Deliver number task cycles confirmed) h fits (shown, at) =
       rest = λ q past lt. get-set_other s.questions number q v (λ e. omega (arith, e, low, past, length-set b.questions number told))
           ∙ h.rest q (omega (arith, past, length-set b.questions number told)) lt;
     } in
-    subst (ShowsCounts (added s (Deliver number task cycles confirmed))) (sym is) all
+    subst (ShowsCounts (added s (count_of (Deliver number task cycles confirmed)))) (sym is) all
 
-pub added_shows : (s : Summary) (run : List BoardStep) (x : BoardStep) → Shows s run → IsLegal (run ++ x ∷ []) → Shows (added s x) (run ++ x ∷ [])
+pub added_shows : (s : Summary) (run : List BoardStep) (x : BoardStep) → Shows s run → IsLegal (run ++ x ∷ []) → Shows (added s (count_of x)) (run ++ x ∷ [])
 added_shows s run x h legal =
     let c = legal_counts run x legal in
-    subst (ShowsCounts (added s x)) (sym (count_steps-push _ run x)) (added_counts s (summary run) x h c.0 c.1)
+    subst (ShowsCounts (added s (count_of x))) (sym (count_steps-push _ run x)) (added_counts s (summary run) x h c.0 c.1)
 
 get-nones : (n q : ℕ) → q < n → slice_get (nones n) q ≡ Some none
 get-nones zero q h = absurd (omega arith)
@@ -127,11 +127,11 @@ blank_shows = record { accepted = refl; opened = refl; width = length-nones 256;
 
 -- the next run of one history shows one step more
 pub next_shows : (s : Summary) (run next both before : List BoardStep) (x : BoardStep) → Shows s run → IsLegal next → next ≡ before ++ x ∷ [] →
-    IsPrefix run both → IsPrefix next both → length next ≡ length run + 1 → Shows (added s x) next
+    IsPrefix run both → IsPrefix next both → length next ≡ length run + 1 → Shows (added s (count_of x)) next
 next_shows s run next both before x h legal ends p q len =
     let P : List BoardStep → Type 0 = λ w. IsPrefix w both in
     let q' : IsPrefix (before ++ x ∷ []) both = subst P ends q in
     let r : IsPrefix before both = (x ∷ q'.0, sym (append_assoc before (x ∷ []) q'.0) ∙ q'.1) in
     let same : run ≡ before = as_long run before both p r (omega (arith, ap length ends, length-append before (x ∷ []), len)) in
     let is : run ++ x ∷ [] ≡ next = ap (λ w. w ++ x ∷ []) same ∙ sym ends in
-    subst (Shows (added s x)) is (added_shows s run x h (subst IsLegal (sym is) legal))
+    subst (Shows (added s (count_of x))) is (added_shows s run x h (subst IsLegal (sym is) legal))

@@ -1,6 +1,7 @@
 -- How one run follows another.
-use Rattle.std.specs.Prelude.{◌≡◌, ◌+◌, ◌==◌, cond, List, [], ◌∷◌, ◌++◌, length, Option, Some, None}
+use Rattle.std.specs.Prelude.{◌≡◌, ◌+◌, ◌==◌, cond, List, [], ◌∷◌, ◌++◌, length, take, ℕ, Option, Some, None}
 use Rattle.trace_model.specs.declared.step.BoardStep.{BoardStep}
+use Rattle.trace_model.specs.declared.step.BoardStep.TheVariants.{Accept}
 
 -- the last step of the run is this one
 abbrev pub EndsWith : List BoardStep → BoardStep → Type 0
@@ -28,3 +29,8 @@ room_of (Some step) = None ∷ []
 abbrev pub list_of : Option BoardStep → List BoardStep
 list_of None = []
 list_of (Some step) = step ∷ []
+
+-- of a step that accepts events, so many of them
+abbrev pub kept : ℕ → BoardStep → BoardStep
+kept n (Accept events) = Accept (take n events)
+kept n step = step

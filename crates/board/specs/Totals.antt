@@ -4,8 +4,11 @@ use Rattle.trace_model.specs.declared.step.BoardStep.{BoardStep}
 use Rattle.trace_model.specs.declared.step.BoardStep.TheVariants.{Accept, Open, Deliver}
 use Rattle.trace_model.specs.Runs as runs
 use Rattle.trace_model.specs.Runs.{Shown, summary}
+use Rattle.board.specs.Fits.{EndsWith}
 use Rattle.board.specs.declared.summary.QuestionSummary.{QuestionSummary}
 use Rattle.board.specs.declared.summary.Summary.{Summary}
+use Rattle.board.specs.declared.summary.Count.{Count}
+use Rattle.board.specs.declared.summary.Count.TheVariants.{Accepted, Opened, Delivered}
 
 -- of a question that is not open yet
 abbrev pub none : QuestionSummary
@@ -34,15 +37,25 @@ pub record ShowsCounts (s : Summary) (counts : runs.Summary) : Type 0 where
 abbrev pub Shows : Summary → List BoardStep → Type 0
 Shows s run = ShowsCounts s (summary run)
 
+-- what is counted of a step
+abbrev pub count_of : BoardStep → Count
+count_of (Accept events) = Accepted (length events)
+count_of (Open bound total) = Opened bound total
+count_of (Deliver question task cycles confirmed) = Delivered question cycles confirmed
+
+-- the last step of the run counts so
+abbrev pub EndsCounted : List BoardStep → Count → Type 0
+EndsCounted run count = (step : BoardStep) × EndsWith run step × (count ≡ count_of step)
+
 -- the summary with one step more, as the machine's numbers count
-abbrev pub added : Summary → BoardStep → Summary
-added s (Accept e) = record { accepted = (s.accepted + 1) % 2 ^ 32; opened = s.opened; questions = s.questions }
-added s (Open bound total) = record {
+abbrev pub added : Summary → Count → Summary
+added s (Accepted events) = record { accepted = (s.accepted + events) % 2 ^ 32; opened = s.opened; questions = s.questions }
+added s (Opened bound total) = record {
   accepted = s.accepted;
   opened = (s.opened + 1) % 2 ^ 32;
   questions = slice_set s.questions s.opened record { length = s.accepted; bound = bound; total = total; delivered = 0; cycles = 0; confirmed = 0 };
 }
-added s (Deliver question task cycles confirmed) =
+added s (Delivered question cycles confirmed) =
     let old = slice_index_or s.questions question none in record {
       accepted = s.accepted;
       opened = s.opened;

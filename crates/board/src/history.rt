@@ -186,15 +186,15 @@ impl<N: Naming> Front<N> {
     }
 
     /// Puts a step at the end of the history, where all of it was seen, and says whether it did.
-    pub(crate) fn add(&mut self, head: &Head<N>, step: BoardStep) -> bool
+    pub(crate) fn add(&mut self, head: &Head<N>, step: &BoardStep) -> bool
         requires room { length self.old < 2 ^ 62 }
-        requires legal { IsLegal (self.old ++ step ∷ []) }
-        ensures { MatchBool result (self.new ≡ self.old ++ step ∷ []) (IsLonger self.old self.new) }
+        requires legal { IsLegal (self.old ++ step.now ∷ []) }
+        ensures { MatchBool result (self.new ≡ self.old ++ step.now ∷ []) (IsLonger self.old self.new) }
     {
         let count = self.count;
         let mut offer: Offer<BoardStep, u64, LegalHistory, NoGain> = self
             .seen
-            .plain::<NoGain, BoardStep, AddStep>(&step);
+            .plain::<NoGain, BoardStep, AddStep>(step);
         let mut pen = self.seen.no_pen();
         let found = head
             .length

@@ -4,7 +4,7 @@ ghost use Rattle.board.specs.Totals.{Shows};
 ghost use Rattle.board.specs.Fits.{followed};
 
 use crate::history::{Front, Naming};
-use crate::summary::Summary;
+use crate::summary::{Count, Summary};
 use left_right::Absorb;
 use std::alloc::AllocError;
 use std::marker::Model;
@@ -29,33 +29,36 @@ impl<N: Naming> Model for Shown<N> {
     ghost invariant = { λ s. Shows s.summary s.front };
 }
 
-/// A step with the history that it ends. Contracts see it as that history.
+/// What is counted of a step, with the history that it ends. Contracts see it as that history.
 #[derive(Drop)]
 pub struct Next<N: Naming> {
-    step: BoardStep,
+    count: Count,
     front: Front<N>,
 }
 
 impl<N: Naming> Model for Next<N> {
     ghost use Rattle.std.specs.Prelude.{List};
     ghost use Rattle.trace_model.specs.declared.step.BoardStep.{BoardStep};
-    ghost use Rattle.board.specs.Fits.{EndsWith};
+    ghost use Rattle.board.specs.Totals.{EndsCounted};
 
     ghost Value = { List BoardStep };
 
     ghost view = { λ s. s.front };
 
-    ghost invariant = { λ s. EndsWith s.front s.step };
+    ghost invariant = { λ s. EndsCounted s.front s.count };
 }
 
 impl<N: Naming> Next<N> {
     /// The step at the end of the front.
-    pub(crate) fn new(front: Front<N>, before: &Front<N>, step: BoardStep) -> Next<N>
-        requires { front ≡ before.now ++ step ∷ [] }
+    pub(crate) fn new(front: Front<N>, before: &Front<N>, step: &BoardStep) -> Next<N>
+        requires { front ≡ before.now ++ step.now ∷ [] }
         ensures { result ≡ front }
     {
         let _ = before;
-        Next { step, front }
+        Next {
+            count: Count::of(step),
+            front,
+        }
     }
 }
 
@@ -92,7 +95,7 @@ impl<N: Naming> Shown<N> {
         let (ours, theirs) = (self.front.len(), next.front.len());
         if theirs > 0 && theirs - 1 == ours {
             let _longer = self.front.longer(&next.front);
-            self.summary.add(&next.step);
+            self.summary.add(next.count);
             self.front = next.front.again();
         }
     }

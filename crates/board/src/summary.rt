@@ -1,6 +1,6 @@
 ghost use Rattle.std.specs.Prelude.{◌≡◌, nat_lt, slice_get, None, if◌then◌else◌};
-ghost use Rattle.board.specs.Totals.{added, blank};
-ghost use Rattle.trace_model.specs.declared.step.BoardStep.TheVariants.{Open, Deliver};
+ghost use Rattle.board.specs.Totals.{added, blank, count_of};
+ghost use Rattle.board.specs.declared.summary.Count.TheVariants.{Opened, Delivered};
 
 use trace_model::{BoardStep, MAX_QUESTIONS};
 
@@ -19,6 +19,49 @@ pub struct QuestionSummary {
     pub cycles: u64,
     /// How many of these rows are confirmed.
     pub confirmed: u64,
+}
+
+/// What a summary counts of a step.
+#[derive(Clone, Copy)]
+pub(crate) enum Count {
+    /// So many events.
+    Accepted(u8),
+    /// A question.
+    Opened {
+        bound: u8,
+        total: u32,
+    },
+    /// A task of a question, by the numbers of its rows and of its confirmed rows.
+    Delivered {
+        question: u32,
+        cycles: u32,
+        confirmed: u32,
+    },
+}
+
+impl Count {
+    /// Of this step.
+    pub(crate) fn of(step: &BoardStep) -> Count
+        ensures { result ≡ count_of step.now }
+    {
+        match step {
+            BoardStep::Accept(batch) => Count::Accepted(batch.events().len() as u8),
+            BoardStep::Open { bound, total } => Count::Opened {
+                bound: *bound,
+                total: *total,
+            },
+            BoardStep::Deliver {
+                question,
+                cycles,
+                confirmed,
+                ..
+            } => Count::Delivered {
+                question: *question,
+                cycles: *cycles,
+                confirmed: *confirmed,
+            },
+        }
+    }
 }
 
 /// What the board shows. It has the same size whatever was published.
@@ -65,23 +108,24 @@ impl Summary {
     }
 
     /// Counts one more step.
-    pub(crate) fn add(&mut self, step: &BoardStep)
-        ensures { self.new ≡ added self.old step.now }
+    pub(crate) fn add(&mut self, count: Count)
+        ensures { self.new ≡ added self.old count }
     {
-        match step {
-            BoardStep::Accept(_) => self.accepted = self.accepted.wrapping_add(1),
-            BoardStep::Open { bound, total } => self.open(*bound, *total),
-            BoardStep::Deliver {
+        match count {
+            Count::Accepted(events) => {
+                self.accepted = self.accepted.wrapping_add(u32::from(events));
+            }
+            Count::Opened { bound, total } => self.open(bound, total),
+            Count::Delivered {
                 question,
-                task,
                 cycles,
                 confirmed,
-            } => self.deliver(*question, *task, *cycles, *confirmed),
+            } => self.deliver(question, cycles, confirmed),
         }
     }
 
     fn open(&mut self, bound: u8, total: u32)
-        ensures { self.new ≡ added self.old (Open bound total) }
+        ensures { self.new ≡ added self.old (Opened bound total) }
     {
         let number = self.opened as usize;
         if number < MAX_QUESTIONS {
@@ -97,10 +141,9 @@ impl Summary {
         self.opened = self.opened.wrapping_add(1);
     }
 
-    fn deliver(&mut self, question: u32, task: u32, cycles: u32, confirmed: u32)
-        ensures { self.new ≡ added self.old (Deliver question task cycles confirmed) }
+    fn deliver(&mut self, question: u32, cycles: u32, confirmed: u32)
+        ensures { self.new ≡ added self.old (Delivered question cycles confirmed) }
     {
-        let _ = task;
         let number = question as usize;
         if number < MAX_QUESTIONS {
             let asked = self.questions[number];

@@ -1,9 +1,9 @@
 //! Writing the board.
-ghost use Rattle.std.specs.Prelude.{◌≡◌, ◌≤◌, [], ◌∷◌, ◌++◌, List, length, refl, None, Some, IfOk, OnErr};
+ghost use Rattle.std.specs.Prelude.{◌≡◌, ◌≤◌, [], ◌∷◌, ◌++◌, List, length, map, refl, None, Some, IfOk, OnErr};
 ghost use Rattle.left_right.specs.Handles.{published, pending};
 ghost use Rattle.trace_model.specs.declared.step.BoardStep.{BoardStep};
 ghost use Rattle.trace_model.specs.Runs.{IsLegal};
-ghost use Rattle.board.specs.Fits.{followed};
+ghost use Rattle.board.specs.Fits.{followed, kept};
 ghost use Rattle.board.specs.Totals.{Shows};
 
 use crate::history::{Front, Head, Naming, Opened};
@@ -134,6 +134,19 @@ impl<N: Naming, R: Wait + Copy, T: Follows<N>> BoardWriter<N, R, T> {
         Ok(())
     }
 
+    /// Of the events of a step that waits and accepts some, only the first ones stay, so many, at least one. Any other
+    /// step stays as it is, and so does what is published. It takes no memory.
+    pub fn keep(&mut self, events: usize)
+        requires some { 1 ≤ events }
+        ensures published { self.new.published ≡ self.old.published }
+        ensures waiting { self.new.waiting ≡ map (kept events) self.old.waiting }
+    {
+        let _ = &self.handle;
+        if let Some(BoardStep::Accept(batch)) = &mut self.waiting {
+            batch.truncate(events);
+        }
+    }
+
     /// Publishes what waits, at once. It may wait for readers. The published steps must then be a legal run.
     pub fn publish(&mut self)
         requires waits { length self.old.waiting ≡ 1 }
@@ -141,7 +154,7 @@ impl<N: Naming, R: Wait + Copy, T: Follows<N>> BoardWriter<N, R, T> {
         ensures published { self.new.published ≡ self.old.published ++ self.old.waiting }
         ensures waiting { self.new.waiting ≡ [] }
     {
-        let Some(step) = self.waiting else {
+        let Some(step) = &self.waiting else {
             unreachable!();
         };
         let mut front = self.front.again();
@@ -149,9 +162,9 @@ impl<N: Naming, R: Wait + Copy, T: Follows<N>> BoardWriter<N, R, T> {
             stop(&self.rt);
         }
         let next = Next::new(front.again(), &self.front, step);
+        self.waiting = None;
         show(&self.rt, &mut self.handle, next);
         self.front = front;
-        self.waiting = None;
     }
 
     /// What the board shows: the summary of all that is published.

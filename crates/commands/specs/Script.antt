@@ -1,9 +1,9 @@
 -- The lines that a script prints.
-use Rattle.std.specs.Prelude.{ℕ, List, [], ◌++◌, codes, decimal}
+use Rattle.std.specs.Prelude.{ℕ, List, [], ◌++◌, Option, Some, None, codes, decimal}
 use Rattle.trace_model.specs.Refusals.{number_of, name_of}
 use Rattle.trace_model.specs.declared.refusal.Refusal.{Refusal}
 use Rattle.trace_model.specs.declared.session.Reply.{Reply}
-use Rattle.trace_model.specs.declared.session.Reply.TheVariants.{Placed, Refused, Opened, Pending, Report, Status, Fault as FaultReply}
+use Rattle.trace_model.specs.declared.session.Reply.TheVariants.{Placed, Refused, Opened, Pending, Report, Status, Fault as FaultReply, Batched}
 
 -- the words that tell a refusal: its number and its name
 abbrev pub refusal_words : Refusal → List ℕ
@@ -36,7 +36,15 @@ task_words total delivered = told (codes " total ") total ++ told (codes " deliv
 abbrev pub row_words : ℕ → ℕ → List ℕ
 row_words cycles confirmed = told (codes " cycles ") cycles ++ told_line (codes " confirmed ") confirmed
 
--- what a script prints of a reply: one line, or the text of a report; no request of a script has a fault
+-- what refuses an event, if anything does
+abbrev pub refused_line : Option Refusal → List ℕ
+refused_line None = []
+refused_line (Some refusal) = refusal_words refusal ++ codes "\n"
+
+abbrev pub batch_lines : ℕ → Option Refusal → ℕ → List ℕ
+batch_lines accepted refusal len = told (codes "batch ") accepted ++ (told_line (codes " at ") len ++ refused_line refusal)
+
+-- what a script prints of a reply: its lines, or the text of a report; no request of a script has a fault
 abbrev pub reply_text : Reply → List ℕ
 reply_text (Placed place) = told_line (codes "placed ") place
 reply_text (Refused refusal) = refusal_words refusal ++ codes "\n"
@@ -46,3 +54,4 @@ reply_text (Report question text) = text
 reply_text (Status question accepted opened len bound total delivered cycles confirmed) =
     book_words question accepted opened len bound ++ (task_words total delivered ++ row_words cycles confirmed)
 reply_text (FaultReply fault) = []
+reply_text (Batched accepted refusal len) = batch_lines accepted refusal len

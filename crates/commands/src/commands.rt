@@ -3,13 +3,15 @@ use crate::outcome::Stopped;
 use event_files::{event, number, words_of};
 use std::alloc::Global;
 use std::str;
-use trace_model::{Event, NoMemory};
+use trace_model::{Event, EventBatch, NoMemory};
 
 /// What a script does next.
-#[derive(Clone, Copy, Debug, PartialEq, Eq)]
+#[derive(Debug, Drop)]
 pub enum Command {
     /// Offer an event.
     Offer(Event),
+    /// Offer these events at once.
+    Batch(Box<EventBatch>),
     /// Open a question with this bound.
     Ask(u8),
     /// Compute and deliver the tasks of the question that are missing.
@@ -47,8 +49,38 @@ fn parse_command(words: &[&[u8]]) -> Option<Command> {
     }
 }
 
+/// Adds the command that offers the events of these words at once. It answers whether they are 1 to `MAX_BATCH` event
+/// words.
+fn push_batch(
+    alloc: Global,
+    commands: &mut Vec<Command>,
+    words: &[&[u8]],
+) -> Result<bool, NoMemory> {
+    let mut events = Vec::new(alloc);
+    for word in words {
+        let Some(event) = event(word) else {
+            return Ok(false);
+        };
+        events.push(event)?;
+    }
+    let Some(batch) = EventBatch::new(&events) else {
+        return Ok(false);
+    };
+    commands.push(Command::Batch(Box::new(alloc, batch)?))?;
+    Ok(true)
+}
+
 /// Adds the commands of a line of these words. It answers whether the line is understood.
-fn push_commands(commands: &mut Vec<Command>, words: &[&[u8]]) -> Result<bool, NoMemory> {
+fn push_commands(
+    alloc: Global,
+    commands: &mut Vec<Command>,
+    words: &[&[u8]],
+) -> Result<bool, NoMemory> {
+    if let Some((keyword, events)) = words.split_first() {
+        if *keyword == b"batch".as_slice() {
+            return push_batch(alloc, commands, events);
+        }
+    }
     if let Some(command) = parse_command(words) {
         commands.push(command)?;
         return Ok(true);
@@ -73,7 +105,7 @@ pub fn read_script(alloc: Global, file: &[u8]) -> Result<Vec<Command>, Stopped> 
     for line in file.split(|byte| *byte == b'\n') {
         number = number.saturating_add(1);
         let words = words_of(alloc, line)?;
-        if !push_commands(&mut commands, &words)? {
+        if !push_commands(alloc, &mut commands, &words)? {
             return Err(Stopped::Line(number));
         }
     }

@@ -5,7 +5,7 @@ ghost use Rattle.sequencer.specs.Book.{AreKnown, IsLimit};
 use crate::commands::{Command, read_script};
 use crate::outcome::{Status, Stopped};
 use crate::script_text::{push_last, push_reply};
-use event_frames::{FrameReader, answer_frame, ask_frame, offer_frame, status_frame};
+use event_frames::{FrameReader, answer_frame, ask_frame, batch_frame, offer_frame, status_frame};
 use findings::{ComputeRefused, Job};
 use sequencer::Book;
 use std::alloc::Global;
@@ -25,27 +25,31 @@ struct ScriptSession {
 
 impl ScriptSession {
     /// Runs a command and writes what it prints.
-    fn run<O: Write>(&mut self, command: Command, out: &mut O) -> Result<(), Stopped> {
+    fn run<O: Write>(&mut self, command: &Command, out: &mut O) -> Result<(), Stopped> {
         match command {
-            Command::Offer(event) => self.request(&offer_frame(&event), out),
-            Command::Ask(bound) => self.request(&ask_frame(bound), out),
+            Command::Offer(event) => self.request(&offer_frame(event), out),
+            Command::Batch(batch) => {
+                let frame = batch_frame(self.alloc, batch.events())?;
+                self.request(&frame, out)
+            }
+            Command::Ask(bound) => self.request(&ask_frame(*bound), out),
             Command::Work(question) => {
-                let worked = self.work(question);
+                let worked = self.work(*question);
                 self.tell(b"worked ", worked, out)
             }
             Command::Deliver { question, task } => {
-                let delivered = self.deliver(question, task);
+                let delivered = self.deliver(*question, *task);
                 self.tell(b"delivered ", delivered, out)
             }
-            Command::Answer(question) => self.request(&answer_frame(question), out),
-            Command::Status(question) => self.request(&status_frame(question), out),
+            Command::Answer(question) => self.request(&answer_frame(*question), out),
+            Command::Status(question) => self.request(&status_frame(*question), out),
         }
     }
 
     /// Runs the commands, one after another.
     fn run_all<O: Write>(&mut self, commands: &[Command], out: &mut O) -> Result<(), Stopped> {
         for command in commands {
-            self.run(*command, out)?;
+            self.run(command, out)?;
         }
         Ok(())
     }
@@ -54,10 +58,7 @@ impl ScriptSession {
     fn request<O: Write>(&mut self, frame: &[u8], out: &mut O) -> Result<(), Stopped> {
         self.reader.feed(frame)?;
         while let Ok(Some(request)) = self.reader.next() {
-            let reply = match self.book.call(&request) {
-                Ok(reply) => reply,
-                Err(_) => Reply::Refused(Refusal::NoMemory),
-            };
+            let reply = self.book.call(&request);
             let written = self.write(&reply, out);
             drop(reply);
             written?;

@@ -1,7 +1,7 @@
 //! What a script prints.
 ghost use Rattle.std.specs.Prelude.{◌≡◌, ◌++◌, OnOk};
 ghost use Rattle.trace_model.specs.Refusals.{name_of};
-ghost use Rattle.commands.specs.Script.{told, told_line, refusal_words, opened_line, pending_line, book_words, task_words, row_words, reply_text};
+ghost use Rattle.commands.specs.Script.{told, told_line, refusal_words, opened_line, pending_line, batch_lines, refused_line, book_words, task_words, row_words, reply_text};
 
 use itoa::Buffer;
 use trace_model::{NoMemory, Refusal, Reply, refusal_name};
@@ -105,6 +105,31 @@ fn push_rows(text: &mut Vec<u8>, cycles: u64, confirmed: u64) -> Result<(), NoMe
     Ok(())
 }
 
+/// Adds the line that tells what refuses an event, if anything does.
+fn push_refused(text: &mut Vec<u8>, refusal: Option<Refusal>) -> Result<(), NoMemory>
+    ensures { OnOk result (text.new.items ≡ text.old.items ++ refused_line refusal) }
+{
+    if let Some(refusal) = refusal {
+        push_refusal(text, refusal)?;
+        text.push(b'\n')?;
+    }
+    Ok(())
+}
+
+/// Adds what became of a batch.
+fn push_batched(
+    text: &mut Vec<u8>,
+    accepted: u8,
+    refusal: Option<Refusal>,
+    length: u32,
+) -> Result<(), NoMemory>
+    ensures { OnOk result (text.new.items ≡ text.old.items ++ batch_lines accepted refusal length) }
+{
+    push_number(text, b"batch ", accepted as u64)?;
+    push_last(text, b" at ", length as u64)?;
+    push_refused(text, refusal)
+}
+
 /// Adds what is printed of a reply.
 pub fn push_reply(text: &mut Vec<u8>, reply: &Reply) -> Result<(), NoMemory>
     ensures { OnOk result (text.new.items ≡ text.old.items ++ reply_text reply.now) }
@@ -146,5 +171,10 @@ pub fn push_reply(text: &mut Vec<u8>, reply: &Reply) -> Result<(), NoMemory>
             push_rows(text, *cycles, *confirmed)
         }
         Reply::Fault(_) => Ok(()),
+        Reply::Batched {
+            accepted,
+            refusal,
+            length,
+        } => push_batched(text, *accepted, *refusal, *length),
     }
 }

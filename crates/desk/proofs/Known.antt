@@ -21,8 +21,8 @@ use mathlib.Core.List.{IsPrefix}
 
 step_keeps : (s next : State) (step : BoardStep) (number : ℕ) (events : Trace) → TakesStep AreRows s step next → StateFits AreRows s →
     AreEventsOf s number events → AreEventsOf next number events
-step_keeps s next (Accept e) number events (lawful, is) fits (q, at, are) =
-    let same = take-append-le q.length s.accepted (e ∷ []) (fits.each number q at).within in
+step_keeps s next (Accept es) number events (some, lawful, is) fits (q, at, are) =
+    let same = take-append-le q.length s.accepted es (fits.each number q at).within in
     subst (λ (x : State). AreEventsOf x number events) (sym is) (q, at, are ∙ sym same)
 step_keeps s next (Open bound total) number events (allowed, all, is) fits (q, at, are) =
     subst (λ (x : State). AreEventsOf x number events) (sym is) (q, get-push_kept s.questions _ number q at, are)

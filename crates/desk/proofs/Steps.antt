@@ -1,6 +1,6 @@
 -- A run goes on with what the machine takes.
-use Rattle.std.proofs.Common.{◌≡◌, ℕ, ◌≤◌, List, [], ◌∷◌, ◌++◌, length, Option, None, refl, sym, ap, subst, ◌∙◌}
-use Rattle.std.proofs.lemmas.List.{length-map}
+use Rattle.std.proofs.Common.{◌≡◌, ℕ, zero, suc, ◌≤◌, List, [], ◌∷◌, ◌++◌, length, take, Option, None, refl, sym, ap, subst, ◌∙◌, arith}
+use Rattle.std.proofs.lemmas.List.{length-map, length-take}
 use Rattle.trace_model.specs.declared.event.Event.{Event}
 use Rattle.trace_model.specs.declared.limits.TheConstants.{MAX_CYCLES}
 use Rattle.trace_model.specs.declared.refusal.Refusal.{Refusal}
@@ -8,16 +8,20 @@ use Rattle.trace_model.specs.declared.step.BoardStep.{BoardStep}
 use Rattle.trace_model.specs.declared.step.BoardStep.TheVariants.{Accept, Open}
 use Rattle.trace_model.specs.declared.session.Request.TheVariants.{Ask}
 use Rattle.trace_model.specs.Lawful.{refusal_of}
+use Rattle.trace_model.specs.Batches.{IsBatch}
 use Rattle.trace_model.specs.Rows.{AreRows}
 use Rattle.trace_model.specs.Dependencies.{dependencies}
 use Rattle.trace_model.specs.Machine.{State, opening, ask_refused, ask_reply, deliver_refused, step, with_event, with_question}
 use Rattle.trace_model.specs.Runs.{IsLegal, TakesStep}
-use Rattle.trace_model.proofs.Taking.{machine_steps, run_legal, run_push}
+use Rattle.trace_model.proofs.Taking.{machine_steps, one_takes, run_legal, run_push}
 use Rattle.findings.specs.Found.{AreRowsOf, FoundRows}
 use Rattle.sequencer.specs.declared.asking.Opened.{Opened}
+use Rattle.sequencer.specs.declared.batching.Batched.{Batched}
+use Rattle.sequencer.specs.Batched.{IsBatched}
 use Rattle.sequencer.specs.Book.{findings_rows, opened_reply}
 use Rattle.sequencer.specs.Printing.{printing}
 use Rattle.sequencer.specs.Sessions.{delivery}
+use Rattle.desk.specs.Batches.{accepting}
 use Rattle.desk.specs.Published.{After, IsKept, delivery_step}
 
 -- the machine takes the step
@@ -44,8 +48,19 @@ legal_next limit run waiting shown s next added kept takes is =
 
 -- ---- what the machine takes
 
-pub takes_offer : (s now next : State) (e : Event) → now ≡ s → refusal_of s.limit s.accepted e ≡ None → next ≡ with_event now e → Takes s (Accept e) next
-takes_offer s now next e shown none is = (none, is ∙ ap (λ (x : State). with_event x e) shown)
+pub takes_offer : (s now next : State) (e : Event) → now ≡ s → refusal_of s.limit s.accepted e ≡ None → next ≡ with_event now e → Takes s (Accept (e ∷ [])) next
+takes_offer s now next e shown none is = one_takes AreRows s next e none (is ∙ ap (λ (x : State). with_event x e) shown)
+
+pub takes_batch : (s next : State) (events : List Event) (b : Batched) → IsBatch events → 1 ≤ b.accepted → IsBatched s events b next →
+    Takes s (Accept (take b.accepted events)) next
+takes_batch s next events b (some, few) came h =
+    ((omega (arith, length-take b.accepted events), omega (arith, length-take b.accepted events)), h.lawful, h.appended)
+
+-- the step of a batch of which some came in
+pub accepting_some : (events : List Event) (n : ℕ) → 1 ≤ n → 1 ≤ length events → accepting (take n events) ≡ Accept (take n events) ∷ []
+accepting_some [] n came some = absurd (omega (arith, some))
+accepting_some (e ∷ events) zero came some = absurd (omega (arith, came))
+accepting_some (e ∷ events) (suc n) came some = refl
 
 pub takes_ask : (s now next : State) (bound asked : ℕ) (opened : Opened) → now ≡ s → asked ≡ bound → ask_refused s bound ≡ None →
     (step printing now (Ask asked)).0 ≡ opened_reply opened → next ≡ with_question now asked → Takes s (Open bound opened.total) next

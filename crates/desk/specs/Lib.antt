@@ -1,4 +1,5 @@
 pub mod Published
+pub mod Batches
 pub mod Questions
 pub mod Refused
 pub mod Together

@@ -1,7 +1,8 @@
 //! The desk that threads share.
 
-ghost use Rattle.std.specs.Prelude.{◌≡◌, ◌<◌, length, slice_get, IfOk, IfErr, OnErr, OnOk, None};
+ghost use Rattle.std.specs.Prelude.{◌≡◌, ◌<◌, [], ◌∷◌, length, slice_get, IfOk, IfErr, OnErr, OnOk, None};
 ghost use Rattle.std.specs.Arc.{arc_value};
+ghost use Rattle.trace_model.specs.Batches.{IsBatch};
 ghost use Rattle.trace_model.specs.Machine.{step};
 ghost use Rattle.trace_model.specs.Runs.{IsLegal};
 ghost use Rattle.trace_model.specs.declared.step.BoardStep.TheVariants as steps;
@@ -11,6 +12,7 @@ ghost use Rattle.findings.specs.Found.{AreRowsOf};
 ghost use Rattle.sequencer.specs.Book.{IsLimit, Refuses, RefusesSnapshot, answer_refusal, answer_reply, ask_refusal, opened_reply};
 ghost use Rattle.sequencer.specs.Printing.{printing};
 ghost use Rattle.sequencer.specs.Sessions.{delivery};
+ghost use Rattle.desk.specs.Batches.{EndsByBatch};
 ghost use Rattle.desk.specs.Published.{Afterwards, EndsBy, delivery_step};
 ghost use Rattle.desk.specs.Questions.{AreEventsOf, IsFirstMissing};
 ghost use Rattle.desk.specs.Refused.{IsCount, RefusesDesk, RefusesFinding};
@@ -20,7 +22,7 @@ use crate::locked::{DeskRefused, Locked};
 use crate::own::{OwnFinding, OwnJob};
 use board::{BoardReader, Follows, Naming, Receipt, Shown};
 use findings::{Finding, Snapshot};
-use sequencer::{Answer, AnswerRefused, AskRefused, Delivered, NoSuchQuestion, Opened};
+use sequencer::{Answer, AnswerRefused, AskRefused, Batched, Delivered, NoSuchQuestion, Opened};
 use std::alloc::Global;
 use std::hash::RandomState;
 use std::sync::{Arc, Mutex, Wait};
@@ -75,11 +77,21 @@ impl<N: Naming, R: Wait + Copy, T: Follows<N>> Desk<N, R, T> {
     /// The book's refusal after all that the receipt names, and `NoMemory` where it has none. Nothing has
     /// changed.
     pub fn offer(&self, event: Event) -> (Result<Place, Refusal>, Receipt<N>)
-        ensures placed { IfOk result.0 (λ place. EndsBy N.limit result.1 (steps.Accept event) (λ state next. step printing state (requests.Offer event) ≡ (Placed place, next))) }
+        ensures placed { IfOk result.0 (λ place. EndsBy N.limit result.1 (steps.Accept (event ∷ [])) (λ state next. step printing state (requests.Offer event) ≡ (Placed place, next))) }
         ensures refused { IfErr result.0 (λ refusal. Afterwards N.limit result.1 (λ state. Refuses state (requests.Offer event) (Refused refusal))) }
         ensures legal { IsLegal result.1 }
     {
         self.locked.lock(&self.rt).offer(event)
+    }
+
+    /// Offers the events of a batch, of which there are 1 to `MAX_BATCH`, under one taking of the lock: those before the
+    /// first that is refused are accepted, as one step, with which the receipt ends. Where none is, nothing has changed.
+    pub fn offer_batch(&self, events: &[Event]) -> (Batched, Receipt<N>)
+        requires { IsBatch events.now }
+        ensures batched { EndsByBatch N.limit result.1 events.now result.0 }
+        ensures legal { IsLegal result.1 }
+    {
+        self.locked.lock(&self.rt).offer_batch(events)
     }
 
     /// Asks about the events so far. The receipt of an opened question ends with it.

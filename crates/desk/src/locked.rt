@@ -1,18 +1,21 @@
 //! What lies under the lock.
 
-ghost use Rattle.std.specs.Prelude.{◌≡◌, ◌<◌, [], ◌∷◌, ◌++◌, length, slice_get, IfOk, IfErr, OnOk, OnErr, None};
+ghost use Rattle.std.specs.Prelude.{◌≡◌, ◌<◌, [], ◌∷◌, ◌++◌, length, take, slice_get, IfOk, IfErr, OnOk, OnErr, None, Some};
 ghost use Rattle.std.specs.Arc.{arc_value};
 ghost use Rattle.std.specs.Result.{result_err};
+ghost use Rattle.trace_model.specs.Batches.{IsBatch};
 ghost use Rattle.trace_model.specs.Machine.{opening, step};
 ghost use Rattle.trace_model.specs.Runs.{IsLegal};
 ghost use Rattle.trace_model.specs.declared.step.BoardStep.TheVariants as steps;
 ghost use Rattle.trace_model.specs.declared.session.Request.TheVariants as requests;
 ghost use Rattle.trace_model.specs.declared.session.Reply.TheVariants.{Placed, Refused};
 ghost use Rattle.findings.specs.Found.{AreRowsOf};
+ghost use Rattle.sequencer.specs.Batched.{IsBatched};
 ghost use Rattle.sequencer.specs.Book.{IsLimit, Refuses, RefusesSnapshot, answer_refusal, answer_reply, ask_refusal, finding_refused, opened_reply};
 ghost use Rattle.sequencer.specs.Printing.{printing};
 ghost use Rattle.sequencer.specs.Sessions.{delivery};
 ghost use Rattle.board.specs.Totals.{Shows};
+ghost use Rattle.desk.specs.Batches.{accepting};
 ghost use Rattle.desk.specs.Published.{After, delivery_step};
 ghost use Rattle.desk.specs.Questions.{AreEventsOf, IsFirstMissing};
 ghost use Rattle.desk.specs.Refused.{IsCount, RefusesDesk, RefusesFinding};
@@ -21,13 +24,15 @@ ghost use Rattle.desk.specs.Together.{AreOutcomes, taken_steps};
 use crate::own::OwnFinding;
 use board::{BoardReader, BoardWriter, Follows, Naming, Receipt, Shown, Summary, new_board};
 use findings::{Finding, Snapshot};
-use sequencer::{Answer, AnswerRefused, AskRefused, Book, Delivered, NoSuchQuestion, Opened};
+use sequencer::{
+    Answer, AnswerRefused, AskRefused, Batched, Book, Delivered, NoSuchQuestion, Opened,
+};
 use std::alloc::Global;
 use std::hash::RandomState;
 use std::marker::Model;
 use std::sync::{Arc, Wait};
 use thiserror::Error;
-use trace_model::{BoardStep, Event, Place, Refusal};
+use trace_model::{BoardStep, Event, EventBatch, Place, Refusal};
 use witness::confirmed_in;
 
 /// The most readers of a desk.
@@ -122,7 +127,7 @@ impl<N: Naming, R: Wait + Copy, T: Follows<N>> Locked<N, R, T> {
         ensures before { After N.limit self.old.published self.old.state }
         ensures after { After N.limit self.new.published self.new.state }
         ensures placed { IfOk result.0 (λ place. step printing self.old.state (requests.Offer event) ≡ (Placed place, self.new.state)) }
-        ensures published { OnOk result.0 (self.new.published ≡ self.old.published ++ steps.Accept event ∷ []) }
+        ensures published { OnOk result.0 (self.new.published ≡ self.old.published ++ steps.Accept (event ∷ []) ∷ []) }
         ensures refused { IfErr result.0 (λ refusal. Refuses self.old.state (requests.Offer event) (Refused refusal)) }
         ensures same { OnErr result.0 (self.new ≡ self.old) }
         ensures receipt { result.1 ≡ self.new.published }
@@ -131,12 +136,51 @@ impl<N: Naming, R: Wait + Copy, T: Follows<N>> Locked<N, R, T> {
         if let Err(refusal) = self.book.admit(&event) {
             return (Err(refusal), self.board.receipt());
         }
-        let Ok(()) = self.board.grow(BoardStep::Accept(event)) else {
+        let Ok(()) = self.board.grow(BoardStep::Accept(EventBatch::of(event))) else {
             return (Err(Refusal::NoMemory), self.board.receipt());
         };
         let place = Place::new(self.book.len() as u32);
         self.book.accept(&event);
         (Ok(place), publish(&mut self.board))
+    }
+
+    /// Offers the events of a batch, of which there are 1 to `MAX_BATCH`: those before the first that is refused are
+    /// accepted, and published as one step. Where none is, nothing has changed. The receipt names all that is then
+    /// published.
+    pub fn offer_batch(&mut self, events: &[Event]) -> (Batched, Receipt<N>)
+        requires { IsBatch events.now }
+        ensures before { After N.limit self.old.published self.old.state }
+        ensures after { After N.limit self.new.published self.new.state }
+        ensures batched { IsBatched self.old.state events.now result.0 self.new.state }
+        ensures published { self.new.published ≡ self.old.published ++ accepting (take result.0.accepted events.now) }
+        ensures receipt { result.1 ≡ self.new.published }
+        ensures legal { IsLegal self.new.published }
+    {
+        if let Err(refusal) = self.book.admit(&events[0]) {
+            return (self.none_of(refusal), self.board.receipt());
+        }
+        let Some(batch) = EventBatch::new(events) else {
+            unreachable!();
+        };
+        let Ok(()) = self.board.grow(BoardStep::Accept(batch)) else {
+            return (self.none_of(Refusal::NoMemory), self.board.receipt());
+        };
+        let batched = self.book.accept_batch(events);
+        self.board.keep(usize::from(batched.accepted));
+        (batched, publish(&mut self.board))
+    }
+
+    /// What became of a batch of which this refuses the first event.
+    fn none_of(&self, refusal: Refusal) -> Batched
+        ensures accepted { result.accepted ≡ 0 }
+        ensures refusal { result.refusal ≡ Some refusal }
+        ensures length { result.length ≡ length self.now.state.accepted }
+    {
+        Batched {
+            accepted: 0,
+            refusal: Some(refusal),
+            length: self.book.len() as u32,
+        }
     }
 
     /// Asks about the present events. An opened question is published. The receipt names all that is then

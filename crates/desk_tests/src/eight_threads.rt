@@ -15,11 +15,11 @@ use std::thread;
 use std::thread::Threads;
 use trace_model::{Event, Op};
 
-const THREADS: usize = 8;
+pub(crate) const THREADS: usize = 8;
 
 const EACH: usize = 100;
 
-type Offered<N> = (Vec<u32>, Vec<Receipt<N>>);
+pub(crate) type Offered<N> = (Vec<u32>, Vec<Receipt<N>>);
 
 /// The places that one thread is given, and its receipts.
 fn offers<N: Naming, R: Wait + Copy, T: Follows<N>>(
@@ -65,7 +65,7 @@ fn offers_of_eight<N: Naming + Send + Sync, R: Threads + Wait + Abort + Copy + S
 }
 
 /// The places that all were given, in order. Their receipts are learnt.
-fn places_of_all<N: Naming>(
+pub(crate) fn places_of_all<N: Naming>(
     alloc: Global,
     reader: &mut BoardReader<N>,
     all: Vec<Result<Offered<N>, AllocError>>,

@@ -6,7 +6,7 @@ use std::marker::Brand;
 use std::process::Abort;
 use std::sync::Wait;
 use std::test::*;
-use trace_model::{BoardStep, Event, Op};
+use trace_model::{BoardStep, Event, EventBatch, Op};
 
 #[test]
 fn a_learnt_receipt_is_read(rt: HostRuntime) -> Result<(), Fail> {
@@ -68,7 +68,7 @@ fn publish_write<N: Naming, R: Wait + Copy>(
         thread: 0,
         op: Op::Write(1),
     };
-    writer.grow(BoardStep::Accept(event))?;
+    writer.grow(BoardStep::Accept(EventBatch::of(event)))?;
     writer.publish();
     Ok(())
 }

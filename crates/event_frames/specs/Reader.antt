@@ -31,7 +31,7 @@ pub record AwaitsMore (old new : Reading) : Type 0 where
   pub fault : fault_in old.rest old.ended ≡ None
   pub untold : old.told ≡ None
   pub same : (new.rest ≡ old.rest) × (new.told ≡ None) × (new.ended ≡ old.ended)
-  pub few : (length old.rest < 11) × (new.held ≡ length old.rest)
+  pub few : (length old.rest < 580) × (new.held ≡ length old.rest)
 
 -- a fault is told, now or as before
 pub record TellsFault (old : Reading) (fault : Fault) (new : Reading) : Type 0 where

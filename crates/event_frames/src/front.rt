@@ -1,27 +1,38 @@
 //! What stands at the front of the bytes of a session.
-ghost use Rattle.std.specs.Prelude.{◌≡◌, ◌+◌, ◌≤◌, length, take, true};
-ghost use Rattle.std.specs.Int.{w32, from_be_bytes};
-ghost use Rattle.trace_model.specs.Frames.{is_kind, length_of, header_fault, op_of, request_of};
+ghost use Rattle.std.specs.Prelude.{◌≡◌, ◌+◌, ◌≤◌, length, true, None};
+ghost use Rattle.trace_model.specs.Frames.{fields_fault, header_fault, is_kind, is_length_of, request_of};
 ghost use Rattle.event_frames.specs.Front.{IsFront};
 
-use trace_model::{Event, Fault, Op, Request};
+use crate::cells::{batch_fault, op_of, read_batch, word};
+use trace_model::{Event, Fault, Request};
 
 fn is_kind(kind: u8) -> bool
     ensures { result ≡ is_kind kind }
 {
-    1 <= kind && kind <= 9
+    1 <= kind && kind <= 10
 }
 
-/// The length of a body of this kind.
-fn length_of(kind: u8) -> u16
+/// Whether a body of this kind may have this length.
+fn is_length_of(kind: u8, len: u16) -> bool
     requires { is_kind kind ≡ true }
-    ensures { result ≡ length_of kind }
+    ensures { result ≡ is_length_of kind len }
 {
     match kind {
-        1..=6 => 9,
-        7 => 2,
-        8 | 9 => 5,
-        _ => unreachable!(),
+        1..=6 => len == 9,
+        7 => len == 2,
+        8 | 9 => len == 5,
+        _ => 11 <= len && len <= 578 && len % 9 == 2,
+    }
+}
+
+/// The fault of the fields of this kind that are there already, by the length of the body.
+fn fields_fault(kind: u8, len: u16, fields: &[u8]) -> Option<Fault>
+    ensures { result ≡ fields_fault kind len fields.now }
+{
+    if kind == 10 {
+        batch_fault(usize::from(len / 9), fields)
+    } else {
+        None
     }
 }
 
@@ -40,7 +51,7 @@ fn header_fault(bytes: &[u8]) -> Option<Fault>
                 None
             }
         }
-        [high, low, kind, ..] => {
+        [high, low, kind, fields @ ..] => {
             let len = u16::from_be_bytes([*high, *low]);
             if len == 0 {
                 return Some(Fault::BadLength);
@@ -48,43 +59,21 @@ fn header_fault(bytes: &[u8]) -> Option<Fault>
             if !is_kind(*kind) {
                 return Some(Fault::BadKind);
             }
-            if len != length_of(*kind) {
+            if !is_length_of(*kind, len) {
                 return Some(Fault::BadLength);
             }
-            None
+            fields_fault(*kind, len, fields)
         }
     }
 }
 
-/// The number in the first four bytes.
-fn word(bytes: &[u8]) -> u32
-    requires { 4 ≤ length bytes.now }
-    ensures { result ≡ from_be_bytes w32 (take 4 bytes.now) }
-{
-    u32::from_be_bytes([bytes[0], bytes[1], bytes[2], bytes[3]])
-}
-
-fn op_of(kind: u8, object: u32) -> Op
-    requires low { 1 ≤ kind }
-    requires high { kind ≤ 6 }
-    ensures { result ≡ op_of kind object }
-{
-    match kind {
-        1 => Op::Fork(object),
-        2 => Op::Join(object),
-        3 => Op::Acquire(object),
-        4 => Op::Release(object),
-        5 => Op::Read(object),
-        6 => Op::Write(object),
-        _ => unreachable!(),
-    }
-}
-
-/// The request of this kind whose fields are the first of these bytes.
+/// The request of this kind whose fields are the first of these bytes, by the length of its body.
 #[tactic(auto, unfolding(trace_model::specs::Frames::request_of))]
-fn request_of(kind: u8, fields: &[u8]) -> Request
+fn request_of(kind: u8, len: u16, fields: &[u8]) -> Request
     requires kind { is_kind kind ≡ true }
-    requires fields { length_of kind ≤ length fields.now + 1 }
+    requires right { is_length_of kind len ≡ true }
+    requires sound { fields_fault kind len fields.now ≡ None }
+    requires whole { len ≤ length fields.now + 1 }
     ensures { result ≡ request_of kind fields.now }
 {
     match kind {
@@ -95,7 +84,7 @@ fn request_of(kind: u8, fields: &[u8]) -> Request
         7 => Request::Ask(fields[0]),
         8 => Request::Answer(word(fields)),
         9 => Request::Status(word(fields)),
-        _ => unreachable!(),
+        _ => Request::Batch(read_batch(usize::from(fields[0]), &fields[1..])),
     }
 }
 
@@ -110,9 +99,9 @@ pub fn front(bytes: &[u8]) -> Result<Option<(Request, usize)>, Fault>
     let [high, low, kind, fields @ ..] = bytes else {
         return Ok(None);
     };
-    let len = u16::from_be_bytes([*high, *low]) as usize;
-    if fields.len() + 1 < len {
+    let len = u16::from_be_bytes([*high, *low]);
+    if fields.len() + 1 < usize::from(len) {
         return Ok(None);
     }
-    Ok(Some((request_of(*kind, fields), len + 2)))
+    Ok(Some((request_of(*kind, len, fields), usize::from(len) + 2)))
 }

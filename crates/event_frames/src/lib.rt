@@ -1,6 +1,7 @@
 //! Requests from bytes, in whatever pieces these come, requests as bytes, and replies as bytes.
 #![tactic(auto)]
 
+mod cells;
 mod front;
 mod reader;
 mod replies;
@@ -8,4 +9,4 @@ mod requests;
 
 pub use reader::FrameReader;
 pub use replies::{encode_reply, push_reply};
-pub use requests::{answer_frame, ask_frame, offer_frame, status_frame};
+pub use requests::{answer_frame, ask_frame, batch_frame, offer_frame, status_frame};

@@ -1,10 +1,10 @@
 //! Replies as bytes.
-ghost use Rattle.std.specs.Prelude.{◌≡◌, ◌+◌, ◌++◌, ◌≤◌, ◌<◌, length, OnOk, OnErr, IfOk, IsOk, vec_len, vec_capacity};
+ghost use Rattle.std.specs.Prelude.{◌≡◌, ◌+◌, ◌++◌, ◌≤◌, ◌<◌, ◌∷◌, length, OnOk, OnErr, IfOk, IsOk, vec_len, vec_capacity};
 ghost use Rattle.std.specs.Int.{w32, w64, to_be_bytes};
-ghost use Rattle.trace_model.specs.Replies.{reply_body, reply_frame, fault_number, three_words, status_fields, IsReply};
+ghost use Rattle.trace_model.specs.Replies.{reply_body, reply_frame, fault_number, refusal_number, three_words, status_fields, IsReply};
 
 use std::alloc::{AllocError, Global};
-use trace_model::{Fault, NoMemory, Reply};
+use trace_model::{Fault, NoMemory, Refusal, Reply};
 
 fn fault_number(fault: Fault) -> u8
     ensures { result ≡ fault_number fault }
@@ -13,6 +13,7 @@ fn fault_number(fault: Fault) -> u8
         Fault::BadKind => 1,
         Fault::BadLength => 2,
         Fault::Truncated => 3,
+        Fault::BadBatch => 4,
     }
 }
 
@@ -29,6 +30,7 @@ fn body_len(reply: &Reply) -> u32
         Reply::Report { text, .. } => 5 + text.as_slice().len() as u32,
         Reply::Status { .. } => 42,
         Reply::Fault(_) => 2,
+        Reply::Batched { .. } => 7,
     }
 }
 
@@ -85,6 +87,32 @@ fn put_status(
     out.extend_from_slice(&length.to_be_bytes())?;
     out.push(bound)?;
     put_counts(out, total, delivered, cycles, confirmed)?;
+    Ok(())
+}
+
+/// The number of what refuses an event, 0 for none.
+fn refusal_number(refusal: Option<Refusal>) -> u8
+    ensures { result ≡ refusal_number refusal }
+{
+    match refusal {
+        None => 0,
+        Some(refusal) => refusal.number(),
+    }
+}
+
+/// Adds what became of a batch at the end.
+fn put_batched(
+    out: &mut Vec<u8>,
+    accepted: u8,
+    refusal: Option<Refusal>,
+    length: u32,
+) -> Result<(), AllocError>
+    ensures ok { OnOk result (out.new.items ≡ out.old.items ++ (accepted ∷ refusal_number refusal ∷ to_be_bytes w32 length)) }
+    ensures room { vec_len out.old + 6 ≤ vec_capacity out.old → IsOk result }
+{
+    out.push(accepted)?;
+    out.push(refusal_number(refusal))?;
+    out.extend_from_slice(&length.to_be_bytes())?;
     Ok(())
 }
 
@@ -149,6 +177,14 @@ fn put_body(out: &mut Vec<u8>, reply: &Reply) -> Result<(), AllocError>
             out.push(71)?;
             out.push(fault_number(*fault))?;
             Ok(())
+        }
+        Reply::Batched {
+            accepted,
+            refusal,
+            length,
+        } => {
+            out.push(72)?;
+            put_batched(out, *accepted, *refusal, *length)
         }
     }
 }

@@ -1,44 +1,20 @@
 //! Requests as bytes.
-ghost use Rattle.std.specs.Prelude.{◌≡◌};
-ghost use Rattle.trace_model.specs.Frames.{frame, kind_of, object_of};
-ghost use Rattle.trace_model.specs.declared.session.Request.TheVariants.{Offer, Ask, Answer, Status};
+ghost use Rattle.std.specs.Prelude.{◌≡◌, IfOk};
+ghost use Rattle.trace_model.specs.Batches.{IsBatch};
+ghost use Rattle.trace_model.specs.Frames.{frame};
+ghost use Rattle.trace_model.specs.declared.session.Request.TheVariants.{Offer, Ask, Answer, Status, Batch};
 
-use trace_model::{Event, Op};
-
-fn kind_of(op: Op) -> u8
-    ensures { result ≡ kind_of op }
-{
-    match op {
-        Op::Fork(_) => 1,
-        Op::Join(_) => 2,
-        Op::Acquire(_) => 3,
-        Op::Release(_) => 4,
-        Op::Read(_) => 5,
-        Op::Write(_) => 6,
-    }
-}
-
-fn object_of(op: Op) -> u32
-    ensures { result ≡ object_of op }
-{
-    match op {
-        Op::Fork(object) => object,
-        Op::Join(object) => object,
-        Op::Acquire(object) => object,
-        Op::Release(object) => object,
-        Op::Read(object) => object,
-        Op::Write(object) => object,
-    }
-}
+use crate::cells::event_bytes;
+use std::alloc::Global;
+use trace_model::{Event, NoMemory};
 
 /// The frame that offers an event.
 #[tactic(auto, unfolding(trace_model::specs::Frames::frame))]
 pub fn offer_frame(event: &Event) -> [u8; 11]
     ensures { result ≡ frame (Offer event.now) }
 {
-    let [a, b, c, d] = event.thread.to_be_bytes();
-    let [e, f, g, h] = object_of(event.op).to_be_bytes();
-    [0, 9, kind_of(event.op), a, b, c, d, e, f, g, h]
+    let [kind, a, b, c, d, e, f, g, h] = event_bytes(event);
+    [0, 9, kind, a, b, c, d, e, f, g, h]
 }
 
 /// The frame that asks a question with this bound.
@@ -65,4 +41,23 @@ pub fn status_frame(question: u32) -> [u8; 7]
 {
     let [a, b, c, d] = question.to_be_bytes();
     [0, 5, 9, a, b, c, d]
+}
+
+/// The frame that offers these events at once, of which there must be 1 to `MAX_BATCH`.
+///
+/// # Errors
+///
+/// `NoMemory`.
+pub fn batch_frame(alloc: Global, events: &[Event]) -> Result<Vec<u8>, NoMemory>
+    requires { IsBatch events.now }
+    ensures { IfOk result (λ bytes. bytes.items ≡ frame (Batch events.now)) }
+{
+    let mut out = Vec::new(alloc);
+    let len = (2 + 9 * events.len()) as u16;
+    out.extend_from_slice(&len.to_be_bytes())?;
+    out.extend_from_slice(&[10, events.len() as u8])?;
+    for event in events {
+        out.extend_from_slice(&event_bytes(event))?;
+    }
+    Ok(out)
 }

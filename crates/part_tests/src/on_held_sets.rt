@@ -1,12 +1,12 @@
 use held_sets::{HeldSet, HeldTable};
 use std::hash::RandomState;
 use std::test::Fail;
-use trace_model::NoMemory;
+use trace_model::{MAX_HELD, NoMemory};
 
 /// Thread 1 takes the lock, if it may.
 fn acquire(table: &mut HeldTable, lock: u32) -> Result<(), NoMemory> {
     let held = table.held(1);
-    let may_acquire = !held.contains(lock) && held.locks().len() < 16;
+    let may_acquire = !held.contains(lock) && held.locks().len() < MAX_HELD;
     drop(held);
     if may_acquire {
         table.acquire(1, lock)?;

@@ -1,16 +1,16 @@
 -- The calls of a book are those of the machine.
-use Rattle.std.proofs.Common.{◌≡◌, ℕ, List, [], ◌∷◌, ◌++◌, Option, Result, inl, inr, refl, sym, ap, ◌∙◌}
+use Rattle.std.proofs.Common.{◌≡◌, ℕ, false, List, [], ◌∷◌, ◌++◌, Option, Result, refl, sym, ap, ◌∙◌}
 use Rattle.std.proofs.lemmas.List.Elements.{All-head, All-tail}
 use Rattle.trace_model.specs.declared.session.Request.{Request}
 use Rattle.trace_model.specs.declared.session.Reply.{Reply}
-use Rattle.trace_model.specs.declared.session.Reply.TheVariants.{Refused}
-use Rattle.trace_model.specs.declared.refusal.Refusal.TheVariants.{NoMemory}
 use Rattle.trace_model.specs.Replies.{reply_frame}
 use Rattle.trace_model.specs.Machine.{State}
 use Rattle.sequencer.specs.Book.{Kept}
 use Rattle.sequencer.specs.Drains.{state_called, answer_to}
 use Rattle.question_server.specs.Serving.{Call, Chain, Served, requests_called}
-use Rattle.question_server.specs.Books.{StepsOrMemory, AreMachines, ServedByMachine}
+use Rattle.sequencer.specs.Called.{StepsOrMemory, lacks_memory}
+use Rattle.sequencer.proofs.Called.{steps_exactly}
+use Rattle.question_server.specs.Books.{AreMachines, ServedByMachine}
 use Rattle.question_server.specs.declared.sessions.Ended.{Ended}
 use Rattle.question_server.specs.declared.sessions.ServeFault.{ServeFault}
 
@@ -24,14 +24,11 @@ chain_states old new (call ∷ calls) c = (c.0.state, (c.1.0, chain_states c.0 n
 machine_chain : (old new : State) (calls : List Call) → Chain StepsOrMemory old calls new → AreMachines old calls new
 machine_chain old new [] e none = (e, refl)
 machine_chain old new (call ∷ calls) c none =
-    let rest = machine_chain c.0 new calls c.1.1 (All-tail (λ (call : Call). call.1 ≡ Refused NoMemory → ⊥) call calls none) in
-    elim c.1.0 [
-      | inl s ↦ (
-        rest.0 ∙ ap (λ (p : Reply × State). state_called p.1 (requests_called calls)) (sym s),
-        ap (λ (x : List ℕ). reply_frame call.1 ++ x) rest.1 ∙ ap (λ (p : Reply × State). reply_frame p.0 ++ answer_to p.1 (requests_called calls)) (sym s),
-      )
-      | inr m ↦ absurd (All-head (λ (call : Call). call.1 ≡ Refused NoMemory → ⊥) call calls none m.0)
-    ]
+    let rest = machine_chain c.0 new calls c.1.1 (All-tail (λ (call : Call). lacks_memory call.1 ≡ false) call calls none) in
+    let s = steps_exactly old c.0 call.0 call.1 c.1.0 (All-head (λ (call : Call). lacks_memory call.1 ≡ false) call calls none) in (
+      rest.0 ∙ ap (λ (p : Reply × State). state_called p.1 (requests_called calls)) (sym s),
+      ap (λ (x : List ℕ). reply_frame call.1 ++ x) rest.1 ∙ ap (λ (p : Reply × State). reply_frame p.0 ++ answer_to p.1 (requests_called calls)) (sym s),
+    )
 
 pub served_by_machine : (left written : Option (List ℕ)) (old : Kept) (left' written' sent' : Option (List ℕ)) (new : Kept) (result : Result Ended ServeFault) → Served BookSteps left written old left' written' sent' new result → ServedByMachine left written old.state left' written' sent' new.state result
 served_by_machine left written old left' written' sent' new result s =

@@ -1,27 +1,16 @@
 -- How a book answers a session.
-use Rattle.std.specs.Prelude.{◌≡◌, ◌≢◌, ◌⊎◌, ℕ, List, Option, Result}
+use Rattle.std.specs.Prelude.{◌≡◌, ℕ, false, List, Option, Result}
 use Rattle.std.specs.List.{All}
-use Rattle.trace_model.specs.declared.session.Request.{Request}
-use Rattle.trace_model.specs.declared.session.Reply.{Reply}
-use Rattle.trace_model.specs.declared.session.Reply.TheVariants.{Refused}
-use Rattle.trace_model.specs.declared.refusal.Refusal.TheVariants.{NoMemory}
-use Rattle.trace_model.specs.Machine.{State, step}
-use Rattle.sequencer.specs.Book.{IsAccepted}
+use Rattle.trace_model.specs.Machine.{State}
+use Rattle.sequencer.specs.Called.{StepsOrMemory, lacks_memory}
 use Rattle.sequencer.specs.Drains.{state_called, answer_to}
-use Rattle.sequencer.specs.Printing.{printing}
 use Rattle.question_server.specs.Serving.{Call, requests_called, frames_of, Served}
 use Rattle.question_server.specs.declared.sessions.Ended.{Ended}
 use Rattle.question_server.specs.declared.sessions.ServeFault.{ServeFault}
 
--- the machine's reply, or a want of memory that changes nothing, where the machine accepts
-abbrev pub StepsOrMemory : State → Request → Reply → State → Type 0
-StepsOrMemory old request reply new =
-    (step printing old request ≡ (reply, new))
-    ⊎ ((reply ≡ Refused NoMemory) × (new ≡ old) × IsAccepted (step printing old request).0)
-
--- no call was refused for want of memory
+-- no reply tells a want of memory
 abbrev pub NoneLacksMemory : List Call → Type 0
-NoneLacksMemory calls = All (λ (call : Call). call.1 ≢ Refused NoMemory) calls
+NoneLacksMemory calls = All (λ (call : Call). lacks_memory call.1 ≡ false) calls
 
 -- the calls are those of the machine: its state after them, and the frames of its replies
 abbrev pub AreMachines : State → List Call → State → Type 0

@@ -1,31 +1,31 @@
 -- How a client of a desk answers a session.
-use Rattle.std.specs.Prelude.{◌≡◌, ◌⊎◌, ℕ, List, Option, Some, None, MatchOption}
+use Rattle.std.specs.Prelude.{◌≡◌, ◌⊎◌, ℕ, suc, List, [], ◌∷◌, take, Option, Some, None, MatchOption}
 use mathlib.Core.List.{IsPrefix}
 use Rattle.trace_model.specs.declared.limits.TheConstants.{MAX_EVENTS}
 use Rattle.trace_model.specs.declared.refusal.Refusal.TheVariants.{BoardBusy}
 use Rattle.trace_model.specs.declared.session.Request.{Request}
-use Rattle.trace_model.specs.declared.session.Request.TheVariants.{Offer, Ask, Status}
+use Rattle.trace_model.specs.declared.session.Request.TheVariants.{Offer, Ask, Status, Batch}
 use Rattle.trace_model.specs.declared.session.Reply.{Reply}
-use Rattle.trace_model.specs.declared.session.Reply.TheVariants.{Placed, Refused, Opened}
+use Rattle.trace_model.specs.declared.session.Reply.TheVariants.{Placed, Refused, Opened, Batched}
 use Rattle.trace_model.specs.declared.step.BoardStep.{BoardStep}
 use Rattle.trace_model.specs.declared.step.BoardStep.TheVariants.{Accept, Open}
-use Rattle.trace_model.specs.Machine.{State, step, status}
-use Rattle.sequencer.specs.Printing.{printing}
+use Rattle.trace_model.specs.Machine.{State, status}
 use Rattle.desk.specs.Published.{After, Afterwards, EndsBy}
-use Rattle.question_server.specs.Books.{StepsOrMemory}
+use Rattle.sequencer.specs.Called.{StepsOrMemory}
 
 -- the step that the request is published as where this reply accepts it, if it changes anything
 abbrev pub published_as : Request → Reply → Option BoardStep
-published_as (Offer e) (Placed place) = Some (Accept e)
+published_as (Offer e) (Placed place) = Some (Accept (e ∷ []))
 published_as (Ask bound) (Opened question len total) = Some (Open bound total)
+published_as (Batch events) (Batched (suc accepted) refusal len) = Some (Accept (take (suc accepted) events))
 published_as request reply = None
 
 -- The reply is the machine's after the run, which changes nothing; or the run ends with the step of the request,
--- by which the machine gave this reply.
+-- by which the machine gave this reply. Either may tell a want of memory.
 abbrev pub RepliesAfter : ℕ → Request → Reply → List BoardStep → Type 0
 RepliesAfter limit request reply run = MatchOption (published_as request reply)
     (Afterwards limit run (λ state. StepsOrMemory state request reply state))
-    (λ last. EndsBy limit run last (λ state next. step printing state request ≡ (reply, next)))
+    (λ last. EndsBy limit run last (λ state next. StepsOrMemory state request reply next))
 
 -- the run that the desk's receipt names, which is seen since, and the desk's reply
 pub record IsTold (limit : ℕ) (request : Request) (reply : Reply) (seen : List BoardStep) : Type 0 where

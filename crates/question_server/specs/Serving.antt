@@ -6,7 +6,7 @@ use Rattle.trace_model.specs.declared.session.Request.{Request}
 use Rattle.trace_model.specs.declared.session.Reply.{Reply}
 use Rattle.trace_model.specs.declared.session.Reply.TheVariants.{Fault as FaultReply}
 use Rattle.trace_model.specs.declared.session.Fault.{Fault}
-use Rattle.trace_model.specs.declared.session.Fault.TheVariants.{BadKind, BadLength, Truncated}
+use Rattle.trace_model.specs.declared.session.Fault.TheVariants.{BadKind, BadLength, Truncated, BadBatch}
 use Rattle.trace_model.specs.Frames.{requests_in, fault_in}
 use Rattle.trace_model.specs.Replies.{reply_frame}
 use Rattle.question_server.specs.declared.sessions.TheConstants.{PIECE}
@@ -82,6 +82,7 @@ abbrev pub StandsIn : List ℕ → Option (List ℕ) → Fault → Type 0
 StandsIn text left Truncated = (fault_in text true ≡ Some Truncated) × IsAtEnd left
 StandsIn text left BadKind = fault_in text false ≡ Some BadKind
 StandsIn text left BadLength = fault_in text false ≡ Some BadLength
+StandsIn text left BadBatch = fault_in text false ≡ Some BadBatch
 
 -- no fault stands in what was read before the last piece
 pub record StopsAtFault (text : List ℕ) : Type 0 where

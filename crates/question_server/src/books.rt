@@ -1,6 +1,7 @@
 //! A book that answers a session.
 ghost use Rattle.trace_model.specs.Machine.{State};
-ghost use Rattle.question_server.specs.Books.{StepsOrMemory, ServedByMachine};
+ghost use Rattle.sequencer.specs.Called.{StepsOrMemory};
+ghost use Rattle.question_server.specs.Books.{ServedByMachine};
 ghost use Rattle.question_server.specs.Serving.{Counts};
 
 use crate::ends::{Calls, Sink, Source};
@@ -8,18 +9,15 @@ use crate::sessions::{Ended, ServeFault, serve};
 use sequencer::Book;
 use std::alloc::Global;
 use std::sync::Wait;
-use trace_model::{Refusal, Reply, Request};
+use trace_model::{Reply, Request};
 
-/// A book answers requests as the machine does. Where a growth is refused the reply is `NoMemory`, and the book is
-/// as before.
+/// A book answers requests as the machine does. Where a growth is refused the reply tells `NoMemory`, and the book is
+/// as before, but for the events of a batch that came in before.
 impl Calls for Book {
     ghost steps = { λ old request reply new. StepsOrMemory old.state request reply new.state };
 
     fn call(&mut self, request: Request) -> Reply {
-        match Book::call(self, &request) {
-            Ok(reply) => reply,
-            Err(_) => Reply::Refused(Refusal::NoMemory),
-        }
+        Book::call(self, &request)
     }
 }
 

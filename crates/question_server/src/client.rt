@@ -1,6 +1,7 @@
 //! A desk as a session has it.
 ghost use Rattle.std.specs.Prelude.{◌≡◌};
 ghost use mathlib.Core.List.{IsPrefix};
+ghost use Rattle.trace_model.specs.Batches.{IsBatch};
 ghost use Rattle.trace_model.specs.Replies.{IsReply};
 ghost use Rattle.trace_model.specs.Runs as runs;
 ghost use Rattle.trace_model.specs.Runs.{shown_status};
@@ -71,6 +72,16 @@ impl<N: Naming, R: Wait + Copy, T: Follows<N>> Client<N, R, T> {
             Ok(place) => Reply::Placed(place),
             Err(refusal) => Reply::Refused(refusal),
         }
+    }
+
+    fn offer_batch(&mut self, events: &[Event]) -> Reply
+        requires { IsBatch events.now }
+        ensures told { IsTold N.limit (requests.Batch events.now) result self.new }
+        ensures later { IsPrefix self.old self.new }
+        ensures fits { IsReply result }
+    {
+        let told = self.desk.offer_batch(events);
+        self.learn(told).reply()
     }
 
     fn ask(&mut self, bound: u8) -> Reply
@@ -150,6 +161,7 @@ impl<N: Naming, R: Wait + Copy, T: Follows<N>> Calls for Client<N, R, T> {
             Request::Ask(bound) => self.ask(bound),
             Request::Answer(question) => self.answer(question),
             Request::Status(question) => self.status(question),
+            Request::Batch(batch) => self.offer_batch(batch.events()),
         }
     }
 }

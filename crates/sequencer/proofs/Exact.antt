@@ -1,27 +1,31 @@
 -- What is kept at every time: the rows that were delivered are exactly those of their tasks.
-use Rattle.std.proofs.Common.{◌≡◌, ℕ, zero, suc, ◌+◌, ◌-◌, ◌<◌, ◌≤◌, List, [], ◌∷◌, ◌++◌, length, map, take, get_or, slice_get, inl, inr, Option, Some, None, Ok, Err, refl, sym, ap, subst, ◌∙◌, arith}
+use Rattle.std.proofs.Common.{◌≡◌, ℕ, zero, suc, ◌+◌, ◌-◌, ◌<◌, ◌≤◌, List, [], ◌∷◌, ◌++◌, length, map, take, get_or, slice_get, inl, inr, Option, Some, None, Ok, Err, refl, sym, ap, subst, ◌∙◌, append_assoc, arith}
 use Rattle.std.specs.Prelude.{OnOk}
 use Rattle.std.specs.List.{All, Contains, count_by, flat_map}
 use Rattle.std.proofs.Math.Seq.{take-length, take-append-add}
 use Rattle.std.proofs.lemmas.Bool.{cases_lt}
-use Rattle.std.proofs.lemmas.List.{take-append-le, length-map, get_or-map}
+use Rattle.std.proofs.lemmas.List.{append-nil, take-append-le, length-map, get_or-map}
 use Rattle.std.proofs.lemmas.List.Elements.{All-nil, All-append}
 use Rattle.trace_model.specs.declared.limits.TheConstants.{MAX_EVENTS, MAX_CYCLES}
+use Rattle.trace_model.specs.declared.event.Event.{Event}
 use Rattle.trace_model.specs.declared.refusal.Refusal.{Refusal}
 use Rattle.trace_model.specs.declared.session.Request.{Request}
-use Rattle.trace_model.specs.declared.session.Request.TheVariants.{Offer, Ask, Answer, Status}
+use Rattle.trace_model.specs.declared.session.Request.TheVariants.{Offer, Ask, Answer, Status, Batch}
 use Rattle.trace_model.specs.declared.step.BoardStep.TheVariants.{Accept, Open, Deliver}
 use Rattle.trace_model.specs.Trace.{Trace}
 use Rattle.trace_model.specs.Lawful.{refusal_of, IsWellFormed}
+use Rattle.trace_model.specs.Batches.{AreLawful, taken_of}
 use Rattle.trace_model.specs.Dependencies.{dependencies}
 use Rattle.trace_model.specs.Cycles.{IsCycle}
 use Rattle.trace_model.specs.Rows.{Row, Found, IsRow, AreRows}
-use Rattle.trace_model.specs.Machine.{State, opening, is_confirmed, rows_of, offer, offer_next, ask, ask_refused, ask_next, deliver_next, step}
+use Rattle.trace_model.specs.Machine.{State, opening, is_confirmed, rows_of, with_event, with_events, offer, offer_next, ask, ask_refused, ask_next, deliver_next, step}
 use Rattle.trace_model.specs.Bounds.{StateFits}
+use Rattle.trace_model.proofs.Batches.{is_longest, lawful_parts}
 use Rattle.trace_model.proofs.Bounds.{opening_fits, step_fits}
 use Rattle.trace_model.proofs.Deadlock.{reached_deadlocks}
 use Rattle.trace_model.proofs.Growing.{well_formed_take}
-use Rattle.trace_model.proofs.Taking.{machine_steps}
+use Rattle.trace_model.proofs.Lists.{by_pushes}
+use Rattle.trace_model.proofs.Taking.{machine_steps, one_takes}
 use Rattle.findings.specs.Found.{FoundRows, AreRowsOf}
 use Rattle.sequencer.specs.Book.{outcome, findings_rows}
 use Rattle.sequencer.specs.Printing.{printing}
@@ -31,11 +35,27 @@ use Rattle.sequencer.proofs.Sent.{after_append, called}
 
 -- ---- one action
 
+abbrev FitsWith : State → List Event → Type 0
+FitsWith s events = AreLawful s.limit s.accepted events → StateFits AreRows (with_events s events)
+
+events_fit : (s : State) (events : List Event) → StateFits AreRows s → FitsWith s events
+events_fit s events h = by_pushes (FitsWith s) none more events
+  where
+    none : FitsWith s []
+    none lawful = subst (λ (a : Trace). StateFits AreRows (record s { accepted = a })) (sym (append-nil s.accepted)) h
+
+    more : (xs : List Event) (e : Event) → FitsWith s xs → FitsWith s (xs ++ e ∷ [])
+    more xs e before lawful =
+        let parts = lawful_parts s.limit s.accepted xs e lawful in
+        let longer : with_events s (xs ++ e ∷ []) ≡ with_event (with_events s xs) e =
+        ap (λ (a : Trace). record s { accepted = a }) (sym (append_assoc s.accepted xs (e ∷ []))) in
+        step_fits AreRows (with_events s xs) (with_events s (xs ++ e ∷ [])) (Accept (e ∷ [])) (one_takes AreRows (with_events s xs) (with_events s (xs ++ e ∷ [])) e parts.1 longer) (before parts.0)
+
 fits_called : (s : State) (r : Request) → StateFits AreRows s → StateFits AreRows (step printing s r).1
 fits_called s (Offer e) h = offered (refusal_of s.limit s.accepted e) refl
   where
     offered : (o : Option Refusal) → refusal_of s.limit s.accepted e ≡ o → StateFits AreRows (offer s e).1
-    offered None is = step_fits AreRows s (offer s e).1 (Accept e) ((machine_steps AreRows).offers s e is) h
+    offered None is = step_fits AreRows s (offer s e).1 (Accept (e ∷ [])) ((machine_steps AreRows).offers s e is) h
     offered (Some r) is = subst (StateFits AreRows) (sym (ap (offer_next s e) is)) h
 fits_called s (Ask bound) h = asked (ask_refused s bound) refl
   where
@@ -44,6 +64,7 @@ fits_called s (Ask bound) h = asked (ask_refused s bound) refl
     asked (Some r) is = subst (StateFits AreRows) (sym (ap (ask_next s bound) is)) h
 fits_called s (Answer number) h = h
 fits_called s (Status number) h = h
+fits_called s (Batch events) h = events_fit s (take (taken_of s.limit s.accepted events).0 events) h (is_longest s.limit s.accepted events).lawful
 
 -- a finding whose rows are exact where it is taken
 pub fits_brought : (s : State) (f : FoundRows) (d : Delivered) → (delivery s f).0 ≡ outcome d → OnOk d (AreRowsOf f.events f.bound f.task f.rows) → StateFits AreRows s → StateFits AreRows (delivery s f).1

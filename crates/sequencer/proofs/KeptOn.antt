@@ -17,7 +17,7 @@ use Rattle.trace_model.specs.Machine.{Question, State, ask_refused, cycles_of, d
 use Rattle.trace_model.specs.Bounds.{StateFits, QuestionFits}
 use Rattle.trace_model.proofs.Bounds.{opening_fits, step_fits, dependencies_few}
 use Rattle.trace_model.proofs.Lists.{get-push, get-set_other, get-set_same}
-use Rattle.trace_model.proofs.Taking.{admitted, machine_steps}
+use Rattle.trace_model.proofs.Taking.{admitted, machine_steps, one_takes}
 use Rattle.witness.specs.Printed.{Printed}
 use Rattle.findings.specs.Found.{AreNamed, AreRowsOf, FoundRows}
 use Rattle.sequencer.specs.Asked.{Told, question_of, rows_in, TellsNamed}
@@ -73,7 +73,7 @@ pub kept_event : (admitted limit : ℕ) (events : Trace) (asked : List Told) (e 
 kept_event admitted limit events asked e lawful kept =
     let s = state_of limit events asked in record {
       same_limit = kept.same_limit;
-      fits = step_fits AreRows s (with_event s e) (Accept e) (lawful, refl) kept.fits;
+      fits = step_fits AreRows s (with_event s e) (Accept (e ∷ [])) (one_takes AreRows s (with_event s e) e lawful refl) kept.fits;
       named = λ k told h.
           let within = (fits_at admitted limit events asked k told kept h).within in
           subst (λ front. TellsNamed front told) (sym (take-append-le told.length events (e ∷ []) within)) (kept.named k told h);

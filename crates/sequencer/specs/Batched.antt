@@ -2,10 +2,16 @@
 use Rattle.std.specs.Prelude.{◌≡◌, ◌≤◌, List, length, take, slice_get, Option, Some, None}
 use Rattle.trace_model.specs.declared.event.Event.{Event}
 use Rattle.trace_model.specs.declared.refusal.Refusal.{Refusal}
-use Rattle.trace_model.specs.Batches.{AreLawful, with_events}
-use Rattle.trace_model.specs.Machine.{State}
-use Rattle.sequencer.specs.Book.{RefusesOffer}
+use Rattle.trace_model.specs.Batches.{AreLawful}
+use Rattle.trace_model.specs.Machine.{State, with_events}
+use Rattle.trace_model.specs.Lawful.{refusal_of}
+use Rattle.sequencer.specs.Book.{Kept, RefusesOffer}
 use Rattle.sequencer.specs.declared.batching.Batched.{Batched}
+
+-- the first of the events was admitted to the book as it is
+abbrev pub FirstIsAdmitted : Kept → List Event → Type 0
+FirstIsAdmitted book events =
+    (e : Event) × (slice_get events 0 ≡ Some e) × (book.reserved ≡ Some e) × (refusal_of book.state.limit book.state.accepted e ≡ None)
 
 -- no event is left and none is refused, or the next one is, by the machine or for want of memory
 abbrev pub EndsBatch : State → Option Event → Option Refusal → Type 0

@@ -2,6 +2,7 @@ pub mod Asked
 pub mod Printing
 pub mod Book
 pub mod Batched
+pub mod Called
 pub mod Sessions
 pub mod Exact
 pub mod Drains

@@ -1,9 +1,11 @@
 //! Events that are offered at once.
+ghost use Rattle.std.specs.Prelude.{◌≡◌, ◌≤◌, length, slice_get, Some, None};
 ghost use Rattle.trace_model.specs.Batches.{IsBatch};
-ghost use Rattle.sequencer.specs.Batched.{IsBatched};
+ghost use Rattle.trace_model.specs.Lawful.{refusal_of};
+ghost use Rattle.sequencer.specs.Batched.{IsBatched, FirstIsAdmitted};
 
 use crate::book::Book;
-use trace_model::{Event, Refusal};
+use trace_model::{Event, Refusal, Reply};
 
 /// What became of a batch.
 #[derive(Clone, Copy, Debug, PartialEq, Eq)]
@@ -16,6 +18,21 @@ pub struct Batched {
     pub length: u32,
 }
 
+impl Batched {
+    ghost use Rattle.trace_model.specs.declared.session.Reply.TheVariants as replies;
+
+    /// The reply that tells it.
+    pub fn reply(self) -> Reply
+        ensures { result ≡ replies.Batched self.accepted self.refusal self.length }
+    {
+        Reply::Batched {
+            accepted: self.accepted,
+            refusal: self.refusal,
+            length: self.length,
+        }
+    }
+}
+
 impl Book {
     /// Accepts the events of a batch, of which there are 1 to `MAX_BATCH`, from the first on, up to one that is not
     /// lawful after those before it, or for which a growth is refused. That one and those after it change nothing.
@@ -23,12 +40,32 @@ impl Book {
         requires { IsBatch events.now }
         ensures { IsBatched self.old.state events.now result self.new.state }
     {
+        match self.admit(&events[0]) {
+            Ok(()) => self.accept_batch(events),
+            Err(refusal) => Batched {
+                accepted: 0,
+                refusal: Some(refusal),
+                length: self.length(),
+            },
+        }
+    }
+
+    /// Does what `offer_batch` does with a batch whose first event `admit` has admitted to this book as it is. That one
+    /// is accepted, for which no memory is taken.
+    pub fn accept_batch(&mut self, events: &[Event]) -> Batched
+        requires batch { IsBatch events.now }
+        requires admitted { FirstIsAdmitted self.old events.now }
+        ensures batched { IsBatched self.old.state events.now result self.new.state }
+        ensures some { 1 ≤ result.accepted }
+    {
         let length = self.length();
-        let mut accepted = 0;
-        for event in events {
+        self.accept(&events[0]);
+        let mut accepted = 1;
+        while accepted < events.len() {
+            let event = &events[accepted];
             if let Err(refusal) = self.admit(event) {
                 return Batched {
-                    accepted,
+                    accepted: accepted as u8,
                     refusal: Some(refusal),
                     length,
                 };
@@ -37,7 +74,7 @@ impl Book {
             accepted += 1;
         }
         Batched {
-            accepted,
+            accepted: accepted as u8,
             refusal: None,
             length,
         }

@@ -15,9 +15,10 @@ ghost use Rattle.sequencer.specs.declared.input.Input.TheVariants.{Piece, End};
 
 use crate::book::Book;
 use crate::input::{Input, MAX_SESSIONS, Session};
+use crate::step::lacks_memory;
 use event_frames::{FrameReader, push_reply};
 use findings::Finding;
-use std::alloc::Global;
+use std::alloc::{AllocError, Global};
 use std::hash::RandomState;
 use std::marker::Model;
 use thiserror::Error;
@@ -86,7 +87,10 @@ fn drain(book: &mut Book, reader: &mut FrameReader, sent: &mut Vec<u8>) -> Resul
     loop {
         match reader.next() {
             Ok(Some(request)) => {
-                let reply = book.call(&request)?;
+                let reply = book.call(&request);
+                if lacks_memory(&reply) {
+                    return Err(NoMemory::from(AllocError));
+                }
                 send(sent, reply)?;
             }
             Ok(None) => return Ok(()),

@@ -1,18 +1,18 @@
 //! A request in two parts: what may be refused, and what takes no memory.
 
-ghost use Rattle.std.specs.Prelude.{◌≡◌, IfErr, IfOk, OnErr};
+ghost use Rattle.std.specs.Prelude.{◌≡◌, IfErr, IfOk};
 ghost use Rattle.trace_model.specs.Machine as machine;
 ghost use Rattle.trace_model.specs.Replies.{IsReply};
 ghost use Rattle.trace_model.specs.declared.session.Request.TheVariants as requests;
-ghost use Rattle.sequencer.specs.Book.{IsAccepted, IsPrepared, IsRefusal, Refuses, TakesMemory, request_of};
+ghost use Rattle.sequencer.specs.Book.{IsPrepared, IsRefusal, Refuses, request_of};
+ghost use Rattle.sequencer.specs.Called.{IsSingle, StepsOrMemory, WantsRightly, lacks_memory};
 ghost use Rattle.sequencer.specs.Printing.{printing};
 
 use crate::answering::Answer;
 use crate::asked::Asked;
 use crate::book::Book;
-use std::alloc::AllocError;
 use std::marker::Model;
-use trace_model::{Event, NoMemory, Place, Refusal, Reply, Request};
+use trace_model::{Event, Place, Refusal, Reply, Request};
 
 /// What a step does: it adds an event or a question, or tells of the question with this number.
 #[derive(Drop)]
@@ -48,13 +48,14 @@ impl Step {
 }
 
 impl Book {
-    /// Tests a request and makes every growth for it. What a reply shows is unchanged.
+    /// Tests a request, which must be no batch, and makes every growth for it. What a reply shows is unchanged.
     ///
     /// # Errors
     ///
     /// The reply that refuses the request. `NoMemory` comes after all tests passed, and only where an event or a
     /// question would be added or a report printed.
     pub fn prepare(&mut self, request: &Request) -> Result<Step, Reply>
+        requires { IsSingle request.now }
         ensures shown { self.new.state ≡ self.old.state }
         ensures ok { IfOk result (λ planned. (request_of planned.change ≡ request.now) × IsPrepared self.new planned) }
         ensures refused { IfErr result (Refuses self.old.state request.now) }
@@ -65,6 +66,7 @@ impl Book {
             Request::Ask(bound) => self.prepare_ask(*bound),
             Request::Answer(question) => self.prepare_answer(*question),
             Request::Status(question) => self.prepare_status(*question),
+            Request::Batch(_) => unreachable!(),
         }
     }
 
@@ -163,22 +165,33 @@ impl Book {
         reply
     }
 
-    /// The reply to a request, which is prepared and committed.
-    ///
-    /// # Errors
-    ///
-    /// `NoMemory` where the request is not refused otherwise and an event or a question would be added or a report
-    /// printed. Nothing has changed.
-    pub fn call(&mut self, request: &Request) -> Result<Reply, NoMemory>
-        ensures ok { IfOk result (λ reply. machine.step printing self.old.state request.now ≡ (reply, self.new.state)) }
-        ensures fits { IfOk result IsReply }
-        ensures err { OnErr result ((self.new.state ≡ self.old.state) × IsAccepted (machine.step printing self.old.state request.now).0) }
-        ensures wanting { OnErr result (TakesMemory (machine.step printing self.old.state request.now).0) }
+    /// The reply to a request: a batch is offered, any other request is prepared and committed. `Refusal::NoMemory` is
+    /// told where a growth was refused: nothing has changed then, but for the events of a batch that came in before.
+    pub fn call(&mut self, request: &Request) -> Reply
+        ensures steps { StepsOrMemory self.old.state request.now result self.new.state }
+        ensures wanting { WantsRightly self.old.state request.now result }
+        ensures fits { IsReply result }
     {
-        match self.prepare(request) {
-            Ok(planned) => Ok(self.commit(planned)),
-            Err(Reply::Refused(Refusal::NoMemory)) => Err(NoMemory::from(AllocError)),
-            Err(reply) => Ok(reply),
+        if let Request::Batch(batch) = request {
+            return self.offer_batch(batch.events()).reply();
         }
+        match self.prepare(request) {
+            Ok(planned) => self.commit(planned),
+            Err(reply) => reply,
+        }
+    }
+}
+
+/// Whether the reply tells that a growth was refused.
+pub(crate) fn lacks_memory(reply: &Reply) -> bool
+    ensures { result ≡ lacks_memory reply.now }
+{
+    match reply {
+        Reply::Refused(Refusal::NoMemory) => true,
+        Reply::Batched {
+            refusal: Some(Refusal::NoMemory),
+            ..
+        } => true,
+        _ => false,
     }
 }

@@ -19,12 +19,15 @@ pub mod Owners
 pub mod Depths
 pub mod Deadlock
 pub mod Unique
+pub mod Batches
+pub mod BatchFrames
 pub mod Summary
 pub mod Bounds
 pub mod Taking
 pub mod Bytes
 pub mod Written
 pub mod Fronts
+pub mod FormerTexts
 pub mod FrontSizes
 pub mod Readings
 pub mod Texts

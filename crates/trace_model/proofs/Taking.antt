@@ -1,6 +1,7 @@
 -- How runs go on, and which steps the machine takes.
 use Rattle.std.proofs.Common.{◌≡◌, ℕ, ◌≤◌, not, ◌==◌, List, [], ◌∷◌, ◌++◌, length, take, slice_get, Option, Some, None, refl, sym, ap, subst, ◌∙◌, arith}
 use Rattle.std.proofs.lemmas.Bool.{eqb-true, not-false}
+use Rattle.std.proofs.lemmas.List.{length-take}
 use Rattle.std.proofs.lemmas.Option.{none-some, same_Some, slice_get_within}
 use Rattle.std.specs.List.{count_by}
 use Rattle.trace_model.specs.declared.event.Event.{Event}
@@ -10,12 +11,14 @@ use Rattle.trace_model.specs.declared.step.BoardStep.{BoardStep}
 use Rattle.trace_model.specs.declared.step.BoardStep.TheVariants.{Accept, Open, Deliver}
 use Rattle.trace_model.specs.Trace.{Trace}
 use Rattle.trace_model.specs.Lawful.{refusal_of}
+use Rattle.trace_model.specs.Batches.{IsBatch, taken_of}
 use Rattle.trace_model.specs.Dependencies.{dependencies}
 use Rattle.trace_model.specs.Rows.{Row, AreRows, AreSound}
-use Rattle.trace_model.specs.Machine.{Question, State, opening, is_confirmed, offer, offer_next, ask, ask_next, ask_refused, same_events, task_refused, deliver, deliver_next, deliver_refused, deliver_refused_by, with_rows, with_task, status_of, status}
+use Rattle.trace_model.specs.Machine.{Question, State, opening, is_confirmed, offer, offer_batch, offer_next, with_event, ask, ask_next, ask_refused, same_events, task_refused, deliver, deliver_next, deliver_refused, deliver_refused_by, with_rows, with_task, status_of, status}
 use Rattle.trace_model.specs.Runs.{Good, TakesStep, IsRun, IsLegal, Summary, Shown, ShowsState, shown_status_of, shown_status}
 use Rattle.trace_model.specs.RunLaws.{MachineSteps}
 use Rattle.trace_model.proofs.Lawful.{passes}
+use Rattle.trace_model.proofs.Batches.{is_longest, lawful_one}
 use Rattle.trace_model.proofs.OneMore.{lawful_higher}
 use Rattle.trace_model.proofs.Summary.{same_events_so}
 use Rattle.trace_model.proofs.Unique.{rows_unique, rows_sound}
@@ -41,8 +44,12 @@ run_push good s mid last steps step run takes = run_joins good s mid last steps 
 
 -- ---- the machine
 
-offer_takes : (good : Good) (s : State) (e : Event) → refusal_of s.limit s.accepted e ≡ None → TakesStep good s (Accept e) (offer s e).1
-offer_takes good s e h = (h, ap (offer_next s e) h)
+-- an event alone
+pub one_takes : (good : Good) (s next : State) (e : Event) → refusal_of s.limit s.accepted e ≡ None → next ≡ with_event s e → TakesStep good s (Accept (e ∷ [])) next
+one_takes good s next e h is = ((omega arith, omega arith), lawful_one s.limit s.accepted e h, is)
+
+offer_takes : (good : Good) (s : State) (e : Event) → refusal_of s.limit s.accepted e ≡ None → TakesStep good s (Accept (e ∷ [])) (offer s e).1
+offer_takes good s e h = one_takes good s (offer s e).1 e h (ap (offer_next s e) h)
 
 ask_takes : (good : Good) (s : State) (bound : ℕ) → ask_refused s bound ≡ None → TakesStep good s (Open bound (length (dependencies s.accepted))) (ask s bound).1
 ask_takes good s bound h = (h, refl, ap (ask_next s bound) h)
@@ -92,13 +99,19 @@ deliver_takes good s number bound events task rows h ok few =
       ap (deliver_next s number task rows) h ∙ ap (λ o. with_rows s number o task rows) a.known,
     )
 
+batch_takes : (good : Good) (s : State) (events : List Event) → IsBatch events → 1 ≤ (taken_of s.limit s.accepted events).0 →
+    TakesStep good s (Accept (take (taken_of s.limit s.accepted events).0 events)) (offer_batch s events).1
+batch_takes good s events (some, few) taken =
+    let n = (taken_of s.limit s.accepted events).0 in
+    ((omega (arith, length-take n events), omega (arith, length-take n events)), (is_longest s.limit s.accepted events).lawful, refl)
+
 pub machine_steps : (good : Good) → MachineSteps good
-machine_steps good = record { offers = offer_takes good; asks = ask_takes good; delivers = deliver_takes good }
+machine_steps good = record { offers = offer_takes good; batches = batch_takes good; asks = ask_takes good; delivers = deliver_takes good }
 
 -- ---- one state after a run
 
 pub step_unique : (s a b : State) (step : BoardStep) → TakesStep AreRows s step a → TakesStep AreRows s step b → a ≡ b
-step_unique s a b (Accept e) (h, p) (k, q) = p ∙ sym q
+step_unique s a b (Accept es) (some, h, p) (many, k, q) = p ∙ sym q
 step_unique s a b (Open bound total) (h, i, p) (k, j, q) = p ∙ sym q
 step_unique s a b (Deliver number task cycles confirmed) (q, rows, at, m, ok, few, c, f, is) (r, others, at', m', ok', few', c', f', is') =
     let same : q ≡ r = same_Some q r (sym at ∙ at') in
@@ -116,7 +129,7 @@ run_unique s a b (step ∷ steps) (m, t, r) (n, u, q) =
 
 step_weaker : (good more : Good) → ((s : Trace) (bound task : ℕ) (rows : List Row) → good s bound task rows → more s bound task rows) →
     (s next : State) (step : BoardStep) → TakesStep good s step next → TakesStep more s step next
-step_weaker good more f s next (Accept e) h = h
+step_weaker good more f s next (Accept es) h = h
 step_weaker good more f s next (Open bound total) h = h
 step_weaker good more f s next (Deliver number task cycles confirmed) (q, rows, at, m, ok, few, c, k, is) =
     (q, rows, at, m, f (take q.length s.accepted) q.bound task rows ok, few, c, k, is)
@@ -136,8 +149,8 @@ raised more s = record s { limit = more }
 
 step_raised : (good : Good) (more : ℕ) (s next : State) (step : BoardStep) → s.limit ≤ more → TakesStep good s step next →
     TakesStep good (raised more s) step (raised more next) × (next.limit ≡ s.limit)
-step_raised good more s next (Accept e) le (h, p) =
-    ((lawful_higher s.limit more s.accepted e le h, ap (raised more) p), ap (λ x. x.limit) p)
+step_raised good more s next (Accept es) le (some, h, p) =
+    ((some, (λ k e at. lawful_higher s.limit more (s.accepted ++ take k es) e le (h k e at)), ap (raised more) p), ap (λ x. x.limit) p)
 step_raised good more s next (Open bound total) le (h, i, p) = ((h, i, ap (raised more) p), ap (λ x. x.limit) p)
 step_raised good more s next (Deliver number task cycles confirmed) le (q, rows, at, m, ok, few, c, f, p) =
     ((q, rows, at, m, ok, few, c, f, ap (raised more) p), ap (λ x. x.limit) p)

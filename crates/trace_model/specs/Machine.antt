@@ -5,12 +5,13 @@ use Rattle.trace_model.specs.declared.event.Event.{Event}
 use Rattle.trace_model.specs.declared.refusal.Refusal.{Refusal}
 use Rattle.trace_model.specs.declared.refusal.Refusal.TheVariants.{BadBound, TooManyQuestions, NoSuchQuestion, ReportTooLong, NoSuchTask, Double, OtherBound, OtherTrace}
 use Rattle.trace_model.specs.declared.session.Request.{Request}
-use Rattle.trace_model.specs.declared.session.Request.TheVariants.{Offer, Ask, Answer, Status as AskStatus}
+use Rattle.trace_model.specs.declared.session.Request.TheVariants.{Offer, Ask, Answer, Status as AskStatus, Batch}
 use Rattle.trace_model.specs.declared.session.Reply.{Reply}
-use Rattle.trace_model.specs.declared.session.Reply.TheVariants.{Placed, Refused, Opened, Pending, Report, Status}
+use Rattle.trace_model.specs.declared.session.Reply.TheVariants.{Placed, Refused, Opened, Pending, Report, Status, Batched}
 use Rattle.trace_model.specs.declared.limits.TheConstants.{MIN_BOUND, MAX_BOUND, MAX_QUESTIONS, MAX_REPORT}
 use Rattle.trace_model.specs.Trace.{Trace, op_eq}
 use Rattle.trace_model.specs.Lawful.{refusal_of}
+use Rattle.trace_model.specs.Batches.{taken_of}
 use Rattle.trace_model.specs.Dependencies.{dependencies}
 use Rattle.trace_model.specs.Rows.{Row}
 
@@ -53,6 +54,10 @@ Printing = Trace → ℕ → Question → List ℕ
 abbrev pub with_event : State → Event → State
 with_event s e = record s { accepted = s.accepted ++ e ∷ [] }
 
+-- the state with these events too
+abbrev pub with_events : State → List Event → State
+with_events s events = record s { accepted = s.accepted ++ events }
+
 abbrev pub with_question : State → ℕ → State
 with_question s bound =
     let fresh : Question = record { length = length s.accepted; bound = bound; tasks = replicate (length (dependencies s.accepted)) None } in
@@ -74,6 +79,12 @@ offer_next s e (Some r) = s
 -- an event is accepted if it is lawful
 abbrev pub offer : State → Event → Reply × State
 offer s e = let r = refusal_of s.limit s.accepted e in (offer_reply s r, offer_next s e r)
+
+-- events that are offered at once are accepted up to the first one that is not lawful after those before it
+abbrev pub offer_batch : State → List Event → Reply × State
+offer_batch s events =
+    let taken = taken_of s.limit s.accepted events in
+    (Batched taken.0 taken.1 (length s.accepted), with_events s (take taken.0 events))
 
 abbrev pub ask_refused : State → ℕ → Option Refusal
 ask_refused s bound =
@@ -156,3 +167,4 @@ step text s (Offer e) = offer s e
 step text s (Ask bound) = ask s bound
 step text s (Answer number) = (answer text s number, s)
 step text s (AskStatus number) = (status s number, s)
+step text s (Batch events) = offer_batch s events

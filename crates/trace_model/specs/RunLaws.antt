@@ -1,5 +1,5 @@
 -- Laws of runs.
-use Rattle.std.specs.Prelude.{◌≡◌, ℕ, ◌≤◌, ◌↔◌, List, ◌++◌, length, None}
+use Rattle.std.specs.Prelude.{◌≡◌, ℕ, ◌≤◌, ◌↔◌, List, [], ◌∷◌, ◌++◌, length, take, None}
 use Rattle.std.specs.List.{count_by}
 use Rattle.trace_model.specs.declared.event.Event.{Event}
 use Rattle.trace_model.specs.declared.limits.TheConstants.{MAX_CYCLES, MAX_EVENTS}
@@ -7,9 +7,10 @@ use Rattle.trace_model.specs.declared.step.BoardStep.{BoardStep}
 use Rattle.trace_model.specs.declared.step.BoardStep.TheVariants.{Accept, Open, Deliver}
 use Rattle.trace_model.specs.Trace.{Trace}
 use Rattle.trace_model.specs.Lawful.{refusal_of}
+use Rattle.trace_model.specs.Batches.{IsBatch, taken_of}
 use Rattle.trace_model.specs.Dependencies.{dependencies}
 use Rattle.trace_model.specs.Rows.{Row, AreRows, AreSound}
-use Rattle.trace_model.specs.Machine.{State, opening, is_confirmed, offer, ask, ask_refused, deliver, deliver_refused, status}
+use Rattle.trace_model.specs.Machine.{State, opening, is_confirmed, offer, offer_batch, ask, ask_refused, deliver, deliver_refused, status}
 use Rattle.trace_model.specs.Runs.{Good, TakesStep, IsRun, IsLegal, SummaryIsState, Summary, ShowsState, shown_status}
 use Rattle.trace_model.specs.Bounds.{RunFits}
 
@@ -31,7 +32,9 @@ RunsSplit = RunSplits AreRows × RunSplits AreSound
 
 -- where the machine refuses nothing it takes a step
 pub record MachineSteps (good : Good) : Type 0 where
-  pub offers : (s : State) (e : Event) → refusal_of s.limit s.accepted e ≡ None → TakesStep good s (Accept e) (offer s e).1
+  pub offers : (s : State) (e : Event) → refusal_of s.limit s.accepted e ≡ None → TakesStep good s (Accept (e ∷ [])) (offer s e).1
+  pub batches : (s : State) (events : List Event) → IsBatch events → 1 ≤ (taken_of s.limit s.accepted events).0 →
+      TakesStep good s (Accept (take (taken_of s.limit s.accepted events).0 events)) (offer_batch s events).1
   pub asks : (s : State) (bound : ℕ) → ask_refused s bound ≡ None →
       TakesStep good s (Open bound (length (dependencies s.accepted))) (ask s bound).1
   pub delivers : (s : State) (number bound : ℕ) (events : Trace) (task : ℕ) (rows : List Row) →

@@ -5,10 +5,10 @@ use Rattle.trace_model.specs.declared.limits.TheConstants.{MAX_EVENTS, MAX_CYCLE
 use Rattle.trace_model.specs.declared.step.BoardStep.{BoardStep}
 use Rattle.trace_model.specs.declared.step.BoardStep.TheVariants.{Accept, Open, Deliver}
 use Rattle.trace_model.specs.Trace.{Trace}
-use Rattle.trace_model.specs.Lawful.{refusal_of}
+use Rattle.trace_model.specs.Batches.{AreLawful, IsBatch}
 use Rattle.trace_model.specs.Dependencies.{dependencies}
 use Rattle.trace_model.specs.Rows.{Row, AreRows}
-use Rattle.trace_model.specs.Machine.{Question, State, opening, ask_refused, is_confirmed, delivered, cycles_of, confirmed_of, with_event, with_question, with_task}
+use Rattle.trace_model.specs.Machine.{Question, State, opening, ask_refused, is_confirmed, delivered, cycles_of, confirmed_of, with_events, with_question, with_task}
 use Rattle.trace_model.specs.declared.session.Reply.{Reply}
 use Rattle.trace_model.specs.declared.session.Reply.TheVariants.{Refused, Status}
 use Rattle.trace_model.specs.declared.refusal.Refusal.TheVariants.{NoSuchQuestion}
@@ -19,8 +19,8 @@ Good = Trace → ℕ → ℕ → List Row → Type 0
 
 -- the machine accepts the step where it stands
 abbrev pub TakesStep : Good → State → BoardStep → State → Type 0
-TakesStep good s (Accept e) next =
-    (refusal_of s.limit s.accepted e ≡ None) × (next ≡ with_event s e)
+TakesStep good s (Accept events) next =
+    IsBatch events × AreLawful s.limit s.accepted events × (next ≡ with_events s events)
 TakesStep good s (Open bound total) next =
     (ask_refused s bound ≡ None) × (total ≡ length (dependencies s.accepted)) × (next ≡ with_question s bound)
 TakesStep good s (Deliver number task cycles confirmed) next =
@@ -61,7 +61,7 @@ add_delivery shown (Some q) number cycles confirmed =
     slice_set shown number more
 
 abbrev pub count_step : Summary → BoardStep → Summary
-count_step b (Accept e) = record b { accepted = b.accepted + 1 }
+count_step b (Accept events) = record b { accepted = b.accepted + length events }
 count_step b (Open bound total) =
     let fresh : Shown = record { before = b.accepted; bound = bound; total = total; delivered = 0; cycles = 0; confirmed = 0 } in
     record b { questions = b.questions ++ fresh ∷ [] }

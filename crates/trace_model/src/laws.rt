@@ -4,6 +4,8 @@ ghost use Rattle.trace_model.specs.Laws.{HeldIsHeld, WriterIsGreatest, ReleaseIs
 ghost use Rattle.trace_model.specs.EventLaws.{OneMoreEvent, OwnerHolds, HeldAreFew, LawfulHigher};
 ghost use Rattle.trace_model.specs.RunLaws.{SummariesAreStates, RunsFit, RunsSplit, MachineTakesSteps, RunsAreUnique, RunsAreSound, RunsAreLegal, StatusesAreShown};
 ghost use Rattle.trace_model.specs.Frames.{OneReading};
+ghost use Rattle.trace_model.specs.FormerFrames.{FormerTextsKeep};
+ghost use Rattle.trace_model.specs.Batches.{BatchesAreLongest};
 
 /// The look-ups are what their words say.
 pub fn lookups_are_exact()
@@ -111,7 +113,17 @@ pub fn runs_go_on()
     ensures status { StatusesAreShown }
 {}
 
+/// A batch is taken up to its first event that is not lawful after those before it.
+pub fn batches_are_longest()
+    ensures { BatchesAreLongest }
+{}
+
 /// Each text of bytes has one reading.
 pub fn one_reading()
     ensures { OneReading }
+{}
+
+/// A text without a batch is read as it was before there were batches.
+pub fn former_texts_keep()
+    ensures { FormerTextsKeep }
 {}

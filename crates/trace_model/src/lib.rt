@@ -15,7 +15,7 @@ mod report;
 mod session;
 mod step;
 
-pub use batch::MAX_BATCH;
+pub use batch::{EventBatch, MAX_BATCH};
 pub use bound::Bound;
 pub use event::{Event, Op};
 pub use instance::Instance;

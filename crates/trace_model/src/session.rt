@@ -1,3 +1,4 @@
+use crate::batch::EventBatch;
 use crate::event::Event;
 use crate::place::Place;
 use crate::refusal::Refusal;
@@ -10,6 +11,8 @@ pub enum Request {
     Ask(u8),
     Answer(u32),
     Status(u32),
+    /// Offers these events at once.
+    Batch(EventBatch),
 }
 
 /// What is wrong with the bytes of a session.
@@ -18,6 +21,8 @@ pub enum Fault {
     BadKind,
     BadLength,
     Truncated,
+    /// The events of a batch are not as many as its length says, or one has no kind.
+    BadBatch,
 }
 
 /// What a session is answered.
@@ -51,4 +56,13 @@ pub enum Reply {
         confirmed: u64,
     },
     Fault(Fault),
+    /// What became of a batch.
+    Batched {
+        /// How many of its events were accepted, from the first on.
+        accepted: u8,
+        /// What refuses the next one, none where all were accepted.
+        refusal: Option<Refusal>,
+        /// How many events were accepted before the batch: the place of its first one.
+        length: u32,
+    },
 }

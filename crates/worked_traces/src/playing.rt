@@ -4,7 +4,7 @@ ghost use Rattle.sequencer.specs.Book.{IsLimit};
 use crate::replies::{Bytes, print_refusal, print_reply};
 use anyhow::{Context, Result, bail};
 use commands::{Command, read_script};
-use event_frames::{answer_frame, ask_frame, offer_frame, status_frame};
+use event_frames::{answer_frame, ask_frame, batch_frame, offer_frame, status_frame};
 use findings::Finding;
 use sequencer::{Book, Input, Played, Session, play};
 use std::alloc::Global;
@@ -36,23 +36,28 @@ struct Sender {
 }
 
 impl Sender {
-    fn send(&mut self, command: Command) -> Result<Awaited> {
+    fn send(&mut self, command: &Command) -> Result<Awaited> {
         match command {
             Command::Offer(event) => {
-                let _ = self.book.offer(event);
-                self.request(&offer_frame(&event))
+                let _ = self.book.offer(*event);
+                self.request(&offer_frame(event))
+            }
+            Command::Batch(batch) => {
+                let _ = self.book.offer_batch(batch.events());
+                let frame = batch_frame(self.alloc, batch.events())?;
+                self.request(&frame)
             }
             Command::Ask(bound) => {
-                let _ = self.book.ask(bound);
-                self.request(&ask_frame(bound))
+                let _ = self.book.ask(*bound);
+                self.request(&ask_frame(*bound))
             }
-            Command::Answer(question) => self.request(&answer_frame(question)),
-            Command::Status(question) => self.request(&status_frame(question)),
-            Command::Deliver { question, task } => match self.deliver(question, task)? {
+            Command::Answer(question) => self.request(&answer_frame(*question)),
+            Command::Status(question) => self.request(&status_frame(*question)),
+            Command::Deliver { question, task } => match self.deliver(*question, *task)? {
                 Some(refusal) => Ok(Awaited::Refused(refusal)),
-                None => Ok(Awaited::Delivery(task)),
+                None => Ok(Awaited::Delivery(*task)),
             },
-            Command::Work(question) => self.work(question),
+            Command::Work(question) => self.work(*question),
         }
     }
 
@@ -60,7 +65,7 @@ impl Sender {
     fn send_all(&mut self, commands: &[Command]) -> Result<Vec<Awaited>> {
         let mut awaited = Vec::new(self.alloc);
         for command in commands {
-            awaited.push(self.send(*command)?)?;
+            awaited.push(self.send(command)?)?;
         }
         Ok(awaited)
     }

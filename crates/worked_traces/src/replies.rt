@@ -63,6 +63,17 @@ fn print_status(text: &mut Vec<u8>, body: &mut Bytes<'_>) -> Result<()> {
     Ok(())
 }
 
+fn print_batched(text: &mut Vec<u8>, body: &mut Bytes<'_>) -> Result<()> {
+    let accepted = body.byte()?;
+    let refusal = body.byte()?;
+    let length = body.number()?;
+    writeln!(text, "batch {accepted} at {length}")?;
+    if refusal != 0 {
+        print_refusal(text, refusal)?;
+    }
+    Ok(())
+}
+
 /// Prints the next reply.
 pub(crate) fn print_reply(text: &mut Vec<u8>, sent: &mut Bytes<'_>) -> Result<()> {
     let mut body = sent.body()?;
@@ -93,6 +104,7 @@ pub(crate) fn print_reply(text: &mut Vec<u8>, sent: &mut Bytes<'_>) -> Result<()
             body.0 = &[];
         }
         70 => print_status(text, &mut body)?,
+        72 => print_batched(text, &mut body)?,
         _ => bail!("a reply of another kind"),
     }
     if !body.0.is_empty() {

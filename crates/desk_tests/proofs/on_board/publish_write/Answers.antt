@@ -5,17 +5,23 @@ use Rattle.trace_model.specs.declared.step.BoardStep.TheVariants.{Accept}
 use Rattle.trace_model.specs.declared.limits.TheConstants.{MAX_EVENTS}
 use Rattle.trace_model.specs.Trace.{event}
 use Rattle.trace_model.specs.Machine.{opening, with_event}
+use Rattle.trace_model.specs.Rows.{AreRows}
 use Rattle.trace_model.specs.Runs.{IsLegal}
+use Rattle.trace_model.proofs.Taking.{one_takes}
 use Rattle.desk_tests.proofs.on_board.publish_write.Goals as goal
 
 abbrev one : List BoardStep
-one = Accept (event 0 (Write 1)) ∷ []
+one = Accept (event 0 (Write 1) ∷ []) ∷ []
 
 legal : IsLegal one
-legal = (with_event (opening MAX_EVENTS) (event 0 (Write 1)), (with_event (opening MAX_EVENTS) (event 0 (Write 1)), (refl, refl), refl))
+legal =
+    let s = opening MAX_EVENTS in
+    let e = event 0 (Write 1) in
+    let next = with_event s e in
+    (next, (next, one_takes AreRows s next e refl refl, refl))
 
 pub publish-requires-clause-legal : goal.publish-requires-clause-legal
 publish-requires-clause-legal g c =
     let is : c.grow.new.self.published ++ c.grow.new.self.waiting ≡ one =
-    ap (λ xs. xs ++ c.grow.new.self.waiting) (c.in_ok-grow.ensures.published ∙ c.requires.published) ∙ c.in_ok-grow.ensures.waiting in
+    ap (λ xs. xs ++ c.grow.new.self.waiting) (c.in_ok-grow.ensures.published ∙ c.requires.published) ∙ (c.in_ok-grow.ensures.waiting ∙ ap (λ es. Accept es ∷ []) c.of.ensures) in
     subst IsLegal (sym is) legal

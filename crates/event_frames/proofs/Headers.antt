@@ -1,12 +1,12 @@
 -- A frame by the places of its bytes.
 use Rattle.std.proofs.Common.{◌≡◌, ℕ, ◌+◌, ◌-◌, ◌≤◌, Bool, true, false, cond, eqb, ltb, List, [], ◌∷◌, length, get_or, drop, Option, Some, None, Ok, ap, ◌∙◌, arith}
 use Rattle.std.specs.Int.{w16, from_be_bytes}
-use Rattle.std.proofs.lemmas.Bool.{le-ltb, eqb-true}
+use Rattle.std.proofs.lemmas.Bool.{le-ltb}
 use Rattle.std.proofs.lemmas.Bool.Decides.{nat_tests}
 use Rattle.std.proofs.lemmas.List.{drop-drop}
 use Rattle.trace_model.specs.declared.session.Fault.{Fault}
 use Rattle.trace_model.proofs.Fronts.{no_header_fault}
-use Rattle.trace_model.specs.Frames.{ok_unless, is_kind, is_length_of, length_of, header_fault, whole_frame, front_of, request_of}
+use Rattle.trace_model.specs.Frames.{ok_unless, is_kind, is_length_of, fields_fault, header_fault, whole_frame, front_of, request_of}
 
 abbrev pub len_at : List ℕ → ℕ
 len_at bytes = from_be_bytes w16 (get_or bytes 0 0 ∷ get_or bytes 1 0 ∷ [])
@@ -14,7 +14,8 @@ len_at bytes = from_be_bytes w16 (get_or bytes 0 0 ∷ get_or bytes 1 0 ∷ [])
 -- the first frame of a text that shows no fault
 pub record IsHeader (bytes : List ℕ) : Type 0 where
   pub known : is_kind (get_or bytes 2 0) ≡ true
-  pub len : len_at bytes ≡ length_of (get_or bytes 2 0)
+  pub right : is_length_of (get_or bytes 2 0) (len_at bytes) ≡ true
+  pub sound : fields_fault (get_or bytes 2 0) (len_at bytes) (drop 3 bytes) ≡ None
 
 pub header_is : (bytes : List ℕ) → 3 ≤ length bytes → header_fault bytes ≡ None → IsHeader bytes
 unfolding header_fault
@@ -23,11 +24,11 @@ header_is (a ∷ []) long h = absurd (omega arith)
 header_is (a ∷ b ∷ []) long h = absurd (omega arith)
 header_is (high ∷ low ∷ kind ∷ fields) long h =
     let len = from_be_bytes w16 (high ∷ low ∷ []) in
-    let p = no_header_fault (eqb len 0) (is_kind kind) (is_length_of kind len) h in
-    record { known = p.0; len = eqb-true _ _ p.1 }
+    let p = no_header_fault (eqb len 0) (is_kind kind) (is_length_of kind len) (fields_fault kind len fields) h in
+    record { known = p.0; right = p.1; sound = p.2 }
 
-length_of_positive : (kind : ℕ) → 2 ≤ length_of kind
-length_of_positive kind = grind (arith, nat_tests)
+length_positive : (kind len : ℕ) → is_length_of kind len ≡ true → 2 ≤ len
+length_positive kind len right = grind (arith, nat_tests)
 
 pub whole_at : (bytes : List ℕ) → 3 ≤ length bytes → header_fault bytes ≡ None → len_at bytes ≤ length (drop 3 bytes) + 1 → front_of bytes ≡ Ok (Some (request_of (get_or bytes 2 0) (drop 3 bytes), drop (len_at bytes + 2) bytes))
 unfolding front_of whole_frame
@@ -37,7 +38,7 @@ whole_at (a ∷ b ∷ []) long h le = absurd (omega arith)
 whole_at (high ∷ low ∷ kind ∷ fields) long h le =
     let len = from_be_bytes w16 (high ∷ low ∷ []) in
     let enough : ltb (length fields + 1) len ≡ false = le-ltb _ _ le in
-    let place : 3 + (len - 1) ≡ len + 2 = omega (arith, (header_is (high ∷ low ∷ kind ∷ fields) long h).len, length_of_positive kind) in
+    let place : 3 + (len - 1) ≡ len + 2 = omega (arith, length_positive kind len (header_is (high ∷ low ∷ kind ∷ fields) long h).right) in
     ap (λ (f : Option Fault). ok_unless f (cond (ltb (length fields + 1) len) None (Some (request_of kind fields, drop (len - 1) fields)))) h
     ∙ ap (λ (b : Bool). ok_unless None (cond b None (Some (request_of kind fields, drop (len - 1) fields)))) enough
     ∙ ap (λ (t : List ℕ). ok_unless None (Some (request_of kind fields, t))) (drop-drop (len - 1) 3 (high ∷ low ∷ kind ∷ fields) ∙ ap (λ (n : ℕ). drop n (high ∷ low ∷ kind ∷ fields)) place)

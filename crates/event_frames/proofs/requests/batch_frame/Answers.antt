@@ -1,0 +1,16 @@
+use Rattle.std.proofs.Common.{◌≡◌, ◌+◌, ◌*◌, ◌∷◌, ◌++◌, length, take, ◌∙◌, arith}
+use Rattle.std.specs.Int.{w16, to_be_bytes}
+use Rattle.std.specs.List.{flat_map}
+use Rattle.std.proofs.lemmas.List.{take_all}
+use Rattle.trace_model.specs.declared.session.Request.TheVariants.{Batch}
+use Rattle.trace_model.specs.Frames.{body, event_bytes, frame}
+use Rattle.trace_model.proofs.BatchFrames.{length_cells}
+use Rattle.event_frames.proofs.requests.batch_frame.Goals as goal
+
+pub returns : goal.returns
+unfolding frame
+returns c =
+    let es = c.args.events.now in
+    let all : take c.loop-event.event-index es ≡ es = take_all c.loop-event.event-index es (omega (arith, c.loop-event-test.false)) in
+    let size : 2 + 9 * length es ≡ length (body (Batch es)) = omega (arith, length_cells es) in
+    c.loop-event.invariant ∙ (λ i. to_be_bytes w16 (size i) ++ (10 ∷ length es ∷ flat_map event_bytes (all i)))

@@ -1,0 +1,125 @@
+-- What a book answers to a request is the machine's reply, or tells a want of memory.
+use Rattle.std.proofs.Common.{◌≡◌, ◌⊎◌, ℕ, ◌≤◌, true, false, List, length, take, slice_get, Option, Some, None, inl, inr, refl, sym, ap, subst, ◌∙◌, arith}
+use Rattle.std.proofs.lemmas.Bool.{false≢true}
+use Rattle.std.proofs.lemmas.List.{length-take, take_all}
+use Rattle.std.proofs.lemmas.Option.{none-some, slice_get_cases}
+use Rattle.trace_model.specs.declared.event.Event.{Event}
+use Rattle.trace_model.specs.declared.refusal.Refusal.{Refusal}
+use Rattle.trace_model.specs.declared.refusal.Refusal.TheVariants.{NoMemory}
+use Rattle.trace_model.specs.declared.session.Request.{Request}
+use Rattle.trace_model.specs.declared.session.Request.TheVariants.{Offer, Ask, Answer, Status, Batch}
+use Rattle.trace_model.specs.declared.session.Reply.{Reply}
+use Rattle.trace_model.specs.declared.session.Reply.TheVariants as replies
+use Rattle.trace_model.specs.Lawful.{refusal_of}
+use Rattle.trace_model.specs.Batches.{AreLawful, IsLongest}
+use Rattle.trace_model.specs.Machine.{State, step, with_events}
+use Rattle.trace_model.proofs.Batches.{longest_is}
+use Rattle.sequencer.specs.Book.{IsAccepted, IsRefusal, Refuses}
+use Rattle.sequencer.specs.Batched.{EndsBatch, IsBatched}
+use Rattle.sequencer.specs.Called.{IsSingle, StepsOrMemory, WantsRightly, lacks_memory}
+use Rattle.sequencer.specs.Printing.{printing}
+use Rattle.sequencer.specs.declared.batching.Batched.{Batched}
+
+-- ---- a batch
+
+past : (events : List Event) (n : ℕ) → slice_get events n ≡ None → length events ≤ n
+past events n none = elim (slice_get_cases events n).1 [
+  | inl within ↦ absurd (none-some within.0 (sym none ∙ within.2))
+  | inr beyond ↦ beyond.0
+]
+
+-- the machine's reply to a batch of which so many events are taken
+told : (s : State) (events : List Event) (n : ℕ) (o : Option Refusal) → IsLongest s.limit s.accepted events (n, o) →
+    step printing s (Batch events) ≡ (replies.Batched n o (length s.accepted), with_events s (take n events))
+told s events n o h =
+    ap (λ (taken : ℕ × Option Refusal). (replies.Batched taken.0 taken.1 (length s.accepted), with_events s (take taken.0 events)))
+    (longest_is s.limit s.accepted events n o h)
+
+-- so many lawful events alone are all taken
+told_all : (s : State) (events : List Event) (n : ℕ) → n ≤ length events → AreLawful s.limit s.accepted (take n events) →
+    step printing s (Batch (take n events)) ≡ (replies.Batched n None (length s.accepted), with_events s (take n events))
+told_all s events n within lawful =
+    let few : length (take n events) ≤ n = omega (arith, length-take n events) in
+    let same : take n (take n events) ≡ take n events = take_all n (take n events) few in
+    told s (take n events) n None record {
+      lawful = subst (AreLawful s.limit s.accepted) (sym same) lawful;
+      ends = omega (arith, length-take n events, within);
+    }
+    ∙ ap (λ (es : List Event). (replies.Batched n None (length s.accepted), with_events s es)) same
+
+pub batch_steps : (s next : State) (events : List Event) (b : Batched) → IsBatched s events b next →
+    StepsOrMemory s (Batch events) (replies.Batched b.accepted b.refusal b.length) next
+batch_steps s next events b h = by (slice_get events b.accepted) b.refusal refl refl h.ended
+  where
+    exactly : (o : Option Refusal) → b.refusal ≡ o → IsLongest s.limit s.accepted events (b.accepted, o) →
+        step printing s (Batch events) ≡ (replies.Batched b.accepted b.refusal b.length, next)
+    exactly o is longest = told s events b.accepted o longest ∙ (λ i. (replies.Batched b.accepted (sym is i) (sym h.first i), sym h.appended i))
+
+    by : (at : Option Event) (o : Option Refusal) → slice_get events b.accepted ≡ at → b.refusal ≡ o → EndsBatch next at o →
+        StepsOrMemory s (Batch events) (replies.Batched b.accepted b.refusal b.length) next
+    by None None at is ends = inl (exactly None is record { lawful = h.lawful; ends = omega (arith, past events b.accepted at, h.within) })
+    by None (Some r) at is ends = absurd ends
+    by (Some e) None at is ends = absurd ends
+    by (Some e) (Some r) at is (inl why) =
+        inl (exactly (Some r) is record {
+          lawful = h.lawful;
+          ends = (e, at, subst (λ (m : State). refusal_of m.limit m.accepted e ≡ Some r) h.appended why);
+        })
+    by (Some e) (Some r) at is (inr (none, lawful)) = inr record {
+      accepted = b.accepted;
+      event = e;
+      stands = at;
+      lawful = lawful;
+      steps = told_all s events b.accepted h.within h.lawful ∙ ap (λ (m : State). (replies.Batched b.accepted None (length s.accepted), m)) (sym h.appended);
+      replies = λ i. replies.Batched b.accepted ((is ∙ ap Some none) i) (h.first i);
+    }
+
+-- ---- any request
+
+pub is_single : (request : Request) → ((events : List Event) → request ≡ Batch events → ⊥) → IsSingle request
+is_single (Offer e) none = tt
+is_single (Ask bound) none = tt
+is_single (Answer number) none = tt
+is_single (Status number) none = tt
+is_single (Batch events) none = none events refl
+
+pub exact_steps : (s next : State) (request : Request) (reply : Reply) → step printing s request ≡ (reply, next) → StepsOrMemory s request reply next
+exact_steps s next (Offer e) reply is = inl is
+exact_steps s next (Ask bound) reply is = inl is
+exact_steps s next (Answer number) reply is = inl is
+exact_steps s next (Status number) reply is = inl is
+exact_steps s next (Batch events) reply is = inl is
+
+refused_by : (s : State) (request : Request) (reply : Reply) → Refuses s request reply →
+    (step printing s request ≡ (reply, s)) ⊎ ((reply ≡ replies.Refused NoMemory) × (s ≡ s) × IsAccepted (step printing s request).0)
+refused_by s request reply (inl is) = inl is
+refused_by s request reply (inr (lacks, accepted)) = inr (lacks, refl, accepted)
+
+pub refused_steps : (s : State) (request : Request) (reply : Reply) → IsSingle request → Refuses s request reply → StepsOrMemory s request reply s
+refused_steps s (Offer e) reply one refused = refused_by s (Offer e) reply refused
+refused_steps s (Ask bound) reply one refused = refused_by s (Ask bound) reply refused
+refused_steps s (Answer number) reply one refused = refused_by s (Answer number) reply refused
+refused_steps s (Status number) reply one refused = refused_by s (Status number) reply refused
+refused_steps s (Batch events) reply one refused = absurd one
+
+pub refused_rightly : (s : State) (request : Request) (reply : Reply) → IsRefusal s request reply → WantsRightly s request reply
+refused_rightly s request reply (r, is, inl same) lacks = inl same
+refused_rightly s request reply (r, is, inr (none, takes)) lacks = inr takes
+
+told_lack : (A : Type 0) (reply lacking : Reply) → lacks_memory lacking ≡ true → lacks_memory reply ≡ false → reply ≡ lacking → A
+told_lack A reply lacking lacks none is = absurd (false≢true (sym none ∙ (ap lacks_memory is ∙ lacks)))
+
+-- where no want of memory is told, the reply is the machine's
+pub steps_exactly : (s next : State) (request : Request) (reply : Reply) → StepsOrMemory s request reply next → lacks_memory reply ≡ false →
+    step printing s request ≡ (reply, next)
+steps_exactly s next (Offer e) reply (inl is) none = is
+steps_exactly s next (Ask bound) reply (inl is) none = is
+steps_exactly s next (Answer number) reply (inl is) none = is
+steps_exactly s next (Status number) reply (inl is) none = is
+steps_exactly s next (Batch events) reply (inl is) none = is
+steps_exactly s next (Offer e) reply (inr lacks) none = told_lack _ reply (replies.Refused NoMemory) refl none lacks.0
+steps_exactly s next (Ask bound) reply (inr lacks) none = told_lack _ reply (replies.Refused NoMemory) refl none lacks.0
+steps_exactly s next (Answer number) reply (inr lacks) none = told_lack _ reply (replies.Refused NoMemory) refl none lacks.0
+steps_exactly s next (Status number) reply (inr lacks) none = told_lack _ reply (replies.Refused NoMemory) refl none lacks.0
+steps_exactly s next (Batch events) reply (inr ends) none =
+    told_lack _ reply (replies.Batched ends.accepted (Some NoMemory) (length s.accepted)) refl none ends.replies

@@ -1,0 +1,40 @@
+use Rattle.std.proofs.Common.{◌≡◌, inl, sym, ap, subst, ◌∙◌}
+use Rattle.trace_model.specs.declared.session.Reply.{Reply}
+use Rattle.trace_model.specs.declared.session.Request.{Request}
+use Rattle.trace_model.specs.declared.session.Request.TheVariants.{Batch}
+use Rattle.trace_model.specs.Machine.{State, step}
+use Rattle.sequencer.specs.Called.{StepsOrMemory}
+use Rattle.sequencer.specs.Printing.{printing}
+use Rattle.sequencer.proofs.Called.{batch_steps, exact_steps, is_single, refused_rightly, refused_steps}
+use Rattle.sequencer.proofs.book.Book.call.Goals as goal
+
+pub returns-in-Batch-clause-steps : goal.returns-in-Batch-clause-steps
+returns-in-Batch-clause-steps c =
+    let s = c.args.self.now.state in
+    let next = c.offer_batch.new.self.state in
+    let request_is : Batch c.events.result.now ≡ c.args.request.now = ap Batch c.events.ensures.value ∙ sym c.in-Batch.is in
+    subst (λ (r : Request). StepsOrMemory s r c.reply.result next) request_is
+    (subst (λ (r : Reply). StepsOrMemory s (Batch c.events.result.now) r next) (sym c.reply.ensures)
+    (batch_steps s next c.events.result.now c.offer_batch.result c.offer_batch.ensures))
+
+pub returns-in-Ok-clause-steps : goal.returns-in-Ok-clause-steps
+returns-in-Ok-clause-steps c =
+    exact_steps c.args.self.now.state c.commit.new.self.state c.args.request.now c.commit.result
+    ((λ i. step printing (sym c.prepare.ensures.shown i) (sym c.in-Ok.ensures.ok.0 i)) ∙ c.commit.ensures)
+
+pub returns-in-Err-clause-steps : goal.returns-in-Err-clause-steps
+returns-in-Err-clause-steps c =
+    let s = c.args.self.now.state in
+    let reply = c.in-Err.reply in
+    subst (StepsOrMemory s c.args.request.now reply) (sym c.prepare.ensures.shown)
+    (refused_steps s c.args.request.now reply (is_single c.args.request.now c.in_default.not-Batch) c.in-Err.ensures.refused)
+
+pub returns-in-Batch-clause-wanting : goal.returns-in-Batch-clause-wanting
+returns-in-Batch-clause-wanting c = λ lacks. let other = sym c.reply.ensures ∙ lacks in absurd cc
+
+pub returns-in-Ok-clause-wanting : goal.returns-in-Ok-clause-wanting
+returns-in-Ok-clause-wanting c = λ lacks.
+    inl (ap (λ (p : Reply × State). p.0) ((λ i. step printing (sym c.prepare.ensures.shown i) (sym c.in-Ok.ensures.ok.0 i)) ∙ c.commit.ensures))
+
+pub returns-in-Err-clause-wanting : goal.returns-in-Err-clause-wanting
+returns-in-Err-clause-wanting c = refused_rightly c.args.self.now.state c.args.request.now c.in-Err.reply c.in-Err.ensures.refusal

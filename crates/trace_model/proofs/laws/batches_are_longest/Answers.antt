@@ -1,0 +1,5 @@
+use Rattle.trace_model.proofs.Batches as batches
+use Rattle.trace_model.proofs.laws.batches_are_longest.Goals as goal
+
+pub returns : goal.returns
+returns c = batches.batches_are_longest
