@@ -1,6 +1,6 @@
 /* What the agent for pthreads must tell of each call, one case after another. The trace that this makes is
  *
- *     0a1 0r1  0a2 0r2  0a1 0f1 0j1 0r1  0a3 0r3 0a3 0r3  0a4 0r4  0f2 2a5 0j2  0f3 3a6 3r6 0j3  0f4 4a7 4r7 4a7 4r7 0j4
+ *     0a1 0r1  0a2 0a2 0a2 0r2 0r2 0r2  0a1 0f1 0j1 0r1  0a3 0r3 0a3 0r3  0a4 0r4  0f2 2a5 0j2  0f3 3a6 3r6 0j3  0f4 4a7 4r7 4a7 4r7 0j4
  */
 #define _GNU_SOURCE
 #include <pthread.h>

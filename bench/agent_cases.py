@@ -1,7 +1,7 @@
 #!/usr/bin/env python3
 """What the agent for Python must tell of each call, one case after another. The trace that this makes is
 
-    0a1 0r1  0a2 0r2  0a3 0r3 0a3 0r3  0a1 0f1 0j1 0r1  0f2 2a4 2r4 0j2
+    0a1 0r1  0a2 0a2 0a2 0r2 0r2 0r2  0a3 0r3 0a3 0r3  0a1 0f1 0j1 0r1  0f2 2a4 2r4 0j2
 """
 import os
 import sys

@@ -7,6 +7,7 @@ The plain program lists the cycles by trying all tuples of dependencies, makes a
 nothing is added, tries the instances of a cycle one after another in lexicographic order, and tells whether an event is
 lawful by looking through all events before it. It is slow, and shares nothing with the program but what is printed.
 """
+import collections
 import itertools
 import os
 import random
@@ -26,18 +27,31 @@ def parse(words):
     return events
 
 
+def depth(events, thread, lock):
+    """The thread's acquires of the lock, less its releases of it."""
+    kinds = [kind for other, kind, target in events if other == thread and target == lock]
+    return kinds.count("a") - kinds.count("r")
+
+
+def is_outermost(events, place):
+    """Whether the acquire at the place begins a section, or the release there ends one."""
+    thread, kind, lock = events[place]
+    return depth(events[:place], thread, lock) == (0 if kind == "a" else 1)
+
+
 def dependencies(events):
     """Each dependency with its places, in the order of first appearance."""
-    held = {}
+    depths = {}
     places = {}
     for place, (thread, kind, target) in enumerate(events):
-        locks = held.setdefault(thread, set())
+        mine = depths.setdefault(thread, collections.Counter())
         if kind == "a":
-            if locks:
-                places.setdefault((thread, target, frozenset(locks)), []).append(place)
-            locks.add(target)
+            locks = frozenset(+mine)
+            if locks and target not in locks:
+                places.setdefault((thread, target, locks), []).append(place)
+            mine[target] += 1
         elif kind == "r":
-            locks.remove(target)
+            mine[target] -= 1
     return list(places.items())
 
 
@@ -79,18 +93,20 @@ def needs(events, place):
 
 
 def release(events, place):
-    lock = events[place][2]
-    later = [other for other in range(place + 1, len(events)) if events[other][1:] == ("r", lock)]
-    return later[0] if later else None
+    """Of an outermost acquire the next outermost release of its lock by its thread."""
+    thread, _, lock = events[place]
+    later = [other for other in range(place + 1, len(events)) if events[other] == (thread, "r", lock)]
+    return next((other for other in later if is_outermost(events, other)), None)
 
 
 def closure(events, instance):
     inside = {p for place in instance for p in range(place) if events[p][0] == events[place][0]}
+    begins = {place for place, (_, kind, _) in enumerate(events) if kind == "a" and is_outermost(events, place)}
     while True:
         more = set(inside)
         for place in inside:
             more.update(needs(events, place))
-        acquires = [place for place in inside if events[place][1] == "a"]
+        acquires = inside & begins
         for first in acquires:
             if any(first < other and events[first][2] == events[other][2] for other in acquires):
                 end = release(events, first)
@@ -129,19 +145,15 @@ def report(events, bound):
     return "\n".join([head] + lines) + "\n", len(found), confirmed
 
 
-MOST_HELD = 32
-
-
-def holds(events, thread, lock):
-    kinds = [kind for other, kind, target in events if other == thread and kind in "ar" and target == lock]
-    return kinds[-1:] == ["a"]
+MOST_HELD, MOST_DEPTH = 32, 255
 
 
 def refusal(events, event, limit):
     """What is printed where the event is not lawful after these, in the order of the tests; none where it is."""
     thread, kind, target = event
     stands = lambda kind, target: any(other[1:] == (kind, target) for other in events)
-    held = [lock for lock in {other[2] for other in events if other[1] == "a"} if holds(events, thread, lock)]
+    held = [lock for lock in {other[2] for other in events if other[1] == "a"} if depth(events, thread, lock) > 0]
+    others = {other[0] for other in events} - {thread}
     tests = [
         ("1 Full", len(events) >= limit),
         ("2 Unforked", thread != 0 and not stands("f", thread)),
@@ -150,9 +162,9 @@ def refusal(events, event, limit):
         ("6 JoinsItself", kind == "j" and target == thread),
         ("7 JoinUnknown", kind == "j" and (target == 0 or not stands("f", target))),
         ("8 JoinedTwice", kind == "j" and stands("j", target)),
-        ("9 HeldByItself", kind == "a" and target in held),
-        ("10 HeldByOther", kind == "a" and any(holds(events, other[0], target) for other in events)),
-        ("11 TooDeep", kind == "a" and len(held) >= MOST_HELD),
+        ("9 TooNested", kind == "a" and depth(events, thread, target) >= MOST_DEPTH),
+        ("10 HeldByOther", kind == "a" and any(depth(events, other, target) > 0 for other in others)),
+        ("11 TooDeep", kind == "a" and target not in held and len(held) >= MOST_HELD),
         ("12 NotHeld", kind == "r" and target not in held),
     ]
     return next((words for words, applies in tests if applies), None)

@@ -95,7 +95,7 @@ def orders(locks):
 
 
 def small(seed, events):
-    """Lawful words of up to four threads, four locks and two variables; thread 3 may be joined."""
+    """Lawful words of up to four threads, four locks and two variables; some acquires are inner, thread 3 may be joined."""
     chooser = random.Random(seed)
     words = ["0f1", "0f2", "0f3"]
     held = {thread: [] for thread in range(4)}
@@ -104,8 +104,10 @@ def small(seed, events):
     while len(words) < events:
         thread = chooser.choice([t for t in range(4) if t not in ended])
         kind = chooser.random()
-        if kind < 0.42 and len(held[thread]) < 3:
+        if kind < 0.42 and len(held[thread]) < 4:
             free = [lock for lock in range(4) if lock not in owner]
+            if held[thread] and chooser.random() < 0.2:
+                free = held[thread]  # an inner acquire
             if free:
                 lock = chooser.choice(free)
                 owner[lock] = thread
@@ -114,7 +116,8 @@ def small(seed, events):
         elif kind < 0.80 and held[thread]:
             lock = chooser.choice(held[thread])
             held[thread].remove(lock)
-            del owner[lock]
+            if lock not in held[thread]:
+                del owner[lock]
             words.append(f"{thread}r{lock}")
         elif kind < 0.88:
             words.append(f"{thread}w{chooser.randint(0, 1)}")

@@ -24,7 +24,7 @@ REFUSALS = {
     6: "JoinsItself",
     7: "JoinUnknown",
     8: "JoinedTwice",
-    9: "HeldByItself",
+    9: "TooNested",
     10: "HeldByOther",
     11: "TooDeep",
     12: "NotHeld",

@@ -39,7 +39,7 @@ class Needs:
             self.need(index.thread_places[event.about][-1], "join", place)
         elif event.letter == "d" and index.writer[place] is not None:
             self.need(index.writer[place], "read", place)
-        elif event.letter == "a":
+        elif place in index.held:
             other = self.latest_acquire.get(event.about, place)
             first, last = min(other, place), max(other, place)
             self.latest_acquire[event.about] = last

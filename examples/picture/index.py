@@ -4,23 +4,30 @@ from collections import defaultdict
 
 
 class Index:
+    """`held` has of each outermost acquire the locks that its thread held, `release_of` its release; inner ones have neither."""
+
     def __init__(self, events):
         self.events = events
         self.thread_places = defaultdict(list)
         self.at, self.held, self.writer, self.release_of = [], {}, {}, {}
-        self.fork_of, self.join_of, self.dependencies = {}, {}, defaultdict(list)
-        held, open_acquire, last_write = defaultdict(list), {}, {}
+        self.fork_of, self.join_of, self.dependencies, self.ends = {}, {}, defaultdict(list), set()
+        depths, open_acquire, last_write = defaultdict(dict), {}, {}
         for place, (thread, letter, about, _) in enumerate(events):
             self.at.append(len(self.thread_places[thread]))
             self.thread_places[thread].append(place)
+            mine = depths[thread]
             if letter == "a":
-                self.held[place] = tuple(sorted(held[thread]))
-                self.dependencies[thread, about, self.held[place]].append(place)
-                held[thread].append(about)
-                open_acquire[about] = place
+                if about not in mine:
+                    self.held[place] = tuple(sorted(mine))
+                    self.dependencies[thread, about, self.held[place]].append(place)
+                    open_acquire[about] = place
+                mine[about] = mine.get(about, 0) + 1
             elif letter == "r":
-                held[thread].remove(about)
-                self.release_of[open_acquire.pop(about)] = place
+                mine[about] -= 1
+                if mine[about] == 0:
+                    del mine[about]
+                    self.release_of[open_acquire.pop(about)] = place
+                    self.ends.add(place)
             elif letter == "d":
                 self.writer[place] = last_write.get(about)
             elif letter == "w":
@@ -35,11 +42,10 @@ class Index:
         return self.dependencies.get((member.thread, member.lock, tuple(sorted(member.held))), [])
 
     def taken_at(self, thread, lock, place):
-        """Where the thread took a lock that it holds right before a place."""
+        """The outermost acquire by which the thread has a lock that it holds right before a place."""
         mine = self.thread_places[thread]
         for at in range(bisect_left(mine, place) - 1, -1, -1):
-            event = self.events[mine[at]]
-            if event.letter == "a" and event.about == lock:
+            if mine[at] in self.held and self.events[mine[at]].about == lock:
                 return mine[at]
         return None
 

@@ -11,7 +11,7 @@ MEMBER = re.compile(rf"  thread {NUMBER} lock {NUMBER} holds((?: {NUMBER})+)(?: 
 WITNESS = re.compile(rf"  witness((?: {NUMBER})*)")
 NOTE = re.compile(r"    \S.*")
 OTHER_LINE = re.compile(r"(placed|batch|refused|opened|pending|worked|delivered|status) .*")
-LARGEST, MOST_HELD, MOST_THREADS = 4_294_967_295, 32, 1_024
+LARGEST, MOST_HELD, MOST_DEPTH, MOST_THREADS = 4_294_967_295, 32, 255, 1_024
 
 Event = namedtuple("Event", "thread letter about where")
 Member = namedtuple("Member", "thread lock held place")
@@ -37,10 +37,10 @@ class Gate:
     """Which events are lawful after those before: a refused one is not in the trace."""
 
     def __init__(self):
-        self.forked, self.joined, self.holder, self.held = {0}, set(), {}, {}
+        self.forked, self.joined, self.holder, self.depths = {0}, set(), {}, {}
 
     def accepts(self, thread, letter, about):
-        mine = self.held.setdefault(thread, set())
+        mine = self.depths.setdefault(thread, {})
         if thread not in self.forked or thread in self.joined:
             return False
         if letter == "f":
@@ -52,15 +52,18 @@ class Gate:
                 return False
             self.joined.add(about)
         elif letter == "a":
-            if about in self.holder or len(mine) == MOST_HELD:
+            if self.holder.get(about, thread) != thread or mine.get(about) == MOST_DEPTH:
+                return False
+            if about not in mine and len(mine) == MOST_HELD:
                 return False
             self.holder[about] = thread
-            mine.add(about)
+            mine[about] = mine.get(about, 0) + 1
         elif letter == "r":
             if about not in mine:
                 return False
-            mine.discard(about)
-            del self.holder[about]
+            mine[about] -= 1
+            if mine[about] == 0:
+                del mine[about], self.holder[about]
         return True
 
 

@@ -103,17 +103,17 @@ class TimeLine:
                      marker_end=f"url(#{self.name}{FAINT[1:]})")
 
     def bars(self):
-        """Beside each thread a bar for each lock, from its acquire to its release, or to the end."""
+        """Beside each thread a bar for each lock, from its outermost acquire to its release, or to the end."""
         parts = []
         for row, top in zip(self.rows, self.tops):
             y = top + (self.row_height() if isinstance(row, Shown) else GAP_ROW) / 2
             places = [row.place] if isinstance(row, Shown) else row.places
             within = set(places)
             for place in places:
-                thread, letter, about, _ = self.index.events[place]
-                if thread in self.slots and letter == "a" and self.index.release_of.get(place) not in within:
+                thread, _, about, _ = self.index.events[place]
+                if thread in self.slots and place in self.index.held and self.index.release_of.get(place) not in within:
                     self.take_slot(thread, about, y)
-                elif thread in self.slots and letter == "r":
+                elif thread in self.slots and place in self.index.ends:
                     parts += self.free_slot(thread, about, y)
         end = self.height + (self.wait_height() if self.waiting else 0)
         for thread, slots in self.slots.items():

@@ -20,7 +20,7 @@
 #include <signal.h>
 #include <sys/stat.h>
 
-enum { EVENTS = 1 << 20, THREADS = 1024, MUTEXES = 1 << 17, SECONDS_TO_REPLY = 10 };
+enum { EVENTS = 1 << 20, THREADS = 1024, MUTEXES = 1 << 17, MOST_DEPTH = 255, SECONDS_TO_REPLY = 10 };
 #define THREAD_LOCAL static __thread __attribute__((tls_model("initial-exec")))
 
 /* The function that ours stands before, looked up at the first call. */
@@ -28,7 +28,7 @@ enum { EVENTS = 1 << 20, THREADS = 1024, MUTEXES = 1 << 17, SECONDS_TO_REPLY = 1
 #define CALLER __builtin_return_address(0)
 
 struct thread { pthread_t handle; void *(*run)(void *); void *argument; char is_live; };
-struct mutex { void *address; uint32_t number, holder, inner; };
+struct mutex { void *address; uint32_t number, holder, depth; }; /* depth: the holder's acquires, less the releases */
 
 /* All tables are of fixed size, so that nothing is allocated while the program may hold its allocator's own locks. */
 static pthread_mutex_t agent = PTHREAD_MUTEX_INITIALIZER; /* guards all below, and is held from a frame to its reply */
@@ -180,12 +180,14 @@ static struct mutex *find(void *address) {
 }
 
 /* A release is told of the thread that took the mutex, whoever gives it back. Once that thread was joined it can be told no
- * more: the trace keeps the mutex held, and the next acquire is told of a new one. */
+ * more: the trace keeps the mutex held, and the next acquire is told of a new one. Inner acquires of a recursive mutex are told
+ * with their releases, up to the depth that the server takes: those that are deeper mean nothing to it. */
 static void let_go(struct mutex *mutex, void *caller) {
     uint32_t holder = mutex->holder;
-    mutex->holder = NOBODY;
-    if (holder == 0 || threads[holder].is_live) tell(holder, RELEASE, mutex->number, caller);
-    else mutex->number = 0;
+    if (holder == 0 || threads[holder].is_live) {
+        if (mutex->depth-- <= MOST_DEPTH) tell(holder, RELEASE, mutex->number, caller);
+    } else mutex->depth = 0, mutex->number = 0;
+    if (mutex->depth == 0) mutex->holder = NOBODY;
 }
 
 static void acquired(void *address, void *caller) {
@@ -193,13 +195,10 @@ static void acquired(void *address, void *caller) {
     if (!enter()) return;
     number_self(caller);
     if (state == STREAMING && (mutex = find(address))) {
-        if (mutex->holder == self) mutex->inner++;
-        else {
-            if (mutex->holder != NOBODY) let_go(mutex, caller); /* it was given back unseen */
-            if (mutex->number == 0) mutex->number = ++mutexes_numbered;
-            mutex->holder = self, mutex->inner = 0;
-            tell(self, ACQUIRE, mutex->number, caller);
-        }
+        while (mutex->holder != self && mutex->holder != NOBODY) let_go(mutex, caller); /* it was given back unseen */
+        if (mutex->number == 0) mutex->number = ++mutexes_numbered;
+        mutex->holder = self;
+        if (mutex->depth++ < MOST_DEPTH) tell(self, ACQUIRE, mutex->number, caller);
     }
     leave();
 }
@@ -207,10 +206,7 @@ static void acquired(void *address, void *caller) {
 static void releases(void *address, void *caller) {
     struct mutex *mutex;
     if (!enter()) return;
-    if (state == STREAMING && (mutex = find(address)) && mutex->holder != NOBODY) {
-        if (mutex->inner > 0) mutex->inner--;
-        else let_go(mutex, caller);
-    }
+    if (state == STREAMING && (mutex = find(address)) && mutex->holder != NOBODY) let_go(mutex, caller);
     leave();
 }
 
@@ -218,7 +214,7 @@ static void releases(void *address, void *caller) {
 static void forget(void *address) {
     struct mutex *mutex;
     if (state != STREAMING || !enter()) return;
-    if (state == STREAMING && (mutex = find(address))) mutex->number = 0, mutex->holder = NOBODY;
+    if (state == STREAMING && (mutex = find(address))) mutex->number = mutex->depth = 0, mutex->holder = NOBODY;
     leave();
 }
 

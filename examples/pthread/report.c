@@ -109,19 +109,32 @@ static int is_held_set(const uint32_t *held, size_t count, const char *listed) {
     return words == count && found == count;
 }
 
-/* The first place at which a thread acquired the lock with these locks held; `length` if there is none. */
+/* The first place at which a thread acquired the lock with these locks held, and not the lock itself; `length` if there is none. */
 static uint32_t first_place(uint32_t thread, uint32_t lock, const char *listed, uint32_t length) {
-    uint32_t held[HELD], place;
-    size_t count = 0;
+    uint32_t held[HELD], depths[HELD], place;
+    size_t count = 0, at;
     for (place = 0; place < length; place++) {
         struct event event = events[place];
-        if (event.thread != thread) continue;
-        if (event.kind == ACQUIRE && event.object == lock && is_held_set(held, count, listed)) break;
-        if (event.kind == ACQUIRE && count < HELD) held[count++] = event.object;
-        for (size_t at = 0; event.kind == RELEASE && at < count; at++)
-            if (held[at] == event.object) held[at--] = held[--count], event.kind = 0;
+        if (event.thread != thread || (event.kind != ACQUIRE && event.kind != RELEASE)) continue;
+        for (at = 0; at < count && held[at] != event.object;) at++;
+        if (event.kind == ACQUIRE && at < count) depths[at]++;
+        else if (event.kind == ACQUIRE) {
+            if (event.object == lock && is_held_set(held, count, listed)) break;
+            if (count < HELD) held[count] = event.object, depths[count++] = 1;
+        } else if (at < count && --depths[at] == 0) held[at] = held[--count], depths[at] = depths[count];
     }
     return place;
+}
+
+/* The outermost acquire by which a thread has a lock that it holds right before a place. */
+static uint32_t held_since(uint32_t thread, uint32_t lock, uint32_t place) {
+    uint32_t depth = 0, since = place;
+    for (uint32_t at = 0; at < place; at++) {
+        if (events[at].thread != thread || events[at].object != lock) continue;
+        if (events[at].kind == ACQUIRE && depth++ == 0) since = at;
+        if (events[at].kind == RELEASE) depth--;
+    }
+    return since;
 }
 
 /* Notes under a member's line: from where its thread was begun, where it waits, since where it holds its locks. */
@@ -137,11 +150,7 @@ static void write_notes(FILE *out, const char *line, uint32_t length) {
     fprintf(out, "    lock %u at %s\n", lock, where(place));
     char *after;
     for (uint32_t held = strtoul(listed, &after, 10); after != listed; held = strtoul(listed = after, &after, 10))
-        for (uint32_t at = place; at-- > 0;)
-            if (events[at].kind == ACQUIRE && events[at].thread == thread && events[at].object == held) {
-                fprintf(out, "    lock %u since %s\n", held, where(at));
-                break;
-            }
+        fprintf(out, "    lock %u since %s\n", held, where(held_since(thread, held, place)));
 }
 
 static void write_text(FILE *out, char *text, uint32_t length) {

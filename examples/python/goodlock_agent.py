@@ -7,7 +7,7 @@
 or, at the top of a program, `goodlock_agent.start()`: the address is then taken from GOODLOCKD, the bound from GOODLOCK_BOUND
 (4), where to write from GOODLOCK_OUT (goodlock), and the report is written at exit. Without GOODLOCKD nothing is done.
 
-`threading.Lock` and `threading.RLock` make locks that tell of themselves, of an RLock the outermost acquire alone;
+`threading.Lock` and `threading.RLock` make locks that tell of themselves, an RLock also of its inner acquires;
 `Thread.start` tells of a fork, `Thread.join` of a join. An acquire is told after it and a release before it, a fork before the
 child starts and a join after it, and each reply is awaited. The report goes to OUT.report and the trace to OUT.trace.
 
@@ -15,6 +15,7 @@ The program runs on whatever happens here: where the server is not there, ends o
 """
 import _thread
 import atexit
+import collections
 import contextlib
 import os
 import re
@@ -27,7 +28,7 @@ import time
 FORK, JOIN, ACQUIRE, RELEASE, ASK, ANSWER = 1, 2, 3, 4, 7, 8
 PLACED, REFUSED, OPENED, PENDING, REPORT = 65, 66, 67, 68, 69
 LETTERS = {FORK: "f", JOIN: "j", ACQUIRE: "a", RELEASE: "r"}
-SECONDS_TO_REPLY, SECONDS_TO_REPORT = 10, 60
+SECONDS_TO_REPLY, SECONDS_TO_REPORT, MOST_DEPTH = 10, 60, 255
 REAL_LOCK, REAL_RLOCK = _thread.allocate_lock, threading.RLock
 REAL_START, REAL_JOIN = threading.Thread.start, threading.Thread.join
 OWN_FILES = {__file__, threading.__file__, contextlib.__file__}
@@ -153,27 +154,29 @@ class Agent:
         with self.telling() as is_told:
             if is_told:
                 where = caller()
-                if lock.holder is not None:  # it was given back unseen
+                while lock.told >= lock.depth:  # it was given back unseen
                     self.let_go(lock, where)
                 if lock.number is None:
                     self.locks += 1
                     lock.number = self.locks
-                lock.holder = self.number(where)
-                self.tell(lock.holder, ACQUIRE, lock.number, where)
+                # inner acquires that are deeper than the server takes mean nothing to it, nor those in one that was not told
+                if lock.told == lock.depth - 1 and lock.depth <= MOST_DEPTH:
+                    lock.holder, lock.told = self.number(where), lock.depth
+                    self.tell(lock.holder, ACQUIRE, lock.number, where)
 
     def releases(self, lock):
         with self.telling() as is_told:
-            if is_told and lock.holder is not None:
+            while is_told and lock.told >= lock.depth:
                 self.let_go(lock, caller())
 
     def let_go(self, lock, where):
         """A release is told of the thread that took the lock, whoever gives it back. Once that thread was joined it can be told
         no more: the trace keeps the lock held, and the next acquire is told of a new one."""
-        holder, lock.holder = lock.holder, None
-        if holder in self.joined:
-            lock.number = None
+        if lock.holder in self.joined:
+            lock.number, lock.told = None, 0
         else:
-            self.tell(holder, RELEASE, lock.number, where)
+            lock.told -= 1
+            self.tell(lock.holder, RELEASE, lock.number, where)
 
     def ask(self):
         """The report on the events so far, and how many they are."""
@@ -242,15 +245,28 @@ def trace_lines(events):
 
 def first_places(events):
     """The first place of each dependency: a thread, a lock, and the locks that it held."""
-    held, places = {}, {}
+    depths, places = {}, {}
     for place, (thread, kind, about, _) in enumerate(events):
-        mine = held.setdefault(thread, set())
+        mine = depths.setdefault(thread, collections.Counter())
         if kind == ACQUIRE:
-            places.setdefault((thread, about, frozenset(mine)), place)
-            mine.add(about)
+            if not mine[about]:
+                places.setdefault((thread, about, frozenset(+mine)), place)
+            mine[about] += 1
         elif kind == RELEASE:
-            mine.discard(about)
+            mine[about] -= 1
     return places
+
+
+def held_since(events, thread, lock, place):
+    """The outermost acquire by which a thread has a lock that it holds right before a place."""
+    depth, since = 0, None
+    for at, (other, kind, about, _) in enumerate(events[:place]):
+        if (other, about) != (thread, lock) or kind not in (ACQUIRE, RELEASE):
+            continue
+        if kind == ACQUIRE and depth == 0:
+            since = at
+        depth += 1 if kind == ACQUIRE else -1
+    return since
 
 
 def with_notes(text, events):
@@ -268,23 +284,22 @@ def with_notes(text, events):
             yield f"    thread {thread} from {source(begun[thread])}\n"
         yield f"    lock {lock} at {source(events[place][3])}\n"
         for other in held:
-            since = next(at for at in range(place, -1, -1) if events[at][:3] == (thread, ACQUIRE, other))
-            yield f"    lock {other} since {source(events[since][3])}\n"
+            yield f"    lock {other} since {source(events[held_since(events, thread, other, place)][3])}\n"
 
 
 class TracedLock:
-    """A lock that tells of itself. What it does not say, the lock within does."""
+    """A lock that tells of itself. What it does not say, the lock within does. `depth` is how many acquires are not yet
+    released, and `told` how many of them were told."""
 
     def __init__(self, agent, within):
         self.agent, self.within = agent, within
-        self.number, self.holder, self.depth = None, None, 0
+        self.number, self.holder, self.depth, self.told = None, None, 0, 0
 
     def acquire(self, blocking=True, timeout=-1):
         if not self.within.acquire(blocking, timeout):
             return False
         self.depth += 1
-        if self.depth == 1:
-            self.told_or_released()
+        self.told_or_released()
         return True
 
     def told_or_released(self):
@@ -296,7 +311,7 @@ class TracedLock:
             raise
 
     def release(self):
-        if self.depth == 1:
+        if self.depth > 0:
             self.agent.releases(self)
         self.depth = max(0, self.depth - 1)
         self.within.release()
@@ -323,15 +338,21 @@ class TracedRLock(TracedLock):
         return self.within._is_owned()
 
     def _release_save(self):
-        self.agent.releases(self)
-        depth, self.depth = self.depth, 0
+        depth = self.depth
+        while self.depth > 0:
+            self.agent.releases(self)
+            self.depth -= 1
         return depth, self.within._release_save()
 
     def _acquire_restore(self, saved):
         depth, state = saved
         self.within._acquire_restore(state)
-        self.depth = depth
-        self.agent.acquires(self)
+        try:
+            while self.depth < depth:
+                self.depth += 1
+                self.agent.acquires(self)
+        finally:
+            self.depth = depth
 
 
 def is_of_the_library():

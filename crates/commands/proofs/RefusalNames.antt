@@ -1,7 +1,7 @@
 -- Each refusal has its name.
 use Rattle.std.proofs.Common.{◌≡◌, Some, refl}
 use Rattle.trace_model.specs.declared.refusal.Refusal.{Refusal}
-use Rattle.trace_model.specs.declared.refusal.Refusal.TheVariants.{Full, Unforked, Ended, AlreadyForked, TooManyThreads, JoinsItself, JoinUnknown, JoinedTwice, HeldByItself, HeldByOther, TooDeep, NotHeld, NoMemory, BadBound, TooManyQuestions, NoSuchQuestion, ReportTooLong, NoSuchTask, Double, OtherBound, OtherTrace, BoardBusy, TooManyCycles}
+use Rattle.trace_model.specs.declared.refusal.Refusal.TheVariants.{Full, Unforked, Ended, AlreadyForked, TooManyThreads, JoinsItself, JoinUnknown, JoinedTwice, TooNested, HeldByOther, TooDeep, NotHeld, NoMemory, BadBound, TooManyQuestions, NoSuchQuestion, ReportTooLong, NoSuchTask, Double, OtherBound, OtherTrace, BoardBusy, TooManyCycles}
 use Rattle.trace_model.specs.Refusals.{number_of, name_of, refusal_name}
 
 pub named : (r : Refusal) → refusal_name (number_of r) ≡ Some (name_of r)
@@ -13,7 +13,7 @@ named TooManyThreads = refl
 named JoinsItself = refl
 named JoinUnknown = refl
 named JoinedTwice = refl
-named HeldByItself = refl
+named TooNested = refl
 named HeldByOther = refl
 named TooDeep = refl
 named NotHeld = refl

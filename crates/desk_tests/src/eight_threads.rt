@@ -1,4 +1,4 @@
-//! A desk that threads share.
+//! A desk that threads share, by single events and by batches.
 
 ghost use Rattle.std.specs.Prelude.{◌≡◌};
 
@@ -13,27 +13,35 @@ use std::sync::Wait;
 use std::test::*;
 use std::thread;
 use std::thread::Threads;
-use trace_model::{Event, Op};
+use trace_model::{Event, MAX_BATCH, Op};
 
-pub(crate) const THREADS: usize = 8;
+const THREADS: usize = 8;
 
-const EACH: usize = 100;
+type Offered<N> = (Vec<u32>, Vec<Receipt<N>>);
 
-pub(crate) type Offered<N> = (Vec<u32>, Vec<Receipt<N>>);
+/// How each thread offers its events.
+#[derive(Clone, Copy)]
+enum Offers {
+    /// A hundred, one after another.
+    Single,
+    /// Ten batches of `MAX_BATCH`.
+    Batches,
+}
 
-/// The places that one thread is given, and its receipts.
-fn offers<N: Naming, R: Wait + Copy, T: Follows<N>>(
+const WRITE: Event = Event {
+    thread: 0,
+    op: Op::Write(1),
+};
+
+/// The places that one thread is given for single events, and its receipts.
+fn offers_single<N: Naming, R: Wait + Copy, T: Follows<N>>(
     alloc: Global,
     desk: &Desk<N, R, T>,
 ) -> Result<Offered<N>, AllocError> {
     let mut places = Vec::new(alloc);
     let mut receipts = Vec::new(alloc);
-    for _ in 0..EACH {
-        let event = Event {
-            thread: 0,
-            op: Op::Write(1),
-        };
-        let (answer, receipt) = desk.offer(event);
+    for _ in 0..100 {
+        let (answer, receipt) = desk.offer(WRITE);
         receipts.push(receipt)?;
         if let Ok(place) = answer {
             places.push(place.get())?;
@@ -42,9 +50,45 @@ fn offers<N: Naming, R: Wait + Copy, T: Follows<N>>(
     Ok((places, receipts))
 }
 
+/// The first places of the batches of one thread that came in whole, and its receipts.
+fn offers_batches<N: Naming, R: Wait + Copy, T: Follows<N>>(
+    alloc: Global,
+    desk: &Desk<N, R, T>,
+) -> Result<Offered<N>, AllocError> {
+    let mut places = Vec::new(alloc);
+    let mut receipts = Vec::new(alloc);
+    for _ in 0..10 {
+        let (batched, receipt) = desk.offer_batch(&[WRITE; MAX_BATCH]);
+        receipts.push(receipt)?;
+        if usize::from(batched.accepted) == MAX_BATCH && batched.refusal.is_none() {
+            places.push(batched.length)?;
+        }
+    }
+    Ok((places, receipts))
+}
+
+/// The places that one thread is given, and its receipts.
+fn offer_events<N: Naming, R: Wait + Copy, T: Follows<N>>(
+    alloc: Global,
+    desk: &Desk<N, R, T>,
+    how: Offers,
+) -> Result<Offered<N>, AllocError> {
+    match how {
+        Offers::Single => offers_single(alloc, desk),
+        Offers::Batches => offers_batches(alloc, desk),
+    }
+}
+
 #[test]
 fn eight_threads(rt: HostRuntime) -> Result<(), Fail> {
-    offers_of_eight::<Brand, _>(rt, rt.alloc(), RandomState::new(&rt)?, Opened::new(), MOST)
+    let state = RandomState::new(&rt)?;
+    offers_of_eight::<Brand, _>(rt, rt.alloc(), state, Opened::new(), MOST, Offers::Single)
+}
+
+#[test]
+fn batches_from_eight_threads(rt: HostRuntime) -> Result<(), Fail> {
+    let state = RandomState::new(&rt)?;
+    offers_of_eight::<Brand, _>(rt, rt.alloc(), state, Opened::new(), MOST, Offers::Batches)
 }
 
 fn offers_of_eight<N: Naming + Send + Sync, R: Threads + Wait + Abort + Copy + Send + Sync>(
@@ -53,19 +97,20 @@ fn offers_of_eight<N: Naming + Send + Sync, R: Threads + Wait + Abort + Copy + S
     state: RandomState,
     opened: Opened,
     limit: u32,
+    how: Offers,
 ) -> Result<(), Fail>
     requires book { opened.seen.book ≡ N.book }
     requires limit { limit ≡ N.limit }
 {
     let (desk, mut reader) = one_reader::<N, R>(rt, alloc, state, opened, limit)?;
-    let accepted = accepts_all(&rt, alloc, &desk, &mut reader);
+    let accepted = accepts_all(&rt, alloc, &desk, &mut reader, how);
     drop(desk);
     drop(reader);
     accepted
 }
 
 /// The places that all were given, in order. Their receipts are learnt.
-pub(crate) fn places_of_all<N: Naming>(
+fn places_of_all<N: Naming>(
     alloc: Global,
     reader: &mut BoardReader<N>,
     all: Vec<Result<Offered<N>, AllocError>>,
@@ -92,12 +137,25 @@ fn learn_offered<N: Naming>(
     before.extend_from_slice(&given)
 }
 
-fn expected_places(alloc: Global) -> Result<Vec<u32>, AllocError> {
+/// The places that all are given: each of the first 800, or the first ones of 80 batches.
+fn expected_places(alloc: Global, how: Offers) -> Result<Vec<u32>, AllocError> {
+    let (count, size) = match how {
+        Offers::Single => (800u32, 1u32),
+        Offers::Batches => (80, 64),
+    };
     let mut expected = Vec::new(alloc);
-    for place in 0..800u32 {
-        expected.push(place)?;
+    for index in 0..count {
+        expected.push(index.wrapping_mul(size))?;
     }
     Ok(expected)
+}
+
+/// How many events all offer.
+fn offered_by_all(how: Offers) -> u32 {
+    match how {
+        Offers::Single => 800,
+        Offers::Batches => 5_120,
+    }
 }
 
 /// Eight threads offer at once, and each place is given once.
@@ -106,14 +164,15 @@ fn accepts_all<N: Naming + Send + Sync, R: Threads + Wait + Abort + Copy + Send 
     alloc: Global,
     desk: &Desk<N, R, Shown<N>>,
     reader: &mut BoardReader<N>,
+    how: Offers,
 ) -> Result<(), Fail> {
-    let all = thread::map_indices(rt, alloc, THREADS, &|_| offers(alloc, desk))?;
+    let all = thread::map_indices(rt, alloc, THREADS, &|_| offer_events(alloc, desk, how))?;
     let places = places_of_all(alloc, reader, all)?;
-    let expected = expected_places(alloc)?;
+    let expected = expected_places(alloc, how)?;
     assert_eq!(rt; places.as_slice(), expected.as_slice());
     let Ok(summary) = reader.status() else {
         return Err(Fail::from("busy"));
     };
-    assert_eq!(rt; summary.accepted, 800);
+    assert_eq!(rt; summary.accepted, offered_by_all(how));
     Ok(())
 }

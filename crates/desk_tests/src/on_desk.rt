@@ -118,17 +118,17 @@ fn offers_script<N: Naming, R: Wait + Abort + Copy>(
         (1, Op::Release(10), Err(Refusal::NotHeld)),
         (1, Op::Acquire(10), Ok(2)),
         (2, Op::Acquire(10), Err(Refusal::HeldByOther)),
-        (1, Op::Acquire(10), Err(Refusal::HeldByItself)),
+        (1, Op::Acquire(10), Ok(3)),
         (0, Op::Join(0), Err(Refusal::JoinsItself)),
         (1, Op::Join(0), Err(Refusal::JoinUnknown)),
         (3, Op::Acquire(1), Err(Refusal::Unforked)),
         (0, Op::Fork(1), Err(Refusal::AlreadyForked)),
         (0, Op::Fork(0), Err(Refusal::AlreadyForked)),
-        (0, Op::Join(2), Ok(3)),
+        (0, Op::Join(2), Ok(4)),
         (1, Op::Join(2), Err(Refusal::JoinedTwice)),
         (2, Op::Write(1), Err(Refusal::Ended)),
         (0, Op::Join(9), Err(Refusal::JoinUnknown)),
-        (1, Op::Release(10), Ok(4)),
+        (1, Op::Release(10), Ok(5)),
     ];
     for (thread, op, reply) in script {
         let answer = offer(desk, reader, event(thread, op));
@@ -146,7 +146,7 @@ fn refuses_in_script<N: Naming, R: Wait + Abort + Copy>(
     let Ok(summary) = reader.status() else {
         return Err(Fail::from("busy"));
     };
-    assert_eq!(rt; summary.accepted, 5);
+    assert_eq!(rt; summary.accepted, 6);
     Ok(())
 }
 

@@ -1,45 +1,72 @@
 -- A table that follows a trace, one event further.
-use Rattle.std.proofs.Common.{take, length-take, ◌≡◌, ℕ, suc, ◌<◌, ◌==◌, leb, true, false, cond, List, [], ◌∷◌, ◌++◌, length, Some, None, refl, sym, ap, subst, ◌∙◌, arith}
-use Rattle.std.proofs.lemmas.Bool.{false≢true}
+use Rattle.std.proofs.Common.{take, length-take, ◌≡◌, ℕ, suc, ◌<◌, ◌==◌, true, false, cond, List, [], ◌∷◌, ◌++◌, length, Some, refl, sym, ap, subst, ◌∙◌, arith}
+use Rattle.std.proofs.lemmas.Bool.{false≢true, le-ltb}
 use Rattle.std.proofs.lemmas.Option.{slice_get_within}
-use Rattle.std.proofs.lemmas.Bool.Decides.{nat_tests}
 use Rattle.trace_model.specs.declared.event.Event.{Event}
 use Rattle.trace_model.specs.declared.event.Op.{Op}
 use Rattle.trace_model.specs.declared.event.Op.TheVariants.{Fork, Join, Acquire, Release, Read, Write}
-use Rattle.trace_model.specs.declared.refusal.Refusal.TheVariants.{HeldByItself, HeldByOther, TooDeep}
-use Rattle.trace_model.specs.declared.limits.TheConstants.{MAX_HELD, MAX_EVENTS}
+use Rattle.trace_model.specs.declared.limits.TheConstants.{MAX_EVENTS}
 use Rattle.trace_model.specs.Trace.{Trace, event, At}
-use Rattle.trace_model.specs.Held.{has, held_after, held_step, held}
-use Rattle.trace_model.specs.Lawful.{held_by, held_by_other}
+use Rattle.trace_model.specs.Held.{depth, depth_after, depth_step, held_after, held_step, held}
 use Rattle.trace_model.proofs.Lists.{get-append, get-push_last, get-take, length-push}
-use Rattle.trace_model.proofs.Prefix.{held-agree}
-use Rattle.trace_model.proofs.Lawful.{passes, lawful_parts}
-use Rattle.held_sets.specs.Tables.{held_in, IsAfter, FollowsTrace, keeps_locks, TablesFollow, TablesGrow, LawfulAcquiresFit, AcquiresFit}
+use Rattle.trace_model.proofs.Prefix.{Agree, depth-agree, held_step-agree, held-agree}
+use Rattle.trace_model.proofs.Lawful.{lawful_parts}
+use Rattle.trace_model.proofs.OneMore.{lawful_acquire}
+use Rattle.held_sets.specs.Tables.{Table, locks_of, depth_of, holding_in, held_in, depth_in, IsAfter, FollowsTrace, keeps_locks, TablesFollow, TablesGrow, LawfulAcquiresFit, AcquiresFit}
 
-pub follows_after : (old new : List (ℕ × List ℕ)) (s : Trace) (n : ℕ) (e : Event) → FollowsTrace old s n → At s n e →
+pub follows_after : (old new : Table) (s : Trace) (n : ℕ) (e : Event) → FollowsTrace old s n → At s n e →
     IsAfter old e.thread e.op new → FollowsTrace new s (suc n)
-follows_after old new s n e f a h u = h u ∙ ap (held_step (Some e) u) (f u) ∙ ap (λ o. held_step o u (held s n u)) (sym a)
+follows_after old new s n e f a h = record {
+  held = λ u.
+      h.held u
+      ∙ ap (held_step (depth_in old u) (Some e) u) (f.held u)
+      ∙ held_step-agree (depth_in old u) (depth s n u) (Some e) u (held s n u) (f.depth u)
+      ∙ ap (λ o. held_step (depth s n u) o u (held s n u)) (sym a);
+  depth = λ u l. h.depth u l ∙ ap (depth_step (Some e) u l) (f.depth u l) ∙ ap (λ o. depth_step o u l (depth s n u l)) (sym a);
+}
 
-same_held : (o : Op) (ks : List ℕ) → keeps_locks o ≡ true → held_after o ks ≡ ks
-same_held (Acquire l) ks h = absurd (false≢true h)
-same_held (Release l) ks h = absurd (false≢true h)
-same_held (Fork l) ks h = refl
-same_held (Join l) ks h = refl
-same_held (Read l) ks h = refl
-same_held (Write l) ks h = refl
+same_after : (o : Op) (depths : ℕ → ℕ) (ks : List ℕ) → keeps_locks o ≡ true → (held_after depths o ks ≡ ks) × ((l n : ℕ) → depth_after o l n ≡ n)
+same_after (Acquire l) depths ks h = absurd (false≢true h)
+same_after (Release l) depths ks h = absurd (false≢true h)
+same_after (Fork c) depths ks h = (refl, λ _ _. refl)
+same_after (Join c) depths ks h = (refl, λ _ _. refl)
+same_after (Read v) depths ks h = (refl, λ _ _. refl)
+same_after (Write v) depths ks h = (refl, λ _ _. refl)
 
-step_same : (e : Event) (u : ℕ) (ks : List ℕ) → keeps_locks e.op ≡ true → held_step (Some e) u ks ≡ ks
-step_same e u ks h = elim (e.thread == u) as (λ b. cond b (held_after e.op ks) ks ≡ ks) [ true ↦ same_held e.op ks h | false ↦ refl ]
+pub after_itself : (table : Table) (e : Event) → keeps_locks e.op ≡ true → IsAfter table e.thread e.op table
+after_itself table e h = record {
+  held = λ u.
+      elim (e.thread == u) as (λ b. held_in table u ≡ cond b (held_after (depth_in table u) e.op (held_in table u)) (held_in table u)) [
+        | true ↦ sym (same_after e.op (depth_in table u) (held_in table u) h).0
+        | false ↦ refl
+      ];
+  depth = λ u l.
+      elim (e.thread == u) as (λ b. depth_in table u l ≡ cond b (depth_after e.op l (depth_in table u l)) (depth_in table u l)) [
+        | true ↦ sym ((same_after e.op (depth_in table u) (held_in table u) h).1 l (depth_in table u l))
+        | false ↦ refl
+      ];
+}
 
-pub after_itself : (table : List (ℕ × List ℕ)) (e : Event) → keeps_locks e.op ≡ true → IsAfter table e.thread e.op table
-after_itself table e h u = sym (step_same e u (held_in table u) h)
+-- a table that shows the same follows the same
+pub follows_shown : (old new : Table) (s : Trace) (n : ℕ) → ((t : ℕ) → holding_in new t ≡ holding_in old t) → FollowsTrace old s n → FollowsTrace new s n
+follows_shown old new s n same f = record {
+  held = λ t. ap locks_of (same t) ∙ f.held t;
+  depth = λ t l. ap (λ ds. depth_of ds l) (same t) ∙ f.depth t l;
+}
 
 pub tables_follow : TablesFollow
 tables_follow old new s n e f a = (follows_after old new s n e f a, λ h. follows_after old old s n e f a (after_itself old e h))
 
--- what the table has of the trace, it has of the longer one
-pub follows_longer : (table : List (ℕ × List ℕ)) (s : Trace) (e : Event) → FollowsTrace table s (length s) → FollowsTrace table (s ++ e ∷ []) (length s)
-follows_longer table s e f u = f u ∙ sym (held-agree (s ++ e ∷ []) s (length s) u (λ p l. get-append s (e ∷ []) p l))
+-- what the table has of the trace, it has of one with the same events before the place
+follows_agreeing : (table : Table) (s r : Trace) (n : ℕ) → Agree n r s → FollowsTrace table s n → FollowsTrace table r n
+follows_agreeing table s r n same f = record {
+  held = λ u. f.held u ∙ sym (held-agree r s n u same);
+  depth = λ u l. f.depth u l ∙ sym (depth-agree r s n u l same);
+}
+
+-- and so of the longer one
+pub follows_longer : (table : Table) (s : Trace) (e : Event) → FollowsTrace table s (length s) → FollowsTrace table (s ++ e ∷ []) (length s)
+follows_longer table s e f = follows_agreeing table s (s ++ e ∷ []) (length s) (λ p l. get-append s (e ∷ []) p l) f
 
 pub tables_grow : TablesGrow
 tables_grow old new s e f =
@@ -49,16 +76,11 @@ tables_grow old new s e f =
       λ h. subst (FollowsTrace old (s ++ e ∷ [])) (sym (length-push s e)) (follows_after old old (s ++ e ∷ []) (length s) e g a (after_itself old e h)),
     )
 
-leb_false : (a b : ℕ) → leb a b ≡ false → b < a
-leb_false a b h = grind (arith, nat_tests)
-
 pub lawful_acquires_fit : LawfulAcquiresFit
 lawful_acquires_fit table limit s t l f h =
-    let a = passes (held_by s t l) HeldByItself _ (lawful_parts limit s t (Acquire l) h).2 in
-    let b = passes (held_by_other s t l) HeldByOther _ a.1 in
-    let c = passes (leb MAX_HELD (length (held s (length s) t))) TooDeep None b.1 in (
-      ap (has l) (f t) ∙ a.0,
-      subst (λ (ks : List ℕ). length ks < MAX_HELD) (sym (f t)) (leb_false MAX_HELD (length (held s (length s) t)) c.0),
+    let passed = lawful_acquire s t l (lawful_parts limit s t (Acquire l) h).2 in (
+      omega (arith, f.depth t l, passed.0),
+      λ none. omega (arith, ap length (f.held t), passed.2 (le-ltb 0 (depth s (length s) t l) (omega (arith, none, f.depth t l)))),
     )
 
 pub acquires_fit : AcquiresFit
@@ -66,5 +88,5 @@ acquires_fit table s n t l w f a =
     let below : n < length s = slice_get_within s n (event t (Acquire l)) a in
     let whole : length (take n s) ≡ n = omega (arith, length-take n s) in
     lawful_acquires_fit table MAX_EVENTS (take n s) t l
-    (λ u. f u ∙ sym (held-agree (take n s) s n u (λ p lt. get-take n s p lt)) ∙ ap (λ (m : ℕ). held (take n s) m u) (sym whole))
+    (subst (FollowsTrace table (take n s)) (sym whole) (follows_agreeing table s (take n s) n (λ p lt. get-take n s p lt) f))
     (w n (event t (Acquire l)) a)

@@ -1,11 +1,47 @@
--- The locks of a thread, written anew.
-use Rattle.std.proofs.Common.{◌≡◌, ℕ, Bool, true, false, cond, nat_eq, List, [], Option, Some, unwrap_or, refl, sym}
+-- What a thread holds, written anew.
+use Rattle.std.proofs.Common.{◌≡◌, ℕ, Bool, true, false, cond, nat_eq, ◌==◌, ◌-◌, List, [], Option, Some, unwrap_or, refl, sym, ap, subst, ◌∙◌}
 use Rattle.std.proofs.lemmas.Bool.{eqb-true}
+use Rattle.trace_model.specs.declared.event.Op.{Op}
+use Rattle.trace_model.specs.declared.event.Op.TheVariants.{Release}
+use Rattle.trace_model.specs.Held.{held_after, depth_after}
+use Rattle.held_sets.specs.declared.holding.LockDepth.{LockDepth}
+use Rattle.held_sets.specs.Tables.{Table, locks_of, depth_of, IsHeldAfter, holding_in, held_in, depth_in, IsAfter}
 
-pub written : (t u : ℕ) (o : Option (List ℕ)) (x : List ℕ) (f : List ℕ → List ℕ) → (t ≡ u → f (unwrap_or o []) ≡ x) →
-    unwrap_or (cond (nat_eq t u) (Some x) o) [] ≡ cond (nat_eq t u) (f (unwrap_or o [])) (unwrap_or o [])
-written t u o x f h = go (nat_eq t u) refl
+pub written : (t u : ℕ) (o : Option (List LockDepth)) (x : List LockDepth) → unwrap_or (cond (nat_eq t u) (Some x) o) [] ≡ cond (nat_eq t u) x (unwrap_or o [])
+written t u o x = elim (nat_eq t u) as (λ b. unwrap_or (cond b (Some x) o) [] ≡ cond b x (unwrap_or o [])) [ true ↦ refl | false ↦ refl ]
+
+-- a table in which one thread's holding is the old one after the thread did this
+pub after_from : (old base new : Table) (t : ℕ) (o : Op) (x : List LockDepth) → old ≡ base → ((u : ℕ) → holding_in new u ≡ cond (nat_eq t u) x (holding_in old u)) →
+    IsHeldAfter (holding_in old t) o x → IsAfter base t o new
+after_from old base new t o x seen h is = subst (λ table. IsAfter table t o new) seen (record {
+  held = λ u. ap locks_of (h u) ∙ locks u (nat_eq t u) refl;
+  depth = λ u l. ap (λ ds. depth_of ds l) (h u) ∙ depths u l (nat_eq t u) refl;
+})
   where
-    go : (b : Bool) → nat_eq t u ≡ b → unwrap_or (cond b (Some x) o) [] ≡ cond b (f (unwrap_or o [])) (unwrap_or o [])
-    go true e = sym (h (eqb-true t u e))
-    go false e = refl
+    locks : (u : ℕ) (b : Bool) → nat_eq t u ≡ b → locks_of (cond b x (holding_in old u)) ≡ cond b (held_after (depth_in old u) o (held_in old u)) (held_in old u)
+    locks u true e = subst (λ v. locks_of x ≡ held_after (depth_in old v) o (held_in old v)) (eqb-true t u e) is.locks
+    locks u false e = refl
+
+    depths : (u l : ℕ) (b : Bool) → nat_eq t u ≡ b → depth_of (cond b x (holding_in old u)) l ≡ cond b (depth_after o l (depth_in old u l)) (depth_in old u l)
+    depths u l true e = subst (λ v. depth_of x l ≡ depth_after o l (depth_in old v l)) (eqb-true t u e) (is.depths l)
+    depths u l false e = refl
+
+-- a release by a thread that holds nothing changes nothing
+pub after_nothing : (table : Table) (t l : ℕ) → holding_in table t ≡ [] → IsAfter table t (Release l) table
+after_nothing table t l none = after_from table table table t (Release l) [] refl (λ u. same u (nat_eq t u) refl)
+    (subst (λ ds. IsHeldAfter ds (Release l) []) (sym none) (record { locks = refl; depths = λ m. nought (l == m) }))
+  where
+    nought : (b : Bool) → depth_of [] l ≡ cond b (depth_of [] l - 1) (depth_of [] l)
+    nought true = refl
+    nought false = refl
+
+    same : (u : ℕ) (b : Bool) → nat_eq t u ≡ b → holding_in table u ≡ cond b [] (holding_in table u)
+    same u true e = subst (λ v. holding_in table v ≡ []) (eqb-true t u e) none
+    same u false e = refl
+
+-- what shows the same holdings is the same to what comes after
+pub after_shown : (old mid new : Table) (t : ℕ) (o : Op) → ((u : ℕ) → holding_in mid u ≡ holding_in old u) → IsAfter mid t o new → IsAfter old t o new
+after_shown old mid new t o same h = record {
+  held = λ u. h.held u ∙ ap (λ ds. cond (t == u) (held_after (depth_of ds) o (locks_of ds)) (locks_of ds)) (same u);
+  depth = λ u l. h.depth u l ∙ ap (λ ds. cond (t == u) (depth_after o l (depth_of ds l)) (depth_of ds l)) (same u);
+}

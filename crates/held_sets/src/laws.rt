@@ -2,7 +2,7 @@
 
 ghost use Rattle.held_sets.specs.Tables.{TablesFollow, TablesGrow, AcquiresFit, LawfulAcquiresFit};
 
-/// A table that is changed with each acquire and release has what each thread holds.
+/// A table that is changed with each acquire and release has what each thread holds, and how deep.
 pub fn held_follows()
     ensures follow { TablesFollow }
     ensures grow { TablesGrow }

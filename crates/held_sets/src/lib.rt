@@ -1,6 +1,7 @@
-//! The locks that each thread holds.
+//! The locks that each thread holds, and how deep.
 #![tactic(auto)]
 
+mod holding;
 pub mod laws;
 mod set;
 mod table;

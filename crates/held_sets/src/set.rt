@@ -2,9 +2,10 @@ ghost use Rattle.std.specs.Prelude.{◌≡◌, ℕ, ◌<◌, ◌≤◌, ◌↔�
 ghost use Rattle.std.specs.List.{list_any};
 ghost use Rattle.std.specs.List.Sorted.{IsStrictlyIncreasing};
 ghost use Rattle.trace_model.specs.declared.limits.TheConstants.{MAX_HELD};
-ghost use Rattle.trace_model.specs.Held.{has, with_lock, without_lock};
-ghost use Rattle.held_sets.specs.Tables.{AreDisjoint};
+ghost use Rattle.trace_model.specs.Held.{has, with_lock};
+ghost use Rattle.held_sets.specs.Tables.{AreDisjoint, locks_of};
 
+use crate::holding::LockDepth;
 use arrayvec::ArrayVec;
 use std::marker::Model;
 use trace_model::MAX_HELD;
@@ -36,6 +37,19 @@ impl HeldSet {
         HeldSet {
             locks: ArrayVec::new(),
         }
+    }
+
+    /// The locks of a holding.
+    pub(crate) fn of(holding: &[LockDepth]) -> HeldSet
+        requires ascends { IsStrictlyIncreasing (locks_of holding.now) }
+        requires few { length holding.now ≤ MAX_HELD }
+        ensures { result ≡ locks_of holding.now }
+    {
+        let mut locks = ArrayVec::new();
+        for held in holding {
+            locks.push(held.lock);
+        }
+        HeldSet { locks }
     }
 
     /// The locks, ascending.
@@ -84,13 +98,6 @@ impl HeldSet {
     {
         let index = index_above(self.locks.as_slice(), lock);
         self.locks.insert(index, lock);
-    }
-
-    /// Takes a lock out. One that is not there changes nothing.
-    pub fn remove(&mut self, lock: u32)
-        ensures { self.new ≡ without_lock lock self.old }
-    {
-        self.locks.retain(|other| *other != lock);
     }
 }
 

@@ -1,9 +1,9 @@
-ghost use Rattle.std.specs.Prelude.{◌≡◌, ℕ, ◌<◌, [], length, false, OnOk, OnErr};
+ghost use Rattle.std.specs.Prelude.{◌≡◌, ℕ, ◌<◌, [], length, OnOk, OnErr};
 ghost use Rattle.trace_model.specs.declared.event.Op.TheVariants.{Acquire, Release};
-ghost use Rattle.trace_model.specs.declared.limits.TheConstants.{MAX_HELD};
-ghost use Rattle.trace_model.specs.Held.{has};
-ghost use Rattle.held_sets.specs.Tables.{held_in, HasEntry, IsAfter};
+ghost use Rattle.trace_model.specs.declared.limits.TheConstants.{MAX_HELD, MAX_DEPTH};
+ghost use Rattle.held_sets.specs.Tables.{holding_in, held_in, depth_in, HasEntry, IsAfter};
 
+use crate::holding::Holding;
 use crate::set::HeldSet;
 use indexmap::IndexMap;
 use slots::{NumberTable, slot_of};
@@ -12,10 +12,10 @@ use std::collections::hash_map::RandomState;
 use std::marker::Model;
 use trace_model::NoMemory;
 
-/// The locks that each thread holds. It remembers where the last reserved thread stands.
+/// The locks that each thread holds, and how deep. It remembers where the last reserved thread stands.
 #[derive(Drop)]
 pub struct HeldTable {
-    threads: NumberTable<HeldSet>,
+    threads: NumberTable<Holding>,
     near: usize,
 }
 
@@ -30,7 +30,7 @@ impl Model for HeldTable {
 impl HeldTable {
     /// No thread holds a lock. It takes no memory.
     pub fn new(alloc: Global, state: RandomState) -> HeldTable
-        ensures { (t : ℕ) → held_in result t ≡ [] }
+        ensures { (t : ℕ) → holding_in result t ≡ [] }
     {
         HeldTable {
             threads: IndexMap::with_hasher(alloc, state),
@@ -44,23 +44,38 @@ impl HeldTable {
     {
         match slot_of(&self.threads, self.near, thread) {
             Some(slot) => match self.threads.get_index(slot) {
-                Some((_, locks)) => locks.copied(),
+                Some((_, holding)) => holding.locks(),
                 None => HeldSet::new(),
             },
             None => HeldSet::new(),
         }
     }
 
-    /// The thread acquires a lock that it does not hold, while it holds fewer than `MAX_HELD`.
+    /// How deep the thread holds the lock: how many acquires of it are not yet released, 0 where it does not hold
+    /// it. It takes no memory.
+    pub fn depth(&self, thread: u32, lock: u32) -> u8
+        ensures { result ≡ depth_in self.now thread lock }
+    {
+        match slot_of(&self.threads, self.near, thread) {
+            Some(slot) => match self.threads.get_index(slot) {
+                Some((_, holding)) => holding.depth(lock),
+                None => 0,
+            },
+            None => 0,
+        }
+    }
+
+    /// The thread acquires a lock, which it may hold already, but at less than `MAX_DEPTH`. One that it does not
+    /// hold it acquires while it holds fewer than `MAX_HELD`.
     ///
     /// # Errors
     ///
     /// `NoMemory` where a growth was refused. What each thread holds is then as before.
     pub fn acquire(&mut self, thread: u32, lock: u32) -> Result<(), NoMemory>
-        requires new { has lock (held_in self.old thread) ≡ false }
-        requires room { length (held_in self.old thread) < MAX_HELD }
+        requires nested { depth_in self.old thread lock < MAX_DEPTH }
+        requires room { depth_in self.old thread lock ≡ 0 → length (held_in self.old thread) < MAX_HELD }
         ensures ok { OnOk result (IsAfter self.old thread (Acquire lock) self.new) }
-        ensures err { OnErr result ((t : ℕ) → held_in self.new t ≡ held_in self.old t) }
+        ensures err { OnErr result ((t : ℕ) → holding_in self.new t ≡ holding_in self.old t) }
     {
         self.reserve(thread, lock)?;
         self.record(thread, lock);
@@ -74,7 +89,7 @@ impl HeldTable {
     ///
     /// `NoMemory` where a growth was refused.
     pub fn reserve(&mut self, thread: u32, _lock: u32) -> Result<(), NoMemory>
-        ensures shown { (t : ℕ) → held_in self.new t ≡ held_in self.old t }
+        ensures shown { (t : ℕ) → holding_in self.new t ≡ holding_in self.old t }
         ensures ok { OnOk result (HasEntry self.new thread) }
     {
         if let Some(slot) = slot_of(&self.threads, self.near, thread) {
@@ -82,7 +97,7 @@ impl HeldTable {
             return Ok(());
         }
         let slot = self.threads.len();
-        self.threads.insert(thread, HeldSet::new())?;
+        self.threads.insert(thread, Holding::new())?;
         self.near = slot;
         Ok(())
     }
@@ -90,26 +105,27 @@ impl HeldTable {
     /// Does what `acquire` does, where the thread has an entry. It takes no memory.
     pub fn record(&mut self, thread: u32, lock: u32)
         requires entry { HasEntry self.old thread }
-        requires new { has lock (held_in self.old thread) ≡ false }
-        requires room { length (held_in self.old thread) < MAX_HELD }
+        requires nested { depth_in self.old thread lock < MAX_DEPTH }
+        requires room { depth_in self.old thread lock ≡ 0 → length (held_in self.old thread) < MAX_HELD }
         ensures { IsAfter self.old thread (Acquire lock) self.new }
     {
         match slot_of(&self.threads, self.near, thread) {
             Some(slot) => match self.threads.get_index_mut(slot) {
-                Some(locks) => locks.insert(lock),
+                Some(holding) => holding.acquire(lock),
                 None => {}
             },
             None => {}
         }
     }
 
-    /// The thread releases a lock. One that it does not hold changes nothing. It takes no memory.
+    /// The thread releases a lock, which it then holds at one less: at depth 1 no longer. A lock that it does not hold
+    /// changes nothing. It takes no memory.
     pub fn release(&mut self, thread: u32, lock: u32)
         ensures { IsAfter self.old thread (Release lock) self.new }
     {
         match slot_of(&self.threads, self.near, thread) {
             Some(slot) => match self.threads.get_index_mut(slot) {
-                Some(locks) => locks.remove(lock),
+                Some(holding) => holding.release(lock),
                 None => {}
             },
             None => {}

@@ -15,7 +15,7 @@ use trace_model::{Event, NoMemory, Op, Place};
 
 /// Makes an entry for the thread of the event, if it acquires a lock.
 pub(crate) fn reserve_locks(held: &mut HeldTable, event: &Event) -> Result<(), NoMemory>
-    ensures shown { (t : ℕ) → Held.held_in held.new t ≡ Held.held_in held.old t }
+    ensures shown { (t : ℕ) → Held.holding_in held.new t ≡ Held.holding_in held.old t }
     ensures ok { OnOk result (HasEntryFor held.new event.now) }
 {
     match event.op {

@@ -24,6 +24,8 @@ mod on_trace_index;
 #[cfg(test)]
 mod on_trace_model;
 #[cfg(test)]
+mod on_wellformed;
+#[cfg(test)]
 mod on_witness;
 #[cfg(test)]
 mod traces;

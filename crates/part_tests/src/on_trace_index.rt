@@ -25,9 +25,12 @@ fn index_at(rt: &HostRuntime, gate: &Gate) -> Result<TraceIndex, Fail>
     Ok(TraceIndex::build(rt.alloc(), state, gate.events())?)
 }
 
-/// An index of that trace.
-fn index_of(rt: &HostRuntime) -> Result<TraceIndex, Fail> {
-    let gate = gate_of(rt, LATER_INSTANCE)?;
+/// A thread acquires a lock twice more while it holds it, gives it back, and takes it once more.
+const NESTED: &str = "0a5 0a5 0w1 0a5 0r5 0a8 0r5 0r5 0r8 0a5 0r5";
+
+/// An index of a trace.
+fn index_of(rt: &HostRuntime, events: &str) -> Result<TraceIndex, Fail> {
+    let gate = gate_of(rt, events)?;
     let index = index_at(rt, &gate);
     drop(gate);
     index
@@ -41,6 +44,7 @@ enum Look {
     Number,
     ThreadBefore,
     AcquireBefore,
+    Begun,
     Fork,
 }
 
@@ -52,6 +56,7 @@ fn looked_up(index: &TraceIndex, look: Look, number: u32) -> Option<u32> {
         Look::Number => index.number(place),
         Look::ThreadBefore => number_of(index.thread_before(place)),
         Look::AcquireBefore => number_of(index.acquire_before(place)),
+        Look::Begun => index.begun(place),
         Look::Fork => number_of(index.fork_of(number)),
     }
 }
@@ -97,6 +102,22 @@ const OF_EARLIER_PLACES: [Wanted; 8] = [
     (Look::AcquireBefore, 5, None),
 ];
 
+const OF_NESTED_PLACES: [Wanted; 13] = [
+    (Look::Release, 0, Some(7)),
+    (Look::Release, 1, None),
+    (Look::Release, 3, None),
+    (Look::Release, 5, Some(8)),
+    (Look::Release, 9, Some(10)),
+    (Look::AcquireBefore, 1, None),
+    (Look::AcquireBefore, 9, Some(0)),
+    (Look::Begun, 0, Some(5)),
+    (Look::Begun, 1, None),
+    (Look::Begun, 4, None),
+    (Look::Begun, 5, Some(8)),
+    (Look::Begun, 9, Some(5)),
+    (Look::Begun, 99, None),
+];
+
 fn answers(rt: &impl Abort, index: &TraceIndex, wanted: &[Wanted]) {
     for (look, number, answer) in wanted {
         let found = looked_up(index, *look, *number);
@@ -119,10 +140,20 @@ fn are_places(places: PlacesOf<'_>, wanted: &[u32]) -> bool {
 
 #[test]
 fn places_of_a_small_trace(rt: HostRuntime) -> Result<(), Fail> {
-    let index = index_of(&rt)?;
+    let index = index_of(&rt, LATER_INSTANCE)?;
     answers(&rt, &index, &OF_PLACES);
     answers(&rt, &index, &OF_EARLIER_PLACES);
     drop(index);
+    Ok(())
+}
+
+#[test]
+fn places_of_nested_acquires(rt: HostRuntime) -> Result<(), Fail> {
+    let index = index_of(&rt, NESTED)?;
+    answers(&rt, &index, &OF_NESTED_PLACES);
+    let outermost = are_places(index.acquires(5), &[0, 9]);
+    drop(index);
+    assert!(rt; outermost);
     Ok(())
 }
 
@@ -138,7 +169,7 @@ fn has_events(index: &TraceIndex) -> bool {
 
 #[test]
 fn events_of_a_small_trace(rt: HostRuntime) -> Result<(), Fail> {
-    let index = index_of(&rt)?;
+    let index = index_of(&rt, LATER_INSTANCE)?;
     let has_events = has_events(&index);
     drop(index);
     assert!(rt; has_events);
@@ -154,7 +185,7 @@ fn has_lists(index: &TraceIndex) -> bool {
 
 #[test]
 fn lists_of_a_small_trace(rt: HostRuntime) -> Result<(), Fail> {
-    let index = index_of(&rt)?;
+    let index = index_of(&rt, LATER_INSTANCE)?;
     let has_lists = has_lists(&index);
     drop(index);
     assert!(rt; has_lists);

@@ -10,7 +10,7 @@ const NAMES: [(u8, &str); 23] = [
     (6, "JoinsItself"),
     (7, "JoinUnknown"),
     (8, "JoinedTwice"),
-    (9, "HeldByItself"),
+    (9, "TooNested"),
     (10, "HeldByOther"),
     (11, "TooDeep"),
     (12, "NotHeld"),

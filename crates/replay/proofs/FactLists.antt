@@ -1,18 +1,17 @@
 -- What the passes over the trace keep, and what the tests take from it.
-use Rattle.std.proofs.Common.{◌≡◌, ℕ, zero, suc, ◌+◌, ◌-◌, ◌<◌, ◌≤◌, Bool, true, false, not, cond, ◌==◌, List, ◌∷◌, [], ◌++◌, length, slice_get, set, Option, Some, None, refl, sym, ap, subst, ◌∙◌, inl, inr, add-one, arith}
+use Rattle.std.proofs.Common.{◌≡◌, ℕ, zero, suc, ◌+◌, ◌<◌, Bool, true, false, not, cond, ◌==◌, List, ◌∷◌, [], ◌++◌, length, slice_get, Option, Some, None, refl, sym, ap, subst, ◌∙◌, inl, inr, add-one, arith}
 use Rattle.std.specs.Option.{option_and_then, option_map_or}
 use Rattle.std.specs.List.{Contains}
 use Rattle.std.proofs.lemmas.Bool.{cases_lt, eqb-true, eq-eqb, false≢true}
-use Rattle.std.proofs.lemmas.Option.{slice_get_within}
 use Rattle.trace_model.specs.declared.event.Event.{Event}
 use Rattle.trace_model.specs.declared.event.Op.{Op}
-use Rattle.trace_model.specs.declared.event.Op.TheVariants.{Acquire, Read, Release, Write}
-use Rattle.trace_model.specs.Trace.{Trace, event, OfThread, does, last_place, first_place}
-use Rattle.trace_model.specs.Lookups.{writer_of, writer, release_of, release}
+use Rattle.trace_model.specs.declared.event.Op.TheVariants.{Read, Write}
+use Rattle.trace_model.specs.Trace.{Trace, event, OfThread, does, last_place}
+use Rattle.trace_model.specs.Lookups.{writer_of, writer}
 use Rattle.trace_model.specs.Walk.{Walks}
-use Rattle.trace_model.proofs.Lists.{at_index, get-push_kept, get-push_last, get-set_same, get-set_other, length-push}
+use Rattle.trace_model.proofs.Lists.{at_index, get-push_kept, get-push_last, length-push}
 use Rattle.trace_model.proofs.Places.{last_place_some, last_place_none}
-use Rattle.replay.specs.Facts.{is_of, previous, each, of_read, of_acquire}
+use Rattle.replay.specs.Facts.{is_of, previous, each, of_read}
 use Rattle.replay.specs.Walking.{noted}
 use Rattle.replay.specs.Tests.{MissesPlace, MissesEarlier}
 use Rattle.replay.proofs.Lists.{one_thread}
@@ -57,36 +56,6 @@ writer_seen s n e table at h = go e.op ∙ sym (ap (option_and_then (λ x. write
     go : (o : Op) → of_read table o ≡ writer_of s n o
     go (Read v) = h v
     go _ = refl
-
--- ---- one more place from the end
-
-pub release_seen : (s : Trace) (n : ℕ) (e : Event) (table : ℕ → Option ℕ) → slice_get s n ≡ Some e →
-    ((l : ℕ) → table l ≡ first_place (does s (Release l)) (suc n) (length s - suc n)) → of_acquire table e.op ≡ release s n
-release_seen s n e table at h = go e.op ∙ sym (ap (option_and_then (λ x. release_of s n x.op)) at)
-  where
-    go : (o : Op) → of_acquire table o ≡ release_of s n o
-    go (Acquire l) = h l
-    go _ = refl
-
-pub release_more : (s : Trace) (n key : ℕ) (e : Event) (old new : Option ℕ) → slice_get s n ≡ Some e →
-    old ≡ first_place (does s (Release key)) (suc n) (length s - suc n) → new ≡ noted Release e.op n key old →
-    new ≡ first_place (does s (Release key)) n (length s - n)
-release_more s n key e old new at o h =
-    let within : n < length s = slice_get_within s n e at in
-    let up : length s - n ≡ suc (length s - suc n) = omega arith in
-    h ∙ rw (up, at, o) refl
-
-pub releases_more : (s : Trace) (n q : ℕ) (rs : List (Option ℕ)) (r : Option ℕ) → length rs ≡ length s → n < length s → r ≡ release s n →
-    ((q : ℕ) → suc n ≤ q → q < length s → slice_get rs q ≡ Some (release s q)) → n ≤ q → q < length s →
-    slice_get (set rs n r) q ≡ Some (release s q)
-releases_more s n q rs r sized within is h le below =
-    let (x, at) = at_index rs n (omega arith) in
-    elim (cases_lt n q) [
-      | inl a ↦ get-set_other rs n q r (λ e. omega (arith, e)) ∙ h q a below
-      | inr a ↦
-          let same : n ≡ q = omega arith in
-          subst (λ k. slice_get (set rs n r) k ≡ Some (release s k)) same (get-set_same rs n x r at ∙ ap Some is)
-    ]
 
 -- ---- what the tests take
 

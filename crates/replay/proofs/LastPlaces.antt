@@ -1,6 +1,6 @@
 -- What a table of the walk has to keep: in a list that is walked, one place stands for the others of its thread, or of its lock.
-use Rattle.std.proofs.Common.{◌≡◌, ℕ, zero, suc, ◌+◌, ◌<◌, ◌≤◌, inl, inr, Bool, true, false, not, cond, List, [], ◌∷◌, ◌++◌, length, take, slice_get, get_or, set, nat_eq, replicate, ◌⊎◌, Option, Some, None, MatchOption, refl, sym, ◌∙◌, ap, subst, arith}
-use Rattle.std.proofs.lemmas.Bool.{cases_lt, cases_eq, false≢true}
+use Rattle.std.proofs.Common.{◌≡◌, ℕ, zero, suc, ◌+◌, ◌<◌, ◌≤◌, inl, inr, Bool, true, false, not, cond, ◌==◌, List, [], ◌∷◌, ◌++◌, length, take, slice_get, get_or, set, nat_eq, replicate, ◌⊎◌, Option, Some, None, MatchOption, refl, sym, ◌∙◌, ap, subst, arith}
+use Rattle.std.proofs.lemmas.Bool.{cases_lt, cases_eq, eqb-true, eq-eqb, false≢true}
 use Rattle.std.proofs.lemmas.Option.{none-some, same_Some, slice_get_within}
 use Rattle.std.specs.Option.{option_map_or}
 use Rattle.std.specs.List.{Contains}
@@ -11,15 +11,17 @@ use Rattle.trace_model.specs.Walk.{LastIn, Follows, Walks}
 use Rattle.trace_model.proofs.Ascending.{place_of, contains_at}
 use Rattle.trace_model.proofs.Lists.{get-push, get-push_kept, get-push_last}
 use Rattle.trace_model.proofs.Places.{does_from, op_eq_same}
-use Rattle.replay.specs.Walking.{noted, IsLastOf, Keeps, IsWalked}
+use Rattle.replay.specs.Facts.{begun}
+use Rattle.replay.specs.Walking.{noted, noted_begun, IsLastOf, Keeps, IsWalked}
 use Rattle.replay.specs.declared.walked.Walked.{Walked}
 use Rattle.std.specs.HashMap.{get}
 use Rattle.std.specs.Bool.{Decides}
-use Rattle.trace_model.specs.declared.event.Op.TheVariants.{Fork, Write, Acquire}
+use Rattle.trace_model.specs.declared.event.Op.TheVariants.{Fork, Write}
 use Rattle.std.proofs.lemmas.List.{length-set, get_or-set_same, get_or-set_other}
 use Rattle.std.proofs.Math.ListN.{length-replicate}
 use Rattle.trace_model.specs.Lawful.{IsWellFormed}
 use Rattle.replay.specs.Verdict.{order_tests, IsFirst}
+use Rattle.replay.proofs.Beginnings.{begun_so, begun_from}
 use Rattle.replay.proofs.Verdicts.{follows_so}
 use Rattle.trace_model.proofs.Walk.{front_so, front_from, walk_distinct}
 use Rattle.replay.specs.Tests.{NoWriteIn, MissesPlace, IsClosedIn, LeavesOpen, HasLater}
@@ -47,10 +49,9 @@ previous_stands s front w t q p (o, l, none) c (u, m, k, n) =
       ]
     ]
 
--- the last acquire of the lock in the list
+-- the last place of the list that begins a section on the lock
 abbrev pub IsLastAcquire : Trace → List ℕ → ℕ → ℕ → Type 0
-IsLastAcquire s front l z =
-    (i : ℕ) × (slice_get front i ≡ Some z) × BeginsOn s z l × ((j u : ℕ) → i < j → slice_get front j ≡ Some u → BeginsOn s u l → ⊥)
+IsLastAcquire s front l z = IsLastOf front (λ u. BeginsOn s u l) z
 
 -- every other one has its release, and is an earlier place
 pub others_closed : (s : Trace) (front : List ℕ) → Walks s front → (l z p : ℕ) → IsLastAcquire s front l z → Contains front p → BeginsOn s p l →
@@ -105,26 +106,22 @@ take_more (suc k) (x ∷ xs) q e =
     rw up (ap (λ ys. x ∷ ys) more)
 
 -- a table goes on to one more place
-pub keeps_push : (s : Trace) (front : List ℕ) (kind : ℕ → Op) (done : Op) (q : ℕ) (table : ℕ → Option ℕ) → Does s q done → Keeps s front kind table →
-    Keeps s (front ++ q ∷ []) kind (λ key. noted kind done q key (table key))
-keeps_push s front kind done q table (t, h) keeps key = go (op_eq done (kind key)) refl (table key) (keeps key)
+pub keeps_push : (front : List ℕ) (P : ℕ → ℕ → Type 0) (test : ℕ → Bool) (q : ℕ) (table : ℕ → Option ℕ) → ((key : ℕ) → Decides (test key) (P key q)) →
+    Keeps front P table → Keeps (front ++ q ∷ []) P (λ key. cond (test key) (Some q) (table key))
+keeps_push front P test q table decides keeps key = go (test key) refl (table key) (keeps key)
   where
-    same : does s (kind key) q ≡ op_eq done (kind key)
-    same = ap (λ r. option_map_or (λ e. op_eq e.op (kind key)) r false) h
-
-    older : op_eq done (kind key) ≡ false → (j u : ℕ) → slice_get (front ++ q ∷ []) j ≡ Some u → Does s u (kind key) → slice_get front j ≡ Some u
+    older : test key ≡ false → (j u : ℕ) → slice_get (front ++ q ∷ []) j ≡ Some u → P key u → slice_get front j ≡ Some u
     older e j u g d = elim (get-push front q j u g) [
       | inl a ↦ a
-      | inr a ↦ absurd (false≢true (sym e ∙ (sym same ∙ does_from s (kind key) q (subst (λ x. Does s x (kind key)) (sym a.1) d))))
+      | inr a ↦ absurd (false≢true (sym e ∙ (decides key).1 (subst (P key) (sym a.1) d)))
     ]
 
-    go : (b : Bool) → op_eq done (kind key) ≡ b → (o : Option ℕ) →
-        MatchOption o ((u : ℕ) → Does s u (kind key) → Contains front u → ⊥) (IsLastOf s front (kind key)) →
-        MatchOption (cond b (Some q) o) ((u : ℕ) → Does s u (kind key) → Contains (front ++ q ∷ []) u → ⊥) (IsLastOf s (front ++ q ∷ []) (kind key))
+    go : (b : Bool) → test key ≡ b → (o : Option ℕ) → MatchOption o ((u : ℕ) → P key u → Contains front u → ⊥) (IsLastOf front (P key)) →
+        MatchOption (cond b (Some q) o) ((u : ℕ) → P key u → Contains (front ++ q ∷ []) u → ⊥) (IsLastOf (front ++ q ∷ []) (P key))
     go true e o m = (
       length front,
       get-push_last front q,
-      (t, h ∙ ap (λ x. Some (event t x)) (op_eq_same done (kind key) e)),
+      (decides key).0 e,
       λ j u l g d. elim (get-push front q j u g) [
         | inl a ↦ omega (arith, slice_get_within front j u a)
         | inr a ↦ omega (arith, a.0)
@@ -132,6 +129,22 @@ keeps_push s front kind done q table (t, h) keeps key = go (op_eq done (kind key
     )
     go false e None m = λ u d c. let r = place_of (front ++ q ∷ []) u c in m u d (contains_at front u r.0 (older e r.0 u r.1 d))
     go false e (Some z) m = (m.0, get-push_kept front q m.0 z m.1, m.2, λ j u l g d. m.3 j u l (older e j u g d) d)
+
+-- an operation at a place is of the kind exactly where the test says so
+op_decides : (s : Trace) (kind : ℕ → Op) (done : Op) (q : ℕ) → Does s q done → (key : ℕ) → Decides (op_eq done (kind key)) (Does s q (kind key))
+op_decides s kind done q (t, h) key =
+    ((λ e. (t, h ∙ ap (λ x. Some (event t x)) (op_eq_same done (kind key) e))), λ d. sym same ∙ does_from s (kind key) q d)
+  where
+    same : does s (kind key) q ≡ op_eq done (kind key)
+    same = ap (λ r. option_map_or (λ e. op_eq e.op (kind key)) r false) h
+
+-- and begins a section on the lock exactly where that is the lock on which one begins
+begun_decides : (s : Trace) (q : ℕ) (o : Option ℕ) → begun s q ≡ o → (key : ℕ) → Decides (option_map_or (λ l. l == key) o false) (BeginsOn s q key)
+begun_decides s q None e key = ((λ h. absurd (false≢true h)), λ b. absurd (none-some key (sym e ∙ begun_from s q key b)))
+begun_decides s q (Some l) e key = (
+  (λ h. subst (BeginsOn s q) (eqb-true l key h) (begun_so s q l e)),
+  λ b. eq-eqb l key (same_Some l key (sym e ∙ begun_from s q key b)),
+)
 
 -- a place of the thread below q is missed exactly where the last one is
 pub missed_by_previous : (s : Trace) (front : List ℕ) → Walks s front → (t q p : ℕ) (b : Bool) → IsPrevious s t q p →
@@ -141,19 +154,18 @@ missed_by_previous s front w t q p true is h = (λ e. absurd (false≢true e), �
 missed_by_previous s front w t q p false is h = (λ _. (p, is.1, is.0, λ c. false≢true (h.1 c)), λ _. refl)
 
 -- what a table has under a key
-pub kept_some : (s : Trace) (front : List ℕ) (kind : ℕ → Op) (table : ℕ → Option ℕ) → Keeps s front kind table → (key z : ℕ) → Some z ≡ table key →
-    IsLastOf s front (kind key) z
-kept_some s front kind table k key z e =
-    subst (λ o. MatchOption o ((u : ℕ) → Does s u (kind key) → Contains front u → ⊥) (IsLastOf s front (kind key))) (sym e) (k key)
+pub kept_some : (front : List ℕ) (P : ℕ → ℕ → Type 0) (table : ℕ → Option ℕ) → Keeps front P table → (key z : ℕ) → Some z ≡ table key → IsLastOf front (P key) z
+kept_some front P table k key z e =
+    subst (λ o. MatchOption o ((u : ℕ) → P key u → Contains front u → ⊥) (IsLastOf front (P key))) (sym e) (k key)
 
-pub kept_none : (s : Trace) (front : List ℕ) (kind : ℕ → Op) (table : ℕ → Option ℕ) → Keeps s front kind table → (key : ℕ) → None ≡ table key →
-    (u : ℕ) → Does s u (kind key) → Contains front u → ⊥
-kept_none s front kind table k key e =
-    subst (λ o. MatchOption o ((u : ℕ) → Does s u (kind key) → Contains front u → ⊥) (IsLastOf s front (kind key))) (sym e) (k key)
+pub kept_none : (front : List ℕ) (P : ℕ → ℕ → Type 0) (table : ℕ → Option ℕ) → Keeps front P table → (key : ℕ) → None ≡ table key →
+    (u : ℕ) → P key u → Contains front u → ⊥
+kept_none front P table k key e =
+    subst (λ o. MatchOption o ((u : ℕ) → P key u → Contains front u → ⊥) (IsLastOf front (P key))) (sym e) (k key)
 
 -- the last write of the table is the last write in the list
 pub kept_write : (s : Trace) (front : List ℕ) → Walks s front → (v : ℕ) (o : Option ℕ) →
-    MatchOption o ((u : ℕ) → Does s u (Write v) → Contains front u → ⊥) (IsLastOf s front (Write v)) →
+    MatchOption o ((u : ℕ) → Does s u (Write v) → Contains front u → ⊥) (IsLastOf front (λ u. Does s u (Write v))) →
     MatchOption o (NoWriteIn s front v) (λ w. LastIn s front v w × Does s w (Write v))
 kept_write s front w v None h = h
 kept_write s front w v (Some z) (i, e, d, none) = (
@@ -203,25 +215,41 @@ inside_push front q inside l h p = elim (cases_eq q p) [
       )
 ]
 
-keeps_as : (s : Trace) (front : List ℕ) (kind : ℕ → Op) (f g : ℕ → Option ℕ) → ((key : ℕ) → g key ≡ f key) → Keeps s front kind f → Keeps s front kind g
-keeps_as s front kind f g e k key =
-    subst (λ o. MatchOption o ((u : ℕ) → Does s u (kind key) → Contains front u → ⊥) (IsLastOf s front (kind key))) (sym (e key)) (k key)
+keeps_as : (front : List ℕ) (P : ℕ → ℕ → Type 0) (f g : ℕ → Option ℕ) → ((key : ℕ) → g key ≡ f key) → Keeps front P f → Keeps front P g
+keeps_as front P f g e k key =
+    subst (λ o. MatchOption o ((u : ℕ) → P key u → Contains front u → ⊥) (IsLastOf front (P key))) (sym (e key)) (k key)
+
+-- a table of an operation
+keeps_op : (s : Trace) (front : List ℕ) (q : ℕ) (kind : ℕ → Op) (done : Op) (f g : ℕ → Option ℕ) → Does s q done →
+    Keeps front (λ key u. Does s u (kind key)) f → ((key : ℕ) → g key ≡ noted kind done q key (f key)) →
+    Keeps (front ++ q ∷ []) (λ key u. Does s u (kind key)) g
+keeps_op s front q kind done f g d k e =
+    let P : ℕ → ℕ → Type 0 = λ key u. Does s u (kind key) in
+    keeps_as (front ++ q ∷ []) P _ g e (keeps_push front P (λ key. op_eq done (kind key)) q f (op_decides s kind done q d) k)
+
+-- or of the sections
+keeps_begun : (s : Trace) (front : List ℕ) (q : ℕ) (b : Option ℕ) (f g : ℕ → Option ℕ) → begun s q ≡ b →
+    Keeps front (λ key u. BeginsOn s u key) f → ((key : ℕ) → g key ≡ noted_begun b q key (f key)) →
+    Keeps (front ++ q ∷ []) (λ key u. BeginsOn s u key) g
+keeps_begun s front q b f g is k e =
+    let P : ℕ → ℕ → Type 0 = λ key u. BeginsOn s u key in
+    keeps_as (front ++ q ∷ []) P _ g e (keeps_push front P (λ key. option_map_or (λ l. l == key) b false) q f (begun_decides s q b is) k)
 
 -- the tables go on to one more place
-pub walked_push : (s : Trace) (front : List ℕ) (q : ℕ) (done : Op) (old new : Walked) → IsWalked s front old → Follows s front q → Does s q done →
+pub walked_push : (s : Trace) (front : List ℕ) (q : ℕ) (done : Op) (b : Option ℕ) (old new : Walked) → IsWalked s front old → Follows s front q → Does s q done → begun s q ≡ b →
     new.inside.items ≡ set old.inside.items q true →
     ((key : ℕ) → get nat_eq new.forks key ≡ noted Fork done q key (get nat_eq old.forks key)) →
     ((key : ℕ) → get nat_eq new.writes key ≡ noted Write done q key (get nat_eq old.writes key)) →
-    ((key : ℕ) → get nat_eq new.acquires key ≡ noted Acquire done q key (get nat_eq old.acquires key)) →
+    ((key : ℕ) → get nat_eq new.acquires key ≡ noted_begun b q key (get nat_eq old.acquires key)) →
     IsWalked s (front ++ q ∷ []) new
-walked_push s front q done old new a f d i x y z = record {
+walked_push s front q done b old new a f d w i x y z = record {
   walked = walks_push s front q a.walked f;
   sized = ap length i ∙ (length-set old.inside.items q true ∙ a.sized);
   inside = subst (λ xs. (p : ℕ) → Decides (get_or xs p false) (Contains (front ++ q ∷ []) p)) (sym i)
       (inside_push front q old.inside.items (omega (arith, f.in_trace, a.sized)) a.inside);
-  forks = keeps_as s (front ++ q ∷ []) Fork _ _ x (keeps_push s front Fork done q (get nat_eq old.forks) d a.forks);
-  writes = keeps_as s (front ++ q ∷ []) Write _ _ y (keeps_push s front Write done q (get nat_eq old.writes) d a.writes);
-  acquires = keeps_as s (front ++ q ∷ []) Acquire _ _ z (keeps_push s front Acquire done q (get nat_eq old.acquires) d a.acquires);
+  forks = keeps_op s front q Fork done (get nat_eq old.forks) (get nat_eq new.forks) d a.forks x;
+  writes = keeps_op s front q Write done (get nat_eq old.writes) (get nat_eq new.writes) d a.writes y;
+  acquires = keeps_begun s front q b (get nat_eq old.acquires) (get nat_eq new.acquires) w a.acquires z;
 }
 
 none_inside : (n p : ℕ) → get_or (replicate n false) p false ≡ false
@@ -239,22 +267,22 @@ walked_empty s t i x y z = record {
     λ e. absurd (false≢true (sym (ap (λ xs. get_or xs p false) i ∙ none_inside (length s) p) ∙ e)),
     λ c. absurd (none-some p (place_of [] p c).1),
   );
-  forks = λ key. empty (get nat_eq t.forks key) Fork key (x key);
-  writes = λ key. empty (get nat_eq t.writes key) Write key (y key);
-  acquires = λ key. empty (get nat_eq t.acquires key) Acquire key (z key);
+  forks = λ key. empty (get nat_eq t.forks key) (λ u. Does s u (Fork key)) (x key);
+  writes = λ key. empty (get nat_eq t.writes key) (λ u. Does s u (Write key)) (y key);
+  acquires = λ key. empty (get nat_eq t.acquires key) (λ u. BeginsOn s u key) (z key);
 }
   where
-    empty : (o : Option ℕ) (kind : ℕ → Op) (key : ℕ) → o ≡ None → MatchOption o ((u : ℕ) → Does s u (kind key) → Contains [] u → ⊥) (IsLastOf s [] (kind key))
-    empty o kind key e = subst (λ r. MatchOption r ((u : ℕ) → Does s u (kind key) → Contains [] u → ⊥) (IsLastOf s [] (kind key))) (sym e) (λ u d c. none-some u (place_of [] u c).1)
+    empty : (o : Option ℕ) (P : ℕ → Type 0) → o ≡ None → MatchOption o ((u : ℕ) → P u → Contains [] u → ⊥) (IsLastOf [] P)
+    empty o P e = subst (λ r. MatchOption r ((u : ℕ) → P u → Contains [] u → ⊥) (IsLastOf [] P)) (sym e) (λ u d c. none-some u (place_of [] u c).1)
 
 -- the tables of the next front
-pub walked_next : (s : Trace) → IsWellFormed s → (order : List ℕ) (k q : ℕ) (done : Op) (old new : Walked) → slice_get order k ≡ Some q →
-    IsWalked s (take k order) old → IsFirst order_tests s (take k order) q None → Does s q done →
+pub walked_next : (s : Trace) → IsWellFormed s → (order : List ℕ) (k q : ℕ) (done : Op) (b : Option ℕ) (old new : Walked) → slice_get order k ≡ Some q →
+    IsWalked s (take k order) old → IsFirst order_tests s (take k order) q None → Does s q done → begun s q ≡ b →
     new.inside.items ≡ set old.inside.items q true →
     ((key : ℕ) → get nat_eq new.forks key ≡ noted Fork done q key (get nat_eq old.forks key)) →
     ((key : ℕ) → get nat_eq new.writes key ≡ noted Write done q key (get nat_eq old.writes key)) →
-    ((key : ℕ) → get nat_eq new.acquires key ≡ noted Acquire done q key (get nat_eq old.acquires key)) →
+    ((key : ℕ) → get nat_eq new.acquires key ≡ noted_begun b q key (get nat_eq old.acquires key)) →
     IsWalked s (take (k + 1) order) new
-walked_next s wf order k q done old new e a f d i x y z =
+walked_next s wf order k q done b old new e a f d w i x y z =
     subst (λ xs. IsWalked s xs new) (sym (take_more k order q e))
-    (walked_push s (take k order) q done old new a (follows_so s wf (take k order) q f) d i x y z)
+    (walked_push s (take k order) q done b old new a (follows_so s wf (take k order) q f) d w i x y z)

@@ -139,7 +139,7 @@ pub reaches_law : (s : Trace) → IsWellFormed s → (order places : List ℕ) �
     (IsVerdict s order places Reaches → (IsReordering s order × reordering.Reaches s order places × InTrace s places))
     × ((IsReordering s order × reordering.Reaches s order places × InTrace s places) → IsVerdict s order places Reaches)
 reaches_law s wf order places = (
-  λ v. let r = reaches_so s order places v.1 in (walk_reorders s wf order (walks_so s wf order v.0), r.0, r.1),
+  λ v. let r = reaches_so s order places v.1 in (walk_reorders s order (walks_so s wf order v.0), r.0, r.1),
   λ (o, r, i). (walks_from s wf order (reordering_walks s order o), reaches_from s order places r i),
 )
 

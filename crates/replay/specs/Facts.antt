@@ -1,10 +1,11 @@
 -- What the trace alone says of each of its places.
-use Rattle.std.specs.Prelude.{◌≡◌, ℕ, zero, suc, ◌<◌, Bool, false, ◌==◌, List, [], ◌∷◌, ◌++◌, length, slice_get, nat_eq, Option, Some, None}
+use Rattle.std.specs.Prelude.{◌≡◌, ℕ, zero, suc, ◌<◌, Bool, false, ◌==◌, List, [], ◌∷◌, ◌++◌, length, slice_get, nat_eq, Option, Some, None, if◌then◌else◌}
 use Rattle.std.specs.HashMap.{get}
 use Rattle.std.specs.Option.{option_and_then, option_map_or}
 use Rattle.trace_model.specs.declared.event.Op.{Op}
 use Rattle.trace_model.specs.declared.event.Op.TheVariants.{Acquire, Read}
 use Rattle.trace_model.specs.Trace.{Trace, last_place}
+use Rattle.trace_model.specs.Held.{depth}
 use Rattle.trace_model.specs.Lookups.{writer, release}
 use Rattle.replay.specs.declared.facts.Facts.{Facts}
 
@@ -21,17 +22,22 @@ abbrev pub each : {X : Type 0} → (ℕ → X) → ℕ → List X
 each f zero = []
 each f (suc n) = each f n ++ f n ∷ []
 
--- what stands under the object of a read, or of an acquire
+-- the lock on which a section begins at the place: that of an outermost acquire
+abbrev pub begun_of : Trace → ℕ → ℕ → Op → Option ℕ
+begun_of s q t (Acquire l) = if depth s q t l == 0 then Some l else None
+begun_of s q t _ = None
+
+abbrev pub begun : Trace → ℕ → Option ℕ
+begun s q = option_and_then (λ e. begun_of s q e.thread e.op) (slice_get s q)
+
+-- what stands under the variable of a read
 abbrev pub of_read : (ℕ → Option ℕ) → Op → Option ℕ
 of_read table (Read v) = table v
 of_read table _ = None
 
-abbrev pub of_acquire : (ℕ → Option ℕ) → Op → Option ℕ
-of_acquire table (Acquire l) = table l
-of_acquire table _ = None
-
 pub record AreFacts (s : Trace) (f : Facts) : Type 0 where
   pub previous : (q : ℕ) → q < length s → slice_get f.previous.items q ≡ Some (previous s q)
   pub writers : (q : ℕ) → q < length s → slice_get f.writers.items q ≡ Some (writer s q)
+  pub begins : (q : ℕ) → q < length s → slice_get f.begins.items q ≡ Some (begun s q)
   pub releases : (q : ℕ) → q < length s → slice_get f.releases.items q ≡ Some (release s q)
   pub lasts : (t : ℕ) → get nat_eq f.lasts t ≡ last_place (is_of s t) (length s)

@@ -4,3 +4,4 @@ pub mod Laws
 pub mod Facts
 pub mod Walking
 pub mod Known
+pub mod OpenSections

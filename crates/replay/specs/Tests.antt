@@ -41,15 +41,15 @@ SeesWriter s front q v =
 abbrev pub IsClosedIn : Trace → List ℕ → ℕ → Type 0
 IsClosedIn s front p = (r : ℕ) × (release s p ≡ Some r) × Contains front r
 
--- it acquires the lock, and its release does not stand before it
+-- it begins a section on the lock, and its release does not stand before it
 abbrev pub IsOpenIn : Trace → List ℕ → ℕ → ℕ → Type 0
 IsOpenIn s front l p = BeginsOn s p l × (IsClosedIn s front p → ⊥)
 
--- an acquire of the lock stands before it without that acquire's release
+-- an outermost acquire of the lock stands before it without that acquire's release
 abbrev pub LeavesOpen : Trace → List ℕ → ℕ → Type 0
 LeavesOpen s front l = (p : ℕ) × Contains front p × IsOpenIn s front l p
 
--- a later acquire of the lock in the trace stands before it
+-- a later outermost acquire of the lock in the trace stands before it
 abbrev pub HasLater : Trace → List ℕ → ℕ → ℕ → Type 0
 HasLater s front q l = (p : ℕ) × Contains front p × BeginsOn s p l × (q < p)
 

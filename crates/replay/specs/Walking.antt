@@ -1,10 +1,12 @@
 -- What a walk along the list keeps: which places were met, and the last one that does something, by what it is done to.
-use Rattle.std.specs.Prelude.{◌≡◌, ℕ, ◌<◌, List, length, slice_get, Option, Some, MatchOption, slice_index_or, nat_eq, false, if◌then◌else◌}
+use Rattle.std.specs.Prelude.{◌≡◌, ℕ, ◌<◌, ◌==◌, List, length, slice_get, Option, Some, MatchOption, slice_index_or, nat_eq, false, if◌then◌else◌}
 use Rattle.std.specs.Bool.{Decides}
 use Rattle.std.specs.HashMap.{get}
 use Rattle.std.specs.List.{Contains}
+use Rattle.std.specs.Option.{option_map_or}
 use Rattle.trace_model.specs.declared.event.Op.{Op}
-use Rattle.trace_model.specs.declared.event.Op.TheVariants.{Fork, Write, Acquire}
+use Rattle.trace_model.specs.declared.event.Op.TheVariants.{Fork, Write}
+use Rattle.trace_model.specs.Held.{BeginsOn}
 use Rattle.trace_model.specs.Walk.{Walks}
 use Rattle.replay.specs.declared.walked.Walked.{Walked}
 use Rattle.trace_model.specs.Trace.{Trace, Does, op_eq}
@@ -13,21 +15,27 @@ use Rattle.trace_model.specs.Trace.{Trace, Does, op_eq}
 abbrev pub noted : (ℕ → Op) → Op → ℕ → ℕ → Option ℕ → Option ℕ
 noted kind done place key before = if op_eq done (kind key) then Some place else before
 
--- z is the last place of the list that does it
-abbrev pub IsLastOf : Trace → List ℕ → Op → ℕ → Type 0
-IsLastOf s front o z =
-    (i : ℕ) × (slice_get front i ≡ Some z) × Does s z o × ((j u : ℕ) → i < j → slice_get front j ≡ Some u → Does s u o → ⊥)
+-- or after a place that begins a section on a lock, if on any
+abbrev pub noted_begun : Option ℕ → ℕ → ℕ → Option ℕ → Option ℕ
+noted_begun begun place key before =
+    if option_map_or (λ l. l == key) begun false then Some place else before
 
--- the table has the last place of the list for each key
-abbrev pub Keeps : Trace → List ℕ → (ℕ → Op) → (ℕ → Option ℕ) → Type 0
-Keeps s front kind table =
-    (key : ℕ) → MatchOption (table key) ((u : ℕ) → Does s u (kind key) → Contains front u → ⊥) (IsLastOf s front (kind key))
+-- z is the last place of the list of which it holds
+abbrev pub IsLastOf : List ℕ → (ℕ → Type 0) → ℕ → Type 0
+IsLastOf front P z =
+    (i : ℕ) × (slice_get front i ≡ Some z) × P z
+    × ((j u : ℕ) → i < j → slice_get front j ≡ Some u → P u → ⊥)
+
+-- the table has for each key the last place of the list of which it holds
+abbrev pub Keeps : List ℕ → (ℕ → ℕ → Type 0) → (ℕ → Option ℕ) → Type 0
+Keeps front P table =
+    (key : ℕ) → MatchOption (table key) ((u : ℕ) → P key u → Contains front u → ⊥) (IsLastOf front (P key))
 
 -- the tables are those of the walked list
 pub record IsWalked (s : Trace) (front : List ℕ) (t : Walked) : Type 0 where
   pub walked : Walks s front
   pub sized : length t.inside.items ≡ length s
   pub inside : (p : ℕ) → Decides (slice_index_or t.inside.items p false) (Contains front p)
-  pub forks : Keeps s front Fork (get nat_eq t.forks)
-  pub writes : Keeps s front Write (get nat_eq t.writes)
-  pub acquires : Keeps s front Acquire (get nat_eq t.acquires)
+  pub forks : Keeps front (λ key u. Does s u (Fork key)) (get nat_eq t.forks)
+  pub writes : Keeps front (λ key u. Does s u (Write key)) (get nat_eq t.writes)
+  pub acquires : Keeps front (λ key u. BeginsOn s u key) (get nat_eq t.acquires)

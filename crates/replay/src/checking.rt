@@ -63,7 +63,8 @@ fn verdict_of(
         if let Some(fault) = known.order_fault(place) {
             return Ok(Verdict::Fails(fault, place));
         }
-        walked.push(place, trace[place.get() as usize].op)?;
+        let begun = known.begun(place);
+        walked.push(place, trace[place.get() as usize].op, begun)?;
     }
     Ok(check_instance(trace, order, &facts, &walked, instance))
 }

@@ -1,14 +1,16 @@
-//! One pass over the trace for what each of its places needs.
+//! What each place of the trace needs, by some passes over the trace.
 
-ghost use Rattle.std.specs.Prelude.{◌≡◌, ℕ, ◌<◌, ◌≤◌, length, slice_get, nat_eq, Some, OnOk, IfOk};
+ghost use Rattle.std.specs.Prelude.{◌≡◌, ℕ, ◌≤◌, length, nat_eq, IfOk};
 ghost use Rattle.std.specs.HashMap.{get};
 ghost use Rattle.trace_model.specs.declared.limits.TheConstants.{MAX_EVENTS};
 ghost use Rattle.trace_model.specs.Trace.{last_place};
-ghost use Rattle.trace_model.specs.Lookups.{writer, release};
+ghost use Rattle.trace_model.specs.Lawful.{IsWellFormed};
+ghost use Rattle.trace_model.specs.Lookups.{writer};
 ghost use Rattle.replay.specs.Facts as facts_words;
-ghost use Rattle.replay.specs.Facts.{is_of, each, of_read, of_acquire, AreFacts};
+ghost use Rattle.replay.specs.Facts.{is_of, each, of_read, AreFacts};
 
-use crate::latest::{Latest, last, note_release, note_thread, note_write};
+use crate::latest::{Latest, last, note_thread, note_write};
+use crate::sections::{Sections, sections_of};
 use std::alloc::Global;
 use std::collections::HashMap;
 use std::collections::hash_map::RandomState;
@@ -21,7 +23,9 @@ pub(crate) struct Facts {
     pub(crate) previous: Vec<Option<Place>>,
     /// The writer of a read.
     pub(crate) writers: Vec<Option<Place>>,
-    /// The release of an acquire.
+    /// The lock on which a section begins at the place.
+    pub(crate) begins: Vec<Option<u32>>,
+    /// The release of an outermost acquire.
     pub(crate) releases: Vec<Option<Place>>,
     /// The last place of each thread.
     pub(crate) lasts: Latest,
@@ -33,15 +37,16 @@ pub(crate) fn facts_of(
     state: RandomState,
     trace: &[Event],
 ) -> Result<Facts, NoMemory>
-    requires { length trace.now ≤ MAX_EVENTS }
+    requires { IsWellFormed trace.now }
     ensures { IfOk result (λ facts. AreFacts trace.now facts) }
 {
     let (previous, lasts) = previous_places(alloc, state, trace)?;
     let writers = writers_of(alloc, state, trace)?;
-    let releases = releases_of(alloc, state, trace)?;
+    let Sections { begins, releases } = sections_of(alloc, state, trace)?;
     Ok(Facts {
         previous,
         writers,
+        begins,
         releases,
         lasts,
     })
@@ -96,35 +101,4 @@ fn writers_of(
         note_write(&mut writes, op, Place::new(index as u32))?;
     }
     Ok(writers)
-}
-
-/// What stands under the lock of an acquire.
-fn last_of_acquire(releases: &Latest, op: Op) -> Option<Place>
-    ensures { result ≡ of_acquire (get nat_eq releases.now) op }
-{
-    match op {
-        Op::Acquire(lock) => last(releases, lock),
-        _ => None,
-    }
-}
-
-/// Of each acquire its release: from the end of the trace, the release that was met last.
-fn releases_of(
-    alloc: Global,
-    state: RandomState,
-    trace: &[Event],
-) -> Result<Vec<Option<Place>>, NoMemory>
-    requires { length trace.now ≤ MAX_EVENTS }
-    ensures sized { IfOk result (λ made. length made.items ≡ length trace.now) }
-    ensures releases { IfOk result (λ made. (q : ℕ) → q < length trace.now → slice_get made.items q ≡ Some (release trace.now q)) }
-{
-    let mut met: Latest = HashMap::with_hasher(alloc, state);
-    let mut releases: Vec<Option<Place>> = Vec::with_capacity(alloc, trace.len())?;
-    releases.resize(trace.len(), None)?;
-    for index in (0..trace.len()).rev() {
-        let op = trace[index].op;
-        releases[index] = last_of_acquire(&met, op);
-        note_release(&mut met, op, Place::new(index as u32))?;
-    }
-    Ok(releases)
 }

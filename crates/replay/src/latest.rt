@@ -3,8 +3,8 @@
 ghost use Rattle.std.specs.Prelude.{◌≡◌, ◌==◌, ℕ, nat_eq, OnOk, Some, if◌then◌else◌};
 ghost use Rattle.std.specs.HashMap.{get};
 ghost use Rattle.trace_model.specs.declared.event.Op.{Op};
-ghost use Rattle.trace_model.specs.declared.event.Op.TheVariants.{Fork, Acquire, Release, Write};
-ghost use Rattle.replay.specs.Walking.{noted};
+ghost use Rattle.trace_model.specs.declared.event.Op.TheVariants.{Fork, Write};
+ghost use Rattle.replay.specs.Walking.{noted, noted_begun};
 
 use std::collections::HashMap;
 use std::collections::hash_map::RandomState;
@@ -41,22 +41,16 @@ pub(crate) fn note_write(writes: &mut Latest, op: Op, place: Place) -> Result<()
     Ok(())
 }
 
-/// An acquire is the last one of its lock.
-pub(crate) fn note_acquire(acquires: &mut Latest, op: Op, place: Place) -> Result<(), NoMemory>
-    ensures { OnOk result ((key : ℕ) → get nat_eq acquires.new key ≡ noted Acquire op place key (get nat_eq acquires.old key)) }
+/// A place that begins a section is the last one of its lock.
+pub(crate) fn note_begun(
+    acquires: &mut Latest,
+    begun: Option<u32>,
+    place: Place,
+) -> Result<(), NoMemory>
+    ensures { OnOk result ((key : ℕ) → get nat_eq acquires.new key ≡ noted_begun begun place key (get nat_eq acquires.old key)) }
 {
-    if let Op::Acquire(lock) = op {
+    if let Some(lock) = begun {
         acquires.insert(lock, place)?;
-    }
-    Ok(())
-}
-
-/// A release is the last one of its lock.
-pub(crate) fn note_release(releases: &mut Latest, op: Op, place: Place) -> Result<(), NoMemory>
-    ensures { OnOk result ((key : ℕ) → get nat_eq releases.new key ≡ noted Release op place key (get nat_eq releases.old key)) }
-{
-    if let Op::Release(lock) = op {
-        releases.insert(lock, place)?;
     }
     Ok(())
 }

@@ -10,6 +10,7 @@ mod facts;
 mod latest;
 pub mod laws;
 mod place_tests;
+mod sections;
 mod verdict;
 mod walked;
 

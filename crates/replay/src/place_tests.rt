@@ -5,6 +5,7 @@ ghost use Rattle.std.specs.List.{Contains};
 ghost use Rattle.trace_model.specs.declared.event.Op.{Op};
 ghost use Rattle.trace_model.specs.Trace.{Does};
 ghost use Rattle.replay.specs.declared.verdict.Fault.{Fault};
+ghost use Rattle.replay.specs.Facts as facts_words;
 ghost use Rattle.replay.specs.Known.{IsKnown};
 ghost use Rattle.replay.specs.Tests.{NoForkIn, MissesPlace, MissesEarlier, MissesThread, IsClosedIn, SeesWriter, LeavesOpen, HasLater, Breaks};
 ghost use Rattle.replay.specs.Verdict.{IsFirst, order_tests, instance_tests};
@@ -40,6 +41,15 @@ impl<'a> Known<'a> {
         ensures { slice_get self.now.trace.now place ≡ Some result }
     {
         self.trace[place.get() as usize]
+    }
+
+    /// The lock on which a section begins at the place.
+    pub(crate) fn begun(&self, place: Place) -> Option<u32>
+        requires known { IsKnown self.now }
+        requires in_trace { place < length self.now.trace.now }
+        ensures { result ≡ facts_words.begun self.now.trace.now place }
+    {
+        self.facts.begins[place.get() as usize]
     }
 
     /// Whether the place stands before.
@@ -93,7 +103,7 @@ impl<'a> Known<'a> {
         self.misses_fork(thread) || self.misses_last(thread)
     }
 
-    /// Whether the release of the acquire stands before.
+    /// Whether the release of the outermost acquire stands before.
     fn is_closed(&self, place: Place) -> bool
         requires known { IsKnown self.now }
         requires in_trace { place < length self.now.trace.now }
@@ -105,7 +115,7 @@ impl<'a> Known<'a> {
         }
     }
 
-    /// Whether an acquire of the lock stands before without its release: if so, the last one does.
+    /// Whether an outermost acquire of the lock stands before without its release: if so, the last one does.
     fn leaves_open(&self, lock: u32) -> bool
         requires { IsKnown self.now }
         ensures { IsTrue result ↔ LeavesOpen self.now.trace.now self.now.front.now lock }
@@ -116,7 +126,7 @@ impl<'a> Known<'a> {
         }
     }
 
-    /// Whether a later acquire of the lock stands before: if so, the last one is later.
+    /// Whether a later outermost acquire of the lock stands before: if so, the last one is later.
     fn has_later(&self, place: Place, lock: u32) -> bool
         requires { IsKnown self.now }
         ensures { IsTrue result ↔ HasLater self.now.trace.now self.now.front.now place lock }
@@ -172,9 +182,9 @@ impl<'a> Known<'a> {
         requires in_trace { place < length self.now.trace.now }
         ensures { IsTrue result ↔ Breaks Fault.Overlap self.now.trace.now self.now.front.now place }
     {
-        match self.event(place).op {
-            Op::Acquire(lock) => self.leaves_open(lock),
-            _ => false,
+        match self.begun(place) {
+            Some(lock) => self.leaves_open(lock),
+            None => false,
         }
     }
 
@@ -183,9 +193,9 @@ impl<'a> Known<'a> {
         requires in_trace { place < length self.now.trace.now }
         ensures { IsTrue result ↔ Breaks Fault.LockOrder self.now.trace.now self.now.front.now place }
     {
-        match self.event(place).op {
-            Op::Acquire(lock) => self.has_later(place, lock),
-            _ => false,
+        match self.begun(place) {
+            Some(lock) => self.has_later(place, lock),
+            None => false,
         }
     }
 

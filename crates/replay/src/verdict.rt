@@ -17,9 +17,10 @@ pub enum Fault {
     /// It is a read, and the last write to its variable before it in the list is not its writer, or there
     /// is one and it has no writer.
     WrongWriter,
-    /// It is an acquire, and an acquire of the same lock stands before it without that acquire's release.
+    /// It is an outermost acquire, and an outermost acquire of the same lock stands before it without that
+    /// acquire's release.
     Overlap,
-    /// It is an acquire, and a later acquire of the same lock in the trace stands before it.
+    /// It is an outermost acquire, and a later outermost acquire of the same lock in the trace stands before it.
     LockOrder,
     /// The place of the instance is in the list.
     TooFar,

@@ -5,9 +5,9 @@ ghost use Rattle.std.specs.HashMap.{get};
 ghost use Rattle.std.specs.List.{Contains};
 ghost use Rattle.std.specs.Result.{OnOk};
 ghost use Rattle.trace_model.specs.declared.event.Op.{Op};
-ghost use Rattle.replay.specs.Walking.{noted};
+ghost use Rattle.replay.specs.Walking.{noted, noted_begun};
 
-use crate::latest::{Latest, note_acquire, note_fork, note_write};
+use crate::latest::{Latest, note_begun, note_fork, note_write};
 use std::alloc::Global;
 use std::collections::HashMap;
 use std::collections::hash_map::RandomState;
@@ -22,7 +22,7 @@ pub(crate) struct Walked {
     pub(crate) forks: Latest,
     /// The last write that was met, by its variable.
     pub(crate) writes: Latest,
-    /// The last acquire that was met, by its lock.
+    /// The last outermost acquire that was met, by its lock.
     pub(crate) acquires: Latest,
 }
 
@@ -44,17 +44,18 @@ impl Walked {
         })
     }
 
-    /// The walk goes on to the place, at which the operation stands.
-    pub(crate) fn push(&mut self, place: Place, op: Op) -> Result<(), NoMemory>
+    /// The walk goes on to the place, at which the operation stands, and at which a section begins on the lock, if
+    /// on any.
+    pub(crate) fn push(&mut self, place: Place, op: Op, begun: Option<u32>) -> Result<(), NoMemory>
         requires { place < length self.old.inside.items }
         ensures inside { OnOk result (self.new.inside.items ≡ slice_set self.old.inside.items place true) }
         ensures forks { OnOk result ((key : ℕ) → get nat_eq self.new.forks key ≡ noted Op.Fork op place key (get nat_eq self.old.forks key)) }
         ensures writes { OnOk result ((key : ℕ) → get nat_eq self.new.writes key ≡ noted Op.Write op place key (get nat_eq self.old.writes key)) }
-        ensures acquires { OnOk result ((key : ℕ) → get nat_eq self.new.acquires key ≡ noted Op.Acquire op place key (get nat_eq self.old.acquires key)) }
+        ensures acquires { OnOk result ((key : ℕ) → get nat_eq self.new.acquires key ≡ noted_begun begun place key (get nat_eq self.old.acquires key)) }
     {
         note_fork(&mut self.forks, op, place)?;
         note_write(&mut self.writes, op, place)?;
-        note_acquire(&mut self.acquires, op, place)?;
+        note_begun(&mut self.acquires, begun, place)?;
         self.inside[place.get() as usize] = true;
         Ok(())
     }

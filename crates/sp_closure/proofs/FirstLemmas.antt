@@ -1,25 +1,25 @@
 -- The slots of threads and of locks, by their first places.
-use Rattle.std.proofs.Common.{◌≡◌, ℕ, zero, suc, ◌<◌, ◌≤◌, inl, inr, true, false, List, length, slice_get, Option, Some, None, IfSome, refl, sym, ap, subst, ◌∙◌, arith}
-use Rattle.std.specs.Option.{option_and_then, option_map_or}
-use Rattle.std.proofs.lemmas.Bool.{cases_lt, eq-eqb, eqb-true, false≢true}
+use Rattle.std.proofs.Common.{◌≡◌, ℕ, zero, suc, ◌<◌, ◌≤◌, inl, inr, true, List, length, slice_get, Option, Some, None, IfSome, refl, sym, ap, subst, ◌∙◌, arith}
+use Rattle.std.specs.Option.{option_and_then}
+use Rattle.std.proofs.lemmas.Bool.{cases_lt}
 use Rattle.std.proofs.lemmas.Option.{none-some, same_Some, slice_get_within}
 use Rattle.trace_model.specs.declared.event.Event.{Event}
-use Rattle.trace_model.specs.declared.event.Op.{Op}
-use Rattle.trace_model.specs.declared.event.Op.TheVariants.{Fork, Join, Acquire, Release, Read, Write}
-use Rattle.trace_model.specs.Trace.{Trace, At, event, does, op_eq, last_place, OfThread}
-use Rattle.trace_model.specs.Held.{BeginsOn}
+use Rattle.trace_model.specs.Trace.{Trace, At, last_place, OfThread}
+use Rattle.trace_model.specs.Held.{BeginsOn, begins_on}
 use Rattle.trace_model.specs.Closure.{Places, ascending}
+use Rattle.trace_model.proofs.Lookups.{begins_so, begins_from}
 use Rattle.trace_model.proofs.Places.{last_place_some, last_place_none}
 use Rattle.trace_model.proofs.Ascending.{ascending_so, place_of, contains_ascending}
 use Rattle.trace_model.proofs.Unique.{ascending_strict, increasing_ordered}
 use Rattle.trace_model.proofs.Lists.{at_index}
 use Rattle.trace_model.proofs.Least.{at_thread}
 use Rattle.std.specs.List.Sorted.{IsStrictlyIncreasing}
-use Rattle.trace_index.specs.Numbers.{of_thread, thread_before, acquire_before_of, acquire_before}
+use Rattle.trace_index.specs.Numbers.{of_thread, thread_before, begun, acquire_before}
+use Rattle.trace_index.proofs.Begun.{begun_so, begun_from}
 use Rattle.sp_closure.specs.Slots.{class_of, AreSlots}
 use Rattle.sp_closure.specs.Demands.{AreLocks}
 use Rattle.sp_closure.specs.Classes.{AreFirsts, AreClasses}
-use Rattle.sp_closure.specs.Firsts.{first_of_thread, first_of_lock, first_acquire, AreFound}
+use Rattle.sp_closure.specs.Firsts.{first_of_thread, first_of_lock, AreFound}
 use Rattle.sp_closure.proofs.FrontLemmas.{of_thread_from, of_thread_so}
 use Rattle.sp_closure.proofs.ThreadLemmas.{place_below}
 
@@ -98,53 +98,23 @@ thread_old s p q t o last =
 
 -- the same of locks
 
-does_from : (s : Trace) (k p : ℕ) → BeginsOn s p k → does s (Acquire k) p ≡ true
-does_from s k p (t, h) = rw h (eq-eqb k k refl)
-
-op_is : (s : Trace) (k : ℕ) (p : ℕ) → does s (Acquire k) p ≡ true → BeginsOn s p k
-op_is s k p h = go (slice_get s p) refl h
-  where
-    acquires : (t : ℕ) (o : Op) → slice_get s p ≡ Some (event t o) → op_eq o (Acquire k) ≡ true → BeginsOn s p k
-    acquires t (Acquire l) e h = (t, e ∙ ap (λ z. Some (event t (Acquire z))) (eqb-true l k h))
-    acquires t (Fork l) e h = absurd (false≢true h)
-    acquires t (Join l) e h = absurd (false≢true h)
-    acquires t (Release l) e h = absurd (false≢true h)
-    acquires t (Read l) e h = absurd (false≢true h)
-    acquires t (Write l) e h = absurd (false≢true h)
-
-    go : (o : Option Event) → slice_get s p ≡ o → option_map_or (λ e. op_eq e.op (Acquire k)) o false ≡ true → BeginsOn s p k
-    go None e h = absurd (false≢true h)
-    go (Some v) e h = acquires v.thread v.op e h
-
-lock_at : (s : Trace) (p k : ℕ) → BeginsOn s p k → first_of_lock s p ≡ slice_get (ascending (does s (Acquire k)) (length s)) 0
-lock_at s p k (t, h) = rw h refl
+lock_at : (s : Trace) (p k : ℕ) → BeginsOn s p k → first_of_lock s p ≡ slice_get (ascending (begins_on s k) (length s)) 0
+lock_at s p k b = ap (option_and_then (λ l. slice_get (ascending (begins_on s l) (length s)) 0)) (begun_from s p k b)
 
 lock_first : (s : Trace) (p k : ℕ) → BeginsOn s p k → (x : ℕ) × (first_of_lock s p ≡ Some x) × (x ≤ p) × BeginsOn s x k
 lock_first s p k b =
-    let (x, first, l, here, inside) = least_listed (does s (Acquire k)) (length s) p (slice_get_within s p _ b.1) (does_from s k p b) in
-    (x, lock_at s p k b ∙ first, l, op_is s k x here)
+    let (x, first, l, here, inside) = least_listed (begins_on s k) (length s) p (slice_get_within s p _ b.1.0) (begins_from s k p b) in
+    (x, lock_at s p k b ∙ first, l, begins_so s k x here)
 
 some_lock : (s : Trace) (p x : ℕ) → first_of_lock s p ≡ Some x → (k : ℕ) × BeginsOn s p k
-some_lock s p x h = go (slice_get s p) refl h
+some_lock s p x h = go (begun s p) refl h
   where
-    acquires : (t : ℕ) (o : Op) → slice_get s p ≡ Some (event t o) → first_acquire s o ≡ Some x → (k : ℕ) × BeginsOn s p k
-    acquires t (Acquire l) e h = (l, (t, e))
-    acquires t (Fork l) e h = absurd (none-some x h)
-    acquires t (Join l) e h = absurd (none-some x h)
-    acquires t (Release l) e h = absurd (none-some x h)
-    acquires t (Read l) e h = absurd (none-some x h)
-    acquires t (Write l) e h = absurd (none-some x h)
-
-    go : (o : Option Event) → slice_get s p ≡ o → option_and_then (λ e. first_acquire s e.op) o ≡ Some x → (k : ℕ) × BeginsOn s p k
+    go : (o : Option ℕ) → begun s p ≡ o → option_and_then (λ l. slice_get (ascending (begins_on s l) (length s)) 0) o ≡ Some x → (k : ℕ) × BeginsOn s p k
     go None e h = absurd (none-some x h)
-    go (Some v) e h = acquires v.thread v.op e h
+    go (Some k) e h = (k, begun_so s p k e)
 
 same_lock : (s : Trace) (p k l : ℕ) → BeginsOn s p k → BeginsOn s p l → k ≡ l
-same_lock s p k l (t, a) (u, b) = ap (λ e. lock_in e.op) (same_Some (event t (Acquire k)) (event u (Acquire l)) (sym a ∙ b))
-  where
-    lock_in : Op → ℕ
-    lock_in (Acquire z) = z
-    lock_in _ = 0
+same_lock s p k l a b = same_Some k l (sym (begun_from s p k a) ∙ begun_from s p l b)
 
 pub lock_firsts : (s : Trace) (firsts : ℕ → Option ℕ) → ((p : ℕ) → firsts p ≡ first_of_lock s p) → AreFirsts firsts
 lock_firsts s firsts same = record {
@@ -160,7 +130,7 @@ pub lock_slots : (s : Trace) (firsts locks : ℕ → Option ℕ) (count : ℕ) �
 lock_slots s firsts locks count same c = record {
   each = λ p k b.
       let (x, first, l, bx) = lock_first s p k b in
-      c.each p x (slice_get_within s p _ b.1) (same p ∙ first);
+      c.each p x (slice_get_within s p _ b.1.0) (same p ∙ first);
   apart = λ p q a k hp hq b.
       let (x, first, l, bx) = lock_first s p k b in
       let fq = c.apart p q a x hp hq (same p ∙ first) in
@@ -171,25 +141,25 @@ lock_slots s firsts locks count same c = record {
       subst (BeginsOn s q) (sym km) bq;
   alike = λ p q a k hp b bq.
       let (x, first, l, bx) = lock_first s p k b in
-      c.alike p q a x (slice_get_within s q _ bq.1) hp (same p ∙ first) (same q ∙ (lock_at s q k bq ∙ (sym (lock_at s p k b) ∙ first)));
+      c.alike p q a x (slice_get_within s q _ bq.1.0) hp (same p ∙ first) (same q ∙ (lock_at s q k bq ∙ (sym (lock_at s p k b) ∙ first)));
 }
 
 pub some_within : (o : Option ℕ) (n : ℕ) → ((p : ℕ) → o ≡ Some p → p < n) → IfSome o (λ p. p < n)
 some_within None n f = tt
 some_within (Some p) n f = f p refl
 
-lock_new : (s : Trace) (p k : ℕ) → BeginsOn s p k → last_place (does s (Acquire k)) p ≡ None → Some p ≡ first_of_lock s p
+lock_new : (s : Trace) (p k : ℕ) → BeginsOn s p k → last_place (begins_on s k) p ≡ None → Some p ≡ first_of_lock s p
 lock_new s p k b none =
     let (x, first, l, bx) = lock_first s p k b in
     elim (cases_lt x p) [
-      | inl less ↦ absurd (last_place_none (does s (Acquire k)) p none x less (does_from s k x bx))
+      | inl less ↦ absurd (last_place_none (begins_on s k) p none x less (begins_from s k x bx))
       | inr more ↦ let same : p ≡ x = omega arith in ap Some same ∙ sym first
     ]
 
-lock_old : (s : Trace) (p q k : ℕ) → BeginsOn s p k → last_place (does s (Acquire k)) p ≡ Some q → (q < p) × (first_of_lock s q ≡ first_of_lock s p)
+lock_old : (s : Trace) (p q k : ℕ) → BeginsOn s p k → last_place (begins_on s k) p ≡ Some q → (q < p) × (first_of_lock s q ≡ first_of_lock s p)
 lock_old s p q k b last =
-    let is = last_place_some (does s (Acquire k)) p q last in
-    (is.0, lock_at s q k (op_is s k q is.1) ∙ sym (lock_at s p k b))
+    let is = last_place_some (begins_on s k) p q last in
+    (is.0, lock_at s q k (begins_so s k q is.1) ∙ sym (lock_at s p k b))
 
 -- from the place before it
 pub thread_first_none : (s : Trace) (p : ℕ) (e : Event) → At s p e → None ≡ thread_before s p → Some p ≡ first_of_thread s p
@@ -200,11 +170,15 @@ thread_first_some s p q e firsts a some found =
     let old = thread_old s p q e.thread (e.op, a) (sym (some ∙ ap (option_and_then (λ x. last_place (of_thread s x.thread) p)) a)) in
     ap (option_and_then (λ c. c)) (found q old.0) ∙ old.1
 
-pub lock_first_none : (s : Trace) (p t k : ℕ) → At s p (event t (Acquire k)) → None ≡ acquire_before s p → Some p ≡ first_of_lock s p
-lock_first_none s p t k a none = lock_new s p k (t, a) (sym (none ∙ ap (option_and_then (λ x. acquire_before_of s p x.op)) a))
+pub lock_first_none : (s : Trace) (p k : ℕ) → begun s p ≡ Some k → None ≡ acquire_before s p → Some p ≡ first_of_lock s p
+lock_first_none s p k b none = lock_new s p k (begun_so s p k b) (sym (none ∙ ap (option_and_then (λ l. last_place (begins_on s l) p)) b))
 
-pub lock_first_some : (s : Trace) (p q t k : ℕ) (firsts : List (Option ℕ)) → At s p (event t (Acquire k)) → Some q ≡ acquire_before s p → AreFound (first_of_lock s) firsts p →
+pub lock_first_some : (s : Trace) (p q k : ℕ) (firsts : List (Option ℕ)) → begun s p ≡ Some k → Some q ≡ acquire_before s p → AreFound (first_of_lock s) firsts p →
     class_of firsts q ≡ first_of_lock s p
-lock_first_some s p q t k firsts a some found =
-    let old = lock_old s p q k (t, a) (sym (some ∙ ap (option_and_then (λ x. acquire_before_of s p x.op)) a)) in
+lock_first_some s p q k firsts b some found =
+    let old = lock_old s p q k (begun_so s p k b) (sym (some ∙ ap (option_and_then (λ l. last_place (begins_on s l) p)) b)) in
     ap (option_and_then (λ c. c)) (found q old.0) ∙ old.1
+
+-- no section begins at the place
+pub lock_first_never : (s : Trace) (p : ℕ) → None ≡ begun s p → None ≡ first_of_lock s p
+lock_first_never s p none = ap (option_and_then (λ l. slice_get (ascending (begins_on s l) (length s)) 0)) none

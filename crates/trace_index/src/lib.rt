@@ -3,6 +3,7 @@
 
 mod chain;
 mod copies;
+mod depths;
 mod growing;
 mod latest;
 mod list;
@@ -13,15 +14,17 @@ mod share;
 
 ghost use Rattle.std.specs.Prelude.{◌≡◌, ℕ, ◌<◌, ◌≤◌, ◌↔◌, ◌++◌, ◌∷◌, [], length, take, slice_get, Some, IfOk};
 ghost use Rattle.trace_model.specs.declared.limits.TheConstants.{MAX_EVENTS};
-ghost use Rattle.trace_model.specs.declared.event.Op.TheVariants.{Fork, Acquire};
-ghost use Rattle.trace_model.specs.Trace.{Does, does};
+ghost use Rattle.trace_model.specs.declared.event.Op.TheVariants.{Fork};
+ghost use Rattle.trace_model.specs.Trace.{Does};
+ghost use Rattle.trace_model.specs.Held.{begins_on};
 ghost use Rattle.trace_model.specs.Closure.{ascending};
 ghost use Rattle.trace_model.specs.Lawful.{IsWellFormed};
 ghost use Rattle.trace_model.specs.Lookups.{writer, release};
-ghost use Rattle.trace_index.specs.Numbers.{of_thread, number_at, thread_before, acquire_before};
-ghost use Rattle.trace_index.specs.Links.{written_by, taken_before};
+ghost use Rattle.trace_index.specs.Numbers.{of_thread, number_at, thread_before, begun, acquire_before};
+ghost use Rattle.trace_index.specs.Links.{written_by, begun_by, taken_before};
 
 pub use copies::Copies;
+use depths::Depths;
 use latest::Latest;
 pub use list::PlacesOf;
 use marks::{Marks, ended_in, last_marked};
@@ -44,14 +47,23 @@ fn writer_in(row: &Row) -> Option<Place>
     }
 }
 
-/// The acquire before it that a row has: that of an acquire.
-fn taken_in(row: &Row) -> Option<Place>
-    ensures { result ≡ taken_before row.now.event.op row.now.topic.earlier }
+/// The lock on which a section begins at a row: that of an outermost acquire.
+fn begun_in(row: &Row) -> Option<u32>
+    ensures { result ≡ begun_by row.now.event.op row.now.depth }
 {
-    if let Op::Acquire(_) = row.event.op {
-        place_of(row.topic.earlier)
-    } else {
-        None
+    match row.event.op {
+        Op::Acquire(lock) => { if row.depth == 0 { Some(lock) } else { None } }
+        _ => None,
+    }
+}
+
+/// The outermost acquire before it that a row has: that of an outermost acquire.
+fn taken_in(row: &Row) -> Option<Place>
+    ensures { result ≡ taken_before row.now.event.op row.now.depth row.now.topic.earlier }
+{
+    match begun_in(row) {
+        Some(_) => place_of(row.topic.earlier),
+        None => None,
     }
 }
 
@@ -89,13 +101,14 @@ pub struct TraceIndex {
     rows: Segments<Row>,
     marks: Marks,
     latest: Latest,
+    depths: Depths,
     next: Option<Ready>,
 }
 
 impl Model for TraceIndex {
     ghost use Rattle.std.specs.Option.{option_map};
     ghost use Rattle.trace_index.specs.Links.{trace_of};
-    ghost use Rattle.trace_index.specs.Room.{Indexed, IsIndex};
+    ghost use Rattle.trace_index.specs.Room.{Indexed, IsWhole};
 
     ghost Value = { Indexed };
 
@@ -104,8 +117,8 @@ impl Model for TraceIndex {
       reserved = option_map (λ ready. ready.row.event) i.next;
     } };
 
-    ghost invariant = { λ i. IsIndex i.rows i.marks.sealed.items i.marks.tail
-        i.latest.places i.latest.noted i.next };
+    ghost invariant = { λ i. IsWhole i.rows i.marks.sealed.items i.marks.tail
+        i.latest.places i.latest.noted i.depths.table i.depths.noted i.next };
 }
 
 impl TraceIndex {
@@ -173,7 +186,17 @@ impl TraceIndex {
         }
     }
 
-    /// Of an acquire the last acquire of its lock before it, or none. None for any other event.
+    /// The lock on which a critical section begins at a place: that of an outermost acquire. None for any other event.
+    pub fn begun(&self, place: Place) -> Option<u32>
+        ensures { result ≡ begun self.now.events place }
+    {
+        match self.rows.get(place.get() as usize) {
+            Some(row) => begun_in(&row),
+            None => None,
+        }
+    }
+
+    /// Of an outermost acquire the last one of its lock before it, or none. None for any other event.
     pub fn acquire_before(&self, place: Place) -> Option<Place>
         ensures { result ≡ acquire_before self.now.events place }
     {
@@ -183,17 +206,17 @@ impl TraceIndex {
         }
     }
 
-    /// The release of an acquire: the first release of its lock after it, or none. None for any other event.
+    /// The release of an outermost acquire: the next outermost release of its lock by its thread, or none. None for any
+    /// other event.
     pub fn release_of(&self, place: Place) -> Option<Place>
         ensures { result ≡ release self.now.events place }
     {
         let Some(row) = self.rows.get(place.get() as usize) else {
             return None;
         };
-        if let Op::Acquire(_) = row.event.op {
-            ended_in(&self.marks.sealed, &self.marks.tail, place)
-        } else {
-            None
+        match begun_in(&row) {
+            Some(_) => ended_in(&self.marks.sealed, &self.marks.tail, place),
+            None => None,
         }
     }
 
@@ -216,9 +239,9 @@ impl TraceIndex {
         }
     }
 
-    /// The places at which a lock is acquired, by whichever thread, ascending.
+    /// The places of the outermost acquires of a lock, by whichever thread, ascending.
     pub fn acquires(&self, lock: u32) -> PlacesOf<'_>
-        ensures { result ≡ ascending (does self.now.events (Acquire lock))
+        ensures { result ≡ ascending (begins_on self.now.events lock)
             (length self.now.events) }
     {
         let key = Key::Taking(lock);

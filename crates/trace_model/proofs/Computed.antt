@@ -98,7 +98,7 @@ closed_if s set h low =
           implied ((set p && set q) && (ltb p q && same_section_lock (slice_get s p) (slice_get s q))) (option_map_or set (release s p) true)
           (all_below_at n (λ p. not ((set p && set q) && (ltb p q && same_section_lock (slice_get s p) (slice_get s q))) || option_map_or set (release s p) true) p
           (all_below_at n (λ q. all_below n (λ p. not ((set p && set q) && (ltb p q && same_section_lock (slice_get s p) (slice_get s q))) || option_map_or set (release s p) true)) q a.1 (low q j)) (low p i))
-          (and_from (set p && set q) _ (and_from (set p) (set q) i j) (and_from (ltb p q) _ (lt-ltb p q below) (rw (x.1, y.1) (eq-eqb l l refl))));
+          (and_from (set p && set q) _ (and_from (set p) (set q) i j) (and_from (ltb p q) _ (lt-ltb p q below) (rw (x.1.0, y.1.0) (eq-eqb l l refl))));
     }
   where
     place_low : (p q : ℕ) → ForkOrJoin s p q → p < length s

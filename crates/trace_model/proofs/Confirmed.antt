@@ -57,7 +57,7 @@ module _ (s more : Trace) where
   place_longer p l = dependency_at-agree s (s ++ more) p (agree (suc p) (omega arith))
 
   place_within : (p : ℕ) (d : Dependency) → dependency_at s p ≡ Some d → p < length s
-  place_within p d h = slice_get_within s p _ (dependency_so s p d h).0
+  place_within p d h = slice_get_within s p _ (dependency_so s p d h).0.0
 
   -- a cycle stays one
   cycle_longer : (bound higher : ℕ) (numbers : List ℕ) → bound ≤ higher → IsCycle (dependencies s) bound numbers → IsCycle (dependencies (s ++ more)) higher numbers

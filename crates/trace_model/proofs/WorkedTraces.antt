@@ -1,6 +1,6 @@
 -- The definitions that compute, at small traces.
 use Rattle.std.proofs.Common.{◌≡◌, ℕ, List, [], ◌∷◌, take, Some, None, map, refl, inl, inr, arith}
-use Rattle.trace_model.specs.declared.refusal.Refusal.TheVariants.{Full, Unforked, Ended, AlreadyForked, JoinsItself, JoinUnknown, JoinedTwice, HeldByItself, HeldByOther, NotHeld}
+use Rattle.trace_model.specs.declared.refusal.Refusal.TheVariants.{Full, Unforked, Ended, AlreadyForked, JoinsItself, JoinUnknown, JoinedTwice, HeldByOther, NotHeld}
 use Rattle.trace_model.specs.Trace.{Trace}
 use Rattle.trace_model.specs.Lawful.{refusal_of}
 use Rattle.trace_model.specs.Lookups.{writer, release}
@@ -38,7 +38,7 @@ refusals-at_two : map (refusal_of 1048576 (take 2 each_refusal)) (r 1 10 ∷ a 1
 refusals-at_two = refl
 
 refusals-at_three : map (refusal_of 1048576 (take 3 each_refusal)) (a 2 10 ∷ a 1 10 ∷ j 0 0 ∷ j 1 0 ∷ a 3 1 ∷ f 0 1 ∷ f 0 0 ∷ j 0 2 ∷ [])
-    ≡ Some HeldByOther ∷ Some HeldByItself ∷ Some JoinsItself ∷ Some JoinUnknown ∷ Some Unforked ∷ Some AlreadyForked ∷ Some AlreadyForked ∷ None ∷ []
+    ≡ Some HeldByOther ∷ None ∷ Some JoinsItself ∷ Some JoinUnknown ∷ Some Unforked ∷ Some AlreadyForked ∷ Some AlreadyForked ∷ None ∷ []
 refusals-at_three = refl
 
 refusals-at_four : map (refusal_of 1048576 each_refusal) (j 1 2 ∷ w 2 1 ∷ j 0 9 ∷ r 1 10 ∷ []) ≡ Some JoinedTwice ∷ Some Ended ∷ Some JoinUnknown ∷ None ∷ []
@@ -75,7 +75,7 @@ swapped_sections-not_found (order, o, e) =
     let h = reaching_holds swapped_sections order (4 ∷ 11 ∷ []) e in
     let two = h 4 2 (0, omega arith, refl) (1, (Acquire 30, refl), (Acquire 20, refl), omega arith) in
     let eight = h 11 8 (1, omega arith, refl) (2, (Acquire 30, refl), (Acquire 10, refl), omega arith) in
-    let seven = c.sections 2 8 7 30 (omega arith) (1, refl) (2, refl) two eight refl in
+    let seven = c.sections 2 8 7 30 (omega arith) (1, (refl, refl)) (2, (refl, refl)) two eight refl in
     let four = c.threads 4 7 seven (1, (Acquire 20, refl), (Release 30, refl), omega arith) in
     (e 4 (0, omega arith, refl)).0 (listed_contains order 4 four)
 

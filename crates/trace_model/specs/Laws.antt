@@ -7,7 +7,7 @@ use Rattle.trace_model.specs.declared.event.Event.{Event}
 use Rattle.trace_model.specs.declared.event.Op.{Op}
 use Rattle.trace_model.specs.declared.event.Op.TheVariants.{Fork, Join, Read}
 use Rattle.trace_model.specs.Trace.{Trace, Does, OfThread, stands}
-use Rattle.trace_model.specs.Held.{Begins, BeginsOn, Ends, Holds, held, has}
+use Rattle.trace_model.specs.Held.{Begins, BeginsOn, Ends, Holds, InSection, held, has}
 use Rattle.trace_model.specs.Lawful.{held_by_other, refusal_of, IsWellFormed}
 use Rattle.trace_model.specs.Dependencies.{Dependency, dependency_at, dependencies}
 use Rattle.trace_model.specs.Cycles.{IsCycle, IsInstance}
@@ -24,8 +24,14 @@ HeldIsHeld = (s : Trace) (p t l : ℕ) → IsTrue (has l (held s p t)) ↔ Holds
 abbrev pub WriterIsGreatest : Type 0
 WriterIsGreatest = (s : Trace) (q v w : ℕ) → Does s q (Read v) → (writer s q ≡ Some w) ↔ GreatestWrite s v q w
 
+-- a thread holds a lock exactly where it is in a critical section on it
+abbrev pub HoldsInSection : Type 0
+HoldsInSection = (s : Trace) (p t l : ℕ) → Holds s p t l ↔ InSection s p t l
+
+-- an acquire has a release exactly where it begins a section that its thread ends, and that is the next such end
 abbrev pub ReleaseIsLeast : Type 0
-ReleaseIsLeast = (s : Trace) (p l r : ℕ) → BeginsOn s p l → (release s p ≡ Some r) ↔ LeastRelease s l p r
+ReleaseIsLeast = (s : Trace) (p r : ℕ) →
+    (release s p ≡ Some r) ↔ ((t : ℕ) × (l : ℕ) × Begins s p t l × LeastRelease s t l p r)
 
 -- the closure holds none of the places exactly where some reordering reaches them
 abbrev pub ClosureIsExistence : Type 0

@@ -1,40 +1,51 @@
+ghost use Rattle.std.specs.Prelude.{◌≡◌, ◌<◌, ◌≤◌, ◌↔◌, ◌∷◌, ◌++◌, [], IfSome, IsSome, length, take};
+
 use crate::event::Event;
 use arrayvec::ArrayVec;
 use std::marker::Model;
+use std::slice;
 
 /// The most events that are offered at once.
 pub const MAX_BATCH: usize = 64;
 
+/// One event, or two and more. What is offered is a single one most often, which fills no room for others.
+#[derive(Debug, Drop, PartialEq, Eq)]
+enum Events {
+    One(Event),
+    Many(ArrayVec<Event, MAX_BATCH>),
+}
+
 /// 1 to `MAX_BATCH` events that are offered at once.
 #[derive(Debug, Drop, PartialEq, Eq)]
 pub struct EventBatch {
-    events: ArrayVec<Event, MAX_BATCH>,
+    events: Events,
 }
 
 impl Model for EventBatch {
-    ghost use Rattle.std.specs.Prelude.{List, ◌≤◌};
-    ghost use Rattle.arrayvec.specs.ArrayVec.{array_vec_len};
+    ghost use Rattle.std.specs.Prelude.{List};
+    ghost use Rattle.std.proofs.Common.{ap};
     ghost use Rattle.trace_model.specs.declared.event.Event.{Event};
+    ghost use Rattle.trace_model.specs.EventLists.{events_in, events_back, events_come_back, IsProper};
 
     ghost Value = { List Event };
 
-    ghost view = { λ b. b.events.items };
+    ghost view = { λ b. events_in b.events };
 
-    ghost invariant = { λ b. 1 ≤ array_vec_len b.events };
+    ghost invariant = { λ b. IsProper b.events };
 
-    ghost inverse = { λ events. record { events = record { items = events } } };
+    ghost inverse = { λ events. record { events = events_back events } };
+
+    ghost inverse_ok = { λ b proper. ap (λ events. record { events = events }) (events_come_back b.events proper) };
 }
 
 impl EventBatch {
-    ghost use Rattle.std.specs.Prelude.{◌≡◌, ◌<◌, ◌≤◌, ◌↔◌, ◌∷◌, ◌++◌, [], IfSome, IsSome, length, take};
-
     /// The batch of this event alone.
     pub fn of(event: Event) -> EventBatch
         ensures { result ≡ event ∷ [] }
     {
-        let mut events = ArrayVec::new();
-        events.push(event);
-        EventBatch { events }
+        EventBatch {
+            events: Events::One(event),
+        }
     }
 
     /// The batch of these events, if they are 1 to `MAX_BATCH`.
@@ -42,13 +53,18 @@ impl EventBatch {
         ensures value { IfSome result (λ batch. batch ≡ events.now) }
         ensures in_range { IsSome result ↔ ((1 ≤ length events.now) × (length events.now ≤ 64)) }
     {
-        if events.is_empty() {
-            return None;
-        }
-        let mut found = ArrayVec::new();
-        match found.try_extend_from_slice(events) {
-            Ok(()) => Some(EventBatch { events: found }),
-            Err(_) => None,
+        match events {
+            [] => None,
+            [event] => Some(EventBatch::of(*event)),
+            _ => {
+                let mut many = ArrayVec::new();
+                match many.try_extend_from_slice(events) {
+                    Ok(()) => Some(EventBatch {
+                        events: Events::Many(many),
+                    }),
+                    Err(_) => None,
+                }
+            }
         }
     }
 
@@ -57,7 +73,15 @@ impl EventBatch {
         requires { length self.old < 64 }
         ensures { self.new ≡ self.old ++ event ∷ [] }
     {
-        self.events.push(event);
+        match &mut self.events {
+            Events::Many(events) => events.push(event),
+            Events::One(first) => {
+                let mut events = ArrayVec::new();
+                events.push(*first);
+                events.push(event);
+                self.events = Events::Many(events);
+            }
+        }
     }
 
     /// Keeps the events before this place, which is not 0, and drops the others.
@@ -65,7 +89,14 @@ impl EventBatch {
         requires { 1 ≤ len }
         ensures { self.new ≡ take len self.old }
     {
-        self.events.truncate(len);
+        if let Events::Many(events) = &mut self.events {
+            if len > 1 {
+                events.truncate(len);
+            } else {
+                let first = events[0];
+                self.events = Events::One(first);
+            }
+        }
     }
 
     /// The events.
@@ -74,6 +105,9 @@ impl EventBatch {
         ensures some { 1 ≤ length result.now }
         ensures few { length result.now ≤ 64 }
     {
-        self.events.as_slice()
+        match &self.events {
+            Events::One(event) => slice::from_ref(event),
+            Events::Many(events) => events.as_slice(),
+        }
     }
 }

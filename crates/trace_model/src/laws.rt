@@ -1,6 +1,6 @@
 //! Laws of the definitions.
 
-ghost use Rattle.trace_model.specs.Laws.{HeldIsHeld, WriterIsGreatest, ReleaseIsLeast, ClosureIsExistence, ClosureIsSmallest, ClosureIsBefore, ClosureIsStable, LesserIsReached, StandsIsStanding, HeldByOtherIsHeld, HeldAscends, DependenciesAreNumbered, ReachedIsDeadlocked, RowsAreUnique, RowsAreSound, ConfirmedStays, WellFormedGrows, ReorderingIsWalk, ClosureGrows, CaughtIsEarly, ThreadsAreForked, ThreadsAreForkedOnce, NothingFollowsJoin, ReleaseIsOwn, SectionsAreApart};
+ghost use Rattle.trace_model.specs.Laws.{HeldIsHeld, HoldsInSection, WriterIsGreatest, ReleaseIsLeast, ClosureIsExistence, ClosureIsSmallest, ClosureIsBefore, ClosureIsStable, LesserIsReached, StandsIsStanding, HeldByOtherIsHeld, HeldAscends, DependenciesAreNumbered, ReachedIsDeadlocked, RowsAreUnique, RowsAreSound, ConfirmedStays, WellFormedGrows, ReorderingIsWalk, ClosureGrows, CaughtIsEarly, ThreadsAreForked, ThreadsAreForkedOnce, NothingFollowsJoin, ReleaseIsOwn, SectionsAreApart};
 ghost use Rattle.trace_model.specs.EventLaws.{OneMoreEvent, OwnerHolds, HeldAreFew, LawfulHigher};
 ghost use Rattle.trace_model.specs.RunLaws.{SummariesAreStates, RunsFit, RunsSplit, MachineTakesSteps, RunsAreUnique, RunsAreSound, RunsAreLegal, StatusesAreShown};
 ghost use Rattle.trace_model.specs.Frames.{OneReading};
@@ -10,6 +10,7 @@ ghost use Rattle.trace_model.specs.Batches.{BatchesAreLongest};
 /// The look-ups are what their words say.
 pub fn lookups_are_exact()
     ensures held { HeldIsHeld }
+    ensures section { HoldsInSection }
     ensures writer { WriterIsGreatest }
     ensures release { ReleaseIsLeast }
 {}

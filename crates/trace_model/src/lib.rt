@@ -9,6 +9,7 @@ mod event;
 mod instance;
 pub mod laws;
 mod limits;
+mod owner;
 mod place;
 mod refusal;
 mod report;
@@ -20,9 +21,10 @@ pub use bound::Bound;
 pub use event::{Event, Op};
 pub use instance::Instance;
 pub use limits::{
-    MAX_BOUND, MAX_CYCLES, MAX_EVENTS, MAX_FORKS, MAX_HELD, MAX_QUESTIONS, MAX_REPORT, MAX_THREADS,
-    MIN_BOUND,
+    MAX_BOUND, MAX_CYCLES, MAX_DEPTH, MAX_EVENTS, MAX_FORKS, MAX_HELD, MAX_QUESTIONS, MAX_REPORT,
+    MAX_THREADS, MIN_BOUND,
 };
+pub use owner::Owner;
 pub use place::{Place, PlaceList};
 pub use refusal::{NoMemory, Refusal, refusal_name};
 pub use report::ReportText;

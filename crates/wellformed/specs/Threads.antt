@@ -1,5 +1,5 @@
 -- What a table of threads shows.
-use Rattle.std.specs.Prelude.{ℕ, List, ◌+◌, ◌-◌, ◌==◌, false, ◌||◌, if◌then◌else◌, nat_eq, IsSome, unwrap_or}
+use Rattle.std.specs.Prelude.{ℕ, List, ◌+◌, ◌-◌, ◌==◌, false, ◌||◌, if◌then◌else◌, nat_eq, nat_le, IsSome, unwrap_or}
 use Rattle.std.specs.Map.{lookup}
 use Rattle.trace_model.specs.declared.event.Event.{Event}
 use Rattle.trace_model.specs.declared.event.Op.{Op}
@@ -23,16 +23,16 @@ thread_in m t = unwrap_or (lookup (nat_eq t) m) unknown
 abbrev pub HasThread : ThreadTable → ℕ → Type 0
 HasThread m t = IsSome (lookup (nat_eq t) m)
 
--- the number of held locks after an operation of the thread
-abbrev pub depth_after : Op → ℕ → ℕ
-depth_after (Acquire l) n = n + 1
-depth_after (Release l) n = n - 1
-depth_after _ n = n
+-- the number of held locks after an operation of the thread; its lock, if it names one, was so deep
+abbrev pub count_after : ℕ → Op → ℕ → ℕ
+count_after depth (Acquire l) n = if depth == 0 then n + 1 else n
+count_after depth (Release l) n = if nat_le depth 1 then n - 1 else n
+count_after depth _ n = n
 
--- what is known of the thread t after the event
-abbrev pub thread_after : Event → ℕ → ThreadEntry → ThreadEntry
-thread_after e t x = record {
+-- what is known of the thread t after the event, whose lock was so deep
+abbrev pub thread_after : ℕ → Event → ℕ → ThreadEntry → ThreadEntry
+thread_after depth e t x = record {
   forked = x.forked || op_eq e.op (Fork t);
   joined = x.joined || op_eq e.op (Join t);
-  held = if e.thread == t then depth_after e.op x.held else x.held;
+  held = if e.thread == t then count_after depth e.op x.held else x.held;
 }

@@ -1,22 +1,64 @@
 //! What one more event changes in the tables, and the entries that it needs.
 ghost use Rattle.std.specs.Prelude.{◌≡◌, ◌+◌, ◌<◌, ◌^◌, ℕ, OnErr, OnOk};
-ghost use Rattle.wellformed.specs.Owners.{owner_in};
+ghost use Rattle.wellformed.specs.Owners.{owner_in, op_owner};
 ghost use Rattle.wellformed.specs.Threads.{thread_in, thread_after, HasThread};
 ghost use Rattle.wellformed.specs.Tables.{HasOpThread, HasOpLock};
-ghost use Rattle.trace_model.specs.Holders.{owner_after};
+ghost use Rattle.trace_model.specs.Holders.{owner_after, owned, released};
+ghost use Rattle.trace_model.specs.declared.limits.TheConstants.{MAX_DEPTH};
 
-use crate::owners::{Owners, reserve_owner, set_owner};
+use crate::owners::{Owners, owner_of, reserve_owner, set_owner};
 use crate::threads::{ThreadEntry, Threads, known, reserve_thread, set_thread};
-use trace_model::{Event, NoMemory, Op};
+use trace_model::{Event, NoMemory, Op, Owner};
 
-/// Notes the event in the table of locks.
-pub fn note_lock(owners: &mut Owners, event: &Event)
-    requires { HasOpLock owners.old event.now.op }
+/// The owner of the lock that the operation names, none if it names none.
+pub fn owner_of_op(owners: &Owners, op: Op) -> Option<Owner>
+    ensures { result ≡ op_owner owners.now op }
+{
+    match op {
+        Op::Acquire(lock) | Op::Release(lock) => owner_of(owners, lock),
+        _ => None,
+    }
+}
+
+/// How deep a lock is held by its owner.
+pub fn depth_of(owner: Option<Owner>) -> u8
+    ensures { result ≡ owned owner }
+{
+    match owner {
+        Some(owner) => owner.depth,
+        None => 0,
+    }
+}
+
+/// The owner after one release.
+fn released_once(owner: Option<Owner>) -> Option<Owner>
+    ensures { result ≡ released owner }
+{
+    match owner {
+        Some(owner) if owner.depth > 1 => Some(Owner {
+            depth: owner.depth - 1,
+            ..owner
+        }),
+        _ => None,
+    }
+}
+
+/// Notes the event in the table of locks. Its lock was owned so.
+pub fn note_lock(owners: &mut Owners, event: &Event, was: Option<Owner>)
+    requires entry { HasOpLock owners.old event.now.op }
+    requires was { was ≡ op_owner owners.old event.now.op }
+    requires room { (lock : ℕ) → event.now.op ≡ Op.Acquire lock → owned was < MAX_DEPTH }
     ensures { (lock : ℕ) → owner_in owners.new lock ≡ owner_after lock (owner_in owners.old lock) event.now }
 {
     match event.op {
-        Op::Acquire(lock) => set_owner(owners, lock, Some(event.thread)),
-        Op::Release(lock) => set_owner(owners, lock, None),
+        Op::Acquire(lock) => {
+            let owner = Owner {
+                thread: event.thread,
+                depth: depth_of(was) + 1,
+            };
+            set_owner(owners, lock, Some(owner));
+        }
+        Op::Release(lock) => set_owner(owners, lock, released_once(was)),
         _ => {}
     }
 }
@@ -34,12 +76,13 @@ pub fn reserve_lock(owners: &mut Owners, event: &Event) -> Result<(), NoMemory>
     }
 }
 
-/// Notes the event in the table of threads.
-pub fn note_thread(threads: &mut Threads, event: &Event)
+/// Notes the event in the table of threads. Its lock was so deep: a thread holds one lock more, or one less, only after
+/// an outermost acquire or release.
+pub fn note_thread(threads: &mut Threads, event: &Event, depth: u8)
     requires own { HasThread threads.old event.now.thread }
     requires other { HasOpThread threads.old event.now.op }
-    requires depth { (thread_in threads.old event.now.thread).held + 1 < 2 ^ 32 }
-    ensures { (t : ℕ) → thread_in threads.new t ≡ thread_after event.now t (thread_in threads.old t) }
+    requires few { (thread_in threads.old event.now.thread).held + 1 < 2 ^ 32 }
+    ensures { (t : ℕ) → thread_in threads.new t ≡ thread_after depth event.now t (thread_in threads.old t) }
 {
     match event.op {
         Op::Fork(child) => {
@@ -64,17 +107,17 @@ pub fn note_thread(threads: &mut Threads, event: &Event)
                 },
             );
         }
-        Op::Acquire(_) => {
+        Op::Acquire(_) if depth == 0 => {
             let was = known(threads, event.thread);
             let held = was.held + 1;
             set_thread(threads, event.thread, ThreadEntry { held, ..was });
         }
-        Op::Release(_) => {
+        Op::Release(_) if depth <= 1 => {
             let was = known(threads, event.thread);
             let held = was.held.saturating_sub(1);
             set_thread(threads, event.thread, ThreadEntry { held, ..was });
         }
-        Op::Read(_) | Op::Write(_) => {}
+        Op::Acquire(_) | Op::Release(_) | Op::Read(_) | Op::Write(_) => {}
     }
 }
 

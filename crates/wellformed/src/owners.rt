@@ -1,4 +1,4 @@
-//! Which thread owns each lock.
+//! Which thread owns each lock, and how deep.
 ghost use Rattle.std.specs.Prelude.{◌≡◌, ℕ, None, nat_eq, cond, OnErr, OnOk};
 ghost use Rattle.wellformed.specs.Owners.{owner_in, HasLock};
 
@@ -7,12 +7,12 @@ use slots::{NumberTable, slot_of, value_of, write_value};
 use std::alloc::Global;
 use std::hash::RandomState;
 use std::marker::Model;
-use trace_model::NoMemory;
+use trace_model::{NoMemory, Owner};
 
 /// The owner of each lock. An entry may be empty. It remembers where the last reserved one stands.
 #[derive(Drop)]
 pub struct Owners {
-    table: NumberTable<Option<u32>>,
+    table: NumberTable<Option<Owner>>,
     near: usize,
 }
 
@@ -34,8 +34,8 @@ pub fn no_owners(alloc: Global, state: RandomState) -> Owners
     }
 }
 
-/// The thread that owns a lock.
-pub fn owner_of(owners: &Owners, lock: u32) -> Option<u32>
+/// The owner of a lock.
+pub fn owner_of(owners: &Owners, lock: u32) -> Option<Owner>
     ensures { result ≡ owner_in owners.now lock }
 {
     value_of(&owners.table, owners.near, lock).flatten()
@@ -59,7 +59,7 @@ pub fn reserve_owner(owners: &mut Owners, lock: u32) -> Result<(), NoMemory>
 }
 
 /// Writes the owner of a lock, which must have an entry.
-pub fn set_owner(owners: &mut Owners, lock: u32, owner: Option<u32>)
+pub fn set_owner(owners: &mut Owners, lock: u32, owner: Option<Owner>)
     requires { HasLock owners.old lock }
     ensures { (other : ℕ) → owner_in owners.new other ≡ (cond (nat_eq lock other) owner (owner_in owners.old other)) }
 {

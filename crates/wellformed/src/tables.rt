@@ -3,26 +3,29 @@ ghost use Rattle.std.specs.Result.{result_err};
 ghost use Rattle.trace_model.specs.declared.limits.TheConstants.{MAX_EVENTS};
 ghost use Rattle.trace_model.specs.declared.event.Event.{Event as EventValue};
 ghost use Rattle.trace_model.specs.Trace.{Trace};
-ghost use Rattle.trace_model.specs.Held.{held};
-ghost use Rattle.trace_model.specs.Lawful.{is_fork, held_by, held_by_other, op_refusal_of, refusal_of};
+ghost use Rattle.trace_model.specs.Held.{depth, held};
+ghost use Rattle.trace_model.specs.Holders.{depth_by, is_other_owner};
+ghost use Rattle.trace_model.specs.Lawful.{is_fork, held_by_other, op_refusal_of, refusal_of};
 ghost use Rattle.wellformed.specs.Tables.{FollowEvents, HasRoomFor, IsLawfulNext};
 
-use crate::entries::{note_lock, note_thread, reserve_lock, reserve_threads};
+use crate::entries::{
+    depth_of, note_lock, note_thread, owner_of_op, reserve_lock, reserve_threads,
+};
 use crate::owners::{Owners, no_owners, owner_of};
 use crate::threads::{Threads, known, no_threads};
 use std::alloc::Global;
 use std::hash::RandomState;
-use trace_model::{Event, MAX_FORKS, MAX_HELD, NoMemory, Op, Refusal};
+use trace_model::{Event, MAX_DEPTH, MAX_FORKS, MAX_HELD, NoMemory, Op, Owner, Refusal};
 
-/// Whether a thread holds a lock itself, and whether another does.
+/// How deep a thread holds a lock, and whether another holds it.
 #[derive(Clone, Copy)]
 struct Holder {
-    itself: bool,
+    depth: u8,
     other: bool,
 }
 
 /// What the gate has to know of the recorded events: how many they are and how many of them fork a thread, what is
-/// known of each thread, and who owns each lock. The events themselves are kept by whoever has them anyway.
+/// known of each thread, and who owns each lock and how deep. The events themselves are kept by whoever has them anyway.
 #[derive(Drop)]
 pub struct GateTables {
     count: usize,
@@ -102,18 +105,18 @@ impl GateTables {
         Ok(())
     }
 
-    fn check_acquire(&self, thread: u32, lock: u32, depth: u32) -> Result<(), Refusal>
-        ensures { (s : Trace) → FollowEvents self.now s → depth ≡ length (held s (length s) thread) →
+    fn check_acquire(&self, thread: u32, lock: u32, count: u32) -> Result<(), Refusal>
+        ensures { (s : Trace) → FollowEvents self.now s → count ≡ length (held s (length s) thread) →
             result_err result ≡ op_refusal_of s thread (Op.Acquire lock) }
     {
         let holder = self.holder(thread, lock);
-        if holder.itself {
-            return Err(Refusal::HeldByItself);
+        if holder.depth as usize >= MAX_DEPTH {
+            return Err(Refusal::TooNested);
         }
         if holder.other {
             return Err(Refusal::HeldByOther);
         }
-        if depth as usize >= MAX_HELD {
+        if holder.depth == 0 && count as usize >= MAX_HELD {
             return Err(Refusal::TooDeep);
         }
         Ok(())
@@ -123,29 +126,19 @@ impl GateTables {
         ensures { (s : Trace) → FollowEvents self.now s →
             result_err result ≡ op_refusal_of s thread (Op.Release lock) }
     {
-        if self.holder(thread, lock).itself {
-            Ok(())
-        } else {
-            Err(Refusal::NotHeld)
+        if self.holder(thread, lock).depth == 0 {
+            return Err(Refusal::NotHeld);
         }
+        Ok(())
     }
 
     fn holder(&self, thread: u32, lock: u32) -> Holder
-        ensures itself { (s : Trace) → FollowEvents self.now s →
-            result.itself ≡ held_by s thread lock }
+        ensures depth { (s : Trace) → FollowEvents self.now s →
+            result.depth ≡ depth s (length s) thread lock }
         ensures other { (s : Trace) → FollowEvents self.now s →
             result.other ≡ held_by_other s thread lock }
     {
-        match owner_of(&self.owners, lock) {
-            Some(owner) => Holder {
-                itself: owner == thread,
-                other: owner != thread,
-            },
-            None => Holder {
-                itself: false,
-                other: false,
-            },
-        }
+        holder_of(owner_of(&self.owners, lock), thread)
     }
 
     /// Makes room for this event. The events stay those that they were.
@@ -170,10 +163,31 @@ impl GateTables {
         ensures { (s : Trace) → FollowEvents self.old s → refusal_of MAX_EVENTS s event.now ≡ None →
             FollowEvents self.new (s ++ event.now ∷ []) }
     {
-        note_thread(&mut self.threads, event);
-        note_lock(&mut self.owners, event);
+        let was = owner_of_op(&self.owners, event.op);
+        note_thread(&mut self.threads, event, depth_of(was));
+        note_lock(&mut self.owners, event, was);
         self.forks = forks_after(self.forks, event);
         self.count += 1;
+    }
+}
+
+fn holder_of(owner: Option<Owner>, thread: u32) -> Holder
+    ensures depth { result.depth ≡ depth_by owner thread }
+    ensures other { result.other ≡ is_other_owner owner thread }
+{
+    match owner {
+        Some(owner) if owner.thread == thread => Holder {
+            depth: owner.depth,
+            other: false,
+        },
+        Some(_) => Holder {
+            depth: 0,
+            other: true,
+        },
+        None => Holder {
+            depth: 0,
+            other: false,
+        },
     }
 }
 

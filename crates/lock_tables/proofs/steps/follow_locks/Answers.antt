@@ -3,6 +3,9 @@ use Rattle.held_sets.specs.Tables.{IsAfter}
 use Rattle.lock_tables.proofs.OneFurther.{keeps}
 use Rattle.lock_tables.proofs.steps.follow_locks.Goals as goal
 
+pub record-requires-clause-nested : goal.record-requires-clause-nested
+record-requires-clause-nested c = (c.requires.fits c.in-Acquire.lock c.in-Acquire.is).0
+
 pub record-requires-clause-room : goal.record-requires-clause-room
 record-requires-clause-room c = (c.requires.fits c.in-Acquire.lock c.in-Acquire.is).1
 

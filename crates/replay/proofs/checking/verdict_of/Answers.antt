@@ -3,7 +3,6 @@ use Rattle.std.proofs.lemmas.Option.{slice_get-get_or}
 use Rattle.trace_model.specs.declared.event.Event.{Event}
 use Rattle.trace_model.specs.declared.event.Op.TheVariants.{Fork}
 use Rattle.trace_model.specs.Trace.{Does}
-use Rattle.trace_model.proofs.OneMore.{length_well_formed}
 use Rattle.replay.specs.Verdict.{order_tests}
 use Rattle.replay.proofs.Verdicts.{follows_so, passes_more}
 use Rattle.replay.proofs.LastPlaces.{walked_empty, walked_next}
@@ -11,9 +10,6 @@ use Rattle.replay.proofs.checking.verdict_of.Goals as goal
 
 abbrev nothing : Event
 nothing = record { thread = 0; op = Fork 0 }
-
-pub facts_of-requires : goal.facts_of-requires
-facts_of-requires c = length_well_formed c.args.trace.now c.requires
 
 pub loop-k-init : goal.loop-k-init
 loop-k-init c =
@@ -30,6 +26,11 @@ returns-in-Some c =
     let p = c.index-order-k.result in
     inl (k, slice_get-get_or order k p c.loop-k-test.true ∙ ap Some (sym c.index-order-k.is), c.loop-k.invariant.passes, c.in-Some.ensures)
 
+pub begun-begun-requires-clause-in_trace : goal.begun-begun-requires-clause-in_trace
+begun-begun-requires-clause-in_trace c =
+    let order = c.args.order.now in
+    (follows_so c.args.trace.now c.requires (take c.loop-k.k order) c.index-order-k.result c.in_default.ensures).in_trace
+
 pub loop-k-preserved : goal.loop-k-preserved
 loop-k-preserved c =
     let s = c.args.trace.now in
@@ -45,7 +46,7 @@ loop-k-preserved c =
     let e = c.in_ok-push.ensures in
     record {
       passes = passes_more order_tests s (λ k. take k order) order k p c.loop-k.invariant.passes at fine;
-      walked = walked_next s c.requires order k p o c.loop-k.walked c.push.new.self at c.loop-k.invariant.walked fine does e.inside e.forks e.writes e.acquires;
+      walked = walked_next s c.requires order k p o c.begun-begun.result c.loop-k.walked c.push.new.self at c.loop-k.invariant.walked fine does (sym c.begun-begun.ensures) e.inside e.forks e.writes e.acquires;
     }
 
 pub check_instance-requires-clause-passes : goal.check_instance-requires-clause-passes

@@ -1,9 +1,16 @@
 use Rattle.std.proofs.Common.{length, ap, ◌∙◌}
 use Rattle.std.specs.List.{slice_get}
 use Rattle.trace_model.specs.Lookups.{writer}
-use Rattle.replay.specs.Facts.{previous}
+use Rattle.trace_model.proofs.OneMore.{length_well_formed}
+use Rattle.replay.specs.Facts.{previous, begun}
 use Rattle.replay.proofs.FactLists.{get-each}
 use Rattle.replay.proofs.facts.facts_of.Goals as goal
+
+pub previous_places-requires : goal.previous_places-requires
+previous_places-requires c = length_well_formed c.args.trace.now c.requires
+
+pub writers_of-requires : goal.writers_of-requires
+writers_of-requires c = length_well_formed c.args.trace.now c.requires
 
 pub returns : goal.returns
 returns c =
@@ -11,6 +18,7 @@ returns c =
     record {
       previous = λ q l. ap (λ xs. slice_get xs q) c.in_ok-previous.ensures.previous ∙ get-each (previous s) (length s) q l;
       writers = λ q l. ap (λ xs. slice_get xs q) c.in_ok-writers.ensures ∙ get-each (writer s) (length s) q l;
-      releases = c.in_ok-releases.ensures.releases;
+      begins = λ q l. ap (λ xs. slice_get xs q) c.in_ok-begins.ensures.begins ∙ get-each (begun s) (length s) q l;
+      releases = c.in_ok-begins.ensures.releases;
       lasts = c.in_ok-previous.ensures.lasts;
     }

@@ -1,62 +1,126 @@
-use Rattle.std.proofs.Common.{◌≡◌, ◌*◌, length, sym, ap, subst, ◌∙◌, w32, arith, ℕ, None}
+use Rattle.std.proofs.lemmas.Option.{same_Some}
+use Rattle.std.proofs.Common.{◌≡◌, ◌*◌, length, refl, sym, ap, subst, ◌∙◌, w32, arith, ℕ, None}
 use Rattle.std.proofs.Math.Facts.{Fits-below}
 use Rattle.trace_model.specs.Trace.{Trace}
+use Rattle.trace_index.specs.Depths.{depth_in, op_depth, HasEntry}
 use Rattle.trace_index.specs.Links.{trace_of, AreLatest}
 use Rattle.trace_index.specs.Marks.{AreAllMarks}
+use Rattle.trace_index.proofs.Deep.{owned_in, op_depth-agree}
 use Rattle.trace_index.proofs.Marking.{last_of_all}
 use Rattle.trace_index.specs.Slots.{AreSlots}
 use Rattle.trace_index.specs.Room.{IsIndex}
-use Rattle.trace_index.proofs.OneFurther.{rows_short, still_none, followed, ready_next}
+use Rattle.trace_index.proofs.OneFurther.{rows_short, still_none, followed, ready_next, deep_still, deep_entered, depths_of_all}
 use Rattle.trace_index.proofs.TraceIndex.reserve.Goals as goal
 
 pub len-len-requires : goal.len-len-requires
-len-len-requires c = let s = rows_short c.self.inside.rows.0 c.self.invariant.shown.well_formed in omega arith
+len-len-requires c = let s = rows_short c.self.inside.rows.0 c.self.invariant.index.shown.well_formed in omega arith
 
 pub invariant_of-self : goal.invariant_of-self
 invariant_of-self c =
     let i = c.self.inside in
-    still_none i.rows c.reserve.new.self i.marks.sealed.items i.marks.sealed.items i.marks.tail i.marks.tail i.latest.places i.latest.places i.latest.noted i.latest.noted i.next c.self.invariant
-    c.in_err-reserve.ensures.shown c.self.invariant.latest_are c.self.invariant.noted_within (λ s are. are)
+    let is = c.self.invariant in
+    record {
+      index = still_none i.rows c.reserve.new.self i.marks.sealed.items i.marks.sealed.items i.marks.tail i.marks.tail i.latest.places i.latest.places i.latest.noted i.latest.noted i.next is.index
+          c.in_err-reserve.ensures.shown is.index.latest_are is.index.noted_within (λ s are. are);
+      deep = deep_still i.rows.0 c.reserve.new.self.0 i.depths.table i.depths.noted is.deep.depths_are is.deep.within c.in_err-reserve.ensures.shown;
+    }
 
 pub invariant_of-self-in_err-reserve-2 : goal.invariant_of-self-in_err-reserve-2
 invariant_of-self-in_err-reserve-2 c =
     let i = c.self.inside in
+    let is = c.self.invariant in
     let m = c.reserve-2.new.self in
     let more = c.in_err-reserve-2.ensures.more in
-    let noted = c.self.invariant.noted_within in
-    still_none i.rows c.reserve.new.self i.marks.sealed.items m.sealed.items i.marks.tail m.tail i.latest.places i.latest.places i.latest.noted i.latest.noted i.next c.self.invariant
-    c.in_ok-reserve.ensures.shown c.self.invariant.latest_are (omega arith)
-    (subst (λ (n : ℕ). (s : Trace) → AreAllMarks s n i.marks.sealed.items i.marks.tail → AreAllMarks s n m.sealed.items m.tail) c.len-len.ensures c.in_err-reserve-2.ensures.same)
+    let noted = is.index.noted_within in
+    record {
+      index = still_none i.rows c.reserve.new.self i.marks.sealed.items m.sealed.items i.marks.tail m.tail i.latest.places i.latest.places i.latest.noted i.latest.noted i.next is.index
+          c.in_ok-reserve.ensures.shown is.index.latest_are (omega arith)
+          (subst (λ (n : ℕ). (s : Trace) → AreAllMarks s n i.marks.sealed.items i.marks.tail → AreAllMarks s n m.sealed.items m.tail) c.len-len.ensures c.in_err-reserve-2.ensures.same);
+      deep = deep_still i.rows.0 c.reserve.new.self.0 i.depths.table i.depths.noted is.deep.depths_are is.deep.within c.in_ok-reserve.ensures.shown;
+    }
 
 pub follow-requires : goal.follow-requires
 follow-requires c =
     let more = c.in_ok-reserve-2.ensures.more in
-    let noted = c.self.invariant.noted_within in
+    let noted = c.self.invariant.index.noted_within in
     let same = ap length c.deref.ensures.value in
     omega arith
 
 pub invariant_of-self-in_err-follow : goal.invariant_of-self-in_err-follow
 invariant_of-self-in_err-follow c =
     let i = c.self.inside in
+    let is = c.self.invariant in
     let l = c.follow.new.self in
     let m = c.reserve-2.new.self in
-    followed i.rows c.reserve.new.self i.marks.sealed.items m.sealed.items c.deref.result.now i.marks.tail m.tail i.latest.places l.places i.latest.noted l.noted i.next c.self.invariant
-    c.in_ok-reserve.ensures.shown c.deref.ensures.value
-    (subst (λ (n : ℕ). (s : Trace) → AreAllMarks s n i.marks.sealed.items i.marks.tail → AreAllMarks s n m.sealed.items m.tail) c.len-len.ensures c.in_ok-reserve-2.ensures.same)
-    c.in_err-follow.ensures.latest c.in_err-follow.ensures.within
+    record {
+      index = followed i.rows c.reserve.new.self i.marks.sealed.items m.sealed.items c.deref.result.now i.marks.tail m.tail i.latest.places l.places i.latest.noted l.noted i.next is.index
+          c.in_ok-reserve.ensures.shown c.deref.ensures.value
+          (subst (λ (n : ℕ). (s : Trace) → AreAllMarks s n i.marks.sealed.items i.marks.tail → AreAllMarks s n m.sealed.items m.tail) c.len-len.ensures c.in_ok-reserve-2.ensures.same)
+          c.in_err-follow.ensures.latest c.in_err-follow.ensures.within;
+      deep = deep_still i.rows.0 c.reserve.new.self.0 i.depths.table i.depths.noted is.deep.depths_are is.deep.within c.in_ok-reserve.ensures.shown;
+    }
 
 pub overflow_cast-len : goal.overflow_cast-len
 overflow_cast-len c =
-    let s = rows_short c.self.inside.rows.0 c.self.invariant.shown.well_formed in
+    let s = rows_short c.self.inside.rows.0 c.self.invariant.index.shown.well_formed in
     let l = c.len-len.ensures in
     Fits-below {w = w32} {m = c.len-len.result} {n = 1048576} tt (omega arith)
 
-is_index : (c : goal.After-ready_for-arg-3-1) → IsIndex c.reserve.new.self c.reserve-2.new.self.sealed.items c.reserve-2.new.self.tail c.follow.new.self.places c.follow.new.self.noted None
+pub follow-requires-2 : goal.follow-requires-2
+follow-requires-2 c =
+    let i = c.self.inside in
+    let deep = c.self.invariant.deep in
+    let same = c.in_ok-reserve.ensures.shown in
+    let is = (let l = c.follow.new.self in
+    let m = c.reserve-2.new.self in
+    followed i.rows c.reserve.new.self i.marks.sealed.items m.sealed.items c.deref.result.now i.marks.tail m.tail i.latest.places l.places i.latest.noted l.noted i.next c.self.invariant.index
+    c.in_ok-reserve.ensures.shown c.deref.ensures.value
+    (subst (λ (n : ℕ). (s : Trace) → AreAllMarks s n i.marks.sealed.items i.marks.tail → AreAllMarks s n m.sealed.items m.tail) c.len-len.ensures c.in_ok-reserve-2.ensures.same)
+    c.in_ok-follow.ensures.latest c.in_ok-follow.ensures.within) in
+    record {
+      well_formed = is.shown.well_formed;
+      rows = is.shown.depths_are;
+      short = rows_short c.reserve.new.self.0 is.shown.well_formed;
+      depths = (deep_still i.rows.0 c.reserve.new.self.0 i.depths.table i.depths.noted deep.depths_are deep.within same).depths_are;
+      within = (deep_still i.rows.0 c.reserve.new.self.0 i.depths.table i.depths.noted deep.depths_are deep.within same).within;
+    }
+
+pub invariant_of-self-in_err-follow-2 : goal.invariant_of-self-in_err-follow-2
+invariant_of-self-in_err-follow-2 c =
+    let i = c.self.inside in
+    let d = c.follow-2.new.self in
+    let deep = c.in_err-follow-2.ensures in
+    record {
+      index = (let l = c.follow.new.self in
+          let m = c.reserve-2.new.self in
+          followed i.rows c.reserve.new.self i.marks.sealed.items m.sealed.items c.deref.result.now i.marks.tail m.tail i.latest.places l.places i.latest.noted l.noted i.next c.self.invariant.index
+          c.in_ok-reserve.ensures.shown c.deref.ensures.value
+          (subst (λ (n : ℕ). (s : Trace) → AreAllMarks s n i.marks.sealed.items i.marks.tail → AreAllMarks s n m.sealed.items m.tail) c.len-len.ensures c.in_ok-reserve-2.ensures.same)
+          c.in_ok-follow.ensures.latest c.in_ok-follow.ensures.within);
+      deep = deep_still c.reserve.new.self.0 c.reserve.new.self.0 d.table d.noted deep.depths deep.within refl;
+    }
+
+pub invariant_of-self-in_err-reserve-3 : goal.invariant_of-self-in_err-reserve-3
+invariant_of-self-in_err-reserve-3 c =
+    let i = c.self.inside in
+    let d = c.reserve-3.new.self in
+    record {
+      index = (let l = c.follow.new.self in
+          let m = c.reserve-2.new.self in
+          followed i.rows c.reserve.new.self i.marks.sealed.items m.sealed.items c.deref.result.now i.marks.tail m.tail i.latest.places l.places i.latest.noted l.noted i.next c.self.invariant.index
+          c.in_ok-reserve.ensures.shown c.deref.ensures.value
+          (subst (λ (n : ℕ). (s : Trace) → AreAllMarks s n i.marks.sealed.items i.marks.tail → AreAllMarks s n m.sealed.items m.tail) c.len-len.ensures c.in_ok-reserve-2.ensures.same)
+          c.in_ok-follow.ensures.latest c.in_ok-follow.ensures.within);
+      deep = deep_entered c.reserve.new.self.0 c.follow-2.new.self.table d.table c.follow-2.new.self.noted d.noted c.in_ok-follow-2.ensures.depths c.in_ok-follow-2.ensures.within
+          c.in_err-reserve-3.ensures.shown c.in_err-reserve-3.ensures.noted;
+    }
+
+is_index : (c : goal.After-ready_for-arg-2-1) → IsIndex c.reserve.new.self c.reserve-2.new.self.sealed.items c.reserve-2.new.self.tail c.follow.new.self.places c.follow.new.self.noted None
 is_index c =
     let i = c.self.inside in
     let l = c.follow.new.self in
     let m = c.reserve-2.new.self in
-    followed i.rows c.reserve.new.self i.marks.sealed.items m.sealed.items c.deref.result.now i.marks.tail m.tail i.latest.places l.places i.latest.noted l.noted i.next c.self.invariant
+    followed i.rows c.reserve.new.self i.marks.sealed.items m.sealed.items c.deref.result.now i.marks.tail m.tail i.latest.places l.places i.latest.noted l.noted i.next c.self.invariant.index
     c.in_ok-reserve.ensures.shown c.deref.ensures.value
     (subst (λ (n : ℕ). (s : Trace) → AreAllMarks s n i.marks.sealed.items i.marks.tail → AreAllMarks s n m.sealed.items m.tail) c.len-len.ensures c.in_ok-reserve-2.ensures.same)
     c.in_ok-follow.ensures.latest c.in_ok-follow.ensures.within
@@ -83,18 +147,38 @@ invariant_of-self-2 c =
     let i = c.self.inside in
     let l = c.follow.new.self in
     let m = c.reserve-2.new.self in
+    let d = c.reserve-3.new.self in
+    let r = c.ready_for.result in
+    let rows = c.reserve.new.self.0 in
     let len = ap length c.in_ok-reserve.ensures.shown in
     let fits = c.in_ok-reserve-2.ensures.fits in
     let count = c.len-len.ensures in
-    ready_next c.reserve.new.self m.sealed.items m.tail l.places l.noted c.ready_for.result
-    (followed i.rows c.reserve.new.self i.marks.sealed.items m.sealed.items c.deref.result.now i.marks.tail m.tail i.latest.places l.places i.latest.noted l.noted i.next c.self.invariant
-    c.in_ok-reserve.ensures.shown c.deref.ensures.value
-    (subst (λ (n : ℕ). (s : Trace) → AreAllMarks s n i.marks.sealed.items i.marks.tail → AreAllMarks s n m.sealed.items m.tail) c.len-len.ensures c.in_ok-reserve-2.ensures.same)
-    c.in_ok-follow.ensures.latest c.in_ok-follow.ensures.within)
-    (record {
-      row_is = c.ready_for.ensures.row;
-      slots_are = subst (λ e. AreSlots m.tail.last e c.ready_for.result.slots) (sym c.ready_for.ensures.event) c.ready_for.ensures.slots;
-      row_room = c.in_ok-reserve.ensures.ok;
-      marks_room = c.in_ok-reserve-2.ensures.room;
-      marks_fit = omega arith;
-    })
+    let still = deep_entered rows c.follow-2.new.self.table d.table c.follow-2.new.self.noted d.noted c.in_ok-follow-2.ensures.depths c.in_ok-follow-2.ensures.within
+    c.in_ok-reserve-3.ensures.shown c.in_ok-reserve-3.ensures.noted in
+    let all : d.noted ≡ length rows = c.in_ok-reserve-3.ensures.noted ∙ c.in_ok-follow-2.ensures.ok in
+    record {
+      index = ready_next c.reserve.new.self m.sealed.items m.tail l.places l.noted r
+          (let l = c.follow.new.self in
+          let m = c.reserve-2.new.self in
+          followed i.rows c.reserve.new.self i.marks.sealed.items m.sealed.items c.deref.result.now i.marks.tail m.tail i.latest.places l.places i.latest.noted l.noted i.next c.self.invariant.index
+          c.in_ok-reserve.ensures.shown c.deref.ensures.value
+          (subst (λ (n : ℕ). (s : Trace) → AreAllMarks s n i.marks.sealed.items i.marks.tail → AreAllMarks s n m.sealed.items m.tail) c.len-len.ensures c.in_ok-reserve-2.ensures.same)
+          c.in_ok-follow.ensures.latest c.in_ok-follow.ensures.within)
+          (record {
+            row_is = c.ready_for.ensures.row;
+            slots_are = subst (λ e. AreSlots m.tail.last e r.slots) (sym c.ready_for.ensures.event) c.ready_for.ensures.slots;
+            row_room = c.in_ok-reserve.ensures.ok;
+            marks_room = c.in_ok-reserve-2.ensures.room;
+            marks_fit = omega arith;
+          });
+      deep = record {
+        depths_are = still.depths_are;
+        within = still.within;
+        all = λ x h. all;
+        entry = λ x h. subst (λ y. HasEntry d.table y.row.event.op) (same_Some r x h) (subst (λ e. HasEntry d.table e.op) (sym c.ready_for.ensures.event) c.in_ok-reserve-3.ensures.ok);
+        ready = λ x h. subst (λ y. y.row.depth ≡ op_depth (owned_in (trace_of rows)) y.row.event.op) (same_Some r x h)
+            (c.ready_for.ensures.depth ∙ c.before-depth.ensures
+            ∙ op_depth-agree (depth_in d.table) (owned_in (trace_of rows)) c.args.event.now.op (depths_of_all rows d.table d.noted still.depths_are all)
+            ∙ ap (λ e. op_depth (owned_in (trace_of rows)) e.op) (sym c.ready_for.ensures.event));
+      };
+    }

@@ -1,31 +1,30 @@
-use Rattle.std.proofs.Common.{[], nat_eq, cond, unwrap_or, length, sym, ap, ◌∙◌, arith}
+use Rattle.std.proofs.Common.{◌≡◌, ◌<◌, [], length, nat_eq, unwrap_or, sym, ap, subst, ◌∙◌}
 use Rattle.std.specs.HashMap.{get}
-use Rattle.trace_model.specs.Held.{has, with_lock}
+use Rattle.trace_model.specs.declared.event.Op.TheVariants.{Acquire}
+use Rattle.trace_model.specs.declared.limits.TheConstants.{MAX_HELD, MAX_DEPTH}
 use Rattle.slots.proofs.Numbers.{written_at, no_value_gone}
-use Rattle.held_sets.specs.Tables.{held_in}
-use Rattle.held_sets.proofs.Written.{written}
+use Rattle.held_sets.specs.Tables.{locks_of, depth_of, holding_in, IsHeldAfter}
+use Rattle.held_sets.proofs.Written.{written, after_from}
 use Rattle.held_sets.proofs.table.HeldTable.record.Goals as goal
 
-pub insert-requires-clause-new : goal.insert-requires-clause-new
-insert-requires-clause-new c =
-    let is = ap (λ o. unwrap_or o []) (sym (c.in-Some-get_index_mut.ensures.value ∙ c.slot_of.ensures.shows c.in-Some.slot c.in-Some.is)) in
-    ap (has c.args.lock) (sym is ∙ ap (λ t. held_in t c.args.thread) c.self.view_is) ∙ c.requires.new
+pub acquire-requires-clause-nested : goal.acquire-requires-clause-nested
+acquire-requires-clause-nested c =
+    let was = ap (λ o. unwrap_or o []) (sym (c.in-Some-get_index_mut.ensures.value ∙ c.slot_of.ensures.shows c.in-Some.slot c.in-Some.is)) in
+    subst (λ ds. depth_of ds c.args.lock < MAX_DEPTH) (sym (ap (λ t. holding_in t c.args.thread) c.self.view_is) ∙ was) c.requires.nested
 
-pub insert-requires-clause-room : goal.insert-requires-clause-room
-insert-requires-clause-room c =
-    let is = ap (λ o. unwrap_or o []) (sym (c.in-Some-get_index_mut.ensures.value ∙ c.slot_of.ensures.shows c.in-Some.slot c.in-Some.is)) in
-    let len = ap length (sym is ∙ ap (λ t. held_in t c.args.thread) c.self.view_is) in
-    let room = c.requires.room in
-    omega arith
+pub acquire-requires-clause-room : goal.acquire-requires-clause-room
+acquire-requires-clause-room c =
+    let was = ap (λ o. unwrap_or o []) (sym (c.in-Some-get_index_mut.ensures.value ∙ c.slot_of.ensures.shows c.in-Some.slot c.in-Some.is)) in
+    subst (λ ds. depth_of ds c.args.lock ≡ 0 → length (locks_of ds) < MAX_HELD) (sym (ap (λ t. holding_in t c.args.thread) c.self.view_is) ∙ was) c.requires.room
 
 pub returns-in-Some-get_index_mut : goal.returns-in-Some-get_index_mut
-returns-in-Some-get_index_mut c = λ u.
+returns-in-Some-get_index_mut c =
     let m = c.self.inside.threads in
-    let is = ap (λ o. unwrap_or o []) (sym (c.in-Some-get_index_mut.ensures.value ∙ c.slot_of.ensures.shows c.in-Some.slot c.in-Some.is)) in
-    ap (λ o. unwrap_or o []) (written_at m c.args.thread c.slot_of.result c.slot_of.ensures c.in-Some.slot c.in-Some.is c.insert.new.self c.get_index_mut.ensures.unique u)
-    ∙ written c.args.thread u (get nat_eq m u) c.insert.new.self (with_lock c.args.lock)
-    (λ same. ap (with_lock c.args.lock) (ap (λ t. unwrap_or (get nat_eq m t) []) (sym same) ∙ is) ∙ sym c.insert.ensures)
-    ∙ ap (λ t. cond (nat_eq c.args.thread u) (with_lock c.args.lock (held_in t u)) (held_in t u)) c.self.view_is
+    let was = ap (λ o. unwrap_or o []) (sym (c.in-Some-get_index_mut.ensures.value ∙ c.slot_of.ensures.shows c.in-Some.slot c.in-Some.is)) in
+    after_from m.entries _ _ c.args.thread (Acquire c.args.lock) c.acquire.new.self c.self.view_is
+    (λ u. ap (λ o. unwrap_or o []) (written_at m c.args.thread c.slot_of.result c.slot_of.ensures c.in-Some.slot c.in-Some.is c.acquire.new.self c.get_index_mut.ensures.unique u)
+    ∙ written c.args.thread u (get nat_eq m u) c.acquire.new.self)
+    (subst (λ ds. IsHeldAfter ds (Acquire c.args.lock) c.acquire.new.self) (sym was) c.acquire.ensures)
 
 pub returns-in-None-get_index_mut : goal.returns-in-None-get_index_mut
 returns-in-None-get_index_mut c =

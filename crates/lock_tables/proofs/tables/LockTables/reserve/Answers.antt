@@ -1,4 +1,5 @@
-use Rattle.std.proofs.Common.{◌≤◌, length, take, sym, subst, ◌∙◌}
+use Rattle.std.proofs.Common.{◌≤◌, length, take, sym, subst}
+use Rattle.held_sets.proofs.Follow.{follows_shown}
 use Rattle.dependencies.specs.Tables.{Rows, named}
 use Rattle.lock_graph.specs.Graph.{IsGraphOf}
 use Rattle.lock_tables.specs.Tables.{shared_holders}
@@ -9,7 +10,7 @@ returns-in_err-reserve_locks-clause-follow c s before =
     let f = c.catch_up.ensures.follow s before in
     record {
       counted = f.counted;
-      held = λ t. c.reserve_locks.ensures.shown t ∙ f.held t;
+      held = follows_shown _ _ s (length s) c.reserve_locks.ensures.shown f.held;
       dependencies = f.dependencies;
       graphed = f.graphed;
       graph = f.graph;
@@ -22,7 +23,7 @@ returns-clause-follow c s before =
     let same = c.reserve_place.ensures.shown in
     record {
       counted = f.counted;
-      held = λ t. c.reserve_locks.ensures.shown t ∙ f.held t;
+      held = follows_shown _ _ s (length s) c.reserve_locks.ensures.shown f.held;
       dependencies = c.tables_follow.ensures.stay tables.dependencies c.reserve_place.new.table s (length s) same f.dependencies;
       graphed = subst (λ (rows : Rows). tables.graphed ≤ length (named rows)) (sym same) f.graphed;
       graph = subst (λ (rows : Rows). IsGraphOf (take tables.graphed (named rows)) (shared_holders tables.graph)) (sym same) f.graph;

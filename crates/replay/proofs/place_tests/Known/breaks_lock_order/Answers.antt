@@ -1,16 +1,16 @@
-use Rattle.trace_model.specs.declared.event.Op.TheVariants.{Acquire}
+use Rattle.std.proofs.Common.{sym, ◌∙◌}
 use Rattle.replay.specs.Tests.{HasLater}
-use Rattle.replay.proofs.Lists.{op_decided, op_undone}
+use Rattle.replay.proofs.Beginnings.{begun_decided, begun_undone}
 use Rattle.replay.proofs.place_tests.Known.breaks_lock_order.Goals as goal
 
-pub returns-in-Acquire : goal.returns-in-Acquire
-returns-in-Acquire c =
+pub returns-in-Some : goal.returns-in-Some
+returns-in-Some c =
     let k = c.args.self.now in
     let q = c.args.place in
-    op_decided (λ x. HasLater k.trace.now k.front.now q x) Acquire (λ x y e. cc) k.trace.now q c.event.result c.has_later.result c.in-Acquire.lock c.event.ensures c.in-Acquire.is c.has_later.ensures
+    begun_decided (λ x. HasLater k.trace.now k.front.now q x) k.trace.now q c.has_later.result c.in-Some.lock (sym c.begun.ensures ∙ c.in-Some.is) c.has_later.ensures
 
-pub returns-in_default : goal.returns-in_default
-returns-in_default c =
+pub returns-in-None : goal.returns-in-None
+returns-in-None c =
     let k = c.args.self.now in
     let q = c.args.place in
-    op_undone (λ x. HasLater k.trace.now k.front.now q x) Acquire k.trace.now q c.event.result c.event.ensures c.in_default.not-Acquire
+    begun_undone (λ x. HasLater k.trace.now k.front.now q x) k.trace.now q (sym c.begun.ensures ∙ c.in-None.is)

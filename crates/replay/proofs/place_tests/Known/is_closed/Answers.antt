@@ -12,7 +12,7 @@ stands-requires-clause-in_trace c =
     let k = c.args.self.now in
     let q = c.args.place in
     let is = entry_is c.deref.result.now k.facts.now.releases.items q (Some c.in-Some.release) (release k.trace.now q) c.deref.ensures.value c.in-Some.ensures (c.requires.known.0.releases q c.requires.in_trace) in
-    slice_get_within k.trace.now c.in-Some.release _ (release_so k.trace.now q c.in-Some.release is).2.1.1
+    slice_get_within k.trace.now c.in-Some.release _ (release_so k.trace.now q c.in-Some.release is).3.1.0
 
 pub returns-in-Some : goal.returns-in-Some
 returns-in-Some c =

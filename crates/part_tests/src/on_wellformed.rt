@@ -1,0 +1,30 @@
+//! Traces with and without an inner acquire.
+
+use crate::traces::gate_of;
+use std::test::Fail;
+use wellformed::flat;
+
+const TRACES: [(&str, bool); 5] = [
+    ("0f1 0f2 1a10 1a20 1r20 1r10 2a20 2a10 2r10 2r20", true),
+    ("0a5 0r5 0a5 0a7 0r5 0a5", true),
+    ("0a5 0a5", false),
+    ("0f1 1a5 0a7 1w7 0a7 1a8", false),
+    ("0a5 0a7 0w1 0a5 0r5 0r5", false),
+];
+
+/// Whether the events, each of which passes the gate, have no inner acquire.
+fn is_flat(rt: &HostRuntime, events: &str) -> Result<bool, Fail> {
+    let gate = gate_of(rt, events)?;
+    let told = flat(gate.events());
+    drop(gate);
+    Ok(told)
+}
+
+#[test]
+fn flat_traces_have_no_inner_acquire(rt: HostRuntime) -> Result<(), Fail> {
+    for (events, wanted) in TRACES {
+        let told = is_flat(&rt, events)?;
+        assert_eq!(rt; told, wanted, "{events}");
+    }
+    Ok(())
+}

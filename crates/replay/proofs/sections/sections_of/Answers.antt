@@ -1,0 +1,68 @@
+use Rattle.std.proofs.Common.{◌≡◌, suc, ◌+◌, get_or, length, slice_get, nat_eq, replicate, Some, None, ap, sym, subst, ◌∙◌, arith}
+use Rattle.std.specs.HashMap.{get}
+use Rattle.std.specs.Map.{lookup}
+use Rattle.std.proofs.lemmas.Option.{slice_get-get_or}
+use Rattle.std.proofs.Math.ListN.{length-replicate}
+use Rattle.trace_model.specs.declared.event.Event.{Event}
+use Rattle.trace_model.specs.declared.event.Op.TheVariants.{Fork}
+use Rattle.trace_model.specs.Lookups.{release}
+use Rattle.trace_model.proofs.OneMore.{length_well_formed}
+use Rattle.replay.specs.Facts.{begun}
+use Rattle.replay.specs.OpenSections.{open_after, ended_by, with_end}
+use Rattle.replay.proofs.FactLists.{each_more}
+use Rattle.replay.proofs.OpenSections.{blank_is, IsOpen, so_far, so_far_all, none_so_far, none_open, open_more, has_room, begun_seen, ended_so, ended_from, releases_more, length-with_end}
+use Rattle.replay.proofs.sections.sections_of.Goals as goal
+
+abbrev nothing : Event
+nothing = record { thread = 0; op = Fork 0 }
+
+pub loop-index-init : goal.loop-index-init
+loop-index-init c =
+    let s = c.args.trace.now in
+    let blank : c.resize.new.self.items ≡ replicate (length s) None
+    = blank_is None (length s) _ _ c.resize.new.self.items c.in_ok-releases.ensures.items c.in_ok-releases.ensures.len c.in_ok-resize.ensures.items in
+    record {
+      begins = c.in_ok-begins.ensures.items;
+      sized = ap length blank ∙ length-replicate (length s) None;
+      releases = λ q l. ap (λ xs. slice_get xs q) blank ∙ none_so_far s q l;
+      sections = λ l. subst (λ es. IsOpen s 0 l (lookup (nat_eq l) es)) (sym c.with_hasher-opened.ensures.empty) (none_open s l);
+    }
+
+pub overflow_cast-index : goal.overflow_cast-index
+overflow_cast-index c = omega (arith, length_well_formed c.args.trace.now c.requires, c.loop-index-test.true)
+
+pub note-requires : goal.note-requires
+note-requires c =
+    let s = c.args.trace.now in
+    let n = c.loop-index.index in
+    has_room s c.requires n (get_or s n nothing) (slice_get-get_or s n nothing c.loop-index-test.true) (get nat_eq c.loop-index.opened) c.loop-index.invariant.sections
+
+pub loop-index-preserved : goal.loop-index-preserved
+loop-index-preserved c =
+    let s = c.args.trace.now in
+    let n = c.loop-index.index in
+    let e = get_or s n nothing in
+    let at = slice_get-get_or s n nothing c.loop-index-test.true in
+    let h = c.loop-index.invariant in
+    let table = get nat_eq c.loop-index.opened in
+    let up : suc n ≡ n + 1 = omega arith in
+    let made : c.end.new.releases.items ≡ with_end c.loop-index.releases.items (ended_by table e.op) n
+    = c.end.ensures ∙ ap (λ k. with_end c.loop-index.releases.items c.ended_by-ended.result k) c.new-place.ensures
+    ∙ ap (λ o. with_end c.loop-index.releases.items o n) c.ended_by-ended.ensures in
+    let more = releases_more s n c.loop-index.releases.items (ended_by table e.op) h.sized
+    (ended_so s c.requires n e at table h.sections) (ended_from s c.requires n e at table h.sections) h.releases in
+    record {
+      begins = c.in_ok-push.ensures.items
+          ∙ each_more (begun s) n c.loop-index.begins.items c.begun_by-begun.result h.begins
+          (c.begun_by-begun.ensures ∙ begun_seen s c.requires n e at table h.sections);
+      sized = ap length made ∙ length-with_end c.loop-index.releases.items (ended_by table e.op) n ∙ h.sized;
+      releases = λ q l. ap (λ xs. slice_get xs q) made ∙ more q l ∙ ap (λ k. Some (so_far k (release s q))) up;
+      sections = λ l. subst (λ k. IsOpen s k l (get nat_eq c.note.new.opened l)) up
+          (subst (IsOpen s (suc n) l) (sym (c.in_ok-note.ensures l ∙ ap (λ p. open_after e.op p table l) c.new-place.ensures)) (open_more s c.requires n e at table h.sections l));
+    }
+
+pub returns-clause-releases : goal.returns-clause-releases
+returns-clause-releases c q l =
+    let s = c.args.trace.now in
+    let whole : c.loop-index.index ≡ length s = omega (arith, c.loop-index-test.false, c.loop-index.auto.index-end) in
+    c.loop-index.invariant.releases q l ∙ ap (λ k. Some (so_far k (release s q))) whole ∙ ap Some (so_far_all s q)

@@ -1,0 +1,15 @@
+use Rattle.std.proofs.Common.{◌≡◌, ℕ, ◌<◌, length, slice_get, nat_eq, Some}
+use Rattle.std.specs.HashMap.{get}
+use Rattle.trace_model.specs.Lookups.{release}
+use Rattle.replay.specs.Facts.{begun, each}
+use Rattle.replay.proofs.OpenSections.{AreOpen, so_far}
+use Rattle.replay.proofs.sections.sections_of.Given as goal
+
+-- what begins at the places so far, the releases so far, and what is open now
+abbrev pub invariant-loop-index : goal.invariant-loop-index
+invariant-loop-index l = record {
+  begins : l.begins.items ≡ each (begun l.trace) l.index;
+  sized : length l.releases.items ≡ length l.trace;
+  releases : (q : ℕ) → q < length l.trace → slice_get l.releases.items q ≡ Some (so_far l.index (release l.trace q));
+  sections : AreOpen l.trace l.index (get nat_eq l.opened);
+}

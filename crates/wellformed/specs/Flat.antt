@@ -1,0 +1,42 @@
+-- Traces without inner acquires, of which the former definitions say what the present ones say.
+use Rattle.std.specs.Prelude.{◌≡◌, ℕ, ◌↔◌, Bool, true, false, List, fold, if◌then◌else◌}
+use Rattle.trace_model.specs.declared.event.Event.{Event}
+use Rattle.trace_model.specs.declared.event.Op.{Op}
+use Rattle.trace_model.specs.declared.event.Op.TheVariants.{Acquire, Release}
+use Rattle.trace_model.specs.Trace.{Trace, event, At, op_eq}
+use Rattle.trace_model.specs.Held.{depth}
+use Rattle.trace_model.specs.Dependencies.{dependencies}
+use Rattle.trace_model.specs.Reordering.{IsReordering}
+use Rattle.trace_model.specs.Rows.{Row, IsRow, AreRows}
+use Rattle.wellformed.specs.Former.Lawful as former_lawful
+use Rattle.wellformed.specs.Former.Dependencies as former_dependencies
+use Rattle.wellformed.specs.Former.Reordering as former_reordering
+use Rattle.wellformed.specs.Former.Rows as former_rows
+
+-- every acquire is outermost
+abbrev pub IsFlat : Trace → Type 0
+IsFlat s = (p t l : ℕ) → At s p (event t (Acquire l)) → depth s p t l ≡ 0
+
+-- the last event on the lock is an acquire of it
+abbrev pub taken_after : ℕ → Bool → Event → Bool
+taken_after l b e =
+    if op_eq e.op (Acquire l) then true
+    else (if op_eq e.op (Release l) then false
+    else b)
+
+abbrev pub taken : Trace → ℕ → Bool
+taken s l = fold (taken_after l) false s
+
+-- the operation acquires a lock whose last event is an acquire
+abbrev pub acquires_taken : Trace → Op → Bool
+acquires_taken s (Acquire l) = taken s l
+acquires_taken s _ = false
+
+-- what is said of the trace is what the former definitions say of it
+pub record AgreesWithFormer (s : Trace) : Type 0 where
+  pub well_formed : former_lawful.IsWellFormed s
+  pub reorderings : (order : List ℕ) → former_reordering.IsReordering s order ↔ IsReordering s order
+  pub dependencies_are : former_dependencies.dependencies s ≡ dependencies s
+  pub row : (row : Row) → former_rows.IsRow s row ↔ IsRow s row
+  pub rows : (bound root : ℕ) (rows : List Row) →
+      former_rows.AreRows s bound root rows ↔ AreRows s bound root rows

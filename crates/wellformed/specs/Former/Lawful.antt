@@ -1,0 +1,42 @@
+-- Which events may come next, and why not.
+use Rattle.std.specs.Prelude.{◌≡◌, ℕ, Bool, not, ◌==◌, ◌&&◌, nat_le, length, take, Option, Some, None, if◌then◌else◌}
+use Rattle.std.specs.List.{list_any}
+use Rattle.trace_model.specs.declared.event.Event.{Event}
+use Rattle.trace_model.specs.declared.event.Op.{Op}
+use Rattle.trace_model.specs.declared.event.Op.TheVariants.{Fork, Join, Acquire, Release}
+use Rattle.trace_model.specs.declared.refusal.Refusal.{Refusal}
+use Rattle.trace_model.specs.declared.refusal.Refusal.TheVariants.{Full, Unforked, Ended, TooNested, HeldByOther, TooDeep, NotHeld}
+use Rattle.trace_model.specs.declared.limits.TheConstants.{MAX_EVENTS, MAX_HELD}
+use Rattle.trace_model.specs.Trace.{Trace, At, stands}
+use Rattle.trace_model.specs.Held.{has}
+use Rattle.trace_model.specs.Lawful as present
+use Rattle.wellformed.specs.Former.Held.{held}
+
+-- after the trace the thread holds the lock, or another one does
+abbrev pub held_by : Trace → ℕ → ℕ → Bool
+held_by s t l = has l (held s (length s) t)
+
+abbrev pub held_by_other : Trace → ℕ → ℕ → Bool
+held_by_other s t l = list_any (λ e. not (e.thread == t) && held_by s e.thread l) s
+
+-- the first refusal that applies to what the thread does: a lock that it holds is nested too deep at once
+abbrev pub op_refusal_of : Trace → ℕ → Op → Option Refusal
+op_refusal_of s t (Acquire l) =
+    if held_by s t l then Some TooNested
+    else (if held_by_other s t l then Some HeldByOther
+    else (if nat_le MAX_HELD (length (held s (length s) t)) then Some TooDeep
+    else None))
+op_refusal_of s t (Release l) = if held_by s t l then None else Some NotHeld
+op_refusal_of s t op = present.op_refusal_of s t op
+
+-- none where the event is lawful after the trace, or the first refusal that applies
+abbrev pub refusal_of : ℕ → Trace → Event → Option Refusal
+refusal_of limit s e =
+    if nat_le limit (length s) then Some Full
+    else (if not (e.thread == 0) && not (stands s (Fork e.thread)) then Some Unforked
+    else (if stands s (Join e.thread) then Some Ended
+    else op_refusal_of s e.thread e.op))
+
+-- each event is lawful after those before it
+abbrev pub IsWellFormed : Trace → Type 0
+IsWellFormed s = (p : ℕ) (e : Event) → At s p e → refusal_of MAX_EVENTS (take p s) e ≡ None

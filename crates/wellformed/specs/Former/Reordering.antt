@@ -1,0 +1,26 @@
+-- Lists of places that the program could have run.
+use Rattle.std.specs.Prelude.{◌≡◌, ℕ, ◌<◌, List, length, slice_get, Some, MatchOption}
+use Rattle.std.specs.List.{Contains}
+use Rattle.trace_model.specs.declared.event.Op.TheVariants.{Read, Write}
+use Rattle.trace_model.specs.Trace.{Trace, Does, EarlierInThread}
+use Rattle.trace_model.specs.Lookups.{writer}
+use Rattle.trace_model.specs.Reordering.{Before, ForkOrJoin, LastWrite, Reaches}
+use Rattle.wellformed.specs.Former.Held.{BeginsOn}
+use Rattle.wellformed.specs.Former.Lookups.{release}
+
+pub record IsReordering (s : Trace) (order : List ℕ) : Type 0 where
+  pub in_trace : (q : ℕ) → Contains order q → q < length s
+  pub distinct : (i j q : ℕ) → slice_get order i ≡ Some q → slice_get order j ≡ Some q → i ≡ j
+  pub threads : (p q : ℕ) → Contains order q → EarlierInThread s p q → Before order p q
+  pub forks_joins : (p q : ℕ) → Contains order q → ForkOrJoin s p q → Before order p q
+  pub writers : (q v : ℕ) → Contains order q → Does s q (Read v) →
+      MatchOption (writer s q)
+      ((u : ℕ) → Does s u (Write v) → Before order u q → ⊥)
+      (LastWrite s order v q)
+  pub sections : (p q l : ℕ) → BeginsOn s p l → BeginsOn s q l → Before order p q →
+      (r : ℕ) × (release s p ≡ Some r) × Before order p r × Before order r q
+  pub lock_order : (p q l : ℕ) → BeginsOn s p l → BeginsOn s q l → Before order p q → p < q
+
+-- some reordering reaches the places
+abbrev pub Reached : Trace → List ℕ → Type 0
+Reached s places = (order : List ℕ) × IsReordering s order × Reaches s order places
