@@ -1,3 +1,4 @@
 pub mod Beginnings
 pub mod Adding
 pub mod Showing
+pub mod Searching

@@ -19,7 +19,7 @@ use Rattle.trace_model.proofs.Bounds.{run_is_within}
 use Rattle.trace_model.proofs.Taking.{run_parts}
 use Rattle.board.specs.declared.summary.QuestionSummary.{QuestionSummary}
 use Rattle.board.specs.declared.summary.Summary.{Summary}
-use Rattle.board.specs.Totals.{none, nones, blank, shown_as, added, count_of, EndsCounted, ShowsCounts, Shows}
+use Rattle.board.specs.Totals.{none, nones, blank, shown_as, added, count_of, ShowsCounts, Shows}
 use Rattle.board.proofs.Beginnings.{as_long}
 
 count_steps-push : (b : runs.Summary) (steps : List BoardStep) (x : BoardStep) → count_steps b (steps ++ x ∷ []) ≡ count_step (count_steps b steps) x

@@ -149,7 +149,8 @@ impl<N: Naming> Front<N> {
 
     /// The same beginning once more.
     pub fn again(&self) -> Front<N>
-        ensures { result ≡ self.now }
+        ensures same { result ≡ self.now }
+        ensures legal { IsLegal result }
     {
         Front {
             count: self.count,

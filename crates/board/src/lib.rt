@@ -15,5 +15,5 @@ mod writer;
 pub use history::{Front, Head, Naming, Opened};
 pub use reader::{BoardReader, Busy, Receipt};
 pub use shown::{Next, Shown};
-pub use summary::{QuestionSummary, Summary};
+pub use summary::{QuestionSummary, Summary, Unsettled};
 pub use writer::{BoardWriter, Follows, NotMade, new_board};

@@ -1,14 +1,16 @@
 //! Reading the board.
-ghost use Rattle.std.specs.Prelude.{◌≡◌, ◌⊎◌, true, IfOk, OnErr};
+ghost use Rattle.std.specs.Prelude.{◌≡◌, ◌⊎◌, true, IfOk, OnOk, OnErr};
 ghost use mathlib.Core.List.{IsPrefix};
 ghost use Rattle.trace_model.specs.Runs.{IsLegal};
 ghost use Rattle.board.specs.Totals.{Shows};
+ghost use Rattle.board.specs.Unsettled.{IsLeastUnsettled, open_questions};
 
 use crate::history::{Front, Naming};
 use crate::shown::Shown;
-use crate::summary::Summary;
+use crate::summary::{Summary, Unsettled};
 use left_right::ReadHandle;
 use std::marker::Model;
+use trace_model::MAX_QUESTIONS;
 
 /// The board gave no entry. What the reader has seen stays as it was.
 #[derive(Clone, Copy, Debug, PartialEq, Eq)]
@@ -58,7 +60,25 @@ impl<N: Naming> Receipt<N> {
     }
 }
 
-/// A reader of the board. Contracts see it as the steps that it has seen or was told of.
+/// Goes on to what is shown.
+///
+/// # Errors
+///
+/// `Busy` where more than that was seen.
+fn follow<N: Naming>(front: &mut Front<N>, shown: &Front<N>) -> Result<(), Busy>
+    ensures shown { OnOk result (front.new ≡ shown.now) }
+    ensures later { IsPrefix front.old front.new }
+    ensures legal { IsLegal front.new }
+    ensures busy { OnErr result (front.new ≡ front.old) }
+{
+    if shown.len() < front.len() {
+        return Err(Busy);
+    }
+    front.follow(shown);
+    Ok(())
+}
+
+/// A reader of the board. Contracts see it as the steps that it has seen or was told of: a legal run.
 #[derive(Drop)]
 pub struct BoardReader<N: Naming> {
     handle: ReadHandle<Shown<N>>,
@@ -68,10 +88,13 @@ pub struct BoardReader<N: Naming> {
 impl<N: Naming> Model for BoardReader<N> {
     ghost use Rattle.std.specs.Prelude.{List};
     ghost use Rattle.trace_model.specs.declared.step.BoardStep.{BoardStep};
+    ghost use Rattle.trace_model.specs.Runs.{IsLegal};
 
     ghost Value = { List BoardStep };
 
     ghost view = { λ r. r.front };
+
+    ghost invariant = { λ r. IsLegal r.front };
 }
 
 impl<N: Naming> BoardReader<N> {
@@ -96,17 +119,36 @@ impl<N: Naming> BoardReader<N> {
         ensures legal { IsLegal self.new }
         ensures busy { OnErr result (self.new ≡ self.old) }
     {
-        let known = self.front.len();
         let Some(guard) = self.handle.enter() else {
             return Err(Busy);
         };
         let shown: &Shown<N> = &guard;
-        if shown.front().len() < known {
-            return Err(Busy);
-        }
+        follow(&mut self.front, shown.front())?;
         let summary = *shown.totals();
-        self.front.follow(shown.front());
         Ok(summary)
+    }
+
+    /// Sees the board as it is, and answers the least question that has a task which is not delivered, but
+    /// for those that are passed over. It takes no memory, copies no summary and waits for nobody.
+    ///
+    /// # Errors
+    ///
+    /// `Busy` where the board gave no entry.
+    pub fn least_unsettled(
+        &mut self,
+        passed_over: &[bool; MAX_QUESTIONS],
+    ) -> Result<Option<Unsettled>, Busy>
+        ensures found { IfOk result (IsLeastUnsettled passed_over.now (open_questions self.new)) }
+        ensures later { IsPrefix self.old self.new }
+        ensures legal { IsLegal self.new }
+        ensures busy { OnErr result (self.new ≡ self.old) }
+    {
+        let Some(guard) = self.handle.enter() else {
+            return Err(Busy);
+        };
+        let shown: &Shown<N> = &guard;
+        follow(&mut self.front, shown.front())?;
+        Ok(shown.totals().least_unsettled(passed_over))
     }
 
     /// From now on it sees no less than the receipt names. It takes no memory and waits for nobody.

@@ -1,5 +1,6 @@
-ghost use Rattle.std.specs.Prelude.{◌≡◌, nat_lt, slice_get, None, if◌then◌else◌};
+ghost use Rattle.std.specs.Prelude.{◌≡◌, nat_lt, slice_get, take, None, if◌then◌else◌};
 ghost use Rattle.board.specs.Totals.{added, blank, count_of};
+ghost use Rattle.board.specs.Unsettled.{IsLeastUnsettled};
 ghost use Rattle.board.specs.declared.summary.Count.TheVariants.{Opened, Delivered};
 
 use trace_model::{BoardStep, MAX_QUESTIONS};
@@ -19,6 +20,15 @@ pub struct QuestionSummary {
     pub cycles: u64,
     /// How many of these rows are confirmed.
     pub confirmed: u64,
+}
+
+/// A question that has a task which is not delivered.
+#[derive(Clone, Copy, Debug, PartialEq, Eq)]
+pub struct Unsettled {
+    /// Its number, which is less than `MAX_QUESTIONS`.
+    pub number: u8,
+    /// What is shown of it.
+    pub shown: QuestionSummary,
 }
 
 /// What a summary counts of a step.
@@ -105,6 +115,25 @@ impl Summary {
         } else {
             None
         }
+    }
+
+    /// The least question that has a task which is not delivered, but for those that are passed over. It
+    /// copies nothing but what is shown of that one.
+    pub(crate) fn least_unsettled(&self, passed_over: &[bool; MAX_QUESTIONS]) -> Option<Unsettled>
+        ensures { IsLeastUnsettled passed_over.now
+            (take self.now.opened self.now.questions) result }
+    {
+        let open = MAX_QUESTIONS.min(self.opened as usize);
+        for number in 0..open {
+            let shown = &self.questions[number];
+            if shown.delivered < shown.total && !passed_over[number] {
+                return Some(Unsettled {
+                    number: number as u8,
+                    shown: *shown,
+                });
+            }
+        }
+        None
     }
 
     /// Counts one more step.

@@ -4,12 +4,12 @@ use arrayvec::ArrayVec;
 use std::marker::Model;
 
 /// The most members of a cycle.
-pub(crate) const MOST: usize = 8;
+pub(crate) const MOST_MEMBERS: usize = 8;
 
 /// The numbers of a cycle's dependencies, the least first: two to eight.
 #[derive(Debug, Drop, Clone, PartialEq, Eq)]
 pub struct Cycle {
-    numbers: ArrayVec<u32, MOST>,
+    numbers: ArrayVec<u32, MOST_MEMBERS>,
 }
 
 impl Model for Cycle {

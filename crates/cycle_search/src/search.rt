@@ -8,7 +8,7 @@ ghost use Rattle.cycle_search.specs.Takers.{IsNext};
 ghost use Rattle.cycle_search.specs.Search.{IsPath, Closes, AboveFirst, LinksTo, TakesBack, AreNexts, Adds, Exceeds, MoreThan, CycleFrom, CycleBeyond, CycleThrough};
 
 use crate::ascending::above;
-use crate::cycle::MOST;
+use crate::cycle::MOST_MEMBERS;
 use crate::{Cycle, Ranks, SearchRefused};
 use arrayvec::ArrayVec;
 use dependencies::DepTable;
@@ -18,7 +18,7 @@ use std::alloc::Global;
 use trace_model::{Bound, MAX_CYCLES};
 
 /// The numbers of a path that may grow into a cycle.
-type Path = ArrayVec<u32, MOST>;
+type Path = ArrayVec<u32, MOST_MEMBERS>;
 
 /// How many successors are visited in the time of one search among the takers of a lock.
 const VISITS_PER_SEARCH: usize = 4;

@@ -1,13 +1,13 @@
 //! Workers, which compute the rows of tasks with the lock free.
 
-ghost use Rattle.std.specs.Prelude.{◌≡◌, ◌≢◌, ◌<◌, slice_get, IfSome, IfErr, Some};
+ghost use Rattle.std.specs.Prelude.{◌≡◌, ◌≢◌, IfErr};
 ghost use mathlib.Core.List.{IsPrefix};
 ghost use Rattle.findings.specs.Found.{FoundRows};
 ghost use Rattle.desk.specs.Published.{WasTaken};
 
 use crate::desk::Desk;
 use crate::own::{OwnFinding, OwnJob};
-use board::{BoardReader, Follows, Naming, QuestionSummary, Summary};
+use board::{BoardReader, Follows, Naming, Unsettled};
 use claims::Claimant;
 use findings::{ComputeRefused, Hold};
 use std::marker::Model;
@@ -102,27 +102,28 @@ impl<N: Naming, R: Wait + Copy, T: Follows<N>> Worker<N, R, T> {
         ensures later { IsPrefix self.old self.new }
         ensures delivered { result ≡ Turn.Delivered → (finding : FoundRows) × WasTaken N.limit finding self.new }
     {
-        let Ok(summary) = self.reader.status() else {
+        let Ok(found) = self.reader.least_unsettled(&self.given_up) else {
             return Turn::Failed(Failed::BoardBusy);
         };
-        let Some((question, asked)) = least_unsettled(&summary, &self.given_up) else {
+        let Some(Unsettled { number, shown }) = found else {
             drop(self.job.take());
             return Turn::Idle;
         };
-        let Some(bound) = Bound::new(asked.bound) else {
+        let Some(bound) = Bound::new(shown.bound) else {
             unreachable!()
         };
-        let Some(picked) = self.pick(question, asked.total) else {
+        let Some(picked) = self.pick(number, shown.total) else {
             return Turn::Idle;
         };
-        match self.compute(u32::from(question), bound, picked.task) {
+        let question = u32::from(number);
+        match self.compute(question, bound, picked.task) {
             Ok(own) => {
-                hold.hold(u32::from(question), picked.task);
+                hold.hold(question, picked.task);
                 self.deliver(own)
             }
             Err(turn) => {
                 if picked.left && turn == Turn::Failed(Failed::TooManyCycles) {
-                    self.given_up[usize::from(question)] = true;
+                    self.given_up[usize::from(number)] = true;
                 }
                 turn
             }
@@ -189,26 +190,6 @@ impl<N: Naming, R: Wait + Copy, T: Follows<N>> Worker<N, R, T> {
             }
         }
     }
-}
-
-/// The least question that is neither settled nor given up, with what is shown of it.
-fn least_unsettled(
-    summary: &Summary,
-    given_up: &[bool; MAX_QUESTIONS],
-) -> Option<(u8, QuestionSummary)>
-    ensures shown { IfSome result (λ one. (one.0 < summary.now.opened) × (slice_get summary.now.questions one.0 ≡ Some one.1)) }
-    ensures unsettled { IfSome result (λ one. one.1.delivered < one.1.total) }
-{
-    for number in 0..MAX_QUESTIONS {
-        match summary.question(number as u32) {
-            Some(asked) if asked.delivered < asked.total && !given_up[number] => {
-                return Some((number as u8, asked));
-            }
-            Some(_) => {}
-            None => return None,
-        }
-    }
-    None
 }
 
 /// The turn that the desk refused so.

@@ -18,6 +18,7 @@ use std::net::TcpListener;
 use std::process::ExitCode;
 use std::sync::Wait;
 use std::thread::Threads;
+use std::time::Clock;
 use std::{env, fs, io};
 use trace_model::Bound;
 
@@ -113,7 +114,7 @@ fn listen(rt: &HostRuntime, address: &str) -> io::Result<Option<TcpListener>> {
 }
 
 /// Serves at the address, and tells its own and how many sessions there were.
-fn serve_at<T: Threads + Wait + Copy + Send + Sync>(
+fn serve_at<T: Threads + Wait + Clock + Copy + Send + Sync>(
     rt: &HostRuntime,
     threads: T,
     address: &str,
@@ -139,7 +140,10 @@ fn serve_at<T: Threads + Wait + Copy + Send + Sync>(
 }
 
 /// Does what the command line asks for.
-fn run<T: Threads + Wait + Copy + Send + Sync>(rt: &HostRuntime, threads: T) -> io::Result<Status> {
+fn run<T: Threads + Wait + Clock + Copy + Send + Sync>(
+    rt: &HostRuntime,
+    threads: T,
+) -> io::Result<Status> {
     let alloc = rt.alloc();
     let mut arguments = Vec::new(alloc);
     for argument in env::args(rt)? {

@@ -41,7 +41,8 @@ depth_at l ds i = option_map_or (λ d. if d.lock == l then d.depth else 0) (slic
 
 -- the new holding is the old one but for one lock, which it has so deep
 pub record HasDepth (old : List LockDepth) (l n : ℕ) (new : List LockDepth) : Type 0 where
-  pub locks : locks_of new ≡ (if n == 0 then without_lock l (locks_of old) else with_lock l (locks_of old))
+  pub locks : locks_of new ≡
+      (if n == 0 then without_lock l (locks_of old) else with_lock l (locks_of old))
   pub depths : (m : ℕ) → depth_of new m ≡ (if l == m then n else depth_of old m)
   pub same : 0 < n → 0 < depth_of old l → locks_of new ≡ locks_of old
 
@@ -71,7 +72,8 @@ HasEntry table t = IsSome (lookup (nat_eq t) table)
 
 -- the new table is the old one after the thread did this
 pub record IsAfter (old : Table) (t : ℕ) (o : Op) (new : Table) : Type 0 where
-  pub held : (u : ℕ) → held_in new u ≡ held_step (depth_in old u) (Some (event t o)) u (held_in old u)
+  pub held : (u : ℕ) →
+      held_in new u ≡ held_step (depth_in old u) (Some (event t o)) u (held_in old u)
   pub depth : (u l : ℕ) → depth_in new u l ≡ depth_step (Some (event t o)) u l (depth_in old u l)
 
 -- the table has what each thread holds right before the place n, and how deep
@@ -85,10 +87,12 @@ keeps_locks (Acquire l) = false
 keeps_locks (Release l) = false
 keeps_locks _ = true
 
--- one place further: after an acquire or a release the table that was changed, after any other event the same table
+-- one place further: after an acquire or a release the table that was changed, after any other
+-- event the same table
 abbrev pub TablesFollow : Type 0
 TablesFollow = (old new : Table) (s : Trace) (n : ℕ) (e : Event) → FollowsTrace old s n → At s n e →
-    (IsAfter old e.thread e.op new → FollowsTrace new s (suc n)) × (keeps_locks e.op ≡ true → FollowsTrace old s (suc n))
+    (IsAfter old e.thread e.op new → FollowsTrace new s (suc n)) ×
+    (keeps_locks e.op ≡ true → FollowsTrace old s (suc n))
 
 -- the same for a trace that grows by an event
 abbrev pub TablesGrow : Type 0
@@ -98,11 +102,14 @@ TablesGrow = (old new : Table) (s : Trace) (e : Event) → FollowsTrace old s (l
 
 -- the thread may acquire the lock: not too deep, and there is room for one that it does not hold
 abbrev pub Fits : Table → ℕ → ℕ → Type 0
-Fits table t l = (depth_in table t l < MAX_DEPTH) × (depth_in table t l ≡ 0 → length (held_in table t) < MAX_HELD)
+Fits table t l =
+    (depth_in table t l < MAX_DEPTH) ×
+    (depth_in table t l ≡ 0 → length (held_in table t) < MAX_HELD)
 
 -- a lawful acquire fits
 abbrev pub LawfulAcquiresFit : Type 0
-LawfulAcquiresFit = (table : Table) (limit : ℕ) (s : Trace) (t l : ℕ) → FollowsTrace table s (length s) →
+LawfulAcquiresFit = (table : Table) (limit : ℕ) (s : Trace) (t l : ℕ) →
+    FollowsTrace table s (length s) →
     refusal_of limit s (event t (Acquire l)) ≡ None → Fits table t l
 
 -- each acquire of a well-formed trace fits at its place

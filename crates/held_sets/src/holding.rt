@@ -78,7 +78,8 @@ impl Holding {
 
     /// Holds a lock so deep: not at all at depth 0.
     fn set_depth(&mut self, lock: u32, depth: u8)
-        requires room { 0 < depth → depth_of self.old lock ≡ 0 → length (locks_of self.old) < MAX_HELD }
+        requires room { 0 < depth → depth_of self.old lock ≡ 0 →
+            length (locks_of self.old) < MAX_HELD }
         ensures { HasDepth self.old lock depth self.new }
     {
         let locks = self.locks.as_slice();

@@ -73,7 +73,8 @@ impl HeldTable {
     /// `NoMemory` where a growth was refused. What each thread holds is then as before.
     pub fn acquire(&mut self, thread: u32, lock: u32) -> Result<(), NoMemory>
         requires nested { depth_in self.old thread lock < MAX_DEPTH }
-        requires room { depth_in self.old thread lock ≡ 0 → length (held_in self.old thread) < MAX_HELD }
+        requires room { depth_in self.old thread lock ≡ 0 →
+            length (held_in self.old thread) < MAX_HELD }
         ensures ok { OnOk result (IsAfter self.old thread (Acquire lock) self.new) }
         ensures err { OnErr result ((t : ℕ) → holding_in self.new t ≡ holding_in self.old t) }
     {
@@ -106,7 +107,8 @@ impl HeldTable {
     pub fn record(&mut self, thread: u32, lock: u32)
         requires entry { HasEntry self.old thread }
         requires nested { depth_in self.old thread lock < MAX_DEPTH }
-        requires room { depth_in self.old thread lock ≡ 0 → length (held_in self.old thread) < MAX_HELD }
+        requires room { depth_in self.old thread lock ≡ 0 →
+            length (held_in self.old thread) < MAX_HELD }
         ensures { IsAfter self.old thread (Acquire lock) self.new }
     {
         match slot_of(&self.threads, self.near, thread) {

@@ -6,12 +6,11 @@ use Rattle.std.specs.Option.{option_map_or}
 use Rattle.std.specs.List.{Contains}
 use Rattle.trace_model.specs.Trace.{Trace, event, Does, OfThread, EarlierInThread, op_eq, does}
 use Rattle.trace_model.specs.declared.event.Op.{Op}
-use Rattle.trace_model.specs.Held.{BeginsOn}
+use Rattle.trace_model.specs.Held.{BeginsOn, begun}
 use Rattle.trace_model.specs.Walk.{LastIn, Follows, Walks}
 use Rattle.trace_model.proofs.Ascending.{place_of, contains_at}
 use Rattle.trace_model.proofs.Lists.{get-push, get-push_kept, get-push_last}
 use Rattle.trace_model.proofs.Places.{does_from, op_eq_same}
-use Rattle.replay.specs.Facts.{begun}
 use Rattle.replay.specs.Walking.{noted, noted_begun, IsLastOf, Keeps, IsWalked}
 use Rattle.replay.specs.declared.walked.Walked.{Walked}
 use Rattle.std.specs.HashMap.{get}
@@ -21,7 +20,7 @@ use Rattle.std.proofs.lemmas.List.{length-set, get_or-set_same, get_or-set_other
 use Rattle.std.proofs.Math.ListN.{length-replicate}
 use Rattle.trace_model.specs.Lawful.{IsWellFormed}
 use Rattle.replay.specs.Verdict.{order_tests, IsFirst}
-use Rattle.replay.proofs.Beginnings.{begun_so, begun_from}
+use Rattle.trace_model.proofs.Begun.{begun_so, begun_from}
 use Rattle.replay.proofs.Verdicts.{follows_so}
 use Rattle.trace_model.proofs.Walk.{front_so, front_from, walk_distinct}
 use Rattle.replay.specs.Tests.{NoWriteIn, MissesPlace, IsClosedIn, LeavesOpen, HasLater}

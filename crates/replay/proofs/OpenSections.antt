@@ -11,7 +11,7 @@ use Rattle.trace_model.specs.declared.event.Op.{Op}
 use Rattle.trace_model.specs.declared.event.Op.TheVariants.{Fork, Join, Acquire, Release, Read, Write}
 use Rattle.trace_model.specs.declared.limits.TheConstants.{MAX_DEPTH}
 use Rattle.trace_model.specs.Trace.{Trace, event, At}
-use Rattle.trace_model.specs.Held.{depth, Begins, BeginsOn, Ends, Holds}
+use Rattle.trace_model.specs.Held.{depth, Begins, BeginsOn, Ends, Holds, begun_of, begun}
 use Rattle.trace_model.specs.Holders.{owner, depth_by}
 use Rattle.trace_model.specs.Lawful.{IsWellFormed}
 use Rattle.trace_model.specs.Lookups.{release, LeastRelease}
@@ -24,7 +24,6 @@ use Rattle.trace_model.proofs.Lookups.{release_is, release_so}
 use Rattle.trace_model.proofs.Owners.{depth-owner}
 use Rattle.trace_model.proofs.Sections.{depth-take, others_lack, released_between}
 use Rattle.replay.specs.declared.sections.Open.{Open}
-use Rattle.replay.specs.Facts.{begun_of, begun}
 use Rattle.replay.specs.OpenSections.{deeper, shallower, open_after, begun_if, begun_by, ended_if, ended_by, with_end}
 
 -- the section that is open on the lock right before the place; none where nobody holds it

@@ -3,9 +3,9 @@ use Rattle.std.specs.Prelude.{◌≡◌, ℕ, zero, suc, ◌<◌, Bool, false, �
 use Rattle.std.specs.HashMap.{get}
 use Rattle.std.specs.Option.{option_and_then, option_map_or}
 use Rattle.trace_model.specs.declared.event.Op.{Op}
-use Rattle.trace_model.specs.declared.event.Op.TheVariants.{Acquire, Read}
+use Rattle.trace_model.specs.declared.event.Op.TheVariants.{Read}
 use Rattle.trace_model.specs.Trace.{Trace, last_place}
-use Rattle.trace_model.specs.Held.{depth}
+use Rattle.trace_model.specs.Held.{begun}
 use Rattle.trace_model.specs.Lookups.{writer, release}
 use Rattle.replay.specs.declared.facts.Facts.{Facts}
 
@@ -21,14 +21,6 @@ previous s q = option_and_then (λ e. last_place (is_of s e.thread) q) (slice_ge
 abbrev pub each : {X : Type 0} → (ℕ → X) → ℕ → List X
 each f zero = []
 each f (suc n) = each f n ++ f n ∷ []
-
--- the lock on which a section begins at the place: that of an outermost acquire
-abbrev pub begun_of : Trace → ℕ → ℕ → Op → Option ℕ
-begun_of s q t (Acquire l) = if depth s q t l == 0 then Some l else None
-begun_of s q t _ = None
-
-abbrev pub begun : Trace → ℕ → Option ℕ
-begun s q = option_and_then (λ e. begun_of s q e.thread e.op) (slice_get s q)
 
 -- what stands under the variable of a read
 abbrev pub of_read : (ℕ → Option ℕ) → Op → Option ℕ

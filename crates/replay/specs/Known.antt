@@ -1,5 +1,5 @@
 -- What is known at a place of the list.
-use Rattle.replay.specs.declared.place_tests.Known.{Known}
+use Rattle.replay.specs.declared.order_rules.Known.{Known}
 use Rattle.replay.specs.Facts.{AreFacts}
 use Rattle.replay.specs.Walking.{IsWalked}
 

@@ -7,7 +7,7 @@ ghost use Rattle.replay.specs.Walking.{IsWalked};
 ghost use Rattle.replay.specs.Verdict.{IsVerdict, OrderPasses};
 
 use crate::facts::{Facts, facts_of};
-use crate::place_tests::Known;
+use crate::order_rules::Known;
 use crate::verdict::Verdict;
 use crate::walked::Walked;
 use std::alloc::Global;

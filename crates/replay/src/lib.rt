@@ -9,7 +9,7 @@ mod checking;
 mod facts;
 mod latest;
 pub mod laws;
-mod place_tests;
+mod order_rules;
 mod sections;
 mod verdict;
 mod walked;

@@ -6,7 +6,7 @@ ghost use Rattle.trace_model.specs.declared.event.Op.TheVariants.{Acquire};
 ghost use Rattle.trace_model.specs.declared.limits.TheConstants.{MAX_DEPTH};
 ghost use Rattle.trace_model.specs.Lookups.{release};
 ghost use Rattle.trace_model.specs.Lawful.{IsWellFormed};
-ghost use Rattle.replay.specs.Facts as facts_words;
+ghost use Rattle.trace_model.specs.Held as held_words;
 ghost use Rattle.replay.specs.Facts.{each};
 ghost use Rattle.replay.specs.OpenSections as words;
 
@@ -148,7 +148,7 @@ pub(crate) fn sections_of(
     trace: &[Event],
 ) -> Result<Sections, NoMemory>
     requires { IsWellFormed trace.now }
-    ensures begins { IfOk result (λ made. made.begins.items ≡ each (facts_words.begun trace.now) (length trace.now)) }
+    ensures begins { IfOk result (λ made. made.begins.items ≡ each (held_words.begun trace.now) (length trace.now)) }
     ensures releases { IfOk result (λ made. (q : ℕ) → q < length trace.now → slice_get made.releases.items q ≡ Some (release trace.now q)) }
 {
     let mut opened: OpenSections = HashMap::with_hasher(alloc, state);

@@ -3,6 +3,7 @@ ghost use Rattle.std.specs.Prelude.{◌≡◌};
 ghost use Rattle.sequencer.specs.Book.{IsLimit};
 ghost use Rattle.server.specs.Service.{IsWorkers};
 
+use crate::rest::Rest;
 use crate::seats::{MAX_SESSIONS, Seats};
 use crate::sessions::hold_session;
 use board::{BoardReader, Naming, Opened, Shown};
@@ -17,6 +18,7 @@ use std::sync::atomic::{AtomicU64, Ordering};
 use std::sync::{Arc, Mutex, Wait};
 use std::thread;
 use std::thread::Threads;
+use std::time::Clock;
 
 /// Why a server ended early.
 #[derive(Clone, Copy, Debug, PartialEq, Eq)]
@@ -101,26 +103,27 @@ fn make_workers<N: Naming, R: Wait + Copy>(
     }
 }
 
-/// Takes turns until the flag is set.
-fn take_turns<N: Naming, R: Wait + Copy>(
+/// Takes turns until the flag is set. It rests while they deliver nothing.
+fn take_turns<N: Naming, R: Wait + Clock + Copy>(
     rt: R,
     worker: &mut Worker<N, R, Shown<N>>,
     stop: &AtomicU64,
     hold: &impl Hold,
 ) {
+    let mut rest = Rest::new();
     for _ in rt.forever() {
         if stop.load(Ordering::SeqCst) != 0 {
             return;
         }
         match worker.turn(hold) {
-            Turn::Delivered => {}
-            _ => thread::yield_now(),
+            Turn::Delivered => rest.delivered(),
+            _ => rest.after_nothing(&rt),
         }
     }
 }
 
 /// Has the worker take turns until the flag is set.
-fn work<N: Naming, R: Wait + Copy>(
+fn work<N: Naming, R: Wait + Clock + Copy>(
     rt: R,
     worker: Worker<N, R, Shown<N>>,
     stop: &AtomicU64,
@@ -171,7 +174,11 @@ fn take_sessions<N: Naming + Send + Sync, R: Threads + Wait + Copy + Send + Sync
 }
 
 /// Runs the workers and takes sessions, and stops the workers once the sessions have ended.
-fn serve_desk<N: Naming + Send + Sync, R: Threads + Wait + Copy + Send + Sync, H: Hold + Sync>(
+fn serve_desk<
+    N: Naming + Send + Sync,
+    R: Threads + Wait + Clock + Copy + Send + Sync,
+    H: Hold + Sync,
+>(
     rt: R,
     alloc: Global,
     listener: &TcpListener,
@@ -197,7 +204,11 @@ fn serve_desk<N: Naming + Send + Sync, R: Threads + Wait + Copy + Send + Sync, H
 }
 
 /// Makes the desk of this history, and serves it.
-fn serve_named<N: Naming + Send + Sync, R: Threads + Wait + Copy + Send + Sync, H: Hold + Sync>(
+fn serve_named<
+    N: Naming + Send + Sync,
+    R: Threads + Wait + Clock + Copy + Send + Sync,
+    H: Hold + Sync,
+>(
     rt: R,
     alloc: Global,
     state: RandomState,
@@ -245,13 +256,14 @@ fn serve_named<N: Naming + Send + Sync, R: Threads + Wait + Copy + Send + Sync, 
 /// Serves the connections of the listener over one desk with its workers: a thread for each session, at most
 /// `MAX_SESSIONS` at a time, and one for each worker. A further connection, or one for which no thread can be
 /// made, is closed without a reply and not counted. Once `sessions` were taken it accepts nothing more; once they
-/// have ended it stops the workers, and answers how many sessions there were.
+/// have ended it stops the workers, and answers how many sessions there were. A worker that found nothing to do for
+/// some turns sleeps from then on, and looks for a question every two milliseconds.
 ///
 /// # Errors
 ///
 /// `Listen` where an accept failed, once the open sessions have ended; `NotMade` where the desk, the claimants or
 /// the threads of the workers were not made.
-pub fn run_server<R: Threads + Wait + Copy + Send + Sync, H: Hold + Sync>(
+pub fn run_server<R: Threads + Wait + Clock + Copy + Send + Sync, H: Hold + Sync>(
     rt: R,
     alloc: Global,
     state: RandomState,

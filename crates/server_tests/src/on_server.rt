@@ -11,6 +11,7 @@ use std::sync::atomic::{AtomicU64, Ordering};
 use std::test::*;
 use std::thread;
 use std::thread::Threads;
+use std::time::Clock;
 
 /// `0f1 0f2 1a10 1a20 1r20 1r10 2a20 2a10 2r10 2r20`, each as a kind, a thread and an object.
 const OPPOSITE_ORDERS: [(u8, u8, u8); 10] = [
@@ -35,7 +36,7 @@ const ANSWER: [u8; 7] = [0, 5, 8, 0, 0, 0, 0];
 const STATUS: [u8; 7] = [0, 5, 9, 0, 0, 0, 0];
 
 /// Serves so many sessions, with two workers, and answers how many there were.
-fn served<R: Threads + Wait + Copy + Send + Sync, H: Hold + Sync>(
+fn served<R: Threads + Wait + Clock + Copy + Send + Sync, H: Hold + Sync>(
     rt: R,
     alloc: Global,
     state: RandomState,
@@ -151,6 +152,7 @@ impl Peers {
 pub(crate) fn serves<
     R: Threads
         + Wait
+        + Clock
         + Net<Listener = TcpListener, Stream = TcpStream>
         + Abort
         + Copy

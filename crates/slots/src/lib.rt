@@ -1,7 +1,8 @@
-//! Tables by number, in which a number is looked for first where the last one was found: there it is not hashed.
+//! Tables by number, in which a number is looked for first where the last one was found, and where it stands if the numbers came
+//! in order: there it is not hashed.
 #![tactic(auto)]
 
-ghost use Rattle.std.specs.Prelude.{◌≡◌, ℕ, Some, IsSome, cond, nat_eq};
+ghost use Rattle.std.specs.Prelude.{◌≡◌, ℕ, Some, IsSome, true, cond, nat_eq};
 ghost use Rattle.std.specs.HashMap.{get};
 ghost use Rattle.slots.specs.Slots.{HasSlot};
 
@@ -11,14 +12,30 @@ use std::collections::hash_map::RandomState;
 /// A table by number.
 pub type NumberTable<V> = IndexMap<u32, V, RandomState>;
 
-/// The index of a number in the table, if it is there. It takes no memory, and neither do the others.
+/// Whether a number stands at an index.
+fn stands_at<V>(table: &NumberTable<V>, slot: usize, number: u32) -> bool
+    ensures { result ≡ true → HasSlot nat_eq table.now number (Some slot) }
+{
+    match table.get_index(slot) {
+        Some((known, _)) => *known == number,
+        None => false,
+    }
+}
+
+/// The index of a number in the table, if it is there. It is not hashed where it stands at the near index, nor where the
+/// numbers came in order, from 0 or from 1 on. It takes no memory, and neither do the others.
 pub fn slot_of<V>(table: &NumberTable<V>, near: usize, number: u32) -> Option<usize>
     ensures { HasSlot nat_eq table.now number result }
 {
-    if let Some((known, _)) = table.get_index(near)
-        && *known == number
-    {
+    let at = number as usize;
+    if stands_at(table, near, number) {
         return Some(near);
+    }
+    if stands_at(table, at, number) {
+        return Some(at);
+    }
+    if stands_at(table, at.saturating_sub(1), number) {
+        return Some(at.saturating_sub(1));
     }
     table.get_index_of(&number)
 }

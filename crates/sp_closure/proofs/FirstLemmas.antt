@@ -5,7 +5,7 @@ use Rattle.std.proofs.lemmas.Bool.{cases_lt}
 use Rattle.std.proofs.lemmas.Option.{none-some, same_Some, slice_get_within}
 use Rattle.trace_model.specs.declared.event.Event.{Event}
 use Rattle.trace_model.specs.Trace.{Trace, At, last_place, OfThread}
-use Rattle.trace_model.specs.Held.{BeginsOn, begins_on}
+use Rattle.trace_model.specs.Held.{BeginsOn, begins_on, begun}
 use Rattle.trace_model.specs.Closure.{Places, ascending}
 use Rattle.trace_model.proofs.Lookups.{begins_so, begins_from}
 use Rattle.trace_model.proofs.Places.{last_place_some, last_place_none}
@@ -14,8 +14,8 @@ use Rattle.trace_model.proofs.Unique.{ascending_strict, increasing_ordered}
 use Rattle.trace_model.proofs.Lists.{at_index}
 use Rattle.trace_model.proofs.Least.{at_thread}
 use Rattle.std.specs.List.Sorted.{IsStrictlyIncreasing}
-use Rattle.trace_index.specs.Numbers.{of_thread, thread_before, begun, acquire_before}
-use Rattle.trace_index.proofs.Begun.{begun_so, begun_from}
+use Rattle.trace_index.specs.Numbers.{of_thread, thread_before, acquire_before}
+use Rattle.trace_model.proofs.Begun.{begun_so, begun_from}
 use Rattle.sp_closure.specs.Slots.{class_of, AreSlots}
 use Rattle.sp_closure.specs.Demands.{AreLocks}
 use Rattle.sp_closure.specs.Classes.{AreFirsts, AreClasses}

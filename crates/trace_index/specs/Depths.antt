@@ -16,14 +16,14 @@ use Rattle.trace_index.specs.Links.{trace_of}
 abbrev pub depth_in : {S : Type 0} → HashMap ℕ ℕ S → ℕ → ℕ
 depth_in table l = unwrap_or (get nat_eq table l) 0
 
-abbrev pub has_entry : {S : Type 0} → HashMap ℕ ℕ S → ℕ → Type 0
-has_entry table l = IsSome (get nat_eq table l)
+abbrev pub HasEntry : {S : Type 0} → HashMap ℕ ℕ S → ℕ → Type 0
+HasEntry table l = IsSome (get nat_eq table l)
 
 -- there is an entry for the lock of the operation, if it is about one
-abbrev pub HasEntry : {S : Type 0} → HashMap ℕ ℕ S → Op → Type 0
-HasEntry table (Acquire l) = has_entry table l
-HasEntry table (Release l) = has_entry table l
-HasEntry table _ = Unit {0}
+abbrev pub HasOpEntry : {S : Type 0} → HashMap ℕ ℕ S → Op → Type 0
+HasOpEntry table (Acquire l) = HasEntry table l
+HasOpEntry table (Release l) = HasEntry table l
+HasOpEntry table _ = Unit {0}
 
 -- of the depths of all locks, that of the operation's lock
 abbrev pub op_depth : (ℕ → ℕ) → Op → ℕ
@@ -48,16 +48,19 @@ depth_noted _ d l n = n
 
 -- each row has the depth of its event
 abbrev pub AreDeep : List Row → Type 0
-AreDeep rows = (p : ℕ) (row : Row) → slice_get rows p ≡ Some row → row.depth ≡ event_depth (trace_of rows) p row.event
+AreDeep rows = (p : ℕ) (row : Row) → slice_get rows p ≡ Some row →
+    row.depth ≡ event_depth (trace_of rows) p row.event
 
 -- the table has the depths after the first n events
 abbrev pub AreDepths : {S : Type 0} → Trace → ℕ → HashMap ℕ ℕ S → Type 0
 AreDepths s n table = (l : ℕ) → depth_in table l ≡ owned (owner (take n s) l)
 
 -- a table of the first rows, and the depth of the row that is ready
-pub record IsDeep {S : Type 0} (rows : List Row) (table : HashMap ℕ ℕ S) (noted : ℕ) (next : Option Ready) : Type 0 where
+pub record IsDeep {S : Type 0} (rows : List Row) (table : HashMap ℕ ℕ S)
+    (noted : ℕ) (next : Option Ready) : Type 0 where
   pub depths_are : AreDepths (trace_of rows) noted table
   pub within : noted ≤ length rows
   pub all : (r : Ready) → next ≡ Some r → noted ≡ length rows
-  pub entry : (r : Ready) → next ≡ Some r → HasEntry table r.row.event.op
-  pub ready : (r : Ready) → next ≡ Some r → r.row.depth ≡ op_depth (λ l. owned (owner (trace_of rows) l)) r.row.event.op
+  pub entry : (r : Ready) → next ≡ Some r → HasOpEntry table r.row.event.op
+  pub ready : (r : Ready) → next ≡ Some r →
+      r.row.depth ≡ op_depth (λ l. owned (owner (trace_of rows) l)) r.row.event.op

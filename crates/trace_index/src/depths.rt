@@ -1,7 +1,8 @@
 //! How deep each lock is held.
 ghost use Rattle.std.specs.Prelude.{◌≡◌, ℕ, ◌+◌, ◌<◌, ◌≤◌, ◌^◌, length, OnOk, cond, nat_eq};
+ghost use Rattle.trace_model.specs.declared.limits.TheConstants.{MAX_EVENTS};
 ghost use Rattle.trace_model.specs.Lawful.{IsWellFormed};
-ghost use Rattle.trace_index.specs.Depths.{depth_in, op_depth, depth_noted, has_entry, HasEntry, IsShallow, AreDeep, AreDepths};
+ghost use Rattle.trace_index.specs.Depths.{depth_in, op_depth, depth_noted, HasEntry, HasOpEntry, IsShallow, AreDeep, AreDepths};
 ghost use Rattle.trace_index.specs.Links.{trace_of};
 
 use crate::row::Row;
@@ -54,9 +55,10 @@ impl Depths {
 
     /// Makes an entry for a lock, which shows nothing until it is written.
     fn enter(&mut self, lock: u32) -> Result<(), NoMemory>
-        ensures shown { (other : ℕ) → depth_in self.new.table other ≡ depth_in self.old.table other }
+        ensures shown { (other : ℕ) →
+            depth_in self.new.table other ≡ depth_in self.old.table other }
         ensures noted { self.new.noted ≡ self.old.noted }
-        ensures ok { OnOk result (has_entry self.new.table lock) }
+        ensures ok { OnOk result (HasEntry self.new.table lock) }
     {
         if let Some(slot) = slot_of(&self.table, self.near, lock) {
             self.near = slot;
@@ -72,7 +74,7 @@ impl Depths {
     pub(crate) fn reserve(&mut self, op: Op) -> Result<(), NoMemory>
         ensures shown { (lock : ℕ) → depth_in self.new.table lock ≡ depth_in self.old.table lock }
         ensures noted { self.new.noted ≡ self.old.noted }
-        ensures ok { OnOk result (HasEntry self.new.table op) }
+        ensures ok { OnOk result (HasOpEntry self.new.table op) }
     {
         match op {
             Op::Acquire(lock) | Op::Release(lock) => self.enter(lock),
@@ -82,10 +84,11 @@ impl Depths {
 
     /// Notes one more row: its operation, for whose lock there is an entry, and how deep that was held before.
     pub(crate) fn note(&mut self, op: Op, depth: u8)
-        requires entry { HasEntry self.old.table op }
+        requires entry { HasOpEntry self.old.table op }
         requires shallow { IsShallow op depth }
         requires few { self.old.noted + 1 < 2 ^ 64 }
-        ensures depths { (lock : ℕ) → depth_in self.new.table lock ≡ depth_noted op depth lock (depth_in self.old.table lock) }
+        ensures depths { (lock : ℕ) → depth_in self.new.table lock ≡
+            depth_noted op depth lock (depth_in self.old.table lock) }
         ensures noted { self.new.noted ≡ self.old.noted + 1 }
     {
         match op {
@@ -102,7 +105,7 @@ impl Depths {
     pub(crate) fn follow(&mut self, rows: &Segments<Row>) -> Result<(), NoMemory>
         requires well_formed { IsWellFormed (trace_of rows.now.0) }
         requires rows { AreDeep rows.now.0 }
-        requires short { length rows.now.0 ≤ 1048576 }
+        requires short { length rows.now.0 ≤ MAX_EVENTS }
         requires depths { AreDepths (trace_of rows.now.0) self.old.noted self.old.table }
         requires within { self.old.noted ≤ length rows.now.0 }
         ensures depths { AreDepths (trace_of rows.now.0) self.new.noted self.new.table }

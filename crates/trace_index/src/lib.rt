@@ -5,6 +5,7 @@ mod chain;
 mod copies;
 mod depths;
 mod growing;
+mod guesses;
 mod latest;
 mod list;
 mod marks;
@@ -16,15 +17,16 @@ ghost use Rattle.std.specs.Prelude.{◌≡◌, ℕ, ◌<◌, ◌≤◌, ◌↔�
 ghost use Rattle.trace_model.specs.declared.limits.TheConstants.{MAX_EVENTS};
 ghost use Rattle.trace_model.specs.declared.event.Op.TheVariants.{Fork};
 ghost use Rattle.trace_model.specs.Trace.{Does};
-ghost use Rattle.trace_model.specs.Held.{begins_on};
+ghost use Rattle.trace_model.specs.Held.{begins_on, begun};
 ghost use Rattle.trace_model.specs.Closure.{ascending};
 ghost use Rattle.trace_model.specs.Lawful.{IsWellFormed};
 ghost use Rattle.trace_model.specs.Lookups.{writer, release};
-ghost use Rattle.trace_index.specs.Numbers.{of_thread, number_at, thread_before, begun, acquire_before};
+ghost use Rattle.trace_index.specs.Numbers.{of_thread, number_at, thread_before, acquire_before};
 ghost use Rattle.trace_index.specs.Links.{written_by, begun_by, taken_before};
 
 pub use copies::Copies;
 use depths::Depths;
+use guesses::Guesses;
 use latest::Latest;
 pub use list::PlacesOf;
 use marks::{Marks, ended_in, last_marked};
@@ -102,6 +104,7 @@ pub struct TraceIndex {
     marks: Marks,
     latest: Latest,
     depths: Depths,
+    guesses: Guesses,
     next: Option<Ready>,
 }
 

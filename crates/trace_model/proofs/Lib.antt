@@ -2,6 +2,7 @@ pub mod Lists
 pub mod Places
 pub mod Held
 pub mod HeldAscends
+pub mod Begun
 pub mod Prefix
 pub mod Lawful
 pub mod Sections

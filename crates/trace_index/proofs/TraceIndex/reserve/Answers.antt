@@ -2,7 +2,7 @@ use Rattle.std.proofs.lemmas.Option.{same_Some}
 use Rattle.std.proofs.Common.{◌≡◌, ◌*◌, length, refl, sym, ap, subst, ◌∙◌, w32, arith, ℕ, None}
 use Rattle.std.proofs.Math.Facts.{Fits-below}
 use Rattle.trace_model.specs.Trace.{Trace}
-use Rattle.trace_index.specs.Depths.{depth_in, op_depth, HasEntry}
+use Rattle.trace_index.specs.Depths.{depth_in, op_depth, HasOpEntry}
 use Rattle.trace_index.specs.Links.{trace_of, AreLatest}
 use Rattle.trace_index.specs.Marks.{AreAllMarks}
 use Rattle.trace_index.proofs.Deep.{owned_in, op_depth-agree}
@@ -115,7 +115,7 @@ invariant_of-self-in_err-reserve-3 c =
           c.in_err-reserve-3.ensures.shown c.in_err-reserve-3.ensures.noted;
     }
 
-is_index : (c : goal.After-ready_for-arg-2-1) → IsIndex c.reserve.new.self c.reserve-2.new.self.sealed.items c.reserve-2.new.self.tail c.follow.new.self.places c.follow.new.self.noted None
+is_index : (c : goal.After-ready_for-arg-3-1) → IsIndex c.reserve.new.self c.reserve-2.new.self.sealed.items c.reserve-2.new.self.tail c.follow.new.self.places c.follow.new.self.noted None
 is_index c =
     let i = c.self.inside in
     let l = c.follow.new.self in
@@ -125,22 +125,22 @@ is_index c =
     (subst (λ (n : ℕ). (s : Trace) → AreAllMarks s n i.marks.sealed.items i.marks.tail → AreAllMarks s n m.sealed.items m.tail) c.len-len.ensures c.in_ok-reserve-2.ensures.same)
     c.in_ok-follow.ensures.latest c.in_ok-follow.ensures.within
 
-pub ready_for-requires-clause-rows : goal.ready_for-requires-clause-rows
-ready_for-requires-clause-rows c = (is_index c).shown.rows_are
+pub ready_for-ready-requires-clause-rows : goal.ready_for-ready-requires-clause-rows
+ready_for-ready-requires-clause-rows c = (is_index c).shown.rows_are
 
-pub ready_for-requires-clause-last : goal.ready_for-requires-clause-last
-ready_for-requires-clause-last c =
+pub ready_for-ready-requires-clause-last : goal.ready_for-ready-requires-clause-last
+ready_for-ready-requires-clause-last c =
     let is = is_index c in
     let s = trace_of c.reserve.new.self.0 in
     let all : c.follow.new.self.noted ≡ length c.reserve-2.new.self.sealed.items = c.in_ok-follow.ensures.ok ∙ ap length c.deref.ensures.value in
     last_of_all s (length c.reserve.new.self.0) c.reserve-2.new.self.sealed.items c.reserve-2.new.self.tail c.follow.new.self.places is.shown.marks_are
     (subst (λ n. AreLatest s (4096 * n) c.follow.new.self.places) all is.latest_are)
 
-pub ready_for-requires-clause-place : goal.ready_for-requires-clause-place
-ready_for-requires-clause-place c = c.new-place.ensures ∙ c.len-len.ensures ∙ sym (ap length c.in_ok-reserve.ensures.shown)
+pub ready_for-ready-requires-clause-place : goal.ready_for-ready-requires-clause-place
+ready_for-ready-requires-clause-place c = c.new-place.ensures ∙ c.len-len.ensures ∙ sym (ap length c.in_ok-reserve.ensures.shown)
 
-pub ready_for-requires-clause-short : goal.ready_for-requires-clause-short
-ready_for-requires-clause-short c = rows_short c.reserve.new.self.0 (is_index c).shown.well_formed
+pub ready_for-ready-requires-clause-short : goal.ready_for-ready-requires-clause-short
+ready_for-ready-requires-clause-short c = rows_short c.reserve.new.self.0 (is_index c).shown.well_formed
 
 pub invariant_of-self-2 : goal.invariant_of-self-2
 invariant_of-self-2 c =
@@ -148,7 +148,7 @@ invariant_of-self-2 c =
     let l = c.follow.new.self in
     let m = c.reserve-2.new.self in
     let d = c.reserve-3.new.self in
-    let r = c.ready_for.result in
+    let r = c.ready_for-ready.result in
     let rows = c.reserve.new.self.0 in
     let len = ap length c.in_ok-reserve.ensures.shown in
     let fits = c.in_ok-reserve-2.ensures.fits in
@@ -165,8 +165,8 @@ invariant_of-self-2 c =
           (subst (λ (n : ℕ). (s : Trace) → AreAllMarks s n i.marks.sealed.items i.marks.tail → AreAllMarks s n m.sealed.items m.tail) c.len-len.ensures c.in_ok-reserve-2.ensures.same)
           c.in_ok-follow.ensures.latest c.in_ok-follow.ensures.within)
           (record {
-            row_is = c.ready_for.ensures.row;
-            slots_are = subst (λ e. AreSlots m.tail.last e r.slots) (sym c.ready_for.ensures.event) c.ready_for.ensures.slots;
+            row_is = c.ready_for-ready.ensures.row;
+            slots_are = subst (λ e. AreSlots m.tail.last e r.slots) (sym c.ready_for-ready.ensures.event) c.ready_for-ready.ensures.slots;
             row_room = c.in_ok-reserve.ensures.ok;
             marks_room = c.in_ok-reserve-2.ensures.room;
             marks_fit = omega arith;
@@ -175,10 +175,10 @@ invariant_of-self-2 c =
         depths_are = still.depths_are;
         within = still.within;
         all = λ x h. all;
-        entry = λ x h. subst (λ y. HasEntry d.table y.row.event.op) (same_Some r x h) (subst (λ e. HasEntry d.table e.op) (sym c.ready_for.ensures.event) c.in_ok-reserve-3.ensures.ok);
+        entry = λ x h. subst (λ y. HasOpEntry d.table y.row.event.op) (same_Some r x h) (subst (λ e. HasOpEntry d.table e.op) (sym c.ready_for-ready.ensures.event) c.in_ok-reserve-3.ensures.ok);
         ready = λ x h. subst (λ y. y.row.depth ≡ op_depth (owned_in (trace_of rows)) y.row.event.op) (same_Some r x h)
-            (c.ready_for.ensures.depth ∙ c.before-depth.ensures
+            (c.ready_for-ready.ensures.depth ∙ c.before-depth.ensures
             ∙ op_depth-agree (depth_in d.table) (owned_in (trace_of rows)) c.args.event.now.op (depths_of_all rows d.table d.noted still.depths_are all)
-            ∙ ap (λ e. op_depth (owned_in (trace_of rows)) e.op) (sym c.ready_for.ensures.event));
+            ∙ ap (λ e. op_depth (owned_in (trace_of rows)) e.op) (sym c.ready_for-ready.ensures.event));
       };
     }
