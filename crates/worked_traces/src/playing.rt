@@ -5,7 +5,7 @@ use crate::replies::{Bytes, print_refusal, print_reply};
 use anyhow::{Context, Result, bail};
 use commands::{Command, read_script};
 use event_frames::{answer_frame, ask_frame, batch_frame, offer_frame, status_frame};
-use findings::Finding;
+use findings::Job;
 use sequencer::{Book, Input, Played, Session, play};
 use std::alloc::Global;
 use std::hash::RandomState;
@@ -85,38 +85,56 @@ impl Sender {
         Ok(Awaited::Reply)
     }
 
-    /// The rows of a task of a question; the outer result is of the run, the inner of the book.
-    fn finding(&self, question: u32, task: u32) -> Result<Result<Finding, Refusal>> {
+    /// A job for a question; the outer result is of the run, the inner of the book.
+    fn job(&self, question: u32) -> Result<Result<Job, Refusal>> {
         let snapshot = match self.book.snapshot(question) {
             Ok(snapshot) => snapshot,
             Err(refusal) => return Ok(Err(refusal)),
         };
         let bound = Bound::new(self.book.status(question)?.bound).context("a bound")?;
-        let finding = Finding::compute(self.alloc, snapshot, question, bound, task)?;
-        Ok(Ok(finding))
+        Ok(Ok(Job::new(self.alloc, snapshot, question, bound)))
     }
 
     /// Delivers a task, unless there is no such question.
     fn deliver(&mut self, question: u32, task: u32) -> Result<Option<Refusal>> {
-        match (self.finding(question, task)?, self.finding(question, task)?) {
-            (Ok(own), Ok(sent)) => {
-                let _ = self.book.deliver(own);
-                self.inputs.push(Input::Finding(sent))?;
+        match self.job(question)? {
+            Ok(mut job) => {
+                let sent = self.send_finding(&mut job, task);
+                drop(job);
+                sent?;
                 Ok(None)
             }
-            (Err(refusal), _) | (_, Err(refusal)) => Ok(Some(refusal)),
+            Err(refusal) => Ok(Some(refusal)),
         }
     }
 
+    /// Computes a task twice, for the book and for the run.
+    fn send_finding(&mut self, job: &mut Job, task: u32) -> Result<()> {
+        let own = job.compute(task)?;
+        let _ = self.book.deliver(own);
+        let sent = job.compute(task)?;
+        self.inputs.push(Input::Finding(sent))?;
+        Ok(())
+    }
+
     fn work(&mut self, question: u32) -> Result<Awaited> {
+        match self.job(question)? {
+            Ok(mut job) => {
+                let worked = self.work_by(&mut job, question);
+                drop(job);
+                worked
+            }
+            Err(refusal) => Ok(Awaited::Refused(refusal)),
+        }
+    }
+
+    /// Delivers all tasks that are missing.
+    fn work_by(&mut self, job: &mut Job, question: u32) -> Result<Awaited> {
         for worked in 0..u32::MAX {
-            let Ok(missing) = self.book.missing(question) else {
-                return Ok(Awaited::Refused(Refusal::NoSuchQuestion));
-            };
-            let Some(task) = missing else {
+            let Ok(Some(task)) = self.book.missing(question) else {
                 return Ok(Awaited::Deliveries(worked));
             };
-            self.deliver(question, task)?;
+            self.send_finding(job, task)?;
         }
         bail!("a question has more tasks than a trace has events")
     }
