@@ -36,6 +36,54 @@ least_listed f n p l h =
     before xs up zero x p a b = omega (arith, same_Some x p (sym a ∙ b))
     before xs up (suc k) x p a b = omega (arith, increasing_ordered xs up 0 (suc k) x p (omega arith) a b)
 
+-- places by what they are on, a thread or a lock, of which there is one: each has the first place on the same one
+record HaveFirsts (On : ℕ → ℕ → Type 0) (first_of : ℕ → Option ℕ) (n : ℕ) : Type 0 where
+  first : (p k : ℕ) → On p k → (x : ℕ) × (first_of p ≡ Some x) × (x ≤ p) × On x k
+  some : (p x : ℕ) → first_of p ≡ Some x → (k : ℕ) × On p k
+  one : (p k l : ℕ) → On p k → On p l → k ≡ l
+  alike : (p q k : ℕ) → On p k → On q k → first_of q ≡ first_of p
+  below : (p k : ℕ) → On p k → p < n
+
+module _ (On : ℕ → ℕ → Type 0) (first_of : ℕ → Option ℕ) (n : ℕ) (h : HaveFirsts On first_of n) where
+  -- a place before which none stands on the same one is the first
+  is_first : (p k : ℕ) → On p k → ((x : ℕ) → x < p → On x k → ⊥) → Some p ≡ first_of p
+  is_first p k o none =
+      let (x, first, l, ox) = h.first p k o in
+      elim (cases_lt x p) [
+        | inl less ↦ absurd (none x less ox)
+        | inr more ↦ let same : p ≡ x = omega arith in ap Some same ∙ sym first
+      ]
+
+  module _ (firsts : ℕ → Option ℕ) (same : (p : ℕ) → firsts p ≡ first_of p) where
+    firsts_are : AreFirsts firsts
+    firsts_are = record {
+      first = λ p x e.
+          let (k, o) = h.some p x (sym (same p) ∙ e) in
+          let (y, first, l, oy) = h.first p k o in
+          let is : y ≡ x = same_Some y x (sym first ∙ (sym (same p) ∙ e)) in
+          (omega (arith, l, is), same x ∙ (h.alike p x k o (subst (λ z. On z k) is oy) ∙ (sym (same p) ∙ e)));
+    }
+
+    module _ (classes : ℕ → Option ℕ) (count : ℕ) (c : AreClasses firsts classes count n) where
+      each_has : (p k : ℕ) → On p k → (a : ℕ) × (classes p ≡ Some a) × (a < count)
+      each_has p k o =
+          let (x, first, l, ox) = h.first p k o in
+          c.each p x (h.below p k o) (same p ∙ first)
+
+      are_apart : (p q a k : ℕ) → classes p ≡ Some a → classes q ≡ Some a → On p k → On q k
+      are_apart p q a k hp hq o =
+          let (x, first, l, ox) = h.first p k o in
+          let fq = c.apart p q a x hp hq (same p ∙ first) in
+          let (m, oq) = h.some q x (sym (same q) ∙ fq) in
+          let (y, first_q, j, oy) = h.first q m oq in
+          let is : y ≡ x = same_Some y x (sym first_q ∙ (sym (same q) ∙ fq)) in
+          subst (On q) (sym (h.one x k m ox (subst (λ z. On z m) is oy))) oq
+
+      are_alike : (p q a k : ℕ) → classes p ≡ Some a → On p k → On q k → classes q ≡ Some a
+      are_alike p q a k hp o oq =
+          let (x, first, l, ox) = h.first p k o in
+          c.alike p q a x (h.below q k oq) hp (same p ∙ first) (same q ∙ (h.alike p q k o oq ∙ first))
+
 thread_at : (s : Trace) (p t : ℕ) → OfThread s p t → first_of_thread s p ≡ slice_get (ascending (of_thread s t) (length s)) 0
 thread_at s p t (o, h) = rw h refl
 
@@ -51,45 +99,31 @@ some_thread s p x h = go (slice_get s p) refl h
     go None e k = absurd (none-some x k)
     go (Some v) e k = (v.thread, (v.op, e))
 
-pub thread_firsts : (s : Trace) (firsts : ℕ → Option ℕ) → ((p : ℕ) → firsts p ≡ first_of_thread s p) → AreFirsts firsts
-thread_firsts s firsts same = record {
-  first = λ p x h.
-      let (t, o) = some_thread s p x (sym (same p) ∙ h) in
-      let (y, first, l, ox) = thread_first s p t o in
-      let e : y ≡ x = same_Some y x (sym first ∙ (sym (same p) ∙ h)) in
-      let here : OfThread s x t = subst (λ z. OfThread s z t) e ox in
-      (omega (arith, l, e), same x ∙ (thread_at s x t here ∙ (sym (thread_at s p t o) ∙ (sym (same p) ∙ h))));
+threads_have : (s : Trace) → HaveFirsts (OfThread s) (first_of_thread s) (length s)
+threads_have s = record {
+  first = thread_first s;
+  some = some_thread s;
+  one = at_thread s;
+  alike = λ p q t o oq. thread_at s q t oq ∙ sym (thread_at s p t o);
+  below = λ p t o. place_below s t p o;
 }
 
-pub thread_slots : (s : Trace) (firsts slots : ℕ → Option ℕ) (count : ℕ) → ((p : ℕ) → firsts p ≡ first_of_thread s p) → AreClasses firsts slots count (length s) → AreSlots s slots count
+pub thread_firsts : (s : Trace) (firsts : ℕ → Option ℕ) → ((p : ℕ) → firsts p ≡ first_of_thread s p) → AreFirsts firsts
+thread_firsts s firsts same = firsts_are (OfThread s) (first_of_thread s) (length s) (threads_have s) firsts same
+
+pub thread_slots : (s : Trace) (firsts slots : ℕ → Option ℕ) (count : ℕ) → ((p : ℕ) → firsts p ≡ first_of_thread s p) →
+    AreClasses firsts slots count (length s) → AreSlots s slots count
 thread_slots s firsts slots count same c = record {
-  each = λ p t o.
-      let (x, first, l, ox) = thread_first s p t o in
-      c.each p x (place_below s t p o) (same p ∙ first);
-  of_place = λ p a h.
-      let (l, x, f) = c.has p a h in
-      some_thread s p x (sym (same p) ∙ f);
-  apart = λ p q a t hp hq o.
-      let (x, first, l, ox) = thread_first s p t o in
-      let fq = c.apart p q a x hp hq (same p ∙ first) in
-      let (u, oq) = some_thread s q x (sym (same q) ∙ fq) in
-      let (y, first_q, m, oy) = thread_first s q u oq in
-      let e : y ≡ x = same_Some y x (sym first_q ∙ (sym (same q) ∙ fq)) in
-      let tu : t ≡ u = at_thread s x t u ox (subst (λ z. OfThread s z u) e oy) in
-      subst (OfThread s q) (sym tu) oq;
-  alike = λ p q a t hp o oq.
-      let (x, first, l, ox) = thread_first s p t o in
-      c.alike p q a x (place_below s t q oq) hp (same p ∙ first) (same q ∙ (thread_at s q t oq ∙ (sym (thread_at s p t o) ∙ first)));
+  each = each_has (OfThread s) (first_of_thread s) (length s) (threads_have s) firsts same slots count c;
+  of_place = λ p a h. let (l, x, f) = c.has p a h in some_thread s p x (sym (same p) ∙ f);
+  apart = are_apart (OfThread s) (first_of_thread s) (length s) (threads_have s) firsts same slots count c;
+  alike = are_alike (OfThread s) (first_of_thread s) (length s) (threads_have s) firsts same slots count c;
 }
 
 -- no place of its thread before it: it is the first one
 thread_new : (s : Trace) (p t : ℕ) → OfThread s p t → last_place (of_thread s t) p ≡ None → Some p ≡ first_of_thread s p
-thread_new s p t o none =
-    let (x, first, l, ox) = thread_first s p t o in
-    elim (cases_lt x p) [
-      | inl less ↦ absurd (last_place_none (of_thread s t) p none x less (of_thread_from s t x ox))
-      | inr more ↦ let same : p ≡ x = omega arith in ap Some same ∙ sym first
-    ]
+thread_new s p t o none = is_first (OfThread s) (first_of_thread s) (length s) (threads_have s) p t o
+    (λ x less ox. last_place_none (of_thread s t) p none x less (of_thread_from s t x ox))
 
 thread_old : (s : Trace) (p q t : ℕ) → OfThread s p t → last_place (of_thread s t) p ≡ Some q → (q < p) × (first_of_thread s q ≡ first_of_thread s p)
 thread_old s p q t o last =
@@ -116,32 +150,24 @@ some_lock s p x h = go (begun s p) refl h
 same_lock : (s : Trace) (p k l : ℕ) → BeginsOn s p k → BeginsOn s p l → k ≡ l
 same_lock s p k l a b = same_Some k l (sym (begun_from s p k a) ∙ begun_from s p l b)
 
-pub lock_firsts : (s : Trace) (firsts : ℕ → Option ℕ) → ((p : ℕ) → firsts p ≡ first_of_lock s p) → AreFirsts firsts
-lock_firsts s firsts same = record {
-  first = λ p x h.
-      let (k, b) = some_lock s p x (sym (same p) ∙ h) in
-      let (y, first, l, bx) = lock_first s p k b in
-      let e : y ≡ x = same_Some y x (sym first ∙ (sym (same p) ∙ h)) in
-      let here : BeginsOn s x k = subst (λ z. BeginsOn s z k) e bx in
-      (omega (arith, l, e), same x ∙ (lock_at s x k here ∙ (sym (lock_at s p k b) ∙ (sym (same p) ∙ h))));
+locks_have : (s : Trace) → HaveFirsts (BeginsOn s) (first_of_lock s) (length s)
+locks_have s = record {
+  first = lock_first s;
+  some = some_lock s;
+  one = same_lock s;
+  alike = λ p q k b bq. lock_at s q k bq ∙ sym (lock_at s p k b);
+  below = λ p k b. slice_get_within s p _ b.1.0;
 }
 
-pub lock_slots : (s : Trace) (firsts locks : ℕ → Option ℕ) (count : ℕ) → ((p : ℕ) → firsts p ≡ first_of_lock s p) → AreClasses firsts locks count (length s) → AreLocks s locks count
+pub lock_firsts : (s : Trace) (firsts : ℕ → Option ℕ) → ((p : ℕ) → firsts p ≡ first_of_lock s p) → AreFirsts firsts
+lock_firsts s firsts same = firsts_are (BeginsOn s) (first_of_lock s) (length s) (locks_have s) firsts same
+
+pub lock_slots : (s : Trace) (firsts locks : ℕ → Option ℕ) (count : ℕ) → ((p : ℕ) → firsts p ≡ first_of_lock s p) →
+    AreClasses firsts locks count (length s) → AreLocks s locks count
 lock_slots s firsts locks count same c = record {
-  each = λ p k b.
-      let (x, first, l, bx) = lock_first s p k b in
-      c.each p x (slice_get_within s p _ b.1.0) (same p ∙ first);
-  apart = λ p q a k hp hq b.
-      let (x, first, l, bx) = lock_first s p k b in
-      let fq = c.apart p q a x hp hq (same p ∙ first) in
-      let (m, bq) = some_lock s q x (sym (same q) ∙ fq) in
-      let (y, first_q, n, by) = lock_first s q m bq in
-      let e : y ≡ x = same_Some y x (sym first_q ∙ (sym (same q) ∙ fq)) in
-      let km : k ≡ m = same_lock s x k m bx (subst (λ z. BeginsOn s z m) e by) in
-      subst (BeginsOn s q) (sym km) bq;
-  alike = λ p q a k hp b bq.
-      let (x, first, l, bx) = lock_first s p k b in
-      c.alike p q a x (slice_get_within s q _ bq.1.0) hp (same p ∙ first) (same q ∙ (lock_at s q k bq ∙ (sym (lock_at s p k b) ∙ first)));
+  each = each_has (BeginsOn s) (first_of_lock s) (length s) (locks_have s) firsts same locks count c;
+  apart = are_apart (BeginsOn s) (first_of_lock s) (length s) (locks_have s) firsts same locks count c;
+  alike = are_alike (BeginsOn s) (first_of_lock s) (length s) (locks_have s) firsts same locks count c;
 }
 
 pub some_within : (o : Option ℕ) (n : ℕ) → ((p : ℕ) → o ≡ Some p → p < n) → IfSome o (λ p. p < n)
@@ -149,12 +175,8 @@ some_within None n f = tt
 some_within (Some p) n f = f p refl
 
 lock_new : (s : Trace) (p k : ℕ) → BeginsOn s p k → last_place (begins_on s k) p ≡ None → Some p ≡ first_of_lock s p
-lock_new s p k b none =
-    let (x, first, l, bx) = lock_first s p k b in
-    elim (cases_lt x p) [
-      | inl less ↦ absurd (last_place_none (begins_on s k) p none x less (begins_from s k x bx))
-      | inr more ↦ let same : p ≡ x = omega arith in ap Some same ∙ sym first
-    ]
+lock_new s p k b none = is_first (BeginsOn s) (first_of_lock s) (length s) (locks_have s) p k b
+    (λ x less bx. last_place_none (begins_on s k) p none x less (begins_from s k x bx))
 
 lock_old : (s : Trace) (p q k : ℕ) → BeginsOn s p k → last_place (begins_on s k) p ≡ Some q → (q < p) × (first_of_lock s q ≡ first_of_lock s p)
 lock_old s p q k b last =
