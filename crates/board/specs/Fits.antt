@@ -1,7 +1,7 @@
 -- How one run follows another.
 use Rattle.std.specs.Prelude.{◌≡◌, ◌+◌, ◌==◌, cond, List, [], ◌∷◌, ◌++◌, length, take, ℕ, Option, Some, None}
-use Rattle.trace_model.specs.declared.step.BoardStep.{BoardStep}
-use Rattle.trace_model.specs.declared.step.BoardStep.TheVariants.{Accept}
+use Rattle.trace_model.specs.declared.messages.step.BoardStep.{BoardStep}
+use Rattle.trace_model.specs.declared.messages.step.BoardStep.TheVariants.{Accept}
 
 -- the last step of the run is this one
 abbrev pub EndsWith : List BoardStep → BoardStep → Type 0
@@ -21,7 +21,8 @@ pub record Written : Type 0 where
   pub published : List BoardStep
   pub waiting : List BoardStep
 
--- what the queue of changes holds for a step that waits: a change that changes nothing, so that there is room
+-- what the queue of changes holds for a step that waits: a change that changes nothing, so that
+-- there is room
 abbrev pub room_of : {A : Type 0} → Option BoardStep → List (Option A)
 room_of None = []
 room_of (Some step) = None ∷ []

@@ -3,8 +3,8 @@ use Rattle.std.specs.Prelude.{ℕ, ◌≡◌, ◌==◌, ◌<◌, true, List, [],
 use mathlib.Core.List.{IsPrefix}
 use Rattle.logbook.specs.Pages.{Cell, View, Book, Named}
 use Rattle.logbook.specs.Pages as pages
-use Rattle.trace_model.specs.declared.step.BoardStep.{BoardStep}
-use Rattle.trace_model.specs.Runs.{IsLegal}
+use Rattle.trace_model.specs.declared.messages.step.BoardStep.{BoardStep}
+use Rattle.trace_model.specs.Protocol.Runs.{IsLegal}
 
 -- the first of its two words is the length of the history, which is a legal run; the second stays 0
 pub record IsHistory (cells : List Cell) (log : List BoardStep) : Type 0 where
@@ -20,4 +20,5 @@ IsLonger xs ys = IsPrefix xs ys × (length xs < length ys)
 
 -- the step stands after all that was seen; or the history was longer, and all of it is seen now
 abbrev pub AddsStep : pages.Step BoardStep → View BoardStep ℕ → ℕ → View BoardStep ℕ → Type 0
-AddsStep s v found w = MatchBool (found == s.old) ((w.0 ≡ v.0 ++ s.ask ∷ []) × IsLegal w.0) ((length w.0 ≡ found) × IsLegal w.0)
+AddsStep s v found w = MatchBool (found == s.old) ((w.0 ≡ v.0 ++ s.ask ∷ []) × IsLegal w.0)
+    ((length w.0 ≡ found) × IsLegal w.0)

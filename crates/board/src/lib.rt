@@ -1,9 +1,11 @@
-//! The board: a summary of what was published, which readers read without a lock and without waiting.
+//! The board: a summary of what was published, which readers read without a lock and without
+//! waiting.
 //!
-//! One writer publishes steps; each reader sees the summary of a beginning of the published steps, never an
-//! earlier one than before, and none that lacks a step that it was told of by a receipt. The steps themselves
-//! are kept nowhere: the list of them, the history, exists in proofs alone, and what the board shows carries
-//! the evidence that it is the summary of a beginning of that list.
+//! One writer publishes steps; each reader sees the summary of a beginning of the published steps,
+//! never an earlier one than before, and none that lacks a step that it was told of by a receipt.
+//! The steps themselves are kept nowhere: the list of them, the history, exists in proofs alone,
+//! and what the board shows carries the evidence that it is the summary of a beginning of that
+//! list.
 #![tactic(auto)]
 
 mod history;
@@ -12,7 +14,7 @@ mod shown;
 mod summary;
 mod writer;
 
-pub use history::{Front, Head, Naming, Opened};
+pub use history::{Beginning, Head, Naming, Opened};
 pub use reader::{BoardReader, Busy, Receipt};
 pub use shown::{Next, Shown};
 pub use summary::{QuestionSummary, Summary, Unsettled};

@@ -1,11 +1,11 @@
 //! Reading the board.
 ghost use Rattle.std.specs.Prelude.{◌≡◌, ◌⊎◌, true, IfOk, OnOk, OnErr};
 ghost use mathlib.Core.List.{IsPrefix};
-ghost use Rattle.trace_model.specs.Runs.{IsLegal};
+ghost use Rattle.trace_model.specs.Protocol.Runs.{IsLegal};
 ghost use Rattle.board.specs.Totals.{Shows};
 ghost use Rattle.board.specs.Unsettled.{IsLeastUnsettled, open_questions};
 
-use crate::history::{Front, Naming};
+use crate::history::{Beginning, Naming};
 use crate::shown::Shown;
 use crate::summary::{Summary, Unsettled};
 use left_right::ReadHandle;
@@ -16,28 +16,28 @@ use trace_model::MAX_QUESTIONS;
 #[derive(Clone, Copy, Debug, PartialEq, Eq)]
 pub struct Busy;
 
-/// Names the steps that were published when it was made: a legal run. Contracts see it as these steps. Any
-/// number of readers may learn it.
+/// Names the steps that were published when it was made: a legal run. Contracts see it as these
+/// steps. Any number of readers may learn it.
 #[derive(Drop)]
 pub struct Receipt<N: Naming> {
-    front: Front<N>,
+    beginning: Beginning<N>,
 }
 
 impl<N: Naming> Model for Receipt<N> {
     ghost use Rattle.std.specs.Prelude.{List};
-    ghost use Rattle.trace_model.specs.declared.step.BoardStep.{BoardStep};
+    ghost use Rattle.trace_model.specs.declared.messages.step.BoardStep.{BoardStep};
 
     ghost Value = { List BoardStep };
 
-    ghost view = { λ r. r.front };
+    ghost view = { λ r. r.beginning };
 }
 
 impl<N: Naming> Receipt<N> {
-    pub(crate) fn of(front: &Front<N>) -> Receipt<N>
-        ensures { result ≡ front.now }
+    pub(crate) fn of(beginning: &Beginning<N>) -> Receipt<N>
+        ensures { result ≡ beginning.now }
     {
         Receipt {
-            front: front.again(),
+            beginning: beginning.again(),
         }
     }
 
@@ -45,7 +45,7 @@ impl<N: Naming> Receipt<N> {
     pub fn again(&self) -> Receipt<N>
         ensures { result ≡ self.now }
     {
-        Receipt::of(&self.front)
+        Receipt::of(&self.beginning)
     }
 
     /// The later one of two receipts. Both begin it, since there is one history.
@@ -55,7 +55,7 @@ impl<N: Naming> Receipt<N> {
         ensures either { (result ≡ self.now) ⊎ (result ≡ other.now) }
     {
         Receipt {
-            front: self.front.longer(&other.front),
+            beginning: self.beginning.longer(&other.beginning),
         }
     }
 }
@@ -65,50 +65,51 @@ impl<N: Naming> Receipt<N> {
 /// # Errors
 ///
 /// `Busy` where more than that was seen.
-fn follow<N: Naming>(front: &mut Front<N>, shown: &Front<N>) -> Result<(), Busy>
-    ensures shown { OnOk result (front.new ≡ shown.now) }
-    ensures later { IsPrefix front.old front.new }
-    ensures legal { IsLegal front.new }
-    ensures busy { OnErr result (front.new ≡ front.old) }
+fn follow<N: Naming>(beginning: &mut Beginning<N>, shown: &Beginning<N>) -> Result<(), Busy>
+    ensures shown { OnOk result (beginning.new ≡ shown.now) }
+    ensures later { IsPrefix beginning.old beginning.new }
+    ensures legal { IsLegal beginning.new }
+    ensures busy { OnErr result (beginning.new ≡ beginning.old) }
 {
-    if shown.len() < front.len() {
+    if shown.len() < beginning.len() {
         return Err(Busy);
     }
-    front.follow(shown);
+    beginning.follow(shown);
     Ok(())
 }
 
-/// A reader of the board. Contracts see it as the steps that it has seen or was told of: a legal run.
+/// A reader of the board. Contracts see it as the steps that it has seen or was told of: a legal
+/// run.
 #[derive(Drop)]
 pub struct BoardReader<N: Naming> {
     handle: ReadHandle<Shown<N>>,
-    front: Front<N>,
+    beginning: Beginning<N>,
 }
 
 impl<N: Naming> Model for BoardReader<N> {
     ghost use Rattle.std.specs.Prelude.{List};
-    ghost use Rattle.trace_model.specs.declared.step.BoardStep.{BoardStep};
-    ghost use Rattle.trace_model.specs.Runs.{IsLegal};
+    ghost use Rattle.trace_model.specs.declared.messages.step.BoardStep.{BoardStep};
+    ghost use Rattle.trace_model.specs.Protocol.Runs.{IsLegal};
 
     ghost Value = { List BoardStep };
 
-    ghost view = { λ r. r.front };
+    ghost view = { λ r. r.beginning };
 
-    ghost invariant = { λ r. IsLegal r.front };
+    ghost invariant = { λ r. IsLegal r.beginning };
 }
 
 impl<N: Naming> BoardReader<N> {
-    pub(crate) fn new(handle: ReadHandle<Shown<N>>, front: &Front<N>) -> BoardReader<N>
-        ensures { result ≡ front.now }
+    pub(crate) fn new(handle: ReadHandle<Shown<N>>, beginning: &Beginning<N>) -> BoardReader<N>
+        ensures { result ≡ beginning.now }
     {
         BoardReader {
             handle,
-            front: front.again(),
+            beginning: beginning.again(),
         }
     }
 
-    /// Sees the board as it is: the summary of what it has then seen, which begins with all that it had seen
-    /// and was told of. It takes no memory and waits for nobody.
+    /// Sees the board as it is: the summary of what it has then seen, which begins with all that it
+    /// had seen and was told of. It takes no memory and waits for nobody.
     ///
     /// # Errors
     ///
@@ -123,13 +124,14 @@ impl<N: Naming> BoardReader<N> {
             return Err(Busy);
         };
         let shown: &Shown<N> = &guard;
-        follow(&mut self.front, shown.front())?;
+        follow(&mut self.beginning, shown.beginning())?;
         let summary = *shown.totals();
         Ok(summary)
     }
 
-    /// Sees the board as it is, and answers the least question that has a task which is not delivered, but
-    /// for those that are passed over. It takes no memory, copies no summary and waits for nobody.
+    /// Sees the board as it is, and answers the least question that has a task which is not
+    /// delivered, but for those that are passed over. It takes no memory, copies no summary and
+    /// waits for nobody.
     ///
     /// # Errors
     ///
@@ -147,7 +149,7 @@ impl<N: Naming> BoardReader<N> {
             return Err(Busy);
         };
         let shown: &Shown<N> = &guard;
-        follow(&mut self.front, shown.front())?;
+        follow(&mut self.beginning, shown.beginning())?;
         Ok(shown.totals().least_unsettled(passed_over))
     }
 
@@ -156,6 +158,6 @@ impl<N: Naming> BoardReader<N> {
         ensures own { IsPrefix self.old self.new }
         ensures told { IsPrefix receipt.now self.new }
     {
-        self.front = self.front.longer(&receipt.front);
+        self.beginning = self.beginning.longer(&receipt.beginning);
     }
 }

@@ -3,7 +3,7 @@ ghost use Rattle.std.specs.Prelude.{◌≡◌, [], ◌∷◌, ◌++◌};
 ghost use Rattle.board.specs.Totals.{Shows};
 ghost use Rattle.board.specs.Fits.{followed};
 
-use crate::history::{Front, Naming};
+use crate::history::{Beginning, Naming};
 use crate::summary::{Count, Summary};
 use left_right::Absorb;
 use std::alloc::AllocError;
@@ -14,63 +14,63 @@ use trace_model::BoardStep;
 #[derive(Drop)]
 pub struct Shown<N: Naming> {
     summary: Summary,
-    front: Front<N>,
+    beginning: Beginning<N>,
 }
 
 impl<N: Naming> Model for Shown<N> {
     ghost use Rattle.std.specs.Prelude.{List};
-    ghost use Rattle.trace_model.specs.declared.step.BoardStep.{BoardStep};
+    ghost use Rattle.trace_model.specs.declared.messages.step.BoardStep.{BoardStep};
     ghost use Rattle.board.specs.Totals.{Shows};
 
     ghost Value = { List BoardStep };
 
-    ghost view = { λ s. s.front };
+    ghost view = { λ s. s.beginning };
 
-    ghost invariant = { λ s. Shows s.summary s.front };
+    ghost invariant = { λ s. Shows s.summary s.beginning };
 }
 
 /// What is counted of a step, with the history that it ends. Contracts see it as that history.
 #[derive(Drop)]
 pub struct Next<N: Naming> {
     count: Count,
-    front: Front<N>,
+    beginning: Beginning<N>,
 }
 
 impl<N: Naming> Model for Next<N> {
     ghost use Rattle.std.specs.Prelude.{List};
-    ghost use Rattle.trace_model.specs.declared.step.BoardStep.{BoardStep};
+    ghost use Rattle.trace_model.specs.declared.messages.step.BoardStep.{BoardStep};
     ghost use Rattle.board.specs.Totals.{EndsCounted};
 
     ghost Value = { List BoardStep };
 
-    ghost view = { λ s. s.front };
+    ghost view = { λ s. s.beginning };
 
-    ghost invariant = { λ s. EndsCounted s.front s.count };
+    ghost invariant = { λ s. EndsCounted s.beginning s.count };
 }
 
 impl<N: Naming> Next<N> {
-    /// The step at the end of the front.
-    pub(crate) fn new(front: Front<N>, before: &Front<N>, step: &BoardStep) -> Next<N>
-        requires { front ≡ before.now ++ step.now ∷ [] }
-        ensures { result ≡ front }
+    /// The step at the end of the beginning.
+    pub(crate) fn new(beginning: Beginning<N>, before: &Beginning<N>, step: &BoardStep) -> Next<N>
+        requires { beginning ≡ before.now ++ step.now ∷ [] }
+        ensures { result ≡ beginning }
     {
         let _ = before;
         Next {
             count: Count::of(step),
-            front,
+            beginning,
         }
     }
 }
 
 impl<N: Naming> Shown<N> {
-    /// Of a front that has seen nothing.
-    pub(crate) fn opening(front: &Front<N>) -> Shown<N>
-        requires { front.now ≡ [] }
-        ensures { result ≡ front.now }
+    /// Of a beginning that has seen nothing.
+    pub(crate) fn opening(beginning: &Beginning<N>) -> Shown<N>
+        requires { beginning.now ≡ [] }
+        ensures { result ≡ beginning.now }
     {
         Shown {
             summary: Summary::opening(),
-            front: front.again(),
+            beginning: beginning.again(),
         }
     }
 
@@ -82,21 +82,21 @@ impl<N: Naming> Shown<N> {
     }
 
     /// The steps that it shows, as a beginning of the history.
-    pub fn front(&self) -> &Front<N>
+    pub fn beginning(&self) -> &Beginning<N>
         ensures { result.now ≡ self.now }
     {
-        &self.front
+        &self.beginning
     }
 
     /// Shows one step more, where it is the next one.
     fn follow(&mut self, next: &Next<N>)
         ensures { self.new ≡ followed self.old next.now }
     {
-        let (ours, theirs) = (self.front.len(), next.front.len());
+        let (ours, theirs) = (self.beginning.len(), next.beginning.len());
         if theirs > 0 && theirs - 1 == ours {
-            let _longer = self.front.longer(&next.front);
+            let _longer = self.beginning.longer(&next.beginning);
             self.summary.add(next.count);
-            self.front = next.front.again();
+            self.beginning = next.beginning.again();
         }
     }
 }

@@ -1,3 +1,5 @@
+//! What a board shows of a run: the trace's length, and its questions.
+
 ghost use Rattle.std.specs.Prelude.{◌≡◌, nat_lt, slice_get, take, None, if◌then◌else◌};
 ghost use Rattle.board.specs.Totals.{added, blank, count_of};
 ghost use Rattle.board.specs.Unsettled.{IsLeastUnsettled};
@@ -106,9 +108,11 @@ impl Summary {
         }
     }
 
-    /// What is shown of the question with this number, none where it is not open. It takes no memory.
+    /// What is shown of the question with this number, none where it is not open. It takes no
+    /// memory.
     pub fn question(&self, number: u32) -> Option<QuestionSummary>
-        ensures { result ≡ (if nat_lt number self.now.opened then slice_get self.now.questions number else None) }
+        ensures { result ≡ (if nat_lt number self.now.opened
+            then slice_get self.now.questions number else None) }
     {
         if number < self.opened {
             self.questions.get(number as usize).copied()
@@ -117,8 +121,8 @@ impl Summary {
         }
     }
 
-    /// The least question that has a task which is not delivered, but for those that are passed over. It
-    /// copies nothing but what is shown of that one.
+    /// The least question that has a task which is not delivered, but for those that are passed
+    /// over. It copies nothing but what is shown of that one.
     pub(crate) fn least_unsettled(&self, passed_over: &[bool; MAX_QUESTIONS]) -> Option<Unsettled>
         ensures { IsLeastUnsettled passed_over.now
             (take self.now.opened self.now.questions) result }

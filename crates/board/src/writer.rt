@@ -1,12 +1,12 @@
 //! Writing the board.
 ghost use Rattle.std.specs.Prelude.{◌≡◌, ◌≤◌, [], ◌∷◌, ◌++◌, List, length, map, refl, None, Some, IfOk, OnErr};
 ghost use Rattle.left_right.specs.Handles.{published, pending};
-ghost use Rattle.trace_model.specs.declared.step.BoardStep.{BoardStep};
-ghost use Rattle.trace_model.specs.Runs.{IsLegal};
+ghost use Rattle.trace_model.specs.declared.messages.step.BoardStep.{BoardStep};
+ghost use Rattle.trace_model.specs.Protocol.Runs.{IsLegal};
 ghost use Rattle.board.specs.Fits.{followed, kept};
 ghost use Rattle.board.specs.Totals.{Shows};
 
-use crate::history::{Front, Head, Naming, Opened};
+use crate::history::{Beginning, Head, Naming, Opened};
 use crate::reader::{BoardReader, Receipt};
 use crate::shown::{Next, Shown};
 use crate::summary::Summary;
@@ -21,7 +21,7 @@ use trace_model::{BoardStep, NoMemory};
 pub struct NotMade;
 
 /// More steps than a legal run can have.
-const MOST: u64 = 1 << 62;
+const MAX_STEPS: u64 = 1 << 62;
 
 type Handle<N, R, T> = WriteHandle<T, Option<Next<N>>, R>;
 
@@ -32,7 +32,8 @@ pub trait Follows<N: Naming>: Absorb<Option<Next<N>>> + Drop {
     fn summary(&self) -> &Summary
         ensures { Shows result.now (run self.now) };
 
-    ghost follows: { (s t : Self) (next : List BoardStep) → Self.state t ≡ Self.applied (Self.state s) (Some next) → run t ≡ followed (run s) next };
+    ghost follows: { (s t : Self) (next : List BoardStep) →
+        Self.state t ≡ Self.applied (Self.state s) (Some next) → run t ≡ followed (run s) next };
 
     ghost idle: { (shown : Self.State) → Self.applied shown None ≡ shown };
 
@@ -53,8 +54,8 @@ impl<N: Naming> Follows<N> for Shown<N> {
     }
 }
 
-/// Appends the change, where the queue was grown for it. It waits while there is no memory all the same: what was
-/// committed must be published.
+/// Appends the change, where the queue was grown for it. It waits while there is no memory all the
+/// same: what was committed must be published.
 fn append<N: Naming, R: Wait + Copy, T: Follows<N>>(
     rt: &R,
     handle: &mut Handle<N, R, T>,
@@ -99,7 +100,7 @@ fn stop<R: Wait>(rt: &R) -> ! {
 pub struct BoardWriter<N: Naming, R: Wait + Copy, T: Follows<N>> {
     handle: Handle<N, R, T>,
     head: Head<N>,
-    front: Front<N>,
+    beginning: Beginning<N>,
     waiting: Option<BoardStep>,
     rt: R,
 }
@@ -111,14 +112,15 @@ impl<N: Naming, R: Wait + Copy, T: Follows<N>> Model for BoardWriter<N, R, T> {
 
     ghost Value = { Written };
 
-    ghost view = { λ w. record { published = w.front; waiting = list_of w.waiting } };
+    ghost view = { λ w. record { published = w.beginning; waiting = list_of w.waiting } };
 
-    ghost invariant = { λ w. (T.run (published w.handle) ≡ w.front) × (pending w.handle ≡ room_of w.waiting) };
+    ghost invariant = { λ w. (T.run (published w.handle) ≡ w.beginning)
+        × (pending w.handle ≡ room_of w.waiting) };
 }
 
 impl<N: Naming, R: Wait + Copy, T: Follows<N>> BoardWriter<N, R, T> {
-    /// One step waits to be published, and the queue of changes has grown for it. Nothing that is published
-    /// changes.
+    /// One step waits to be published, and the queue of changes has grown for it. Nothing that is
+    /// published changes.
     ///
     /// # Errors
     ///
@@ -134,8 +136,8 @@ impl<N: Naming, R: Wait + Copy, T: Follows<N>> BoardWriter<N, R, T> {
         Ok(())
     }
 
-    /// Of the events of a step that waits and accepts some, only the first ones stay, so many, at least one. Any other
-    /// step stays as it is, and so does what is published. It takes no memory.
+    /// Of the events of a step that waits and accepts some, only the first ones stay, so many, at
+    /// least one. Any other step stays as it is, and so does what is published. It takes no memory.
     pub fn keep(&mut self, events: usize)
         requires some { 1 ≤ events }
         ensures published { self.new.published ≡ self.old.published }
@@ -147,7 +149,8 @@ impl<N: Naming, R: Wait + Copy, T: Follows<N>> BoardWriter<N, R, T> {
         }
     }
 
-    /// Publishes what waits, at once. It may wait for readers. The published steps must then be a legal run.
+    /// Publishes what waits, at once. It may wait for readers. The published steps must then be a
+    /// legal run.
     pub fn publish(&mut self)
         requires waits { length self.old.waiting ≡ 1 }
         requires legal { IsLegal (self.old.published ++ self.old.waiting) }
@@ -157,14 +160,14 @@ impl<N: Naming, R: Wait + Copy, T: Follows<N>> BoardWriter<N, R, T> {
         let Some(step) = &self.waiting else {
             unreachable!();
         };
-        let mut front = self.front.again();
-        if front.len() >= MOST || !front.add(&self.head, step) {
+        let mut beginning = self.beginning.again();
+        if beginning.len() >= MAX_STEPS || !beginning.add(&self.head, step) {
             stop(&self.rt);
         }
-        let next = Next::new(front.again(), &self.front, step);
+        let next = Next::new(beginning.again(), &self.beginning, step);
         self.waiting = None;
         show(&self.rt, &mut self.handle, next);
-        self.front = front;
+        self.beginning = beginning;
     }
 
     /// What the board shows: the summary of all that is published.
@@ -178,7 +181,7 @@ impl<N: Naming, R: Wait + Copy, T: Follows<N>> BoardWriter<N, R, T> {
     pub fn receipt(&self) -> Receipt<N>
         ensures { result ≡ self.now.published }
     {
-        Receipt::of(&self.front)
+        Receipt::of(&self.beginning)
     }
 }
 
@@ -198,14 +201,14 @@ pub fn new_board<N: Naming, R: Wait + Copy>(
     ensures writer { IfOk result (λ r. (r.0.published ≡ []) × (r.0.waiting ≡ [])) }
     ensures readers { IfOk result (λ r. length r.1.items ≡ readers) }
 {
-    let (head, front) = opened.named::<N>();
-    let (first, second) = (Shown::opening(&front), Shown::opening(&front));
+    let (head, beginning) = opened.named::<N>();
+    let (first, second) = (Shown::opening(&beginning), Shown::opening(&beginning));
     let handle = WriteHandle::new(alloc, rt, first, second, readers).map_err(|_| NotMade)?;
-    let all = make_readers(alloc, &handle, &front, readers)?;
+    let all = make_readers(alloc, &handle, &beginning, readers)?;
     let writer = BoardWriter {
         handle,
         head,
-        front,
+        beginning,
         waiting: None,
         rt,
     };
@@ -215,7 +218,7 @@ pub fn new_board<N: Naming, R: Wait + Copy>(
 fn make_readers<N: Naming, R: Wait + Copy>(
     alloc: Global,
     handle: &Handle<N, R, Shown<N>>,
-    front: &Front<N>,
+    beginning: &Beginning<N>,
     readers: usize,
 ) -> Result<Vec<BoardReader<N>>, NotMade>
     ensures { IfOk result (λ v. length v.items ≡ readers) }
@@ -223,7 +226,7 @@ fn make_readers<N: Naming, R: Wait + Copy>(
     let mut all = Vec::new(alloc);
     for _ in 0..readers {
         let reader = handle.handle().map_err(|_| NotMade)?;
-        all.push(BoardReader::new(reader, front))
+        all.push(BoardReader::new(reader, beginning))
             .map_err(|_| NotMade)?;
     }
     Ok(all)

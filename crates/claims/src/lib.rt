@@ -1,8 +1,8 @@
 //! Numbers for tasks, drawn by many threads without a lock.
 //!
-//! Each claimant of one call draws numbers of questions by one `fetch_add` on the question's word. No number
-//! of a question is drawn twice, and none is left out: whoever gathers all claimants learns that the numbers
-//! drawn of a question are those below its total, each once.
+//! Each claimant of one call draws numbers of questions by one `fetch_add` on the question's word.
+//! No number of a question is drawn twice, and none is left out: whoever gathers all claimants
+//! learns that the numbers drawn of a question are those below its total, each once.
 #![tactic(auto)]
 
 ghost use Rattle.std.specs.Prelude.{◌≡◌, ℕ, ◌+◌, ◌-◌, ◌*◌, ◌^◌, ◌<◌, ◌≤◌, [], ◌∷◌, ◌++◌, length, replicate, slice_index, IfOk, IfErr, MatchResult};
@@ -37,8 +37,8 @@ pub struct Hand {
     pub draws: LinkedList<Draw>,
 }
 
-/// The rule of the words: the word of a question is the number of its draws in all views, and these draws are
-/// the numbers below the word, each once.
+/// The rule of the words: the word of a question is the number of its draws in all views, and these
+/// draws are the numbers below the word, each once.
 pub struct Claims;
 
 impl TableRule<(), Hand, usize> for Claims {
@@ -98,21 +98,30 @@ pub struct Claimant {
 impl Model for Claimant {
     ghost Value = { Seen };
 
-    ghost view = { λ c. record { call = c.seat.table_id; claimants = (arc_value c.table).shared.key; draws = c.seat.me.0.draws } };
+    ghost view = { λ c. record {
+      call = c.seat.table_id;
+      claimants = (arc_value c.table).shared.key;
+      draws = c.seat.me.0.draws;
+    } };
 
-    ghost invariant = { λ c. (c.seat.table_id ≡ (arc_value c.table).shared.table_id) × (c.seat.table_id.words ≡ 256) × (c.seat.table_id.slots ≡ 0) × (c.seat.me.1 ≡ []) × (c.seat.me.0.parts ≡ 1) × (c.drawn ≡ length c.seat.me.0.draws) × (c.drawn ≤ 2 ^ 40) };
+    ghost invariant = { λ c. (c.seat.table_id ≡ (arc_value c.table).shared.table_id)
+        × (c.seat.table_id.words ≡ 256) × (c.seat.table_id.slots ≡ 0) × (c.seat.me.1 ≡ [])
+        × (c.seat.me.0.parts ≡ 1) × (c.drawn ≡ length c.seat.me.0.draws) × (c.drawn ≤ 2 ^ 40) };
 }
 
 impl Claimant {
-    /// Draws the next number of the question, from 0: one `fetch_add`, without a lock, a wait or memory.
+    /// Draws the next number of the question, from 0: one `fetch_add`, without a lock, a wait or
+    /// memory.
     ///
     /// # Errors
     ///
     /// `Spent` exactly once this claimant has made `MAX_DRAWS` draws. It then stays so.
     pub fn draw(&mut self, question: u8) -> Result<u64, Spent>
         ensures same { (self.new.call ≡ self.old.call) × (self.new.claimants ≡ self.old.claimants) }
-        ensures drawn { IfOk result (λ x. (length self.old.draws < 2 ^ 40) × (self.new.draws ≡ self.old.draws ++ draw question x ∷ [])) }
-        ensures spent { IfErr result (λ _. (length self.old.draws ≡ 2 ^ 40) × (self.new.draws ≡ self.old.draws)) }
+        ensures drawn { IfOk result (λ x. (length self.old.draws < 2 ^ 40)
+            × (self.new.draws ≡ self.old.draws ++ draw question x ∷ [])) }
+        ensures spent { IfErr result (λ _. (length self.old.draws ≡ 2 ^ 40)
+            × (self.new.draws ≡ self.old.draws)) }
     {
         if self.drawn >= MAX_DRAWS {
             return Err(Spent);
@@ -126,7 +135,8 @@ impl Claimant {
     }
 }
 
-/// As many claimants as are asked for, 1 to 64. What one of them draws of a question is drawn by no other.
+/// As many claimants as are asked for, 1 to 64. What one of them draws of a question is drawn by no
+/// other.
 ///
 /// # Errors
 ///
@@ -162,9 +172,11 @@ fn totals_of(
     table: Table<(), Hand, usize, Claims, Global>,
     seat: Seat<(), Hand>,
 ) -> [u64; QUESTIONS]
-    requires table { (seat.table_id ≡ table.shared.table_id) × (table.shared.table_id.words ≡ 256) × (table.shared.table_id.slots ≡ 0) }
+    requires table { (seat.table_id ≡ table.shared.table_id) × (table.shared.table_id.words ≡ 256)
+        × (table.shared.table_id.slots ≡ 0) }
     requires whole { seat.me.0.parts ≡ table.shared.key }
-    ensures each_once { (q x : ℕ) → q < 256 → times q x seat.me.0.draws ≡ once_below x (slice_index result q) }
+    ensures each_once { (q x : ℕ) → q < 256 →
+        times q x seat.me.0.draws ≡ once_below x (slice_index result q) }
     ensures counts { (q : ℕ) → q < 256 → draws_of q seat.me.0.draws ≡ slice_index result q }
 {
     let closed = table.close_with(seat);
@@ -176,8 +188,9 @@ fn totals_of(
     totals
 }
 
-/// How many numbers were drawn of each question. It asks all claimants of one `claimants` call: what they
-/// drew of a question is then exactly the numbers below its total, each once. The claimants are gone.
+/// How many numbers were drawn of each question. It asks all claimants of one `claimants` call:
+/// what they drew of a question is then exactly the numbers below its total, each once. The
+/// claimants are gone.
 ///
 /// # Errors
 ///

@@ -13,7 +13,8 @@ IsLimit limit = IsWithin 1 1_048_576 limit
 
 -- each number of the command is in its range
 abbrev pub IsInRange : Invocation → Type 0
-IsInRange (Serve address workers sessions limit) = IsWithin 1 16 workers × IsWithin 0 1_000_000 sessions × IsLimit limit
+IsInRange (Serve address workers sessions limit) = IsWithin 1 16 workers
+    × IsWithin 0 1_000_000 sessions × IsLimit limit
 IsInRange (Script file limit) = IsLimit limit
 IsInRange (Offline file bound) = IsWithin 2 8 bound
 IsInRange (Replay trace witness) = Unit {0}

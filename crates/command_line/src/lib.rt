@@ -14,8 +14,8 @@ use std::alloc::{AllocError, Global};
 /// What the words of a command line ask for.
 #[derive(Debug, Drop, PartialEq, Eq)]
 pub enum Invocation<'a> {
-    /// Serve at the address with so many workers, up to so many sessions (0: without end), over a book that
-    /// accepts at most `limit` events.
+    /// Serve at the address with so many workers, up to so many sessions (0: without end), over a
+    /// book that accepts at most `limit` events.
     Serve {
         address: &'a str,
         workers: u32,

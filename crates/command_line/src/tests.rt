@@ -1,3 +1,5 @@
+//! Tests of command lines.
+
 use crate::{Invocation, parse};
 use std::test::*;
 

@@ -2,7 +2,7 @@
 use Rattle.std.proofs.Common.{◌≡◌, Some, refl}
 use Rattle.trace_model.specs.declared.refusal.Refusal.{Refusal}
 use Rattle.trace_model.specs.declared.refusal.Refusal.TheVariants.{Full, Unforked, Ended, AlreadyForked, TooManyThreads, JoinsItself, JoinUnknown, JoinedTwice, TooNested, HeldByOther, TooDeep, NotHeld, NoMemory, BadBound, TooManyQuestions, NoSuchQuestion, ReportTooLong, NoSuchTask, Double, OtherBound, OtherTrace, BoardBusy, TooManyCycles}
-use Rattle.trace_model.specs.Refusals.{number_of, name_of, refusal_name}
+use Rattle.trace_model.specs.Protocol.Refusals.{number_of, name_of, refusal_name}
 
 pub named : (r : Refusal) → refusal_name (number_of r) ≡ Some (name_of r)
 named Full = refl

@@ -1,10 +1,10 @@
 -- What comes of passing events through the gate.
 use Rattle.std.specs.Prelude.{◌≡◌, ℕ, List, Option, take, Some, None, ◌++◌, codes, decimal}
-use Rattle.trace_model.specs.declared.event.Event.{Event}
+use Rattle.trace_model.specs.declared.traces.event.Event.{Event}
 use Rattle.trace_model.specs.declared.refusal.Refusal.{Refusal}
 use Rattle.trace_model.specs.declared.limits.TheConstants.{MAX_EVENTS}
-use Rattle.trace_model.specs.Trace.{Trace, At}
-use Rattle.trace_model.specs.Lawful.{refusal_of, IsWellFormed}
+use Rattle.trace_model.specs.Theory.Trace.{Trace, At}
+use Rattle.trace_model.specs.Theory.Lawful.{refusal_of, IsWellFormed}
 use Rattle.commands.specs.Script.{refusal_words}
 use Rattle.commands.specs.declared.admission.Admission.{Admission}
 use Rattle.commands.specs.declared.admission.Admission.TheVariants.{Admitted, Refused}
@@ -12,7 +12,9 @@ use Rattle.commands.specs.declared.admission.Admission.TheVariants.{Admitted, Re
 -- each event before the index is lawful, and the one at the index has this refusal
 abbrev pub IsFirstRefused : Trace → Refusal → ℕ → Type 0
 IsFirstRefused events refusal index =
-    IsWellFormed (take index events) × ((e : Event) × (At events index e × (refusal_of MAX_EVENTS (take index events) e ≡ Some refusal)))
+    IsWellFormed (take index events)
+    × ((e : Event) × (At events index e
+    × (refusal_of MAX_EVENTS (take index events) e ≡ Some refusal)))
 
 -- the gate has all of the events, or the first one that is not lawful is told
 abbrev pub IsAdmissionOf : Trace → Admission → Type 0

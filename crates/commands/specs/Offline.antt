@@ -1,7 +1,7 @@
 -- How the report on a file of events ends.
 use Rattle.std.specs.Prelude.{ℕ, List, [], ◌++◌, Option, codes}
 use Rattle.std.specs.Io.KnownBytes.{Appends}
-use Rattle.trace_model.specs.Trace.{Trace}
+use Rattle.trace_model.specs.Theory.Trace.{Trace}
 use Rattle.trace_model.specs.declared.refusal.Refusal.{Refusal}
 use Rattle.trace_model.specs.declared.refusal.Refusal.TheVariants as refusals
 use Rattle.offline_report.specs.declared.refused.OfflineRefused.{OfflineRefused}
@@ -26,8 +26,10 @@ refused_line NoMemory = []
 -- what was added to the output: the report on the events of the file, or rightly why there is none
 abbrev pub OfflineTells : List ℕ → ℕ → Status → Option (List ℕ) → Option (List ℕ) → Type 0
 OfflineTells file bound Done before after =
-    (events : Trace) × (text : List ℕ) × AreEventsOf events file × IsReport events bound text × Appends before after text
+    (events : Trace) × (text : List ℕ) × AreEventsOf events file × IsReport events bound text
+    × Appends before after text
 OfflineTells file bound Refused before after =
-    (events : Trace) × (refused : OfflineRefused) × AreEventsOf events file × IsRefused events bound refused × Appends before after (refused_line refused)
+    (events : Trace) × (refused : OfflineRefused) × AreEventsOf events file
+    × IsRefused events bound refused × Appends before after (refused_line refused)
 OfflineTells file bound Failed before after = ⊥
 OfflineTells file bound NotUnderstood before after = ⊥

@@ -9,7 +9,8 @@ use Rattle.commands.specs.declared.outcome.Status.TheVariants.{Done, Refused}
 -- the line of a verdict
 abbrev pub verdict_line : Verdict → List ℕ
 verdict_line Reaches = codes "reaches\n"
-verdict_line (Fails fault place) = codes "fault " ++ name_of fault ++ codes " " ++ decimal place ++ codes "\n"
+verdict_line (Fails fault place) = codes "fault " ++ name_of fault ++ codes " " ++ decimal place ++
+    codes "\n"
 
 -- the exit status that it gives
 abbrev pub verdict_status : Verdict → Status

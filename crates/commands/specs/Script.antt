@@ -1,9 +1,9 @@
 -- The lines that a script prints.
 use Rattle.std.specs.Prelude.{ℕ, List, [], ◌++◌, Option, Some, None, codes, decimal}
-use Rattle.trace_model.specs.Refusals.{number_of, name_of}
+use Rattle.trace_model.specs.Protocol.Refusals.{number_of, name_of}
 use Rattle.trace_model.specs.declared.refusal.Refusal.{Refusal}
-use Rattle.trace_model.specs.declared.session.Reply.{Reply}
-use Rattle.trace_model.specs.declared.session.Reply.TheVariants.{Placed, Refused, Opened, Pending, Report, Status, Fault as FaultReply, Batched}
+use Rattle.trace_model.specs.declared.messages.session.Reply.{Reply}
+use Rattle.trace_model.specs.declared.messages.session.Reply.TheVariants.{Placed, Refused, Opened, Pending, Report, Status, Fault as FaultReply, Batched}
 
 -- the words that tell a refusal: its number and its name
 abbrev pub refusal_words : Refusal → List ℕ
@@ -17,15 +17,18 @@ abbrev pub told_line : List ℕ → ℕ → List ℕ
 told_line words number = told words number ++ codes "\n"
 
 abbrev pub opened_line : ℕ → ℕ → ℕ → List ℕ
-opened_line question len total = told (codes "opened ") question ++ told (codes " length ") len ++ told_line (codes " total ") total
+opened_line question len total = told (codes "opened ") question ++ told (codes " length ") len ++
+    told_line (codes " total ") total
 
 abbrev pub pending_line : ℕ → ℕ → ℕ → List ℕ
-pending_line question delivered total = told (codes "pending ") question ++ told (codes " delivered ") delivered ++ told_line (codes " total ") total
+pending_line question delivered total = told (codes "pending ") question ++
+    told (codes " delivered ") delivered ++ told_line (codes " total ") total
 
 -- what a status tells of the book, and of the question before its tasks
 abbrev pub book_words : ℕ → ℕ → ℕ → ℕ → ℕ → List ℕ
 book_words question accepted opened len bound =
-    told (codes "status ") question ++ told (codes " accepted ") accepted ++ told (codes " opened ") opened
+    told (codes "status ") question ++ told (codes " accepted ") accepted ++
+    told (codes " opened ") opened
     ++ told (codes " length ") len ++ told (codes " bound ") bound
 
 -- what it tells of the tasks
@@ -34,7 +37,8 @@ task_words total delivered = told (codes " total ") total ++ told (codes " deliv
 
 -- what it tells of their rows
 abbrev pub row_words : ℕ → ℕ → List ℕ
-row_words cycles confirmed = told (codes " cycles ") cycles ++ told_line (codes " confirmed ") confirmed
+row_words cycles confirmed = told (codes " cycles ") cycles ++
+    told_line (codes " confirmed ") confirmed
 
 -- what refuses an event, if anything does
 abbrev pub refused_line : Option Refusal → List ℕ
@@ -42,9 +46,11 @@ refused_line None = []
 refused_line (Some refusal) = refusal_words refusal ++ codes "\n"
 
 abbrev pub batch_lines : ℕ → Option Refusal → ℕ → List ℕ
-batch_lines accepted refusal len = told (codes "batch ") accepted ++ (told_line (codes " at ") len ++ refused_line refusal)
+batch_lines accepted refusal len = told (codes "batch ") accepted ++
+    (told_line (codes " at ") len ++ refused_line refusal)
 
--- what a script prints of a reply: its lines, or the text of a report; no request of a script has a fault
+-- what a script prints of a reply: its lines, or the text of a report; no request of a script has a
+-- fault
 abbrev pub reply_text : Reply → List ℕ
 reply_text (Placed place) = told_line (codes "placed ") place
 reply_text (Refused refusal) = refusal_words refusal ++ codes "\n"
@@ -52,6 +58,7 @@ reply_text (Opened question len total) = opened_line question len total
 reply_text (Pending question delivered total) = pending_line question delivered total
 reply_text (Report question text) = text
 reply_text (Status question accepted opened len bound total delivered cycles confirmed) =
-    book_words question accepted opened len bound ++ (task_words total delivered ++ row_words cycles confirmed)
+    book_words question accepted opened len bound ++
+    (task_words total delivered ++ row_words cycles confirmed)
 reply_text (FaultReply fault) = []
 reply_text (Batched accepted refusal len) = batch_lines accepted refusal len

@@ -21,7 +21,8 @@ pub enum Admission {
     Refused(Refusal, usize),
 }
 
-/// Records the events in the gate, in their order, up to the first that is not lawful: its refusal, and its index.
+/// Records the events in the gate, in their order, up to the first that is not lawful: its refusal,
+/// and its index.
 fn record_lawful(gate: &mut Gate, events: &[Event]) -> Result<Option<(Refusal, usize)>, NoMemory>
     requires { gate.old ≡ record { limit = MAX_EVENTS; events = []; reserved = None } }
     ensures { IfOk result (IsPassage events.now gate.new.events) }
@@ -65,6 +66,10 @@ pub fn admit_file(alloc: Global, state: RandomState, file: &[u8]) -> Result<Admi
 }
 
 /// Adds the line that tells which event of a file was refused.
+///
+/// # Errors
+///
+/// `NoMemory` where a growth was refused.
 pub fn push_refused_at(text: &mut Vec<u8>, refusal: Refusal, index: usize) -> Result<(), NoMemory>
     ensures { OnOk result (text.new.items ≡ text.old.items ++ refused_at_line refusal index) }
 {

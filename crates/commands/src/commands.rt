@@ -49,8 +49,8 @@ fn parse_command(words: &[&[u8]]) -> Option<Command> {
     }
 }
 
-/// Adds the command that offers the events of these words at once. It answers whether they are 1 to `MAX_BATCH` event
-/// words.
+/// Adds the command that offers the events of these words at once. It answers whether they are 1 to
+/// `MAX_BATCH` event words.
 fn push_batch(
     alloc: Global,
     commands: &mut Vec<Command>,

@@ -1,4 +1,5 @@
-//! The commands about files: each reads bytes and writes what it tells, and answers its exit status.
+//! The commands about files: each reads bytes and writes what it tells, and answers its exit
+//! status.
 #![tactic(auto)]
 
 mod admission;

@@ -74,7 +74,8 @@ fn write_refused<O: Write>(
     refused: OfflineRefused,
     out: &mut O,
 ) -> Result<Status, Stopped>
-    ensures { IfOk result (λ status. (status ≡ Refused) × Appends (O.contents out.old) (O.contents out.new) (refused_line refused)) }
+    ensures { IfOk result (λ status. (status ≡ Refused)
+        × Appends (O.contents out.old) (O.contents out.new) (refused_line refused)) }
 {
     let mut text = Vec::new(alloc);
     push_refused(&mut text, refused)?;
@@ -108,9 +109,10 @@ fn report<R: Threads + Sync, P: Progress + Sync, O: Write>(
     }
 }
 
-/// Writes the report of question 0, with this bound, about the events in the bytes of the file of this name, or
-/// the first of them that is not lawful, or why there is no report. Its tasks are computed by as many threads as there
-/// are processors, and the progress is told of each. What ended the command early is told to `err`.
+/// Writes the report of question 0, with this bound, about the events in the bytes of the file of
+/// this name, or the first of them that is not lawful, or why there is no report. Its tasks are
+/// computed by as many threads as there are processors, and the progress is told of each. What
+/// ended the command early is told to `err`.
 pub fn run_offline<R: Threads + Sync, P: Progress + Sync, O: Write, E: Write>(
     rt: &R,
     alloc: Global,

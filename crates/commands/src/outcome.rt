@@ -107,6 +107,10 @@ impl Stopped {
 }
 
 /// Writes a text whole.
+///
+/// # Errors
+///
+/// Where the writer failed. A beginning of the text was then written.
 pub fn write_text<O: Write>(out: &mut O, text: &[u8]) -> Result<(), Stopped>
     ensures { OnOk result (Appends (O.contents out.old) (O.contents out.new) text.now) }
 {

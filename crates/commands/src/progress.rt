@@ -1,7 +1,8 @@
 //! Who is told how far a report is.
 use findings::Hold;
 
-/// Is told how far a report is: of each task by its hold, which any thread calls once the task's rows are there.
+/// Is told how far a report is: of each task by its hold, which any thread calls once the task's
+/// rows are there.
 pub trait Progress: Hold {
     /// The report has so many tasks, of which none is computed.
     fn begin(&self, tasks: u32);

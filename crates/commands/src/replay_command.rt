@@ -117,9 +117,9 @@ fn verdict_of<O: Write>(
     Ok(status_of(&verdict))
 }
 
-/// Checks the witness in the second file against the trace in the first: prints `reaches`, or the test that
-/// fails with its place, or the event of the trace that is not lawful. What ended the command early is told to
-/// `err`, with the name of the file.
+/// Checks the witness in the second file against the trace in the first: prints `reaches`, or the
+/// test that fails with its place, or the event of the trace that is not lawful. What ended the
+/// command early is told to `err`, with the name of the file.
 pub fn run_replay<O: Write, E: Write>(
     alloc: Global,
     state: RandomState,

@@ -148,8 +148,8 @@ impl ScriptSession {
         Ok(MAX_EVENTS as u32)
     }
 
-    /// Computes and delivers the least missing task of the question until none is missing, and answers how many
-    /// these were. A question has no more tasks than a trace has events.
+    /// Computes and delivers the least missing task of the question until none is missing, and
+    /// answers how many these were. A question has no more tasks than a trace has events.
     fn work(&mut self, question: u32) -> Result<u32, Refusal> {
         let mut job = self.job(question)?;
         let worked = self.deliver_missing(&mut job, question);
@@ -183,9 +183,9 @@ fn run_commands<O: Write>(
     ran
 }
 
-/// Runs the script in the bytes of the file of this name, over a book that accepts at most `limit` events, which
-/// is 1 to `MAX_EVENTS`. The whole file is understood before anything is run. What each command prints is written
-/// to `out`, and what ended the script early is told to `err`.
+/// Runs the script in the bytes of the file of this name, over a book that accepts at most `limit`
+/// events, which is 1 to `MAX_EVENTS`. The whole file is understood before anything is run. What
+/// each command prints is written to `out`, and what ended the script early is told to `err`.
 pub fn run_script<O: Write, E: Write>(
     alloc: Global,
     state: RandomState,

@@ -1,6 +1,6 @@
 //! What a script prints.
 ghost use Rattle.std.specs.Prelude.{◌≡◌, ◌++◌, OnOk};
-ghost use Rattle.trace_model.specs.Refusals.{name_of};
+ghost use Rattle.trace_model.specs.Protocol.Refusals.{name_of};
 ghost use Rattle.commands.specs.Script.{told, told_line, refusal_words, opened_line, pending_line, batch_lines, refused_line, book_words, task_words, row_words, reply_text};
 
 use itoa::Buffer;
@@ -26,6 +26,10 @@ fn push_number(text: &mut Vec<u8>, words: &[u8], number: u64) -> Result<(), NoMe
 }
 
 /// Adds a number after these words, and ends the line.
+///
+/// # Errors
+///
+/// `NoMemory` where a growth was refused.
 pub fn push_last(text: &mut Vec<u8>, words: &[u8], number: u64) -> Result<(), NoMemory>
     ensures { OnOk result (text.new.items ≡ text.old.items ++ told_line words.now number) }
 {
@@ -35,6 +39,10 @@ pub fn push_last(text: &mut Vec<u8>, words: &[u8], number: u64) -> Result<(), No
 }
 
 /// Adds the words that tell a refusal.
+///
+/// # Errors
+///
+/// `NoMemory` where a growth was refused.
 pub fn push_refusal(text: &mut Vec<u8>, refusal: Refusal) -> Result<(), NoMemory>
     ensures { OnOk result (text.new.items ≡ text.old.items ++ refusal_words refusal) }
 {
@@ -60,7 +68,8 @@ fn push_pending(
     delivered: u32,
     total: u32,
 ) -> Result<(), NoMemory>
-    ensures { OnOk result (text.new.items ≡ text.old.items ++ pending_line question delivered total) }
+    ensures { OnOk result (text.new.items ≡ text.old.items ++
+        pending_line question delivered total) }
 {
     push_number(text, b"pending ", question as u64)?;
     push_number(text, b" delivered ", delivered as u64)?;
@@ -77,7 +86,8 @@ fn push_book(
     length: u32,
     bound: u8,
 ) -> Result<(), NoMemory>
-    ensures { OnOk result (text.new.items ≡ text.old.items ++ book_words question accepted opened length bound) }
+    ensures { OnOk result (text.new.items ≡ text.old.items ++
+        book_words question accepted opened length bound) }
 {
     push_number(text, b"status ", question as u64)?;
     push_number(text, b" accepted ", accepted as u64)?;
@@ -131,6 +141,10 @@ fn push_batched(
 }
 
 /// Adds what is printed of a reply.
+///
+/// # Errors
+///
+/// `NoMemory` where a growth was refused.
 pub fn push_reply(text: &mut Vec<u8>, reply: &Reply) -> Result<(), NoMemory>
     ensures { OnOk result (text.new.items ≡ text.old.items ++ reply_text reply.now) }
 {

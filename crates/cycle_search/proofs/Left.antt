@@ -2,9 +2,9 @@
 use Rattle.std.proofs.Common.{◌≡◌, ℕ, zero, suc, ◌+◌, ◌<◌, ◌≤◌, Bool, false, ◌||◌, List, [], ◌∷◌, ◌++◌, length, slice_get, slice_set, get_or, Some, nat_eq, if◌then◌else◌, refl, ap, ◌∙◌, arith}
 use Rattle.std.proofs.lemmas.Option.{none-some, same_Some}
 use Rattle.std.proofs.lemmas.Grind.{common_steps}
-use Rattle.trace_model.specs.Dependencies.{Dependency}
-use Rattle.cycle_search.specs.declared.parts.Stop.{Stop}
-use Rattle.cycle_search.specs.declared.parts.Walk.{Walk}
+use Rattle.trace_model.specs.Theory.Dependencies.{Dependency}
+use Rattle.cycle_search.specs.declared.components.Stop.{Stop}
+use Rattle.cycle_search.specs.declared.components.Walk.{Walk}
 use Rattle.cycle_search.specs.Walk.{is_met, left_at, left_on, left_beyond, left, Stays, Enters}
 
 pub on-push : (graph : ℕ → List ℕ) (path : List Stop) (stop : Stop) → left_on graph (path ++ stop ∷ []) ≡ left_on graph path + left_at graph stop

@@ -6,8 +6,8 @@ use Rattle.std.proofs.lemmas.List.{length-map, length-take-le}
 use Rattle.std.proofs.lemmas.Bool.{cases_lt}
 use Rattle.std.specs.List.{Contains}
 use Rattle.std.specs.List.Sorted.{IsStrictlyIncreasing}
-use Rattle.trace_model.specs.Dependencies.{Dependency}
-use Rattle.trace_model.proofs.Unique.{has_contained, contains_had, increasing_ordered}
+use Rattle.trace_model.specs.Theory.Dependencies.{Dependency}
+use Rattle.trace_model.proofs.Theory.Unique.{has_contained, contains_had, increasing_ordered}
 use Rattle.lock_graph.specs.Graph.{IsGraphOf}
 use Rattle.lock_graph.proofs.Growing.{graph-more}
 use Rattle.cycle_search.specs.Takers.{TakesLock, AreTakers, HasOneMore, IsListed, IsLeast, least_of}

@@ -1,8 +1,8 @@
 -- One list of cycles after another.
 use Rattle.std.proofs.Common.{◌≡◌, ℕ, zero, suc, ◌+◌, ◌<◌, ◌⊎◌, inl, inr, List, [], ◌∷◌, ◌++◌, length, slice_get, Some, refl, ap, subst, arith}
 use Rattle.std.proofs.lemmas.Option.{none-some, same_Some, slice_get_within}
-use Rattle.trace_model.specs.Cycles.{ListBelow}
-use Rattle.trace_model.proofs.Unique.{Has, has_contained, contains_had}
+use Rattle.trace_model.specs.Theory.Cycles.{ListBelow}
+use Rattle.trace_model.proofs.Theory.Unique.{Has, has_contained, contains_had}
 use Rattle.cycle_search.specs.Search.{AreSome, AreAll}
 
 pub get-split : {X : Type 0} (xs ys : List X) (i : ℕ) (x : X) → slice_get (xs ++ ys) i ≡ Some x →

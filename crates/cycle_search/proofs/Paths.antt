@@ -8,11 +8,11 @@ use Rattle.std.proofs.lemmas.List.Sorted.{IsNonDecreasingBy-from_default}
 use Rattle.std.proofs.lemmas.Bool.Decides.{nat_tests}
 use Rattle.std.specs.List.{Contains, All}
 use Rattle.std.specs.List.Sorted.{IsStrictlyIncreasing, IsPartitionPoint, IsNonDecreasingBy}
-use Rattle.trace_model.specs.Dependencies.{Dependency}
-use Rattle.trace_model.specs.Cycles.{Member, next, IsCycle}
-use Rattle.trace_model.proofs.Unique.{has_contained, contains_had}
+use Rattle.trace_model.specs.Theory.Dependencies.{Dependency}
+use Rattle.trace_model.specs.Theory.Cycles.{Member, next, IsCycle}
+use Rattle.trace_model.proofs.Theory.Unique.{has_contained, contains_had}
 use Rattle.trace_model.proofs.Lists.{length-push, get-push, get-push_kept}
-use Rattle.trace_model.specs.Held.{has}
+use Rattle.trace_model.specs.Theory.Held.{has}
 use Rattle.held_sets.proofs.Locks.{has_contains, contains_has}
 use Rattle.guards.specs.Compatible.{NumbersApart, IsCompatible}
 use Rattle.lock_graph.specs.Graph.{IsGraphOf}

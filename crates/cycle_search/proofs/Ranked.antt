@@ -4,9 +4,9 @@ use Rattle.std.proofs.lemmas.Option.{none-some, slice_get_within, same_Some, sli
 use Rattle.std.proofs.lemmas.List.{length-append, length-map}
 use Rattle.std.proofs.lemmas.Bool.{cases_eq}
 use Rattle.std.specs.List.{Contains}
-use Rattle.trace_model.specs.Dependencies.{Dependency}
-use Rattle.trace_model.specs.Cycles.{Member, next, IsCycle}
-use Rattle.trace_model.proofs.Unique.{contains_had}
+use Rattle.trace_model.specs.Theory.Dependencies.{Dependency}
+use Rattle.trace_model.specs.Theory.Cycles.{Member, next, IsCycle}
+use Rattle.trace_model.proofs.Theory.Unique.{contains_had}
 use Rattle.cycle_search.specs.Search.{CycleThrough, AreAll}
 use Rattle.lock_graph.specs.Graph.{IsGraphOf}
 use Rattle.cycle_search.specs.declared.ranks.Ranks.{Ranks}

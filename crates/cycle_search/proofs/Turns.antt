@@ -4,10 +4,10 @@ use Rattle.std.proofs.lemmas.Option.{none-some, same_Some, slice_get_within}
 use Rattle.std.proofs.lemmas.List.{length-append}
 use Rattle.std.proofs.lemmas.Bool.{cases_lt}
 use Rattle.std.specs.List.Sorted.{IsStrictlyIncreasing}
-use Rattle.trace_model.specs.Dependencies.{Dependency}
-use Rattle.trace_model.specs.Cycles.{ListBelow, IsCycle, AreCyclesFrom}
-use Rattle.trace_model.proofs.Unique.{has_contained, increasing_ordered}
-use Rattle.cycle_search.specs.Search.{AreSome, AreAll, Adds, Exceeds, MoreThan, CycleFrom, CycleBeyond, CycleThrough, CycleOver, IsAmong, CycleAmong, CycleUpTo, IsPath, Follows, Closes, TakesBack, AreNexts}
+use Rattle.trace_model.specs.Theory.Dependencies.{Dependency}
+use Rattle.trace_model.specs.Theory.Cycles.{ListBelow, IsCycle, AreCyclesFrom}
+use Rattle.trace_model.proofs.Theory.Unique.{has_contained, increasing_ordered}
+use Rattle.cycle_search.specs.Search.{AreSome, AreAll, Adds, Exceeds, MoreThan, CycleFrom, CycleBeyond, CycleThrough, CycleOver, IsAmong, CycleUpTo, IsPath, Follows, Closes, TakesBack, AreNexts}
 use Rattle.cycle_search.specs.Takers.{IsNext}
 use Rattle.cycle_search.proofs.Listing.{below-after, some-join, all-join, some-weaker, all-same, all-none, all-one, append-nil}
 use Rattle.trace_model.proofs.Lists.{length-push}
@@ -112,8 +112,8 @@ module _ (ds : List Dependency) (bound : ℕ) (path nexts : List ℕ) where
     less : (n : ℕ) → IsAmong nexts i n → n < m
     less n (k, l, g) = increasing_ordered nexts up k i n m l g at
 
-    pub adds-more : (old mid new : List (List ℕ)) → Adds (CycleAmong ds bound path nexts i) old mid → Adds (CycleThrough ds bound path m) mid new →
-        Adds (CycleAmong ds bound path nexts (i + 1)) old new
+    pub adds-more : (old mid new : List (List ℕ)) → Adds (CycleOver ds bound path (IsAmong nexts i)) old mid → Adds (CycleThrough ds bound path m) mid new →
+        Adds (CycleOver ds bound path (IsAmong nexts (i + 1))) old new
     adds-more = over-more ds bound path (IsAmong nexts i) m less (IsAmong nexts (i + 1))
         (λ n h. (h.0, omega (arith, h.1), h.2))
         (i, omega arith, at)
@@ -122,12 +122,12 @@ module _ (ds : List Dependency) (bound : ℕ) (path nexts : List ℕ) where
           | inr l ↦ let same : h.0 ≡ i = omega (arith, l, h.1) in inr (same_Some n m (sym h.2 ∙ ap (slice_get nexts) same ∙ at))
         ])
 
-    pub exceeds-more : (most : ℕ) (old mid : List (List ℕ)) → Adds (CycleAmong ds bound path nexts i) old mid →
+    pub exceeds-more : (most : ℕ) (old mid : List (List ℕ)) → Adds (CycleOver ds bound path (IsAmong nexts i)) old mid →
         Exceeds (CycleThrough ds bound path m) most mid → Exceeds (CycleBeyond ds bound path) most old
     exceeds-more = over-exceeds ds bound path (IsAmong nexts i) m less
 
   pub adds-end : (i : ℕ) (old new : List (List ℕ)) → 0 < length path → AreNexts ds path nexts → length nexts ≤ i →
-      Adds (CycleAmong ds bound path nexts i) old new → Adds (CycleBeyond ds bound path) old new
+      Adds (CycleOver ds bound path (IsAmong nexts i)) old new → Adds (CycleBeyond ds bound path) old new
   adds-end i old new begun a end = over-end ds bound path (IsAmong nexts i)
       (λ n numbers h.
       let f = follows-from_cycle ds bound path n h.1.0 begun (subst (λ x. IsCycle ds bound x) h.1.1 h.0) in

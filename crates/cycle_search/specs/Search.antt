@@ -2,9 +2,9 @@
 use Rattle.std.specs.Prelude.{◌≡◌, ◌≢◌, ℕ, suc, ◌+◌, ◌<◌, ◌≤◌, List, ◌∷◌, ◌++◌, length, slice_get, Some}
 use Rattle.std.specs.List.{Contains, All}
 use Rattle.std.specs.List.Sorted.{IsStrictlyIncreasing}
-use Rattle.trace_model.specs.Dependencies.{Dependency}
+use Rattle.trace_model.specs.Theory.Dependencies.{Dependency}
 use Rattle.held_sets.specs.Tables.{AreDisjoint}
-use Rattle.trace_model.specs.Cycles.{Member, IsCycle, InOrder}
+use Rattle.trace_model.specs.Theory.Cycles.{Member, IsCycle, InOrder}
 use Rattle.guards.specs.Compatible.{IsCompatible}
 
 -- some of the lists with a property, each once, in lexicographic order
@@ -51,10 +51,6 @@ CycleOver ds bound path P numbers = (next : ℕ) × P next × CycleThrough ds bo
 abbrev pub IsAmong : List ℕ → ℕ → ℕ → Type 0
 IsAmong nexts i next = (k : ℕ) × (k < i) × (slice_get nexts k ≡ Some next)
 
--- a cycle that goes on with one of the first i of these numbers
-abbrev pub CycleAmong : List Dependency → ℕ → List ℕ → List ℕ → ℕ → List ℕ → Type 0
-CycleAmong ds bound path nexts i = CycleOver ds bound path (IsAmong nexts i)
-
 -- one that goes on with a number up to the last
 abbrev pub CycleUpTo : List Dependency → ℕ → List ℕ → ℕ → List ℕ → Type 0
 CycleUpTo ds bound path last = CycleOver ds bound path (λ next. next ≤ last)
@@ -64,18 +60,23 @@ pub record IsPath (ds : List Dependency) (path : List ℕ) : Type 0 where
   pub begun : 0 < length path
   pub known : All (λ m. m < length ds) path
   pub least_first : (first m : ℕ) → slice_get path 0 ≡ Some first → Contains path m → first ≤ m
-  pub threads_distinct : (i j : ℕ) (a b : Dependency) → i < j → Member ds path i a → Member ds path j b → a.thread ≢ b.thread
-  pub held_disjoint : (i j : ℕ) (a b : Dependency) → i < j → Member ds path i a → Member ds path j b → AreDisjoint a.held b.held
-  pub linked : (i : ℕ) (a b : Dependency) → Member ds path i a → Member ds path (suc i) b → Contains b.held a.lock
+  pub threads_distinct : (i j : ℕ) (a b : Dependency) → i < j → Member ds path i a →
+      Member ds path j b → a.thread ≢ b.thread
+  pub held_disjoint : (i j : ℕ) (a b : Dependency) → i < j → Member ds path i a →
+      Member ds path j b → AreDisjoint a.held b.held
+  pub linked : (i : ℕ) (a b : Dependency) → Member ds path i a → Member ds path (suc i) b →
+      Contains b.held a.lock
 
 -- the lock of the last member is in the held set of the number's dependency
 abbrev pub LinksTo : List Dependency → List ℕ → ℕ → Type 0
-LinksTo ds path next = (k : ℕ) (a b : Dependency) → suc k ≡ length path → Member ds path k a → slice_get ds next ≡ Some b → Contains b.held a.lock
+LinksTo ds path next = (k : ℕ) (a b : Dependency) → suc k ≡ length path → Member ds path k a →
+    slice_get ds next ≡ Some b → Contains b.held a.lock
 
 -- the number's dependency takes a lock that is in the held set of the first member
 abbrev pub TakesBack : List Dependency → List ℕ → ℕ → Type 0
 TakesBack ds path next =
-    (first last : Dependency) × Member ds path 0 first × (slice_get ds next ≡ Some last) × Contains first.held last.lock
+    (first last : Dependency) × Member ds path 0 first × (slice_get ds next ≡ Some last)
+    × Contains first.held last.lock
 
 -- the number is above the first one of the path
 abbrev pub AboveFirst : List ℕ → ℕ → Type 0
@@ -90,7 +91,8 @@ pub record Follows (ds : List Dependency) (path : List ℕ) (next : ℕ) : Type 
 
 -- the lock of the last member is in the held set of the first
 abbrev pub Closes : List Dependency → List ℕ → Type 0
-Closes ds path = (k : ℕ) (first last : Dependency) → suc k ≡ length path → Member ds path 0 first → Member ds path k last → Contains first.held last.lock
+Closes ds path = (k : ℕ) (first last : Dependency) → suc k ≡ length path → Member ds path 0 first →
+    Member ds path k last → Contains first.held last.lock
 
 -- exactly the dependencies above the first that hold the lock of the last member, ascending
 pub record AreNexts (ds : List Dependency) (path nexts : List ℕ) : Type 0 where

@@ -2,7 +2,7 @@
 use Rattle.std.specs.Prelude.{◌≡◌, ◌<◌, ◌≤◌, ◌↔◌, ℕ, nat_eq, min, List, [], ◌∷◌, ◌++◌, if◌then◌else◌, slice_get, slice_index, Option, Some, None}
 use Rattle.std.specs.List.{Contains}
 use Rattle.std.specs.List.Sorted.{IsStrictlyIncreasing}
-use Rattle.trace_model.specs.Dependencies.{Dependency}
+use Rattle.trace_model.specs.Theory.Dependencies.{Dependency}
 use Rattle.lock_graph.specs.Lists.{listed}
 use Rattle.cycle_search.specs.declared.takers.Takers.{Takers}
 
@@ -21,7 +21,8 @@ pub record AreTakers (ds : List Dependency) (takers : ℕ → List ℕ) : Type 0
 
 -- the number is added at the lock, and nowhere else
 abbrev pub HasOneMore : (ℕ → List ℕ) → ℕ → ℕ → (ℕ → List ℕ) → Type 0
-HasOneMore old lock number new = (other : ℕ) → new other ≡ (if nat_eq lock other then old other ++ number ∷ [] else old other)
+HasOneMore old lock number new = (other : ℕ) →
+    new other ≡ (if nat_eq lock other then old other ++ number ∷ [] else old other)
 
 -- one of the first i locks has the number
 abbrev pub IsListed : (ℕ → List ℕ) → List ℕ → ℕ → ℕ → Type 0

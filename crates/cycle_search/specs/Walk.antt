@@ -1,11 +1,11 @@
 -- What a walk in depth has left to do. It falls at each step.
 use Rattle.std.specs.Prelude.{◌≡◌, ℕ, ◌+◌, ◌-◌, ◌⊎◌, Bool, false, ◌||◌, List, [], ◌∷◌, ◌++◌, length, nat_eq, is_some, if◌then◌else◌}
 use Rattle.std.specs.HashMap.{get}
-use Rattle.trace_model.specs.Dependencies.{Dependency}
+use Rattle.trace_model.specs.Theory.Dependencies.{Dependency}
 use Rattle.lock_graph.specs.declared.graph.LockGraph.{LockGraph}
 use Rattle.lock_graph.specs.Graph.{holders_below}
-use Rattle.cycle_search.specs.declared.parts.Stop.{Stop}
-use Rattle.cycle_search.specs.declared.parts.Walk.{Walk}
+use Rattle.cycle_search.specs.declared.components.Stop.{Stop}
+use Rattle.cycle_search.specs.declared.components.Walk.{Walk}
 
 -- the walk met the lock
 abbrev pub is_met : Walk → ℕ → Bool
@@ -23,7 +23,8 @@ left_on graph (stop ∷ path) = left_at graph stop + left_on graph path
 -- what is left at the locks of the dependencies that are not met
 unfoldable pub left_beyond : (ℕ → Bool) → (ℕ → List ℕ) → List Dependency → ℕ
 left_beyond met graph [] = 0
-left_beyond met graph (d ∷ ds) = (if met d.lock then 0 else length (graph d.lock) + 2) + left_beyond met graph ds
+left_beyond met graph (d ∷ ds) = (if met d.lock then 0 else length (graph d.lock) + 2) +
+    left_beyond met graph ds
 
 -- all that is left
 abbrev pub left : (ℕ → List ℕ) → List Dependency → Walk → ℕ

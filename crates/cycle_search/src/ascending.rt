@@ -1,3 +1,5 @@
+//! Members of a cycle, in the order in which they are visited.
+
 ghost use Rattle.std.specs.Prelude.{◌<◌, ◌↔◌, ℕ};
 ghost use Rattle.std.specs.List.{Contains};
 ghost use Rattle.std.specs.List.Sorted.{IsStrictlyIncreasing};

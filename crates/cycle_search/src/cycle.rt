@@ -1,3 +1,5 @@
+//! A cycle: two to eight numbers of dependencies.
+
 ghost use Rattle.std.specs.Prelude.{◌≡◌, ◌≤◌, ◌↔◌, List, length, ℕ, IfSome, IsSome, slice_get};
 
 use arrayvec::ArrayVec;

@@ -2,8 +2,8 @@
 #![tactic(auto)]
 
 mod ascending;
+mod components;
 mod cycle;
-mod parts;
 mod ranks;
 mod refused;
 mod search;

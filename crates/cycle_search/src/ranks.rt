@@ -1,10 +1,12 @@
+//! The order in which dependencies are visited.
+
 ghost use Rattle.std.specs.Prelude.{◌≡◌, ◌<◌, ◌≤◌, length, map, nat_eq, slice_index, IfOk, IsTrue};
 ghost use Rattle.std.specs.List.{All};
 ghost use Rattle.dependencies.specs.Tables.{known};
 ghost use Rattle.lock_graph.specs.Graph.{HasGraphOf};
 ghost use Rattle.cycle_search.specs.Ranked.{AreRanks, rank_in, Rises};
 
-use crate::parts::{LockRanks, lock_ranks};
+use crate::components::{LockRanks, lock_ranks};
 use crate::takers::Takers;
 use dependencies::DepTable;
 use lock_graph::LockGraph;
@@ -13,10 +15,10 @@ use std::collections::HashMap;
 use std::collections::hash_map::RandomState;
 use trace_model::NoMemory;
 
-/// A rank for each dependency of a table, which never falls from a dependency to one that holds its lock.
-/// So the members of a cycle have one rank, and a search leaves all others out. Beside it, for each lock the
-/// dependencies that take it: a search finds a cycle's last member among those that take what the first one
-/// holds. No answer depends on either.
+/// A rank for each dependency of a table, which never falls from a dependency to one that holds its
+/// lock. So the members of a cycle have one rank, and a search leaves all others out. Beside it,
+/// for each lock the dependencies that take it: a search finds a cycle's last member among those
+/// that take what the first one holds. No answer depends on either.
 #[derive(Drop)]
 pub struct Ranks {
     numbers: Vec<u32>,
@@ -24,10 +26,10 @@ pub struct Ranks {
 }
 
 impl Ranks {
-    /// The ranks of the table's dependencies, whose graph is given (later ones that it may have besides are
-    /// left out): the strongly connected parts of
-    /// their locks, in order. It takes time in proportion to the locks that the dependencies hold, and the ranks
-    /// keep two numbers for each dependency.
+    /// The ranks of the table's dependencies, whose graph is given (later ones that it may have
+    /// besides are left out): the strongly connected components of their locks, in order. It takes time
+    /// in proportion to the locks that the dependencies hold, and the ranks keep two numbers for
+    /// each dependency.
     ///
     /// # Errors
     ///
@@ -52,7 +54,8 @@ impl Ranks {
     pub fn are_equal(&self, first: u32, second: u32) -> bool
         requires first { first < length self.now.numbers.items }
         requires second { second < length self.now.numbers.items }
-        ensures { result ≡ nat_eq (slice_index self.now.numbers.items first) (slice_index self.now.numbers.items second) }
+        ensures { result ≡ nat_eq (slice_index self.now.numbers.items first)
+            (slice_index self.now.numbers.items second) }
     {
         self.numbers[first as usize] == self.numbers[second as usize]
     }
@@ -104,7 +107,8 @@ fn are_within(ranks: &LockRanks, locks: &[u32], most: u32) -> bool
 
 /// For each dependency the rank of the lock that it takes.
 fn ranks_of(alloc: Global, table: &DepTable, ranks: &LockRanks) -> Result<Vec<u32>, NoMemory>
-    ensures { IfOk result (λ numbers. numbers.items ≡ map (λ d. rank_in ranks.now d.lock) (known table.now)) }
+    ensures { IfOk result (λ numbers. numbers.items ≡ map (λ d. rank_in ranks.now d.lock)
+        (known table.now)) }
 {
     let mut numbers = Vec::new(alloc);
     for number in 0..table.len() {

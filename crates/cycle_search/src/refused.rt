@@ -1,3 +1,5 @@
+//! Why a search ends early.
+
 use std::alloc::AllocFailed;
 use thiserror::Error;
 

@@ -1,6 +1,8 @@
+//! The search: each cycle with a given least member, in order.
+
 ghost use Rattle.std.specs.Prelude.{◌≡◌, ◌<◌, ◌≤◌, ◌↔◌, ◌+◌, ◌++◌, ◌∷◌, [], slice_index, length, IsTrue, IfOk, OnOk, Err};
 ghost use Rattle.trace_model.specs.declared.limits.TheConstants.{MAX_CYCLES};
-ghost use Rattle.trace_model.specs.Cycles.{AreCyclesFrom};
+ghost use Rattle.trace_model.specs.Theory.Cycles.{AreCyclesFrom};
 ghost use Rattle.dependencies.specs.Tables.{known};
 ghost use Rattle.lock_graph.specs.Graph.{HasGraphOf};
 ghost use Rattle.cycle_search.specs.Ranked.{AreRanks};
@@ -32,9 +34,9 @@ struct Limits {
     successors: usize,
 }
 
-/// All cycles up to the bound whose first number is `root`, each once, in lexicographic order.
-/// The ranks must be those of the table, and `root` one of its numbers. The graph must be that of the table's
-/// dependencies; later ones that it may have besides are left out.
+/// All cycles up to the bound whose first number is `root`, each once, in lexicographic order. The
+/// ranks must be those of the table, and `root` one of its numbers. The graph must be that of the
+/// table's dependencies; later ones that it may have besides are left out.
 ///
 /// # Errors
 ///
@@ -52,12 +54,17 @@ pub fn cycles_from(
     requires root { root < length (known table.now) }
     ensures ok { IfOk result (λ cycles. AreCyclesFrom (known table.now) bound root cycles.items) }
     ensures few { IfOk result (λ cycles. length cycles.items ≤ MAX_CYCLES) }
-    ensures too_many { result ≡ Err SearchRefused.TooMany → MoreThan (CycleFrom (known table.now) bound root) MAX_CYCLES }
+    ensures too_many { result ≡ Err SearchRefused.TooMany →
+        MoreThan (CycleFrom (known table.now) bound root) MAX_CYCLES }
 {
     cycles_within(alloc, table, graph, ranks, root, bound, MAX_CYCLES)
 }
 
 /// The same, but that `TooMany` is answered where there are more than `most`.
+///
+/// # Errors
+///
+/// `NoMemory` where a growth was refused, `TooMany` exactly as said.
 pub fn cycles_within(
     alloc: Global,
     table: &DepTable,
@@ -72,7 +79,8 @@ pub fn cycles_within(
     requires root { root < length (known table.now) }
     ensures ok { IfOk result (λ cycles. AreCyclesFrom (known table.now) bound root cycles.items) }
     ensures few { IfOk result (λ cycles. length cycles.items ≤ most) }
-    ensures too_many { result ≡ Err SearchRefused.TooMany → MoreThan (CycleFrom (known table.now) bound root) most }
+    ensures too_many { result ≡ Err SearchRefused.TooMany →
+        MoreThan (CycleFrom (known table.now) bound root) most }
 {
     let limits = Limits {
         members: bound.get() as usize,
@@ -86,8 +94,8 @@ pub fn cycles_within(
     Ok(found)
 }
 
-/// How many successors are visited in the time that it takes to find all members that may close a path of
-/// the root.
+/// How many successors are visited in the time that it takes to find all members that may close a
+/// path of the root.
 fn closing_visits(table: &DepTable, ranks: &Ranks, root: u32) -> usize
     requires { root < length (known table.now) }
 {
@@ -113,9 +121,13 @@ fn extend(
     requires bound { limits.members ≤ 8 }
     requires few { length found.old.items ≤ limits.cycles }
     ensures path { OnOk result (path.new.items ≡ path.old.items) }
-    ensures all { OnOk result (Adds (CycleBeyond (known table.now) limits.members path.old.items) found.old.items found.new.items) }
+    ensures all { OnOk result
+        (Adds (CycleBeyond (known table.now) limits.members path.old.items) found.old.items
+        found.new.items) }
     ensures few { OnOk result (length found.new.items ≤ limits.cycles) }
-    ensures too_many { result ≡ Err SearchRefused.TooMany → Exceeds (CycleBeyond (known table.now) limits.members path.old.items) limits.cycles found.old.items }
+    ensures too_many { result ≡ Err SearchRefused.TooMany →
+        Exceeds (CycleBeyond (known table.now) limits.members path.old.items) limits.cycles
+        found.old.items }
 {
     let nexts = successors(table, graph, path);
     // many may hold the lock of the last member where few take one that the first member holds
@@ -128,7 +140,8 @@ fn extend(
     Ok(())
 }
 
-/// Adds all cycles of the path and one member more, which is found by the locks that the first one holds.
+/// Adds all cycles of the path and one member more, which is found by the locks that the first one
+/// holds.
 #[cycle(search)]
 fn close(
     table: &DepTable,
@@ -145,9 +158,13 @@ fn close(
     requires bound { limits.members ≤ 8 }
     requires few { length found.old.items ≤ limits.cycles }
     ensures path { OnOk result (path.new.items ≡ path.old.items) }
-    ensures all { OnOk result (Adds (CycleBeyond (known table.now) limits.members path.old.items) found.old.items found.new.items) }
+    ensures all { OnOk result
+        (Adds (CycleBeyond (known table.now) limits.members path.old.items) found.old.items
+        found.new.items) }
     ensures few { OnOk result (length found.new.items ≤ limits.cycles) }
-    ensures too_many { result ≡ Err SearchRefused.TooMany → Exceeds (CycleBeyond (known table.now) limits.members path.old.items) limits.cycles found.old.items }
+    ensures too_many { result ≡ Err SearchRefused.TooMany →
+        Exceeds (CycleBeyond (known table.now) limits.members path.old.items) limits.cycles
+        found.old.items }
 {
     let mut last = path[0];
     while let Some(next) = next_closer(table, ranks, path, last) {
@@ -180,9 +197,13 @@ fn visit(
     requires above { AboveFirst path.old.items next }
     requires linked { LinksTo (known table.now) path.old.items next }
     ensures path { OnOk result (path.new.items ≡ path.old.items) }
-    ensures all { OnOk result (Adds (CycleThrough (known table.now) limits.members path.old.items next) found.old.items found.new.items) }
+    ensures all { OnOk result
+        (Adds (CycleThrough (known table.now) limits.members path.old.items next) found.old.items
+        found.new.items) }
     ensures few { OnOk result (length found.new.items ≤ limits.cycles) }
-    ensures too_many { result ≡ Err SearchRefused.TooMany → Exceeds (CycleThrough (known table.now) limits.members path.old.items next) limits.cycles found.old.items }
+    ensures too_many { result ≡ Err SearchRefused.TooMany →
+        Exceeds (CycleThrough (known table.now) limits.members path.old.items next) limits.cycles
+        found.old.items }
 {
     if !same_rank(ranks, path, next) {
         return Ok(());
@@ -211,7 +232,9 @@ fn same_rank(ranks: &Ranks, path: &Path, next: u32) -> bool
     requires begun { 0 < length path.now.items }
     requires first { slice_index path.now.items 0 < length ranks.now.numbers.items }
     requires next { next < length ranks.now.numbers.items }
-    ensures { IsTrue result ↔ (slice_index ranks.now.numbers.items (slice_index path.now.items 0) ≡ slice_index ranks.now.numbers.items next) }
+    ensures { IsTrue result ↔
+        (slice_index ranks.now.numbers.items (slice_index path.now.items 0) ≡
+        slice_index ranks.now.numbers.items next) }
 {
     ranks.are_equal(path[0], next)
 }

@@ -8,8 +8,8 @@ use Rattle.std.proofs.lemmas.Option.{none-some, same_Some}
 use Rattle.std.specs.List.{filter, Contains}
 use Rattle.std.specs.List.Sorted.{IsStrictlyIncreasing}
 use Rattle.numbered.specs.Notes.{places_in, notes_below}
-use Rattle.trace_model.specs.Dependencies.{Dependency}
-use Rattle.trace_model.proofs.Ascending.{place_of, contains_at}
+use Rattle.trace_model.specs.Theory.Dependencies.{Dependency}
+use Rattle.trace_model.proofs.Theory.Ascending.{place_of, contains_at}
 use Rattle.dependencies.specs.Tables.{placed, AreRows, IsTotal, IsPart}
 use Rattle.dependencies.specs.Entries.{rows_from, IsKeptOf}
 use Rattle.dependencies.proofs.Shown.{NoneBeyond, known_from, length_from, places_all}

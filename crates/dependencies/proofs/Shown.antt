@@ -1,20 +1,22 @@
 -- The dependencies and their places by number, as a table.
-use Rattle.std.proofs.Common.{◌≡◌, ◌≢◌, ◌<◌, ◌≤◌, ◌+◌, ◌==◌, nat_eq, inl, inr, ℕ, zero, suc, Bool, true, false, cond, List, [], ◌∷◌, ◌++◌, length, take, map, get_or, slice_get, position, Option, Some, None, is_some, subst, refl, sym, ap, ◌∙◌, arith}
-use Rattle.std.proofs.lemmas.Bool.{true≢false, cases_lt, cases_eq, eq-eqb, ne_eqb}
+use Rattle.std.proofs.Common.{◌≡◌, ◌≢◌, ◌<◌, ◌≤◌, ◌+◌, ◌==◌, nat_eq, nat_lt, inl, inr, ℕ, zero, suc, Bool, true, false, cond, List, [], ◌∷◌, ◌++◌, length, take, map, get_or, slice_get, position, Option, Some, None, is_some, subst, refl, sym, ap, ◌∙◌, arith}
+use Rattle.std.proofs.lemmas.Bool.{true≢false, cases_lt, cases_eq, eq-eqb, ne_eqb, lt-ltb}
 use Rattle.std.proofs.lemmas.Map.Made.{is_some-lookup}
 use Rattle.indexmap.proofs.MapLemmas.{some_index, absent_before, distinct-take}
-use Rattle.std.proofs.lemmas.Option.{none-some, same_Some, slice_get-get_or}
+use Rattle.std.proofs.lemmas.Option.{none-some, same_Some, slice_get-get_or, slice_get_within}
+use Rattle.std.proofs.lemmas.Map.Keys.{apart_from_distinct}
+use Rattle.std.proofs.lemmas.List.Sums.{position_or_len_is}
 use Rattle.std.proofs.lemmas.List.Quantifiers.{position-Some}
-use Rattle.std.specs.List.{list_any, filter, Contains, IsDistinct}
+use Rattle.std.specs.List.{position_or_len, list_any, filter, Contains, IsDistinct}
 use Rattle.std.specs.Cmp.{IsEquivalence}
 use Rattle.std.specs.Map.{keys_of, lookup}
 use Rattle.indexmap.specs.IndexMap.{IndexMap, insert_entry}
 use Rattle.indexmap.proofs.CallerLemmas.{insert_entry-new}
 use Rattle.numbered.specs.Notes.{places_in, Ascend}
-use Rattle.trace_model.specs.Dependencies.{Dependency, same_dependency}
-use Rattle.trace_model.proofs.Dependencies.{same_dependency_so, same_dependency_itself}
+use Rattle.trace_model.specs.Theory.Dependencies.{Dependency, same_dependency}
+use Rattle.trace_model.proofs.Theory.Dependencies.{same_dependency_so, same_dependency_itself}
 use Rattle.trace_model.proofs.Lists.{length-push, same_bool}
-use Rattle.trace_model.proofs.Ascending.{place_of, contains_at}
+use Rattle.trace_model.proofs.Theory.Ascending.{place_of, contains_at}
 use Rattle.std.specs.List.Sorted.{IsStrictlyIncreasing}
 use Rattle.dependencies.specs.Tables.{named, placed, EndBelow, HaveOneMore}
 use Rattle.dependencies.specs.Entries.{rows_from, IsKeptOf}
@@ -29,6 +31,25 @@ pub at_position : (d : Dependency) (ds : List Dependency) (i : ℕ) → position
 at_position d ds i h =
     let p = position-Some (same_dependency d) ds i d h in
     slice_get-get_or ds i d p.0 ∙ ap Some (sym (same_dependency_so d (get_or ds i d) p.1))
+
+-- one of distinct dependencies stands where it is first found
+pub position_of : (d : Dependency) (ds : List Dependency) (i : ℕ) → IsDistinct same_dependency ds → slice_get ds i ≡ Some d → position (same_dependency d) ds ≡ Some i
+position_of d ds i once at =
+    let within : i < length ds = slice_get_within ds i d at in
+    let here : get_or ds i d ≡ d = same_Some (get_or ds i d) d (sym (slice_get-get_or ds i d within) ∙ at) in
+    let itself : same_dependency d (get_or ds i d) ≡ true = subst (λ x. same_dependency d x ≡ true) (sym here) (same_dependency_itself d) in
+    let fails : (k : ℕ) → k < i → same_dependency d (get_or ds k d) ≡ false =
+    λ k l. not_true (same_dependency d (get_or ds k d)) (λ same.
+    true≢false (sym itself ∙ subst (λ x. same_dependency x (get_or ds i d) ≡ false) (sym (same_dependency_so d (get_or ds k d) same)) (apart_from_distinct same_dependency ds k i d once l within))) in
+    let first = position_or_len_is (same_dependency d) ds i d (omega arith) fails (λ _. itself) in
+    found (position_or_len (same_dependency d) ds) i (length ds) first within
+  where
+    not_true : (b : Bool) → (b ≡ true → ⊥) → b ≡ false
+    not_true true n = absurd (n refl)
+    not_true false n = refl
+
+    found : (n i m : ℕ) → n ≡ i → i < m → cond (nat_lt n m) (Some n) None ≡ Some i
+    found n i m e l = ap (λ x. cond (nat_lt x m) (Some x) None) e ∙ ap (λ b. cond b (Some i) None) (lt-ltb i m l)
 
 absent_lookup : {V : Type 0} → (d : Dependency) (es : List (Dependency × V)) → position (same_dependency d) (keys_of es) ≡ None → lookup (same_dependency d) es ≡ None
 absent_lookup {V} d es h = none_is _ (sym (some_index (same_dependency d) es) ∙ ap is_some h)

@@ -1,15 +1,17 @@
 -- Dependencies in order, and whether there is room for one more.
 use Rattle.std.specs.Prelude.{◌≡◌, ℕ, List, Bool, ◌&&◌, length, take, nat_lt, nat_eq}
 use Rattle.std.specs.List.{IsDistinct}
-use Rattle.trace_model.specs.Dependencies.{Dependency, same_dependency}
+use Rattle.trace_model.specs.Theory.Dependencies.{Dependency, same_dependency}
 
--- distinct dependencies in their order, how many of them have a number by hash, and whether there is room for one more
+-- distinct dependencies in their order, how many of them have a number by hash, and whether there
+-- is room for one more
 pub record Listed : Type 0 where
   pub keys : List Dependency
   pub numbered : ℕ
   pub room : Bool
 
--- the first ones have a number by hash; there is room where all have one, and there is a place for one more
+-- the first ones have a number by hash; there is room where all have one, and there is a place for
+-- one more
 abbrev pub listed_by : List Dependency × Bool → List Dependency → ℕ → Listed
 listed_by list numbered spare = record {
   keys = list.0;

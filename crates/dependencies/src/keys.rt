@@ -1,22 +1,34 @@
-//! The dependencies in order of first appearance, in segments that later tables share, and their numbers by hash.
+//! The dependencies in order of first appearance, in segments that later tables share, and their
+//! numbers by hash.
 
 ghost use Rattle.std.specs.Prelude.{◌≡◌, ◌≤◌, ◌<◌, ◌+◌, [], ◌∷◌, ◌++◌, length, take, Some, None, slice_get, true, OnOk, IfOk, position};
 ghost use Rattle.std.specs.Map.{keys_of};
-ghost use Rattle.trace_model.specs.Dependencies.{same_dependency};
+ghost use Rattle.trace_model.specs.Theory.Dependencies.{same_dependency};
 
 use crate::Dependency;
 use indexmap::IndexMap;
 use segments::Segments;
+use slots::Guesses;
 use std::alloc::Global;
 use std::collections::hash_map::RandomState;
 use std::marker::Model;
 use trace_model::NoMemory;
 
-/// Dependencies in order, each once. A table that shares them has no number by hash until room is made in it.
+/// Dependencies in order, each once. A table that shares them has no number by hash until room is
+/// made in it. The number of one that came lately is looked for in a cell of its thread and lock,
+/// before its held set is hashed.
 #[derive(Drop)]
 pub(crate) struct Keys {
     list: Segments<Dependency>,
     numbers: IndexMap<Dependency, (), RandomState>,
+    guesses: Guesses,
+}
+
+/// The cell of a dependency.
+fn cell(dependency: &Dependency) -> u32 {
+    dependency
+        .lock
+        .wrapping_add(dependency.thread.wrapping_mul(31))
 }
 
 impl Model for Keys {
@@ -39,6 +51,7 @@ impl Keys {
         Keys {
             list: Segments::new(alloc),
             numbers: IndexMap::with_hasher(alloc, state),
+            guesses: Guesses::new(),
         }
     }
 
@@ -61,11 +74,26 @@ impl Keys {
         dependency
     }
 
+    /// Whether a dependency has this number.
+    fn stands_at(&self, number: usize, dependency: &Dependency) -> bool
+        ensures { result ≡ true →
+            position (same_dependency dependency.now) self.now.keys ≡ Some number }
+    {
+        match self.list.item(number) {
+            Some(known) => *known == *dependency,
+            None => false,
+        }
+    }
+
     /// The number of a dependency, if it has one, where room was made.
     pub(crate) fn number_of(&self, dependency: &Dependency) -> Option<usize>
         requires { self.now.room ≡ true }
         ensures { result ≡ position (same_dependency dependency.now) self.now.keys }
     {
+        let guess = self.guesses.of(cell(dependency));
+        if self.stands_at(guess, dependency) {
+            return Some(guess);
+        }
         self.numbers.get_index_of(dependency)
     }
 
@@ -89,6 +117,7 @@ impl Keys {
         requires room { self.old.room ≡ true }
         ensures { self.new.keys ≡ self.old.keys ++ dependency ∷ [] }
     {
+        self.guesses.note(cell(&dependency), self.numbers.len());
         self.list.put(dependency.copied());
         let Ok(_) = self.numbers.insert(dependency, ()) else {
             unreachable!()
@@ -111,6 +140,7 @@ impl Keys {
         Ok(Keys {
             list,
             numbers: IndexMap::with_hasher(alloc, state),
+            guesses: Guesses::new(),
         })
     }
 

@@ -1,3 +1,5 @@
+//! The dependencies of a trace that grows, numbered by first appearance.
+
 ghost use Rattle.std.specs.Prelude.{◌≡◌, ◌<◌, ◌≤◌, [], nat_eq, length, Some, slice_get, true, IfOk, OnOk, OnErr};
 ghost use Rattle.dependencies.specs.Tables.{known, places_of, AllBelow, IsNoted, IsPart, IsTotal};
 
@@ -59,7 +61,8 @@ impl DepTable {
         self.entries.dependency(number as usize)
     }
 
-    /// The places of the dependency with this number, which must be below `len()`. It takes no memory.
+    /// The places of the dependency with this number, which must be below `len()`. It takes no
+    /// memory.
     pub fn places(&self, number: u32) -> PlacesOf<'_>
         requires { number < length (known self.now) }
         ensures { result ≡ places_of self.now number }
@@ -94,8 +97,8 @@ impl DepTable {
         self.make_room()
     }
 
-    /// Makes room for any one place of any dependency, which stands until `record` takes it. What the table shows
-    /// stays as it was.
+    /// Makes room for any one place of any dependency, which stands until `record` takes it. What
+    /// the table shows stays as it was.
     ///
     /// # Errors
     ///
@@ -118,9 +121,10 @@ impl DepTable {
         self.entries.record(place, dependency) as u32
     }
 
-    /// The table that a beginning of the trace has: the dependencies below the total, with their places below
-    /// `events`. The total must be the number of dependencies with such a place. What was noted later is not
-    /// shown. It takes time for at most 4,096 dependencies and 4,096 places, and for each full segment of either.
+    /// The table that a beginning of the trace has: the dependencies below the total, with their
+    /// places below `events`. The total must be the number of dependencies with such a place. What
+    /// was noted later is not shown. It takes time for at most 4,096 dependencies and 4,096 places,
+    /// and for each full segment of either.
     ///
     /// # Errors
     ///

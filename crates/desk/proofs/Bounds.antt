@@ -3,10 +3,10 @@ use Rattle.std.proofs.Common.{◌≡◌, ℕ, ◌<◌, ◌≤◌, Bool, List, le
 use Rattle.std.proofs.lemmas.List.{length-map}
 use Rattle.std.proofs.lemmas.Option.{same_Some, slice_get-map, slice_get_within}
 use Rattle.trace_model.specs.declared.limits.TheConstants.{MAX_EVENTS, MIN_BOUND, MAX_BOUND}
-use Rattle.trace_model.specs.declared.step.BoardStep.{BoardStep}
-use Rattle.trace_model.specs.Rows.{AreRows}
-use Rattle.trace_model.specs.Runs.{Shown, IsLegal, summary}
-use Rattle.trace_model.proofs.Bounds.{run_is_within}
+use Rattle.trace_model.specs.declared.messages.step.BoardStep.{BoardStep}
+use Rattle.trace_model.specs.Theory.Rows.{AreRows}
+use Rattle.trace_model.specs.Protocol.Runs.{Shown, IsLegal, summary}
+use Rattle.trace_model.proofs.Protocol.Bounds.{run_is_within}
 use Rattle.trace_model.proofs.Lists.{at_index}
 use Rattle.board.specs.declared.summary.QuestionSummary.{QuestionSummary}
 use Rattle.board.specs.declared.summary.Unsettled.{Unsettled}

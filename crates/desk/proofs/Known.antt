@@ -4,16 +4,16 @@ use Rattle.std.proofs.lemmas.Bool.{cases_eq}
 use Rattle.std.proofs.lemmas.List.{take-append-le}
 use Rattle.std.proofs.lemmas.Option.{same_Some}
 use Rattle.trace_model.specs.declared.limits.TheConstants.{MAX_EVENTS}
-use Rattle.trace_model.specs.declared.step.BoardStep.{BoardStep}
-use Rattle.trace_model.specs.declared.step.BoardStep.TheVariants.{Accept, Open, Deliver}
-use Rattle.trace_model.specs.Trace.{Trace}
-use Rattle.trace_model.specs.Rows.{AreRows}
-use Rattle.trace_model.specs.Bounds.{StateFits}
-use Rattle.trace_model.specs.Machine.{Question, State, opening}
-use Rattle.trace_model.specs.Runs.{IsRun, TakesStep}
-use Rattle.trace_model.proofs.Bounds.{opening_fits, run_fits, step_fits}
+use Rattle.trace_model.specs.declared.messages.step.BoardStep.{BoardStep}
+use Rattle.trace_model.specs.declared.messages.step.BoardStep.TheVariants.{Accept, Open, Deliver}
+use Rattle.trace_model.specs.Theory.Trace.{Trace}
+use Rattle.trace_model.specs.Theory.Rows.{AreRows}
+use Rattle.trace_model.specs.Protocol.Bounds.{StateFits}
+use Rattle.trace_model.specs.Protocol.Machine.{Question, State, opening}
+use Rattle.trace_model.specs.Protocol.Runs.{IsRun, TakesStep}
+use Rattle.trace_model.proofs.Protocol.Bounds.{opening_fits, run_fits, step_fits}
 use Rattle.trace_model.proofs.Lists.{get-push_kept, get-set_other, get-set_same}
-use Rattle.trace_model.proofs.Taking.{run_parts, run_unique}
+use Rattle.trace_model.proofs.Protocol.Taking.{run_parts, run_unique}
 use Rattle.sequencer.specs.Book.{AreKnown}
 use Rattle.desk.specs.Published.{After, Afterwards}
 use Rattle.desk.specs.Questions.{AreEventsOf}
@@ -56,7 +56,8 @@ begun_keeps limit early late s t number events allowed (rest, is) was now are =
 one_list : (s : State) (number : ℕ) (events : Trace) → AreEventsOf s number events → AreKnown s number events
 one_list s number events (p, there, are) q at = are ∙ ap (λ (x : Question). take x.length s.accepted) (same_Some p q (sym there ∙ at))
 
--- the events that a question is about after one of two runs are known after the other, where one of the runs begins the other
+-- the events that a question is about after one of two runs are known after the other, where one of
+-- the runs begins the other
 pub known_of : (limit : ℕ) (told run both : List BoardStep) (s : State) (number : ℕ) (events : Trace) → limit ≤ MAX_EVENTS →
     IsPrefix told both → IsPrefix run both → (both ≡ told) ⊎ (both ≡ run) → After limit run s →
     Afterwards limit told (λ state. AreEventsOf state number events) → AreKnown s number events

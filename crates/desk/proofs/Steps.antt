@@ -1,19 +1,19 @@
 -- A run goes on with what the machine takes.
 use Rattle.std.proofs.Common.{◌≡◌, ℕ, zero, suc, ◌≤◌, List, [], ◌∷◌, ◌++◌, length, take, Option, None, refl, sym, ap, subst, ◌∙◌, arith}
 use Rattle.std.proofs.lemmas.List.{length-map, length-take}
-use Rattle.trace_model.specs.declared.event.Event.{Event}
+use Rattle.trace_model.specs.declared.traces.event.Event.{Event}
 use Rattle.trace_model.specs.declared.limits.TheConstants.{MAX_CYCLES}
 use Rattle.trace_model.specs.declared.refusal.Refusal.{Refusal}
-use Rattle.trace_model.specs.declared.step.BoardStep.{BoardStep}
-use Rattle.trace_model.specs.declared.step.BoardStep.TheVariants.{Accept, Open}
-use Rattle.trace_model.specs.declared.session.Request.TheVariants.{Ask}
-use Rattle.trace_model.specs.Lawful.{refusal_of}
-use Rattle.trace_model.specs.Batches.{IsBatch}
-use Rattle.trace_model.specs.Rows.{AreRows}
-use Rattle.trace_model.specs.Dependencies.{dependencies}
-use Rattle.trace_model.specs.Machine.{State, opening, ask_refused, ask_reply, deliver_refused, step, with_event, with_question}
-use Rattle.trace_model.specs.Runs.{IsLegal, TakesStep}
-use Rattle.trace_model.proofs.Taking.{machine_steps, one_takes, run_legal, run_push}
+use Rattle.trace_model.specs.declared.messages.step.BoardStep.{BoardStep}
+use Rattle.trace_model.specs.declared.messages.step.BoardStep.TheVariants.{Accept, Open}
+use Rattle.trace_model.specs.declared.messages.session.Request.TheVariants.{Ask}
+use Rattle.trace_model.specs.Theory.Lawful.{refusal_of}
+use Rattle.trace_model.specs.Protocol.Batches.{IsBatch}
+use Rattle.trace_model.specs.Theory.Rows.{AreRows}
+use Rattle.trace_model.specs.Theory.Dependencies.{dependencies}
+use Rattle.trace_model.specs.Protocol.Machine.{State, opening, ask_refused, ask_reply, deliver_refused, step, with_event, with_question}
+use Rattle.trace_model.specs.Protocol.Runs.{IsLegal, TakesStep}
+use Rattle.trace_model.proofs.Protocol.Taking.{machine_steps, one_takes, run_legal, run_push}
 use Rattle.findings.specs.Found.{AreRowsOf, FoundRows}
 use Rattle.sequencer.specs.declared.asking.Opened.{Opened}
 use Rattle.sequencer.specs.declared.batching.Batched.{Batched}

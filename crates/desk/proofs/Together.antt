@@ -2,7 +2,7 @@
 use Rattle.std.proofs.Common.{◌≡◌, ℕ, List, [], ◌∷◌, ◌++◌, length, map, take, slice_get, Some, None, Ok, Err, OnOk, OnErr, IfErr, inl, inr, refl, sym, ap, subst, ◌∙◌, arith, append_assoc}
 use Rattle.std.proofs.lemmas.List.{append-nil, map-append, take-append-le}
 use Rattle.std.proofs.lemmas.Option.{none-some, same_Some, slice_get_within}
-use Rattle.trace_model.specs.declared.step.BoardStep.{BoardStep}
+use Rattle.trace_model.specs.declared.messages.step.BoardStep.{BoardStep}
 use Rattle.trace_model.proofs.Lists.{get-append, get-push, get-push_last, length-push, take-push}
 use Rattle.findings.specs.Found.{AreRowsOf, FoundRows}
 use Rattle.sequencer.specs.Sessions.{Delivered, delivery}

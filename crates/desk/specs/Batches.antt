@@ -1,9 +1,9 @@
 -- Events that are offered to a desk at once.
 use Rattle.std.specs.Prelude.{◌≡◌, ℕ, List, [], ◌∷◌, ◌++◌, take}
-use Rattle.trace_model.specs.declared.event.Event.{Event}
-use Rattle.trace_model.specs.declared.step.BoardStep.{BoardStep}
-use Rattle.trace_model.specs.declared.step.BoardStep.TheVariants.{Accept}
-use Rattle.trace_model.specs.Machine.{State}
+use Rattle.trace_model.specs.declared.traces.event.Event.{Event}
+use Rattle.trace_model.specs.declared.messages.step.BoardStep.{BoardStep}
+use Rattle.trace_model.specs.declared.messages.step.BoardStep.TheVariants.{Accept}
+use Rattle.trace_model.specs.Protocol.Machine.{State}
 use Rattle.sequencer.specs.Batched.{IsBatched}
 use Rattle.sequencer.specs.declared.batching.Batched.{Batched}
 use Rattle.desk.specs.Published.{After}
@@ -13,8 +13,10 @@ abbrev pub accepting : List Event → List BoardStep
 accepting [] = []
 accepting (e ∷ events) = Accept (e ∷ events) ∷ []
 
--- the run ends with the step of those of the events that came in, after which the others were refused
-pub record EndsByBatch (limit : ℕ) (run : List BoardStep) (events : List Event) (batched : Batched) : Type 0 where
+-- the run ends with the step of those of the events that came in, after which the others were
+-- refused
+pub record EndsByBatch (limit : ℕ) (run : List BoardStep) (events : List Event)
+    (batched : Batched) : Type 0 where
   pub before : List BoardStep
   pub state : State
   pub next : State

@@ -2,11 +2,11 @@
 use Rattle.std.specs.Prelude.{◌≡◌, ℕ, ◌≤◌, List, [], ◌∷◌, ◌++◌, length, None}
 use Rattle.std.specs.List.{count_by}
 use Rattle.trace_model.specs.declared.limits.TheConstants.{MAX_EVENTS}
-use Rattle.trace_model.specs.declared.step.BoardStep.{BoardStep}
-use Rattle.trace_model.specs.declared.step.BoardStep.TheVariants.{Deliver}
-use Rattle.trace_model.specs.Rows.{AreRows}
-use Rattle.trace_model.specs.Machine.{State, opening, is_confirmed}
-use Rattle.trace_model.specs.Runs.{IsRun}
+use Rattle.trace_model.specs.declared.messages.step.BoardStep.{BoardStep}
+use Rattle.trace_model.specs.declared.messages.step.BoardStep.TheVariants.{Deliver}
+use Rattle.trace_model.specs.Theory.Rows.{AreRows}
+use Rattle.trace_model.specs.Protocol.Machine.{State, opening, is_confirmed}
+use Rattle.trace_model.specs.Protocol.Runs.{IsRun}
 use Rattle.findings.specs.Found.{FoundRows}
 use Rattle.sequencer.specs.Book.{findings_rows}
 use Rattle.sequencer.specs.Sessions.{delivery}
@@ -29,10 +29,12 @@ pub record IsKept (limit : ℕ) (published waiting : List BoardStep) (state : St
 
 -- the step that a finding is published as
 abbrev pub delivery_step : FoundRows → BoardStep
-delivery_step f = Deliver f.question f.task (length (findings_rows f)) (count_by is_confirmed (findings_rows f))
+delivery_step f = Deliver f.question f.task (length (findings_rows f))
+    (count_by is_confirmed (findings_rows f))
 
 -- the run ends with this step, by which the machine went so
-pub record EndsBy (limit : ℕ) (run : List BoardStep) (last : BoardStep) (went : State → State → Type 0) : Type 0 where
+pub record EndsBy (limit : ℕ) (run : List BoardStep) (last : BoardStep) (went : State → State →
+    Type 0) : Type 0 where
   pub before : List BoardStep
   pub state : State
   pub next : State
@@ -44,7 +46,8 @@ pub record EndsBy (limit : ℕ) (run : List BoardStep) (last : BoardStep) (went 
 -- the finding was taken by the last step of a run, and all of that run was seen
 abbrev pub WasTaken : ℕ → FoundRows → List BoardStep → Type 0
 WasTaken limit f seen =
-    (run : List BoardStep) × EndsBy limit run (delivery_step f) (λ state next. delivery state f ≡ (None, next)) × IsPrefix run seen
+    (run : List BoardStep) × EndsBy limit run (delivery_step f)
+    (λ state next. delivery state f ≡ (None, next)) × IsPrefix run seen
 
 -- this is so of the machine after the run
 abbrev pub Afterwards : ℕ → List BoardStep → (State → Type 0) → Type 0

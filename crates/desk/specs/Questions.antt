@@ -1,7 +1,7 @@
 -- What a worker asks of the machine's questions.
 use Rattle.std.specs.Prelude.{◌≡◌, ℕ, take, slice_get, Option, Some, None, MatchOption}
-use Rattle.trace_model.specs.Trace.{Trace}
-use Rattle.trace_model.specs.Machine.{Question, State}
+use Rattle.trace_model.specs.Theory.Trace.{Trace}
+use Rattle.trace_model.specs.Protocol.Machine.{Question, State}
 use Rattle.sequencer.specs.Book.{IsLeastMissing}
 
 -- these are the events that the question with this number is about
@@ -9,7 +9,8 @@ abbrev pub AreEventsOf : State → ℕ → Trace → Type 0
 AreEventsOf s number events =
     (q : Question) × (slice_get s.questions number ≡ Some q) × (events ≡ take q.length s.accepted)
 
--- this is the least task of the question with this number that is not delivered, or none where all are
+-- this is the least task of the question with this number that is not delivered, or none where all
+-- are
 abbrev pub IsFirstMissing : State → ℕ → Option ℕ → Type 0
 IsFirstMissing s number found =
     (q : Question) × (slice_get s.questions number ≡ Some q)

@@ -1,6 +1,6 @@
 -- Findings that are delivered one after another, with nothing between them.
 use Rattle.std.specs.Prelude.{◌≡◌, ℕ, List, [], ◌∷◌, ◌++◌, length, map, take, slice_get, Some, None, Ok, Err}
-use Rattle.trace_model.specs.declared.step.BoardStep.{BoardStep}
+use Rattle.trace_model.specs.declared.messages.step.BoardStep.{BoardStep}
 use Rattle.findings.specs.Found.{AreRowsOf, FoundRows}
 use Rattle.sequencer.specs.Sessions.{Delivered, delivery}
 use Rattle.desk.specs.Published.{Afterwards, delivery_step}
@@ -16,23 +16,28 @@ taken _ _ = []
 abbrev pub taken_steps : List FoundRows → List Delivered → List BoardStep
 taken_steps findings outcomes = map delivery_step (taken findings outcomes)
 
--- what became of a finding that was delivered after the run: the machine takes it then, and its rows are exact; or it
--- is refused then, and handed back
+-- what became of a finding that was delivered after the run: the machine takes it then, and its
+-- rows are exact; or it is refused then, and handed back
 abbrev pub IsOutcome : ℕ → List BoardStep → FoundRows → Delivered → Type 0
 IsOutcome limit run f (Ok u) =
-    Afterwards limit run (λ state. (delivery state f).0 ≡ None) × AreRowsOf f.events f.bound f.task f.rows
+    Afterwards limit run (λ state. (delivery state f).0 ≡ None)
+    × AreRowsOf f.events f.bound f.task f.rows
 IsOutcome limit run f (Err refused) =
     Afterwards limit run (λ state. RefusesFinding state f refused.0) × (refused.1 ≡ f)
 
--- what became of findings that were delivered after the run: of each what becomes of it after the run and those
--- findings before it that were taken
-pub record AreOutcomes (limit : ℕ) (run : List BoardStep) (findings : List FoundRows) (outcomes : List Delivered) : Type 0 where
+-- what became of findings that were delivered after the run: of each what becomes of it after the
+-- run and those findings before it that were taken
+pub record AreOutcomes (limit : ℕ) (run : List BoardStep) (findings : List FoundRows)
+    (outcomes : List Delivered) : Type 0 where
   pub count : length outcomes ≡ length findings
-  pub each : (k : ℕ) (f : FoundRows) (outcome : Delivered) → slice_get findings k ≡ Some f → slice_get outcomes k ≡ Some outcome →
+  pub each : (k : ℕ) (f : FoundRows) (outcome : Delivered) → slice_get findings k ≡ Some f →
+      slice_get outcomes k ≡ Some outcome →
       IsOutcome limit (run ++ taken_steps (take k findings) (take k outcomes)) f outcome
 
--- the run ends with the steps of those that were taken; all were delivered after what stands before these
-pub record EndsByAll (limit : ℕ) (run : List BoardStep) (findings : List FoundRows) (outcomes : List Delivered) : Type 0 where
+-- the run ends with the steps of those that were taken; all were delivered after what stands before
+-- these
+pub record EndsByAll (limit : ℕ) (run : List BoardStep) (findings : List FoundRows)
+    (outcomes : List Delivered) : Type 0 where
   pub before : List BoardStep
   pub ends : run ≡ before ++ taken_steps findings outcomes
   pub are : AreOutcomes limit before findings outcomes

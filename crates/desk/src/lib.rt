@@ -1,7 +1,7 @@
 //! The desk: one book that threads share, behind a lock, with the board that shows it.
 //!
-//! Whenever the lock is free, the published steps are a legal run, the book is the machine after it, and the
-//! board shows its summary. Whoever was answered holds a receipt that says so.
+//! Whenever the lock is free, the published steps are a legal run, the book is the machine after
+//! it, and the board shows its summary. Whoever was answered holds a receipt that says so.
 #![tactic(auto)]
 
 mod desk;

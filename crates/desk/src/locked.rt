@@ -3,12 +3,12 @@
 ghost use Rattle.std.specs.Prelude.{◌≡◌, ◌<◌, [], ◌∷◌, ◌++◌, length, take, slice_get, IfOk, IfErr, OnOk, OnErr, None, Some};
 ghost use Rattle.std.specs.Arc.{arc_value};
 ghost use Rattle.std.specs.Result.{result_err};
-ghost use Rattle.trace_model.specs.Batches.{IsBatch};
-ghost use Rattle.trace_model.specs.Machine.{opening, step};
-ghost use Rattle.trace_model.specs.Runs.{IsLegal};
-ghost use Rattle.trace_model.specs.declared.step.BoardStep.TheVariants as steps;
-ghost use Rattle.trace_model.specs.declared.session.Request.TheVariants as requests;
-ghost use Rattle.trace_model.specs.declared.session.Reply.TheVariants.{Placed, Refused};
+ghost use Rattle.trace_model.specs.Protocol.Batches.{IsBatch};
+ghost use Rattle.trace_model.specs.Protocol.Machine.{opening, step};
+ghost use Rattle.trace_model.specs.Protocol.Runs.{IsLegal};
+ghost use Rattle.trace_model.specs.declared.messages.step.BoardStep.TheVariants as steps;
+ghost use Rattle.trace_model.specs.declared.messages.session.Request.TheVariants as requests;
+ghost use Rattle.trace_model.specs.declared.messages.session.Reply.TheVariants.{Placed, Refused};
 ghost use Rattle.findings.specs.Found.{AreRowsOf};
 ghost use Rattle.sequencer.specs.Batched.{IsBatched};
 ghost use Rattle.sequencer.specs.Book.{IsLimit, Refuses, RefusesSnapshot, answer_refusal, answer_reply, ask_refusal, finding_refused, opened_reply};
@@ -49,8 +49,8 @@ pub enum DeskRefused {
     NotMade,
 }
 
-/// The book with the board's writer. Contracts see it as the published steps and the state of the book, which
-/// is the machine's after these steps.
+/// The book with the board's writer. Contracts see it as the published steps and the state of the
+/// book, which is the machine's after these steps.
 #[derive(Drop)]
 pub struct Locked<N: Naming, R: Wait + Copy, T: Follows<N>> {
     book: Book,
@@ -68,13 +68,13 @@ impl<N: Naming, R: Wait + Copy, T: Follows<N>> Model for Locked<N, R, T> {
 }
 
 impl<N: Naming, R: Wait + Copy> Locked<N, R, Shown<N>> {
-    /// A book without events, which accepts at most `max_events`, and a board that shows nothing, with so many
-    /// readers. The history must have just been opened.
+    /// A book without events, which accepts at most `max_events`, and a board that shows nothing,
+    /// with so many readers. The history must have just been opened.
     ///
     /// # Errors
     ///
-    /// `BadLimit` where `max_events` is not 1 to `MAX_EVENTS`, then `BadCount` where the readers are not 1 to
-    /// 40, then `NotMade` where a growth was refused.
+    /// `BadLimit` where `max_events` is not 1 to `MAX_EVENTS`, then `BadCount` where the readers
+    /// are not 1 to 40, then `NotMade` where a growth was refused.
     pub fn new(
         alloc: Global,
         state: RandomState,
@@ -117,8 +117,8 @@ impl<N: Naming, R: Wait + Copy, T: Follows<N>> Locked<N, R, T> {
         self.board.summary()
     }
 
-    /// Offers an event. An accepted one gets its place and is published. The receipt names all that is then
-    /// published.
+    /// Offers an event. An accepted one gets its place and is published. The receipt names all that
+    /// is then published.
     ///
     /// # Errors
     ///
@@ -126,9 +126,13 @@ impl<N: Naming, R: Wait + Copy, T: Follows<N>> Locked<N, R, T> {
     pub fn offer(&mut self, event: Event) -> (Result<Place, Refusal>, Receipt<N>)
         ensures before { After N.limit self.old.published self.old.state }
         ensures after { After N.limit self.new.published self.new.state }
-        ensures placed { IfOk result.0 (λ place. step printing self.old.state (requests.Offer event) ≡ (Placed place, self.new.state)) }
-        ensures published { OnOk result.0 (self.new.published ≡ self.old.published ++ steps.Accept (event ∷ []) ∷ []) }
-        ensures refused { IfErr result.0 (λ refusal. Refuses self.old.state (requests.Offer event) (Refused refusal)) }
+        ensures placed { IfOk result.0
+            (λ place. step printing self.old.state (requests.Offer event) ≡
+            (Placed place, self.new.state)) }
+        ensures published { OnOk result.0 (self.new.published ≡ self.old.published ++
+            steps.Accept (event ∷ []) ∷ []) }
+        ensures refused { IfErr result.0
+            (λ refusal. Refuses self.old.state (requests.Offer event) (Refused refusal)) }
         ensures same { OnErr result.0 (self.new ≡ self.old) }
         ensures receipt { result.1 ≡ self.new.published }
         ensures legal { IsLegal self.new.published }
@@ -144,15 +148,16 @@ impl<N: Naming, R: Wait + Copy, T: Follows<N>> Locked<N, R, T> {
         (Ok(place), publish(&mut self.board))
     }
 
-    /// Offers the events of a batch, of which there are 1 to `MAX_BATCH`: those before the first that is refused are
-    /// accepted, and published as one step. Where none is, nothing has changed. The receipt names all that is then
-    /// published.
+    /// Offers the events of a batch, of which there are 1 to `MAX_BATCH`: those before the first
+    /// that is refused are accepted, and published as one step. Where none is, nothing has changed.
+    /// The receipt names all that is then published.
     pub fn offer_batch(&mut self, events: &[Event]) -> (Batched, Receipt<N>)
         requires { IsBatch events.now }
         ensures before { After N.limit self.old.published self.old.state }
         ensures after { After N.limit self.new.published self.new.state }
         ensures batched { IsBatched self.old.state events.now result.0 self.new.state }
-        ensures published { self.new.published ≡ self.old.published ++ accepting (take result.0.accepted events.now) }
+        ensures published { self.new.published ≡ self.old.published ++
+            accepting (take result.0.accepted events.now) }
         ensures receipt { result.1 ≡ self.new.published }
         ensures legal { IsLegal self.new.published }
     {
@@ -183,8 +188,8 @@ impl<N: Naming, R: Wait + Copy, T: Follows<N>> Locked<N, R, T> {
         }
     }
 
-    /// Asks about the present events. An opened question is published. The receipt names all that is then
-    /// published.
+    /// Asks about the present events. An opened question is published. The receipt names all that
+    /// is then published.
     ///
     /// # Errors
     ///
@@ -192,9 +197,14 @@ impl<N: Naming, R: Wait + Copy, T: Follows<N>> Locked<N, R, T> {
     pub fn ask(&mut self, bound: u8) -> (Result<Opened, AskRefused>, Receipt<N>)
         ensures before { After N.limit self.old.published self.old.state }
         ensures after { After N.limit self.new.published self.new.state }
-        ensures opened { IfOk result.0 (λ opened. step printing self.old.state (requests.Ask bound) ≡ (opened_reply opened, self.new.state)) }
-        ensures published { IfOk result.0 (λ opened. self.new.published ≡ self.old.published ++ steps.Open bound opened.total ∷ []) }
-        ensures refused { IfErr result.0 (λ refused. Refuses self.old.state (requests.Ask bound) (Refused (ask_refusal refused))) }
+        ensures opened { IfOk result.0
+            (λ opened. step printing self.old.state (requests.Ask bound) ≡
+            (opened_reply opened, self.new.state)) }
+        ensures published { IfOk result.0 (λ opened. self.new.published ≡ self.old.published ++
+            steps.Open bound opened.total ∷ []) }
+        ensures refused { IfErr result.0
+            (λ refused. Refuses self.old.state (requests.Ask bound)
+            (Refused (ask_refusal refused))) }
         ensures same { OnErr result.0 (self.new ≡ self.old) }
         ensures receipt { result.1 ≡ self.new.published }
         ensures legal { IsLegal self.new.published }
@@ -212,19 +222,23 @@ impl<N: Naming, R: Wait + Copy, T: Follows<N>> Locked<N, R, T> {
         (Ok(opened), publish(&mut self.board))
     }
 
-    /// Takes the rows of a task of a question. What is taken is published. The receipt names all that is then
-    /// published.
+    /// Takes the rows of a task of a question. What is taken is published. The receipt names all
+    /// that is then published.
     ///
     /// # Errors
     ///
-    /// The book's refusal, and `NoMemory` where it has none, with the finding handed back. Nothing has changed.
+    /// The book's refusal, and `NoMemory` where it has none, with the finding handed back. Nothing
+    /// has changed.
     pub fn deliver(&mut self, finding: Finding) -> (Result<(), (Refusal, Finding)>, Receipt<N>)
         ensures before { After N.limit self.old.published self.old.state }
         ensures after { After N.limit self.new.published self.new.state }
         ensures taken { OnOk result.0 (delivery self.old.state finding ≡ (None, self.new.state)) }
-        ensures published { OnOk result.0 (self.new.published ≡ self.old.published ++ delivery_step finding ∷ []) }
-        ensures exact { OnOk result.0 (AreRowsOf finding.events finding.bound finding.task finding.rows) }
-        ensures refused { IfErr result.0 (λ refused. RefusesFinding self.old.state finding refused.0) }
+        ensures published { OnOk result.0 (self.new.published ≡ self.old.published ++
+            delivery_step finding ∷ []) }
+        ensures exact { OnOk result.0
+            (AreRowsOf finding.events finding.bound finding.task finding.rows) }
+        ensures refused { IfErr result.0
+            (λ refused. RefusesFinding self.old.state finding refused.0) }
         ensures back { IfErr result.0 (λ refused. refused.1 ≡ finding) }
         ensures same { OnErr result.0 (self.new ≡ self.old) }
         ensures receipt { result.1 ≡ self.new.published }
@@ -234,8 +248,8 @@ impl<N: Naming, R: Wait + Copy, T: Follows<N>> Locked<N, R, T> {
         self.take_if(admitted, finding)
     }
 
-    /// Does what `deliver` does with a finding of one of the desk's own questions, whose events it does not compare:
-    /// its receipt says that they are those of the question.
+    /// Does what `deliver` does with a finding of one of the desk's own questions, whose events it
+    /// does not compare: its receipt says that they are those of the question.
     ///
     /// # Errors
     ///
@@ -247,7 +261,8 @@ impl<N: Naming, R: Wait + Copy, T: Follows<N>> Locked<N, R, T> {
         ensures before { After N.limit self.old.published self.old.state }
         ensures after { After N.limit self.new.published self.new.state }
         ensures taken { OnOk result.0 (delivery self.old.state own ≡ (None, self.new.state)) }
-        ensures published { OnOk result.0 (self.new.published ≡ self.old.published ++ delivery_step own ∷ []) }
+        ensures published { OnOk result.0 (self.new.published ≡ self.old.published ++
+            delivery_step own ∷ []) }
         ensures exact { OnOk result.0 (AreRowsOf own.events own.bound own.task own.rows) }
         ensures refused { IfErr result.0 (λ refused. RefusesFinding self.old.state own refused.0) }
         ensures back { IfErr result.0 (λ refused. refused.1 ≡ own) }
@@ -272,9 +287,12 @@ impl<N: Naming, R: Wait + Copy, T: Follows<N>> Locked<N, R, T> {
         ensures before { After N.limit self.old.published self.old.state }
         ensures after { After N.limit self.new.published self.new.state }
         ensures taken { OnOk result.0 (delivery self.old.state finding ≡ (None, self.new.state)) }
-        ensures published { OnOk result.0 (self.new.published ≡ self.old.published ++ delivery_step finding ∷ []) }
-        ensures exact { OnOk result.0 (AreRowsOf finding.events finding.bound finding.task finding.rows) }
-        ensures refused { IfErr result.0 (λ refused. RefusesFinding self.old.state finding refused.0) }
+        ensures published { OnOk result.0 (self.new.published ≡ self.old.published ++
+            delivery_step finding ∷ []) }
+        ensures exact { OnOk result.0
+            (AreRowsOf finding.events finding.bound finding.task finding.rows) }
+        ensures refused { IfErr result.0
+            (λ refused. RefusesFinding self.old.state finding refused.0) }
         ensures back { IfErr result.0 (λ refused. refused.1 ≡ finding) }
         ensures same { OnErr result.0 (self.new ≡ self.old) }
         ensures receipt { result.1 ≡ self.new.published }
@@ -292,21 +310,23 @@ impl<N: Naming, R: Wait + Copy, T: Follows<N>> Locked<N, R, T> {
         }
     }
 
-    /// Delivers the findings in their order, one after another: each as by `deliver`, and each that is taken is
-    /// published by itself. Answers what became of each, in the same order. The receipt names all that is then
-    /// published.
+    /// Delivers the findings in their order, one after another: each as by `deliver`, and each that
+    /// is taken is published by itself. Answers what became of each, in the same order. The receipt
+    /// names all that is then published.
     ///
     /// # Errors
     ///
-    /// All findings, handed back, where there is no memory for the list of what became of them, which an empty
-    /// list wants none of. Nothing has changed.
+    /// All findings, handed back, where there is no memory for the list of what became of them,
+    /// which an empty list wants none of. Nothing has changed.
     pub fn deliver_all(
         &mut self,
         findings: Vec<Finding>,
     ) -> Result<(Vec<Delivered>, Receipt<N>), Vec<Finding>>
         ensures after { After N.limit self.new.published self.new.state }
-        ensures outcomes { IfOk result (λ done. AreOutcomes N.limit self.old.published findings.items done.0.items) }
-        ensures published { IfOk result (λ done. self.new.published ≡ self.old.published ++ taken_steps findings.items done.0.items) }
+        ensures outcomes { IfOk result
+            (λ done. AreOutcomes N.limit self.old.published findings.items done.0.items) }
+        ensures published { IfOk result (λ done. self.new.published ≡ self.old.published ++
+            taken_steps findings.items done.0.items) }
         ensures receipt { IfOk result (λ done. done.1 ≡ self.new.published) }
         ensures back { IfErr result (λ all. all.items ≡ findings.items) }
         ensures same { OnErr result (self.new ≡ self.old) }
@@ -325,16 +345,20 @@ impl<N: Naming, R: Wait + Copy, T: Follows<N>> Locked<N, R, T> {
         Ok((outcomes, self.receipt()))
     }
 
-    /// What is known of the question: the report once all its tasks are delivered. The receipt names all that
-    /// is published. Nothing changes.
+    /// What is known of the question: the report once all its tasks are delivered. The receipt
+    /// names all that is published. Nothing changes.
     ///
     /// # Errors
     ///
     /// The book's refusal, and `NoMemory` where it has none.
     pub fn answer(&mut self, question: u32) -> (Result<Answer, AnswerRefused>, Receipt<N>)
         ensures before { After N.limit self.old.published self.old.state }
-        ensures told { IfOk result.0 (λ told. step printing self.old.state (requests.Answer question) ≡ (answer_reply question told, self.old.state)) }
-        ensures refused { IfErr result.0 (λ refused. Refuses self.old.state (requests.Answer question) (Refused (answer_refusal refused))) }
+        ensures told { IfOk result.0
+            (λ told. step printing self.old.state (requests.Answer question) ≡
+            (answer_reply question told, self.old.state)) }
+        ensures refused { IfErr result.0
+            (λ refused. Refuses self.old.state (requests.Answer question)
+            (Refused (answer_refusal refused))) }
         ensures same { self.new ≡ self.old }
         ensures receipt { result.1 ≡ self.new.published }
         ensures legal { IsLegal self.new.published }
@@ -357,13 +381,15 @@ impl<N: Naming, R: Wait + Copy, T: Follows<N>> Locked<N, R, T> {
     /// `NoSuchQuestion`, or `NoMemory` where a growth was refused.
     pub fn snapshot(&self, question: u32) -> Result<Arc<Snapshot, Global>, Refusal>
         ensures now { After N.limit self.now.published self.now.state }
-        ensures ok { IfOk result (λ shared. AreEventsOf self.now.state question (arc_value shared)) }
+        ensures ok { IfOk result (λ shared. AreEventsOf self.now.state question
+            (arc_value shared)) }
         ensures refused { IfErr result (RefusesSnapshot self.now.state question) }
     {
         self.book.snapshot(question)
     }
 
-    /// The least task of the question that is not delivered; none where all are. It takes no memory.
+    /// The least task of the question that is not delivered; none where all are. It takes no
+    /// memory.
     ///
     /// # Errors
     ///

@@ -1,5 +1,5 @@
-//! Jobs and findings of a desk's own questions. Their events are known to be those that the question is about, so
-//! that they need not be compared under the lock.
+//! Jobs and findings of a desk's own questions. Their events are known to be those that the
+//! question is about, so that they need not be compared under the lock.
 
 ghost use Rattle.std.specs.Prelude.{◌≡◌};
 ghost use Rattle.std.specs.Arc.{arc_value};
@@ -13,7 +13,8 @@ use std::marker::Model;
 use std::sync::Arc;
 use trace_model::Bound;
 
-/// The job of a question of the desk, with a receipt after which the question was open. Contracts see it as the job.
+/// The job of a question of the desk, with a receipt after which the question was open. Contracts
+/// see it as the job.
 #[derive(Drop)]
 pub(crate) struct OwnJob<N: Naming> {
     job: Job,
@@ -29,12 +30,14 @@ impl<N: Naming> Model for OwnJob<N> {
 
     ghost view = { λ own. own.job };
 
-    ghost invariant = { λ own. Afterwards N.limit own.receipt (λ state. AreEventsOf state own.job.question own.job.events) };
+    ghost invariant = { λ own.
+        Afterwards N.limit own.receipt
+        (λ state. AreEventsOf state own.job.question own.job.events) };
 }
 
 impl<N: Naming> OwnJob<N> {
-    /// The job of a question about the snapshot's events, which the question was about after all that the receipt
-    /// names. It takes no memory.
+    /// The job of a question about the snapshot's events, which the question was about after all
+    /// that the receipt names. It takes no memory.
     pub(crate) fn new(
         alloc: Global,
         snapshot: Arc<Snapshot, Global>,
@@ -42,7 +45,8 @@ impl<N: Naming> OwnJob<N> {
         bound: Bound,
         receipt: Receipt<N>,
     ) -> OwnJob<N>
-        requires known { Afterwards N.limit receipt (λ state. AreEventsOf state question (arc_value snapshot)) }
+        requires known { Afterwards N.limit receipt
+            (λ state. AreEventsOf state question (arc_value snapshot)) }
     {
         let job = Job::new(alloc, snapshot, question, bound);
         OwnJob { job, receipt }
@@ -65,8 +69,8 @@ impl<N: Naming> OwnJob<N> {
     }
 }
 
-/// The rows of a task of a question of the desk, with a receipt after which the question was open. Contracts see it as
-/// the finding.
+/// The rows of a task of a question of the desk, with a receipt after which the question was open.
+/// Contracts see it as the finding.
 #[derive(Drop)]
 pub(crate) struct OwnFinding<N: Naming> {
     finding: Finding,
@@ -82,14 +86,17 @@ impl<N: Naming> Model for OwnFinding<N> {
 
     ghost view = { λ own. own.finding };
 
-    ghost invariant = { λ own. Afterwards N.limit own.receipt (λ state. AreEventsOf state own.finding.question own.finding.events) };
+    ghost invariant = { λ own.
+        Afterwards N.limit own.receipt
+        (λ state. AreEventsOf state own.finding.question own.finding.events) };
 }
 
 impl<N: Naming> OwnFinding<N> {
     /// The finding, and a receipt after which its question was open.
     pub(crate) fn into_parts(self) -> (Finding, Receipt<N>)
         ensures finding { result.0 ≡ self }
-        ensures known { Afterwards N.limit result.1 (λ state. AreEventsOf state self.question self.events) }
+        ensures known { Afterwards N.limit result.1
+            (λ state. AreEventsOf state self.question self.events) }
     {
         let OwnFinding { finding, receipt } = self;
         (finding, receipt)

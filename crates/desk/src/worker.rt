@@ -57,8 +57,9 @@ struct Picked {
     left: bool,
 }
 
-/// Computes tasks for a desk. It keeps the job of a question while that is not settled, and gives up a question
-/// whose least missing task has too many cycles. Contracts see it as the steps that it has seen or was told of.
+/// Computes tasks for a desk. It keeps the job of a question while that is not settled, and gives
+/// up a question whose least missing task has too many cycles. Contracts see it as the steps that
+/// it has seen or was told of.
 #[derive(Drop)]
 pub struct Worker<N: Naming, R: Wait + Copy, T: Follows<N>> {
     desk: Arc<Desk<N, R, T>>,
@@ -70,7 +71,7 @@ pub struct Worker<N: Naming, R: Wait + Copy, T: Follows<N>> {
 
 impl<N: Naming, R: Wait + Copy, T: Follows<N>> Model for Worker<N, R, T> {
     ghost use Rattle.std.specs.Prelude.{List};
-    ghost use Rattle.trace_model.specs.declared.step.BoardStep.{BoardStep};
+    ghost use Rattle.trace_model.specs.declared.messages.step.BoardStep.{BoardStep};
 
     ghost Value = { List BoardStep };
 
@@ -95,12 +96,14 @@ impl<N: Naming, R: Wait + Copy, T: Follows<N>> Worker<N, R, T> {
         }
     }
 
-    /// Takes a task of the least question that is not settled, nor given up: one that it draws, or the least
-    /// missing one once all are drawn. Computes its rows with the lock free, calls the hold, and delivers. What
-    /// it delivered it has seen then. Where the least missing one has too many cycles, it gives the question up.
+    /// Takes a task of the least question that is not settled, nor given up: one that it draws, or
+    /// the least missing one once all are drawn. Computes its rows with the lock free, calls the
+    /// hold, and delivers. What it delivered it has seen then. Where the least missing one has too
+    /// many cycles, it gives the question up.
     pub fn turn(&mut self, hold: &impl Hold) -> Turn
         ensures later { IsPrefix self.old self.new }
-        ensures delivered { result ≡ Turn.Delivered → (finding : FoundRows) × WasTaken N.limit finding self.new }
+        ensures delivered { result ≡ Turn.Delivered → (finding : FoundRows)
+            × WasTaken N.limit finding self.new }
     {
         let Ok(found) = self.reader.least_unsettled(&self.given_up) else {
             return Turn::Failed(Failed::BoardBusy);

@@ -1,13 +1,9 @@
 //! A desk that threads share, by single events and by batches.
 
-ghost use Rattle.std.specs.Prelude.{◌≡◌};
-
-use crate::on_desk::{MOST, one_reader};
-use board::{BoardReader, Follows, Naming, Opened, Receipt, Shown};
+use crate::at_desk::{Script, at_desk};
+use board::{BoardReader, Follows, Naming, Receipt, Shown};
 use desk::Desk;
 use std::alloc::{AllocError, Global};
-use std::hash::RandomState;
-use std::marker::Brand;
 use std::process::Abort;
 use std::sync::Wait;
 use std::test::*;
@@ -21,7 +17,7 @@ type Offered<N> = (Vec<u32>, Vec<Receipt<N>>);
 
 /// How each thread offers its events.
 #[derive(Clone, Copy)]
-enum Offers {
+pub(crate) enum Offers {
     /// A hundred, one after another.
     Single,
     /// Ten batches of `MAX_BATCH`.
@@ -81,32 +77,12 @@ fn offer_events<N: Naming, R: Wait + Copy, T: Follows<N>>(
 
 #[test]
 fn eight_threads(rt: HostRuntime) -> Result<(), Fail> {
-    let state = RandomState::new(&rt)?;
-    offers_of_eight::<Brand, _>(rt, rt.alloc(), state, Opened::new(), MOST, Offers::Single)
+    at_desk(rt, Script::EightThreads(Offers::Single))
 }
 
 #[test]
 fn batches_from_eight_threads(rt: HostRuntime) -> Result<(), Fail> {
-    let state = RandomState::new(&rt)?;
-    offers_of_eight::<Brand, _>(rt, rt.alloc(), state, Opened::new(), MOST, Offers::Batches)
-}
-
-fn offers_of_eight<N: Naming + Send + Sync, R: Threads + Wait + Abort + Copy + Send + Sync>(
-    rt: R,
-    alloc: Global,
-    state: RandomState,
-    opened: Opened,
-    limit: u32,
-    how: Offers,
-) -> Result<(), Fail>
-    requires book { opened.seen.book ≡ N.book }
-    requires limit { limit ≡ N.limit }
-{
-    let (desk, mut reader) = one_reader::<N, R>(rt, alloc, state, opened, limit)?;
-    let accepted = accepts_all(&rt, alloc, &desk, &mut reader, how);
-    drop(desk);
-    drop(reader);
-    accepted
+    at_desk(rt, Script::EightThreads(Offers::Batches))
 }
 
 /// The places that all were given, in order. Their receipts are learnt.
@@ -159,7 +135,7 @@ fn offered_by_all(how: Offers) -> u32 {
 }
 
 /// Eight threads offer at once, and each place is given once.
-fn accepts_all<N: Naming + Send + Sync, R: Threads + Wait + Abort + Copy + Send + Sync>(
+pub(crate) fn accepts_all<N: Naming + Send + Sync, R: Threads + Wait + Abort + Copy + Send + Sync>(
     rt: &R,
     alloc: Global,
     desk: &Desk<N, R, Shown<N>>,

@@ -2,6 +2,8 @@
 #![tactic(auto)]
 
 #[cfg(test)]
+mod at_desk;
+#[cfg(test)]
 mod eight_threads;
 #[cfg(test)]
 mod on_board;

@@ -1,3 +1,5 @@
+//! Tests of the board.
+
 ghost use Rattle.std.specs.Prelude.{◌≡◌, []};
 
 use board::{BoardReader, BoardWriter, Naming, Opened, Shown, new_board};

@@ -1,3 +1,5 @@
+//! Tests of claims.
+
 ghost use Rattle.std.specs.Prelude.{◌≡◌, ℕ, ◌+◌, ◌*◌, ◌^◌, ◌<◌, ◌≤◌, All, length, slice_index, slice_index_or, IfOk};
 ghost use Rattle.claims.specs.Draws.{draws_of};
 
@@ -40,8 +42,12 @@ fn draw_in_threads<R: Threads + Sync>(
 ) -> Result<Vec<Claimant>, AllocError>
     requires { All (λ c. length c.draws + draws ≤ 2 ^ 40) made.items }
     ensures len { IfOk result (λ v. length v.items ≡ length made.items) }
-    ensures same { IfOk result (λ v. (i : ℕ) (d : _) → i < length made.items → ((slice_index_or v.items i d).call ≡ (slice_index_or made.items i d).call) × ((slice_index_or v.items i d).claimants ≡ (slice_index_or made.items i d).claimants)) }
-    ensures drawn { IfOk result (λ v. (i : ℕ) (d : _) → i < length made.items → draws_of question (slice_index_or v.items i d).draws ≡ draws_of question (slice_index_or made.items i d).draws + draws) }
+    ensures same { IfOk result (λ v. (i : ℕ) (d : _) → i < length made.items →
+        ((slice_index_or v.items i d).call ≡ (slice_index_or made.items i d).call)
+        × ((slice_index_or v.items i d).claimants ≡ (slice_index_or made.items i d).claimants)) }
+    ensures drawn { IfOk result (λ v. (i : ℕ) (d : _) → i < length made.items →
+        draws_of question (slice_index_or v.items i d).draws ≡
+        draws_of question (slice_index_or made.items i d).draws + draws) }
 {
     thread::map_vec(rt, made, &|claimant| draw_often(claimant, question, draws))
 }

@@ -2,108 +2,38 @@
 
 ghost use Rattle.std.specs.Prelude.{◌≡◌};
 
+use crate::at_desk::{Script, at_desk};
 use board::{BoardReader, Naming, Opened, Shown};
 use desk::{Desk, DeskRefused};
+use desk_fixtures::{accepts, is_report, offer};
 use findings::Finding;
-use sequencer::{Answer, AnswerRefused, AskRefused};
+use fixtures::{LIMIT, event, opposite_orders, report_of};
+use sequencer::{Answer, AskRefused};
 use std::alloc::Global;
 use std::hash::RandomState;
 use std::marker::Brand;
 use std::process::Abort;
 use std::sync::Wait;
 use std::test::*;
-use trace_model::{Bound, Event, Op, Place, Refusal};
-
-pub(crate) const MOST: u32 = 1_048_576;
-
-pub(crate) fn event(thread: u32, op: Op) -> Event {
-    Event { thread, op }
-}
-
-/// `0f1 0f2`
-pub(crate) fn two_forks() -> [Event; 2] {
-    [event(0, Op::Fork(1)), event(0, Op::Fork(2))]
-}
-
-/// `1a10 1a20 1r20 1r10 2a20 2a10 2r10 2r20`
-pub(crate) fn opposite_sections() -> [Event; 8] {
-    [
-        event(1, Op::Acquire(10)),
-        event(1, Op::Acquire(20)),
-        event(1, Op::Release(20)),
-        event(1, Op::Release(10)),
-        event(2, Op::Acquire(20)),
-        event(2, Op::Acquire(10)),
-        event(2, Op::Release(10)),
-        event(2, Op::Release(20)),
-    ]
-}
-
-// What is big is dropped by a call: to drop it in place is long to prove.
-/// A desk with one reader.
-pub(crate) fn one_reader<N: Naming, R: Wait + Copy>(
-    rt: R,
-    alloc: Global,
-    state: RandomState,
-    opened: Opened,
-    limit: u32,
-) -> Result<(Desk<N, R, Shown<N>>, BoardReader<N>), Fail>
-    requires book { opened.seen.book ≡ N.book }
-    requires limit { limit ≡ N.limit }
-{
-    let (desk, mut readers) = Desk::new(alloc, state, rt, opened, limit, 1)?;
-    let reader = readers.pop();
-    drop(readers);
-    let made = Some(desk).zip(reader).ok_or("a reader")?;
-    Ok(made)
-}
-
-/// All of these events are accepted.
-pub(crate) fn accepted<N: Naming, R: Wait + Abort + Copy>(
-    rt: &R,
-    desk: &Desk<N, R, Shown<N>>,
-    reader: &mut BoardReader<N>,
-    events: &[Event],
-) {
-    for event in events {
-        let (answer, receipt) = desk.offer(*event);
-        assert!(rt; answer.is_ok());
-        reader.learn(&receipt);
-    }
-}
+use trace_model::{Bound, Op, Refusal};
 
 #[test]
 fn each_refusal_once(rt: HostRuntime) -> Result<(), Fail> {
-    refuses_each_once::<Brand, _>(rt, rt.alloc(), RandomState::new(&rt)?, Opened::new(), MOST)
+    at_desk(rt, Script::Refusals)
 }
 
-fn refuses_each_once<N: Naming, R: Wait + Abort + Copy>(
-    rt: R,
-    alloc: Global,
-    state: RandomState,
-    opened: Opened,
-    limit: u32,
-) -> Result<(), Fail>
-    requires book { opened.seen.book ≡ N.book }
-    requires limit { limit ≡ N.limit }
-{
-    let (desk, mut reader) = one_reader::<N, R>(rt, alloc, state, opened, limit)?;
-    let refused = refuses_in_script(&rt, &desk, &mut reader);
-    drop(desk);
-    drop(reader);
-    refused
-}
-
-/// Offers the event, and learns the receipt.
-fn offer<N: Naming, R: Wait + Copy>(
+/// The events of a script are placed or refused, and the board shows those that were placed.
+pub(crate) fn refuses_in_script<N: Naming, R: Wait + Abort + Copy>(
+    rt: &R,
     desk: &Desk<N, R, Shown<N>>,
     reader: &mut BoardReader<N>,
-    event: Event,
-) -> Result<Place, Refusal> {
-    let (answer, receipt) = desk.offer(event);
-    reader.learn(&receipt);
-    drop(receipt);
-    answer
+) -> Result<(), Fail> {
+    offers_script(rt, desk, reader);
+    let Ok(summary) = reader.status() else {
+        return Err(Fail::from("busy"));
+    };
+    assert_eq!(rt; summary.accepted, 6);
+    Ok(())
 }
 
 /// Each event of a script has its reply.
@@ -136,29 +66,15 @@ fn offers_script<N: Naming, R: Wait + Abort + Copy>(
     }
 }
 
-/// The events of a script are placed or refused, and the board shows those that were placed.
-fn refuses_in_script<N: Naming, R: Wait + Abort + Copy>(
-    rt: &R,
-    desk: &Desk<N, R, Shown<N>>,
-    reader: &mut BoardReader<N>,
-) -> Result<(), Fail> {
-    offers_script(rt, desk, reader);
-    let Ok(summary) = reader.status() else {
-        return Err(Fail::from("busy"));
-    };
-    assert_eq!(rt; summary.accepted, 6);
-    Ok(())
-}
-
 #[test]
 fn limits_of_a_desk(rt: HostRuntime) -> Result<(), Fail> {
     let state = RandomState::new(&rt)?;
     let cases = [
         (0, 0, Some(DeskRefused::BadLimit)),
-        (MOST + 1, 41, Some(DeskRefused::BadLimit)),
+        (LIMIT + 1, 41, Some(DeskRefused::BadLimit)),
         (1, 0, Some(DeskRefused::BadCount)),
-        (MOST, 41, Some(DeskRefused::BadCount)),
-        (MOST, 40, None),
+        (LIMIT, 41, Some(DeskRefused::BadCount)),
+        (LIMIT, 40, None),
     ];
     for (limit, readers, refused) in cases {
         let made = refused_by::<Brand, _>(rt, rt.alloc(), state, Opened::new(), limit, readers);
@@ -184,37 +100,11 @@ fn refused_by<N: Naming, R: Wait + Copy>(
 
 #[test]
 fn two_hundred_repetitions(rt: HostRuntime) -> Result<(), Fail> {
-    repeats::<Brand, _>(rt, rt.alloc(), RandomState::new(&rt)?, Opened::new(), MOST)
+    at_desk(rt, Script::Repetitions)
 }
 
-const REPORT: &str =
-    "question 0 length 1602 bound 2 cycles 1 confirmed 1\ncycle 0 1 confirmed\n  thread 1 lock 20 holds 10 place 3\n  thread 2 lock 10 holds 20 place 7\n  witness 0 1 2 6\n";
-
-pub(crate) fn is_report(answer: Result<Answer, AnswerRefused>, report: &str) -> bool {
-    match answer {
-        Ok(Answer::Settled(text)) => text.as_slice() == report.as_bytes(),
-        _ => false,
-    }
-}
-
-fn repeats<N: Naming, R: Wait + Abort + Copy>(
-    rt: R,
-    alloc: Global,
-    state: RandomState,
-    opened: Opened,
-    limit: u32,
-) -> Result<(), Fail>
-    requires book { opened.seen.book ≡ N.book }
-    requires limit { limit ≡ N.limit }
-{
-    let (desk, mut reader) = one_reader::<N, R>(rt, alloc, state, opened, limit)?;
-    let reported = reports_repetitions(&rt, alloc, &desk, &mut reader);
-    drop(desk);
-    drop(reader);
-    reported
-}
-
-fn reports_repetitions<N: Naming, R: Wait + Abort + Copy>(
+/// Question 0, about sections that come two hundred times, is reported.
+pub(crate) fn reports_repetitions<N: Naming, R: Wait + Abort + Copy>(
     rt: &R,
     alloc: Global,
     desk: &Desk<N, R, Shown<N>>,
@@ -225,7 +115,7 @@ fn reports_repetitions<N: Naming, R: Wait + Abort + Copy>(
     assert_eq!(rt; desk.missing(0).0.ok(), Some(None));
     assert!(rt; desk.missing(1).0.is_err());
     assert!(rt; matches!(desk.snapshot(1).0.err(), Some(Refusal::NoSuchQuestion)));
-    assert!(rt; is_report(desk.answer(0).0, REPORT));
+    assert!(rt; is_report(desk.answer(0).0, &report_of(alloc, 1602)?));
     Ok(())
 }
 
@@ -234,9 +124,10 @@ fn accepts_repetitions<N: Naming, R: Wait + Abort + Copy>(
     desk: &Desk<N, R, Shown<N>>,
     reader: &mut BoardReader<N>,
 ) -> Result<(), Fail> {
-    accepted(rt, desk, reader, &two_forks());
+    let events = opposite_orders();
+    assert!(rt; accepts(desk, reader, &events[..2]));
     for _ in 0..200 {
-        accepted(rt, desk, reader, &opposite_sections());
+        assert!(rt; accepts(desk, reader, &events[2..]));
     }
     let Ok(summary) = reader.status() else {
         return Err(Fail::from("busy"));

@@ -1,15 +1,13 @@
 //! Three workers, which deliver in an order that the board tells them.
 
-ghost use Rattle.std.specs.Prelude.{◌≡◌};
-
-use crate::on_desk::{MOST, accepted, event, is_report};
-use crate::on_workers::{YIELDS, all_deliver, shared_desk, workers_at};
-use board::{BoardReader, Naming, Opened, Shown};
+use crate::at_desk::{Script, at_desk};
+use crate::on_workers::all_deliver;
+use board::{BoardReader, Naming, Shown};
 use desk::Desk;
+use desk_fixtures::{accepts, is_report, workers_at};
 use findings::Hold;
+use fixtures::event;
 use std::alloc::Global;
-use std::hash::RandomState;
-use std::marker::Brand;
 use std::process::Abort;
 use std::sync::atomic::{AtomicU64, Ordering};
 use std::sync::{Arc, Mutex, Wait};
@@ -18,8 +16,15 @@ use std::thread;
 use std::thread::Threads;
 use trace_model::{Event, Op};
 
-const REPORT: &str =
-    "question 0 length 15 bound 3 cycles 1 confirmed 1\ncycle 0 1 2 confirmed\n  thread 1 lock 20 holds 10 place 4\n  thread 2 lock 30 holds 20 place 8\n  thread 3 lock 10 holds 30 place 12\n  witness 0 1 2 3 7 11\n";
+const YIELDS: u32 = 1_000_000;
+
+const REPORT: &[u8] = b"question 0 length 15 bound 3 cycles 1 confirmed 1
+cycle 0 1 2 confirmed
+  thread 1 lock 20 holds 10 place 4
+  thread 2 lock 30 holds 20 place 8
+  thread 3 lock 10 holds 30 place 12
+  witness 0 1 2 3 7 11
+";
 
 /// `0f1 0f2 0f3 1a10 1a20 1r20 1r10 2a20 2a30 2r30 2r20 3a30 3a10 3r10 3r30`
 fn ring_of_three() -> [Event; 15] {
@@ -42,8 +47,8 @@ fn ring_of_three() -> [Event; 15] {
     ]
 }
 
-/// Keeps each task until it was called for all three; then task 0 until the board shows two delivered ones, and
-/// task 1 until it shows one.
+/// Keeps each task until it was called for all three; then task 0 until the board shows two
+/// delivered ones, and task 1 until it shows one.
 #[derive(Drop)]
 struct Order<N: Naming, R: Wait + Copy> {
     rt: R,
@@ -107,38 +112,21 @@ impl<N: Naming, R: Wait + Copy> Hold for Order<N, R> {
 
 #[test]
 fn three_workers_meet(rt: HostRuntime) -> Result<(), Fail> {
-    three_workers::<Brand, _>(rt, rt.alloc(), RandomState::new(&rt)?, Opened::new(), MOST)
-}
-
-fn three_workers<N: Naming + Send + Sync, R: Threads + Wait + Abort + Copy + Send + Sync>(
-    rt: R,
-    alloc: Global,
-    state: RandomState,
-    opened: Opened,
-    limit: u32,
-) -> Result<(), Fail>
-    requires book { opened.seen.book ≡ N.book }
-    requires limit { limit ≡ N.limit }
-{
-    let (desk, mut readers) = shared_desk::<N, R>(rt, alloc, state, opened, limit, 4)?;
-    let met = three_meet(rt, alloc, &desk, &mut readers);
-    drop(desk);
-    drop(readers);
-    met
+    at_desk(rt, Script::ThreeWorkers)
 }
 
 /// Question 0 is opened, and its three tasks are delivered in the order.
-fn three_meet<N: Naming + Send + Sync, R: Threads + Wait + Abort + Copy + Send + Sync>(
+pub(crate) fn three_meet<N: Naming + Send + Sync, R: Threads + Wait + Abort + Copy + Send + Sync>(
     rt: R,
     alloc: Global,
     desk: &Arc<Desk<N, R, Shown<N>>>,
-    readers: &mut Vec<BoardReader<N>>,
+    reader: &mut BoardReader<N>,
+    others: &mut Vec<BoardReader<N>>,
 ) -> Result<(), Fail> {
-    let mut reader = readers.pop().ok_or("a reader")?;
-    accepted(&rt, desk, &mut reader, &ring_of_three());
+    assert!(rt; accepts(desk, reader, &ring_of_three()));
     assert!(rt; desk.ask(3).0.is_ok());
-    let order = Order::new(rt, reader);
-    let delivered = three_deliver(&rt, alloc, desk, readers, &order);
+    let order = Order::new(rt, others.pop().ok_or("a reader")?);
+    let delivered = three_deliver(&rt, alloc, desk, others, &order);
     drop(order);
     delivered
 }
@@ -150,7 +138,7 @@ fn three_deliver<N: Naming + Send + Sync, R: Threads + Wait + Abort + Copy + Sen
     readers: &mut Vec<BoardReader<N>>,
     order: &Order<N, R>,
 ) -> Result<(), Fail> {
-    let workers = workers_at(alloc, desk, readers, 3)?;
+    let workers = workers_at(alloc, desk, readers, 3).ok_or("workers")?;
     all_deliver(rt, workers, order)?;
     assert!(rt; order.was_kept());
     assert!(rt; is_report(desk.answer(0).0, REPORT));

@@ -1,10 +1,10 @@
 //! Event files: lines of event words.
 ghost use Rattle.std.specs.Prelude.{◌≡◌, ◌<◌, ◌^◌, ◌++◌, ℕ, true, IfOk, IfSome, Ok, Some, decimal, map};
 ghost use Rattle.std.specs.List.{position};
-ghost use Rattle.trace_model.specs.Frames.{IsRequest, object_of};
-ghost use Rattle.trace_model.specs.declared.event.Event.{Event};
-ghost use Rattle.trace_model.specs.declared.event.Op.{Op};
-ghost use Rattle.trace_model.specs.declared.session.Request.TheVariants.{Offer};
+ghost use Rattle.trace_model.specs.Protocol.Frames.{IsRequest, object_of};
+ghost use Rattle.trace_model.specs.declared.traces.event.Event.{Event};
+ghost use Rattle.trace_model.specs.declared.traces.event.Op.{Op};
+ghost use Rattle.trace_model.specs.declared.messages.session.Request.TheVariants.{Offer};
 ghost use Rattle.event_files.specs.EventFile.{is_no_digit, letter_of, event_word, pieces_at, is_comment, line_words, AreEventsOf};
 
 use crate::refused::FileRefused;
@@ -34,7 +34,8 @@ pub fn number(digits: &[u8]) -> Option<u32>
 /// The operation of a letter.
 fn op_of(letter: u8, object: u32) -> Option<Op>
     ensures sound { IfSome result (λ op. (letter ≡ letter_of op) × (object_of op ≡ object)) }
-    ensures complete { (op : Op) → letter ≡ letter_of op → object_of op ≡ object → result ≡ Some op }
+    ensures complete { (op : Op) → letter ≡ letter_of op → object_of op ≡ object →
+        result ≡ Some op }
 {
     match letter {
         b'f' => Some(Op::Fork(object)),
@@ -57,7 +58,8 @@ fn letter_place(word: &[u8]) -> Option<usize>
 /// The event that is written so: its thread, the letter of its operation, and its object.
 pub fn event(word: &[u8]) -> Option<Event>
     ensures sound { IfSome result (λ e. word.now ≡ event_word e) }
-    ensures complete { (e : Event) → IsRequest (Offer e) → word.now ≡ event_word e → result ≡ Some e }
+    ensures complete { (e : Event) → IsRequest (Offer e) → word.now ≡ event_word e →
+        result ≡ Some e }
 {
     let place = letter_place(word)?;
     let thread = number(&word[..place])?;
@@ -68,12 +70,17 @@ pub fn event(word: &[u8]) -> Option<Event>
 
 /// The pieces of the bytes between those that are the mark.
 fn pieces_at<'a>(alloc: Global, bytes: &'a [u8], mark: u8) -> Result<Vec<&'a [u8]>, AllocError>
-    ensures { IfOk result (λ pieces. map (λ piece. piece.now) pieces.items ≡ pieces_at mark bytes.now) }
+    ensures { IfOk result (λ pieces. map (λ piece. piece.now) pieces.items ≡
+        pieces_at mark bytes.now) }
 {
     bytes.split(|byte| *byte == mark).collect(alloc)
 }
 
 /// The lines of a file, which line feeds separate.
+///
+/// # Errors
+///
+/// `NoMemory` where a growth was refused.
 pub fn lines_of(alloc: Global, file: &[u8]) -> Result<Vec<&[u8]>, NoMemory>
     ensures { IfOk result (λ lines. map (λ line. line.now) lines.items ≡ pieces_at 10 file.now) }
 {
@@ -91,6 +98,10 @@ fn is_comment(word: &[u8]) -> bool
 }
 
 /// The words of a line, which are separated by spaces; none where the line is skipped.
+///
+/// # Errors
+///
+/// `NoMemory` where a growth was refused.
 pub fn words_of(alloc: Global, line: &[u8]) -> Result<Vec<&[u8]>, NoMemory>
     ensures { IfOk result (λ words. map (λ word. word.now) words.items ≡ line_words line.now) }
 {
@@ -108,8 +119,14 @@ pub fn words_of(alloc: Global, line: &[u8]) -> Result<Vec<&[u8]>, NoMemory>
 }
 
 /// Adds the events of these words. It answers whether each is the word of one.
+///
+/// # Errors
+///
+/// `NoMemory` where a growth was refused. Some of the events may then be there.
 pub fn push_events(events: &mut Vec<Event>, words: &[&[u8]]) -> Result<bool, NoMemory>
-    ensures { result ≡ Ok true → map event_word events.new.items ≡ map event_word events.old.items ++ map (λ word. word.now) words.now }
+    ensures { result ≡ Ok true →
+        map event_word events.new.items ≡ map event_word events.old.items ++
+        map (λ word. word.now) words.now }
 {
     for word in words {
         let Some(event) = event(word) else {

@@ -41,13 +41,13 @@ fn reach(alloc: Global, words: &[&[u8]]) -> Result<Option<Instance>, NoMemory> {
     }
 }
 
-/// Reads a witness file: beside skipped lines a line `reach` with 2 to 8 numbers, and then a line `order` with
-/// any number of them.
+/// Reads a witness file: beside skipped lines a line `reach` with 2 to 8 numbers, and then a line
+/// `order` with any number of them.
 ///
 /// # Errors
 ///
-/// The first line that is not understood, which is one more than the number of lines where a line is missing,
-/// or `NoMemory`.
+/// The first line that is not understood, which is one more than the number of lines where a line
+/// is missing, or `NoMemory`.
 pub fn read_witness(alloc: Global, file: &[u8]) -> Result<WitnessFile, FileRefused> {
     let mut instance = None;
     let mut order = None;

@@ -3,8 +3,8 @@ use Rattle.std.proofs.Common.{◌≡◌, ℕ, zero, suc, ◌+◌, ◌-◌, ◌*�
 use Rattle.std.proofs.Math.ListN.{drop_of_length-le}
 use Rattle.std.proofs.Math.Seq.{drop-cons}
 use Rattle.std.proofs.lemmas.List.{drop-drop}
-use Rattle.trace_model.specs.declared.session.Fault.TheVariants.{BadBatch}
-use Rattle.trace_model.specs.Frames.{cells_fault, event_of, events_of, is_event_kind}
+use Rattle.trace_model.specs.declared.messages.session.Fault.TheVariants.{BadBatch}
+use Rattle.trace_model.specs.Protocol.Frames.{cells_fault, event_of, events_of, is_event_kind}
 
 -- the event at an index, and those after it
 pub cell_here : (n i kind : ℕ) (cells : List ℕ) → i < n → 9 * i < length cells → kind ≡ get_or cells (9 * i) kind →

@@ -4,9 +4,9 @@ use Rattle.std.specs.Int.{w16, from_be_bytes}
 use Rattle.std.proofs.lemmas.Bool.{le-ltb}
 use Rattle.std.proofs.lemmas.Bool.Decides.{nat_tests}
 use Rattle.std.proofs.lemmas.List.{drop-drop}
-use Rattle.trace_model.specs.declared.session.Fault.{Fault}
-use Rattle.trace_model.proofs.Fronts.{no_header_fault}
-use Rattle.trace_model.specs.Frames.{ok_unless, is_kind, is_length_of, fields_fault, header_fault, whole_frame, front_of, request_of}
+use Rattle.trace_model.specs.declared.messages.session.Fault.{Fault}
+use Rattle.trace_model.proofs.Protocol.Leading.{no_header_fault}
+use Rattle.trace_model.specs.Protocol.Frames.{ok_unless, is_kind, is_length_of, fields_fault, header_fault, whole_frame, leading_of, request_of}
 
 abbrev pub len_at : List ℕ → ℕ
 len_at bytes = from_be_bytes w16 (get_or bytes 0 0 ∷ get_or bytes 1 0 ∷ [])
@@ -30,8 +30,8 @@ header_is (high ∷ low ∷ kind ∷ fields) long h =
 length_positive : (kind len : ℕ) → is_length_of kind len ≡ true → 2 ≤ len
 length_positive kind len right = grind (arith, nat_tests)
 
-pub whole_at : (bytes : List ℕ) → 3 ≤ length bytes → header_fault bytes ≡ None → len_at bytes ≤ length (drop 3 bytes) + 1 → front_of bytes ≡ Ok (Some (request_of (get_or bytes 2 0) (drop 3 bytes), drop (len_at bytes + 2) bytes))
-unfolding front_of whole_frame
+pub whole_at : (bytes : List ℕ) → 3 ≤ length bytes → header_fault bytes ≡ None → len_at bytes ≤ length (drop 3 bytes) + 1 → leading_of bytes ≡ Ok (Some (request_of (get_or bytes 2 0) (drop 3 bytes), drop (len_at bytes + 2) bytes))
+unfolding leading_of whole_frame
 whole_at [] long h le = absurd (omega arith)
 whole_at (a ∷ []) long h le = absurd (omega arith)
 whole_at (a ∷ b ∷ []) long h le = absurd (omega arith)

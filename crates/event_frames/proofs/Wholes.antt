@@ -4,10 +4,10 @@ use Rattle.std.specs.Option.{is_some}
 use Rattle.std.specs.List.{flat_map, AllByRecursion}
 use Rattle.std.proofs.lemmas.List.{append-nil}
 use Rattle.std.proofs.lemmas.List.Concat.{flat_map-append}
-use Rattle.trace_model.specs.declared.session.Request.{Request}
-use Rattle.trace_model.specs.declared.session.Fault.{Fault}
-use Rattle.trace_model.specs.Frames.{frame, IsRequest, fault_at, header_fault, requests_in, rest_in, fault_in}
-use Rattle.trace_model.proofs.Texts.{frames_after, fault_stays}
+use Rattle.trace_model.specs.declared.messages.session.Request.{Request}
+use Rattle.trace_model.specs.declared.messages.session.Fault.{Fault}
+use Rattle.trace_model.specs.Protocol.Frames.{frame, IsRequest, fault_at, header_fault, requests_in, rest_in, fault_in}
+use Rattle.trace_model.proofs.Protocol.Texts.{frames_after, fault_stays}
 use Rattle.event_frames.specs.Reader.{Reading, IsFed, TellsFault, Answers, Follows, HasRead, Tells}
 
 all_push : (given : List Request) (request : Request) → AllByRecursion IsRequest given → IsRequest request → AllByRecursion IsRequest (given ++ request ∷ [])
@@ -19,7 +19,7 @@ frames_push given request rest =
     sym (append_assoc (flat_map frame given) (frame request) rest)
     ∙ ap (λ (x : List ℕ). x ++ rest) (ap (λ (x : List ℕ). flat_map frame given ++ x) (sym (append-nil (frame request))) ∙ sym (flat_map-append frame given (request ∷ [])))
 
--- where no request stands at the front of the rest, all were given
+-- where no request stands first in the rest, all were given
 pub all_given : (text : List ℕ) (given : List Request) (rest : List ℕ) → AllByRecursion IsRequest given → text ≡ flat_map frame given ++ rest → requests_in rest ≡ [] → given ≡ requests_in text
 all_given text given rest each whole none =
     sym (ap requests_in whole ∙ ((frames_after given rest each).requests ∙ (ap (λ (x : List Request). given ++ x) none ∙ append-nil given)))
@@ -43,7 +43,7 @@ tells old (Ok (Some request)) new h text given k =
     record {
       each = all_push given request k.each h.fits;
       rest = new.rest;
-      whole = k.whole ∙ (ap (λ (x : List ℕ). flat_map frame given ++ x) (sym (k.follows.untold h.untold) ∙ h.front) ∙ frames_push given request new.rest);
+      whole = k.whole ∙ (ap (λ (x : List ℕ). flat_map frame given ++ x) (sym (k.follows.untold h.untold) ∙ h.leading) ∙ frames_push given request new.rest);
       follows = untold_follows new.rest new h.same.0 refl;
     }
 tells old (Ok None) new h text given k =

@@ -1,27 +1,28 @@
 -- What a reader of frames is, and what its calls do.
 use Rattle.std.specs.Prelude.{◌≡◌, ℕ, ◌<◌, Bool, List, [], ◌∷◌, ◌++◌, length, Option, Some, None, Result, Ok, Err, IsSome}
 use Rattle.std.specs.List.{flat_map, AllByRecursion}
-use Rattle.trace_model.specs.declared.session.Request.{Request}
-use Rattle.trace_model.specs.declared.session.Fault.{Fault}
-use Rattle.trace_model.specs.Frames.{frame, IsRequest, requests_in, fault_in}
+use Rattle.trace_model.specs.declared.messages.session.Request.{Request}
+use Rattle.trace_model.specs.declared.messages.session.Fault.{Fault}
+use Rattle.trace_model.specs.Protocol.Frames.{frame, IsRequest, requests_in, fault_in}
 
--- a reader: the bytes that were fed and not yet taken, whether the input ended, the fault that was told,
--- how many bytes it holds, and how many it has room for
+-- a reader: the bytes that were fed and not yet taken, whether the input ended, the fault that was
+-- told, how many bytes it holds, and how many it has room for
 pub record Reading : Type 0 where
   pub rest : List ℕ
   pub ended : Bool
   pub told : Option Fault
-  pub held : ℕ
+  pub buffered : ℕ
   pub capacity : ℕ
 
 -- new is old after a piece
 abbrev pub IsFed : Reading → List ℕ → Reading → Type 0
-IsFed old piece new = (new.told ≡ old.told) × (new.ended ≡ old.ended) × (old.told ≡ None → new.rest ≡ old.rest ++ piece)
+IsFed old piece new = (new.told ≡ old.told) × (new.ended ≡ old.ended)
+    × (old.told ≡ None → new.rest ≡ old.rest ++ piece)
 
--- a request was taken from the front
+-- a request was taken that stood first
 pub record TakesRequest (old : Reading) (request : Request) (new : Reading) : Type 0 where
   pub fits : IsRequest request
-  pub front : old.rest ≡ frame request ++ new.rest
+  pub leading : old.rest ≡ frame request ++ new.rest
   pub untold : old.told ≡ None
   pub same : (new.told ≡ None) × (new.ended ≡ old.ended)
 
@@ -31,15 +32,16 @@ pub record AwaitsMore (old new : Reading) : Type 0 where
   pub fault : fault_in old.rest old.ended ≡ None
   pub untold : old.told ≡ None
   pub same : (new.rest ≡ old.rest) × (new.told ≡ None) × (new.ended ≡ old.ended)
-  pub few : (length old.rest < 580) × (new.held ≡ length old.rest)
+  pub few : (length old.rest < 580) × (new.buffered ≡ length old.rest)
 
 -- a fault is told, now or as before
 pub record TellsFault (old : Reading) (fault : Fault) (new : Reading) : Type 0 where
-  pub stands : old.told ≡ None → (requests_in old.rest ≡ []) × (fault_in old.rest old.ended ≡ Some fault)
+  pub stands : old.told ≡ None → (requests_in old.rest ≡ [])
+      × (fault_in old.rest old.ended ≡ Some fault)
   pub again : IsSome old.told → old.told ≡ Some fault
   pub told : new.told ≡ Some fault
   pub same : new.ended ≡ old.ended
-  pub keeps_nothing : new.held ≡ 0
+  pub keeps_nothing : new.buffered ≡ 0
 
 abbrev pub Answers : Reading → Result (Option Request) Fault → Reading → Type 0
 Answers old (Err fault) new = TellsFault old fault new
@@ -51,7 +53,8 @@ Answers old (Ok (Some request)) new = TakesRequest old request new
 -- the rest of a text, as the reader has it
 pub record Follows (rest : List ℕ) (v : Reading) : Type 0 where
   pub untold : v.told ≡ None → v.rest ≡ rest
-  pub told : (fault : Fault) → v.told ≡ Some fault → (requests_in rest ≡ []) × (fault_in rest v.ended ≡ Some fault)
+  pub told : (fault : Fault) → v.told ≡ Some fault → (requests_in rest ≡ [])
+      × (fault_in rest v.ended ≡ Some fault)
 
 -- A reader that was fed this text, in whatever pieces, and has given these requests.
 pub record HasRead (text : List ℕ) (given : List Request) (v : Reading) : Type 0 where
@@ -63,5 +66,7 @@ pub record HasRead (text : List ℕ) (given : List Request) (v : Reading) : Type
 -- its answer by the whole text
 abbrev pub Tells : List ℕ → List Request → Bool → Result (Option Request) Fault → Reading → Type 0
 Tells text given ended (Ok (Some request)) new = HasRead text (given ++ request ∷ []) new
-Tells text given ended (Ok None) new = (given ≡ requests_in text) × (fault_in text ended ≡ None) × HasRead text given new
-Tells text given ended (Err fault) new = (given ≡ requests_in text) × (fault_in text ended ≡ Some fault) × HasRead text given new
+Tells text given ended (Ok None) new = (given ≡ requests_in text) × (fault_in text ended ≡ None)
+    × HasRead text given new
+Tells text given ended (Err fault) new = (given ≡ requests_in text)
+    × (fault_in text ended ≡ Some fault) × HasRead text given new

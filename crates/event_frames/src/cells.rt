@@ -1,7 +1,7 @@
 //! Events in frames.
 ghost use Rattle.std.specs.Prelude.{◌≡◌, ◌*◌, ◌≤◌, length, take, true};
 ghost use Rattle.std.specs.Int.{w32, from_be_bytes};
-ghost use Rattle.trace_model.specs.Frames.{batch_fault, cells_fault, event_bytes, event_of, events_of, is_event_kind, kind_of, object_of, op_of};
+ghost use Rattle.trace_model.specs.Protocol.Frames.{batch_fault, cells_fault, event_bytes, event_of, events_of, is_event_kind, kind_of, object_of, op_of};
 
 use trace_model::{Event, EventBatch, Fault, Op};
 

@@ -2,7 +2,7 @@
 #![tactic(auto)]
 
 mod cells;
-mod front;
+mod leading;
 mod reader;
 mod replies;
 mod requests;

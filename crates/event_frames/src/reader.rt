@@ -1,9 +1,9 @@
 //! The requests of a session, from the pieces in which its bytes come.
 ghost use Rattle.std.specs.Prelude.{◌≡◌, ℕ, ◌<◌, ◌+◌, List, ◌++◌, [], length, true, false, None, Some, Ok, OnOk, OnErr, IsSome, is_some, ◌||◌};
 ghost use Rattle.event_frames.specs.Reader.{IsFed, Answers, HasRead, Tells};
-ghost use Rattle.trace_model.specs.declared.session.Request.{Request};
+ghost use Rattle.trace_model.specs.declared.messages.session.Request.{Request};
 
-use crate::front::front;
+use crate::leading::leading;
 use std::alloc::Global;
 use std::marker::Model;
 use trace_model::{Fault, NoMemory, Request};
@@ -23,7 +23,13 @@ impl Model for FrameReader {
 
     ghost Value = { Reading };
 
-    ghost view = { λ r. record { rest = drop r.start r.bytes.items; ended = r.ended; told = r.told; held = vec_len r.bytes; capacity = vec_capacity r.bytes } };
+    ghost view = { λ r. record {
+      rest = drop r.start r.bytes.items;
+      ended = r.ended;
+      told = r.told;
+      buffered = vec_len r.bytes;
+      capacity = vec_capacity r.bytes;
+    } };
 
     ghost invariant = { λ r. (r.start ≤ vec_len r.bytes) × (IsSome r.told → vec_len r.bytes ≡ 0) };
 }
@@ -31,7 +37,13 @@ impl Model for FrameReader {
 impl FrameReader {
     /// A reader that was fed nothing.
     pub fn new(alloc: Global) -> FrameReader
-        ensures made { result ≡ record { rest = []; ended = false; told = None; held = 0; capacity = 0 } }
+        ensures made { result ≡ record {
+          rest = [];
+          ended = false;
+          told = None;
+          buffered = 0;
+          capacity = 0;
+        } }
         ensures grammar { HasRead [] [] result }
     {
         FrameReader {
@@ -46,24 +58,28 @@ impl FrameReader {
     ///
     /// # Errors
     ///
-    /// `NoMemory` where there is no room for the piece, and nothing has changed. After a fault was told the piece is dropped and no memory is taken.
+    /// `NoMemory` where there is no room for the piece, and nothing has changed. After a fault was
+    /// told the piece is dropped and no memory is taken.
     pub fn feed(&mut self, piece: &[u8]) -> Result<(), NoMemory>
         requires { self.old.ended ≡ false }
         ensures fed { OnOk result (IsFed self.old piece.now self.new) }
-        ensures grammar { OnOk result ((text : List ℕ) (given : List Request) → HasRead text given self.old
+        ensures grammar { OnOk result ((text : List ℕ) (given : List Request) →
+            HasRead text given self.old
             → HasRead (text ++ piece.now) given self.new) }
-        ensures told { IsSome self.old.told → (result ≡ Ok record {}) × (self.new ≡ self.old) × (self.new.held ≡ 0) }
+        ensures told { IsSome self.old.told → (result ≡ Ok record {}) × (self.new ≡ self.old)
+            × (self.new.buffered ≡ 0) }
         ensures err { OnErr result (self.new ≡ self.old) }
-        ensures full { OnErr result (self.old.capacity < self.old.held + length piece.now) }
+        ensures full { OnErr result (self.old.capacity < self.old.buffered + length piece.now) }
     {
         self.put(piece)
     }
 
     fn put(&mut self, piece: &[u8]) -> Result<(), NoMemory>
         ensures fed { OnOk result (IsFed self.old piece.now self.new) }
-        ensures told { IsSome self.old.told → (result ≡ Ok record {}) × (self.new ≡ self.old) × (self.new.held ≡ 0) }
+        ensures told { IsSome self.old.told → (result ≡ Ok record {}) × (self.new ≡ self.old)
+            × (self.new.buffered ≡ 0) }
         ensures err { OnErr result (self.new ≡ self.old) }
-        ensures full { OnErr result (self.old.capacity < self.old.held + length piece.now) }
+        ensures full { OnErr result (self.old.capacity < self.old.buffered + length piece.now) }
     {
         if self.told.is_some() {
             return Ok(());
@@ -83,7 +99,8 @@ impl FrameReader {
     /// No more input comes.
     pub fn finish(&mut self)
         ensures ended { self.new ≡ record self.old { ended = true } }
-        ensures grammar { (text : List ℕ) (given : List Request) → HasRead text given self.old → HasRead text given self.new }
+        ensures grammar { (text : List ℕ) (given : List Request) → HasRead text given self.old →
+            HasRead text given self.new }
     {
         self.ended = true;
     }
@@ -108,7 +125,7 @@ impl FrameReader {
         if let Some(fault) = self.told {
             return Err(fault);
         }
-        match front(&self.bytes[self.start..]) {
+        match leading(&self.bytes[self.start..]) {
             Err(fault) => {
                 self.fail(fault);
                 Err(fault)
@@ -130,7 +147,13 @@ impl FrameReader {
 
     /// Tells the fault from now on, and keeps no bytes.
     fn fail(&mut self, fault: Fault)
-        ensures { self.new ≡ record { rest = []; ended = self.old.ended; told = Some fault; held = 0; capacity = self.old.capacity } }
+        ensures { self.new ≡ record {
+          rest = [];
+          ended = self.old.ended;
+          told = Some fault;
+          buffered = 0;
+          capacity = self.old.capacity;
+        } }
     {
         self.bytes.clear();
         self.start = 0;
@@ -140,7 +163,7 @@ impl FrameReader {
     /// Drops the bytes that were taken.
     fn compact(&mut self)
         requires { self.old.told ≡ None }
-        ensures { self.new ≡ record self.old { held = length self.old.rest } }
+        ensures { self.new ≡ record self.old { buffered = length self.old.rest } }
     {
         let end = self.bytes.len();
         let start = self.start;

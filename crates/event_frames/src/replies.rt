@@ -1,7 +1,7 @@
 //! Replies as bytes.
 ghost use Rattle.std.specs.Prelude.{◌≡◌, ◌+◌, ◌++◌, ◌≤◌, ◌<◌, ◌∷◌, length, OnOk, OnErr, IfOk, IsOk, vec_len, vec_capacity};
 ghost use Rattle.std.specs.Int.{w32, w64, to_be_bytes};
-ghost use Rattle.trace_model.specs.Replies.{reply_body, reply_frame, fault_number, refusal_number, three_words, status_fields, IsReply};
+ghost use Rattle.trace_model.specs.Protocol.Replies.{reply_body, reply_frame, fault_number, refusal_number, three_words, status_fields, IsReply};
 
 use std::alloc::{AllocError, Global};
 use trace_model::{Fault, NoMemory, Refusal, Reply};
@@ -17,7 +17,7 @@ fn fault_number(fault: Fault) -> u8
     }
 }
 
-#[tactic(auto, unfolding(trace_model::specs::Replies::three_words, trace_model::specs::Replies::status_fields))]
+#[tactic(auto, unfolding(trace_model::specs::Protocol::Replies::three_words, trace_model::specs::Protocol::Replies::status_fields))]
 fn body_len(reply: &Reply) -> u32
     requires { IsReply reply.now }
     ensures { result ≡ length (reply_body reply.now) }
@@ -35,7 +35,7 @@ fn body_len(reply: &Reply) -> u32
 }
 
 /// Adds three numbers at the end.
-#[tactic(auto, unfolding(trace_model::specs::Replies::three_words))]
+#[tactic(auto, unfolding(trace_model::specs::Protocol::Replies::three_words))]
 fn put_words(out: &mut Vec<u8>, first: u32, second: u32, third: u32) -> Result<(), AllocError>
     ensures ok { OnOk result (out.new.items ≡ out.old.items ++ three_words first second third) }
     ensures room { vec_len out.old + 12 ≤ vec_capacity out.old → IsOk result }
@@ -56,7 +56,9 @@ fn put_counts(
     cycles: u64,
     confirmed: u64,
 ) -> Result<(), AllocError>
-    ensures ok { OnOk result (out.new.items ≡ out.old.items ++ (to_be_bytes w32 total ++ to_be_bytes w32 delivered ++ to_be_bytes w64 cycles ++ to_be_bytes w64 confirmed)) }
+    ensures ok { OnOk result (out.new.items ≡ out.old.items ++
+        (to_be_bytes w32 total ++ to_be_bytes w32 delivered ++ to_be_bytes w64 cycles ++
+        to_be_bytes w64 confirmed)) }
     ensures room { vec_len out.old + 24 ≤ vec_capacity out.old → IsOk result }
 {
     out.extend_from_slice(&total.to_be_bytes())?;
@@ -67,7 +69,7 @@ fn put_counts(
 }
 
 /// Adds the fields of a status at the end.
-#[tactic(auto, unfolding(trace_model::specs::Replies::status_fields))]
+#[tactic(auto, unfolding(trace_model::specs::Protocol::Replies::status_fields))]
 fn put_status(
     out: &mut Vec<u8>,
     question: u32,
@@ -80,7 +82,8 @@ fn put_status(
     cycles: u64,
     confirmed: u64,
 ) -> Result<(), AllocError>
-    ensures ok { OnOk result (out.new.items ≡ out.old.items ++ status_fields question accepted opened length bound total delivered cycles confirmed) }
+    ensures ok { OnOk result (out.new.items ≡ out.old.items ++
+        status_fields question accepted opened length bound total delivered cycles confirmed) }
     ensures room { vec_len out.old + 41 ≤ vec_capacity out.old → IsOk result }
 {
     put_words(out, question, accepted, opened)?;
@@ -107,7 +110,8 @@ fn put_batched(
     refusal: Option<Refusal>,
     length: u32,
 ) -> Result<(), AllocError>
-    ensures ok { OnOk result (out.new.items ≡ out.old.items ++ (accepted ∷ refusal_number refusal ∷ to_be_bytes w32 length)) }
+    ensures ok { OnOk result (out.new.items ≡ out.old.items ++
+        (accepted ∷ refusal_number refusal ∷ to_be_bytes w32 length)) }
     ensures room { vec_len out.old + 6 ≤ vec_capacity out.old → IsOk result }
 {
     out.push(accepted)?;
@@ -117,11 +121,12 @@ fn put_batched(
 }
 
 /// Adds the body of a reply's frame at the end.
-#[tactic(auto, unfolding(trace_model::specs::Replies::three_words, trace_model::specs::Replies::status_fields))]
+#[tactic(auto, unfolding(trace_model::specs::Protocol::Replies::three_words, trace_model::specs::Protocol::Replies::status_fields))]
 fn put_body(out: &mut Vec<u8>, reply: &Reply) -> Result<(), AllocError>
     requires { IsReply reply.now }
     ensures ok { OnOk result (out.new.items ≡ out.old.items ++ reply_body reply.now) }
-    ensures room { vec_len out.old + length (reply_body reply.now) ≤ vec_capacity out.old → IsOk result }
+    ensures room { vec_len out.old + length (reply_body reply.now) ≤ vec_capacity out.old →
+        IsOk result }
 {
     match reply {
         Reply::Placed(place) => {
@@ -189,27 +194,30 @@ fn put_body(out: &mut Vec<u8>, reply: &Reply) -> Result<(), AllocError>
     }
 }
 
-#[tactic(auto, unfolding(trace_model::specs::Replies::reply_frame))]
+#[tactic(auto, unfolding(trace_model::specs::Protocol::Replies::reply_frame))]
 fn put_frame(out: &mut Vec<u8>, reply: &Reply) -> Result<(), AllocError>
     requires { IsReply reply.now }
     ensures ok { OnOk result (out.new.items ≡ out.old.items ++ reply_frame reply.now) }
-    ensures room { vec_len out.old + length (reply_frame reply.now) ≤ vec_capacity out.old → IsOk result }
+    ensures room { vec_len out.old + length (reply_frame reply.now) ≤ vec_capacity out.old →
+        IsOk result }
 {
     out.extend_from_slice(&body_len(reply).to_be_bytes())?;
     put_body(out, reply)
 }
 
-/// Adds a reply's frame at the end of the bytes. A report's text must have at most `MAX_REPORT` bytes.
+/// Adds a reply's frame at the end of the bytes. A report's text must have at most `MAX_REPORT`
+/// bytes.
 ///
 /// # Errors
 ///
 /// `NoMemory`, and the bytes are as before.
-#[tactic(auto, unfolding(trace_model::specs::Replies::reply_frame))]
+#[tactic(auto, unfolding(trace_model::specs::Protocol::Replies::reply_frame))]
 pub fn push_reply(out: &mut Vec<u8>, reply: &Reply) -> Result<(), NoMemory>
     requires { IsReply reply.now }
     ensures ok { OnOk result (out.new.items ≡ out.old.items ++ reply_frame reply.now) }
     ensures err { OnErr result (out.new.items ≡ out.old.items) }
-    ensures full { OnErr result (vec_capacity out.old < vec_len out.old + length (reply_frame reply.now)) }
+    ensures full { OnErr result (vec_capacity out.old < vec_len out.old +
+        length (reply_frame reply.now)) }
 {
     out.reserve(body_len(reply) as usize + 4)?;
     let Ok(()) = put_frame(out, reply) else {

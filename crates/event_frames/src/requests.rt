@@ -1,15 +1,15 @@
 //! Requests as bytes.
 ghost use Rattle.std.specs.Prelude.{◌≡◌, IfOk};
-ghost use Rattle.trace_model.specs.Batches.{IsBatch};
-ghost use Rattle.trace_model.specs.Frames.{frame};
-ghost use Rattle.trace_model.specs.declared.session.Request.TheVariants.{Offer, Ask, Answer, Status, Batch};
+ghost use Rattle.trace_model.specs.Protocol.Batches.{IsBatch};
+ghost use Rattle.trace_model.specs.Protocol.Frames.{frame};
+ghost use Rattle.trace_model.specs.declared.messages.session.Request.TheVariants.{Offer, Ask, Answer, Status, Batch};
 
 use crate::cells::event_bytes;
 use std::alloc::Global;
 use trace_model::{Event, NoMemory};
 
 /// The frame that offers an event.
-#[tactic(auto, unfolding(trace_model::specs::Frames::frame))]
+#[tactic(auto, unfolding(trace_model::specs::Protocol::Frames::frame))]
 pub fn offer_frame(event: &Event) -> [u8; 11]
     ensures { result ≡ frame (Offer event.now) }
 {
@@ -18,7 +18,7 @@ pub fn offer_frame(event: &Event) -> [u8; 11]
 }
 
 /// The frame that asks a question with this bound.
-#[tactic(auto, unfolding(trace_model::specs::Frames::frame))]
+#[tactic(auto, unfolding(trace_model::specs::Protocol::Frames::frame))]
 pub fn ask_frame(bound: u8) -> [u8; 4]
     ensures { result ≡ frame (Ask bound) }
 {
@@ -26,7 +26,7 @@ pub fn ask_frame(bound: u8) -> [u8; 4]
 }
 
 /// The frame that wants the answer of the question.
-#[tactic(auto, unfolding(trace_model::specs::Frames::frame))]
+#[tactic(auto, unfolding(trace_model::specs::Protocol::Frames::frame))]
 pub fn answer_frame(question: u32) -> [u8; 7]
     ensures { result ≡ frame (Answer question) }
 {
@@ -35,7 +35,7 @@ pub fn answer_frame(question: u32) -> [u8; 7]
 }
 
 /// The frame that wants the status of the question.
-#[tactic(auto, unfolding(trace_model::specs::Frames::frame))]
+#[tactic(auto, unfolding(trace_model::specs::Protocol::Frames::frame))]
 pub fn status_frame(question: u32) -> [u8; 7]
     ensures { result ≡ frame (Status question) }
 {

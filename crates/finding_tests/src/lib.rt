@@ -1,8 +1,9 @@
-//! Tests of findings that are delivered to a desk: of all sorts, by many threads, and where growths are refused.
+//! Tests of findings that are delivered to a desk: of all sorts, by many threads, and where growths
+//! are refused.
 #![tactic(auto)]
 
 #[cfg(test)]
-mod desks;
+mod at_desk;
 #[cfg(test)]
 mod many_findings;
 #[cfg(test)]

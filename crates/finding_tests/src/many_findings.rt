@@ -1,15 +1,14 @@
 //! Findings of all sorts, by lists and by many threads.
 
-ghost use Rattle.std.specs.Prelude.{◌≡◌};
-
-use crate::desks::{MOST, accepted, event, one_reader, opposite_sections, two_forks};
-use board::{BoardReader, Follows, Naming, Opened, Receipt, Shown};
+use crate::at_desk::{Script, at_desk};
+use board::{BoardReader, Follows, Naming, Receipt, Shown};
 use desk::Desk;
+use desk_fixtures::asks_about_opposite_orders;
 use findings::{Finding, Snapshot};
+use fixtures::{LIMIT, event, opposite_orders};
 use sequencer::{Book, Delivered};
 use std::alloc::{AllocError, Global};
 use std::hash::RandomState;
-use std::marker::Brand;
 use std::process::Abort;
 use std::random::RandomSource;
 use std::sync::{Arc, Wait};
@@ -20,7 +19,8 @@ use trace_model::{Bound, Event, Op, Refusal};
 
 const THREADS: usize = 8;
 
-/// Of which question, with which bound and of which task a finding is, and whether its events end in another way.
+/// Of which question, with which bound and of which task a finding is, and whether its events end
+/// in another way.
 #[derive(Clone, Copy)]
 pub(crate) struct About {
     question: u32,
@@ -71,7 +71,7 @@ const OTHER_QUESTION: About = About {
     ends_otherwise: false,
 };
 
-/// Somebody who has the events of the opposite sections, and those that end with a write of 20.
+/// Somebody who has the events of the opposite orders, and those that end with a write of 20.
 #[derive(Drop)]
 pub(crate) struct Stranger {
     alloc: Global,
@@ -82,9 +82,9 @@ pub(crate) struct Stranger {
 impl Stranger {
     /// None where there is no memory for it.
     pub(crate) fn new(rt: &(impl RandomSource + AllocGlobal)) -> Option<Stranger> {
-        let mut others = opposite_sections();
-        others[7] = event(2, Op::Write(20));
-        let same = shared(rt, &opposite_sections());
+        let mut others = opposite_orders();
+        others[9] = event(2, Op::Write(20));
+        let same = shared(rt, &opposite_orders());
         let (same, other) = same.zip(shared(rt, &others))?;
         Some(Stranger {
             alloc: rt.alloc(),
@@ -118,11 +118,8 @@ impl Stranger {
     }
 }
 
-/// What a question is about, once the book has two forks and these events.
+/// What a question is about, once the book has these events.
 fn asked_about(book: &mut Book, events: &[Event]) -> Option<Arc<Snapshot, Global>> {
-    for event in &two_forks() {
-        book.offer(*event).ok()?;
-    }
     for event in events {
         book.offer(*event).ok()?;
     }
@@ -130,13 +127,13 @@ fn asked_about(book: &mut Book, events: &[Event]) -> Option<Arc<Snapshot, Global
     book.snapshot(0).ok()
 }
 
-/// Two forks and these events, as a book of its own shares them.
+/// These events, as a book of its own shares them.
 fn shared(
     rt: &(impl RandomSource + AllocGlobal),
     events: &[Event],
 ) -> Option<Arc<Snapshot, Global>> {
     let state = RandomState::new(rt).ok()?;
-    let mut book = Book::new(rt.alloc(), state, MOST).ok()?;
+    let mut book = Book::new(rt.alloc(), state, LIMIT).ok()?;
     let snapshot = asked_about(&mut book, events);
     drop(book);
     snapshot
@@ -144,7 +141,7 @@ fn shared(
 
 /// How findings are delivered.
 #[derive(Clone, Copy)]
-enum Way {
+pub(crate) enum Way {
     OneByOne,
     Together,
 }
@@ -204,44 +201,20 @@ fn deliver_together<N: Naming, R: Wait + Copy, T: Follows<N>>(
     Ok(())
 }
 
-/// Question 0 about the opposite sections.
-fn asked<N: Naming, R: Wait + Abort + Copy>(
-    rt: &R,
-    desk: &Desk<N, R, Shown<N>>,
-    reader: &mut BoardReader<N>,
-) {
-    accepted(rt, desk, reader, &two_forks());
-    accepted(rt, desk, reader, &opposite_sections());
-    assert!(rt; desk.ask(2).0.is_ok());
-}
-
 #[test]
 fn findings_from_anyone(rt: HostRuntime) -> Result<(), Fail> {
-    from_anyone(rt, Way::OneByOne)
+    let stranger = Stranger::new(&rt).ok_or("a stranger")?;
+    let taken = at_desk(rt, Script::ListsInTurn(&stranger, Way::OneByOne));
+    drop(stranger);
+    taken.ok_or("a desk")?
 }
 
 #[test]
 fn lists_of_findings_from_anyone(rt: HostRuntime) -> Result<(), Fail> {
-    from_anyone(rt, Way::Together)
-}
-
-fn from_anyone<R: RandomSource + AllocGlobal + Wait + Abort + Copy>(
-    rt: R,
-    way: Way,
-) -> Result<(), Fail> {
-    let state = RandomState::new(&rt)?;
     let stranger = Stranger::new(&rt).ok_or("a stranger")?;
-    let taken = takes_findings::<Brand, _>(
-        rt,
-        rt.alloc(),
-        state,
-        Opened::new(),
-        MOST,
-        &stranger,
-        way,
-    );
+    let taken = at_desk(rt, Script::ListsInTurn(&stranger, Way::Together));
     drop(stranger);
-    taken
+    taken.ok_or("a desk")?
 }
 
 /// Findings, what becomes of each, and what the board then has of question 0.
@@ -277,35 +250,15 @@ const LISTS: [Wanted; 4] = [
     ),
 ];
 
-/// Delivers each list in turn at a desk of its own.
-fn takes_findings<N: Naming, R: Wait + Abort + Copy>(
-    rt: R,
-    alloc: Global,
-    state: RandomState,
-    opened: Opened,
-    limit: u32,
-    stranger: &Stranger,
-    way: Way,
-) -> Result<(), Fail>
-    requires book { opened.seen.book ≡ N.book }
-    requires limit { limit ≡ N.limit }
-{
-    let (desk, mut reader) = one_reader::<N, R>(rt, alloc, state, opened, limit)?;
-    let taken = takes_in_turn(&rt, &desk, &mut reader, stranger, way);
-    drop(desk);
-    drop(reader);
-    taken
-}
-
 /// Delivers each list in turn, and reads the board after it.
-fn takes_in_turn<N: Naming, R: Wait + Abort + Copy>(
+pub(crate) fn takes_in_turn<N: Naming, R: Wait + Abort + Copy>(
     rt: &R,
     desk: &Desk<N, R, Shown<N>>,
     reader: &mut BoardReader<N>,
     stranger: &Stranger,
     way: Way,
 ) -> Result<(), Fail> {
-    asked(rt, desk, reader);
+    assert!(rt; asks_about_opposite_orders(desk, reader));
     for wanted in LISTS {
         takes_list(rt, desk, reader, stranger, way, wanted)?;
     }
@@ -361,24 +314,18 @@ fn reads<N: Naming, R: Abort>(
 
 #[test]
 fn thirty_two_deliveries(rt: HostRuntime) -> Result<(), Fail> {
-    from_eight_threads(rt, Way::OneByOne)
+    let stranger = Stranger::new(&rt).ok_or("a stranger")?;
+    let taken = at_desk(rt, Script::ListsAtOnce(&stranger, Way::OneByOne));
+    drop(stranger);
+    taken.ok_or("a desk")?
 }
 
 #[test]
 fn thirty_two_deliveries_by_lists_of_four(rt: HostRuntime) -> Result<(), Fail> {
-    from_eight_threads(rt, Way::Together)
-}
-
-/// Each thread delivers both tasks, a finding with another bound, and one of other events.
-fn from_eight_threads<R: RandomSource + AllocGlobal + Threads + Wait + Abort + Copy + Send + Sync>(
-    rt: R,
-    way: Way,
-) -> Result<(), Fail> {
-    let state = RandomState::new(&rt)?;
     let stranger = Stranger::new(&rt).ok_or("a stranger")?;
-    let taken = takes_lists::<Brand, _>(rt, rt.alloc(), state, Opened::new(), MOST, &stranger, way);
+    let taken = at_desk(rt, Script::ListsAtOnce(&stranger, Way::Together));
     drop(stranger);
-    taken
+    taken.ok_or("a desk")?
 }
 
 /// For each thread the findings that it delivers.
@@ -395,35 +342,19 @@ fn push_lists(stranger: &Stranger, lists: &mut Vec<Vec<Finding>>) -> Option<()> 
     Some(())
 }
 
-/// Delivers the lists at a desk of their own.
-fn takes_lists<N: Naming + Send + Sync, R: Threads + Wait + Abort + Copy + Send + Sync>(
-    rt: R,
-    alloc: Global,
-    state: RandomState,
-    opened: Opened,
-    limit: u32,
-    stranger: &Stranger,
-    way: Way,
-) -> Result<(), Fail>
-    requires book { opened.seen.book ≡ N.book }
-    requires limit { limit ≡ N.limit }
-{
-    let (desk, mut reader) = one_reader::<N, R>(rt, alloc, state, opened, limit)?;
-    let taken = takes_at_once(&rt, &desk, &mut reader, stranger, way);
-    drop(desk);
-    drop(reader);
-    taken
-}
-
-/// Two findings are taken; of the others each is refused for its own reason.
-fn takes_at_once<N: Naming + Send + Sync, R: Threads + Wait + Abort + Copy + Send + Sync>(
+/// Each of eight threads delivers both tasks, a finding with another bound, and one of other
+/// events. Two findings are taken; of the others each is refused for its own reason.
+pub(crate) fn takes_at_once<
+    N: Naming + Send + Sync,
+    R: Threads + Wait + Abort + Copy + Send + Sync,
+>(
     rt: &R,
     desk: &Desk<N, R, Shown<N>>,
     reader: &mut BoardReader<N>,
     stranger: &Stranger,
     way: Way,
 ) -> Result<(), Fail> {
-    asked(rt, desk, reader);
+    assert!(rt; asks_about_opposite_orders(desk, reader));
     let lists = lists_of_four(stranger).ok_or("findings")?;
     let outcomes = delivered_at_once(rt, stranger.alloc, desk, reader, lists, way)?;
     are_refused(rt, &outcomes);

@@ -1,8 +1,9 @@
-//! A book over the edges of several segments, in which one allocation may be refused, whichever: an event that was
-//! refused is offered again. The test passes where none is refused; `bench/refused` refuses each in turn.
+//! A book over the edges of several segments, in which one allocation may be refused, whichever: an
+//! event that was refused is offered again. The test passes where none is refused; `bench/refused`
+//! refuses each in turn.
 
-use crate::desks::{MOST, event};
 use findings::Snapshot;
+use fixtures::{LIMIT, event};
 use sequencer::{AskRefused, Book, Opened};
 use std::alloc::Global;
 use std::hash::RandomState;
@@ -16,8 +17,8 @@ const FORKED: u32 = 8;
 
 const LOCKS: u32 = 24;
 
-/// The dependencies that this makes, each at one place, and the events: so that events, places and dependencies each
-/// fill more than one segment of 4,096.
+/// The dependencies that this makes, each at one place, and the events: so that events, places and
+/// dependencies each fill more than one segment of 4,096.
 const DEPENDENCIES: u32 = FORKED * LOCKS * (LOCKS - 1);
 
 const EVENTS: u32 = FORKED + 4 * DEPENDENCIES;
@@ -100,7 +101,7 @@ fn grows(rt: &impl Abort, book: &mut Book) -> Result<(), Fail> {
 
 #[test]
 fn a_book_grows_over_segments(rt: HostRuntime) -> Result<(), Fail> {
-    let mut book = Book::new(rt.alloc(), RandomState::new(&rt)?, MOST)?;
+    let mut book = Book::new(rt.alloc(), RandomState::new(&rt)?, LIMIT)?;
     let grown = grows(&rt, &mut book);
     drop(book);
     grown

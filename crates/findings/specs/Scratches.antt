@@ -1,7 +1,7 @@
 -- What a job keeps from one task to the next.
 use Rattle.std.specs.Option.{ForSome}
-use Rattle.trace_model.specs.Trace.{Trace}
-use Rattle.trace_model.specs.Dependencies.{dependencies}
+use Rattle.trace_model.specs.Theory.Trace.{Trace}
+use Rattle.trace_model.specs.Theory.Dependencies.{dependencies}
 use Rattle.cycle_search.specs.Ranked.{AreRanks}
 use Rattle.sp_closure.specs.Closers.{IsCloser}
 use Rattle.sp_closure.specs.Pasts.{ArePasts}

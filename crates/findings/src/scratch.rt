@@ -4,9 +4,9 @@ ghost use Rattle.std.specs.Prelude.{◌≡◌, ℕ, ◌<◌, ◌≤◌, length, 
 ghost use Rattle.std.specs.List.{All, Contains};
 ghost use Rattle.std.specs.Option.{ForSome};
 ghost use Rattle.trace_model.specs.declared.limits.TheConstants.{MAX_CYCLES};
-ghost use Rattle.trace_model.specs.Trace.{Trace};
-ghost use Rattle.trace_model.specs.Cycles.{AreCyclesFrom, IsConfirmed};
-ghost use Rattle.trace_model.specs.Dependencies.{dependencies};
+ghost use Rattle.trace_model.specs.Theory.Trace.{Trace};
+ghost use Rattle.trace_model.specs.Theory.Cycles.{AreCyclesFrom, IsConfirmed};
+ghost use Rattle.trace_model.specs.Theory.Dependencies.{dependencies};
 ghost use Rattle.cycle_search.specs.Search.{CycleFrom, MoreThan};
 ghost use Rattle.sp_closure.specs.Closers.{IsCloser};
 ghost use Rattle.cycle_search.specs.Ranked.{AreRanks};
@@ -28,8 +28,8 @@ use witness::Row;
 /// From how many cycles on the pasts of all dependencies are made.
 const MANY_CYCLES: usize = 64;
 
-/// Ranks and closer, made when they are first wanted, and the pasts of the dependencies, made once there were
-/// many cycles. No answer depends on what is kept.
+/// Ranks and closer, made when they are first wanted, and the pasts of the dependencies, made once
+/// there were many cycles. No answer depends on what is kept.
 #[derive(Drop)]
 pub(crate) struct Scratch {
     pub(crate) ranks: Option<Ranks>,
@@ -62,9 +62,11 @@ impl Scratch {
         requires scratch { IsScratch snapshot.now self.old }
         requires task { task < length (dependencies snapshot.now) }
         ensures scratch { IsScratch snapshot.now self.new }
-        ensures ok { IfOk result (λ cycles. AreCyclesFrom (dependencies snapshot.now) bound task cycles.items) }
+        ensures ok { IfOk result (λ cycles.
+            AreCyclesFrom (dependencies snapshot.now) bound task cycles.items) }
         ensures few { IfOk result (λ cycles. length cycles.items ≤ MAX_CYCLES) }
-        ensures too_many { result ≡ Err SearchRefused.TooMany → MoreThan (CycleFrom (dependencies snapshot.now) bound task) MAX_CYCLES }
+        ensures too_many { result ≡ Err SearchRefused.TooMany →
+            MoreThan (CycleFrom (dependencies snapshot.now) bound task) MAX_CYCLES }
     {
         let Ok(ranks) = ranks_of(alloc, snapshot, self.ranks.take()) else {
             return Err(SearchRefused::NoMemory);
@@ -88,7 +90,8 @@ impl Scratch {
         snapshot: &Snapshot,
         cycles: Vec<Cycle>,
     ) -> Result<Vec<Row>, NoMemory>
-        requires known { All (λ cycle. (m : ℕ) → Contains cycle m → m < length (dependencies snapshot.now)) cycles.items }
+        requires known { All (λ cycle. (m : ℕ) → Contains cycle m →
+            m < length (dependencies snapshot.now)) cycles.items }
         requires scratch { IsScratch snapshot.now self.old }
         ensures scratch { IsScratch snapshot.now self.new }
         ensures rows { IfOk result (λ rows. AreRowsFor snapshot.now cycles.items rows.items) }
@@ -171,7 +174,8 @@ fn make_pasts<L: Ledger>(
 
 /// Whether the pasts rule the cycle out. Where there are none nothing is said.
 pub(crate) fn is_ruled_out(pasts: &Option<Pasts>, cycle: &Cycle) -> bool
-    ensures { IsTrue result → (s : Trace) → ForSome pasts.now (ArePasts s) → AreKnown s cycle.now → IsConfirmed s cycle.now → ⊥ }
+    ensures { IsTrue result → (s : Trace) → ForSome pasts.now (ArePasts s) → AreKnown s cycle.now →
+        IsConfirmed s cycle.now → ⊥ }
 {
     match pasts {
         Some(pasts) => pasts.rules_out(cycle.numbers()),

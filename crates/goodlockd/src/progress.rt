@@ -8,8 +8,8 @@ use std::time::Instant;
 /// How long nothing is shown, in tenths of a second.
 const SILENT: u64 = 20;
 
-/// One line on standard error with how many tasks are done of all. It comes two seconds after it was made, is written anew
-/// at most ten times a second, and is taken away at the end.
+/// One line on standard error with how many tasks are done of all. It comes two seconds after it
+/// was made, is written anew at most ten times a second, and is taken away at the end.
 #[derive(Drop)]
 pub struct ProgressLine<'a, R: Clock + Eprint> {
     rt: &'a R,

@@ -9,8 +9,8 @@ ghost use Rattle.guards.specs.Compatible.{AreApart, NumbersApart, IsCompatible};
 use dependencies::{DepTable, Dependency};
 
 /// Whether a dependency may join the members of a cycle: its thread differs from the threads of all
-/// members, and its held set meets none of theirs. `members` and `number` are numbers of dependencies
-/// of the table, in any order. It takes no memory.
+/// members, and its held set meets none of theirs. `members` and `number` are numbers of
+/// dependencies of the table, in any order. It takes no memory.
 pub fn compatible(table: &DepTable, members: &[u32], number: u32) -> bool
     requires members { All (λ m. m < length (known table.now)) members.now }
     requires number { number < length (known table.now) }

@@ -2,16 +2,16 @@
 use Rattle.std.proofs.Common.{take, length-take, ◌≡◌, ℕ, suc, ◌<◌, ◌==◌, true, false, cond, List, [], ◌∷◌, ◌++◌, length, Some, refl, sym, ap, subst, ◌∙◌, arith}
 use Rattle.std.proofs.lemmas.Bool.{false≢true, le-ltb}
 use Rattle.std.proofs.lemmas.Option.{slice_get_within}
-use Rattle.trace_model.specs.declared.event.Event.{Event}
-use Rattle.trace_model.specs.declared.event.Op.{Op}
-use Rattle.trace_model.specs.declared.event.Op.TheVariants.{Fork, Join, Acquire, Release, Read, Write}
+use Rattle.trace_model.specs.declared.traces.event.Event.{Event}
+use Rattle.trace_model.specs.declared.traces.event.Op.{Op}
+use Rattle.trace_model.specs.declared.traces.event.Op.TheVariants.{Fork, Join, Acquire, Release, Read, Write}
 use Rattle.trace_model.specs.declared.limits.TheConstants.{MAX_EVENTS}
-use Rattle.trace_model.specs.Trace.{Trace, event, At}
-use Rattle.trace_model.specs.Held.{depth, depth_after, depth_step, held_after, held_step, held}
+use Rattle.trace_model.specs.Theory.Trace.{Trace, event, At}
+use Rattle.trace_model.specs.Theory.Held.{depth, depth_after, depth_step, held_after, held_step, held}
 use Rattle.trace_model.proofs.Lists.{get-append, get-push_last, get-take, length-push}
-use Rattle.trace_model.proofs.Prefix.{Agree, depth-agree, held_step-agree, held-agree}
-use Rattle.trace_model.proofs.Lawful.{lawful_parts}
-use Rattle.trace_model.proofs.OneMore.{lawful_acquire}
+use Rattle.trace_model.proofs.Theory.Prefix.{Agree, depth-agree, held_step-agree, held-agree}
+use Rattle.trace_model.proofs.Theory.Lawful.{lawful_parts}
+use Rattle.trace_model.proofs.Theory.OneMore.{lawful_acquire}
 use Rattle.held_sets.specs.Tables.{Table, locks_of, depth_of, holding_in, held_in, depth_in, IsAfter, FollowsTrace, keeps_locks, TablesFollow, TablesGrow, LawfulAcquiresFit, AcquiresFit}
 
 pub follows_after : (old new : Table) (s : Trace) (n : ℕ) (e : Event) → FollowsTrace old s n → At s n e →

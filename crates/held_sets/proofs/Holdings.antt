@@ -5,10 +5,10 @@ use Rattle.std.proofs.lemmas.List.Kept.{IsStrictlyIncreasing-filter}
 use Rattle.std.proofs.lemmas.Option.{none-some, same_Some}
 use Rattle.std.specs.List.{AllByRecursion, refill, remove}
 use Rattle.std.specs.List.Sorted.{IsStrictlyIncreasing}
-use Rattle.trace_model.specs.declared.event.Op.TheVariants.{Release}
-use Rattle.trace_model.specs.Held.{has, with_lock, without_lock}
-use Rattle.trace_model.proofs.HeldAscends.{Above, Ascends, above_lower}
-use Rattle.trace_model.proofs.Depths.{above_lacks, with-known}
+use Rattle.trace_model.specs.declared.traces.event.Op.TheVariants.{Release}
+use Rattle.trace_model.specs.Theory.Held.{has, with_lock, without_lock}
+use Rattle.trace_model.proofs.Theory.HeldAscends.{Above, Ascends, above_lower}
+use Rattle.trace_model.proofs.Theory.Depths.{above_lacks, with-known}
 use Rattle.held_sets.specs.declared.holding.LockDepth.{LockDepth}
 use Rattle.held_sets.specs.Tables.{locks_of, depth_of, IsHolding, place_for, depth_at, HasDepth, IsHeldAfter}
 use Rattle.held_sets.proofs.Locks.{ascends_from, with_increases}

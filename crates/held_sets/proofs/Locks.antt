@@ -5,9 +5,9 @@ use Rattle.std.specs.List.{list_any}
 use Rattle.std.specs.List.Sorted.{IsStrictlyIncreasing}
 use Rattle.std.specs.Prelude.{Some, Contains}
 use Rattle.trace_model.proofs.Lists.{some_passes, passes_some}
-use Rattle.trace_model.proofs.Ascending.{place_of, contains_at}
-use Rattle.trace_model.specs.Held.{has, with_lock}
-use Rattle.trace_model.proofs.HeldAscends.{Ascends, with_ascends, increasing_from}
+use Rattle.trace_model.proofs.Theory.Ascending.{place_of, contains_at}
+use Rattle.trace_model.specs.Theory.Held.{has, with_lock}
+use Rattle.trace_model.proofs.Theory.HeldAscends.{Ascends, with_ascends, increasing_from}
 
 pub ascends_from : (xs : List ℕ) → IsStrictlyIncreasing xs → Ascends xs
 ascends_from [] h = tt

@@ -1,9 +1,9 @@
 -- What a thread holds, written anew.
 use Rattle.std.proofs.Common.{◌≡◌, ℕ, Bool, true, false, cond, nat_eq, ◌==◌, ◌-◌, List, [], Option, Some, unwrap_or, refl, sym, ap, subst, ◌∙◌}
 use Rattle.std.proofs.lemmas.Bool.{eqb-true}
-use Rattle.trace_model.specs.declared.event.Op.{Op}
-use Rattle.trace_model.specs.declared.event.Op.TheVariants.{Release}
-use Rattle.trace_model.specs.Held.{held_after, depth_after}
+use Rattle.trace_model.specs.declared.traces.event.Op.{Op}
+use Rattle.trace_model.specs.declared.traces.event.Op.TheVariants.{Release}
+use Rattle.trace_model.specs.Theory.Held.{held_after, depth_after}
 use Rattle.held_sets.specs.declared.holding.LockDepth.{LockDepth}
 use Rattle.held_sets.specs.Tables.{Table, locks_of, depth_of, IsHeldAfter, holding_in, held_in, depth_in, IsAfter}
 

@@ -4,14 +4,14 @@ use Rattle.std.specs.List.{AllByRecursion}
 use Rattle.std.specs.List.Sorted.{IsStrictlyIncreasing}
 use Rattle.std.specs.Map.{lookup}
 use Rattle.std.specs.Option.{option_map_or}
-use Rattle.trace_model.specs.declared.event.Event.{Event}
-use Rattle.trace_model.specs.declared.event.Op.{Op}
-use Rattle.trace_model.specs.declared.event.Op.TheVariants.{Acquire, Release}
+use Rattle.trace_model.specs.declared.traces.event.Event.{Event}
+use Rattle.trace_model.specs.declared.traces.event.Op.{Op}
+use Rattle.trace_model.specs.declared.traces.event.Op.TheVariants.{Acquire, Release}
 use Rattle.trace_model.specs.declared.limits.TheConstants.{MAX_HELD, MAX_DEPTH}
-use Rattle.trace_model.specs.Lawful.{refusal_of, IsWellFormed}
-use Rattle.trace_model.specs.Trace.{Trace, event, At}
-use Rattle.trace_model.specs.Held.{with_lock, without_lock, held_after, held_step, depth_after, depth_step}
-use Rattle.trace_model.specs.Held
+use Rattle.trace_model.specs.Theory.Lawful.{refusal_of, IsWellFormed}
+use Rattle.trace_model.specs.Theory.Trace.{Trace, event, At}
+use Rattle.trace_model.specs.Theory.Held.{with_lock, without_lock, held_after, held_step, depth_after, depth_step}
+use Rattle.trace_model.specs.Theory.Held
 use Rattle.held_sets.specs.declared.holding.LockDepth.{LockDepth}
 
 -- no lock stands in both

@@ -1,5 +1,7 @@
+//! One held lock.
+
 ghost use Rattle.std.specs.Prelude.{◌≡◌, ◌<◌, ◌≤◌, ◌==◌, [], length, zero, if◌then◌else◌};
-ghost use Rattle.trace_model.specs.declared.event.Op.TheVariants.{Acquire, Release};
+ghost use Rattle.trace_model.specs.declared.traces.event.Op.TheVariants.{Acquire, Release};
 ghost use Rattle.trace_model.specs.declared.limits.TheConstants.{MAX_HELD, MAX_DEPTH};
 ghost use Rattle.held_sets.specs.Tables.{locks_of, depth_of, place_for, depth_at, HasDepth, IsHeldAfter};
 

@@ -1,8 +1,10 @@
+//! A held set: locks, ascending, each with its depth.
+
 ghost use Rattle.std.specs.Prelude.{◌≡◌, ℕ, ◌<◌, ◌≤◌, ◌↔◌, ◌==◌, [], length, false, slice_index, IsTrue};
 ghost use Rattle.std.specs.List.{list_any};
 ghost use Rattle.std.specs.List.Sorted.{IsStrictlyIncreasing};
 ghost use Rattle.trace_model.specs.declared.limits.TheConstants.{MAX_HELD};
-ghost use Rattle.trace_model.specs.Held.{has, with_lock};
+ghost use Rattle.trace_model.specs.Theory.Held.{has, with_lock};
 ghost use Rattle.held_sets.specs.Tables.{AreDisjoint, locks_of};
 
 use crate::holding::LockDepth;

@@ -1,22 +1,24 @@
+//! The held set of each thread.
+
 ghost use Rattle.std.specs.Prelude.{◌≡◌, ℕ, ◌<◌, [], length, OnOk, OnErr};
-ghost use Rattle.trace_model.specs.declared.event.Op.TheVariants.{Acquire, Release};
+ghost use Rattle.trace_model.specs.declared.traces.event.Op.TheVariants.{Acquire, Release};
 ghost use Rattle.trace_model.specs.declared.limits.TheConstants.{MAX_HELD, MAX_DEPTH};
 ghost use Rattle.held_sets.specs.Tables.{holding_in, held_in, depth_in, HasEntry, IsAfter};
 
 use crate::holding::Holding;
 use crate::set::HeldSet;
 use indexmap::IndexMap;
-use slots::{NumberTable, slot_of};
+use slots::{Guesses, NumberTable, slot_of};
 use std::alloc::Global;
 use std::collections::hash_map::RandomState;
 use std::marker::Model;
 use trace_model::NoMemory;
 
-/// The locks that each thread holds, and how deep. It remembers where the last reserved thread stands.
+/// The locks that each thread holds, and how deep.
 #[derive(Drop)]
 pub struct HeldTable {
     threads: NumberTable<Holding>,
-    near: usize,
+    guesses: Guesses,
 }
 
 impl Model for HeldTable {
@@ -34,7 +36,7 @@ impl HeldTable {
     {
         HeldTable {
             threads: IndexMap::with_hasher(alloc, state),
-            near: 0,
+            guesses: Guesses::new(),
         }
     }
 
@@ -42,7 +44,7 @@ impl HeldTable {
     pub fn held(&self, thread: u32) -> HeldSet
         ensures { result ≡ held_in self.now thread }
     {
-        match slot_of(&self.threads, self.near, thread) {
+        match slot_of(&self.threads, self.guesses.of(thread), thread) {
             Some(slot) => match self.threads.get_index(slot) {
                 Some((_, holding)) => holding.locks(),
                 None => HeldSet::new(),
@@ -51,12 +53,12 @@ impl HeldTable {
         }
     }
 
-    /// How deep the thread holds the lock: how many acquires of it are not yet released, 0 where it does not hold
-    /// it. It takes no memory.
+    /// How deep the thread holds the lock: how many acquires of it are not yet released, 0 where it
+    /// does not hold it. It takes no memory.
     pub fn depth(&self, thread: u32, lock: u32) -> u8
         ensures { result ≡ depth_in self.now thread lock }
     {
-        match slot_of(&self.threads, self.near, thread) {
+        match slot_of(&self.threads, self.guesses.of(thread), thread) {
             Some(slot) => match self.threads.get_index(slot) {
                 Some((_, holding)) => holding.depth(lock),
                 None => 0,
@@ -65,8 +67,8 @@ impl HeldTable {
         }
     }
 
-    /// The thread acquires a lock, which it may hold already, but at less than `MAX_DEPTH`. One that it does not
-    /// hold it acquires while it holds fewer than `MAX_HELD`.
+    /// The thread acquires a lock, which it may hold already, but at less than `MAX_DEPTH`. One
+    /// that it does not hold it acquires while it holds fewer than `MAX_HELD`.
     ///
     /// # Errors
     ///
@@ -83,8 +85,8 @@ impl HeldTable {
         Ok(())
     }
 
-    /// Makes an entry for a thread that is about to acquire a lock. What each thread holds stays as it was: an
-    /// entry may be left empty, and shows as none.
+    /// Makes an entry for a thread that is about to acquire a lock. What each thread holds stays as
+    /// it was: an entry may be left empty, and shows as none.
     ///
     /// # Errors
     ///
@@ -93,13 +95,13 @@ impl HeldTable {
         ensures shown { (t : ℕ) → holding_in self.new t ≡ holding_in self.old t }
         ensures ok { OnOk result (HasEntry self.new thread) }
     {
-        if let Some(slot) = slot_of(&self.threads, self.near, thread) {
-            self.near = slot;
+        if let Some(slot) = slot_of(&self.threads, self.guesses.of(thread), thread) {
+            self.guesses.note(thread, slot);
             return Ok(());
         }
         let slot = self.threads.len();
         self.threads.insert(thread, Holding::new())?;
-        self.near = slot;
+        self.guesses.note(thread, slot);
         Ok(())
     }
 
@@ -111,7 +113,7 @@ impl HeldTable {
             length (held_in self.old thread) < MAX_HELD }
         ensures { IsAfter self.old thread (Acquire lock) self.new }
     {
-        match slot_of(&self.threads, self.near, thread) {
+        match slot_of(&self.threads, self.guesses.of(thread), thread) {
             Some(slot) => match self.threads.get_index_mut(slot) {
                 Some(holding) => holding.acquire(lock),
                 None => {}
@@ -120,12 +122,12 @@ impl HeldTable {
         }
     }
 
-    /// The thread releases a lock, which it then holds at one less: at depth 1 no longer. A lock that it does not hold
-    /// changes nothing. It takes no memory.
+    /// The thread releases a lock, which it then holds at one less: at depth 1 no longer. A lock
+    /// that it does not hold changes nothing. It takes no memory.
     pub fn release(&mut self, thread: u32, lock: u32)
         ensures { IsAfter self.old thread (Release lock) self.new }
     {
-        match slot_of(&self.threads, self.near, thread) {
+        match slot_of(&self.threads, self.guesses.of(thread), thread) {
             Some(slot) => match self.threads.get_index_mut(slot) {
                 Some(holding) => holding.release(lock),
                 None => {}

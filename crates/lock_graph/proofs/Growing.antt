@@ -6,9 +6,9 @@ use Rattle.std.specs.List.Sorted.{IsStrictlyIncreasing}
 use Rattle.std.proofs.lemmas.Bool.{eqb-true, eq-eqb, false≢true, or_cases, or_left, or_right, cases_lt}
 use Rattle.std.proofs.lemmas.List.{length-append}
 use Rattle.std.proofs.lemmas.Option.{slice_get_within, get_or_from_slice_get, slice_get-get_or, same_Some, none-some}
-use Rattle.trace_model.specs.Dependencies.{Dependency}
+use Rattle.trace_model.specs.Theory.Dependencies.{Dependency}
 use Rattle.trace_model.proofs.Lists.{get-push, get-push_kept, get-push_last}
-use Rattle.trace_model.proofs.Unique.{Has, has_contained, contains_had}
+use Rattle.trace_model.proofs.Theory.Unique.{Has, has_contained, contains_had}
 use Rattle.lock_graph.specs.Lists.{listed_with}
 use Rattle.lock_graph.specs.Graph.{HoldsLock, IsGraphOf}
 

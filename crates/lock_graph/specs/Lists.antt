@@ -1,7 +1,7 @@
 -- What a table of lists shows.
 use Rattle.std.specs.Prelude.{ℕ, ◌<◌, List, [], ◌∷◌, ◌++◌, nat_eq, IsSomeAnd, vec_len, vec_capacity, length, slice_index, if◌then◌else◌}
 use Rattle.std.specs.Option.{option_map_or}
-use Rattle.trace_model.specs.Held.{has}
+use Rattle.trace_model.specs.Theory.Held.{has}
 use Rattle.std.specs.HashMap.{get, HashMap}
 use Rattle.std.specs.Global.{Vec}
 

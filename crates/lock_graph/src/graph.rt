@@ -1,6 +1,8 @@
+//! Which dependencies hold a lock.
+
 ghost use Rattle.std.specs.Prelude.{◌≡◌, ℕ, List, [], ◌∷◌, ◌++◌, length, IfOk, OnOk, OnErr};
 ghost use Rattle.std.specs.List.Sorted.{IsStrictlyIncreasing};
-ghost use Rattle.trace_model.specs.Dependencies.{Dependency as Triple};
+ghost use Rattle.trace_model.specs.Theory.Dependencies.{Dependency as Triple};
 ghost use Rattle.lock_graph.specs.Lists.{listed_with};
 ghost use Rattle.lock_graph.specs.Graph.{IsGraphOf, HasRoom, holders, holders_below};
 
@@ -30,14 +32,19 @@ impl LockGraph {
         }
     }
 
-    /// Adds a dependency at each lock that it holds. Dependencies are to be added by number, from 0 on.
+    /// Adds a dependency at each lock that it holds. Dependencies are to be added by number, from 0
+    /// on.
     ///
     /// # Errors
     ///
     /// `NoMemory` where a growth was refused. What each lock has is then as before.
     pub fn add(&mut self, number: u32, dependency: &Dependency) -> Result<(), NoMemory>
-        ensures lists { OnOk result ((lock : ℕ) → holders self.new lock ≡ listed_with dependency.now.held number lock (holders self.old lock)) }
-        ensures graph { OnOk result ((ds : List Triple) → number ≡ length ds → IsGraphOf ds (holders self.old) → IsGraphOf (ds ++ dependency.now ∷ []) (holders self.new)) }
+        ensures lists { OnOk result ((lock : ℕ) →
+            holders self.new lock ≡ listed_with dependency.now.held number lock
+            (holders self.old lock)) }
+        ensures graph { OnOk result ((ds : List Triple) → number ≡ length ds →
+            IsGraphOf ds (holders self.old) →
+            IsGraphOf (ds ++ dependency.now ∷ []) (holders self.new)) }
         ensures err { OnErr result ((lock : ℕ) → holders self.new lock ≡ holders self.old lock) }
     {
         self.reserve(number, dependency)?;
@@ -45,7 +52,8 @@ impl LockGraph {
         Ok(())
     }
 
-    /// Makes room for one more number at each lock that the dependency holds. What each lock has stays as it was.
+    /// Makes room for one more number at each lock that the dependency holds. What each lock has
+    /// stays as it was.
     ///
     /// # Errors
     ///
@@ -60,8 +68,11 @@ impl LockGraph {
     /// Adds a dependency at each lock that it holds, where there is room. It takes no memory.
     pub fn record(&mut self, number: u32, dependency: &Dependency)
         requires { HasRoom self.old dependency.now.held }
-        ensures lists { (lock : ℕ) → holders self.new lock ≡ listed_with dependency.now.held number lock (holders self.old lock) }
-        ensures graph { (ds : List Triple) → number ≡ length ds → IsGraphOf ds (holders self.old) → IsGraphOf (ds ++ dependency.now ∷ []) (holders self.new) }
+        ensures lists { (lock : ℕ) →
+            holders self.new lock ≡ listed_with dependency.now.held number lock
+            (holders self.old lock) }
+        ensures graph { (ds : List Triple) → number ≡ length ds → IsGraphOf ds (holders self.old) →
+            IsGraphOf (ds ++ dependency.now ∷ []) (holders self.new) }
     {
         record(&mut self.lists, dependency.held.locks(), number);
     }
@@ -76,8 +87,8 @@ impl LockGraph {
         }
     }
 
-    /// Those of them that are below the total: what the graph had when it had so many dependencies. They are a
-    /// beginning of the list, found by halves. It takes no memory.
+    /// Those of them that are below the total: what the graph had when it had so many dependencies.
+    /// They are a beginning of the list, found by halves. It takes no memory.
     pub fn successors_below(&self, lock: u32, total: usize) -> &[u32]
         requires { IsStrictlyIncreasing (holders self.now lock) }
         ensures { result.now ≡ holders_below self.now total lock }

@@ -1,3 +1,5 @@
+//! Lists of numbers by lock.
+
 ghost use Rattle.std.specs.Prelude.{◌≡◌, ℕ, ◌++◌, ◌∷◌, [], nat_eq, cond, OnOk, false};
 ghost use Rattle.std.specs.HashMap.{get};
 ghost use Rattle.std.specs.List.Sorted.{IsStrictlyIncreasing};
@@ -26,7 +28,8 @@ pub(crate) fn reserve(lists: &mut Lists, alloc: Global, locks: &[u32]) -> Result
 pub(crate) fn record(lists: &mut Lists, locks: &[u32], number: u32)
     requires room { HaveRoom lists.old locks.now }
     requires ascends { IsStrictlyIncreasing locks.now }
-    ensures { (other : ℕ) → listed lists.new other ≡ listed_with locks.now number other (listed lists.old other) }
+    ensures { (other : ℕ) → listed lists.new other ≡ listed_with locks.now number other
+        (listed lists.old other) }
 {
     for lock in locks {
         record_one(lists, *lock, number);
@@ -51,8 +54,11 @@ fn reserve_one(lists: &mut Lists, alloc: Global, lock: u32) -> Result<(), NoMemo
 /// Adds a number at a lock, whose list has room.
 fn record_one(lists: &mut Lists, lock: u32, number: u32)
     requires { HasRoomAt lists.old lock }
-    ensures shown { (other : ℕ) → listed lists.new other ≡ (cond (nat_eq lock other) (listed lists.old other ++ number ∷ []) (listed lists.old other)) }
-    ensures others { (other : ℕ) → nat_eq lock other ≡ false → get nat_eq lists.new other ≡ get nat_eq lists.old other }
+    ensures shown { (other : ℕ) →
+        listed lists.new other ≡ (cond (nat_eq lock other) (listed lists.old other ++ number ∷ [])
+        (listed lists.old other)) }
+    ensures others { (other : ℕ) → nat_eq lock other ≡ false →
+        get nat_eq lists.new other ≡ get nat_eq lists.old other }
 {
     if let Some(list) = lists.get_mut(&lock) {
         list.push_reserved(number);

@@ -4,12 +4,12 @@ use Rattle.std.specs.declared.sync.Arc.{Arc}
 use Rattle.std.specs.declared.alloc.Global.{Global}
 use Rattle.lock_graph.specs.declared.graph.LockGraph.{LockGraph}
 use Rattle.std.specs.Arc.{arc_value}
-use Rattle.trace_model.specs.declared.event.Event.{Event}
-use Rattle.trace_model.specs.declared.event.Op.TheVariants.{Acquire}
+use Rattle.trace_model.specs.declared.traces.event.Event.{Event}
+use Rattle.trace_model.specs.declared.traces.event.Op.TheVariants.{Acquire}
 use Rattle.trace_model.specs.declared.limits.TheConstants.{MAX_EVENTS}
-use Rattle.trace_model.specs.Trace.{Trace}
-use Rattle.trace_model.specs.Lawful.{refusal_of}
-use Rattle.trace_model.specs.Dependencies.{Dependency, dependencies_below}
+use Rattle.trace_model.specs.Theory.Trace.{Trace}
+use Rattle.trace_model.specs.Theory.Lawful.{refusal_of}
+use Rattle.trace_model.specs.Theory.Dependencies.{Dependency, dependencies_below}
 use Rattle.held_sets.specs.Tables as Held
 use Rattle.dependencies.specs.Tables as Dependencies
 use Rattle.dependencies.specs.Tables.{known, next_of}
@@ -28,7 +28,8 @@ pub record FollowTrace (tables : LockTables) (s : Trace) : Type 0 where
   pub held : Held.FollowsTrace tables.held s (length s)
   pub dependencies : Dependencies.FollowsTrace tables.dependencies s (length s)
   pub graphed : tables.graphed ≤ length (known tables.dependencies)
-  pub graph : IsGraphOf (take tables.graphed (known tables.dependencies)) (shared_holders tables.graph)
+  pub graph : IsGraphOf (take tables.graphed (known tables.dependencies))
+      (shared_holders tables.graph)
 
 -- there is an entry for a thread that acquires a lock
 abbrev pub HasEntryFor : Held.Table → Event → Type 0

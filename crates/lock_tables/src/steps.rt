@@ -1,8 +1,8 @@
 //! One event further, for each of the tables.
 
 ghost use Rattle.std.specs.Prelude.{◌≡◌, ℕ, ◌++◌, ◌∷◌, [], length, OnOk};
-ghost use Rattle.trace_model.specs.declared.event.Op.TheVariants.{Acquire};
-ghost use Rattle.trace_model.specs.Trace.{Trace};
+ghost use Rattle.trace_model.specs.declared.traces.event.Op.TheVariants.{Acquire};
+ghost use Rattle.trace_model.specs.Theory.Trace.{Trace};
 ghost use Rattle.held_sets.specs.Tables as Held;
 ghost use Rattle.dependencies.specs.Tables.{FollowsTrace, AllBelow};
 ghost use Rattle.lock_tables.specs.Tables.{HasEntryFor, HasPlaceFor};
@@ -39,7 +39,8 @@ pub(crate) fn reserve_place(table: &mut DepTable, event: &Event) -> Result<(), N
 pub(crate) fn note_place(table: &mut DepTable, held: &HeldTable, event: &Event, place: Place)
     requires room { HasPlaceFor table.old held.now event.now }
     requires below { AllBelow table.old place }
-    ensures { (s : Trace) → place ≡ length s → Held.FollowsTrace held.now s (length s) → FollowsTrace table.old s (length s)
+    ensures { (s : Trace) → place ≡ length s → Held.FollowsTrace held.now s (length s) →
+        FollowsTrace table.old s (length s)
         → FollowsTrace table.new (s ++ event.now ∷ []) (length (s ++ event.now ∷ [])) }
 {
     tables_follow();
@@ -51,8 +52,10 @@ pub(crate) fn note_place(table: &mut DepTable, held: &HeldTable, event: &Event, 
 /// What the event does to the held locks.
 pub(crate) fn follow_locks(held: &mut HeldTable, event: &Event)
     requires entry { HasEntryFor held.old event.now }
-    requires fits { (lock : ℕ) → event.now.op ≡ Acquire lock → Held.Fits held.old event.now.thread lock }
-    ensures { (s : Trace) → Held.FollowsTrace held.old s (length s) → Held.FollowsTrace held.new (s ++ event.now ∷ []) (length (s ++ event.now ∷ [])) }
+    requires fits { (lock : ℕ) → event.now.op ≡ Acquire lock →
+        Held.Fits held.old event.now.thread lock }
+    ensures { (s : Trace) → Held.FollowsTrace held.old s (length s) →
+        Held.FollowsTrace held.new (s ++ event.now ∷ []) (length (s ++ event.now ∷ [])) }
 {
     held_follows();
     match event.op {

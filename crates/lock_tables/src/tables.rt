@@ -1,8 +1,10 @@
+//! Held sets, dependencies and the graph of a trace that grows, event by event.
+
 ghost use Rattle.std.specs.Prelude.{◌≡◌, ℕ, ◌+◌, ◌<◌, ◌≤◌, ◌++◌, ◌∷◌, [], List, length, take, slice_get, true, Some, IfOk, OnOk, OnErr};
 ghost use Rattle.std.specs.Arc.{arc_value};
-ghost use Rattle.trace_model.specs.Trace.{Trace};
-ghost use Rattle.trace_model.specs.Lawful.{IsWellFormed};
-ghost use Rattle.trace_model.specs.Dependencies.{Dependency as Triple};
+ghost use Rattle.trace_model.specs.Theory.Trace.{Trace};
+ghost use Rattle.trace_model.specs.Theory.Lawful.{IsWellFormed};
+ghost use Rattle.trace_model.specs.Theory.Dependencies.{Dependency as Triple};
 ghost use Rattle.dependencies.specs.Tables.{known};
 ghost use Rattle.lock_graph.specs.Graph.{IsGraphOf, HasGraphOf, holders};
 ghost use Rattle.lock_tables.specs.Tables.{shared_holders, FollowTrace, HasRoomFor, IsLawfulNext, HasTotal, CountsBelow, ArePartsOf};
@@ -19,10 +21,11 @@ use std::collections::hash_map::RandomState;
 use std::sync::Arc;
 use trace_model::{Event, NoMemory, Place};
 
-/// What each thread holds, which dependencies there are and where, and which of them hold which lock.
+/// What each thread holds, which dependencies there are and where, and which of them hold which
+/// lock.
 ///
-/// Snapshots share the graph. So a new dependency comes into it with the growths for the next event, into a copy
-/// where it is shared: at most one copy for each snapshot.
+/// Snapshots share the graph. So a new dependency comes into it with the growths for the next
+/// event, into a copy where it is shared: at most one copy for each snapshot.
 #[derive(Drop)]
 pub struct LockTables {
     alloc: Global,
@@ -94,11 +97,13 @@ impl LockTables {
         reserve_place(&mut self.dependencies, event)
     }
 
-    /// Goes on to the event, which must be lawful next, and for which room was made. It takes no memory.
+    /// Goes on to the event, which must be lawful next, and for which room was made. It takes no
+    /// memory.
     pub fn record(&mut self, event: &Event)
         requires room { HasRoomFor self.old event.now }
         requires lawful { IsLawfulNext self.old event.now }
-        ensures { (s : Trace) → FollowTrace self.old s → FollowTrace self.new (s ++ event.now ∷ []) }
+        ensures { (s : Trace) → FollowTrace self.old s →
+            FollowTrace self.new (s ++ event.now ∷ []) }
     {
         tables_follow();
         acquires_fit();
@@ -112,8 +117,8 @@ impl LockTables {
         self.events += 1;
     }
 
-    /// Brings the dependencies that are new into the graph. The trace of the tables stays as it was. After it
-    /// `share` copies no graph until the next event.
+    /// Brings the dependencies that are new into the graph. The trace of the tables stays as it
+    /// was. After it `share` copies no graph until the next event.
     ///
     /// # Errors
     ///
@@ -128,16 +133,17 @@ impl LockTables {
         Ok(())
     }
 
-    /// The tables of the first events, which have so many dependencies: what came later is left out. It takes
-    /// time for each full segment of dependencies and of places, and for at most 4,096 of either; a graph that
-    /// lacks the last of these dependencies is copied.
+    /// The tables of the first events, which have so many dependencies: what came later is left
+    /// out. It takes time for each full segment of dependencies and of places, and for at most
+    /// 4,096 of either; a graph that lacks the last of these dependencies is copied.
     ///
     /// # Errors
     ///
     /// `NoMemory` where a growth was refused.
     pub fn share(&self, total: u32, events: u32) -> Result<LockParts, NoMemory>
         requires { HasTotal self.now total events }
-        ensures { IfOk result (λ parts. (s : Trace) → FollowTrace self.now s → CountsBelow s total events → ArePartsOf parts (take events s)) }
+        ensures { IfOk result (λ parts. (s : Trace) → FollowTrace self.now s →
+            CountsBelow s total events → ArePartsOf parts (take events s)) }
     {
         tables_follow();
         let dependencies = self.dependencies.share(total, events)?;
@@ -235,7 +241,8 @@ fn graph_or_new(
     state: RandomState,
     graph: Option<Arc<LockGraph, Global>>,
 ) -> Result<Arc<LockGraph, Global>, NoMemory>
-    ensures { IfOk result (λ own. (lock : ℕ) → holders (arc_value own) lock ≡ shared_holders graph lock) }
+    ensures { IfOk result (λ own. (lock : ℕ) →
+        holders (arc_value own) lock ≡ shared_holders graph lock) }
 {
     match graph {
         Some(own) => Ok(own),
@@ -265,8 +272,11 @@ fn add_to(
     number: u32,
     dependency: &Dependency,
 ) -> Result<(), NoMemory>
-    ensures ok { OnOk result ((ds : List Triple) → number ≡ length ds → IsGraphOf ds (shared_holders graph.old) → IsGraphOf (ds ++ dependency.now ∷ []) (shared_holders graph.new)) }
-    ensures err { OnErr result ((lock : ℕ) → shared_holders graph.new lock ≡ shared_holders graph.old lock) }
+    ensures ok { OnOk result ((ds : List Triple) → number ≡ length ds →
+        IsGraphOf ds (shared_holders graph.old) →
+        IsGraphOf (ds ++ dependency.now ∷ []) (shared_holders graph.new)) }
+    ensures err { OnErr result ((lock : ℕ) →
+        shared_holders graph.new lock ≡ shared_holders graph.old lock) }
 {
     if let Some(shared) = graph
         && let Some(own) = Arc::get_mut(shared)
@@ -280,7 +290,8 @@ fn add_to(
     Ok(())
 }
 
-/// A graph that has so many of the dependencies: the present one, or a copy with those that it lacks.
+/// A graph that has so many of the dependencies: the present one, or a copy with those that it
+/// lacks.
 fn graph_of(
     alloc: Global,
     state: RandomState,

@@ -1,17 +1,12 @@
 -- Notes: numbers with places, in order.
-use Rattle.std.specs.Prelude.{◌≡◌, ℕ, zero, suc, ◌<◌, ◌≤◌, Bool, true, false, ◌==◌, ◌&&◌, nat_lt, List, map, length, slice_get, Option, Some, vec_len, vec_capacity, if◌then◌else◌}
+use Rattle.std.specs.Prelude.{◌≡◌, ℕ, ◌≤◌, Bool, false, ◌==◌, ◌&&◌, nat_lt, List, map, length, slice_get, Option, Some, vec_len, vec_capacity}
 use Rattle.std.specs.List.{filter}
 use Rattle.std.specs.List.Sorted.{IsStrictlyIncreasing}
 use Rattle.std.specs.Option.{option_map_or, option_flatten}
 use Rattle.std.specs.Global.{Vec}
-use Rattle.trace_model.specs.Trace.{last_place}
-use Rattle.numbered.specs.declared.note.Link.{Link}
+use Rattle.trace_model.specs.Theory.Trace.{last_place}
+use Rattle.links.specs.Links.{IsLink}
 use Rattle.numbered.specs.declared.note.Note.{Note}
-
--- how many below n pass
-abbrev pub count_below : (ℕ → Bool) → ℕ → ℕ
-count_below test zero = 0
-count_below test (suc n) = if test n then suc (count_below test n) else count_below test n
 
 abbrev pub pairs_of : List Note → List (ℕ × ℕ)
 pairs_of notes = map (λ x. (x.number, x.place)) notes
@@ -38,19 +33,14 @@ notes_below n notes = filter (λ e. nat_lt e.1 n) notes
 abbrev pub is_of : List (ℕ × ℕ) → ℕ → ℕ → Bool
 is_of notes m i = option_map_or (λ e. e.0 == m) (slice_get notes i) false
 
--- where a note stands among those that pass
-pub record IsLink (test : ℕ → Bool) (i : ℕ) (link : Link) : Type 0 where
-  pub count_is : link.count ≡ count_below test i
-  pub earlier_is : link.earlier ≡ last_place test i
-  pub jump_within : link.jump ≤ i
-  pub jump_passes : link.jump < i → test link.jump ≡ true
-
 abbrev pub AreNotes : List Note → Type 0
-AreNotes notes = (i : ℕ) (x : Note) → slice_get notes i ≡ Some x → IsLink (is_of (pairs_of notes) x.number) i x.link
+AreNotes notes = (i : ℕ) (x : Note) → slice_get notes i ≡ Some x →
+    IsLink (is_of (pairs_of notes) x.number) i x.link
 
 -- the last note of each number
 abbrev pub AreHeads : List Note → List (Option ℕ) → Type 0
-AreHeads notes heads = (m : ℕ) → option_flatten (slice_get heads m) ≡ last_place (is_of (pairs_of notes) m) (length notes)
+AreHeads notes heads = (m : ℕ) → option_flatten (slice_get heads m) ≡
+    last_place (is_of (pairs_of notes) m) (length notes)
 
 pub record AreNumbered (notes : List Note) (heads : List (Option ℕ)) : Type 0 where
   pub notes_are : AreNotes notes
@@ -63,7 +53,6 @@ has_room room heads = room && nat_lt (vec_len heads) (vec_capacity heads)
 
 -- notes with the last one of a number, whose places ascend
 pub record IsPlacesOf (notes : List Note) (m : ℕ) (last : Option ℕ) : Type 0 where
-  pub notes_are : AreNotes notes
   pub last_is : last ≡ last_place (is_of (pairs_of notes) m) (length notes)
   pub ascends : IsStrictlyIncreasing (places_in (pairs_of notes) m)
   pub few : length notes ≤ 4294967296

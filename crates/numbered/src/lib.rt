@@ -1,23 +1,26 @@
 //! Places by number, in segments that are shared.
 #![tactic(auto)]
 
+mod heads;
 mod list;
 mod note;
+mod notes_of;
 mod share;
-mod walk;
 
 ghost use Rattle.std.specs.Prelude.{◌≡◌, ◌≤◌, ◌<◌, ◌+◌, ◌++◌, ◌∷◌, [], ℕ, length, take, true, nat_eq, OnOk, IfOk, if◌then◌else◌};
 ghost use Rattle.std.specs.List.Sorted.{IsStrictlyIncreasing};
 ghost use Rattle.numbered.specs.Notes.{places_in, notes_below, Ascend};
 
+use heads::{head, set_head};
+use links::link_after;
 pub use list::PlacesOf;
 use note::Note;
+use notes_of::NotesOf;
 use segments::Segments;
 use share::{copy_notes, count_below, heads_below};
 use std::alloc::Global;
 use std::marker::Model;
 use trace_model::{NoMemory, Place};
-use walk::{head, link_after, set_head};
 
 /// Places of numbers from 0 on, noted in ascending order.
 ///
@@ -35,7 +38,11 @@ impl Model for NumberedPlaces {
 
     ghost Value = { Numbered };
 
-    ghost view = { λ p. record { notes = pairs_of p.notes.0; numbers = vec_len p.heads; room = has_room p.notes.1 p.heads } };
+    ghost view = { λ p. record {
+      notes = pairs_of p.notes.0;
+      numbers = vec_len p.heads;
+      room = has_room p.notes.1 p.heads;
+    } };
 
     ghost invariant = { λ p. AreNumbered p.notes.0 p.heads.items };
 }
@@ -54,6 +61,10 @@ impl NumberedPlaces {
     }
 
     /// Makes room for one note. A full segment is sealed here.
+    ///
+    /// # Errors
+    ///
+    /// `NoMemory` where a growth was refused. What is shown stays.
     pub fn reserve(&mut self) -> Result<(), NoMemory>
         ensures notes { self.new.notes ≡ self.old.notes }
         ensures numbers { self.new.numbers ≡ self.old.numbers }
@@ -70,10 +81,15 @@ impl NumberedPlaces {
         requires number { number ≤ self.old.numbers }
         requires few { length self.old.notes < 4294967296 }
         ensures notes { self.new.notes ≡ self.old.notes ++ (number, place) ∷ [] }
-        ensures numbers { self.new.numbers ≡ (if nat_eq number self.old.numbers then self.old.numbers + 1 else self.old.numbers) }
+        ensures numbers { self.new.numbers ≡
+            (if nat_eq number self.old.numbers then self.old.numbers + 1 else self.old.numbers) }
     {
         let index = self.notes.len() as u32;
-        let link = link_after(&self.notes, number, head(&self.heads, number), index);
+        let list = NotesOf {
+            notes: &self.notes,
+            number,
+        };
+        let link = link_after(&list, head(&self.heads, number), index);
         self.notes.put(Note {
             number,
             place,
@@ -87,15 +103,18 @@ impl NumberedPlaces {
         requires { IsStrictlyIncreasing (places_in self.now.notes number) }
         ensures { result ≡ places_in self.now.notes number }
     {
-        PlacesOf {
+        let list = NotesOf {
             notes: &self.notes,
             number,
+        };
+        PlacesOf {
+            list,
             last: head(&self.heads, number),
         }
     }
 
-    /// The notes of places below the bound, where places ascend from note to note. Full segments are shared, at
-    /// most one is copied, and each number's last note is found.
+    /// The notes of places below the bound, where places ascend from note to note. Full segments
+    /// are shared, at most one is copied, and each number's last note is found.
     ///
     /// # Errors
     ///

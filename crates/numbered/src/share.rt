@@ -1,10 +1,14 @@
+//! The notes and the last notes of a snapshot.
+
 ghost use Rattle.std.specs.Prelude.{◌≡◌, ◌≤◌, ◌<◌, ℕ, length, take, slice_get, IfOk};
 ghost use Rattle.std.specs.Option.{option_flatten};
-ghost use Rattle.trace_model.specs.Trace.{last_place};
+ghost use Rattle.trace_model.specs.Theory.Trace.{last_place};
 ghost use Rattle.numbered.specs.Notes.{is_of, pairs_of, notes_below, Ascend, AreNotes, AreHeads};
 
+use crate::heads::head;
 use crate::note::Note;
-use crate::walk::{head, last_below};
+use crate::notes_of::NotesOf;
+use links::last_below;
 use segments::Segments;
 use std::alloc::Global;
 use trace_model::NoMemory;
@@ -61,12 +65,17 @@ pub(crate) fn heads_below(
     requires within { count ≤ length notes.now.0 }
     requires few { length heads.now ≤ 4294967296 }
     ensures len { IfOk result (λ below. length below.items ≡ length heads.now) }
-    ensures heads { IfOk result (λ below. (m : ℕ) → m < length heads.now → slice_get below.items m ≡ Some (last_place (is_of (pairs_of notes.now.0) m) count)) }
+    ensures heads { IfOk result (λ below. (m : ℕ) → m < length heads.now →
+        slice_get below.items m ≡ Some (last_place (is_of (pairs_of notes.now.0) m) count)) }
 {
     let mut below = Vec::with_capacity(alloc, heads.len())?;
     for number in 0..heads.len() {
-        let from = head(heads, number as u32);
-        below.push(last_below(notes, number as u32, from, count))?;
+        let list = NotesOf {
+            notes,
+            number: number as u32,
+        };
+        let last = head(heads, list.number);
+        below.push(last_below(&list, last, count))?;
     }
     Ok(below)
 }

@@ -4,8 +4,8 @@ use Rattle.std.specs.Global.{Vec}
 use Rattle.std.specs.List.{AllZip, range_with_len}
 use Rattle.std.proofs.lemmas.List.FromFn.{get_or-range_with_len, length-range_with_len}
 use Rattle.std.proofs.lemmas.Option.{none-some, same_Some, slice_get_within}
-use Rattle.trace_model.specs.Trace.{Trace}
-use Rattle.trace_model.specs.Dependencies.{dependencies}
+use Rattle.trace_model.specs.Theory.Trace.{Trace}
+use Rattle.trace_model.specs.Theory.Dependencies.{dependencies}
 use Rattle.witness.specs.Printed.{Printed}
 use Rattle.findings.specs.Found.{AreRowsOf}
 use Rattle.offline_report.specs.Offline.{AreComputed, IsNotComputed, IsTask, Tells}

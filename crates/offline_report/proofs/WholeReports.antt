@@ -5,11 +5,11 @@ use Rattle.std.proofs.lemmas.List.{length-map, map-append}
 use Rattle.std.proofs.lemmas.List.Concat.{flat_map-cons}
 use Rattle.std.proofs.lemmas.List.Elements.{All-head, All-tail}
 use Rattle.std.proofs.lemmas.Option.{none-some, same_Some, slice_get-map}
-use Rattle.trace_model.specs.declared.event.Event.{Event}
-use Rattle.trace_model.specs.Trace.{Trace, At}
-use Rattle.trace_model.specs.Lawful.{IsWellFormed}
-use Rattle.trace_model.specs.Dependencies.{Dependency, dependencies}
-use Rattle.trace_model.specs.Rows.{Row, AreRows}
+use Rattle.trace_model.specs.declared.traces.event.Event.{Event}
+use Rattle.trace_model.specs.Theory.Trace.{Trace, At}
+use Rattle.trace_model.specs.Theory.Lawful.{IsWellFormed}
+use Rattle.trace_model.specs.Theory.Dependencies.{Dependency, dependencies}
+use Rattle.trace_model.specs.Theory.Rows.{Row, AreRows}
 use Rattle.witness.specs.Printed.{Printed, with_dependencies}
 use Rattle.witness.specs.Text.{report}
 use Rattle.offline_report.specs.Offline.{AreComputed, AreTasks, report_of, IsNotAdmitted, IsNotComputed, IsRefused, tasks_report}

@@ -3,13 +3,13 @@ use Rattle.std.specs.Prelude.{◌≡◌, ℕ, suc, ◌<◌, List, [], length, ma
 use Rattle.std.specs.Global.{Vec}
 use Rattle.std.specs.List.{AllZip, flat_map}
 use Rattle.std.specs.Option.{option_map_or}
-use Rattle.trace_model.specs.declared.event.Event.{Event}
+use Rattle.trace_model.specs.declared.traces.event.Event.{Event}
 use Rattle.trace_model.specs.declared.limits.TheConstants.{MAX_EVENTS, MAX_REPORT, MAX_CYCLES}
 use Rattle.trace_model.specs.declared.refusal.Refusal.{Refusal}
-use Rattle.trace_model.specs.Trace.{Trace, At}
-use Rattle.trace_model.specs.Lawful.{IsWellFormed, refusal_of}
-use Rattle.trace_model.specs.Dependencies.{dependencies}
-use Rattle.trace_model.specs.Rows.{Row, AreRows}
+use Rattle.trace_model.specs.Theory.Trace.{Trace, At}
+use Rattle.trace_model.specs.Theory.Lawful.{IsWellFormed, refusal_of}
+use Rattle.trace_model.specs.Theory.Dependencies.{dependencies}
+use Rattle.trace_model.specs.Theory.Rows.{Row, AreRows}
 use Rattle.witness.specs.Printed.{Printed, with_dependencies}
 use Rattle.witness.specs.Text.{report, row_text, is_confirmed}
 use Rattle.cycle_search.specs.Search.{CycleFrom, MoreThan}
@@ -21,26 +21,34 @@ use Rattle.offline_report.specs.declared.refused.OfflineRefused.TheVariants.{Gat
 -- of each task its rows, in the order of the tasks
 pub record AreTasks (s : Trace) (bound : ℕ) (tasks : List (List Row)) : Type 0 where
   pub total : length tasks ≡ length (dependencies s)
-  pub each : (task : ℕ) (rows : List Row) → slice_get tasks task ≡ Some rows → AreRows s bound task rows
+  pub each : (task : ℕ) (rows : List Row) → slice_get tasks task ≡ Some rows →
+      AreRows s bound task rows
 
 -- the report of question 0 about all events, on these tasks
 unfoldable pub report_of : Trace → ℕ → List (List Row) → List ℕ
-report_of s bound tasks = report 0 (length s) bound (map (with_dependencies (dependencies s)) (flat_map (λ rows. rows) tasks))
+report_of s bound tasks =
+    report 0 (length s) bound
+    (map (with_dependencies (dependencies s)) (flat_map (λ rows. rows) tasks))
 
 -- the report on exactly the rows
 abbrev pub IsReport : Trace → ℕ → List ℕ → Type 0
-IsReport s bound text = IsWellFormed s × ((tasks : List (List Row)) × AreTasks s bound tasks × (text ≡ report_of s bound tasks))
+IsReport s bound text = IsWellFormed s
+    × ((tasks : List (List Row)) × AreTasks s bound tasks × (text ≡ report_of s bound tasks))
 
 -- the event at the index is not lawful after those before it, and these are
 abbrev pub IsFirstUnlawful : Trace → ℕ → Refusal → Type 0
 IsFirstUnlawful s index refusal =
-    IsWellFormed (take index s) × ((e : Event) × At s index e × (refusal_of MAX_EVENTS (take index s) e ≡ Some refusal))
+    IsWellFormed (take index s)
+    × ((e : Event) × At s index e × (refusal_of MAX_EVENTS (take index s) e ≡ Some refusal))
 
 -- there is rightly no report
 abbrev pub IsRefused : Trace → ℕ → OfflineRefused → Type 0
 IsRefused s bound (Gate refusal index) = IsFirstUnlawful s index refusal
-IsRefused s bound TooLong = IsWellFormed s × ((tasks : List (List Row)) × AreTasks s bound tasks × (MAX_REPORT < length (report_of s bound tasks)))
-IsRefused s bound TooManyCycles = IsWellFormed s × ((task : ℕ) × MoreThan (CycleFrom (dependencies s) bound task) MAX_CYCLES)
+IsRefused s bound TooLong = IsWellFormed s
+    × ((tasks : List (List Row)) × AreTasks s bound tasks
+    × (MAX_REPORT < length (report_of s bound tasks)))
+IsRefused s bound TooManyCycles = IsWellFormed s
+    × ((task : ℕ) × MoreThan (CycleFrom (dependencies s) bound task) MAX_CYCLES)
 IsRefused s bound NoMemory = Unit {0}
 
 -- ---- the parts
@@ -54,30 +62,37 @@ IsNotAdmitted s NoMemory = Unit {0}
 abbrev pub IsNotComputed : Trace → ℕ → OfflineRefused → Type 0
 IsNotComputed s bound (Gate refusal index) = ⊥
 IsNotComputed s bound TooLong = ⊥
-IsNotComputed s bound TooManyCycles = (task : ℕ) × MoreThan (CycleFrom (dependencies s) bound task) MAX_CYCLES
+IsNotComputed s bound TooManyCycles = (task : ℕ)
+    × MoreThan (CycleFrom (dependencies s) bound task) MAX_CYCLES
 IsNotComputed s bound NoMemory = Unit {0}
 
--- what a report has of these rows: their text, or none where that alone is too long, and how many they are
+-- what a report has of these rows: their text, or none where that alone is too long, and how many
+-- they are
 pub record Tells (rows : List Printed) (part : Part) : Type 0 where
-  pub text : MatchOption part.text (MAX_REPORT < length (flat_map row_text rows)) (λ text. text.items ≡ flat_map row_text rows)
+  pub text : MatchOption part.text (MAX_REPORT < length (flat_map row_text rows))
+      (λ text. text.items ≡ flat_map row_text rows)
   pub cycles : part.cycles ≡ length rows
   pub confirmed : part.confirmed ≡ count_by is_confirmed rows
 
 -- what a report has of a task, or rightly none
 abbrev pub IsTask : Trace → ℕ → ℕ → Result Part OfflineRefused → Type 0
 IsTask s bound task result =
-    MatchResult result (λ part. (rows : List Printed) × AreRowsOf s bound task rows × Tells rows part) (IsNotComputed s bound)
+    MatchResult result (λ part. (rows : List Printed) × AreRowsOf s bound task rows
+    × Tells rows part) (IsNotComputed s bound)
 
 -- the rows of the first n tasks, with what a report has of them
-pub record AreComputed (s : Trace) (bound n : ℕ) (tasks : List (List Printed)) (parts : List Part) : Type 0 where
+pub record AreComputed (s : Trace) (bound n : ℕ) (tasks : List (List Printed))
+    (parts : List Part) : Type 0 where
   pub total : length tasks ≡ n
-  pub each : (task : ℕ) (rows : List Printed) → slice_get tasks task ≡ Some rows → AreRowsOf s bound task rows
+  pub each : (task : ℕ) (rows : List Printed) → slice_get tasks task ≡ Some rows →
+      AreRowsOf s bound task rows
   pub told : AllZip Tells tasks parts
 
 -- what a report has of all tasks, or rightly none
 abbrev pub AreAllParts : Trace → ℕ → Result (Vec Part) OfflineRefused → Type 0
 AreAllParts s bound result =
-    MatchResult result (λ parts. (tasks : List (List Printed)) × AreComputed s bound (length (dependencies s)) tasks parts.items) (IsNotComputed s bound)
+    MatchResult result (λ parts. (tasks : List (List Printed))
+    × AreComputed s bound (length (dependencies s)) tasks parts.items) (IsNotComputed s bound)
 
 -- the text of all rows of the tasks
 abbrev pub tasks_text : List (List Printed) → List ℕ
@@ -100,4 +115,5 @@ whole pieces = flat_map (λ piece. piece.items) pieces
 
 -- the pieces of this text, or none where it is too long
 abbrev pub IsToldAs : List ℕ → Option (Vec (Vec ℕ)) → Type 0
-IsToldAs text told = MatchOption told (MAX_REPORT < length text) (λ pieces. whole pieces.items ≡ text)
+IsToldAs text told = MatchOption told (MAX_REPORT < length text)
+    (λ pieces. whole pieces.items ≡ text)

@@ -1,5 +1,5 @@
-//! The report on a whole list of events, without a book: gate and tables are made in one pass each, and the rows of
-//! the tasks by as many threads as there are processors.
+//! The report on a whole list of events, without a book: gate and tables are made in one pass each,
+//! and the rows of the tasks by as many threads as there are processors.
 #![tactic(auto)]
 
 mod opening;

@@ -2,8 +2,8 @@
 ghost use Rattle.std.specs.Prelude.{◌≡◌, length, IfOk, IfErr, OnOk};
 ghost use Rattle.std.specs.Arc.{arc_value};
 ghost use Rattle.trace_model.specs.declared.limits.TheConstants.{MAX_EVENTS};
-ghost use Rattle.trace_model.specs.Dependencies.{dependencies};
-ghost use Rattle.trace_model.specs.Lawful.{IsWellFormed};
+ghost use Rattle.trace_model.specs.Theory.Dependencies.{dependencies};
+ghost use Rattle.trace_model.specs.Theory.Lawful.{IsWellFormed};
 ghost use Rattle.offline_report.specs.Offline.{IsNotAdmitted, IsRefused, IsReport, whole};
 
 use crate::parts::{joined, report_pieces};
@@ -18,8 +18,8 @@ use std::thread::Threads;
 use trace_model::{Bound, Event, MAX_EVENTS, NoMemory};
 use wellformed::GateTables;
 
-/// Well-formed events with the tables that the tasks of a question with a bound are computed from. Contracts see
-/// it as that question, number 0.
+/// Well-formed events with the tables that the tasks of a question with a bound are computed from.
+/// Contracts see it as that question, number 0.
 #[derive(Drop)]
 pub struct Offline {
     pub(crate) alloc: Global,
@@ -41,14 +41,16 @@ impl Offline {
     ///
     /// # Errors
     ///
-    /// `Gate` with the first event that is not lawful, where there is one, and `NoMemory` where a growth was refused.
+    /// `Gate` with the first event that is not lawful, where there is one, and `NoMemory` where a
+    /// growth was refused.
     pub fn open(
         alloc: Global,
         state: RandomState,
         events: Vec<Event>,
         bound: Bound,
     ) -> Result<Offline, OfflineRefused>
-        ensures asked { IfOk result (λ offline. offline ≡ record { question = 0; bound = bound; events = events.items }) }
+        ensures asked { IfOk result
+            (λ offline. offline ≡ record { question = 0; bound = bound; events = events.items }) }
         ensures well_formed { IfOk result (λ offline. IsWellFormed events.items) }
         ensures refused { IfErr result (IsNotAdmitted events.items) }
     {
@@ -70,19 +72,21 @@ impl Offline {
         self.snapshot.tasks()
     }
 
-    /// The report, exactly as a book would give it, in pieces one after another. Its tasks are computed, and their texts
-    /// written, by as many threads as there are processors; each calls the hold, with question 0, once its rows are there.
+    /// The report, exactly as a book would give it, in pieces one after another. Its tasks are
+    /// computed, and their texts written, by as many threads as there are processors; each calls
+    /// the hold, with question 0, once its rows are there.
     ///
     /// # Errors
     ///
-    /// `TooManyCycles` where a task has too many, `TooLong` where the text is, and `NoMemory` where a growth was refused;
-    /// where several tasks fail, what one of them refused.
+    /// `TooManyCycles` where a task has too many, `TooLong` where the text is, and `NoMemory` where
+    /// a growth was refused; where several tasks fail, what one of them refused.
     pub fn pieces<R: Threads + Sync, H: Hold + Sync>(
         &self,
         rt: &R,
         hold: &H,
     ) -> Result<Vec<Vec<u8>>, OfflineRefused>
-        ensures text { IfOk result (λ pieces. IsReport self.now.events self.now.bound (whole pieces.items)) }
+        ensures text { IfOk result
+            (λ pieces. IsReport self.now.events self.now.bound (whole pieces.items)) }
         ensures refused { IfErr result (IsRefused self.now.events self.now.bound) }
     {
         let length = self.snapshot.len() as u32;

@@ -10,8 +10,8 @@ use std::alloc::Global;
 use trace_model::{Bound, MAX_REPORT, NoMemory};
 use witness::{Row, TextRefused, confirmed_in, head_text, rows_text};
 
-/// What the report has of a task: the text of its rows, none where that alone is too long for a report; how many
-/// rows there are, and how many confirmed ones.
+/// What the report has of a task: the text of its rows, none where that alone is too long for a
+/// report; how many rows there are, and how many confirmed ones.
 #[derive(Drop)]
 pub(crate) struct Part {
     pub(crate) text: Option<Vec<u8>>,
@@ -39,7 +39,8 @@ pub(crate) fn part_of(alloc: Global, rows: &[Row]) -> Result<Part, OfflineRefuse
 /// What is left after the part's text.
 fn after_part(left: u64, part: &Part) -> Option<u64>
     requires { left ≤ MAX_REPORT }
-    ensures { MatchOption result (left < size_of part.now) (λ rest. rest + size_of part.now ≡ left) }
+    ensures { MatchOption result (left < size_of part.now)
+        (λ rest. rest + size_of part.now ≡ left) }
 {
     match &part.text {
         Some(text) => left.checked_sub(text.len() as u64),
@@ -49,7 +50,8 @@ fn after_part(left: u64, part: &Part) -> Option<u64>
 
 /// What is left of `MAX_REPORT` bytes after the texts of the parts.
 fn after_parts(parts: &[Part]) -> Option<u64>
-    ensures { MatchOption result (MAX_REPORT < sum_by size_of parts.now) (λ rest. rest + sum_by size_of parts.now ≡ MAX_REPORT) }
+    ensures { MatchOption result (MAX_REPORT < sum_by size_of parts.now)
+        (λ rest. rest + sum_by size_of parts.now ≡ MAX_REPORT) }
 {
     let mut left = MAX_REPORT as u64;
     for part in parts {
@@ -76,7 +78,8 @@ fn confirmed_among(parts: &[Part]) -> u64
 
 /// The head and the texts of the parts, one after another.
 fn in_pieces(alloc: Global, head: Vec<u8>, parts: Vec<Part>) -> Result<Vec<Vec<u8>>, NoMemory>
-    ensures { IfOk result (λ pieces. whole pieces.items ≡ head.items ++ flat_map text_of parts.items) }
+    ensures { IfOk result (λ pieces. whole pieces.items ≡ head.items ++
+        flat_map text_of parts.items) }
 {
     let mut pieces = Vec::new(alloc);
     pieces.push(head)?;
@@ -88,8 +91,8 @@ fn in_pieces(alloc: Global, head: Vec<u8>, parts: Vec<Part>) -> Result<Vec<Vec<u
     Ok(pieces)
 }
 
-/// The text of the report of question 0 with this bound about so many events on the rows of all tasks, in pieces one
-/// after another; none where it has more than `MAX_REPORT` bytes.
+/// The text of the report of question 0 with this bound about so many events on the rows of all
+/// tasks, in pieces one after another; none where it has more than `MAX_REPORT` bytes.
 ///
 /// # Errors
 ///
@@ -101,7 +104,8 @@ pub(crate) fn report_pieces(
     parts: Vec<Part>,
 ) -> Result<Option<Vec<Vec<u8>>>, NoMemory>
     requires { (tasks : List (List Printed)) × AllZip Tells tasks parts.items }
-    ensures { IfOk result (λ told. (tasks : List (List Printed)) → AllZip Tells tasks parts.items → IsToldAs (tasks_report events bound tasks) told) }
+    ensures { IfOk result (λ told. (tasks : List (List Printed)) → AllZip Tells tasks parts.items →
+        IsToldAs (tasks_report events bound tasks) told) }
 {
     let Some(rest) = after_parts(&parts) else {
         return Ok(None);

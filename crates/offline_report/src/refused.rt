@@ -1,3 +1,5 @@
+//! Why there is no report.
+
 use thiserror::Error;
 use trace_model::Refusal;
 

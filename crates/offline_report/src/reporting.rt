@@ -17,14 +17,14 @@ impl Hold for Unheld {
     fn hold(&self, _question: u32, _task: u32) {}
 }
 
-/// The report of question 0 with this bound about all events: see `Offline::open` and `Offline::report`. Each task
-/// calls the hold, with question 0, once its rows are there.
+/// The report of question 0 with this bound about all events: see `Offline::open` and
+/// `Offline::report`. Each task calls the hold, with question 0, once its rows are there.
 ///
 /// # Errors
 ///
-/// `Gate` with the first event that is not lawful, where there is one; `TooManyCycles` where a task has too many,
-/// `TooLong` where the text is, and `NoMemory` where a growth was refused. Where several tasks fail, what one of them
-/// refused.
+/// `Gate` with the first event that is not lawful, where there is one; `TooManyCycles` where a task
+/// has too many, `TooLong` where the text is, and `NoMemory` where a growth was refused. Where
+/// several tasks fail, what one of them refused.
 pub fn offline_with<R: Threads + Sync, H: Hold + Sync>(
     rt: &R,
     alloc: Global,

@@ -1,7 +1,7 @@
 //! What the report has of all tasks, by as many threads as there are processors.
 ghost use Rattle.std.specs.Prelude.{◌≡◌, ℕ, [], IfOk, MatchResult};
 ghost use Rattle.std.specs.Arc.{arc_value};
-ghost use Rattle.trace_model.specs.Trace.{Trace};
+ghost use Rattle.trace_model.specs.Theory.Trace.{Trace};
 ghost use Rattle.findings.specs.Found.{AreRowsOf};
 ghost use Rattle.offline_report.specs.Offline.{AreAllParts, IsNotComputed, IsTask};
 
@@ -19,8 +19,8 @@ use witness::Row;
 /// The number of the one question that is asked about a file.
 const QUESTION: u32 = 0;
 
-/// With fewer tasks than two such pieces no thread is started: a piece makes anew what its tasks keep from one to the
-/// next.
+/// With fewer tasks than two such pieces no thread is started: a piece makes anew what its tasks
+/// keep from one to the next.
 const LEAST_PIECE: usize = 16;
 
 /// Names the events and the bound of a question, in proofs alone.
@@ -36,8 +36,8 @@ impl About for Brand {
     ghost bound = { 0 };
 }
 
-/// What the tasks of one piece keep from one to the next. By its type it is about the named question, whichever
-/// thread has it.
+/// What the tasks of one piece keep from one to the next. By its type it is about the named
+/// question, whichever thread has it.
 #[derive(Drop)]
 struct Piece<A: About> {
     job: Job,
@@ -71,7 +71,8 @@ impl<A: About> Piece<A> {
 
     /// The rows of a task.
     fn rows(&mut self, task: u32) -> Result<Vec<Row>, OfflineRefused>
-        ensures { MatchResult result (λ rows. AreRowsOf A.events A.bound task rows.items) (IsNotComputed A.events A.bound) }
+        ensures { MatchResult result (λ rows. AreRowsOf A.events A.bound task rows.items)
+            (IsNotComputed A.events A.bound) }
     {
         match self.job.compute(task) {
             Ok(finding) => Ok(finding.into_rows()),
@@ -126,8 +127,8 @@ fn compute_all<A: About + Send, R: Threads + Sync, H: Hold + Sync>(
         .collect(rt, alloc)
 }
 
-/// What the report has of all tasks of a question with this bound about the snapshot's events, in the order of the
-/// tasks. Each task calls the hold once its rows are there.
+/// What the report has of all tasks of a question with this bound about the snapshot's events, in
+/// the order of the tasks. Each task calls the hold once its rows are there.
 pub(crate) fn parts_of<R: Threads + Sync, H: Hold + Sync>(
     rt: &R,
     alloc: Global,

@@ -1,3 +1,5 @@
+//! Tests of the search for cycles.
+
 ghost use Rattle.std.specs.Prelude.{IfOk};
 ghost use Rattle.std.specs.Arc.{arc_value};
 ghost use Rattle.dependencies.specs.Tables.{known};
@@ -124,9 +126,11 @@ enum Sections {
     Nested(u32, u32, u32),
     /// On a gate lock with such a section in it.
     Gated(u32, u32, u32, u32),
-    /// On an outer lock with one inner lock in it, for each of so many inner locks from the first on.
+    /// On an outer lock with one inner lock in it, for each of so many inner locks from the first
+    /// on.
     Many(u32, u32, u32, u32),
-    /// Of the threads 1 to 8, which take each pair of twelve locks in one order, from a first lock on.
+    /// Of the threads 1 to 8, which take each pair of twelve locks in one order, from a first lock
+    /// on.
     OneOrder(u32),
 }
 
@@ -238,7 +242,8 @@ fn one_thread_no_cycle(rt: HostRuntime) -> Result<(), Fail> {
     Ok(())
 }
 
-/// Whether the cycles of the trace of these sections are told by so many bytes, which begin and end with these.
+/// Whether the cycles of the trace of these sections are told by so many bytes, which begin and end
+/// with these.
 fn tells_from_to(
     rt: &HostRuntime,
     all: &[Sections],
@@ -432,7 +437,8 @@ const FEW_THIRD: [Sections; 9] = [
     Nested(4, 11, 2),
 ];
 
-/// Many hold the lock 11 that the second member takes; two that take a lock of the root make no cycle.
+/// Many hold the lock 11 that the second member takes; two that take a lock of the root make no
+/// cycle.
 #[test]
 fn few_third_members_among_many(rt: HostRuntime) -> Result<(), Fail> {
     let text: (usize, &[u8], &[u8]) = (68 + 24, b"\n1 2 33 ;1 2 34 ;1 2 67 ;\n\n", b"");

@@ -1,4 +1,6 @@
-use crate::traces::{gate_of, kept_if, offer_words, table_at};
+//! Tests of dependencies.
+
+use crate::traces::{gate_of, gate_of_rounds, table_at};
 use dependencies::{DepTable, PlacesOf};
 use std::test::Fail;
 
@@ -40,10 +42,7 @@ fn gate_lock(rt: HostRuntime) -> Result<(), Fail> {
 
 /// The trace of opposite orders, its sections repeated.
 fn opposite_orders(rt: &HostRuntime, times: u32) -> Result<DepTable, Fail> {
-    let mut gate = gate_of(rt, "0f1 0f2")?;
-    let sections = "1a10 1a20 1r20 1r10 2a20 2a10 2r10 2r20";
-    let offered = offer_words(rt.alloc(), &mut gate, sections, times);
-    table_at(rt, kept_if(offered, gate)?)
+    table_at(rt, gate_of_rounds(rt, times)?)
 }
 
 /// These are so many places, every eighth from the first one on.

@@ -1,8 +1,11 @@
+//! Tests of frames.
+
 ghost use Rattle.std.specs.Prelude.{◌≡◌, false};
-ghost use Rattle.trace_model.specs.Replies.{IsReply};
+ghost use Rattle.trace_model.specs.Protocol.Replies.{IsReply};
 
 use crate::traces::kept_if;
 use event_frames::{FrameReader, encode_reply};
+use fixtures::event;
 use std::alloc::Global;
 use std::test::*;
 use trace_model::{Event, Fault, NoMemory, Op, Place, Refusal, Reply, ReportText, Request};
@@ -30,16 +33,6 @@ fn fault_at(reader: &mut FrameReader, bytes: &[u8], ended: bool) -> Result<Optio
     Ok(reader.next().err())
 }
 
-const FORKS: Event = Event {
-    thread: 0,
-    op: Op::Fork(1),
-};
-
-const ACQUIRES: Event = Event {
-    thread: 1,
-    op: Op::Acquire(10),
-};
-
 /// The reader's next request is to offer this event.
 fn offers(reader: &mut FrameReader, wanted: Event) -> bool
     ensures { reader.new.ended ≡ reader.old.ended }
@@ -61,11 +54,11 @@ fn reads_cut_frames(reader: &mut FrameReader) -> Result<bool, NoMemory>
     let waits_first = waits(reader);
     reader.feed(&FORK[1..])?;
     reader.feed(&ACQUIRE[..10])?;
-    let offers_fork = offers(reader, FORKS);
+    let offers_fork = offers(reader, event(0, Op::Fork(1)));
     let waits_again = waits(reader);
     reader.feed(&ACQUIRE[10..])?;
     reader.finish();
-    let offers_acquire = offers(reader, ACQUIRES);
+    let offers_acquire = offers(reader, event(1, Op::Acquire(10)));
     let ends = waits(reader) && reader.is_closed();
     Ok(waits_first && offers_fork && waits_again && offers_acquire && ends)
 }

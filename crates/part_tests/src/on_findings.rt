@@ -1,70 +1,20 @@
-ghost use Rattle.trace_model.specs.Lawful.{IsWellFormed};
+//! Tests of findings.
 
 use crate::traces::kept_if;
 use findings::{ComputeRefused, Finding, Job, Snapshot};
+use fixtures::{event, opposite_orders};
 use std::alloc::Global;
 use std::hash::RandomState;
 use std::process::Abort;
 use std::random::RandomSource;
 use std::sync::Arc;
 use std::test::*;
-use trace_model::{Bound, Event, Op, Place};
+use trace_model::{Bound, Op, Place};
 use witness::{Found, Row};
 
-fn opposite_orders() -> [Event; 10]
-    ensures { IsWellFormed result }
-{
-    [
-        Event {
-            thread: 0,
-            op: Op::Fork(1),
-        },
-        Event {
-            thread: 0,
-            op: Op::Fork(2),
-        },
-        Event {
-            thread: 1,
-            op: Op::Acquire(10),
-        },
-        Event {
-            thread: 1,
-            op: Op::Acquire(20),
-        },
-        Event {
-            thread: 1,
-            op: Op::Release(20),
-        },
-        Event {
-            thread: 1,
-            op: Op::Release(10),
-        },
-        Event {
-            thread: 2,
-            op: Op::Acquire(20),
-        },
-        Event {
-            thread: 2,
-            op: Op::Acquire(10),
-        },
-        Event {
-            thread: 2,
-            op: Op::Release(10),
-        },
-        Event {
-            thread: 2,
-            op: Op::Release(20),
-        },
-    ]
-}
-
 fn has_events(snapshot: &Snapshot) -> bool {
-    let acquire = Event {
-        thread: 1,
-        op: Op::Acquire(20),
-    };
     snapshot.len() == 10
-        && snapshot.event(Place::new(3)) == Some(acquire)
+        && snapshot.event(Place::new(3)) == Some(event(1, Op::Acquire(20)))
         && snapshot.event(Place::new(10)).is_none()
 }
 
@@ -97,7 +47,7 @@ fn are_rows(rows: &[Row]) -> bool {
     }
     let row = &rows[0];
     match &row.found {
-        Some(found) => row.numbers.numbers() == [0, 1].as_slice() && has_instance(found),
+        Some(found) => row.cycle.numbers() == [0, 1].as_slice() && has_instance(found),
         None => false,
     }
 }
@@ -123,7 +73,8 @@ fn counts(job: &mut Job, task: u32, count: usize) -> Result<bool, ComputeRefused
     Ok(counts)
 }
 
-/// The next task has no cycle, and neither has one past the last; a job does each in turn, and again.
+/// The next task has no cycle, and neither has one past the last; a job does each in turn, and
+/// again.
 fn does_each(rt: &impl Abort, job: &mut Job) -> Result<(), Fail> {
     assert!(rt; job.question() == 7);
     for (task, count) in [(1, 0), (0, 1), (9, 0), (0, 1)] {

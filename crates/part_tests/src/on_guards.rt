@@ -1,3 +1,5 @@
+//! Tests of guards.
+
 ghost use Rattle.dependencies.specs.Tables.{AllBelow};
 
 use crate::traces::kept_if;
@@ -15,7 +17,8 @@ fn nested(thread: u32, lock: u32, other: u32) -> Dependency {
     Dependency { thread, lock, held }
 }
 
-/// Adds these dependencies to an empty table: each is a thread, the lock that it takes and a lock that it holds.
+/// Adds these dependencies to an empty table: each is a thread, the lock that it takes and a lock
+/// that it holds.
 fn note_all(table: &mut DepTable, entries: &[(u32, u32, u32)]) -> Result<(), Fail>
     requires { AllBelow table.old 0 }
 {

@@ -1,3 +1,5 @@
+//! Tests of held sets.
+
 use held_sets::{HeldSet, HeldTable};
 use std::hash::RandomState;
 use std::test::Fail;

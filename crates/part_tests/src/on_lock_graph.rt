@@ -1,3 +1,5 @@
+//! Tests of the graph of locks.
+
 use crate::traces::kept_if;
 use dependencies::Dependency;
 use held_sets::HeldSet;

@@ -1,19 +1,20 @@
+//! Tests of the tables of locks.
+
 ghost use Rattle.std.specs.Prelude.{◌≤◌, ℕ, [], length, take, IfOk, OnOk};
 ghost use Rattle.std.specs.Arc.{arc_value};
 ghost use Rattle.std.specs.List.Sorted.{IsStrictlyIncreasing};
 ghost use Rattle.trace_model.specs.declared.limits.TheConstants.{MAX_EVENTS};
-ghost use Rattle.trace_model.specs.Lawful.{IsWellFormed};
+ghost use Rattle.trace_model.specs.Theory.Lawful.{IsWellFormed};
 ghost use Rattle.lock_graph.specs.Graph.{holders};
 ghost use Rattle.lock_tables.specs.Tables.{FollowTrace, CountsBelow};
 
-use crate::traces::{gate_of, kept_if, offer_words};
+use crate::traces::{gate_of_rounds, kept_if};
 use lock_tables::{LockParts, LockTables};
 use std::hash::RandomState;
 use std::process::Abort;
 use std::random::RandomSource;
 use std::test::*;
 use trace_model::{Event, NoMemory};
-use wellformed::Gate;
 
 /// Goes on with the events in a range.
 fn grow(tables: &mut LockTables, all: &[Event], from: usize, to: usize) -> Result<(), NoMemory>
@@ -38,7 +39,8 @@ fn begin(tables: &mut LockTables, all: &[Event], events: usize) -> Result<u32, N
     requires within { events ≤ length all.now }
     requires empty { FollowTrace tables.old [] }
     ensures follow { OnOk result (FollowTrace tables.new (take events all.now)) }
-    ensures total { IfOk result (λ total. (m : ℕ) → events ≤ m → m ≤ length all.now → CountsBelow (take m all.now) total events) }
+    ensures total { IfOk result (λ total. (m : ℕ) → events ≤ m → m ≤ length all.now →
+        CountsBelow (take m all.now) total events) }
 {
     grow(tables, all, 0, events)?;
     Ok(tables.len() as u32)
@@ -50,7 +52,8 @@ fn part_late(tables: &mut LockTables, all: &[Event], events: usize) -> Result<Lo
     requires short { length all.now ≤ MAX_EVENTS }
     requires within { events ≤ length all.now }
     requires empty { FollowTrace tables.old [] }
-    ensures { IfOk result (λ parts. (lock : ℕ) → IsStrictlyIncreasing (holders (arc_value parts.graph) lock)) }
+    ensures { IfOk result (λ parts. (lock : ℕ) →
+        IsStrictlyIncreasing (holders (arc_value parts.graph) lock)) }
 {
     let total = begin(tables, all, events)?;
     grow(tables, all, events, all.len())?;
@@ -63,7 +66,8 @@ fn part_early(tables: &mut LockTables, all: &[Event], events: usize) -> Result<L
     requires short { length all.now ≤ MAX_EVENTS }
     requires within { events ≤ length all.now }
     requires empty { FollowTrace tables.old [] }
-    ensures { IfOk result (λ parts. (lock : ℕ) → IsStrictlyIncreasing (holders (arc_value parts.graph) lock)) }
+    ensures { IfOk result (λ parts. (lock : ℕ) →
+        IsStrictlyIncreasing (holders (arc_value parts.graph) lock)) }
 {
     let total = begin(tables, all, events)?;
     let parts = tables.share(total, events as u32)?;
@@ -80,7 +84,8 @@ fn part_of(
     requires well_formed { IsWellFormed all.now }
     requires short { length all.now ≤ MAX_EVENTS }
     requires within { events ≤ length all.now }
-    ensures { IfOk result (λ parts. (lock : ℕ) → IsStrictlyIncreasing (holders (arc_value parts.graph) lock)) }
+    ensures { IfOk result (λ parts. (lock : ℕ) →
+        IsStrictlyIncreasing (holders (arc_value parts.graph) lock)) }
 {
     let mut tables = LockTables::new(rt.alloc(), RandomState::new(rt)?);
     let parts = if late {
@@ -90,14 +95,6 @@ fn part_of(
     };
     drop(tables);
     Ok(parts?)
-}
-
-/// Two threads that nest two locks in opposite orders, again and again: places 3, 11, 19 and on have the first
-/// dependency, and places 7, 15, 23 and on the second one.
-fn opposite_orders(rt: &HostRuntime) -> Result<Gate, Fail> {
-    let mut gate = gate_of(rt, "0f1 0f2")?;
-    let sections = "1a10 1a20 1r20 1r10 2a20 2a10 2r10 2r20";
-    kept_if(offer_words(rt.alloc(), &mut gate, sections, 2060), gate)
 }
 
 /// Whether the part shows so many places of the dependency, every eighth up to the last one.
@@ -130,7 +127,8 @@ fn holders_in(parts: &LockParts) -> (usize, usize)
     )
 }
 
-/// How many events come first, how many dependencies they have, and how many places each of the two has.
+/// How many events come first, how many dependencies they have, and how many places each of the two
+/// has.
 type Wanted = (usize, usize, usize, usize);
 
 const PARTS: [Wanted; 9] = [
@@ -182,9 +180,11 @@ fn shares_all(rt: &(impl RandomSource + AllocGlobal + Abort), all: &[Event]) -> 
     Ok(())
 }
 
+/// Of opposite orders again and again: places 3, 11, 19 and on have the first dependency, and
+/// places 7, 15, 23 and on the second one.
 #[test]
 fn parts_of_the_first_events(rt: HostRuntime) -> Result<(), Fail> {
-    let gate = opposite_orders(&rt)?;
+    let gate = gate_of_rounds(&rt, 2060)?;
     let shared = shares_all(&rt, gate.events());
     drop(gate);
     shared

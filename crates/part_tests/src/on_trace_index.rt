@@ -1,9 +1,11 @@
-//! Look-ups in a small trace, in one that is longer than two segments, and in its first events, shared.
+//! Look-ups in a small trace, in one that is longer than two segments, and in its first events,
+//! shared.
 
 ghost use Rattle.std.specs.Prelude.{◌≡◌, ◌≤◌, ◌<◌, length, take, IfOk};
-ghost use Rattle.trace_model.specs.Lawful.{IsWellFormed};
+ghost use Rattle.trace_model.specs.Theory.Lawful.{IsWellFormed};
 
 use crate::traces::{empty_gate, gate_of, kept_if, offer};
+use fixtures::event;
 use std::collections::hash_map::RandomState;
 use std::marker::Brand;
 use std::process::Abort;
@@ -13,8 +15,8 @@ use trace_index::{Copies, PlacesOf, TraceIndex};
 use trace_model::{Event, NoMemory, Op, Place};
 use wellformed::Gate;
 
-/// Two threads nest two locks in opposite orders, with a write and a read between them, and the first
-/// thread then nests them once more.
+/// Two threads nest two locks in opposite orders, with a write and a read between them, and the
+/// first thread then nests them once more.
 const LATER_INSTANCE: &str = "0f1 0f2 1a10 1a20 1r20 1r10 1w7 2d7 2a20 2a10 2r10 2r20 1a10 1a20";
 
 /// An index of what passed the gate.
@@ -158,12 +160,8 @@ fn places_of_nested_acquires(rt: HostRuntime) -> Result<(), Fail> {
 }
 
 fn has_events(index: &TraceIndex) -> bool {
-    let read = Event {
-        thread: 2,
-        op: Op::Read(7),
-    };
     index.len() == 14
-        && index.event(Place::new(7)) == Some(read)
+        && index.event(Place::new(7)) == Some(event(2, Op::Read(7)))
         && index.event(Place::new(14)).is_none()
 }
 
@@ -196,9 +194,9 @@ fn lists_of_a_small_trace(rt: HostRuntime) -> Result<(), Fail> {
 
 const LENGTH: u32 = 9000;
 
-/// Thread 1 writes at each place 4 i + 1. Thread 0 forks it, holds lock 9 from place 2 to place 8,998, reads
-/// at each other place 4 i + 2, and holds lock 7 from each place 4 i + 3 to the next one: so the acquire is
-/// the last place of a segment where the release is the first of the next.
+/// Thread 1 writes at each place 4 i + 1. Thread 0 forks it, holds lock 9 from place 2 to place
+/// 8,998, reads at each other place 4 i + 2, and holds lock 7 from each place 4 i + 3 to the next
+/// one: so the acquire is the last place of a segment where the release is the first of the next.
 fn long_event(place: u32) -> Event {
     let (thread, op) = match (place, place % 4) {
         (0, _) => (0, Op::Fork(1)),
@@ -226,7 +224,8 @@ fn long_gate(rt: &HostRuntime) -> Result<Gate, Fail> {
     kept_if(offer_long(&mut gate), gate)
 }
 
-/// A place of the long trace, its writer, its release, and how many places of its thread stand before it.
+/// A place of the long trace, its writer, its release, and how many places of its thread stand
+/// before it.
 type Looked = (u32, Option<u32>, Option<u32>, u32);
 
 /// Round the borders of segments, and where lock 9 is taken and released.
@@ -294,8 +293,8 @@ fn looks_up_all(index: &TraceIndex, len: u32) -> bool {
     true
 }
 
-/// All look-ups of an index of the first `len` events; `writes` are thread 1's places, `sections` those of
-/// lock 7.
+/// All look-ups of an index of the first `len` events; `writes` are thread 1's places, `sections`
+/// those of lock 7.
 fn is_index_of_first(index: &TraceIndex, len: u32, writes: usize, sections: usize) -> bool {
     index.len() == len as usize
         && looks_up_all(index, len)
@@ -372,7 +371,8 @@ fn long_index(rt: &HostRuntime) -> Result<TraceIndex, Fail> {
     index
 }
 
-/// Whether the first events are shared: so many, with so many places of thread 1 and acquires of lock 7.
+/// Whether the first events are shared: so many, with so many places of thread 1 and acquires of
+/// lock 7.
 fn is_shared(index: &TraceIndex, lengths: (u32, usize, usize)) -> Result<bool, NoMemory> {
     let (len, writes, sections) = lengths;
     let within = (len as usize).min(index.len());

@@ -1,3 +1,5 @@
+//! Tests of the types of events and messages.
+
 use trace_model::{Bound, Instance, Place, PlaceList, Refusal, refusal_name};
 
 /// The numbers and names of the table of refusals.

@@ -1,11 +1,12 @@
 //! Traces with and without an inner acquire.
 
 use crate::traces::gate_of;
+use fixtures::OPPOSITE_ORDERS;
 use std::test::Fail;
 use wellformed::flat;
 
 const TRACES: [(&str, bool); 5] = [
-    ("0f1 0f2 1a10 1a20 1r20 1r10 2a20 2a10 2r10 2r20", true),
+    (OPPOSITE_ORDERS, true),
     ("0a5 0r5 0a5 0a7 0r5 0a5", true),
     ("0a5 0a5", false),
     ("0f1 1a5 0a7 1w7 0a7 1a8", false),

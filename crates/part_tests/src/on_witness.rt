@@ -8,13 +8,12 @@ use crate::traces::{
 };
 use cycle_search::Cycle;
 use dependencies::{DepTable, Dependency};
+use fixtures::{OPPOSITE_ORDERS, REPORT};
 use std::alloc::Global;
 use std::test::Fail;
 use trace_model::{Bound, Instance, NoMemory, Place};
 use wellformed::Gate;
 use witness::{Found, Row, report_text};
-
-const OPPOSITE_ORDERS: &str = "0f1 0f2 1a10 1a20 1r20 1r10 2a20 2a10 2r10 2r20 ";
 
 const READ_NEEDS_EARLIER_SECTION: &str = "0f1 0f2 1a10 1a20 1r20 1r10 1w7 2d7 2a20 2a10 ";
 
@@ -55,7 +54,8 @@ fn is_found(found: &Option<Found>, places: &[u32], witness: &[u32]) -> bool {
     }
 }
 
-/// A trace, the members of a cycle, the places of its least instance, or none, and the places of the witness.
+/// A trace, the members of a cycle, the places of its least instance, or none, and the places of
+/// the witness.
 type Wanted = (&'static str, &'static [u32], &'static [u32], &'static [u32]);
 
 const FOUND: [Wanted; 4] = [
@@ -165,8 +165,8 @@ fn closures_of_places(rt: HostRuntime) -> Result<(), Fail> {
     Ok(())
 }
 
-/// Two threads that nest two locks in opposite orders three hundred times each, with a write and a read between
-/// them, and the first thread once more.
+/// Two threads that nest two locks in opposite orders three hundred times each, with a write and a
+/// read between them, and the first thread once more.
 const THREE_HUNDRED: [(&str, u32); 5] = [
     ("0f1 0f2 ", 1),
     ("1a10 1a20 1r20 1r10 ", 300),
@@ -183,7 +183,8 @@ fn offer_three_hundred(alloc: Global, gate: &mut Gate) -> Result<(), Fail> {
 }
 
 fn three_hundred(rt: &HostRuntime) -> Result<Case, Fail>
-    ensures { IfOk result (λ case. FollowsTrace case.table case.index.events (length case.index.events)) }
+    ensures { IfOk result (λ case. FollowsTrace case.table case.index.events
+        (length case.index.events)) }
 {
     let mut gate = empty_gate(rt)?;
     let offered = offer_three_hundred(rt.alloc(), &mut gate);
@@ -193,7 +194,8 @@ fn three_hundred(rt: &HostRuntime) -> Result<Case, Fail>
     case
 }
 
-/// The places of the last sections, and a witness of all events before the second one and one of the first.
+/// The places of the last sections, and a witness of all events before the second one and one of
+/// the first.
 fn is_three_hundredth(found: &Found) -> bool {
     let witness = found.witness.as_slice();
     if !are_members(&found.places, &[2405, 1205]) || witness.len() != 1206 {
@@ -254,8 +256,8 @@ fn row_of(alloc: Global, case: &Case, numbers: &[u32]) -> Result<Row, Fail>
 {
     let found = found_by(alloc, case, numbers)?;
     match dependencies_of(alloc, &case.table, numbers) {
-        Ok((numbers, dependencies)) => Ok(Row {
-            numbers,
+        Ok((cycle, dependencies)) => Ok(Row {
+            cycle,
             dependencies,
             found,
         }),
@@ -321,9 +323,6 @@ fn is_reported(rt: &HostRuntime, reported: &Reported) -> Result<bool, Fail> {
     Ok(same)
 }
 
-const ONE_CONFIRMED: &[u8] =
-    b"question 0 length 10 bound 2 cycles 1 confirmed 1\ncycle 0 1 confirmed\n  thread 1 lock 20 holds 10 place 3\n  thread 2 lock 10 holds 20 place 7\n  witness 0 1 2 6\n";
-
 const ONE_POTENTIAL: &[u8] =
     b"question 0 length 10 bound 2 cycles 1 confirmed 0\ncycle 0 1 potential\n  thread 1 lock 20 holds 10\n  thread 2 lock 10 holds 20\n";
 
@@ -333,7 +332,7 @@ const TWO_CONFIRMED: &[u8] =
 const NONE: &[u8] = b"question 0 length 0 bound 2 cycles 0 confirmed 0\n";
 
 const REPORTED: [Reported; 4] = [
-    (OPPOSITE_ORDERS, 2, &[[0, 1]], ONE_CONFIRMED, 160),
+    (OPPOSITE_ORDERS, 2, &[[0, 1]], REPORT, 160),
     (READ_NEEDS_EARLIER_SECTION, 2, &[[0, 1]], ONE_POTENTIAL, 126),
     (
         ONE_ROOT_TWO_CYCLES,

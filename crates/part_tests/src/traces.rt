@@ -3,13 +3,14 @@
 ghost use Rattle.std.specs.Prelude.{◌≡◌, ℕ, ◌<◌, length, IfOk};
 ghost use Rattle.std.specs.Prelude.{IsTrue};
 ghost use Rattle.std.specs.List.{Contains};
-ghost use Rattle.trace_model.specs.Dependencies.{dependencies};
-ghost use Rattle.trace_model.specs.Lawful.{IsWellFormed};
+ghost use Rattle.trace_model.specs.Theory.Dependencies.{dependencies};
+ghost use Rattle.trace_model.specs.Theory.Lawful.{IsWellFormed};
 ghost use Rattle.dependencies.specs.Tables.{known, FollowsTrace};
 
 use cycle_search::Cycle;
 use dependencies::DepTable;
 use event_files::read_events;
+use fixtures::{FORKS, SECTIONS};
 use lock_tables::{LockParts, LockTables};
 use sp_closure::{Fronts, Steps, close, least_instance};
 use std::alloc::Global;
@@ -70,7 +71,8 @@ fn table_of(alloc: Global, state: RandomState, events: &[Event]) -> Result<DepTa
 /// What is known of these events.
 fn case_of_events(alloc: Global, state: RandomState, events: &[Event]) -> Result<Case, NoMemory>
     requires { IsWellFormed events.now }
-    ensures { IfOk result (λ case. FollowsTrace case.table case.index.events (length case.index.events)) }
+    ensures { IfOk result (λ case. FollowsTrace case.table case.index.events
+        (length case.index.events)) }
 {
     let table = table_of(alloc, state, events)?;
     match TraceIndex::build(alloc, state, events) {
@@ -84,7 +86,8 @@ fn case_of_events(alloc: Global, state: RandomState, events: &[Event]) -> Result
 
 /// What is known of the events that passed the gate.
 pub(crate) fn case_of(rt: &HostRuntime, gate: &Gate) -> Result<Case, Fail>
-    ensures { IfOk result (λ case. FollowsTrace case.table case.index.events (length case.index.events)) }
+    ensures { IfOk result (λ case. FollowsTrace case.table case.index.events
+        (length case.index.events)) }
 {
     let state = RandomState::new(rt)?;
     Ok(case_of_events(rt.alloc(), state, gate.events())?)
@@ -101,7 +104,8 @@ pub(crate) fn table_at(rt: &HostRuntime, gate: Gate) -> Result<DepTable, Fail> {
 
 /// What is known of the events of the words.
 pub(crate) fn case_in(rt: &HostRuntime, words: &str) -> Result<Case, Fail>
-    ensures { IfOk result (λ case. FollowsTrace case.table case.index.events (length case.index.events)) }
+    ensures { IfOk result (λ case. FollowsTrace case.table case.index.events
+        (length case.index.events)) }
 {
     let gate = gate_of(rt, words)?;
     let case = case_of(rt, &gate);
@@ -150,6 +154,12 @@ pub(crate) fn gate_of(rt: &HostRuntime, words: &str) -> Result<Gate, Fail> {
     kept_if(offer_words(rt.alloc(), &mut gate, words, 1), gate)
 }
 
+/// A gate that the trace of opposite orders passed, its sections so many times.
+pub(crate) fn gate_of_rounds(rt: &HostRuntime, times: u32) -> Result<Gate, Fail> {
+    let mut gate = gate_of(rt, FORKS)?;
+    kept_if(offer_words(rt.alloc(), &mut gate, SECTIONS, times), gate)
+}
+
 /// A gate that these events passed, after the forks of the threads 1 to 8.
 pub(crate) fn gate_after_forks(rt: &HostRuntime, events: &[Event]) -> Result<Gate, Fail> {
     let mut gate = gate_of(rt, "0f1 0f2 0f3 0f4 0f5 0f6 0f7 0f8")?;
@@ -184,8 +194,10 @@ fn found_from<L: Ledger>(
     requires name { blank.name ≡ L.name }
     requires parts { blank.parts ≡ L.parts }
     requires some { 0 < L.parts }
-    requires one_trace { FollowsTrace case.now.table case.now.index.events (length case.now.index.events) }
-    requires known { (m : ℕ) → Contains cycle.now m → m < length (dependencies case.now.index.events) }
+    requires one_trace { FollowsTrace case.now.table case.now.index.events
+        (length case.now.index.events) }
+    requires known { (m : ℕ) → Contains cycle.now m →
+        m < length (dependencies case.now.index.events) }
 {
     let mut steps = Steps::<L>::new(blank);
     let least = least_instance(alloc, &case.index, &case.table, cycle, &mut steps);

@@ -1,7 +1,7 @@
 //! Events that are offered at once, by a book's own calls.
 
-use crate::outcomes::MOST;
 use event_files::read_events;
+use fixtures::{LIMIT, event};
 use sequencer::{Batched, Book};
 use std::hash::RandomState;
 use std::process::Abort;
@@ -34,10 +34,7 @@ fn ends_before_a_refused_event(
     let events = read_events(rt.alloc(), b"0f1 0f2 1a10 2a10 1r10")?;
     takes(rt, book, &events, 3, Some(Refusal::HeldByOther), 0);
     assert_eq!(rt; book.offer(events[4]).map(|place| place.get()), Ok(3));
-    let unforked = Event {
-        thread: 9,
-        op: Op::Write(1),
-    };
+    let unforked = event(9, Op::Write(1));
     takes(rt, book, &[unforked], 0, Some(Refusal::Unforked), 4);
     drop(events);
     Ok(())
@@ -45,7 +42,7 @@ fn ends_before_a_refused_event(
 
 #[test]
 fn batches(rt: HostRuntime) -> Result<(), Fail> {
-    let mut book = Book::new(rt.alloc(), RandomState::new(&rt)?, MOST)?;
+    let mut book = Book::new(rt.alloc(), RandomState::new(&rt)?, LIMIT)?;
     let told = ends_before_a_refused_event(&rt, &mut book);
     drop(book);
     told
@@ -53,11 +50,7 @@ fn batches(rt: HostRuntime) -> Result<(), Fail> {
 
 /// Batches of 64 follow one another, and the limit ends one.
 fn fill(rt: &impl Abort, book: &mut Book) {
-    let write = Event {
-        thread: 0,
-        op: Op::Write(1),
-    };
-    let events = [write; MAX_BATCH];
+    let events = [event(0, Op::Write(1)); MAX_BATCH];
     takes(rt, book, &events, 64, None, 0);
     takes(rt, book, &events, 64, None, 64);
     takes(rt, book, &events, 2, Some(Refusal::Full), 128);

@@ -1,8 +1,8 @@
 //! A book by its own calls.
 
-use crate::outcomes::MOST;
 use event_files::read_events;
 use findings::Finding;
+use fixtures::{LIMIT, OPPOSITE_ORDERS, REPORT, event, frame};
 use sequencer::{
     Answer, AnswerRefused, AskRefused, Book, BookRefused, Input, NoSuchQuestion, PlayRefused,
     Session, Status, play,
@@ -14,14 +14,9 @@ use std::random::RandomSource;
 use std::test::*;
 use trace_model::{Bound, Event, Op, Refusal};
 
-const OPPOSITE_ORDERS: &[u8] = b"0f1 0f2 1a10 1a20 1r20 1r10 2a20 2a10 2r10 2r20";
-
-const REPORT: &str =
-    "question 0 length 10 bound 2 cycles 1 confirmed 1\ncycle 0 1 confirmed\n  thread 1 lock 20 holds 10 place 3\n  thread 2 lock 10 holds 20 place 7\n  witness 0 1 2 6\n";
-
-fn is_settled(answer: Result<Answer, AnswerRefused>, report: &str) -> bool {
+fn is_settled(answer: Result<Answer, AnswerRefused>, report: &[u8]) -> bool {
     match answer {
-        Ok(Answer::Settled(text)) => text.as_slice() == report.as_bytes(),
+        Ok(Answer::Settled(text)) => text.as_slice() == report,
         _ => false,
     }
 }
@@ -38,17 +33,14 @@ fn ask_about_trace(rt: &impl Abort, book: &mut Book, trace: &[Event]) -> Result<
     offer_all(rt, book, trace);
     let opened = book.ask(2)?;
     assert_eq!(rt; (opened.question, opened.length, opened.total), (0, 10, 2));
-    let write = Event {
-        thread: 0,
-        op: Op::Write(7),
-    };
-    assert!(rt; book.offer(write).is_ok());
+    assert!(rt; book.offer(event(0, Op::Write(7))).is_ok());
     Ok(())
 }
 
-/// A book with question 0 about the trace. What is big is dropped by a call: to drop it in place is long to prove.
+/// A book with question 0 about the trace. What is big is dropped by a call: to drop it in place is
+/// long to prove.
 fn asked_book(rt: &(impl RandomSource + AllocGlobal + Abort)) -> Result<Book, Fail> {
-    let trace = read_events(rt.alloc(), OPPOSITE_ORDERS)?;
+    let trace = read_events(rt.alloc(), OPPOSITE_ORDERS.as_bytes())?;
     let mut book = Book::new(rt.alloc(), RandomState::new(rt)?, 100)?;
     match ask_about_trace(rt, &mut book, &trace) {
         Ok(()) => Ok(book),
@@ -165,7 +157,7 @@ fn refused_run(alloc: Global, state: RandomState, limit: u32) -> Option<PlayRefu
 #[test]
 fn limits_of_a_book(rt: HostRuntime) -> Result<(), Fail> {
     let state = RandomState::new(&rt)?;
-    for limit in [0, MOST + 1] {
+    for limit in [0, LIMIT + 1] {
         assert_eq!(rt;
             refused_book(rt.alloc(), state, limit),
             Some(BookRefused::BadLimit)
@@ -184,7 +176,7 @@ fn writes_and_replies(alloc: Global, count: u32) -> Result<(Vec<u8>, Vec<u8>), A
     let mut piece = Vec::new(alloc);
     let mut placed = Vec::new(alloc);
     for place in 0..count {
-        piece.extend_from_slice(&[0, 9, 6, 0, 0, 0, 0, 0, 0, 0, 7])?;
+        piece.extend_from_slice(&frame(6, 0, 7))?;
         placed.extend_from_slice(&[0, 0, 0, 5, 65])?;
         placed.extend_from_slice(&place.to_be_bytes())?;
     }
@@ -196,21 +188,17 @@ fn seventy_thousand_frames_in_one_piece(rt: HostRuntime) -> Result<(), Fail> {
     let session = Session::new(63).ok_or("a session")?;
     let (piece, placed) = writes_and_replies(rt.alloc(), 70_000)?;
     let inputs = vec![in rt.alloc(); Input::Piece(session, piece)]?;
-    let run = play(rt.alloc(), RandomState::new(&rt)?, MOST, inputs)?;
+    let run = play(rt.alloc(), RandomState::new(&rt)?, LIMIT, inputs)?;
     assert_eq!(rt; run.sent(session), placed.as_slice());
     drop(run);
     Ok(())
 }
 
-/// 4,092 writes and then the trace, with a question right before and one right after its fourth event: of a segment's
-/// events but one, and of all.
+/// 4,092 writes and then the trace, with a question right before and one right after its fourth
+/// event: of a segment's events but one, and of all.
 fn ask_round_a_segment(rt: &impl Abort, book: &mut Book, trace: &[Event]) -> Result<(), Fail> {
-    let write = Event {
-        thread: 0,
-        op: Op::Write(1),
-    };
     for _ in 0..4_092u32 {
-        assert!(rt; book.offer(write).is_ok());
+        assert!(rt; book.offer(event(0, Op::Write(1))).is_ok());
     }
     for (index, event) in trace.iter().enumerate() {
         if index == 3 || index == 4 {
@@ -222,10 +210,10 @@ fn ask_round_a_segment(rt: &impl Abort, book: &mut Book, trace: &[Event]) -> Res
 }
 
 fn answers_of_both_lengths(rt: &(impl AllocGlobal + Abort), book: &mut Book) -> Result<(), Fail> {
-    let before = "question 0 length 4095 bound 2 cycles 0 confirmed 0\n";
+    let before = b"question 0 length 4095 bound 2 cycles 0 confirmed 0\n";
     assert!(rt; is_settled(book.answer(0), before));
     deliver_next(rt, book, 1, 0)?;
-    let after = "question 1 length 4096 bound 2 cycles 0 confirmed 0\n";
+    let after = b"question 1 length 4096 bound 2 cycles 0 confirmed 0\n";
     assert!(rt; is_settled(book.answer(1), after));
     Ok(())
 }
@@ -241,7 +229,7 @@ fn asks_round_a_segment(
 
 #[test]
 fn questions_at_a_segment_border(rt: HostRuntime) -> Result<(), Fail> {
-    let trace = read_events(rt.alloc(), OPPOSITE_ORDERS)?;
+    let trace = read_events(rt.alloc(), OPPOSITE_ORDERS.as_bytes())?;
     let mut book = Book::new(rt.alloc(), RandomState::new(&rt)?, 5_000)?;
     let answered = asks_round_a_segment(&rt, &mut book, &trace);
     drop(book);

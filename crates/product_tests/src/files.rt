@@ -1,6 +1,7 @@
 //! Files that are not understood, and output that fails.
-use crate::outcomes::{MOST, offline, replay, script};
+use crate::outcomes::{offline, replay, script};
 use commands::run_script;
+use fixtures::LIMIT;
 use std::hash::RandomState;
 use std::io::{self, ErrorKind, Write};
 use std::test::*;
@@ -33,7 +34,7 @@ fn script_lines_that_are_not_understood(rt: HostRuntime) -> Result<(), Fail> {
         let mut file = Vec::from_slice(rt.alloc(), b"0f1\n# one\n")?;
         file.extend_from_slice(line)?;
         file.extend_from_slice(b"0f2\n?\n")?;
-        let outcome = script(&rt, &file, MOST)?;
+        let outcome = script(&rt, &file, LIMIT)?;
         let told = b"FILE line 3 not understood\n";
         assert!(rt; outcome.is_not_understood(told), "{line:?}");
     }
@@ -96,7 +97,7 @@ fn output_that_fails(rt: HostRuntime) -> Result<(), Fail> {
         let mut out = Failing { room };
         let mut err = Vec::new(rt.alloc());
         let file = b"0f1 0f2\n";
-        let status = run_script(rt.alloc(), state, "FILE", file, MOST, &mut out, &mut err);
+        let status = run_script(rt.alloc(), state, "FILE", file, LIMIT, &mut out, &mut err);
         assert_eq!(rt; status.code(), 1);
         assert!(rt; err.is_empty());
     }

@@ -1,5 +1,5 @@
-//! Tests that no worked trace can say: a book by its own calls, files that are not understood, output that fails, and long
-//! traces.
+//! Tests that no worked trace can say: a book by its own calls, files that are not understood,
+//! output that fails, and long traces.
 #![tactic(auto)]
 
 #[cfg(test)]

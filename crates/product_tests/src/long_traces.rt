@@ -1,34 +1,31 @@
-//! Traces that are longer than any worked one: what is promised of memory holds only where there is memory, so a body that
-//! gives up on a long trace is refused here.
-use crate::outcomes::{MOST, offline, replay, script};
+//! Traces that are longer than any worked one: what is promised of memory holds only where there is
+//! memory, so a body that gives up on a long trace is refused here.
+use crate::outcomes::{offline, replay, script};
+use fixtures::{FORKS, LIMIT, SECTIONS, report_of};
 use std::alloc::{AllocError, Global};
 use std::io::{self, Write};
 use std::test::*;
 
-/// Two threads nest two locks in opposite orders, 8,750 times: 70,002 events.
-fn opposite_orders(alloc: Global) -> Result<Vec<u8>, AllocError> {
-    let mut file = Vec::from_slice(alloc, b"0f1 0f2\n")?;
-    for _ in 0..8_750u32 {
-        file.extend_from_slice(b"1a10 1a20 1r20 1r10 2a20 2a10 2r10 2r20\n")?;
+/// The words of the trace of opposite orders, its sections so many times.
+pub(crate) fn rounds(alloc: Global, times: u32) -> Result<Vec<u8>, AllocError> {
+    let mut file = Vec::from_slice(alloc, FORKS.as_bytes())?;
+    for _ in 0..times {
+        file.extend_from_slice(b"\n")?;
+        file.extend_from_slice(SECTIONS.as_bytes())?;
     }
+    file.extend_from_slice(b"\n")?;
     Ok(file)
 }
 
-const REPORT: &[u8] = b"question 0 length 70002 bound 2 cycles 1 confirmed 1
-cycle 0 1 confirmed
-  thread 1 lock 20 holds 10 place 3
-  thread 2 lock 10 holds 20 place 7
-  witness 0 1 2 6
-";
-
 #[test]
 fn seventy_thousand_events(rt: HostRuntime) -> Result<(), Fail> {
-    let mut file = opposite_orders(rt.alloc())?;
-    assert!(rt; offline(&rt, &file)?.is_done_with(REPORT));
+    let mut file = rounds(rt.alloc(), 8_750)?;
+    let report = report_of(rt.alloc(), 70_002)?;
+    assert!(rt; offline(&rt, &file)?.is_done_with(&report));
     let witness = b"reach 3 7\norder 0 1 2 6\n";
     assert!(rt; replay(&rt, &file, witness)?.is_done_with(b"reaches\n"));
     file.extend_from_slice(b"ask 2\nwork 0\nanswer 0\n")?;
-    assert!(rt; script(&rt, &file, MOST)?.is_done_with(REPORT));
+    assert!(rt; script(&rt, &file, LIMIT)?.is_done_with(&report));
     Ok(())
 }
 
@@ -49,6 +46,6 @@ fn two_thousand_dependencies(rt: HostRuntime) -> Result<(), Fail> {
 worked 2000
 question 0 length 8000 bound 2 cycles 0 confirmed 0
 ";
-    assert!(rt; script(&rt, &file, MOST)?.is_done_with(last));
+    assert!(rt; script(&rt, &file, LIMIT)?.is_done_with(last));
     Ok(())
 }

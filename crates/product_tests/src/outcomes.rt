@@ -9,8 +9,6 @@ use std::test::*;
 use std::thread::Threads;
 use trace_model::Bound;
 
-pub(crate) const MOST: u32 = 1_048_576;
-
 /// How a command ended, and what it wrote.
 #[derive(Drop)]
 pub(crate) struct Outcome {

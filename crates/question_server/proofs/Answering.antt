@@ -3,15 +3,15 @@ use Rattle.std.proofs.Common.{◌≡◌, ℕ, ◌<◌, Bool, List, [], ◌∷◌
 use Rattle.std.specs.Io.KnownBytes.{Appends}
 use Rattle.std.proofs.lemmas.List.{append-nil, take-append-drop, map-append}
 use Rattle.std.proofs.lemmas.List.Concat.{flat_map-append}
-use Rattle.trace_model.specs.declared.session.Request.{Request}
-use Rattle.trace_model.specs.declared.session.Reply.{Reply}
-use Rattle.trace_model.specs.declared.session.Reply.TheVariants.{Fault as FaultReply}
-use Rattle.trace_model.specs.declared.session.Fault.{Fault}
-use Rattle.trace_model.specs.Frames.{frame, requests_in, fault_in, fault_at}
-use Rattle.trace_model.specs.Replies.{reply_frame}
-use Rattle.trace_model.proofs.Readings.{frame_turn}
+use Rattle.trace_model.specs.declared.messages.session.Request.{Request}
+use Rattle.trace_model.specs.declared.messages.session.Reply.{Reply}
+use Rattle.trace_model.specs.declared.messages.session.Reply.TheVariants.{Fault as FaultReply}
+use Rattle.trace_model.specs.declared.messages.session.Fault.{Fault}
+use Rattle.trace_model.specs.Protocol.Frames.{frame, requests_in, fault_in, fault_at}
+use Rattle.trace_model.specs.Protocol.Replies.{reply_frame}
+use Rattle.trace_model.proofs.Protocol.Readings.{frame_turn}
 use Rattle.event_frames.specs.Reader.{Reading, HasRead, TakesRequest, AwaitsMore, TellsFault, Tells}
-use Rattle.question_server.specs.Serving.{Call, Chain, requests_called, frames_of, fault_frames, owed_fault, Answered, Broken}
+use Rattle.question_server.specs.Serving.{between, Call, Chain, requests_called, frames_of, fault_frames, owed_fault, Answered, Broken}
 use Rattle.question_server.proofs.Puts.{put_none, put_then}
 
 pub chain_push : {C : Type 0} (steps : C → Request → Reply → C → Type 0) (old mid new : C) (calls : List Call) (request : Request) (reply : Reply) → Chain steps old calls mid → steps mid request reply new → Chain steps old (calls ++ (request, reply) ∷ []) new
@@ -48,8 +48,8 @@ is_next : (left : Reading) (request : Request) (after : Reading) → TakesReques
 is_next left request after t =
     let turn = frame_turn request after.rest t.fits in
     record {
-      requests = ap requests_in t.front ∙ turn.requests;
-      fault = ap (λ (x : List ℕ). fault_in x left.ended) t.front ∙ ap (λ (x : List ℕ). fault_at x left.ended) turn.after;
+      requests = ap requests_in t.leading ∙ turn.requests;
+      fault = ap (λ (x : List ℕ). fault_in x left.ended) t.leading ∙ ap (λ (x : List ℕ). fault_at x left.ended) turn.after;
     }
 
 pub answered_one : {C : Type 0} (steps : C → Request → Reply → C → Type 0) (calls : C) (reader : Reading) (written : Option (List ℕ)) (failures : ℕ) (now : C) (left : Reading) (out : Option (List ℕ)) (counted : ℕ) (request : Request) (after : Reading) (reply : Reply) (next : C) (longer : Option (List ℕ)) (counted' : ℕ) → IsAnswering steps calls reader written failures now left out counted → TakesRequest left request after → ((text : List ℕ) (given : List Request) → HasRead text given left → HasRead text (given ++ request ∷ []) after) → steps now request reply next → Appends out longer (reply_frame reply) → counted' ≡ counted → IsAnswering steps calls reader written failures next after longer counted'
@@ -68,7 +68,7 @@ answered_one steps calls reader written failures now left out counted request af
     }
 
 -- a reply that was not written whole
-pub broken_reply : {C : Type 0} (steps : C → Request → Reply → C → Type 0) (calls : C) (reader : Reading) (written : Option (List ℕ)) (failures : ℕ) (now : C) (left : Reading) (out : Option (List ℕ)) (counted : ℕ) (request : Request) (after : Reading) (reply : Reply) (next : C) (longer : Option (List ℕ)) (n : ℕ) → IsAnswering steps calls reader written failures now left out counted → TakesRequest left request after → steps now request reply next → Appends out longer (take n (reply_frame reply)) → Broken steps calls reader written next longer
+pub broken_reply : {C : Type 0} (steps : C → Request → Reply → C → Type 0) (calls : C) (reader : Reading) (written : Option (List ℕ)) (failures : ℕ) (now : C) (left : Reading) (out : Option (List ℕ)) (counted : ℕ) (request : Request) (after : Reading) (reply : Reply) (next : C) (longer : Option (List ℕ)) (n : ℕ) → IsAnswering steps calls reader written failures now left out counted → TakesRequest left request after → steps now request reply next → Appends out longer (take n (reply_frame reply)) → Broken steps (between calls reader written) next longer
 broken_reply steps calls reader written failures now left out counted request after reply next longer n d t s p =
     let m = is_next left request after t in
     let owed = owed_fault (requests_in after.rest) (fault_in reader.rest reader.ended) in
@@ -90,7 +90,7 @@ broken_reply steps calls reader written failures now left out counted request af
       put = put_then written out longer (frames_of d.fresh) (take n (reply_frame reply)) d.put p;
     }
 
-pub answered_all : {C : Type 0} (steps : C → Request → Reply → C → Type 0) (calls : C) (reader : Reading) (written : Option (List ℕ)) (failures : ℕ) (now : C) (left : Reading) (out : Option (List ℕ)) (counted : ℕ) (after : Reading) → IsAnswering steps calls reader written failures now left out counted → AwaitsMore left after → ((text : List ℕ) (given : List Request) → HasRead text given left → Tells text given left.ended (Ok None) after) → Answered steps calls reader written now after out None
+pub answered_all : {C : Type 0} (steps : C → Request → Reply → C → Type 0) (calls : C) (reader : Reading) (written : Option (List ℕ)) (failures : ℕ) (now : C) (left : Reading) (out : Option (List ℕ)) (counted : ℕ) (after : Reading) → IsAnswering steps calls reader written failures now left out counted → AwaitsMore left after → ((text : List ℕ) (given : List Request) → HasRead text given left → Tells text given left.ended (Ok None) after) → Answered steps (between calls reader written) (between now after out) None
 answered_all steps calls reader written failures now left out counted after d a w =
     record {
       fresh = d.fresh;
@@ -103,7 +103,7 @@ answered_all steps calls reader written failures now left out counted after d a 
       read = λ text given h. let k = d.read text given h in let t = w text k.0 k.1 in subst (λ (g : List Request). HasRead text g after) t.0 t.2;
     }
 
-pub answered_fault : {C : Type 0} (steps : C → Request → Reply → C → Type 0) (calls : C) (reader : Reading) (written : Option (List ℕ)) (failures : ℕ) (now : C) (left : Reading) (out : Option (List ℕ)) (counted : ℕ) (fault : Fault) (after : Reading) (longer : Option (List ℕ)) → IsAnswering steps calls reader written failures now left out counted → TellsFault left fault after → ((text : List ℕ) (given : List Request) → HasRead text given left → Tells text given left.ended (Err fault) after) → Appends out longer (reply_frame (FaultReply fault)) → Answered steps calls reader written now after longer (Some fault)
+pub answered_fault : {C : Type 0} (steps : C → Request → Reply → C → Type 0) (calls : C) (reader : Reading) (written : Option (List ℕ)) (failures : ℕ) (now : C) (left : Reading) (out : Option (List ℕ)) (counted : ℕ) (fault : Fault) (after : Reading) (longer : Option (List ℕ)) → IsAnswering steps calls reader written failures now left out counted → TellsFault left fault after → ((text : List ℕ) (given : List Request) → HasRead text given left → Tells text given left.ended (Err fault) after) → Appends out longer (reply_frame (FaultReply fault)) → Answered steps (between calls reader written) (between now after longer) (Some fault)
 answered_fault steps calls reader written failures now left out counted fault after longer d a w p =
     let s = a.stands d.untold in
     record {
@@ -118,7 +118,7 @@ answered_fault steps calls reader written failures now left out counted fault af
     }
 
 -- a fault that was not written whole
-pub broken_fault : {C : Type 0} (steps : C → Request → Reply → C → Type 0) (calls : C) (reader : Reading) (written : Option (List ℕ)) (failures : ℕ) (now : C) (left : Reading) (out : Option (List ℕ)) (counted : ℕ) (fault : Fault) (after : Reading) (longer : Option (List ℕ)) (n : ℕ) → IsAnswering steps calls reader written failures now left out counted → TellsFault left fault after → Appends out longer (take n (reply_frame (FaultReply fault))) → Broken steps calls reader written now longer
+pub broken_fault : {C : Type 0} (steps : C → Request → Reply → C → Type 0) (calls : C) (reader : Reading) (written : Option (List ℕ)) (failures : ℕ) (now : C) (left : Reading) (out : Option (List ℕ)) (counted : ℕ) (fault : Fault) (after : Reading) (longer : Option (List ℕ)) (n : ℕ) → IsAnswering steps calls reader written failures now left out counted → TellsFault left fault after → Appends out longer (take n (reply_frame (FaultReply fault))) → Broken steps (between calls reader written) now longer
 broken_fault steps calls reader written failures now left out counted fault after longer n d a p =
     let s = a.stands d.untold in
     let f = reply_frame (FaultReply fault) in

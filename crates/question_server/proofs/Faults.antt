@@ -3,9 +3,9 @@ use Rattle.std.proofs.Common.{◌≡◌, ℕ, zero, suc, ◌/◌, ◌≤◌, eqb
 use Rattle.std.specs.Prelude.{cond}
 use Rattle.std.specs.Option.{option_or}
 use Rattle.std.proofs.lemmas.List.{append-nil}
-use Rattle.trace_model.specs.declared.session.Fault.{Fault}
-use Rattle.trace_model.specs.declared.session.Fault.TheVariants.{BadKind, BadLength, Truncated, BadBatch}
-use Rattle.trace_model.specs.Frames.{batch_fault, cells_fault, fields_fault, header_fault, is_event_kind, cut_fault, rest_in, fault_in}
+use Rattle.trace_model.specs.declared.messages.session.Fault.{Fault}
+use Rattle.trace_model.specs.declared.messages.session.Fault.TheVariants.{BadKind, BadLength, Truncated, BadBatch}
+use Rattle.trace_model.specs.Protocol.Frames.{batch_fault, cells_fault, fields_fault, header_fault, is_event_kind, cut_fault, rest_in, fault_in}
 use Rattle.question_server.specs.declared.sessions.TheConstants.{PIECE}
 use Rattle.question_server.specs.Serving.{EndsOnlyAt, StandsIn, StopsAtFault}
 

@@ -1,5 +1,5 @@
 pub mod Puts
-pub mod Held
+pub mod Buffered
 pub mod Answering
 pub mod Faults
 pub mod SessionTurns

@@ -1,13 +1,13 @@
 -- The calls of a book are those of the machine.
 use Rattle.std.proofs.Common.{◌≡◌, ℕ, false, List, [], ◌∷◌, ◌++◌, Option, Result, refl, sym, ap, ◌∙◌}
 use Rattle.std.proofs.lemmas.List.Elements.{All-head, All-tail}
-use Rattle.trace_model.specs.declared.session.Request.{Request}
-use Rattle.trace_model.specs.declared.session.Reply.{Reply}
-use Rattle.trace_model.specs.Replies.{reply_frame}
-use Rattle.trace_model.specs.Machine.{State}
+use Rattle.trace_model.specs.declared.messages.session.Request.{Request}
+use Rattle.trace_model.specs.declared.messages.session.Reply.{Reply}
+use Rattle.trace_model.specs.Protocol.Replies.{reply_frame}
+use Rattle.trace_model.specs.Protocol.Machine.{State}
 use Rattle.sequencer.specs.Book.{Kept}
 use Rattle.sequencer.specs.Drains.{state_called, answer_to}
-use Rattle.question_server.specs.Serving.{Call, Chain, Served, requests_called}
+use Rattle.question_server.specs.Serving.{standing, Call, Chain, Served, requests_called}
 use Rattle.sequencer.specs.Called.{StepsOrMemory, lacks_memory}
 use Rattle.sequencer.proofs.Called.{steps_exactly}
 use Rattle.question_server.specs.Books.{AreMachines, ServedByMachine}
@@ -30,7 +30,7 @@ machine_chain old new (call ∷ calls) c none =
       ap (λ (x : List ℕ). reply_frame call.1 ++ x) rest.1 ∙ ap (λ (p : Reply × State). reply_frame p.0 ++ answer_to p.1 (requests_called calls)) (sym s),
     )
 
-pub served_by_machine : (left written : Option (List ℕ)) (old : Kept) (left' written' sent' : Option (List ℕ)) (new : Kept) (result : Result Ended ServeFault) → Served BookSteps left written old left' written' sent' new result → ServedByMachine left written old.state left' written' sent' new.state result
+pub served_by_machine : (left written : Option (List ℕ)) (old : Kept) (left' written' sent' : Option (List ℕ)) (new : Kept) (result : Result Ended ServeFault) → Served BookSteps (standing left written old) (standing left' written' new) sent' result → ServedByMachine (standing left written old.state) (standing left' written' new.state) sent' result
 served_by_machine left written old left' written' sent' new result s =
     let chain = chain_states old new s.done s.chain in
     record {

@@ -4,14 +4,14 @@ use Rattle.std.specs.Io.KnownBytes.{Consumes, Appends, Keeps, IsAtEnd}
 use Rattle.std.specs.Option.{option_to_list}
 use Rattle.std.proofs.lemmas.List.{append-nil, map-append}
 use Rattle.std.proofs.lemmas.List.Concat.{flat_map-append}
-use Rattle.trace_model.specs.declared.session.Request.{Request}
-use Rattle.trace_model.specs.declared.session.Reply.{Reply}
-use Rattle.trace_model.specs.declared.session.Fault.{Fault}
-use Rattle.trace_model.specs.Frames.{requests_in, fault_in}
-use Rattle.trace_model.specs.Replies.{reply_frame}
+use Rattle.trace_model.specs.declared.messages.session.Request.{Request}
+use Rattle.trace_model.specs.declared.messages.session.Reply.{Reply}
+use Rattle.trace_model.specs.declared.messages.session.Fault.{Fault}
+use Rattle.trace_model.specs.Protocol.Frames.{requests_in, fault_in}
+use Rattle.trace_model.specs.Protocol.Replies.{reply_frame}
 use Rattle.event_frames.specs.Reader.{Reading, HasRead, IsFed}
 use Rattle.event_frames.proofs.Wholes.{leaves, feeds, nothing_read}
-use Rattle.question_server.specs.Serving.{IsBeginning, Call, Chain, requests_called, frames_of, fault_frames, owed_fault, AreBegun, Begins, CallsAll, EndsOnlyAt, EndsAs, WentOut, Served, Answered, Broken, IsCounted}
+use Rattle.question_server.specs.Serving.{standing, between, IsBeginning, Call, Chain, requests_called, frames_of, fault_frames, owed_fault, AreBegun, Begins, CallsAll, EndsOnlyAt, EndsAs, WentOut, Served, Answered, Broken, IsCounted}
 use Rattle.question_server.specs.declared.sessions.Ended.{Ended}
 use Rattle.question_server.specs.declared.sessions.Ended.TheVariants.{Input, Frame}
 use Rattle.question_server.specs.declared.sessions.ServeFault.{ServeFault}
@@ -100,7 +100,7 @@ module _ {C : Type 0} (steps : C → Request → Reply → C → Type 0) (left w
     same_writes = w ∙ s.same_writes;
   }
 
-  pub ends_unsent : (written'' sent : Option (List ℕ)) → Keeps written' written'' → IsBeginning sent written'' → Served steps left written calls left' written'' sent calls' (Err Write)
+  pub ends_unsent : (written'' sent : Option (List ℕ)) → Keeps written' written'' → IsBeginning sent written'' → Served steps (standing left written calls) (standing left' written'' calls') sent (Err Write)
   ends_unsent written'' sent k b =
       let l = leaves s.text (requests_called s.done) reader false s.read s.untold in
       let owed = owed_fault (requests_in reader.rest) (fault_in s.text false) in
@@ -116,7 +116,7 @@ module _ {C : Type 0} (steps : C → Request → Reply → C → Type 0) (left w
         went = b;
       }
 
-  pub ends_unread : (left'' sent : Option (List ℕ)) → Keeps left' left'' → sent ≡ written' → Served steps left written calls left'' written' sent calls' (Err Read)
+  pub ends_unread : (left'' sent : Option (List ℕ)) → Keeps left' left'' → sent ≡ written' → Served steps (standing left written calls) (standing left'' written' calls') sent (Err Read)
   ends_unread left'' sent k went = record {
     text = s.text;
     took = took_kept left left' left'' s.text s.took k;
@@ -129,7 +129,7 @@ module _ {C : Type 0} (steps : C → Request → Reply → C → Type 0) (left w
     went = went;
   }
 
-  pub ends_unfed : (piece : List ℕ) (left'' sent : Option (List ℕ)) → Consumes left' left'' piece → length piece ≤ PIECE → IsBeginning sent written' → Served steps left written calls left'' written' sent calls' (Err Memory)
+  pub ends_unfed : (piece : List ℕ) (left'' sent : Option (List ℕ)) → Consumes left' left'' piece → length piece ≤ PIECE → IsBeginning sent written' → Served steps (standing left written calls) (standing left'' written' calls') sent (Err Memory)
   ends_unfed piece left'' sent t short b =
       let v : Reading = record reader { rest = reader.rest ++ piece } in
       let h = feeds reader piece v s.not_ended (refl, refl, λ _. refl) s.text (requests_called s.done) s.read in
@@ -155,7 +155,7 @@ module _ {C : Type 0} (steps : C → Request → Reply → C → Type 0) (left w
     pub stands : fault_in text ended ≡ fault
     pub put : Appends written written'' (frames_of done ++ fault_frames fault)
 
-  answered_by : (piece : List ℕ) (v : Reading) (written'' : Option (List ℕ)) (calls'' : C) (reader' : Reading) (fault : Option Fault) → IsHanded s.text (requests_called s.done) piece v → Answered steps calls' v written' calls'' reader' written'' fault → IsAnsweredBy (s.text ++ piece) v.ended fault written'' calls''
+  answered_by : (piece : List ℕ) (v : Reading) (written'' : Option (List ℕ)) (calls'' : C) (reader' : Reading) (fault : Option Fault) → IsHanded s.text (requests_called s.done) piece v → Answered steps (between calls' v written') (between calls'' reader' written'') fault → IsAnsweredBy (s.text ++ piece) v.ended fault written'' calls''
   answered_by piece v written'' calls'' reader' fault h a =
       let l = leaves (s.text ++ piece) (requests_called s.done) v v.ended h.read h.untold in
       record {
@@ -189,7 +189,7 @@ module _ {C : Type 0} (steps : C → Request → Reply → C → Type 0) (left w
   concluded ended (Err fault) sent written'' written''' m n text done out left'' c ends begun =
       subst (λ (x : ServeFault). EndsAs (Err x) text left'' done out × WentOut (Err x) sent written''') (sym c.err.0) (begun, c.begins)
 
-  pub ends_fault : (piece : List ℕ) (left'' : Option (List ℕ)) (v : Reading) (calls'' : C) (reader' : Reading) (written'' : Option (List ℕ)) (answer : Option Fault) (fault : Fault) (result : Result Ended ServeFault) (sent written''' : Option (List ℕ)) (m n : ℕ) → Consumes left' left'' piece → length piece ≤ PIECE → EndsOnlyAt v.ended left'' → IsHanded s.text (requests_called s.done) piece v → Answered steps calls' v written' calls'' reader' written'' answer → answer ≡ Some fault → IsConcluded (Frame fault) result sent written'' written''' m n → Served steps left written calls left'' written''' sent calls'' result
+  pub ends_fault : (piece : List ℕ) (left'' : Option (List ℕ)) (v : Reading) (calls'' : C) (reader' : Reading) (written'' : Option (List ℕ)) (answer : Option Fault) (fault : Fault) (result : Result Ended ServeFault) (sent written''' : Option (List ℕ)) (m n : ℕ) → Consumes left' left'' piece → length piece ≤ PIECE → EndsOnlyAt v.ended left'' → IsHanded s.text (requests_called s.done) piece v → Answered steps (between calls' v written') (between calls'' reader' written'') answer → answer ≡ Some fault → IsConcluded (Frame fault) result sent written'' written''' m n → Served steps (standing left written calls) (standing left'' written''' calls'') sent result
   ends_fault piece left'' v calls'' reader' written'' answer fault result sent written''' m n t short at h a e c =
       let b = answered_by piece v written'' calls'' reader' answer h a in
       let out = frames_of b.done ++ fault_frames answer in
@@ -206,7 +206,7 @@ module _ {C : Type 0} (steps : C → Request → Reply → C → Type 0) (left w
         went = done.1;
       }
 
-  pub ends_input : (piece : List ℕ) (left'' : Option (List ℕ)) (v : Reading) (calls'' : C) (reader' : Reading) (written'' : Option (List ℕ)) (answer : Option Fault) (result : Result Ended ServeFault) (sent written''' : Option (List ℕ)) (m n : ℕ) → Consumes left' left'' piece → length piece ≤ PIECE → IsAtEnd left'' → IsHanded s.text (requests_called s.done) piece v → v ≡ record reader { ended = true } → Answered steps calls' v written' calls'' reader' written'' answer → answer ≡ None → IsConcluded Input result sent written'' written''' m n → Served steps left written calls left'' written''' sent calls'' result
+  pub ends_input : (piece : List ℕ) (left'' : Option (List ℕ)) (v : Reading) (calls'' : C) (reader' : Reading) (written'' : Option (List ℕ)) (answer : Option Fault) (result : Result Ended ServeFault) (sent written''' : Option (List ℕ)) (m n : ℕ) → Consumes left' left'' piece → length piece ≤ PIECE → IsAtEnd left'' → IsHanded s.text (requests_called s.done) piece v → v ≡ record reader { ended = true } → Answered steps (between calls' v written') (between calls'' reader' written'') answer → answer ≡ None → IsConcluded Input result sent written'' written''' m n → Served steps (standing left written calls) (standing left'' written''' calls'') sent result
   ends_input piece left'' v calls'' reader' written'' answer result sent written''' m n t short at h v_is a e c =
       let b = answered_by piece v written'' calls'' reader' answer h a in
       let out = frames_of b.done ++ fault_frames answer in
@@ -230,7 +230,7 @@ module _ {C : Type 0} (steps : C → Request → Reply → C → Type 0) (left w
   broken_ends Write m n text left'' done out sent written'' c b w = (b, w)
   broken_ends Memory m n text left'' done out sent written'' c b w = (b, w)
 
-  pub ends_broken : (piece : List ℕ) (left'' : Option (List ℕ)) (v : Reading) (calls'' : C) (written'' sent : Option (List ℕ)) (fault : ServeFault) (m n : ℕ) → Consumes left' left'' piece → length piece ≤ PIECE → EndsOnlyAt v.ended left'' → IsHanded s.text (requests_called s.done) piece v → Broken steps calls' v written' calls'' written'' → IsCounted fault m n → IsBeginning sent written'' → Served steps left written calls left'' written'' sent calls'' (Err fault)
+  pub ends_broken : (piece : List ℕ) (left'' : Option (List ℕ)) (v : Reading) (calls'' : C) (written'' sent : Option (List ℕ)) (fault : ServeFault) (m n : ℕ) → Consumes left' left'' piece → length piece ≤ PIECE → EndsOnlyAt v.ended left'' → IsHanded s.text (requests_called s.done) piece v → Broken steps (between calls' v written') calls'' written'' → IsCounted fault m n → IsBeginning sent written'' → Served steps (standing left written calls) (standing left'' written'' calls'') sent (Err fault)
   ends_broken piece left'' v calls'' written'' sent fault m n t short at h b c w =
       let l = leaves (s.text ++ piece) (requests_called s.done) v v.ended h.read h.untold in
       let begun : Begins (s.text ++ piece) left'' (s.done ++ b.fresh) (frames_of s.done ++ b.out) = record {
@@ -253,7 +253,7 @@ module _ {C : Type 0} (steps : C → Request → Reply → C → Type 0) (left w
         went = done.1;
       }
 
-  pub serving_on : (piece : List ℕ) (left'' : Option (List ℕ)) (v : Reading) (calls'' : C) (reader' : Reading) (written'' : Option (List ℕ)) (answer : Option Fault) (reads'' writes'' : ℕ) → Consumes left' left'' piece → IsHanded s.text (requests_called s.done) piece v → v.ended ≡ false → Answered steps calls' v written' calls'' reader' written'' answer → answer ≡ None → reads'' ≡ reads' → writes'' ≡ writes' → IsServing steps left written calls reads writes reader' left'' written'' calls'' reads'' writes''
+  pub serving_on : (piece : List ℕ) (left'' : Option (List ℕ)) (v : Reading) (calls'' : C) (reader' : Reading) (written'' : Option (List ℕ)) (answer : Option Fault) (reads'' writes'' : ℕ) → Consumes left' left'' piece → IsHanded s.text (requests_called s.done) piece v → v.ended ≡ false → Answered steps (between calls' v written') (between calls'' reader' written'') answer → answer ≡ None → reads'' ≡ reads' → writes'' ≡ writes' → IsServing steps left written calls reads writes reader' left'' written'' calls'' reads'' writes''
   serving_on piece left'' v calls'' reader' written'' answer reads'' writes'' t h n a e q w =
       let b = answered_by piece v written'' calls'' reader' answer h a in
       record {

@@ -2,20 +2,20 @@
 use Rattle.std.proofs.Common.{◌≡◌, ℕ, zero, suc, List, ◌++◌, take, inl, refl, sym, ap, subst, ◌∙◌, arith}
 use Rattle.std.proofs.lemmas.List.{append-nil}
 use mathlib.Core.List.{IsPrefix}
-use Rattle.trace_model.specs.declared.event.Event.{Event}
+use Rattle.trace_model.specs.declared.traces.event.Event.{Event}
 use Rattle.trace_model.specs.declared.limits.TheConstants.{MAX_EVENTS}
-use Rattle.trace_model.specs.declared.session.Reply.{Reply}
-use Rattle.trace_model.specs.declared.session.Reply.TheVariants as replies
-use Rattle.trace_model.specs.declared.session.Request.TheVariants.{Batch}
-use Rattle.trace_model.specs.declared.step.BoardStep.{BoardStep}
-use Rattle.trace_model.specs.Batches.{IsBatch}
-use Rattle.trace_model.specs.Machine.{State}
-use Rattle.trace_model.specs.Trace.{Trace}
-use Rattle.trace_model.specs.Rows.{AreRows}
-use Rattle.trace_model.specs.Runs as runs
-use Rattle.trace_model.specs.Runs.{IsLegal, summary, shown_status}
-use Rattle.trace_model.proofs.Summary.{summary_is_state}
-use Rattle.trace_model.proofs.Taking.{status_shown}
+use Rattle.trace_model.specs.declared.messages.session.Reply.{Reply}
+use Rattle.trace_model.specs.declared.messages.session.Reply.TheVariants as replies
+use Rattle.trace_model.specs.declared.messages.session.Request.TheVariants.{Batch}
+use Rattle.trace_model.specs.declared.messages.step.BoardStep.{BoardStep}
+use Rattle.trace_model.specs.Protocol.Batches.{IsBatch}
+use Rattle.trace_model.specs.Protocol.Machine.{State}
+use Rattle.trace_model.specs.Theory.Trace.{Trace}
+use Rattle.trace_model.specs.Theory.Rows.{AreRows}
+use Rattle.trace_model.specs.Protocol.Runs as runs
+use Rattle.trace_model.specs.Protocol.Runs.{IsLegal, summary, shown_status}
+use Rattle.trace_model.proofs.Protocol.Summary.{summary_is_state}
+use Rattle.trace_model.proofs.Protocol.Taking.{status_shown}
 use Rattle.board.specs.Totals.{ShowsCounts, Shows}
 use Rattle.board.specs.declared.summary.Summary.{Summary}
 use Rattle.sequencer.specs.declared.batching.Batched.{Batched}
@@ -31,7 +31,8 @@ pub told_status : (s : Summary) (question : ℕ) (reply : Reply) (old new : List
 told_status s question reply old new legal shows is =
     inl (legal.0, legal.1, is (summary new) shows ∙ status_shown (summary new) legal.0 question (summary_is_state AreRows MAX_EVENTS new legal.0 legal.1))
 
--- what became of a batch is told by a run that ends with the step of its events, or that it left as it was
+-- what became of a batch is told by a run that ends with the step of its events, or that it left as
+-- it was
 pub told_batch : (limit : ℕ) (run seen : List BoardStep) (events : List Event) (b : Batched) → IsBatch events → IsPrefix run seen → EndsByBatch limit run events b →
     IsTold limit (Batch events) (replies.Batched b.accepted b.refusal b.length) seen
 told_batch limit run seen events b some learnt h = record {

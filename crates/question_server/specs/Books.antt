@@ -1,10 +1,10 @@
 -- How a book answers a session.
 use Rattle.std.specs.Prelude.{◌≡◌, ℕ, false, List, Option, Result}
 use Rattle.std.specs.List.{All}
-use Rattle.trace_model.specs.Machine.{State}
+use Rattle.trace_model.specs.Protocol.Machine.{State}
 use Rattle.sequencer.specs.Called.{StepsOrMemory, lacks_memory}
 use Rattle.sequencer.specs.Drains.{state_called, answer_to}
-use Rattle.question_server.specs.Serving.{Call, requests_called, frames_of, Served}
+use Rattle.question_server.specs.Serving.{Call, requests_called, frames_of, Standing, Served}
 use Rattle.question_server.specs.declared.sessions.Ended.{Ended}
 use Rattle.question_server.specs.declared.sessions.ServeFault.{ServeFault}
 
@@ -15,9 +15,11 @@ NoneLacksMemory calls = All (λ (call : Call). lacks_memory call.1 ≡ false) ca
 -- the calls are those of the machine: its state after them, and the frames of its replies
 abbrev pub AreMachines : State → List Call → State → Type 0
 AreMachines old calls new =
-    NoneLacksMemory calls → (new ≡ state_called old (requests_called calls)) × (frames_of calls ≡ answer_to old (requests_called calls))
+    NoneLacksMemory calls → (new ≡ state_called old (requests_called calls))
+    × (frames_of calls ≡ answer_to old (requests_called calls))
 
 -- A text was read, its requests were called one after the other, and the machine's replies written.
-pub record ServedByMachine (left : Option (List ℕ)) (written : Option (List ℕ)) (old : State) (left' : Option (List ℕ)) (written' : Option (List ℕ)) (sent' : Option (List ℕ)) (new : State) (result : Result Ended ServeFault) : Type 0 where
-  pub served : Served StepsOrMemory left written old left' written' sent' new result
-  pub machine : AreMachines old served.done new
+pub record ServedByMachine (old new : Standing State) (sent : Option (List ℕ))
+    (result : Result Ended ServeFault) : Type 0 where
+  pub served : Served StepsOrMemory old new sent result
+  pub machine : AreMachines old.calls served.done new.calls

@@ -1,4 +1,4 @@
--- What a sink holds back.
+-- What a sink buffers.
 use Rattle.std.specs.Prelude.{ℕ, List, take, drop, Option, Some, None, refl}
 use Rattle.std.specs.Io.KnownBytes.{append_known}
 use Rattle.question_server.specs.Serving.{IsBeginning}
@@ -8,6 +8,7 @@ abbrev pub pending : List ℕ → ℕ → ℕ → List ℕ
 pending buffer start end = drop start (take end buffer)
 
 -- what the writer has is a beginning of all that the sink took
-pub sent_begins : (known : Option (List ℕ)) (held : List ℕ) → IsBeginning known (append_known known held)
+pub sent_begins : (known : Option (List ℕ)) (held : List ℕ) →
+    IsBeginning known (append_known known held)
 sent_begins None held = tt
 sent_begins (Some front) held = (held, refl)

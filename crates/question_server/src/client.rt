@@ -1,11 +1,11 @@
 //! A desk as a session has it.
 ghost use Rattle.std.specs.Prelude.{◌≡◌};
 ghost use mathlib.Core.List.{IsPrefix};
-ghost use Rattle.trace_model.specs.Batches.{IsBatch};
-ghost use Rattle.trace_model.specs.Replies.{IsReply};
-ghost use Rattle.trace_model.specs.Runs as runs;
-ghost use Rattle.trace_model.specs.Runs.{shown_status};
-ghost use Rattle.trace_model.specs.declared.session.Request.TheVariants as requests;
+ghost use Rattle.trace_model.specs.Protocol.Batches.{IsBatch};
+ghost use Rattle.trace_model.specs.Protocol.Replies.{IsReply};
+ghost use Rattle.trace_model.specs.Protocol.Runs as runs;
+ghost use Rattle.trace_model.specs.Protocol.Runs.{shown_status};
+ghost use Rattle.trace_model.specs.declared.messages.session.Request.TheVariants as requests;
 ghost use Rattle.board.specs.Totals.{ShowsCounts};
 ghost use Rattle.question_server.specs.Clients.{IsTold, IsStatus, StepsAtDesk};
 
@@ -17,9 +17,9 @@ use std::marker::Model;
 use std::sync::{Arc, Wait};
 use trace_model::{Event, Refusal, Reply, Request};
 
-/// A desk with a reader of its board, which learns the receipt of each of the client's calls: so its status, which
-/// is read from the board, holds every step that its session was answered. Contracts see it as the steps that its
-/// reader has seen.
+/// A desk with a reader of its board, which learns the receipt of each of the client's calls: so
+/// its status, which is read from the board, holds every step that its session was answered.
+/// Contracts see it as the steps that its reader has seen.
 #[derive(Drop)]
 pub struct Client<N: Naming, R: Wait + Copy, T: Follows<N>> {
     desk: Arc<Desk<N, R, T>>,
@@ -28,7 +28,7 @@ pub struct Client<N: Naming, R: Wait + Copy, T: Follows<N>> {
 
 impl<N: Naming, R: Wait + Copy, T: Follows<N>> Model for Client<N, R, T> {
     ghost use Rattle.std.specs.Prelude.{List};
-    ghost use Rattle.trace_model.specs.declared.step.BoardStep.{BoardStep};
+    ghost use Rattle.trace_model.specs.declared.messages.step.BoardStep.{BoardStep};
 
     ghost Value = { List BoardStep };
 
@@ -131,7 +131,8 @@ impl<N: Naming, R: Wait + Copy, T: Follows<N>> Client<N, R, T> {
 
 /// What a summary shows of the question with this number.
 fn status_in(summary: &Summary, question: u32) -> Reply
-    ensures shown { (counts : runs.Summary) → ShowsCounts summary.now counts → result ≡ shown_status counts question }
+    ensures shown { (counts : runs.Summary) → ShowsCounts summary.now counts →
+        result ≡ shown_status counts question }
     ensures fits { IsReply result }
 {
     match summary.question(question) {
@@ -150,8 +151,8 @@ fn status_in(summary: &Summary, question: u32) -> Reply
     }
 }
 
-/// The desk answers offers, asks and answers; a status is read from the board, and is `BoardBusy` where that gives
-/// no entry.
+/// The desk answers offers, asks and answers; a status is read from the board, and is `BoardBusy`
+/// where that gives no entry.
 impl<N: Naming, R: Wait + Copy, T: Follows<N>> Calls for Client<N, R, T> {
     ghost steps = { λ old request reply new. StepsAtDesk N.limit old request reply new };
 

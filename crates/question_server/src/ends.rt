@@ -1,9 +1,9 @@
 //! What a session reads from, writes to and calls.
 ghost use Rattle.std.specs.Prelude.{◌≡◌, ◌≤◌, ◌<◌, ℕ, List, [], length, take, Option, IfOk, OnOk, OnErr};
 ghost use Rattle.std.specs.Io.KnownBytes.{Consumes, Appends, Keeps, IsAtEnd};
-ghost use Rattle.trace_model.specs.Replies.{IsReply};
-ghost use Rattle.trace_model.specs.declared.session.Request.{Request};
-ghost use Rattle.trace_model.specs.declared.session.Reply.{Reply};
+ghost use Rattle.trace_model.specs.Protocol.Replies.{IsReply};
+ghost use Rattle.trace_model.specs.declared.messages.session.Request.{Request};
+ghost use Rattle.trace_model.specs.declared.messages.session.Reply.{Reply};
 ghost use Rattle.question_server.specs.Serving.{IsBeginning};
 
 use std::sync::Wait;
@@ -23,8 +23,8 @@ pub trait Source {
     /// How often it failed.
     ghost failures: { Self → ℕ };
 
-    /// Reads some bytes into the buffer, which must not be empty, and answers how many. None are read only at
-    /// the end. It may wait for bytes to come.
+    /// Reads some bytes into the buffer, which must not be empty, and answers how many. None are
+    /// read only at the end. It may wait for bytes to come.
     ///
     /// # Errors
     ///
@@ -32,15 +32,16 @@ pub trait Source {
     fn read<R: Wait>(&mut self, rt: &R, buffer: &mut [u8]) -> Result<usize, Failed>
         requires { 0 < length buffer.old }
         ensures count { IfOk result (λ n. n ≤ length buffer.new) }
-        ensures bytes { IfOk result (λ n. Consumes (left self.old) (left self.new) (take n buffer.new)) }
+        ensures bytes { IfOk result
+            (λ n. Consumes (left self.old) (left self.new) (take n buffer.new)) }
         ensures end { IfOk result (λ n. n ≡ 0 → IsAtEnd (left self.new)) }
         ensures ok { OnOk result (failures self.new ≡ failures self.old) }
         ensures failed { OnErr result (failures self.old < failures self.new) }
         ensures err { OnErr result (Keeps (left self.old) (left self.new)) };
 }
 
-/// Where the bytes of a session go. It may hold what it took back until it is told to send it, and counts how
-/// often it failed.
+/// Where the bytes of a session go. It may buffer what it took until it is told to send it, and
+/// counts how often it failed.
 pub trait Sink {
     /// The bytes that it took, where it tells them.
     ghost written: { Self → Option (List ℕ) };
@@ -60,7 +61,8 @@ pub trait Sink {
         requires { 0 < length bytes.now }
         ensures count { IfOk result (λ n. n ≤ length bytes.now) }
         ensures some { IfOk result (λ n. 0 < n) }
-        ensures bytes { IfOk result (λ n. Appends (written self.old) (written self.new) (take n bytes.now)) }
+        ensures bytes { IfOk result
+            (λ n. Appends (written self.old) (written self.new) (take n bytes.now)) }
         ensures ok { OnOk result (failures self.new ≡ failures self.old) }
         ensures failed { OnErr result (failures self.old < failures self.new) }
         ensures err { OnErr result (Keeps (written self.old) (written self.new)) };

@@ -1,8 +1,8 @@
 //! The loop of a session.
 ghost use Rattle.std.specs.Prelude.{◌≡◌, ◌<◌, ℕ, take, None, IfOk, OnOk, OnErr, IfErr};
 ghost use Rattle.std.specs.Io.KnownBytes.{Appends, Keeps};
-ghost use Rattle.trace_model.specs.Replies.{reply_frame, IsReply};
-ghost use Rattle.question_server.specs.Serving.{Answered, Broken, IsCounted, Served, Counts};
+ghost use Rattle.trace_model.specs.Protocol.Replies.{reply_frame, IsReply};
+ghost use Rattle.question_server.specs.Serving.{between, standing, Answered, Broken, IsCounted, Served, Counts};
 ghost use Rattle.question_server.specs.declared.sessions.ServeFault.TheVariants.{Write};
 
 use crate::ends::{Calls, Failed, Sink, Source};
@@ -41,7 +41,8 @@ fn write_all<R: Wait, K: Sink>(rt: &R, sink: &mut K, bytes: &[u8]) -> Result<(),
     ensures ok { OnOk result (Appends (K.written sink.old) (K.written sink.new) bytes.now) }
     ensures same { OnOk result (K.failures sink.new ≡ K.failures sink.old) }
     ensures failed { OnErr result (K.failures sink.old < K.failures sink.new) }
-    ensures err { OnErr result ((n : ℕ) × Appends (K.written sink.old) (K.written sink.new) (take n bytes.now)) }
+    ensures err { OnErr result
+        ((n : ℕ) × Appends (K.written sink.old) (K.written sink.new) (take n bytes.now)) }
 {
     let mut at = 0;
     while at < bytes.len() {
@@ -58,10 +59,13 @@ fn reply_with<R: Wait, K: Sink>(
     reply: Reply,
 ) -> Result<(), ServeFault>
     requires { IsReply reply }
-    ensures ok { OnOk result (Appends (K.written sink.old) (K.written sink.new) (reply_frame reply)) }
-    ensures err { OnErr result ((n : ℕ) × Appends (K.written sink.old) (K.written sink.new) (take n (reply_frame reply))) }
+    ensures ok { OnOk result (Appends (K.written sink.old) (K.written sink.new)
+        (reply_frame reply)) }
+    ensures err { OnErr result
+        ((n : ℕ) × Appends (K.written sink.old) (K.written sink.new) (take n (reply_frame reply))) }
     ensures same { OnOk result (K.failures sink.new ≡ K.failures sink.old) }
-    ensures counted { IfErr result (λ fault. IsCounted fault (K.failures sink.old) (K.failures sink.new)) }
+    ensures counted { IfErr result
+        (λ fault. IsCounted fault (K.failures sink.old) (K.failures sink.new)) }
 {
     let Ok(bytes) = encode_reply(alloc, &reply) else {
         let _ = sink.send(rt);
@@ -73,8 +77,8 @@ fn reply_with<R: Wait, K: Sink>(
     }
 }
 
-/// Calls for each request that is there, and writes the replies, and the fault if one is there. Each reply is
-/// written whole before the next request is called.
+/// Calls for each request that is there, and writes the replies, and the fault if one is there.
+/// Each reply is written whole before the next request is called.
 fn answer_all<R: Wait, K: Sink, C: Calls>(
     rt: &R,
     alloc: Global,
@@ -83,11 +87,14 @@ fn answer_all<R: Wait, K: Sink, C: Calls>(
     calls: &mut C,
 ) -> Result<Option<Fault>, ServeFault>
     requires { reader.old.told ≡ None }
-    ensures ok { IfOk result (λ fault. Answered C.steps calls.old reader.old (K.written sink.old)
-        calls.new reader.new (K.written sink.new) fault) }
-    ensures err { OnErr result (Broken C.steps calls.old reader.old (K.written sink.old) calls.new (K.written sink.new)) }
+    ensures ok { IfOk result (λ fault. Answered C.steps
+        (between calls.old reader.old (K.written sink.old))
+        (between calls.new reader.new (K.written sink.new)) fault) }
+    ensures err { OnErr result (Broken C.steps
+        (between calls.old reader.old (K.written sink.old)) calls.new (K.written sink.new)) }
     ensures same { OnOk result (K.failures sink.new ≡ K.failures sink.old) }
-    ensures counted { IfErr result (λ fault. IsCounted fault (K.failures sink.old) (K.failures sink.new)) }
+    ensures counted { IfErr result
+        (λ fault. IsCounted fault (K.failures sink.old) (K.failures sink.new)) }
 {
     loop {
         match reader.next() {
@@ -104,11 +111,12 @@ fn answer_all<R: Wait, K: Sink, C: Calls>(
     }
 }
 
-/// Sends what the sink still holds, at the end of a session.
+/// Sends what the sink still buffers, at the end of a session.
 fn conclude<R: Wait, K: Sink>(rt: &R, sink: &mut K, ended: Ended) -> Result<Ended, ServeFault>
     ensures kept { Keeps (K.written sink.old) (K.written sink.new) }
     ensures ok { IfOk result (λ e. (e ≡ ended) × (K.sent sink.new ≡ K.written sink.new)) }
-    ensures err { IfErr result (λ fault. (fault ≡ Write) × (K.failures sink.old < K.failures sink.new)) }
+    ensures err { IfErr result (λ fault. (fault ≡ Write)
+        × (K.failures sink.old < K.failures sink.new)) }
 {
     match sink.send(rt) {
         Ok(()) => Ok(ended),
@@ -116,17 +124,18 @@ fn conclude<R: Wait, K: Sink>(rt: &R, sink: &mut K, ended: Ended) -> Result<Ende
     }
 }
 
-/// Serves a session: reads requests from the source, calls for each in its order, and writes the replies to the
-/// sink, until the input ends or a fault comes, which is written last. Each reply is written whole before the
-/// next request is called, and what the sink holds is sent before each read, which may wait. Nothing is read
-/// after the piece, of at most 4,096 bytes, in which the first fault stands; a frame counts as cut only where
-/// the source is at its end.
+/// Serves a session: reads requests from the source, calls for each in its order, and writes the
+/// replies to the sink, until the input ends or a fault comes, which is written last. Each reply is
+/// written whole before the next request is called, and what the sink buffers is sent before each
+/// read, which may wait. Nothing is read after the piece, of at most 4,096 bytes, in which the
+/// first fault stands; a frame counts as cut only where the source is at its end.
 ///
 /// # Errors
 ///
-/// `Read` or `Write` where that end failed in this call, and `Memory` where a growth was refused. After `Read`
-/// what was read has no fault, and all replies to it were written and sent. After `Write` or `Memory` a beginning
-/// of them was, and at most one request was called whose reply is not whole. What was called stays so.
+/// `Read` or `Write` where that end failed in this call, and `Memory` where a growth was refused.
+/// After `Read` what was read has no fault, and all replies to it were written and sent. After
+/// `Write` or `Memory` a beginning of them was, and at most one request was called whose reply is
+/// not whole. What was called stays so.
 pub fn serve<R: Wait, S: Source, K: Sink, C: Calls>(
     rt: &R,
     alloc: Global,
@@ -134,8 +143,10 @@ pub fn serve<R: Wait, S: Source, K: Sink, C: Calls>(
     sink: &mut K,
     calls: &mut C,
 ) -> Result<Ended, ServeFault>
-    ensures served { Served C.steps (S.left source.old) (K.written sink.old) calls.old
-        (S.left source.new) (K.written sink.new) (K.sent sink.new) calls.new result }
+    ensures served { Served C.steps
+        (standing (S.left source.old) (K.written sink.old) calls.old)
+        (standing (S.left source.new) (K.written sink.new) calls.new)
+        (K.sent sink.new) result }
     ensures counted { Counts result (S.failures source.old) (S.failures source.new)
         (K.failures sink.old) (K.failures sink.new) }
 {

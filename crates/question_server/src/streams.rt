@@ -8,14 +8,15 @@ use crate::ends::{Failed, Sink, Source};
 use std::io::{ErrorKind, Read, Write};
 use std::sync::Wait;
 
-/// How many bytes a sink holds back at most.
-const HELD: usize = 4096;
+/// How many bytes a sink buffers at most.
+const BUFFER: usize = 4096;
 
 /// Reads once, and again where that was interrupted.
 fn read_some<R: Wait, I: Read>(rt: &R, reader: &mut I, buffer: &mut [u8]) -> Result<usize, Failed>
     requires { 0 < length buffer.old }
     ensures count { IfOk result (λ n. n ≤ length buffer.new) }
-    ensures bytes { IfOk result (λ n. Consumes (I.remaining reader.old) (I.remaining reader.new) (take n buffer.new)) }
+    ensures bytes { IfOk result
+        (λ n. Consumes (I.remaining reader.old) (I.remaining reader.new) (take n buffer.new)) }
     ensures end { IfOk result (λ n. n ≡ 0 → IsAtEnd (I.remaining reader.new)) }
     ensures err { OnErr result (Keeps (I.remaining reader.old) (I.remaining reader.new)) }
 {
@@ -35,7 +36,8 @@ fn read_some<R: Wait, I: Read>(rt: &R, reader: &mut I, buffer: &mut [u8]) -> Res
 /// Writes once, and again where that was interrupted. A write that takes nothing fails.
 fn write_some<R: Wait, O: Write>(rt: &R, writer: &mut O, bytes: &[u8]) -> Result<usize, Failed>
     ensures count { IfOk result (λ n. (0 < n) × (n ≤ length bytes.now)) }
-    ensures bytes { IfOk result (λ n. Appends (O.contents writer.old) (O.contents writer.new) (take n bytes.now)) }
+    ensures bytes { IfOk result
+        (λ n. Appends (O.contents writer.old) (O.contents writer.new) (take n bytes.now)) }
     ensures err { OnErr result (Keeps (O.contents writer.old) (O.contents writer.new)) }
 {
     for _ in rt.forever() {
@@ -65,7 +67,9 @@ fn write_from<R: Wait, O: Write>(
 ) -> Result<usize, Failed>
     requires { start ≤ length bytes.now }
     ensures count { IfOk result (λ n. (0 < n) × (n ≤ length (drop start bytes.now))) }
-    ensures bytes { IfOk result (λ n. Appends (O.contents writer.old) (O.contents writer.new) (take n (drop start bytes.now))) }
+    ensures bytes { IfOk result
+        (λ n. Appends (O.contents writer.old) (O.contents writer.new)
+        (take n (drop start bytes.now))) }
     ensures err { OnErr result (Keeps (O.contents writer.old) (O.contents writer.new)) }
 {
     write_some(rt, writer, &bytes[start..])
@@ -88,7 +92,8 @@ fn flush_all<R: Wait, O: Write>(rt: &R, writer: &mut O) -> Result<(), Failed>
     unreachable!()
 }
 
-/// The bytes that a reader gives. A read that was interrupted is made again; any other failure is counted.
+/// The bytes that a reader gives. A read that was interrupted is made again; any other failure is
+/// counted.
 #[derive(Drop)]
 pub struct ReadSource<I: Read + Drop> {
     pub(crate) inner: I,
@@ -121,12 +126,12 @@ impl<I: Read + Drop> Source for ReadSource<I> {
     }
 }
 
-/// Bytes for a writer, of which up to 4,096 are held back until they are sent. A write that was interrupted is
-/// made again; any other failure is counted, and so is a write that takes nothing.
+/// Bytes for a writer, of which up to 4,096 are buffered until they are sent. A write that was
+/// interrupted is made again; any other failure is counted, and so is a write that takes nothing.
 #[derive(Drop)]
 pub struct WriteSink<O: Write + Drop> {
     pub(crate) inner: O,
-    buffer: [u8; HELD],
+    buffer: [u8; BUFFER],
     start: usize,
     end: usize,
     failures: u64,
@@ -143,20 +148,23 @@ impl<O: Write + Drop> WriteSink<O> {
     {
         WriteSink {
             inner,
-            buffer: [0u8; HELD],
+            buffer: [0u8; BUFFER],
             start: 0,
             end: 0,
             failures: 0,
         }
     }
 
-    /// Hands some of the bytes that are held to the writer.
+    /// Hands some of the buffered bytes to the writer.
     fn hand_on<R: Wait>(&mut self, rt: &R) -> Result<(), Failed>
         requires { self.old.start < self.old.end }
-        ensures kept { Keeps (append_known (O.contents self.old.inner) (pending self.old.buffer self.old.start self.old.end))
-            (append_known (O.contents self.new.inner) (pending self.new.buffer self.new.start self.new.end)) }
+        ensures kept { Keeps (append_known (O.contents self.old.inner)
+            (pending self.old.buffer self.old.start self.old.end))
+            (append_known (O.contents self.new.inner)
+            (pending self.new.buffer self.new.start self.new.end)) }
         ensures end { self.new.end ≡ self.old.end }
-        ensures ok { OnOk result ((self.old.start < self.new.start) × (self.new.failures ≡ self.old.failures)) }
+        ensures ok { OnOk result ((self.old.start < self.new.start)
+            × (self.new.failures ≡ self.old.failures)) }
         ensures failed { OnErr result (self.old.failures < self.new.failures) }
     {
         match write_from(rt, &mut self.inner, &self.buffer[..self.end], self.start) {
@@ -171,11 +179,14 @@ impl<O: Write + Drop> WriteSink<O> {
         }
     }
 
-    /// Hands all bytes that are held to the writer.
+    /// Hands all buffered bytes to the writer.
     fn empty<R: Wait>(&mut self, rt: &R) -> Result<(), Failed>
-        ensures kept { Keeps (append_known (O.contents self.old.inner) (pending self.old.buffer self.old.start self.old.end))
-            (append_known (O.contents self.new.inner) (pending self.new.buffer self.new.start self.new.end)) }
-        ensures ok { OnOk result ((self.new.start ≡ 0) × (self.new.end ≡ 0) × (self.new.failures ≡ self.old.failures)) }
+        ensures kept { Keeps (append_known (O.contents self.old.inner)
+            (pending self.old.buffer self.old.start self.old.end))
+            (append_known (O.contents self.new.inner)
+            (pending self.new.buffer self.new.start self.new.end)) }
+        ensures ok { OnOk result ((self.new.start ≡ 0) × (self.new.end ≡ 0)
+            × (self.new.failures ≡ self.old.failures)) }
         ensures failed { OnErr result (self.old.failures < self.new.failures) }
     {
         while self.start < self.end {
@@ -186,29 +197,32 @@ impl<O: Write + Drop> WriteSink<O> {
         Ok(())
     }
 
-    /// Sees that a byte more can be held.
+    /// Sees that a byte more can be buffered.
     fn make_room<R: Wait>(&mut self, rt: &R) -> Result<(), Failed>
-        ensures kept { Keeps (append_known (O.contents self.old.inner) (pending self.old.buffer self.old.start self.old.end))
-            (append_known (O.contents self.new.inner) (pending self.new.buffer self.new.start self.new.end)) }
+        ensures kept { Keeps (append_known (O.contents self.old.inner)
+            (pending self.old.buffer self.old.start self.old.end))
+            (append_known (O.contents self.new.inner)
+            (pending self.new.buffer self.new.start self.new.end)) }
         ensures ok { OnOk result ((self.new.end < 4096) × (self.new.failures ≡ self.old.failures)) }
         ensures failed { OnErr result (self.old.failures < self.new.failures) }
     {
-        if self.end < HELD {
+        if self.end < BUFFER {
             return Ok(());
         }
         self.empty(rt)
     }
 
     /// Holds as many of the bytes as it can.
-    fn hold(&mut self, bytes: &[u8]) -> usize
+    fn buffer_some(&mut self, bytes: &[u8]) -> usize
         requires room { self.old.end < 4096 }
         requires some { 0 < length bytes.now }
         ensures count { (0 < result) × (result ≤ length bytes.now) }
-        ensures held { pending self.new.buffer self.new.start self.new.end ≡ pending self.old.buffer self.old.start self.old.end ++ take result bytes.now }
+        ensures buffered { pending self.new.buffer self.new.start self.new.end ≡
+            pending self.old.buffer self.old.start self.old.end ++ take result bytes.now }
         ensures inner { self.new.inner ≡ self.old.inner }
         ensures failures { self.new.failures ≡ self.old.failures }
     {
-        let count = bytes.len().min(HELD - self.end);
+        let count = bytes.len().min(BUFFER - self.end);
         self.buffer[self.end..self.end + count].copy_from_slice(&bytes[..count]);
         self.end += count;
         count
@@ -224,7 +238,7 @@ impl<O: Write + Drop> Sink for WriteSink<O> {
 
     fn write<R: Wait>(&mut self, rt: &R, bytes: &[u8]) -> Result<usize, Failed> {
         self.make_room(rt)?;
-        Ok(self.hold(bytes))
+        Ok(self.buffer_some(bytes))
     }
 
     fn send<R: Wait>(&mut self, rt: &R) -> Result<(), Failed> {

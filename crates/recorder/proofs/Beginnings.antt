@@ -1,10 +1,10 @@
 -- The dependencies of a beginning.
 use Rattle.std.proofs.Common.{◌≡◌, ℕ, ◌≤◌, length, take, ap, ◌∙◌}
 use Rattle.std.proofs.lemmas.List.{length-take-le}
-use Rattle.trace_model.specs.Dependencies.{dependencies, dependencies_below}
-use Rattle.trace_model.proofs.Dependencies.{dependencies-agree}
+use Rattle.trace_model.specs.Theory.Dependencies.{dependencies, dependencies_below}
+use Rattle.trace_model.proofs.Theory.Dependencies.{dependencies-agree}
 use Rattle.trace_model.proofs.Lists.{get-take}
-use Rattle.trace_model.specs.Trace.{Trace}
+use Rattle.trace_model.specs.Theory.Trace.{Trace}
 
 -- the dependencies of the first events are those below their number
 pub dependencies_first : (s : Trace) (n : ℕ) → n ≤ length s → dependencies (take n s) ≡ dependencies_below s n

@@ -1,6 +1,6 @@
 -- What a recorder keeps of its events.
 use Rattle.std.specs.Prelude.{◌≡◌, ℕ, ◌≤◌, length, Option, Some}
-use Rattle.trace_model.specs.declared.event.Event.{Event}
+use Rattle.trace_model.specs.declared.traces.event.Event.{Event}
 use Rattle.trace_model.specs.declared.limits.TheConstants.{MAX_EVENTS}
 use Rattle.wellformed.specs.Tables as wellformed
 use Rattle.wellformed.specs.declared.tables.GateTables.{GateTables}
@@ -9,13 +9,16 @@ use Rattle.lock_tables.specs.Tables.{FollowTrace, HasRoomFor}
 use Rattle.lock_tables.specs.declared.tables.LockTables.{LockTables}
 
 -- gate, index and tables have room for the event
-pub record HaveRoom (gate : GateTables) (index : Indexed) (tables : LockTables) (e : Event) : Type 0 where
+pub record HaveRoom (gate : GateTables) (index : Indexed) (tables : LockTables)
+    (e : Event) : Type 0 where
   pub in_gate : wellformed.HasRoomFor gate e
   pub in_index : index.reserved ≡ Some e
   pub in_tables : HasRoomFor tables e
 
--- gate and tables are those of the events in the index, and all have room for the event that is ready
-pub record IsRecording (limit : ℕ) (gate : GateTables) (index : Indexed) (tables : LockTables) (ready : Option Event) : Type 0 where
+-- gate and tables are those of the events in the index, and all have room for the event that is
+-- ready
+pub record IsRecording (limit : ℕ) (gate : GateTables) (index : Indexed) (tables : LockTables)
+    (ready : Option Event) : Type 0 where
   pub small : limit ≤ MAX_EVENTS
   pub within : length index.events ≤ limit
   pub gate_is : wellformed.FollowEvents gate index.events

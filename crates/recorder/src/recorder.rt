@@ -1,9 +1,11 @@
+//! What a book records of its trace.
+
 ghost use Rattle.std.specs.Prelude.{◌≡◌, ◌+◌, ◌≤◌, ◌<◌, [], ◌∷◌, ◌++◌, length, take, nat_eq, slice_get, Some, None, IfOk, OnOk};
 ghost use Rattle.std.specs.Arc.{arc_value};
 ghost use Rattle.std.specs.Result.{result_err};
 ghost use Rattle.trace_model.specs.declared.limits.TheConstants.{MAX_EVENTS};
-ghost use Rattle.trace_model.specs.Dependencies.{dependencies};
-ghost use Rattle.trace_model.specs.Lawful.{refusal_of, IsWellFormed};
+ghost use Rattle.trace_model.specs.Theory.Dependencies.{dependencies};
+ghost use Rattle.trace_model.specs.Theory.Lawful.{refusal_of, IsWellFormed};
 
 use findings::Snapshot;
 use lock_tables::LockTables;
@@ -16,8 +18,8 @@ use trace_index::{Copies, TraceIndex};
 use trace_model::{Event, NoMemory, Place, Refusal};
 use wellformed::GateTables;
 
-/// The accepted events, each lawful after those before it, with their index and their lock tables, and the event
-/// that there is room for. Contracts see what a gate shows.
+/// The accepted events, each lawful after those before it, with their index and their lock tables,
+/// and the event that there is room for. Contracts see what a gate shows.
 #[derive(Drop)]
 pub struct Recorder {
     alloc: Global,
@@ -54,7 +56,8 @@ fn record_in<L: Ledger>(index: &mut TraceIndex, event: &Event, blank: Blank)
 }
 
 impl Recorder {
-    /// A recorder without events, which takes at most `max_events`. That is at most `MAX_EVENTS`. It takes no memory.
+    /// A recorder without events, which takes at most `max_events`. That is at most `MAX_EVENTS`.
+    /// It takes no memory.
     pub fn new(alloc: Global, state: RandomState, max_events: usize) -> Recorder
         requires { max_events ≤ MAX_EVENTS }
         ensures { result ≡ record { limit = max_events; events = []; reserved = None } }
@@ -112,8 +115,8 @@ impl Recorder {
         self.tables.len()
     }
 
-    /// Makes every growth for this event, in gate, index and tables. Room that was made for another is then
-    /// given up.
+    /// Makes every growth for this event, in gate, index and tables. Room that was made for another
+    /// is then given up.
     ///
     /// # Errors
     ///
@@ -130,8 +133,8 @@ impl Recorder {
         Ok(())
     }
 
-    /// Brings all dependencies into the graph, so that no snapshot copies it before the next event. Room that was made
-    /// for an event is given up.
+    /// Brings all dependencies into the graph, so that no snapshot copies it before the next event.
+    /// Room that was made for an event is given up.
     ///
     /// # Errors
     ///
@@ -143,11 +146,17 @@ impl Recorder {
         self.tables.catch_up()
     }
 
-    /// Records the event, which must be lawful, and the one that room was last made for. It takes no memory.
+    /// Records the event, which must be lawful, and the one that room was last made for. It takes
+    /// no memory.
     pub fn record(&mut self, event: &Event)
         requires reserved { self.old.reserved ≡ Some event.now }
         requires lawful { refusal_of self.old.limit self.old.events event.now ≡ None }
-        ensures { self.new ≡ record { limit = self.old.limit; events = self.old.events ++ event.now ∷ []; reserved = None } }
+        ensures { self.new ≡ record {
+          limit = self.old.limit;
+          events = self.old.events ++
+              event.now ∷ [];
+          reserved = None;
+        } }
     {
         let _len = self.index.len();
         self.ready = None;
@@ -156,8 +165,9 @@ impl Recorder {
         self.gate.record(event);
     }
 
-    /// The first `count` events with what is needed to compute their rows, `total` being the number of their
-    /// dependencies. Full segments are shared, and at most one is copied; `copies` counts the events in it.
+    /// The first `count` events with what is needed to compute their rows, `total` being the number
+    /// of their dependencies. Full segments are shared, and at most one is copied; `copies` counts
+    /// the events in it.
     ///
     /// # Errors
     ///

@@ -2,9 +2,9 @@
 use Rattle.std.proofs.Common.{◌≡◌, ℕ, Bool, true, false, Some, None, sym, subst, ◌∙◌}
 use Rattle.std.proofs.lemmas.Bool.{false≢true}
 use Rattle.std.proofs.lemmas.Option.{none-some, same_Some}
-use Rattle.trace_model.specs.Trace.{Trace}
-use Rattle.trace_model.specs.Held.{BeginsOn, begun}
-use Rattle.trace_model.proofs.Begun.{begun_so, begun_from}
+use Rattle.trace_model.specs.Theory.Trace.{Trace}
+use Rattle.trace_model.specs.Theory.Held.{BeginsOn, begun}
+use Rattle.trace_model.proofs.Theory.Begun.{begun_so, begun_from}
 
 -- a test on the lock on which a section begins decides what is said of it
 pub begun_decided : (P : ℕ → Type 0) (s : Trace) (q : ℕ) (b : Bool) (x : ℕ) → begun s q ≡ Some x → (b ≡ true → P x) × (P x → b ≡ true) →

@@ -3,14 +3,14 @@ use Rattle.std.proofs.Common.{◌≡◌, ℕ, zero, suc, ◌+◌, ◌<◌, Bool,
 use Rattle.std.specs.Option.{option_and_then, option_map_or}
 use Rattle.std.specs.List.{Contains}
 use Rattle.std.proofs.lemmas.Bool.{cases_lt, eqb-true, eq-eqb, false≢true}
-use Rattle.trace_model.specs.declared.event.Event.{Event}
-use Rattle.trace_model.specs.declared.event.Op.{Op}
-use Rattle.trace_model.specs.declared.event.Op.TheVariants.{Read, Write}
-use Rattle.trace_model.specs.Trace.{Trace, event, OfThread, does, last_place}
-use Rattle.trace_model.specs.Lookups.{writer_of, writer}
-use Rattle.trace_model.specs.Walk.{Walks}
+use Rattle.trace_model.specs.declared.traces.event.Event.{Event}
+use Rattle.trace_model.specs.declared.traces.event.Op.{Op}
+use Rattle.trace_model.specs.declared.traces.event.Op.TheVariants.{Read, Write}
+use Rattle.trace_model.specs.Theory.Trace.{Trace, event, OfThread, does, last_place}
+use Rattle.trace_model.specs.Theory.Lookups.{writer_of, writer}
+use Rattle.trace_model.specs.Theory.Walk.{Walks}
 use Rattle.trace_model.proofs.Lists.{at_index, get-push_kept, get-push_last, length-push}
-use Rattle.trace_model.proofs.Places.{last_place_some, last_place_none}
+use Rattle.trace_model.proofs.Theory.Places.{last_place_some, last_place_none}
 use Rattle.replay.specs.Facts.{is_of, previous, each, of_read}
 use Rattle.replay.specs.Walking.{noted}
 use Rattle.replay.specs.Tests.{MissesPlace, MissesEarlier}
@@ -72,34 +72,34 @@ is_previous s t n p e =
     (of_thread s t p (slice_get s p) refl k.1, k.0, λ u a b o. k.2 u a b (is_of_from s t u o))
 
 -- a place of the thread below n is missed exactly where the last one is
-pub missed_by_last : (s : Trace) (front : List ℕ) → Walks s front → (t n p : ℕ) (b : Bool) → last_place (is_of s t) n ≡ Some p →
-    (b ≡ true → Contains front p) × (Contains front p → b ≡ true) →
-    (not b ≡ true → MissesPlace s front t n) × (MissesPlace s front t n → not b ≡ true)
-missed_by_last s front w t n p b e h = missed_by_previous s front w t n p b (is_previous s t n p e) h
+pub missed_by_last : (s : Trace) (passed : List ℕ) → Walks s passed → (t n p : ℕ) (b : Bool) → last_place (is_of s t) n ≡ Some p →
+    (b ≡ true → Contains passed p) × (Contains passed p → b ≡ true) →
+    (not b ≡ true → MissesPlace s passed t n) × (MissesPlace s passed t n → not b ≡ true)
+missed_by_last s passed w t n p b e h = missed_by_previous s passed w t n p b (is_previous s t n p e) h
 
-pub none_missed : (s : Trace) (front : List ℕ) (t n : ℕ) → last_place (is_of s t) n ≡ None → MissesPlace s front t n → ⊥
-none_missed s front t n e (u, l, o, m) = last_place_none (is_of s t) n e u l (is_of_from s t u o)
+pub none_missed : (s : Trace) (passed : List ℕ) (t n : ℕ) → last_place (is_of s t) n ≡ None → MissesPlace s passed t n → ⊥
+none_missed s passed t n e (u, l, o, m) = last_place_none (is_of s t) n e u l (is_of_from s t u o)
 
-earlier_place : (s : Trace) (front : List ℕ) (q : ℕ) (e : Event) → slice_get s q ≡ Some e →
-    (MissesPlace s front e.thread q → MissesEarlier s front q) × (MissesEarlier s front q → MissesPlace s front e.thread q)
-earlier_place s front q e at = (
+earlier_place : (s : Trace) (passed : List ℕ) (q : ℕ) (e : Event) → slice_get s q ≡ Some e →
+    (MissesPlace s passed e.thread q → MissesEarlier s passed q) × (MissesEarlier s passed q → MissesPlace s passed e.thread q)
+earlier_place s passed q e at = (
   λ (u, l, o, n). (u, (e.thread, o, (e.op, at), l), n),
   λ (u, (t, a, b, l), n). (u, l, subst (OfThread s u) (sym (one_thread s q e t at b)) a, n),
 )
 
-pub missed_earlier : (s : Trace) (front : List ℕ) → Walks s front → (q p : ℕ) (b : Bool) → q < length s → previous s q ≡ Some p →
-    (b ≡ true → Contains front p) × (Contains front p → b ≡ true) →
-    (not b ≡ true → MissesEarlier s front q) × (MissesEarlier s front q → not b ≡ true)
-missed_earlier s front w q p b within is h =
+pub missed_earlier : (s : Trace) (passed : List ℕ) → Walks s passed → (q p : ℕ) (b : Bool) → q < length s → previous s q ≡ Some p →
+    (b ≡ true → Contains passed p) × (Contains passed p → b ≡ true) →
+    (not b ≡ true → MissesEarlier s passed q) × (MissesEarlier s passed q → not b ≡ true)
+missed_earlier s passed w q p b within is h =
     let (e, at) = at_index s q within in
-    let m = missed_by_last s front w e.thread q p b (sym (previous_is s q e at) ∙ is) h in
-    let x = earlier_place s front q e at in
+    let m = missed_by_last s passed w e.thread q p b (sym (previous_is s q e at) ∙ is) h in
+    let x = earlier_place s passed q e at in
     (λ t. x.0 (m.0 t), λ t. m.1 (x.1 t))
 
-pub none_missed_earlier : (s : Trace) (front : List ℕ) (q : ℕ) → q < length s → previous s q ≡ None → MissesEarlier s front q → ⊥
-none_missed_earlier s front q within is m =
+pub none_missed_earlier : (s : Trace) (passed : List ℕ) (q : ℕ) → q < length s → previous s q ≡ None → MissesEarlier s passed q → ⊥
+none_missed_earlier s passed q within is m =
     let (e, at) = at_index s q within in
-    none_missed s front e.thread q (sym (previous_is s q e at) ∙ is) ((earlier_place s front q e at).1 m)
+    none_missed s passed e.thread q (sym (previous_is s q e at) ∙ is) ((earlier_place s passed q e at).1 m)
 
 pub previous_within : (s : Trace) (q p : ℕ) → q < length s → previous s q ≡ Some p → p < length s
 previous_within s q p within is =

@@ -3,22 +3,22 @@ use Rattle.std.proofs.Common.{◌≡◌, ℕ, ◌⊎◌, inl, inr, Bool, true, f
 use Rattle.std.proofs.lemmas.Bool.{false≢true}
 use Rattle.std.proofs.lemmas.Option.{same_Some}
 use Rattle.std.specs.List.{Contains}
-use Rattle.trace_model.specs.declared.event.Event.{Event}
-use Rattle.trace_model.specs.declared.event.Op.{Op}
-use Rattle.trace_model.specs.Trace.{Trace, event, Does, OfThread}
-use Rattle.trace_model.proofs.Ascending.{listed, listed_contains, contains_listed}
+use Rattle.trace_model.specs.declared.traces.event.Event.{Event}
+use Rattle.trace_model.specs.declared.traces.event.Op.{Op}
+use Rattle.trace_model.specs.Theory.Trace.{Trace, event, Does, OfThread}
+use Rattle.trace_model.proofs.Theory.Ascending.{listed, listed_contains, contains_listed}
 
 -- it is in the list or not
-pub in_cases : (front : List ℕ) (q : ℕ) → Contains front q ⊎ (Contains front q → ⊥)
-in_cases front q = go (listed front q) refl
+pub in_cases : (passed : List ℕ) (q : ℕ) → Contains passed q ⊎ (Contains passed q → ⊥)
+in_cases passed q = go (listed passed q) refl
   where
-    go : (b : Bool) → listed front q ≡ b → Contains front q ⊎ (Contains front q → ⊥)
-    go true e = inl (listed_contains front q e)
-    go false e = inr (λ c. false≢true (sym e ∙ contains_listed front q c))
+    go : (b : Bool) → listed passed q ≡ b → Contains passed q ⊎ (Contains passed q → ⊥)
+    go true e = inl (listed_contains passed q e)
+    go false e = inr (λ c. false≢true (sym e ∙ contains_listed passed q c))
 
 -- where it is not so that it is not in the list, it is
-pub in_unless : (front : List ℕ) (q : ℕ) → ((Contains front q → ⊥) → ⊥) → Contains front q
-in_unless front q h = elim (in_cases front q) [ inl a ↦ a | inr b ↦ absurd (h b) ]
+pub in_unless : (passed : List ℕ) (q : ℕ) → ((Contains passed q → ⊥) → ⊥) → Contains passed q
+in_unless passed q h = elim (in_cases passed q) [ inl a ↦ a | inr b ↦ absurd (h b) ]
 
 -- a test on the operation at a place decides what is said of it
 pub op_decided : (P : ℕ → Type 0) (o : ℕ → Op) → ((x y : ℕ) → o x ≡ o y → x ≡ y) → (s : Trace) (q : ℕ) (e : Event) (b : Bool) (x : ℕ) →

@@ -6,23 +6,23 @@ use Rattle.std.proofs.lemmas.Bool.{cases_lt, cases_eq, eqb-true, eqb-false, leb-
 use Rattle.std.proofs.lemmas.List.{length-set}
 use Rattle.std.proofs.Math.Seq.{take-nil}
 use Rattle.std.proofs.lemmas.Option.{none-some, same_Some, slice_get_within}
-use Rattle.trace_model.specs.declared.event.Event.{Event}
-use Rattle.trace_model.specs.declared.event.Op.{Op}
-use Rattle.trace_model.specs.declared.event.Op.TheVariants.{Fork, Join, Acquire, Release, Read, Write}
+use Rattle.trace_model.specs.declared.traces.event.Event.{Event}
+use Rattle.trace_model.specs.declared.traces.event.Op.{Op}
+use Rattle.trace_model.specs.declared.traces.event.Op.TheVariants.{Fork, Join, Acquire, Release, Read, Write}
 use Rattle.trace_model.specs.declared.limits.TheConstants.{MAX_DEPTH}
-use Rattle.trace_model.specs.Trace.{Trace, event, At}
-use Rattle.trace_model.specs.Held.{depth, Begins, BeginsOn, Ends, Holds, begun_of, begun}
-use Rattle.trace_model.specs.Holders.{owner, depth_by}
-use Rattle.trace_model.specs.Lawful.{IsWellFormed}
-use Rattle.trace_model.specs.Lookups.{release, LeastRelease}
-use Rattle.trace_model.proofs.Deadlock.{releaser_holds}
-use Rattle.trace_model.proofs.Depths.{depth_shallow}
-use Rattle.trace_model.proofs.Growing.{well_formed_take}
-use Rattle.trace_model.proofs.Held.{depth_cases, same_acquire, same_release, acquire_no_release, section_holds}
+use Rattle.trace_model.specs.Theory.Trace.{Trace, event, At}
+use Rattle.trace_model.specs.Theory.Held.{depth, Begins, BeginsOn, Ends, Holds, begun_of, begun}
+use Rattle.trace_model.specs.Theory.Holders.{owner, depth_by}
+use Rattle.trace_model.specs.Theory.Lawful.{IsWellFormed}
+use Rattle.trace_model.specs.Theory.Lookups.{release, LeastRelease}
+use Rattle.trace_model.proofs.Theory.Deadlock.{releaser_holds}
+use Rattle.trace_model.proofs.Theory.Depths.{depth_shallow}
+use Rattle.trace_model.proofs.Theory.Growing.{well_formed_take}
+use Rattle.trace_model.proofs.Theory.Held.{depth_cases, same_acquire, same_release, acquire_no_release, section_holds}
 use Rattle.trace_model.proofs.Lists.{at_index, get-set_same, get-set_other}
-use Rattle.trace_model.proofs.Lookups.{release_is, release_so}
-use Rattle.trace_model.proofs.Owners.{depth-owner}
-use Rattle.trace_model.proofs.Sections.{depth-take, others_lack, released_between}
+use Rattle.trace_model.proofs.Theory.Lookups.{release_is, release_so}
+use Rattle.trace_model.proofs.Theory.Owners.{depth-owner}
+use Rattle.trace_model.proofs.Theory.Sections.{depth-take, others_lack, released_between}
 use Rattle.replay.specs.declared.sections.Open.{Open}
 use Rattle.replay.specs.OpenSections.{deeper, shallower, open_after, begun_if, begun_by, ended_if, ended_by, with_end}
 

@@ -2,11 +2,11 @@
 use Rattle.std.specs.Prelude.{◌≡◌, ℕ, zero, suc, ◌<◌, Bool, false, ◌==◌, List, [], ◌∷◌, ◌++◌, length, slice_get, nat_eq, Option, Some, None, if◌then◌else◌}
 use Rattle.std.specs.HashMap.{get}
 use Rattle.std.specs.Option.{option_and_then, option_map_or}
-use Rattle.trace_model.specs.declared.event.Op.{Op}
-use Rattle.trace_model.specs.declared.event.Op.TheVariants.{Read}
-use Rattle.trace_model.specs.Trace.{Trace, last_place}
-use Rattle.trace_model.specs.Held.{begun}
-use Rattle.trace_model.specs.Lookups.{writer, release}
+use Rattle.trace_model.specs.declared.traces.event.Op.{Op}
+use Rattle.trace_model.specs.declared.traces.event.Op.TheVariants.{Read}
+use Rattle.trace_model.specs.Theory.Trace.{Trace, last_place}
+use Rattle.trace_model.specs.Theory.Held.{begun}
+use Rattle.trace_model.specs.Theory.Lookups.{writer, release}
 use Rattle.replay.specs.declared.facts.Facts.{Facts}
 
 -- the place is one of the thread, as a test

@@ -5,4 +5,4 @@ use Rattle.replay.specs.Walking.{IsWalked}
 
 -- the facts are those of the trace, and the walk went along the places before
 abbrev pub IsKnown : Known → Type 0
-IsKnown k = AreFacts k.trace.now k.facts.now × IsWalked k.trace.now k.front.now k.walked.now
+IsKnown k = AreFacts k.trace.now k.facts.now × IsWalked k.trace.now k.passed.now k.walked.now

@@ -1,10 +1,10 @@
 -- Laws of the verdict, each the contract of a public function.
 use Rattle.std.specs.Prelude.{◌≡◌, ℕ, ◌<◌, ◌↔◌, List, length}
 use Rattle.std.specs.List.{Contains}
-use Rattle.trace_model.specs.Trace.{Trace}
-use Rattle.trace_model.specs.Lawful.{IsWellFormed}
-use Rattle.trace_model.specs.Reordering as reordering
-use Rattle.trace_model.specs.Reordering.{IsReordering}
+use Rattle.trace_model.specs.Theory.Trace.{Trace}
+use Rattle.trace_model.specs.Theory.Lawful.{IsWellFormed}
+use Rattle.trace_model.specs.Theory.Reordering as reordering
+use Rattle.trace_model.specs.Theory.Reordering.{IsReordering}
 use Rattle.replay.specs.declared.verdict.Verdict.{Verdict}
 use Rattle.replay.specs.declared.verdict.Verdict.TheVariants.{Reaches}
 use Rattle.replay.specs.Verdict.{IsVerdict}
@@ -14,7 +14,8 @@ InTrace s places = (p : ℕ) → Contains places p → p < length s
 
 -- the list is a reordering of the trace that reaches the places, which are in the trace
 abbrev pub IsWitnessFor : Trace → List ℕ → List ℕ → Type 0
-IsWitnessFor s order instance = IsReordering s order × reordering.Reaches s order instance × InTrace s instance
+IsWitnessFor s order instance = IsReordering s order × reordering.Reaches s order instance ×
+    InTrace s instance
 
 -- no test fails exactly where it is so
 abbrev pub ReachesIsReordering : Type 0
@@ -25,4 +26,5 @@ ReachesIsReordering =
 -- there is one verdict
 abbrev pub VerdictIsUnique : Type 0
 VerdictIsUnique =
-    (s : Trace) (order instance : List ℕ) (v w : Verdict) → IsVerdict s order instance v → IsVerdict s order instance w → v ≡ w
+    (s : Trace) (order instance : List ℕ) (v w : Verdict) → IsVerdict s order instance v →
+    IsVerdict s order instance w → v ≡ w

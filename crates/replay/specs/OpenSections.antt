@@ -1,7 +1,7 @@
 -- The critical sections that are open at a place: what a pass over the trace keeps of each lock.
 use Rattle.std.specs.Prelude.{ℕ, suc, ◌-◌, ◌==◌, nat_le, List, slice_set, Option, Some, None, if◌then◌else◌}
-use Rattle.trace_model.specs.declared.event.Op.{Op}
-use Rattle.trace_model.specs.declared.event.Op.TheVariants.{Acquire, Release}
+use Rattle.trace_model.specs.declared.traces.event.Op.{Op}
+use Rattle.trace_model.specs.declared.traces.event.Op.TheVariants.{Acquire, Release}
 use Rattle.replay.specs.declared.sections.Open.{Open}
 
 -- the section after one more acquire of its lock, at the place: an outermost one begins it
@@ -17,7 +17,8 @@ shallower (Some o) =
 
 -- the section on the lock, after an operation at the place
 abbrev pub open_after : Op → ℕ → (ℕ → Option Open) → ℕ → Option Open
-open_after (Acquire l) place table key = if l == key then Some (deeper place (table l)) else table key
+open_after (Acquire l) place table key = if l == key then Some (deeper place (table l))
+    else table key
 open_after (Release l) place table key = if l == key then shallower (table l) else table key
 open_after _ place table key = table key
 

@@ -1,6 +1,6 @@
 -- The verdict: the first test that fails at the first place where one does.
 use Rattle.std.specs.Prelude.{◌≡◌, ℕ, ◌<◌, ◌⊎◌, List, [], ◌∷◌, length, take, slice_get, Option, Some, None}
-use Rattle.trace_model.specs.Trace.{Trace}
+use Rattle.trace_model.specs.Theory.Trace.{Trace}
 use Rattle.replay.specs.declared.verdict.Fault.{Fault}
 use Rattle.replay.specs.declared.verdict.Fault.TheVariants.{OutOfTrace, Repeated, ThreadOrder, ForkOrder, JoinOrder, WrongWriter, Overlap, LockOrder, TooFar, NotReached}
 use Rattle.replay.specs.declared.verdict.Verdict.{Verdict}
@@ -9,7 +9,8 @@ use Rattle.replay.specs.Tests.{Breaks}
 
 -- the tests at each place of the list, in order
 abbrev pub order_tests : List Fault
-order_tests = OutOfTrace ∷ Repeated ∷ ThreadOrder ∷ ForkOrder ∷ JoinOrder ∷ WrongWriter ∷ Overlap ∷ LockOrder ∷ []
+order_tests = OutOfTrace ∷ Repeated ∷ ThreadOrder ∷ ForkOrder ∷ JoinOrder ∷ WrongWriter ∷ Overlap ∷
+    LockOrder ∷ []
 
 -- the tests at each place of the instance
 abbrev pub instance_tests : List Fault
@@ -17,19 +18,20 @@ instance_tests = OutOfTrace ∷ TooFar ∷ NotReached ∷ []
 
 -- the first of the tests that fails at the place, or none
 abbrev pub IsFirst : List Fault → Trace → List ℕ → ℕ → Option Fault → Type 0
-IsFirst [] s front q o = o ≡ None
-IsFirst (f ∷ fs) s front q o =
-    (Breaks f s front q × (o ≡ Some f)) ⊎ ((Breaks f s front q → ⊥) × IsFirst fs s front q o)
+IsFirst [] s passed q o = o ≡ None
+IsFirst (f ∷ fs) s passed q o =
+    (Breaks f s passed q × (o ≡ Some f)) ⊎ ((Breaks f s passed q → ⊥) × IsFirst fs s passed q o)
 
--- no test fails at the first n of the places; `front k` are the places before the k-th
+-- no test fails at the first n of the places; `passed k` are the places before the k-th
 abbrev pub Passes : List Fault → Trace → (ℕ → List ℕ) → List ℕ → ℕ → Type 0
-Passes tests s front places n =
-    (k q : ℕ) → k < n → slice_get places k ≡ Some q → IsFirst tests s (front k) q None
+Passes tests s passed places n =
+    (k q : ℕ) → k < n → slice_get places k ≡ Some q → IsFirst tests s (passed k) q None
 
--- it is the first that fails, at q, where none failed before
-abbrev pub StopsAt : List Fault → Trace → (ℕ → List ℕ) → List ℕ → Fault → ℕ → Type 0
-StopsAt tests s front places f q =
-    (k : ℕ) × (slice_get places k ≡ Some q) × Passes tests s front places k × IsFirst tests s (front k) q (Some f)
+-- the test is the first that fails, at this place, where none failed before
+abbrev pub StopsAt : List Fault → Trace → (ℕ → List ℕ) → List ℕ → Fault × ℕ → Type 0
+StopsAt tests s passed places (f, q) =
+    (k : ℕ) × (slice_get places k ≡ Some q) × Passes tests s passed places k
+    × IsFirst tests s (passed k) q (Some f)
 
 abbrev pub OrderPasses : Trace → List ℕ → Type 0
 OrderPasses s order = Passes order_tests s (λ k. take k order) order (length order)
@@ -38,5 +40,5 @@ abbrev pub IsVerdict : Trace → List ℕ → List ℕ → Verdict → Type 0
 IsVerdict s order instance Reaches =
     OrderPasses s order × Passes instance_tests s (λ _. order) instance (length instance)
 IsVerdict s order instance (Fails f p) =
-    StopsAt order_tests s (λ k. take k order) order f p
-    ⊎ (OrderPasses s order × StopsAt instance_tests s (λ _. order) instance f p)
+    StopsAt order_tests s (λ k. take k order) order (f, p)
+    ⊎ (OrderPasses s order × StopsAt instance_tests s (λ _. order) instance (f, p))

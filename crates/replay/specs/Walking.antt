@@ -1,15 +1,16 @@
--- What a walk along the list keeps: which places were met, and the last one that does something, by what it is done to.
+-- What a walk along the list keeps: which places were met, and the last one that does something, by
+-- what it is done to.
 use Rattle.std.specs.Prelude.{◌≡◌, ℕ, ◌<◌, ◌==◌, List, length, slice_get, Option, Some, MatchOption, slice_index_or, nat_eq, false, if◌then◌else◌}
 use Rattle.std.specs.Bool.{Decides}
 use Rattle.std.specs.HashMap.{get}
 use Rattle.std.specs.List.{Contains}
 use Rattle.std.specs.Option.{option_map_or}
-use Rattle.trace_model.specs.declared.event.Op.{Op}
-use Rattle.trace_model.specs.declared.event.Op.TheVariants.{Fork, Write}
-use Rattle.trace_model.specs.Held.{BeginsOn}
-use Rattle.trace_model.specs.Walk.{Walks}
+use Rattle.trace_model.specs.declared.traces.event.Op.{Op}
+use Rattle.trace_model.specs.declared.traces.event.Op.TheVariants.{Fork, Write}
+use Rattle.trace_model.specs.Theory.Held.{BeginsOn}
+use Rattle.trace_model.specs.Theory.Walk.{Walks}
 use Rattle.replay.specs.declared.walked.Walked.{Walked}
-use Rattle.trace_model.specs.Trace.{Trace, Does, op_eq}
+use Rattle.trace_model.specs.Theory.Trace.{Trace, Does, op_eq}
 
 -- what a table has under the key after a place that does `done`
 abbrev pub noted : (ℕ → Op) → Op → ℕ → ℕ → Option ℕ → Option ℕ
@@ -22,20 +23,21 @@ noted_begun begun place key before =
 
 -- z is the last place of the list of which it holds
 abbrev pub IsLastOf : List ℕ → (ℕ → Type 0) → ℕ → Type 0
-IsLastOf front P z =
-    (i : ℕ) × (slice_get front i ≡ Some z) × P z
-    × ((j u : ℕ) → i < j → slice_get front j ≡ Some u → P u → ⊥)
+IsLastOf passed P z =
+    (i : ℕ) × (slice_get passed i ≡ Some z) × P z
+    × ((j u : ℕ) → i < j → slice_get passed j ≡ Some u → P u → ⊥)
 
 -- the table has for each key the last place of the list of which it holds
 abbrev pub Keeps : List ℕ → (ℕ → ℕ → Type 0) → (ℕ → Option ℕ) → Type 0
-Keeps front P table =
-    (key : ℕ) → MatchOption (table key) ((u : ℕ) → P key u → Contains front u → ⊥) (IsLastOf front (P key))
+Keeps passed P table =
+    (key : ℕ) →
+    MatchOption (table key) ((u : ℕ) → P key u → Contains passed u → ⊥) (IsLastOf passed (P key))
 
 -- the tables are those of the walked list
-pub record IsWalked (s : Trace) (front : List ℕ) (t : Walked) : Type 0 where
-  pub walked : Walks s front
+pub record IsWalked (s : Trace) (passed : List ℕ) (t : Walked) : Type 0 where
+  pub walked : Walks s passed
   pub sized : length t.inside.items ≡ length s
-  pub inside : (p : ℕ) → Decides (slice_index_or t.inside.items p false) (Contains front p)
-  pub forks : Keeps front (λ key u. Does s u (Fork key)) (get nat_eq t.forks)
-  pub writes : Keeps front (λ key u. Does s u (Write key)) (get nat_eq t.writes)
-  pub acquires : Keeps front (λ key u. BeginsOn s u key) (get nat_eq t.acquires)
+  pub inside : (p : ℕ) → Decides (slice_index_or t.inside.items p false) (Contains passed p)
+  pub forks : Keeps passed (λ key u. Does s u (Fork key)) (get nat_eq t.forks)
+  pub writes : Keeps passed (λ key u. Does s u (Write key)) (get nat_eq t.writes)
+  pub acquires : Keeps passed (λ key u. BeginsOn s u key) (get nat_eq t.acquires)

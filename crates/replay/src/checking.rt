@@ -1,5 +1,7 @@
+//! The check of a list of places against a trace.
+
 ghost use Rattle.std.specs.Prelude.{◌≡◌, ◌↔◌, IfOk};
-ghost use Rattle.trace_model.specs.Lawful.{IsWellFormed};
+ghost use Rattle.trace_model.specs.Theory.Lawful.{IsWellFormed};
 ghost use Rattle.replay.specs.declared.verdict.Verdict.{Verdict};
 ghost use Rattle.replay.specs.Facts.{AreFacts};
 ghost use Rattle.replay.specs.Laws.{IsWitnessFor};
@@ -14,13 +16,14 @@ use std::alloc::Global;
 use std::collections::hash_map::RandomState;
 use trace_model::{Event, Instance, NoMemory, Place};
 
-/// Walks the list over the trace, and then the places of the instance: the first test that fails, with its
-/// place, or `Reaches`.
+/// Walks the list over the trace, and then the places of the instance: the first test that fails,
+/// with its place, or `Reaches`.
 ///
-/// `order` is the list of places to check, in its order and with whatever numbers; `instance` has the
-/// places that it is to reach. The trace must be well formed. `Reaches` is answered exactly where the list is
-/// a sync-preserving reordering of the trace that reaches the instance, whose places are in the trace. Some
-/// passes over the trace and one over the list; its time grows with both lengths alone.
+/// `order` is the list of places to check, in its order and with whatever numbers; `instance` has
+/// the places that it is to reach. The trace must be well formed. `Reaches` is answered exactly
+/// where the list is a sync-preserving reordering of the trace that reaches the instance, whose
+/// places are in the trace. Some passes over the trace and one over the list; its time grows with
+/// both lengths alone.
 ///
 /// # Errors
 ///
@@ -34,7 +37,8 @@ pub fn check(
 ) -> Result<Verdict, NoMemory>
     requires { IsWellFormed trace.now }
     ensures verdict { IfOk result (λ v. IsVerdict trace.now order.now instance.now v) }
-    ensures exact { IfOk result (λ v. (v ≡ Verdict.Reaches) ↔ IsWitnessFor trace.now order.now instance.now) }
+    ensures exact { IfOk result (λ v.
+        (v ≡ Verdict.Reaches) ↔ IsWitnessFor trace.now order.now instance.now) }
 {
     verdict_of(alloc, state, trace, order, instance)
 }
@@ -56,7 +60,7 @@ fn verdict_of(
         let place = order[k];
         let known = Known {
             trace,
-            front: &order[..k],
+            passed: &order[..k],
             facts: &facts,
             walked: &walked,
         };
@@ -84,7 +88,7 @@ fn check_instance(
 {
     let known = Known {
         trace,
-        front: order,
+        passed: order,
         facts,
         walked,
     };

@@ -3,9 +3,9 @@
 ghost use Rattle.std.specs.Prelude.{◌≡◌, ℕ, ◌≤◌, length, nat_eq, IfOk};
 ghost use Rattle.std.specs.HashMap.{get};
 ghost use Rattle.trace_model.specs.declared.limits.TheConstants.{MAX_EVENTS};
-ghost use Rattle.trace_model.specs.Trace.{last_place};
-ghost use Rattle.trace_model.specs.Lawful.{IsWellFormed};
-ghost use Rattle.trace_model.specs.Lookups.{writer};
+ghost use Rattle.trace_model.specs.Theory.Trace.{last_place};
+ghost use Rattle.trace_model.specs.Theory.Lawful.{IsWellFormed};
+ghost use Rattle.trace_model.specs.Theory.Lookups.{writer};
 ghost use Rattle.replay.specs.Facts as facts_words;
 ghost use Rattle.replay.specs.Facts.{is_of, each, of_read, AreFacts};
 
@@ -59,8 +59,10 @@ fn previous_places(
     trace: &[Event],
 ) -> Result<(Vec<Option<Place>>, Latest), NoMemory>
     requires { length trace.now ≤ MAX_EVENTS }
-    ensures previous { IfOk result (λ made. made.0.items ≡ each (facts_words.previous trace.now) (length trace.now)) }
-    ensures lasts { IfOk result (λ made. (t : ℕ) → get nat_eq made.1 t ≡ last_place (is_of trace.now t) (length trace.now)) }
+    ensures previous { IfOk result (λ made. made.0.items ≡
+        each (facts_words.previous trace.now) (length trace.now)) }
+    ensures lasts { IfOk result (λ made. (t : ℕ) →
+        get nat_eq made.1 t ≡ last_place (is_of trace.now t) (length trace.now)) }
 {
     let mut lasts: Latest = HashMap::with_hasher(alloc, state);
     let mut previous = Vec::with_capacity(alloc, trace.len())?;

@@ -2,8 +2,8 @@
 
 ghost use Rattle.std.specs.Prelude.{◌≡◌, ◌==◌, ℕ, nat_eq, OnOk, Some, if◌then◌else◌};
 ghost use Rattle.std.specs.HashMap.{get};
-ghost use Rattle.trace_model.specs.declared.event.Op.{Op};
-ghost use Rattle.trace_model.specs.declared.event.Op.TheVariants.{Fork, Write};
+ghost use Rattle.trace_model.specs.declared.traces.event.Op.{Op};
+ghost use Rattle.trace_model.specs.declared.traces.event.Op.TheVariants.{Fork, Write};
 ghost use Rattle.replay.specs.Walking.{noted, noted_begun};
 
 use std::collections::HashMap;
@@ -15,7 +15,9 @@ pub(crate) type Latest = HashMap<u32, Place, RandomState>;
 
 /// The place is the last one of its thread.
 pub(crate) fn note_thread(lasts: &mut Latest, thread: u32, place: Place) -> Result<(), NoMemory>
-    ensures { OnOk result ((key : ℕ) → get nat_eq lasts.new key ≡ (if thread == key then Some place else get nat_eq lasts.old key)) }
+    ensures { OnOk result ((key : ℕ) →
+        get nat_eq lasts.new key ≡
+        (if thread == key then Some place else get nat_eq lasts.old key)) }
 {
     lasts.insert(thread, place)?;
     Ok(())
@@ -23,7 +25,8 @@ pub(crate) fn note_thread(lasts: &mut Latest, thread: u32, place: Place) -> Resu
 
 /// A fork is the last one of its thread.
 pub(crate) fn note_fork(forks: &mut Latest, op: Op, place: Place) -> Result<(), NoMemory>
-    ensures { OnOk result ((key : ℕ) → get nat_eq forks.new key ≡ noted Fork op place key (get nat_eq forks.old key)) }
+    ensures { OnOk result ((key : ℕ) →
+        get nat_eq forks.new key ≡ noted Fork op place key (get nat_eq forks.old key)) }
 {
     if let Op::Fork(thread) = op {
         forks.insert(thread, place)?;
@@ -33,7 +36,8 @@ pub(crate) fn note_fork(forks: &mut Latest, op: Op, place: Place) -> Result<(), 
 
 /// A write is the last one of its variable.
 pub(crate) fn note_write(writes: &mut Latest, op: Op, place: Place) -> Result<(), NoMemory>
-    ensures { OnOk result ((key : ℕ) → get nat_eq writes.new key ≡ noted Write op place key (get nat_eq writes.old key)) }
+    ensures { OnOk result ((key : ℕ) →
+        get nat_eq writes.new key ≡ noted Write op place key (get nat_eq writes.old key)) }
 {
     if let Op::Write(variable) = op {
         writes.insert(variable, place)?;
@@ -47,7 +51,8 @@ pub(crate) fn note_begun(
     begun: Option<u32>,
     place: Place,
 ) -> Result<(), NoMemory>
-    ensures { OnOk result ((key : ℕ) → get nat_eq acquires.new key ≡ noted_begun begun place key (get nat_eq acquires.old key)) }
+    ensures { OnOk result ((key : ℕ) →
+        get nat_eq acquires.new key ≡ noted_begun begun place key (get nat_eq acquires.old key)) }
 {
     if let Some(lock) = begun {
         acquires.insert(lock, place)?;

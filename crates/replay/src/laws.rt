@@ -2,8 +2,8 @@
 
 ghost use Rattle.replay.specs.Laws.{ReachesIsReordering, VerdictIsUnique};
 
-/// No test fails exactly where the list is a reordering of the trace that reaches the instance, whose
-/// places are in the trace.
+/// No test fails exactly where the list is a reordering of the trace that reaches the instance,
+/// whose places are in the trace.
 pub fn reaches_is_reordering()
     ensures { ReachesIsReordering }
 {}

@@ -1,11 +1,12 @@
-//! The rules of a reordering at a place of the list, each tested against what is known of the places before it.
+//! The rules of a reordering at a place of the list, each tested against what is known of the
+//! places before it.
 
 ghost use Rattle.std.specs.Prelude.{◌≡◌, ◌<◌, ◌↔◌, length, slice_get, IsTrue, Some};
 ghost use Rattle.std.specs.List.{Contains};
-ghost use Rattle.trace_model.specs.declared.event.Op.{Op};
-ghost use Rattle.trace_model.specs.Trace.{Does};
+ghost use Rattle.trace_model.specs.declared.traces.event.Op.{Op};
+ghost use Rattle.trace_model.specs.Theory.Trace.{Does};
 ghost use Rattle.replay.specs.declared.verdict.Fault.{Fault};
-ghost use Rattle.trace_model.specs.Held as held_words;
+ghost use Rattle.trace_model.specs.Theory.Held as held_words;
 ghost use Rattle.replay.specs.Known.{IsKnown};
 ghost use Rattle.replay.specs.Tests.{NoForkIn, MissesPlace, MissesEarlier, MissesThread, IsClosedIn, SeesWriter, LeavesOpen, HasLater, Breaks};
 ghost use Rattle.replay.specs.Verdict.{IsFirst, order_tests, instance_tests};
@@ -21,7 +22,7 @@ use trace_model::{Event, Op, Place};
 pub(crate) struct Known<'a> {
     pub(crate) trace: &'a [Event],
     /// The places before it, which stand here for what is said of them.
-    pub(crate) front: &'a [Place],
+    pub(crate) passed: &'a [Place],
     pub(crate) facts: &'a Facts,
     pub(crate) walked: &'a Walked,
 }
@@ -56,7 +57,7 @@ impl<'a> Known<'a> {
     fn stands(&self, place: Place) -> bool
         requires known { IsKnown self.now }
         requires in_trace { place < length self.now.trace.now }
-        ensures { IsTrue result ↔ Contains self.now.front.now place }
+        ensures { IsTrue result ↔ Contains self.now.passed.now place }
     {
         self.walked.has(place)
     }
@@ -65,7 +66,7 @@ impl<'a> Known<'a> {
     fn misses_earlier(&self, place: Place) -> bool
         requires known { IsKnown self.now }
         requires in_trace { place < length self.now.trace.now }
-        ensures { IsTrue result ↔ MissesEarlier self.now.trace.now self.now.front.now place }
+        ensures { IsTrue result ↔ MissesEarlier self.now.trace.now self.now.passed.now place }
     {
         match entry(&self.facts.previous, place) {
             Some(previous) => !self.stands(previous),
@@ -76,7 +77,8 @@ impl<'a> Known<'a> {
     /// Whether a place of the thread is missing.
     fn misses_last(&self, thread: u32) -> bool
         requires { IsKnown self.now }
-        ensures { IsTrue result ↔ MissesPlace self.now.trace.now self.now.front.now thread (length self.now.trace.now) }
+        ensures { IsTrue result ↔ MissesPlace self.now.trace.now self.now.passed.now thread
+            (length self.now.trace.now) }
     {
         match last(&self.facts.lasts, thread) {
             Some(place) => !self.stands(place),
@@ -87,7 +89,7 @@ impl<'a> Known<'a> {
     /// Whether no fork of the thread stands before.
     fn misses_fork(&self, thread: u32) -> bool
         requires { IsKnown self.now }
-        ensures { IsTrue result ↔ NoForkIn self.now.trace.now self.now.front.now thread }
+        ensures { IsTrue result ↔ NoForkIn self.now.trace.now self.now.passed.now thread }
     {
         match last(&self.walked.forks, thread) {
             Some(_) => false,
@@ -98,7 +100,7 @@ impl<'a> Known<'a> {
     /// Whether the fork of the thread or a place of it is missing.
     fn misses_thread(&self, thread: u32) -> bool
         requires { IsKnown self.now }
-        ensures { IsTrue result ↔ MissesThread self.now.trace.now self.now.front.now thread }
+        ensures { IsTrue result ↔ MissesThread self.now.trace.now self.now.passed.now thread }
     {
         self.misses_fork(thread) || self.misses_last(thread)
     }
@@ -107,7 +109,7 @@ impl<'a> Known<'a> {
     fn is_closed(&self, place: Place) -> bool
         requires known { IsKnown self.now }
         requires in_trace { place < length self.now.trace.now }
-        ensures { IsTrue result ↔ IsClosedIn self.now.trace.now self.now.front.now place }
+        ensures { IsTrue result ↔ IsClosedIn self.now.trace.now self.now.passed.now place }
     {
         match entry(&self.facts.releases, place) {
             Some(release) => self.stands(release),
@@ -115,10 +117,11 @@ impl<'a> Known<'a> {
         }
     }
 
-    /// Whether an outermost acquire of the lock stands before without its release: if so, the last one does.
+    /// Whether an outermost acquire of the lock stands before without its release: if so, the last
+    /// one does.
     fn leaves_open(&self, lock: u32) -> bool
         requires { IsKnown self.now }
-        ensures { IsTrue result ↔ LeavesOpen self.now.trace.now self.now.front.now lock }
+        ensures { IsTrue result ↔ LeavesOpen self.now.trace.now self.now.passed.now lock }
     {
         match last(&self.walked.acquires, lock) {
             Some(place) => !self.is_closed(place),
@@ -129,7 +132,7 @@ impl<'a> Known<'a> {
     /// Whether a later outermost acquire of the lock stands before: if so, the last one is later.
     fn has_later(&self, place: Place, lock: u32) -> bool
         requires { IsKnown self.now }
-        ensures { IsTrue result ↔ HasLater self.now.trace.now self.now.front.now place lock }
+        ensures { IsTrue result ↔ HasLater self.now.trace.now self.now.passed.now place lock }
     {
         match last(&self.walked.acquires, lock) {
             Some(other) => place.get() < other.get(),
@@ -141,7 +144,7 @@ impl<'a> Known<'a> {
     fn sees_writer(&self, place: Place, variable: u32) -> bool
         requires known { IsKnown self.now }
         requires reads { Does self.now.trace.now place (Op.Read variable) }
-        ensures { IsTrue result ↔ SeesWriter self.now.trace.now self.now.front.now place variable }
+        ensures { IsTrue result ↔ SeesWriter self.now.trace.now self.now.passed.now place variable }
     {
         last(&self.walked.writes, variable) == entry(&self.facts.writers, place)
     }
@@ -149,7 +152,8 @@ impl<'a> Known<'a> {
     fn breaks_fork_order(&self, place: Place) -> bool
         requires known { IsKnown self.now }
         requires in_trace { place < length self.now.trace.now }
-        ensures { IsTrue result ↔ Breaks Fault.ForkOrder self.now.trace.now self.now.front.now place }
+        ensures { IsTrue result ↔
+            Breaks Fault.ForkOrder self.now.trace.now self.now.passed.now place }
     {
         let thread = self.event(place).thread;
         thread != 0 && self.misses_fork(thread)
@@ -158,7 +162,8 @@ impl<'a> Known<'a> {
     fn breaks_join_order(&self, place: Place) -> bool
         requires known { IsKnown self.now }
         requires in_trace { place < length self.now.trace.now }
-        ensures { IsTrue result ↔ Breaks Fault.JoinOrder self.now.trace.now self.now.front.now place }
+        ensures { IsTrue result ↔
+            Breaks Fault.JoinOrder self.now.trace.now self.now.passed.now place }
     {
         match self.event(place).op {
             Op::Join(thread) => self.misses_thread(thread),
@@ -169,7 +174,8 @@ impl<'a> Known<'a> {
     fn breaks_writer(&self, place: Place) -> bool
         requires known { IsKnown self.now }
         requires in_trace { place < length self.now.trace.now }
-        ensures { IsTrue result ↔ Breaks Fault.WrongWriter self.now.trace.now self.now.front.now place }
+        ensures { IsTrue result ↔
+            Breaks Fault.WrongWriter self.now.trace.now self.now.passed.now place }
     {
         match self.event(place).op {
             Op::Read(variable) => !self.sees_writer(place, variable),
@@ -180,7 +186,8 @@ impl<'a> Known<'a> {
     fn breaks_sections(&self, place: Place) -> bool
         requires known { IsKnown self.now }
         requires in_trace { place < length self.now.trace.now }
-        ensures { IsTrue result ↔ Breaks Fault.Overlap self.now.trace.now self.now.front.now place }
+        ensures { IsTrue result ↔
+            Breaks Fault.Overlap self.now.trace.now self.now.passed.now place }
     {
         match self.begun(place) {
             Some(lock) => self.leaves_open(lock),
@@ -191,7 +198,8 @@ impl<'a> Known<'a> {
     fn breaks_lock_order(&self, place: Place) -> bool
         requires known { IsKnown self.now }
         requires in_trace { place < length self.now.trace.now }
-        ensures { IsTrue result ↔ Breaks Fault.LockOrder self.now.trace.now self.now.front.now place }
+        ensures { IsTrue result ↔
+            Breaks Fault.LockOrder self.now.trace.now self.now.passed.now place }
     {
         match self.begun(place) {
             Some(lock) => self.has_later(place, lock),
@@ -202,7 +210,7 @@ impl<'a> Known<'a> {
     /// The first test that fails at the next place of the list.
     pub(crate) fn order_fault(&self, place: Place) -> Option<Fault>
         requires { IsKnown self.now }
-        ensures { IsFirst order_tests self.now.trace.now self.now.front.now place result }
+        ensures { IsFirst order_tests self.now.trace.now self.now.passed.now place result }
     {
         if place.get() as usize >= self.trace.len() {
             return Some(Fault::OutOfTrace);
@@ -234,7 +242,7 @@ impl<'a> Known<'a> {
     /// The first test that fails at a place of the instance, after the whole list.
     pub(crate) fn instance_fault(&self, place: Place) -> Option<Fault>
         requires { IsKnown self.now }
-        ensures { IsFirst instance_tests self.now.trace.now self.now.front.now place result }
+        ensures { IsFirst instance_tests self.now.trace.now self.now.passed.now place result }
     {
         if place.get() as usize >= self.trace.len() {
             return Some(Fault::OutOfTrace);

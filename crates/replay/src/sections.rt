@@ -2,11 +2,11 @@
 
 ghost use Rattle.std.specs.Prelude.{◌≡◌, ℕ, ◌<◌, length, slice_get, nat_eq, None, Some, IfOk, IfSome, OnOk, if◌then◌else◌};
 ghost use Rattle.std.specs.HashMap.{get};
-ghost use Rattle.trace_model.specs.declared.event.Op.TheVariants.{Acquire};
+ghost use Rattle.trace_model.specs.declared.traces.event.Op.TheVariants.{Acquire};
 ghost use Rattle.trace_model.specs.declared.limits.TheConstants.{MAX_DEPTH};
-ghost use Rattle.trace_model.specs.Lookups.{release};
-ghost use Rattle.trace_model.specs.Lawful.{IsWellFormed};
-ghost use Rattle.trace_model.specs.Held as held_words;
+ghost use Rattle.trace_model.specs.Theory.Lookups.{release};
+ghost use Rattle.trace_model.specs.Theory.Lawful.{IsWellFormed};
+ghost use Rattle.trace_model.specs.Theory.Held as held_words;
 ghost use Rattle.replay.specs.Facts.{each};
 ghost use Rattle.replay.specs.OpenSections as words;
 
@@ -76,7 +76,9 @@ fn shallower(section: Option<Open>) -> Option<Open>
 
 /// The lock has this open section, or none.
 fn put(opened: &mut OpenSections, lock: u32, section: Option<Open>) -> Result<(), NoMemory>
-    ensures { OnOk result ((key : ℕ) → get nat_eq opened.new key ≡ (if nat_eq lock key then section else get nat_eq opened.old key)) }
+    ensures { OnOk result ((key : ℕ) →
+        get nat_eq opened.new key ≡
+        (if nat_eq lock key then section else get nat_eq opened.old key)) }
 {
     match section {
         Some(section) => {
@@ -91,8 +93,10 @@ fn put(opened: &mut OpenSections, lock: u32, section: Option<Open>) -> Result<()
 
 /// The open sections after an operation at the place.
 fn note(opened: &mut OpenSections, op: Op, place: Place) -> Result<(), NoMemory>
-    requires { (lock : ℕ) → op ≡ Acquire lock → IfSome (get nat_eq opened.old lock) (λ o. o.depth < MAX_DEPTH) }
-    ensures { OnOk result ((key : ℕ) → get nat_eq opened.new key ≡ words.open_after op place (get nat_eq opened.old) key) }
+    requires { (lock : ℕ) → op ≡ Acquire lock →
+        IfSome (get nat_eq opened.old lock) (λ o. o.depth < MAX_DEPTH) }
+    ensures { OnOk result ((key : ℕ) →
+        get nat_eq opened.new key ≡ words.open_after op place (get nat_eq opened.old) key) }
 {
     match op {
         Op::Acquire(lock) => {
@@ -148,8 +152,10 @@ pub(crate) fn sections_of(
     trace: &[Event],
 ) -> Result<Sections, NoMemory>
     requires { IsWellFormed trace.now }
-    ensures begins { IfOk result (λ made. made.begins.items ≡ each (held_words.begun trace.now) (length trace.now)) }
-    ensures releases { IfOk result (λ made. (q : ℕ) → q < length trace.now → slice_get made.releases.items q ≡ Some (release trace.now q)) }
+    ensures begins { IfOk result (λ made. made.begins.items ≡
+        each (held_words.begun trace.now) (length trace.now)) }
+    ensures releases { IfOk result (λ made. (q : ℕ) → q < length trace.now →
+        slice_get made.releases.items q ≡ Some (release trace.now q)) }
 {
     let mut opened: OpenSections = HashMap::with_hasher(alloc, state);
     let mut begins = Vec::with_capacity(alloc, trace.len())?;

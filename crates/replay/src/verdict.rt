@@ -1,7 +1,9 @@
+//! What a check says.
+
 use trace_model::Place;
 
-/// A test that a place can fail. The first eight are made at each place of the list, in this order; then
-/// the first and the last two at each place of the instance.
+/// A test that a place can fail. The first eight are made at each place of the list, in this order;
+/// then the first and the last two at each place of the instance.
 #[derive(Clone, Copy, Debug, PartialEq, Eq)]
 pub enum Fault {
     /// The place is not in the trace.
@@ -14,13 +16,14 @@ pub enum Fault {
     ForkOrder,
     /// It is a join, and the fork or a place of the joined thread is not before it.
     JoinOrder,
-    /// It is a read, and the last write to its variable before it in the list is not its writer, or there
-    /// is one and it has no writer.
+    /// It is a read, and the last write to its variable before it in the list is not its writer, or
+    /// there is one and it has no writer.
     WrongWriter,
-    /// It is an outermost acquire, and an outermost acquire of the same lock stands before it without that
-    /// acquire's release.
+    /// It is an outermost acquire, and an outermost acquire of the same lock stands before it
+    /// without that acquire's release.
     Overlap,
-    /// It is an outermost acquire, and a later outermost acquire of the same lock in the trace stands before it.
+    /// It is an outermost acquire, and a later outermost acquire of the same lock in the trace
+    /// stands before it.
     LockOrder,
     /// The place of the instance is in the list.
     TooFar,

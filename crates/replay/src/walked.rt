@@ -4,7 +4,7 @@ ghost use Rattle.std.specs.Prelude.{◌≡◌, ℕ, ◌<◌, ◌↔◌, length, 
 ghost use Rattle.std.specs.HashMap.{get};
 ghost use Rattle.std.specs.List.{Contains};
 ghost use Rattle.std.specs.Result.{OnOk};
-ghost use Rattle.trace_model.specs.declared.event.Op.{Op};
+ghost use Rattle.trace_model.specs.declared.traces.event.Op.{Op};
 ghost use Rattle.replay.specs.Walking.{noted, noted_begun};
 
 use crate::latest::{Latest, note_begun, note_fork, note_write};
@@ -44,14 +44,21 @@ impl Walked {
         })
     }
 
-    /// The walk goes on to the place, at which the operation stands, and at which a section begins on the lock, if
-    /// on any.
+    /// The walk goes on to the place, at which the operation stands, and at which a section begins
+    /// on the lock, if on any.
     pub(crate) fn push(&mut self, place: Place, op: Op, begun: Option<u32>) -> Result<(), NoMemory>
         requires { place < length self.old.inside.items }
-        ensures inside { OnOk result (self.new.inside.items ≡ slice_set self.old.inside.items place true) }
-        ensures forks { OnOk result ((key : ℕ) → get nat_eq self.new.forks key ≡ noted Op.Fork op place key (get nat_eq self.old.forks key)) }
-        ensures writes { OnOk result ((key : ℕ) → get nat_eq self.new.writes key ≡ noted Op.Write op place key (get nat_eq self.old.writes key)) }
-        ensures acquires { OnOk result ((key : ℕ) → get nat_eq self.new.acquires key ≡ noted_begun begun place key (get nat_eq self.old.acquires key)) }
+        ensures inside { OnOk result (self.new.inside.items ≡
+            slice_set self.old.inside.items place true) }
+        ensures forks { OnOk result ((key : ℕ) →
+            get nat_eq self.new.forks key ≡
+            noted Op.Fork op place key (get nat_eq self.old.forks key)) }
+        ensures writes { OnOk result ((key : ℕ) →
+            get nat_eq self.new.writes key ≡
+            noted Op.Write op place key (get nat_eq self.old.writes key)) }
+        ensures acquires { OnOk result ((key : ℕ) →
+            get nat_eq self.new.acquires key ≡
+            noted_begun begun place key (get nat_eq self.old.acquires key)) }
     {
         note_fork(&mut self.forks, op, place)?;
         note_write(&mut self.writes, op, place)?;

@@ -18,4 +18,5 @@ IsRefused tasks task NoSuchTask = slice_get tasks task ≡ None
 IsRefused tasks task Double = (rows : List Printed) × (slice_get tasks task ≡ Some (Some rows))
 
 abbrev pub IsLeastMissing : Tasks → ℕ → Type 0
-IsLeastMissing tasks task = IsMissing tasks task × ((other : ℕ) → IsMissing tasks other → task ≤ other)
+IsLeastMissing tasks task = IsMissing tasks task
+    × ((other : ℕ) → IsMissing tasks other → task ≤ other)

@@ -43,13 +43,18 @@ impl Model for Ledger {
 
     ghost view = { λ l. tasks_of l.marks.items (map (λ rows. rows.items) l.rows.items) };
 
-    ghost invariant = { λ l. IsInOrder l.marks.items (map (λ rows. rows.items) l.rows.items) l.delivered l.missing };
+    ghost invariant = { λ l. IsInOrder l.marks.items
+        (map (λ rows. rows.items) l.rows.items) l.delivered l.missing };
 }
 
 impl Ledger {
     ghost use Rattle.result_ledger.specs.Tasks.{IsMissing, IsLeastMissing, IsRefused};
 
-    /// A ledger of so many tasks, none of them delivered. NoMemory where a growth was refused.
+    /// A ledger of so many tasks, none of them delivered.
+    ///
+    /// # Errors
+    ///
+    /// `NoMemory` where a growth was refused.
     pub fn open(alloc: Global, total: u32) -> Result<Ledger, NoMemory>
         ensures { IfOk result (λ ledger. ledger ≡ replicate total None) }
     {
@@ -68,6 +73,10 @@ impl Ledger {
     }
 
     /// What `accept` would answer for rows of the task.
+    ///
+    /// # Errors
+    ///
+    /// Those of `accept`.
     pub fn test(&self, task: u32) -> Result<(), LedgerRefused>
         ensures { MatchResult result (λ _. IsMissing self.now task) (IsRefused self.now task) }
     {
@@ -87,7 +96,8 @@ impl Ledger {
 
     /// The least task that is not delivered; none where all are.
     pub fn missing(&self) -> Option<u32>
-        ensures { MatchOption result ((task : ℕ) → IsMissing self.now task → ⊥) (IsLeastMissing self.now) }
+        ensures { MatchOption result ((task : ℕ) → IsMissing self.now task → ⊥)
+            (IsLeastMissing self.now) }
     {
         if (self.missing as usize) < self.marks.len() {
             Some(self.missing)
@@ -98,7 +108,8 @@ impl Ledger {
 
     /// The rows of each task, in the order of the tasks, once none is missing.
     pub fn settled(&self) -> Option<&[Vec<Row>]>
-        ensures { MatchOption result ((task : ℕ) × IsMissing self.now task) (λ rows. self.now ≡ map (λ task. Some task.items) rows.now) }
+        ensures { MatchOption result ((task : ℕ) × IsMissing self.now task)
+            (λ rows. self.now ≡ map (λ task. Some task.items) rows.now) }
     {
         if self.missing as usize == self.rows.len() {
             Some(self.rows.as_slice())
@@ -107,12 +118,17 @@ impl Ledger {
         }
     }
 
-    /// Takes the rows of a task. Refused: NoSuchTask where there is no such task, Double where it was
-    /// delivered before; the rows are then handed back, and nothing changed.
+    /// Takes the rows of a task.
+    ///
+    /// # Errors
+    ///
+    /// `NoSuchTask` where there is no such task, `Double` where it was delivered before. The rows are
+    /// handed back, and nothing changed.
     pub fn accept(&mut self, task: u32, rows: Vec<Row>) -> Result<(), (LedgerRefused, Vec<Row>)>
         ensures { MatchResult result
             (λ _. IsMissing self.old task × (self.new ≡ slice_set self.old task (Some rows.items)))
-            (λ refused. IsRefused self.old task refused.0 × (refused.1 ≡ rows) × (self.new ≡ self.old)) }
+            (λ refused. IsRefused self.old task refused.0 × (refused.1 ≡ rows)
+            × (self.new ≡ self.old)) }
     {
         match self.test(task) {
             Err(refused) => Err((refused, rows)),

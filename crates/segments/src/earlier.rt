@@ -1,7 +1,9 @@
+//! Links from an item to an earlier one.
+
 use std::marker::Model;
 
-/// The index of an earlier item, or none, in four bytes: what links between items are made of. Contracts see an
-/// `Option`.
+/// The index of an earlier item, or none, in four bytes: what links between items are made of.
+/// Contracts see an `Option`.
 #[derive(Clone, Copy, Debug)]
 pub struct Earlier(u32);
 

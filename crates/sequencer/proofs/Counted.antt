@@ -7,9 +7,9 @@ use Rattle.std.proofs.lemmas.Option.{none-some, same_Some, slice_get-map}
 use Rattle.std.specs.List.{count_by, sum_by}
 use Rattle.trace_model.specs.declared.limits.TheConstants.{MAX_CYCLES}
 use Rattle.trace_model.specs.declared.refusal.Refusal.TheVariants.{NoSuchTask, Double}
-use Rattle.trace_model.specs.Rows.{Row}
-use Rattle.trace_model.specs.Machine.{Question, cycles_of, confirmed_of, is_confirmed, rows_of, task_refused}
-use Rattle.trace_model.proofs.Summary.{sum_told}
+use Rattle.trace_model.specs.Theory.Rows.{Row}
+use Rattle.trace_model.specs.Protocol.Machine.{Question, cycles_of, confirmed_of, is_confirmed, rows_of, task_refused}
+use Rattle.trace_model.proofs.Protocol.Summary.{sum_told}
 use Rattle.witness.specs.Printed.{Printed}
 use Rattle.witness.specs.Text as Text
 use Rattle.result_ledger.specs.Tasks.{Tasks}

@@ -1,15 +1,15 @@
 -- What the loop that answers a session keeps.
 use Rattle.std.proofs.Common.{◌≡◌, ℕ, ◌<◌, Bool, List, [], ◌∷◌, ◌++◌, length, Option, Some, None, Ok, Err, refl, sym, ap, subst, ◌∙◌, append_assoc, arith, length-append}
 use Rattle.std.proofs.lemmas.List.{append-nil}
-use Rattle.trace_model.specs.declared.session.Request.{Request}
-use Rattle.trace_model.specs.declared.session.Reply.{Reply}
-use Rattle.trace_model.specs.declared.session.Reply.TheVariants.{Fault as FaultReply}
-use Rattle.trace_model.specs.declared.session.Fault.{Fault}
-use Rattle.trace_model.specs.Frames.{frame, requests_in, fault_in, fault_at}
-use Rattle.trace_model.specs.Replies.{reply_frame}
-use Rattle.trace_model.proofs.Readings.{frame_turn}
+use Rattle.trace_model.specs.declared.messages.session.Request.{Request}
+use Rattle.trace_model.specs.declared.messages.session.Reply.{Reply}
+use Rattle.trace_model.specs.declared.messages.session.Reply.TheVariants.{Fault as FaultReply}
+use Rattle.trace_model.specs.declared.messages.session.Fault.{Fault}
+use Rattle.trace_model.specs.Protocol.Frames.{frame, requests_in, fault_in, fault_at}
+use Rattle.trace_model.specs.Protocol.Replies.{reply_frame}
+use Rattle.trace_model.proofs.Protocol.Readings.{frame_turn}
 use Rattle.event_frames.specs.Reader.{Reading, HasRead, TakesRequest, AwaitsMore, TellsFault, Tells}
-use Rattle.trace_model.specs.Machine.{State, step}
+use Rattle.trace_model.specs.Protocol.Machine.{State, step}
 use Rattle.sequencer.specs.Printing.{printing}
 use Rattle.sequencer.specs.Sessions.{fault_frames}
 use Rattle.sequencer.specs.Drains.{Drains, state_called, answer_to}
@@ -29,10 +29,10 @@ starts book reader sent e = record { untold = e; ended = refl; state = refl; ans
 pub goes_on : (book : State) (reader : Reading) (sent : List ℕ) (now : State) (left : Reading) (out : List ℕ) (request : Request) (after : Reading) (next : State) (reply : Reply) (longer : List ℕ) → IsDrained book reader sent now left out → TakesRequest left request after → ((text : List ℕ) (given : List Request) → HasRead text given left → HasRead text (given ++ request ∷ []) after) → step printing now request ≡ (reply, next) → longer ≡ out ++ reply_frame reply → IsDrained book reader sent next after longer
 goes_on book reader sent now left out request after next reply longer d t w s l =
     let turn = frame_turn request after.rest t.fits in
-    let requests_are : requests_in left.rest ≡ request ∷ requests_in after.rest = ap requests_in t.front ∙ turn.requests in
+    let requests_are : requests_in left.rest ≡ request ∷ requests_in after.rest = ap requests_in t.leading ∙ turn.requests in
     let next_is : next ≡ (step printing now request).1 = sym (ap (λ (p : Reply × State). p.1) s) in
     let reply_is : reply ≡ (step printing now request).0 = sym (ap (λ (p : Reply × State). p.0) s) in
-    let fault_is : fault_in left.rest left.ended ≡ fault_in after.rest left.ended = ap (λ (x : List ℕ). fault_in x left.ended) t.front ∙ ap (λ (x : List ℕ). fault_at x left.ended) turn.after in
+    let fault_is : fault_in left.rest left.ended ≡ fault_in after.rest left.ended = ap (λ (x : List ℕ). fault_in x left.ended) t.leading ∙ ap (λ (x : List ℕ). fault_at x left.ended) turn.after in
     record {
       untold = t.same.0;
       ended = t.same.1 ∙ d.ended;

@@ -7,25 +7,25 @@ use Rattle.std.proofs.lemmas.Bool.{cases_lt}
 use Rattle.std.proofs.lemmas.List.{append-nil, take-append-le, length-map, get_or-map}
 use Rattle.std.proofs.lemmas.List.Elements.{All-nil, All-append}
 use Rattle.trace_model.specs.declared.limits.TheConstants.{MAX_EVENTS, MAX_CYCLES}
-use Rattle.trace_model.specs.declared.event.Event.{Event}
+use Rattle.trace_model.specs.declared.traces.event.Event.{Event}
 use Rattle.trace_model.specs.declared.refusal.Refusal.{Refusal}
-use Rattle.trace_model.specs.declared.session.Request.{Request}
-use Rattle.trace_model.specs.declared.session.Request.TheVariants.{Offer, Ask, Answer, Status, Batch}
-use Rattle.trace_model.specs.declared.step.BoardStep.TheVariants.{Accept, Open, Deliver}
-use Rattle.trace_model.specs.Trace.{Trace}
-use Rattle.trace_model.specs.Lawful.{refusal_of, IsWellFormed}
-use Rattle.trace_model.specs.Batches.{AreLawful, taken_of}
-use Rattle.trace_model.specs.Dependencies.{dependencies}
-use Rattle.trace_model.specs.Cycles.{IsCycle}
-use Rattle.trace_model.specs.Rows.{Row, Found, IsRow, AreRows}
-use Rattle.trace_model.specs.Machine.{State, opening, is_confirmed, rows_of, with_event, with_events, offer, offer_next, ask, ask_refused, ask_next, deliver_next, step}
-use Rattle.trace_model.specs.Bounds.{StateFits}
-use Rattle.trace_model.proofs.Batches.{is_longest, lawful_parts}
-use Rattle.trace_model.proofs.Bounds.{opening_fits, step_fits}
-use Rattle.trace_model.proofs.Deadlock.{reached_deadlocks}
-use Rattle.trace_model.proofs.Growing.{well_formed_take}
+use Rattle.trace_model.specs.declared.messages.session.Request.{Request}
+use Rattle.trace_model.specs.declared.messages.session.Request.TheVariants.{Offer, Ask, Answer, Status, Batch}
+use Rattle.trace_model.specs.declared.messages.step.BoardStep.TheVariants.{Accept, Open, Deliver}
+use Rattle.trace_model.specs.Theory.Trace.{Trace}
+use Rattle.trace_model.specs.Theory.Lawful.{refusal_of, IsWellFormed}
+use Rattle.trace_model.specs.Protocol.Batches.{AreLawful, taken_of}
+use Rattle.trace_model.specs.Theory.Dependencies.{dependencies}
+use Rattle.trace_model.specs.Theory.Cycles.{IsCycle}
+use Rattle.trace_model.specs.Theory.Rows.{Row, Found, IsRow, AreRows}
+use Rattle.trace_model.specs.Protocol.Machine.{State, opening, is_confirmed, rows_of, with_event, with_events, offer, offer_next, ask, ask_refused, ask_next, deliver_next, step}
+use Rattle.trace_model.specs.Protocol.Bounds.{StateFits}
+use Rattle.trace_model.proofs.Protocol.Batches.{is_longest, lawful_parts}
+use Rattle.trace_model.proofs.Protocol.Bounds.{opening_fits, step_fits}
+use Rattle.trace_model.proofs.Theory.Deadlock.{reached_deadlocks}
+use Rattle.trace_model.proofs.Theory.Growing.{well_formed_take}
 use Rattle.trace_model.proofs.Lists.{by_pushes}
-use Rattle.trace_model.proofs.Taking.{machine_steps, one_takes}
+use Rattle.trace_model.proofs.Protocol.Taking.{machine_steps, one_takes}
 use Rattle.findings.specs.Found.{FoundRows, AreRowsOf}
 use Rattle.sequencer.specs.Book.{outcome, findings_rows}
 use Rattle.sequencer.specs.Printing.{printing}
@@ -108,17 +108,17 @@ always_last s xs a = subst (λ (x : List Action). StateFits AreRows (state_after
 
 -- ---- what reports tell
 
-leads_by : (s : Trace) → IsWellFormed s → (bound : ℕ) (numbers : List ℕ) (found : Option Found) → IsCycle (dependencies s) bound numbers → IsRow s (record { numbers = numbers; found = found }) → LeadsToDeadlock s (record { numbers = numbers; found = found })
+leads_by : (s : Trace) → IsWellFormed s → (bound : ℕ) (numbers : List ℕ) (found : Option Found) → IsCycle (dependencies s) bound numbers → IsRow s (record { cycle = numbers; found = found }) → LeadsToDeadlock s (record { cycle = numbers; found = found })
 leads_by s w bound numbers None c r = tt
 leads_by s w bound numbers (Some f) c r = (r.1.reorders, r.1.reaches, reached_deadlocks s w bound numbers f.places f.witness c r.0.is_instance r.1.reorders r.1.reaches)
 
 rows_lead : (s : Trace) → IsWellFormed s → (bound root : ℕ) (rows : List Row) → AreRows s bound root rows → All (LeadsToDeadlock s) rows
 rows_lead s w bound root rows a k d l =
     let row = get_or rows k d in
-    let lists = map (λ (r : Row). r.numbers) rows in
-    let within : k < length lists = omega (arith, l, length-map rows (λ (r : Row). r.numbers)) in
-    let listed : Contains lists row.numbers = (k, within, get_or-map (λ (r : Row). r.numbers) rows k d row.numbers l) in
-    leads_by s w bound row.numbers row.found ((a.cycles.exact row.numbers).0 listed).0 (a.exact k d l)
+    let lists = map (λ (r : Row). r.cycle) rows in
+    let within : k < length lists = omega (arith, l, length-map rows (λ (r : Row). r.cycle)) in
+    let listed : Contains lists row.cycle = (k, within, get_or-map (λ (r : Row). r.cycle) rows k d row.cycle l) in
+    leads_by s w bound row.cycle row.found ((a.cycles.exact row.cycle).0 listed).0 (a.exact k d l)
 
 tasks_lead : (s : Trace) (tasks : List (Option (List Row))) → ((task : ℕ) (rows : List Row) → slice_get tasks task ≡ Some (Some rows) → All (LeadsToDeadlock s) rows) → All (LeadsToDeadlock s) (flat_map rows_of tasks)
 tasks_lead s [] h = All-nil (LeadsToDeadlock s)

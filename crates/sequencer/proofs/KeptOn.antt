@@ -6,18 +6,18 @@ use Rattle.std.proofs.lemmas.Option.{none-some, same_Some, get_or_from_slice_get
 use Rattle.std.specs.List.{count_by}
 use Rattle.std.specs.Slice.{IsItemAt}
 use denote.Ref.{Bor}
-use Rattle.trace_model.specs.declared.event.Event.{Event}
+use Rattle.trace_model.specs.declared.traces.event.Event.{Event}
 use Rattle.trace_model.specs.declared.limits.TheConstants.{MAX_EVENTS}
-use Rattle.trace_model.specs.declared.step.BoardStep.TheVariants.{Accept, Open, Deliver}
-use Rattle.trace_model.specs.Trace.{Trace}
-use Rattle.trace_model.specs.Lawful.{refusal_of}
-use Rattle.trace_model.specs.Dependencies.{dependencies}
-use Rattle.trace_model.specs.Rows.{AreRows}
-use Rattle.trace_model.specs.Machine.{Question, State, ask_refused, cycles_of, deliver, deliver_refused, deliver_next, is_confirmed, with_event, with_question, with_rows}
-use Rattle.trace_model.specs.Bounds.{StateFits, QuestionFits}
-use Rattle.trace_model.proofs.Bounds.{opening_fits, step_fits, dependencies_few}
+use Rattle.trace_model.specs.declared.messages.step.BoardStep.TheVariants.{Accept, Open, Deliver}
+use Rattle.trace_model.specs.Theory.Trace.{Trace}
+use Rattle.trace_model.specs.Theory.Lawful.{refusal_of}
+use Rattle.trace_model.specs.Theory.Dependencies.{dependencies}
+use Rattle.trace_model.specs.Theory.Rows.{AreRows}
+use Rattle.trace_model.specs.Protocol.Machine.{Question, State, ask_refused, cycles_of, deliver, deliver_refused, deliver_next, is_confirmed, with_event, with_question, with_rows}
+use Rattle.trace_model.specs.Protocol.Bounds.{StateFits, QuestionFits}
+use Rattle.trace_model.proofs.Protocol.Bounds.{opening_fits, step_fits, dependencies_few}
 use Rattle.trace_model.proofs.Lists.{get-push, get-set_other, get-set_same}
-use Rattle.trace_model.proofs.Taking.{admitted, machine_steps, one_takes}
+use Rattle.trace_model.proofs.Protocol.Taking.{admitted, machine_steps, one_takes}
 use Rattle.witness.specs.Printed.{Printed}
 use Rattle.findings.specs.Found.{AreNamed, AreRowsOf, FoundRows}
 use Rattle.sequencer.specs.Asked.{Told, question_of, rows_in, TellsNamed}

@@ -3,9 +3,9 @@ use Rattle.std.proofs.Common.{◌≡◌, ℕ, inl, inr, List, take, slice_get, s
 use Rattle.std.proofs.lemmas.Bool.{cases_eq}
 use Rattle.std.proofs.lemmas.Option.{same_Some}
 use Rattle.trace_model.specs.declared.refusal.Refusal.{Refusal}
-use Rattle.trace_model.specs.Trace.{Trace}
-use Rattle.trace_model.specs.Rows.{Row}
-use Rattle.trace_model.specs.Machine.{Question, State, deliver, deliver_next, deliver_refused, with_rows}
+use Rattle.trace_model.specs.Theory.Trace.{Trace}
+use Rattle.trace_model.specs.Theory.Rows.{Row}
+use Rattle.trace_model.specs.Protocol.Machine.{Question, State, deliver, deliver_next, deliver_refused, with_rows}
 use Rattle.trace_model.proofs.Lists.{get-set_other, get-set_same}
 use Rattle.sequencer.specs.Book.{AreKnown}
 

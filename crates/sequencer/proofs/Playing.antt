@@ -6,10 +6,10 @@ use Rattle.std.proofs.Math.ListN.{set, length-set}
 use Rattle.std.proofs.lemmas.List.{get_or-set_same, get_or-set_other, length-map}
 use Rattle.std.proofs.lemmas.Option.{same_Some, slice_get-map, get_or_from_slice_get}
 use Rattle.std.proofs.lemmas.Bool.Decides.{eqb_tells}
-use Rattle.trace_model.specs.declared.session.Request.{Request}
-use Rattle.trace_model.specs.declared.session.Fault.{Fault}
-use Rattle.trace_model.specs.Frames.{requests_in, fault_in}
-use Rattle.trace_model.specs.Machine.{State}
+use Rattle.trace_model.specs.declared.messages.session.Request.{Request}
+use Rattle.trace_model.specs.declared.messages.session.Fault.{Fault}
+use Rattle.trace_model.specs.Protocol.Frames.{requests_in, fault_in}
+use Rattle.trace_model.specs.Protocol.Machine.{State}
 use Rattle.trace_model.proofs.Lists.{at_index}
 use Rattle.event_frames.specs.Reader.{HasRead}
 use Rattle.event_frames.proofs.Wholes.{nothing_read}

@@ -1,11 +1,12 @@
--- What one input more does to the text of a session, to what comes to the machine and to what is sent.
+-- What one input more does to the text of a session, to what comes to the machine and to what is
+-- sent.
 use Rattle.std.proofs.Common.{◌≡◌, ◌≢◌, ℕ, Bool, true, false, cond, eqb, ◌||◌, List, [], ◌∷◌, ◌++◌, map, Some, refl, sym, ap, ◌∙◌, append_assoc, arith}
 use Rattle.std.proofs.lemmas.List.{append-nil}
 use Rattle.std.proofs.lemmas.Option.{same_Some}
 use Rattle.std.proofs.lemmas.Bool.Decides.{nat_tests}
-use Rattle.trace_model.specs.declared.session.Request.{Request}
-use Rattle.trace_model.specs.Replies.{reply_frame}
-use Rattle.trace_model.specs.Machine.{State, step}
+use Rattle.trace_model.specs.declared.messages.session.Request.{Request}
+use Rattle.trace_model.specs.Protocol.Replies.{reply_frame}
+use Rattle.trace_model.specs.Protocol.Machine.{State, step}
 use Rattle.findings.specs.Found.{FoundRows}
 use Rattle.sequencer.specs.declared.input.Input.{Input}
 use Rattle.sequencer.specs.declared.input.Input.TheVariants.{Piece, End, Finding}

@@ -3,10 +3,10 @@ use Rattle.std.proofs.Common.{◌≡◌, ℕ, Bool, true, false, cond, eqb, ◌|
 use Rattle.std.specs.Option.{is_some}
 use Rattle.std.specs.Global.{Vec}
 use Rattle.std.proofs.lemmas.List.{append-nil, drop_at, drop_all}
-use Rattle.trace_model.specs.declared.session.Request.{Request}
-use Rattle.trace_model.specs.declared.session.Fault.{Fault}
-use Rattle.trace_model.specs.Frames.{requests_in, fault_in}
-use Rattle.trace_model.specs.Machine.{State}
+use Rattle.trace_model.specs.declared.messages.session.Request.{Request}
+use Rattle.trace_model.specs.declared.messages.session.Fault.{Fault}
+use Rattle.trace_model.specs.Protocol.Frames.{requests_in, fault_in}
+use Rattle.trace_model.specs.Protocol.Machine.{State}
 use Rattle.event_frames.specs.Reader.{Reading, HasRead, IsFed}
 use Rattle.event_frames.proofs.Wholes.{told_whole, told_always, leaves, fed_nothing, feeds}
 use Rattle.sequencer.specs.declared.input.Input.{Input}

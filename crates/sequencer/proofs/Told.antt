@@ -9,18 +9,18 @@ use Rattle.trace_model.proofs.Lists.{at_index}
 use Rattle.std.proofs.Math.Seq.{take-suc}
 use Rattle.std.specs.Option.{option_eq}
 use Rattle.std.specs.List.{flat_map, list_all, All}
-use Rattle.trace_model.specs.declared.event.Event.{Event}
+use Rattle.trace_model.specs.declared.traces.event.Event.{Event}
 use Rattle.trace_model.specs.declared.limits.TheConstants.{MAX_REPORT}
 use Rattle.trace_model.specs.declared.refusal.Refusal.{Refusal}
 use Rattle.trace_model.specs.declared.refusal.Refusal.TheVariants.{OtherBound, OtherTrace, ReportTooLong}
-use Rattle.trace_model.specs.declared.session.Reply.{Reply}
-use Rattle.trace_model.specs.declared.session.Reply.TheVariants.{Refused, Report, Pending}
-use Rattle.trace_model.specs.declared.session.Request.TheVariants.{Offer}
-use Rattle.trace_model.specs.Trace.{Trace}
-use Rattle.trace_model.specs.Lawful.{refusal_of}
-use Rattle.trace_model.specs.Dependencies.{Dependency, dependencies}
-use Rattle.trace_model.specs.Machine.{Question, State, answer, answer_of, deliver_refused_by, delivered, offer_next, offer_reply, rows_of, same_event, same_events, step, task_refused, with_event}
-use Rattle.trace_model.proofs.Summary.{same_events_so, same_events_itself}
+use Rattle.trace_model.specs.declared.messages.session.Reply.{Reply}
+use Rattle.trace_model.specs.declared.messages.session.Reply.TheVariants.{Refused, Report, Pending}
+use Rattle.trace_model.specs.declared.messages.session.Request.TheVariants.{Offer}
+use Rattle.trace_model.specs.Theory.Trace.{Trace}
+use Rattle.trace_model.specs.Theory.Lawful.{refusal_of}
+use Rattle.trace_model.specs.Theory.Dependencies.{Dependency, dependencies}
+use Rattle.trace_model.specs.Protocol.Machine.{Question, State, answer, answer_of, deliver_refused_by, delivered, offer_next, offer_reply, rows_of, same_event, same_events, step, task_refused, with_event}
+use Rattle.trace_model.proofs.Protocol.Summary.{same_events_so, same_events_itself}
 use Rattle.witness.specs.Printed.{Printed, with_dependencies}
 use Rattle.witness.specs.Text.{report}
 use Rattle.witness.specs.declared.report.TextRefused.{TextRefused}

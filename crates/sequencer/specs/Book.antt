@@ -1,19 +1,19 @@
 -- What a book keeps, and what it does with a request.
 use Rattle.std.specs.Prelude.{◌≡◌, ℕ, ◌<◌, ◌≤◌, ◌⊎◌, List, length, map, replicate, slice_get, take, Option, Some, None, Result, Ok, Err}
-use Rattle.trace_model.specs.declared.event.Event.{Event}
+use Rattle.trace_model.specs.declared.traces.event.Event.{Event}
 use Rattle.trace_model.specs.declared.limits.TheConstants.{MAX_EVENTS}
 use Rattle.trace_model.specs.declared.refusal.Refusal.{Refusal}
 use Rattle.trace_model.specs.declared.refusal.Refusal.TheVariants.{NoMemory, BadBound, TooManyQuestions, NoSuchQuestion, ReportTooLong}
-use Rattle.trace_model.specs.declared.session.Request.{Request}
-use Rattle.trace_model.specs.declared.session.Request.TheVariants.{Offer, Ask, Answer as AskAnswer, Status as AskStatus}
-use Rattle.trace_model.specs.declared.session.Reply.{Reply}
-use Rattle.trace_model.specs.declared.session.Reply.TheVariants.{Placed as PlacedReply, Refused, Opened as OpenedReply, Pending as PendingReply, Report, Status as StatusReply}
-use Rattle.trace_model.specs.Trace.{Trace}
-use Rattle.trace_model.specs.Lawful.{refusal_of}
-use Rattle.trace_model.specs.Dependencies.{dependencies}
-use Rattle.trace_model.specs.Rows.{Row, AreRows}
-use Rattle.trace_model.specs.Machine.{Question, State, ask_refused, answer, deliver_refused, step}
-use Rattle.trace_model.specs.Bounds.{StateFits}
+use Rattle.trace_model.specs.declared.messages.session.Request.{Request}
+use Rattle.trace_model.specs.declared.messages.session.Request.TheVariants.{Offer, Ask, Answer as AskAnswer, Status as AskStatus}
+use Rattle.trace_model.specs.declared.messages.session.Reply.{Reply}
+use Rattle.trace_model.specs.declared.messages.session.Reply.TheVariants.{Placed as PlacedReply, Refused, Opened as OpenedReply, Pending as PendingReply, Report, Status as StatusReply}
+use Rattle.trace_model.specs.Theory.Trace.{Trace}
+use Rattle.trace_model.specs.Theory.Lawful.{refusal_of}
+use Rattle.trace_model.specs.Theory.Dependencies.{dependencies}
+use Rattle.trace_model.specs.Theory.Rows.{Row, AreRows}
+use Rattle.trace_model.specs.Protocol.Machine.{Question, State, ask_refused, answer, deliver_refused, step}
+use Rattle.trace_model.specs.Protocol.Bounds.{StateFits}
 use Rattle.findings.specs.Found.{FoundRows}
 use Rattle.sequencer.specs.Asked.{Told, question_of, rows_in, TellsNamed}
 use Rattle.sequencer.specs.Printing.{printing}
@@ -32,7 +32,8 @@ use Rattle.sequencer.specs.declared.step.Change.TheVariants.{Accept, Open, Tell,
 abbrev pub IsLimit : ℕ → Type 0
 IsLimit limit = (1 ≤ limit) × (limit ≤ MAX_EVENTS)
 
--- the state that replies show, the event that there is room for, and how many questions there is room for
+-- the state that replies show, the event that there is room for, and how many questions there is
+-- room for
 pub record Kept : Type 0 where
   pub state : State
   pub reserved : Option Event
@@ -40,13 +41,16 @@ pub record Kept : Type 0 where
 
 -- the machine's state, of what a book keeps
 abbrev pub state_of : ℕ → Trace → List Told → State
-state_of limit events asked = record { limit = limit; accepted = events; questions = map question_of asked }
+state_of limit events asked =
+    record { limit = limit; accepted = events; questions = map question_of asked }
 
--- the events are lawful, and the rows of each question are those of its first events, with their dependencies
+-- the events are lawful, and the rows of each question are those of its first events, with their
+-- dependencies
 pub record IsKept (admitted limit : ℕ) (events : Trace) (asked : List Told) : Type 0 where
   pub same_limit : admitted ≡ limit
   pub fits : StateFits AreRows (state_of limit events asked)
-  pub named : (k : ℕ) (told : Told) → slice_get asked k ≡ Some told → TellsNamed (take told.length events) told
+  pub named : (k : ℕ) (told : Told) → slice_get asked k ≡ Some told →
+      TellsNamed (take told.length events) told
 
 -- what a step adds, and the reply that it will get
 pub record Planned : Type 0 where
@@ -62,7 +66,11 @@ request_of (Show question) = AskStatus question
 
 -- a question about the present events, none of whose tasks is delivered
 abbrev pub fresh : State → ℕ → Told
-fresh s bound = record { length = length s.accepted; bound = bound; tasks = replicate (length (dependencies s.accepted)) None }
+fresh s bound = record {
+  length = length s.accepted;
+  bound = bound;
+  tasks = replicate (length (dependencies s.accepted)) None;
+}
 
 -- there is room for what the change adds, and it brings what was made for it
 abbrev pub HasRoom : Kept → Change → Type 0
@@ -75,7 +83,8 @@ abbrev pub IsAccepted : Reply → Type 0
 IsAccepted (Refused r) = ⊥
 IsAccepted _ = Unit {0}
 
--- memory may be wanted for what the reply tells: an event or a question is added, or a report is printed
+-- memory may be wanted for what the reply tells: an event or a question is added, or a report is
+-- printed
 abbrev pub TakesMemory : Reply → Type 0
 TakesMemory (PlacedReply place) = Unit {0}
 TakesMemory (OpenedReply question length total) = Unit {0}
@@ -91,7 +100,8 @@ pub record IsPrepared (b : Kept) (planned : Planned) : Type 0 where
 -- the event is refused by the machine, or for want of memory where the machine accepts it
 abbrev pub RefusesOffer : State → Event → Refusal → Type 0
 RefusesOffer s e r =
-    (refusal_of s.limit s.accepted e ≡ Some r) ⊎ ((r ≡ NoMemory) × (refusal_of s.limit s.accepted e ≡ None))
+    (refusal_of s.limit s.accepted e ≡ Some r)
+    ⊎ ((r ≡ NoMemory) × (refusal_of s.limit s.accepted e ≡ None))
 
 -- the refusals of a question and of an answer, among all
 abbrev pub ask_refusal : AskRefused → Refusal
@@ -106,23 +116,27 @@ answer_refusal NoAnswer.NoMemory = NoMemory
 
 -- the same of a question with this bound
 abbrev pub RefusesAsk : State → ℕ → AskRefused → Type 0
-RefusesAsk s bound r = (ask_refused s bound ≡ Some (ask_refusal r)) ⊎ ((r ≡ NoOpening.NoMemory) × (ask_refused s bound ≡ None))
+RefusesAsk s bound r = (ask_refused s bound ≡ Some (ask_refusal r))
+    ⊎ ((r ≡ NoOpening.NoMemory) × (ask_refused s bound ≡ None))
 
 -- the same of an answer
 abbrev pub RefusesAnswer : State → ℕ → AnswerRefused → Type 0
 RefusesAnswer s number r =
-    (answer printing s number ≡ Refused (answer_refusal r)) ⊎ ((r ≡ NoAnswer.NoMemory) × IsAccepted (answer printing s number))
+    (answer printing s number ≡ Refused (answer_refusal r))
+    ⊎ ((r ≡ NoAnswer.NoMemory) × IsAccepted (answer printing s number))
 
 -- the request is refused by the machine, or for want of memory where the machine accepts it
 abbrev pub Refuses : State → Request → Reply → Type 0
 Refuses s request reply =
-    (step printing s request ≡ (reply, s)) ⊎ ((reply ≡ Refused NoMemory) × IsAccepted (step printing s request).0)
+    (step printing s request ≡ (reply, s))
+    ⊎ ((reply ≡ Refused NoMemory) × IsAccepted (step printing s request).0)
 
 -- the reply is a refusal: the machine's, or for want of memory where the machine's reply takes some
 abbrev pub IsRefusal : State → Request → Reply → Type 0
 IsRefusal s request reply =
     (refusal : Refusal) × (reply ≡ Refused refusal)
-    × (((step printing s request).0 ≡ reply) ⊎ ((refusal ≡ NoMemory) × TakesMemory (step printing s request).0))
+    × (((step printing s request).0 ≡ reply)
+    ⊎ ((refusal ≡ NoMemory) × TakesMemory (step printing s request).0))
 
 -- there is no such question, or no memory for what is asked of it
 abbrev pub RefusesSnapshot : State → ℕ → Refusal → Type 0
@@ -132,7 +146,8 @@ RefusesSnapshot s number r =
 
 -- the events are those that the question with this number is about, where there is one
 abbrev pub AreKnown : State → ℕ → Trace → Type 0
-AreKnown s number events = (q : Question) → slice_get s.questions number ≡ Some q → events ≡ take q.length s.accepted
+AreKnown s number events = (q : Question) → slice_get s.questions number ≡ Some q →
+    events ≡ take q.length s.accepted
 
 -- what the machine refuses of a finding
 abbrev pub finding_refused : State → FoundRows → Option Refusal
@@ -141,7 +156,8 @@ finding_refused s f = deliver_refused s f.question f.bound f.events f.task
 -- the least task that is not delivered
 abbrev pub IsLeastMissing : Question → ℕ → Type 0
 IsLeastMissing q task =
-    (slice_get q.tasks task ≡ Some None) × ((other : ℕ) → slice_get q.tasks other ≡ Some None → task ≤ other)
+    (slice_get q.tasks task ≡ Some None)
+    × ((other : ℕ) → slice_get q.tasks other ≡ Some None → task ≤ other)
 
 -- the reply that an opened question gets
 abbrev pub opened_reply : Opened → Reply
@@ -154,7 +170,9 @@ answer_reply question (Settled text) = Report question text
 
 -- the reply that the status of the question gets
 abbrev pub status_reply : ℕ → Status → Reply
-status_reply question s = StatusReply question s.accepted s.opened s.length s.bound s.total s.delivered s.cycles s.confirmed
+status_reply question s =
+    StatusReply question s.accepted s.opened s.length s.bound s.total s.delivered s.cycles
+    s.confirmed
 
 -- what refuses a finding, and the rows of a finding
 abbrev pub outcome : Result Unit (Refusal × FoundRows) → Option Refusal

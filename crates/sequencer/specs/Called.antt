@@ -1,13 +1,13 @@
 -- What a book answers to a request.
 use Rattle.std.specs.Prelude.{◌≡◌, ◌⊎◌, ℕ, Bool, true, false, List, length, take, slice_get, Some, None}
-use Rattle.trace_model.specs.declared.event.Event.{Event}
+use Rattle.trace_model.specs.declared.traces.event.Event.{Event}
 use Rattle.trace_model.specs.declared.refusal.Refusal.TheVariants.{NoMemory}
-use Rattle.trace_model.specs.declared.session.Request.{Request}
-use Rattle.trace_model.specs.declared.session.Request.TheVariants.{Batch}
-use Rattle.trace_model.specs.declared.session.Reply.{Reply}
-use Rattle.trace_model.specs.declared.session.Reply.TheVariants.{Batched, Refused}
-use Rattle.trace_model.specs.Lawful.{refusal_of}
-use Rattle.trace_model.specs.Machine.{State, step}
+use Rattle.trace_model.specs.declared.messages.session.Request.{Request}
+use Rattle.trace_model.specs.declared.messages.session.Request.TheVariants.{Batch}
+use Rattle.trace_model.specs.declared.messages.session.Reply.{Reply}
+use Rattle.trace_model.specs.declared.messages.session.Reply.TheVariants.{Batched, Refused}
+use Rattle.trace_model.specs.Theory.Lawful.{refusal_of}
+use Rattle.trace_model.specs.Protocol.Machine.{State, step}
 use Rattle.sequencer.specs.Book.{IsAccepted, TakesMemory}
 use Rattle.sequencer.specs.Printing.{printing}
 
@@ -16,18 +16,20 @@ abbrev pub IsSingle : Request → Type 0
 IsSingle (Batch events) = ⊥
 IsSingle request = Unit {0}
 
--- the batch ended for want of memory before an event that the machine accepts: the reply is the machine's to the
--- events that came in, but for its number
-pub record EndsForMemory (s : State) (events : List Event) (reply : Reply) (next : State) : Type 0 where
+-- the batch ended for want of memory before an event that the machine accepts: the reply is the
+-- machine's to the events that came in, but for its number
+pub record EndsForMemory (s : State) (events : List Event) (reply : Reply)
+    (next : State) : Type 0 where
   pub accepted : ℕ
   pub event : Event
   pub stands : slice_get events accepted ≡ Some event
   pub lawful : refusal_of next.limit next.accepted event ≡ None
-  pub steps : step printing s (Batch (take accepted events)) ≡ (Batched accepted None (length s.accepted), next)
+  pub steps : step printing s (Batch (take accepted events)) ≡
+      (Batched accepted None (length s.accepted), next)
   pub replies : reply ≡ Batched accepted (Some NoMemory) (length s.accepted)
 
--- the machine's reply; or one for want of memory where the machine accepts, and nothing changes but by the events of a
--- batch that came in before
+-- the machine's reply; or one for want of memory where the machine accepts, and nothing changes but
+-- by the events of a batch that came in before
 abbrev pub StepsOrMemory : State → Request → Reply → State → Type 0
 StepsOrMemory s (Batch events) reply next =
     (step printing s (Batch events) ≡ (reply, next)) ⊎ EndsForMemory s events reply next
@@ -38,7 +40,8 @@ StepsOrMemory s request reply next =
 -- a refusal for want of memory is told where the machine's reply takes some
 abbrev pub WantsRightly : State → Request → Reply → Type 0
 WantsRightly s request reply =
-    reply ≡ Refused NoMemory → ((step printing s request).0 ≡ reply) ⊎ TakesMemory (step printing s request).0
+    reply ≡ Refused NoMemory → ((step printing s request).0 ≡ reply)
+    ⊎ TakesMemory (step printing s request).0
 
 -- a growth was refused for the reply
 abbrev pub lacks_memory : Reply → Bool

@@ -1,12 +1,12 @@
 -- What it is to answer all that a reader has, and what a run keeps of the inputs so far.
 use Rattle.std.specs.Prelude.{◌≡◌, ℕ, ◌<◌, length, slice_index_or, false, List, [], ◌∷◌, ◌++◌, None}
-use Rattle.trace_model.specs.declared.session.Request.{Request}
-use Rattle.trace_model.specs.Frames.{requests_in, fault_in}
-use Rattle.trace_model.specs.Replies.{reply_frame}
+use Rattle.trace_model.specs.declared.messages.session.Request.{Request}
+use Rattle.trace_model.specs.Protocol.Frames.{requests_in, fault_in}
+use Rattle.trace_model.specs.Protocol.Replies.{reply_frame}
 use Rattle.event_frames.specs.Reader.{Reading, HasRead}
-use Rattle.trace_model.specs.Rows.{AreRows}
-use Rattle.trace_model.specs.Machine.{State, step}
-use Rattle.trace_model.specs.Bounds.{StateFits}
+use Rattle.trace_model.specs.Theory.Rows.{AreRows}
+use Rattle.trace_model.specs.Protocol.Machine.{State, step}
+use Rattle.trace_model.specs.Protocol.Bounds.{StateFits}
 use Rattle.sequencer.specs.declared.input.Input.{Input}
 use Rattle.sequencer.specs.declared.session.Slot.{Slot}
 use Rattle.sequencer.specs.declared.session.Run.{Run}
@@ -22,14 +22,18 @@ state_called state (request ∷ requests) = state_called (step printing state re
 -- the frames of the replies to these requests
 abbrev pub answer_to : State → List Request → List ℕ
 answer_to state [] = []
-answer_to state (request ∷ requests) = reply_frame (step printing state request).0 ++ answer_to (step printing state request).1 requests
+answer_to state (request ∷ requests) = reply_frame (step printing state request).0 ++
+    answer_to (step printing state request).1 requests
 
-pub record Drains (book : State) (reader : Reading) (sent : List ℕ) (book' : State) (reader' : Reading) (sent' : List ℕ) : Type 0 where
+pub record Drains (book : State) (reader : Reading) (sent : List ℕ) (book' : State)
+    (reader' : Reading) (sent' : List ℕ) : Type 0 where
   pub state : book' ≡ state_called book (requests_in reader.rest)
-  pub out : sent' ≡ sent ++ (answer_to book (requests_in reader.rest) ++ fault_frames (fault_in reader.rest reader.ended))
+  pub out : sent' ≡ sent ++
+      (answer_to book (requests_in reader.rest) ++ fault_frames (fault_in reader.rest reader.ended))
   pub told : reader'.told ≡ fault_in reader.rest reader.ended
   pub ended : reader'.ended ≡ reader.ended
-  pub whole : (text : List ℕ) (given : List Request) → HasRead text given reader → HasRead text (requests_in text) reader'
+  pub whole : (text : List ℕ) (given : List Request) → HasRead text given reader →
+      HasRead text (requests_in text) reader'
 
 -- a session after the inputs so far: its reader has read its text, and told its fault if it has one
 pub record IsReadAt (s : ℕ) (past : List Input) (slot : Slot) : Type 0 where
@@ -44,7 +48,8 @@ pub record IsServed (s : ℕ) (start : State) (past : List Input) (slot : Slot) 
   pub sent : slot.sent.items ≡ sent_to s start past
 
 -- a session and the machine after the inputs so far
-pub record IsAnswered (s : ℕ) (start : State) (past : List Input) (book : State) (slot : Slot) : Type 0 where
+pub record IsAnswered (s : ℕ) (start : State) (past : List Input) (book : State)
+    (slot : Slot) : Type 0 where
   pub served : IsServed s start past slot
   pub state : book ≡ final_state start past
 
@@ -61,7 +66,8 @@ AreNew slots = (s : ℕ) (d : Slot) → s < length slots → IsNew (slice_index_
 -- a run after the inputs so far
 pub record IsPlayed (start : State) (past : List Input) (run : Run) : Type 0 where
   pub count : length run.slots.items ≡ 64
-  pub each : (s : ℕ) (d : Slot) → s < 64 → IsServed s start past (slice_index_or run.slots.items s d)
+  pub each : (s : ℕ) (d : Slot) → s < 64 →
+      IsServed s start past (slice_index_or run.slots.items s d)
   pub deliveries : run.deliveries.items ≡ deliveries_of start past
   pub state : run.book.state ≡ final_state start past
   pub exact : StateFits AreRows start → IsAlwaysExact start (actions past)

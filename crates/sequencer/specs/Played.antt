@@ -1,6 +1,6 @@
 -- What a run leaves.
 use Rattle.std.specs.Prelude.{◌≡◌, ℕ, ◌<◌, List, length, slice_get, Some}
-use Rattle.trace_model.specs.Machine.{State}
+use Rattle.trace_model.specs.Protocol.Machine.{State}
 use Rattle.sequencer.specs.declared.input.Input.{Input}
 use Rattle.sequencer.specs.declared.session.PlayRefused.{PlayRefused}
 use Rattle.sequencer.specs.declared.session.PlayRefused.TheVariants.{BadLimit, NoMemory}

@@ -1,11 +1,13 @@
 -- How the text of a report is printed.
 use Rattle.std.specs.Prelude.{map}
 use Rattle.std.specs.List.{flat_map}
-use Rattle.trace_model.specs.Dependencies.{dependencies}
-use Rattle.trace_model.specs.Machine.{Printing, rows_of}
+use Rattle.trace_model.specs.Theory.Dependencies.{dependencies}
+use Rattle.trace_model.specs.Protocol.Machine.{Printing, rows_of}
 use Rattle.witness.specs.Printed.{with_dependencies}
 use Rattle.witness.specs.Text.{report}
 
--- the report on the rows of a question's tasks, each with the dependencies of its events that it names
+-- the report on the rows of a question's tasks, each with the dependencies of its events that it
+-- names
 abbrev pub printing : Printing
-printing s number q = report number q.length q.bound (map (with_dependencies (dependencies s)) (flat_map rows_of q.tasks))
+printing s number q = report number q.length q.bound
+    (map (with_dependencies (dependencies s)) (flat_map rows_of q.tasks))

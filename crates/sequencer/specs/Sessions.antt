@@ -1,12 +1,12 @@
 -- What each session is sent and what becomes of each finding, for a whole list of inputs.
 use Rattle.std.specs.Prelude.{ℕ, Bool, false, ◌||◌, ◌==◌, List, [], ◌∷◌, ◌++◌, length, drop, map, Option, Some, None, Result, Ok, Err, if◌then◌else◌}
 use Rattle.trace_model.specs.declared.refusal.Refusal.{Refusal}
-use Rattle.trace_model.specs.declared.session.Request.{Request}
-use Rattle.trace_model.specs.declared.session.Reply.TheVariants.{Fault as FaultReply}
-use Rattle.trace_model.specs.declared.session.Fault.{Fault}
-use Rattle.trace_model.specs.Frames.{requests_in, fault_in}
-use Rattle.trace_model.specs.Replies.{reply_frame}
-use Rattle.trace_model.specs.Machine.{State, step, deliver}
+use Rattle.trace_model.specs.declared.messages.session.Request.{Request}
+use Rattle.trace_model.specs.declared.messages.session.Reply.TheVariants.{Fault as FaultReply}
+use Rattle.trace_model.specs.declared.messages.session.Fault.{Fault}
+use Rattle.trace_model.specs.Protocol.Frames.{requests_in, fault_in}
+use Rattle.trace_model.specs.Protocol.Replies.{reply_frame}
+use Rattle.trace_model.specs.Protocol.Machine.{State, step, deliver}
 use Rattle.findings.specs.Found.{FoundRows}
 use Rattle.sequencer.specs.declared.input.Input.{Input}
 use Rattle.sequencer.specs.declared.input.Input.TheVariants.{Piece, End, Finding}
@@ -24,7 +24,8 @@ session_of (Finding finding) = None
 -- what a session sent before its end
 abbrev pub text_of : ℕ → List Input → List ℕ
 text_of s [] = []
-text_of s (Piece session bytes ∷ inputs) = (if s == session then bytes.items else []) ++ text_of s inputs
+text_of s (Piece session bytes ∷ inputs) = (if s == session then bytes.items else []) ++
+    text_of s inputs
 text_of s (End session ∷ inputs) = if s == session then [] else text_of s inputs
 text_of s (Finding finding ∷ inputs) = text_of s inputs
 
@@ -53,15 +54,18 @@ fresh s past input = drop (length (requests_of s past)) (requests_of s (past ++ 
 
 -- what an input brings to the machine, after the inputs before it
 abbrev pub actions_of : List Input → Input → List Action
-actions_of past (Piece session bytes) = map (calls session) (fresh session past (Piece session bytes))
+actions_of past (Piece session bytes) =
+    map (calls session) (fresh session past (Piece session bytes))
 actions_of past (End session) = map (calls session) (fresh session past (End session))
 actions_of past (Finding finding) = brings finding ∷ []
 
 abbrev pub actions_after : List Input → List Input → List Action
 actions_after past [] = []
-actions_after past (input ∷ inputs) = actions_of past input ++ actions_after (past ++ input ∷ []) inputs
+actions_after past (input ∷ inputs) =
+    actions_of past input ++ actions_after (past ++ input ∷ []) inputs
 
--- the requests of all sessions, in the order in which they became whole, and the findings among them
+-- the requests of all sessions, in the order in which they became whole, and the findings among
+-- them
 abbrev pub actions : List Input → List Action
 actions inputs = actions_after [] inputs
 
@@ -81,12 +85,14 @@ state_after state (action ∷ actions) = state_after (after_action state action)
 
 -- the frame of the reply to one session
 abbrev pub frame_to : ℕ → State → Action → List ℕ
-frame_to s state (calls session request) = if s == session then reply_frame (step printing state request).0 else []
+frame_to s state (calls session request) = if s == session
+    then reply_frame (step printing state request).0 else []
 frame_to s state (brings finding) = []
 
 abbrev pub frames_to : ℕ → State → List Action → List ℕ
 frames_to s state [] = []
-frames_to s state (action ∷ actions) = frame_to s state action ++ frames_to s (after_action state action) actions
+frames_to s state (action ∷ actions) = frame_to s state action ++
+    frames_to s (after_action state action) actions
 
 abbrev pub fault_frames : Option Fault → List ℕ
 fault_frames None = []
@@ -106,7 +112,8 @@ delivery_of state (brings finding) = handed_back finding (delivery state finding
 
 abbrev pub deliveries : State → List Action → List Delivered
 deliveries state [] = []
-deliveries state (action ∷ actions) = delivery_of state action ++ deliveries (after_action state action) actions
+deliveries state (action ∷ actions) = delivery_of state action ++
+    deliveries (after_action state action) actions
 
 -- ---- for a whole list of inputs
 

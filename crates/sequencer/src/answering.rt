@@ -1,9 +1,9 @@
 //! What a book tells of its questions.
 
 ghost use Rattle.std.specs.Prelude.{◌≡◌, Err, IfErr, IfOk};
-ghost use Rattle.trace_model.specs.Machine as machine;
+ghost use Rattle.trace_model.specs.Protocol.Machine as machine;
 ghost use Rattle.trace_model.specs.declared.refusal.Refusal.TheVariants as refusals;
-ghost use Rattle.trace_model.specs.declared.session.Reply.TheVariants.{Refused};
+ghost use Rattle.trace_model.specs.declared.messages.session.Reply.TheVariants.{Refused};
 ghost use Rattle.sequencer.specs.Book.{RefusesAnswer, TakesMemory, answer_refusal, answer_reply, status_reply};
 ghost use Rattle.sequencer.specs.Printing.{printing};
 
@@ -43,9 +43,9 @@ impl AnswerRefused {
     }
 }
 
-/// The book and a question in numbers: how many events are accepted and questions opened; how many events the
-/// question is about, its bound, how many tasks it has and how many are delivered, and how many cycles and
-/// confirmed ones these have.
+/// The book and a question in numbers: how many events are accepted and questions opened; how many
+/// events the question is about, its bound, how many tasks it has and how many are delivered, and
+/// how many cycles and confirmed ones these have.
 #[derive(Clone, Copy, Debug, PartialEq, Eq)]
 pub struct Status {
     pub accepted: u32,
@@ -63,12 +63,14 @@ impl Book {
     ///
     /// # Errors
     ///
-    /// `NoSuchQuestion`, then `ReportTooLong` where the text has more than `MAX_REPORT` bytes, then `NoMemory`,
-    /// but not while tasks are missing.
+    /// `NoSuchQuestion`, then `ReportTooLong` where the text has more than `MAX_REPORT` bytes, then
+    /// `NoMemory`, but not while tasks are missing.
     pub fn answer(&self, question: u32) -> Result<Answer, AnswerRefused>
-        ensures ok { IfOk result (λ told. machine.answer printing self.now.state question ≡ answer_reply question told) }
+        ensures ok { IfOk result (λ told. machine.answer printing self.now.state question ≡
+            answer_reply question told) }
         ensures refused { IfErr result (RefusesAnswer self.now.state question) }
-        ensures wanting { result ≡ Err AnswerRefused.NoMemory → TakesMemory (machine.answer printing self.now.state question) }
+        ensures wanting { result ≡ Err AnswerRefused.NoMemory →
+            TakesMemory (machine.answer printing self.now.state question) }
     {
         let Some(asked) = self.asked(question) else {
             return Err(AnswerRefused::NoSuchQuestion);
@@ -79,7 +81,7 @@ impl Book {
                 total: asked.total(),
             });
         };
-        match report_text(self.alloc, question, asked.events(), asked.bound(), tasks) {
+        match report_text(self.alloc, question, asked.length(), asked.bound(), tasks) {
             Ok(text) => Ok(Answer::Settled(ReportText::from_vec(text))),
             Err(TextRefused::TooLong) => Err(AnswerRefused::ReportTooLong),
             Err(TextRefused::NoMemory) => Err(AnswerRefused::NoMemory),
@@ -92,8 +94,10 @@ impl Book {
     ///
     /// `NoSuchQuestion`.
     pub fn status(&self, question: u32) -> Result<Status, NoSuchQuestion>
-        ensures ok { IfOk result (λ shown. machine.status self.now.state question ≡ status_reply question shown) }
-        ensures refused { IfErr result (λ _. machine.status self.now.state question ≡ Refused refusals.NoSuchQuestion) }
+        ensures ok { IfOk result (λ shown. machine.status self.now.state question ≡
+            status_reply question shown) }
+        ensures refused { IfErr result (λ _. machine.status self.now.state question ≡
+            Refused refusals.NoSuchQuestion) }
     {
         let Some(asked) = self.asked(question) else {
             return Err(NoSuchQuestion);
@@ -101,7 +105,7 @@ impl Book {
         Ok(Status {
             accepted: self.length(),
             opened: self.opened(),
-            length: asked.events(),
+            length: asked.length(),
             bound: asked.bound().get(),
             total: asked.total(),
             delivered: asked.delivered(),

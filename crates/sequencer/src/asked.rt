@@ -3,7 +3,7 @@
 ghost use Rattle.std.specs.Prelude.{◌≡◌, ℕ, ◌+◌, ◌<◌, ◌≤◌, ◌^◌, length, map, replicate, slice_get, slice_set, None, Some, MatchOption};
 ghost use Rattle.std.specs.Result.{result_err};
 ghost use Rattle.trace_model.specs.declared.limits.TheConstants.{MIN_BOUND, MAX_BOUND};
-ghost use Rattle.trace_model.specs.Machine.{cycles_of, confirmed_of, task_refused};
+ghost use Rattle.trace_model.specs.Protocol.Machine.{cycles_of, confirmed_of, task_refused};
 ghost use Rattle.result_ledger.specs.Tasks.{IsMissing, IsLeastMissing};
 ghost use Rattle.sequencer.specs.Asked.{question_of};
 
@@ -30,11 +30,16 @@ impl Model for Asked {
 
     ghost view = { λ a. record { length = a.length; bound = a.bound; tasks = a.ledger } };
 
-    ghost invariant = { λ a. IsCounted (record { length = a.length; bound = a.bound; tasks = a.ledger }) a.total a.cycles a.confirmed };
+    ghost invariant = { λ a. IsCounted
+        (record {
+          length = a.length;
+          bound = a.bound;
+          tasks = a.ledger;
+        }) a.total a.cycles a.confirmed };
 }
 
 impl Asked {
-    ghost use Rattle.trace_model.specs.Machine.{delivered};
+    ghost use Rattle.trace_model.specs.Protocol.Machine.{delivered};
 
     /// The question about the first `length` events, none of whose `total` tasks is delivered.
     pub(crate) fn open(length: u32, bound: Bound, total: u32, ledger: Ledger) -> Asked
@@ -52,7 +57,7 @@ impl Asked {
     }
 
     /// How many events it is about.
-    pub(crate) fn events(&self) -> u32
+    pub(crate) fn length(&self) -> u32
         ensures { result ≡ self.now.length }
     {
         self.length
@@ -95,14 +100,16 @@ impl Asked {
 
     /// The least task that is not delivered; none where all are.
     pub(crate) fn missing(&self) -> Option<u32>
-        ensures { MatchOption result ((task : ℕ) → IsMissing self.now.tasks task → ⊥) (IsLeastMissing self.now.tasks) }
+        ensures { MatchOption result ((task : ℕ) → IsMissing self.now.tasks task → ⊥)
+            (IsLeastMissing self.now.tasks) }
     {
         self.ledger.missing()
     }
 
     /// The rows of each task, once none is missing.
     pub(crate) fn settled(&self) -> Option<&[Vec<Row>]>
-        ensures { MatchOption result ((task : ℕ) × IsMissing self.now.tasks task) (λ rows. self.now.tasks ≡ map (λ task. Some task.items) rows.now) }
+        ensures { MatchOption result ((task : ℕ) × IsMissing self.now.tasks task)
+            (λ rows. self.now.tasks ≡ map (λ task. Some task.items) rows.now) }
     {
         self.ledger.settled()
     }
@@ -122,7 +129,8 @@ impl Asked {
     pub(crate) fn accept(&mut self, task: u32, rows: Vec<Row>)
         requires missing { IsMissing self.old.tasks task }
         requires few { cycles_of (question_of self.old) + length rows.items < 2 ^ 64 }
-        ensures { self.new ≡ record (self.old) { tasks = slice_set self.old.tasks task (Some rows.items) } }
+        ensures { self.new ≡ record
+            (self.old) { tasks = slice_set self.old.tasks task (Some rows.items) } }
     {
         self.cycles += rows.len() as u64;
         self.confirmed += confirmed_in(rows.as_slice()) as u64;

@@ -1,8 +1,8 @@
 //! Questions are opened, and handed out to be worked on.
 
 ghost use Rattle.std.specs.Prelude.{◌≡◌, ℕ, slice_get, IfErr, IfOk, MatchOption, Some, None};
-ghost use Rattle.trace_model.specs.Machine.{Question, ask_refused, step};
-ghost use Rattle.trace_model.specs.declared.session.Request.TheVariants.{Ask};
+ghost use Rattle.trace_model.specs.Protocol.Machine.{Question, ask_refused, step};
+ghost use Rattle.trace_model.specs.declared.messages.session.Request.TheVariants.{Ask};
 ghost use Rattle.sequencer.specs.declared.step.Change.TheVariants.{Open};
 ghost use Rattle.sequencer.specs.Book.{HasRoom, IsLeastMissing, RefusesAsk, ask_refusal, fresh, opened_reply};
 ghost use Rattle.sequencer.specs.Printing.{printing};
@@ -37,7 +37,8 @@ impl AskRefused {
     }
 }
 
-/// A question that was opened: its number from 0, how many events it is about, and how many tasks it has.
+/// A question that was opened: its number from 0, how many events it is about, and how many tasks
+/// it has.
 #[derive(Clone, Copy, Debug, PartialEq, Eq)]
 pub struct Opened {
     pub question: u32,
@@ -50,11 +51,13 @@ impl Book {
     ///
     /// # Errors
     ///
-    /// `BadBound` where the bound is not 2 to 8, then `TooManyQuestions` where there are `MAX_QUESTIONS`, then
-    /// `NoMemory`. Nothing has changed.
+    /// `BadBound` where the bound is not 2 to 8, then `TooManyQuestions` where there are
+    /// `MAX_QUESTIONS`, then `NoMemory`. Nothing has changed.
     pub fn ask(&mut self, bound: u8) -> Result<Opened, AskRefused>
-        ensures ok { IfOk result (λ opened. step printing self.old.state (Ask bound) ≡ (opened_reply opened, self.new.state)) }
-        ensures refused { IfErr result (λ refused. RefusesAsk self.old.state bound refused × (self.new.state ≡ self.old.state)) }
+        ensures ok { IfOk result (λ opened. step printing self.old.state (Ask bound) ≡
+            (opened_reply opened, self.new.state)) }
+        ensures refused { IfErr result (λ refused. RefusesAsk self.old.state bound refused
+            × (self.new.state ≡ self.old.state)) }
     {
         let asked = self.open(bound)?;
         let opened = self.opens(&asked);
@@ -62,12 +65,13 @@ impl Book {
         Ok(opened)
     }
 
-    /// Tests a bound, and makes a question about the present events, and room for it. What a reply shows is unchanged.
+    /// Tests a bound, and makes a question about the present events, and room for it. What a reply
+    /// shows is unchanged.
     ///
     /// # Errors
     ///
-    /// `BadBound` where the bound is not 2 to 8, then `TooManyQuestions` where there are `MAX_QUESTIONS`, then
-    /// `NoMemory`.
+    /// `BadBound` where the bound is not 2 to 8, then `TooManyQuestions` where there are
+    /// `MAX_QUESTIONS`, then `NoMemory`.
     pub fn open(&mut self, bound: u8) -> Result<Asked, AskRefused>
         ensures shown { self.new.state ≡ self.old.state }
         ensures ok { IfOk result (λ asked. (asked.bound ≡ bound) × HasRoom self.new (Open asked)) }
@@ -99,8 +103,8 @@ impl Book {
         Ok(Asked::open(length, bound, total, ledger))
     }
 
-    /// What is answered where this question, which `open` must have made for this book as it is, is added next. It takes
-    /// no memory.
+    /// What is answered where this question, which `open` must have made for this book as it is, is
+    /// added next. It takes no memory.
     pub fn opens(&self, asked: &Asked) -> Opened
         requires allowed { ask_refused self.now.state asked.now.bound ≡ None }
         requires fresh { asked.now ≡ fresh self.now.state asked.now.bound }
@@ -108,19 +112,22 @@ impl Book {
     {
         Opened {
             question: self.opened(),
-            length: asked.events(),
+            length: asked.length(),
             total: asked.total(),
         }
     }
 
-    /// The least task of the question that is not delivered; none where all are. It takes no memory.
+    /// The least task of the question that is not delivered; none where all are. It takes no
+    /// memory.
     ///
     /// # Errors
     ///
     /// `NoSuchQuestion`.
     pub fn missing(&self, question: u32) -> Result<Option<u32>, NoSuchQuestion>
-        ensures ok { IfOk result (λ task. (q : Question) × (slice_get self.now.state.questions question ≡ Some q)
-            × MatchOption task ((other : ℕ) → slice_get q.tasks other ≡ Some None → ⊥) (IsLeastMissing q)) }
+        ensures ok { IfOk result (λ task. (q : Question)
+            × (slice_get self.now.state.questions question ≡ Some q)
+            × MatchOption task ((other : ℕ) → slice_get q.tasks other ≡ Some None → ⊥)
+            (IsLeastMissing q)) }
         ensures refused { IfErr result (λ _. slice_get self.now.state.questions question ≡ None) }
     {
         let Some(asked) = self.asked(question) else {

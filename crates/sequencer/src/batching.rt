@@ -1,7 +1,7 @@
 //! Events that are offered at once.
 ghost use Rattle.std.specs.Prelude.{◌≡◌, ◌≤◌, length, slice_get, Some, None};
-ghost use Rattle.trace_model.specs.Batches.{IsBatch};
-ghost use Rattle.trace_model.specs.Lawful.{refusal_of};
+ghost use Rattle.trace_model.specs.Protocol.Batches.{IsBatch};
+ghost use Rattle.trace_model.specs.Theory.Lawful.{refusal_of};
 ghost use Rattle.sequencer.specs.Batched.{IsBatched, FirstIsAdmitted};
 
 use crate::book::Book;
@@ -19,7 +19,7 @@ pub struct Batched {
 }
 
 impl Batched {
-    ghost use Rattle.trace_model.specs.declared.session.Reply.TheVariants as replies;
+    ghost use Rattle.trace_model.specs.declared.messages.session.Reply.TheVariants as replies;
 
     /// The reply that tells it.
     pub fn reply(self) -> Reply
@@ -34,8 +34,9 @@ impl Batched {
 }
 
 impl Book {
-    /// Accepts the events of a batch, of which there are 1 to `MAX_BATCH`, from the first on, up to one that is not
-    /// lawful after those before it, or for which a growth is refused. That one and those after it change nothing.
+    /// Accepts the events of a batch, of which there are 1 to `MAX_BATCH`, from the first on, up to
+    /// one that is not lawful after those before it, or for which a growth is refused. That one and
+    /// those after it change nothing.
     pub fn offer_batch(&mut self, events: &[Event]) -> Batched
         requires { IsBatch events.now }
         ensures { IsBatched self.old.state events.now result self.new.state }
@@ -50,8 +51,8 @@ impl Book {
         }
     }
 
-    /// Does what `offer_batch` does with a batch whose first event `admit` has admitted to this book as it is. That one
-    /// is accepted, for which no memory is taken.
+    /// Does what `offer_batch` does with a batch whose first event `admit` has admitted to this
+    /// book as it is. That one is accepted, for which no memory is taken.
     pub fn accept_batch(&mut self, events: &[Event]) -> Batched
         requires batch { IsBatch events.now }
         requires admitted { FirstIsAdmitted self.old events.now }

@@ -1,13 +1,13 @@
 //! The book: its events and its questions.
 
 ghost use Rattle.std.specs.Prelude.{◌≡◌, ◌<◌, ◌≤◌, ◌↔◌, length, take, nat_eq, slice_get, option_map, IfSome, IfErr, IfOk, IsOk, MatchOption, OnOk, Some, None};
-ghost use Rattle.trace_model.specs.Dependencies.{dependencies};
-ghost use Rattle.trace_model.specs.Lawful.{refusal_of};
-ghost use Rattle.trace_model.specs.Rows.{AreRows};
-ghost use Rattle.trace_model.specs.Machine.{ask_refused, opening, step, with_event, with_question};
-ghost use Rattle.trace_model.specs.Bounds.{StateFits};
-ghost use Rattle.trace_model.specs.declared.session.Request.TheVariants.{Offer};
-ghost use Rattle.trace_model.specs.declared.session.Reply.TheVariants.{Placed};
+ghost use Rattle.trace_model.specs.Theory.Dependencies.{dependencies};
+ghost use Rattle.trace_model.specs.Theory.Lawful.{refusal_of};
+ghost use Rattle.trace_model.specs.Theory.Rows.{AreRows};
+ghost use Rattle.trace_model.specs.Protocol.Machine.{ask_refused, opening, step, with_event, with_question};
+ghost use Rattle.trace_model.specs.Protocol.Bounds.{StateFits};
+ghost use Rattle.trace_model.specs.declared.messages.session.Request.TheVariants.{Offer};
+ghost use Rattle.trace_model.specs.declared.messages.session.Reply.TheVariants.{Placed};
 ghost use Rattle.sequencer.specs.declared.book.BookRefused.TheVariants.{BadLimit};
 ghost use Rattle.sequencer.specs.Asked.{question_of, TellsNamed};
 ghost use Rattle.sequencer.specs.Book.{IsLimit, RefusesOffer, fresh};
@@ -50,7 +50,11 @@ impl Model for Book {
 
     ghost Value = { Kept };
 
-    ghost view = { λ b. record { state = state_of b.limit b.recorder.events b.questions.items; reserved = b.recorder.reserved; room = vec_capacity b.questions - vec_len b.questions } };
+    ghost view = { λ b. record {
+      state = state_of b.limit b.recorder.events b.questions.items;
+      reserved = b.recorder.reserved;
+      room = vec_capacity b.questions - vec_len b.questions;
+    } };
 
     ghost invariant = { λ b. IsKept b.recorder.limit b.limit b.recorder.events b.questions.items };
 }
@@ -60,7 +64,8 @@ impl Book {
     ///
     /// # Errors
     ///
-    /// `BadLimit` where that is not 1 to `MAX_EVENTS`. An empty book takes no memory, so nothing else is answered.
+    /// `BadLimit` where that is not 1 to `MAX_EVENTS`. An empty book takes no memory, so nothing
+    /// else is answered.
     pub fn new(alloc: Global, state: RandomState, max_events: u32) -> Result<Book, BookRefused>
         ensures made { IfOk result (λ book. book.state ≡ opening max_events) }
         ensures limit { IsOk result ↔ IsLimit max_events }
@@ -77,8 +82,8 @@ impl Book {
         })
     }
 
-    /// How many events are accepted. The book's state is within its limits, and the rows that were delivered are
-    /// exactly those of the first events of their questions. It takes no memory.
+    /// How many events are accepted. The book's state is within its limits, and the rows that were
+    /// delivered are exactly those of the first events of their questions. It takes no memory.
     pub fn len(&self) -> usize
         ensures value { result ≡ length self.now.state.accepted }
         ensures fits { StateFits AreRows self.now.state }
@@ -110,10 +115,15 @@ impl Book {
 
     /// The question with this number.
     pub(crate) fn asked(&self, question: u32) -> Option<&Asked>
-        ensures value { option_map (λ asked. question_of asked.now) result ≡ slice_get self.now.state.questions question }
-        ensures within { IfSome result (λ asked. asked.now.length ≤ length self.now.state.accepted) }
-        ensures named { IfSome result (λ asked. TellsNamed (take asked.now.length self.now.state.accepted) asked.now) }
-        ensures total { IfSome result (λ asked. length asked.now.tasks ≡ length (dependencies (take asked.now.length self.now.state.accepted))) }
+        ensures value { option_map (λ asked. question_of asked.now) result ≡
+            slice_get self.now.state.questions question }
+        ensures within { IfSome result
+            (λ asked. asked.now.length ≤ length self.now.state.accepted) }
+        ensures named { IfSome result
+            (λ asked. TellsNamed (take asked.now.length self.now.state.accepted) asked.now) }
+        ensures total { IfSome result
+            (λ asked. length asked.now.tasks ≡
+            length (dependencies (take asked.now.length self.now.state.accepted))) }
     {
         self.questions.get(question as usize)
     }
@@ -125,7 +135,8 @@ impl Book {
     /// The first refusal that applies, and `NoMemory` where none does.
     pub fn admit(&mut self, event: &Event) -> Result<(), Refusal>
         ensures shown { self.new.state ≡ self.old.state }
-        ensures ok { OnOk result ((self.new.reserved ≡ Some event.now) × (refusal_of self.old.state.limit self.old.state.accepted event.now ≡ None)) }
+        ensures ok { OnOk result ((self.new.reserved ≡ Some event.now)
+            × (refusal_of self.old.state.limit self.old.state.accepted event.now ≡ None)) }
         ensures refused { IfErr result (RefusesOffer self.old.state event.now) }
     {
         self.recorder.check(event)?;
@@ -142,7 +153,8 @@ impl Book {
         self.recorder.len() as u32
     }
 
-    /// Accepts the event, which `admit` must have admitted to this book as it is. It takes no memory.
+    /// Accepts the event, which `admit` must have admitted to this book as it is. It takes no
+    /// memory.
     pub fn accept(&mut self, event: &Event)
         requires reserved { self.old.reserved ≡ Some event.now }
         requires lawful { refusal_of self.old.state.limit self.old.state.accepted event.now ≡ None }
@@ -167,8 +179,10 @@ impl Book {
     ///
     /// The first refusal that applies, and `NoMemory` where none does. Nothing has changed.
     pub fn offer(&mut self, event: Event) -> Result<Place, Refusal>
-        ensures ok { IfOk result (λ place. step printing self.old.state (Offer event) ≡ (Placed place, self.new.state)) }
-        ensures refused { IfErr result (λ refusal. RefusesOffer self.old.state event refusal × (self.new.state ≡ self.old.state)) }
+        ensures ok { IfOk result (λ place. step printing self.old.state (Offer event) ≡
+            (Placed place, self.new.state)) }
+        ensures refused { IfErr result (λ refusal. RefusesOffer self.old.state event refusal
+            × (self.new.state ≡ self.old.state)) }
     {
         self.admit(&event)?;
         let place = Place::new(self.length());

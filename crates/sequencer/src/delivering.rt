@@ -3,7 +3,7 @@
 ghost use Rattle.std.specs.Prelude.{◌≡◌, ◌≤◌, length, take, slice_get, IfErr, OnOk, None};
 ghost use Rattle.std.specs.Result.{result_err};
 ghost use Rattle.std.specs.Option.{option_eq};
-ghost use Rattle.trace_model.specs.Machine.{deliver, same_event, same_events};
+ghost use Rattle.trace_model.specs.Protocol.Machine.{deliver, same_event, same_events};
 ghost use Rattle.findings.specs.Found.{AreRowsOf};
 ghost use Rattle.sequencer.specs.Book.{AreKnown, finding_refused, findings_rows, outcome};
 
@@ -19,25 +19,29 @@ impl Book {
     ///
     /// What `admits` answers, with the finding handed back. Nothing has changed.
     pub fn deliver(&mut self, finding: Finding) -> Result<(), (Refusal, Finding)>
-        ensures machine { deliver self.old.state finding.question finding.bound finding.events finding.task (findings_rows finding) ≡ (outcome result, self.new.state) }
+        ensures machine { deliver self.old.state finding.question finding.bound finding.events
+            finding.task (findings_rows finding) ≡ (outcome result, self.new.state) }
         ensures back { IfErr result (λ refused. refused.1 ≡ finding) }
-        ensures exact { OnOk result (AreRowsOf finding.events finding.bound finding.task finding.rows) }
+        ensures exact { OnOk result
+            (AreRowsOf finding.events finding.bound finding.task finding.rows) }
     {
         let admitted = self.admits(&finding);
         self.take_if(admitted, finding)
     }
 
-    /// Does what `deliver` does with a finding about events that are known to be those of its question, which are
-    /// not compared. It takes no memory.
+    /// Does what `deliver` does with a finding about events that are known to be those of its
+    /// question, which are not compared. It takes no memory.
     ///
     /// # Errors
     ///
     /// As of `deliver`.
     pub fn deliver_known(&mut self, finding: Finding) -> Result<(), (Refusal, Finding)>
         requires known { AreKnown self.old.state finding.question finding.events }
-        ensures machine { deliver self.old.state finding.question finding.bound finding.events finding.task (findings_rows finding) ≡ (outcome result, self.new.state) }
+        ensures machine { deliver self.old.state finding.question finding.bound finding.events
+            finding.task (findings_rows finding) ≡ (outcome result, self.new.state) }
         ensures back { IfErr result (λ refused. refused.1 ≡ finding) }
-        ensures exact { OnOk result (AreRowsOf finding.events finding.bound finding.task finding.rows) }
+        ensures exact { OnOk result
+            (AreRowsOf finding.events finding.bound finding.task finding.rows) }
     {
         let admitted = self.admits_known(&finding);
         self.take_if(admitted, finding)
@@ -47,8 +51,9 @@ impl Book {
     ///
     /// # Errors
     ///
-    /// The first that applies: `NoSuchQuestion`; `OtherBound`; `OtherTrace` where its events, compared one by
-    /// one, are not those that the question is about; `NoSuchTask`; `Double` where the task was delivered.
+    /// The first that applies: `NoSuchQuestion`; `OtherBound`; `OtherTrace` where its events,
+    /// compared one by one, are not those that the question is about; `NoSuchTask`; `Double` where
+    /// the task was delivered.
     pub fn admits(&self, finding: &Finding) -> Result<(), Refusal>
         ensures { result_err result ≡ finding_refused self.now.state finding.now }
     {
@@ -58,14 +63,14 @@ impl Book {
         if finding.bound() != asked.bound() {
             return Err(Refusal::OtherBound);
         }
-        if !is_of(finding.snapshot(), &self.recorder, asked.events()) {
+        if !is_of(finding.snapshot(), &self.recorder, asked.length()) {
             return Err(Refusal::OtherTrace);
         }
         asked.test(finding.task())
     }
 
-    /// What `admits` answers for a finding about events that are known to be those of its question, which are not
-    /// compared. It takes no memory.
+    /// What `admits` answers for a finding about events that are known to be those of its question,
+    /// which are not compared. It takes no memory.
     ///
     /// # Errors
     ///
@@ -86,7 +91,8 @@ impl Book {
     /// Takes a finding that `admits` answers Ok for. It takes no memory.
     pub fn take(&mut self, finding: Finding)
         requires { finding_refused self.old.state finding ≡ None }
-        ensures machine { deliver self.old.state finding.question finding.bound finding.events finding.task (findings_rows finding) ≡ (None, self.new.state) }
+        ensures machine { deliver self.old.state finding.question finding.bound finding.events
+            finding.task (findings_rows finding) ≡ (None, self.new.state) }
         ensures exact { AreRowsOf finding.events finding.bound finding.task finding.rows }
     {
         let question = finding.question() as usize;
@@ -102,9 +108,11 @@ impl Book {
         finding: Finding,
     ) -> Result<(), (Refusal, Finding)>
         requires { result_err admitted ≡ finding_refused self.old.state finding }
-        ensures machine { deliver self.old.state finding.question finding.bound finding.events finding.task (findings_rows finding) ≡ (outcome result, self.new.state) }
+        ensures machine { deliver self.old.state finding.question finding.bound finding.events
+            finding.task (findings_rows finding) ≡ (outcome result, self.new.state) }
         ensures back { IfErr result (λ refused. refused.1 ≡ finding) }
-        ensures exact { OnOk result (AreRowsOf finding.events finding.bound finding.task finding.rows) }
+        ensures exact { OnOk result
+            (AreRowsOf finding.events finding.bound finding.task finding.rows) }
     {
         match admitted {
             Ok(()) => {

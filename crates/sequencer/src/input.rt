@@ -1,8 +1,10 @@
+//! What a book is given: a request, or a finding.
+
 use findings::Finding;
 use std::marker::Model;
 
 /// How many sessions a run may have.
-pub const MAX_SESSIONS: usize = 64;
+pub const MAX_PLAYED: usize = 64;
 
 /// The number of a session, from 0 to 63.
 #[derive(Clone, Copy, Debug, PartialEq, Eq)]

@@ -1,4 +1,5 @@
-//! The book: one trace that grows by lawful events, the questions about it, and the sessions that ask them.
+//! The book: one trace that grows by lawful events, the questions about it, and the sessions that
+//! ask them.
 #![tactic(auto)]
 
 mod answering;
@@ -17,6 +18,6 @@ pub use asked::Asked;
 pub use asking::{AskRefused, Opened};
 pub use batching::Batched;
 pub use book::{Book, BookRefused, NoSuchQuestion};
-pub use input::{Input, MAX_SESSIONS, Session};
+pub use input::{Input, MAX_PLAYED, Session};
 pub use session::{Delivered, PlayRefused, Played, play};
 pub use step::{Change, Step};

@@ -1,10 +1,10 @@
 //! The sessions of a run.
 ghost use Rattle.std.specs.Prelude.{◌≡◌, ◌++◌, ◌∷◌, [], ◌<◌, ℕ, List, None, Some, OnOk, IfOk, IfErr, length, slice_get};
 ghost use Rattle.std.specs.Global.{Vec};
-ghost use Rattle.trace_model.specs.Bounds.{StateFits};
-ghost use Rattle.trace_model.specs.Machine.{State, opening};
-ghost use Rattle.trace_model.specs.Rows.{AreRows};
-ghost use Rattle.trace_model.specs.Replies.{IsReply, reply_frame};
+ghost use Rattle.trace_model.specs.Protocol.Bounds.{StateFits};
+ghost use Rattle.trace_model.specs.Protocol.Machine.{State, opening};
+ghost use Rattle.trace_model.specs.Theory.Rows.{AreRows};
+ghost use Rattle.trace_model.specs.Protocol.Replies.{IsReply, reply_frame};
 ghost use Rattle.sequencer.specs.Book.{IsLimit};
 ghost use Rattle.sequencer.specs.Drains.{Drains, IsAnswered, AreNew, IsPlayed};
 ghost use Rattle.sequencer.specs.Exact.{IsAlwaysExact, AlwaysTellsDeadlocks};
@@ -14,7 +14,7 @@ ghost use Rattle.sequencer.specs.declared.input.Input.{Input};
 ghost use Rattle.sequencer.specs.declared.input.Input.TheVariants.{Piece, End};
 
 use crate::book::Book;
-use crate::input::{Input, MAX_SESSIONS, Session};
+use crate::input::{Input, MAX_PLAYED, Session};
 use crate::step::lacks_memory;
 use event_frames::{FrameReader, push_reply};
 use findings::Finding;
@@ -46,7 +46,8 @@ pub struct Slot {
 impl Slot {
     /// Takes a piece of the session's bytes, which is dropped where the session is closed.
     fn take_piece(&mut self, book: &mut Book, piece: &[u8]) -> Result<(), NoMemory>
-        ensures { OnOk result ((s : ℕ) (start : State) (past : List Input) (bytes : Vec ℕ) → bytes.items ≡ piece.now
+        ensures { OnOk result ((s : ℕ) (start : State) (past : List Input) (bytes : Vec ℕ) →
+            bytes.items ≡ piece.now
             → IsAnswered s start past book.old.state self.old
             → IsAnswered s start (past ++ Piece s bytes ∷ []) book.new.state self.new) }
     {
@@ -79,10 +80,12 @@ fn send(sent: &mut Vec<u8>, reply: Reply) -> Result<(), NoMemory>
     push_reply(sent, &reply)
 }
 
-/// Calls the book for each request that is there, and sends the replies, and the fault if one is there.
+/// Calls the book for each request that is there, and sends the replies, and the fault if one is
+/// there.
 fn drain(book: &mut Book, reader: &mut FrameReader, sent: &mut Vec<u8>) -> Result<(), NoMemory>
     requires { reader.old.told ≡ None }
-    ensures { OnOk result (Drains book.old.state reader.old sent.old.items book.new.state reader.new sent.new.items) }
+    ensures { OnOk result
+        (Drains book.old.state reader.old sent.old.items book.new.state reader.new sent.new.items) }
 {
     loop {
         match reader.next() {
@@ -126,7 +129,8 @@ impl Run {
     /// Takes one input more.
     fn take(&mut self, input: Input) -> Result<(), NoMemory>
         requires { length self.old.slots.items ≡ 64 }
-        ensures { OnOk result ((start : State) (past : List Input) → IsPlayed start past self.old → IsPlayed start (past ++ input ∷ []) self.new) }
+        ensures { OnOk result ((start : State) (past : List Input) → IsPlayed start past self.old →
+            IsPlayed start (past ++ input ∷ []) self.new) }
     {
         match input {
             Input::Piece(session, bytes) => {
@@ -146,7 +150,8 @@ impl Run {
     }
 }
 
-/// What a run leaves: the bytes that each session was sent, what became of each finding, and the book.
+/// What a run leaves: the bytes that each session was sent, what became of each finding, and the
+/// book.
 #[derive(Drop)]
 pub struct Played {
     run: Run,
@@ -194,7 +199,7 @@ fn open_slots(alloc: Global) -> Result<Vec<Slot>, NoMemory>
     ensures { IfOk result (λ slots. (length slots.items ≡ 64) × AreNew slots.items) }
 {
     let mut slots = Vec::new(alloc);
-    for _ in 0..MAX_SESSIONS {
+    for _ in 0..MAX_PLAYED {
         slots.push(Slot {
             reader: FrameReader::new(alloc),
             sent: Vec::new(alloc),
@@ -206,7 +211,8 @@ fn open_slots(alloc: Global) -> Result<Vec<Slot>, NoMemory>
 /// Takes the inputs, one after another.
 fn take_all(run: &mut Run, inputs: Vec<Input>) -> Result<(), NoMemory>
     requires { (start : State) × (past : List Input) × IsPlayed start past run.old }
-    ensures { OnOk result ((start : State) (past : List Input) → IsPlayed start past run.old → IsPlayed start (past ++ inputs.items) run.new) }
+    ensures { OnOk result ((start : State) (past : List Input) → IsPlayed start past run.old →
+        IsPlayed start (past ++ inputs.items) run.new) }
 {
     for input in inputs {
         run.take(input)?;
@@ -217,9 +223,11 @@ fn take_all(run: &mut Run, inputs: Vec<Input>) -> Result<(), NoMemory>
 /// Plays the inputs over this book.
 fn play_over(alloc: Global, book: Book, inputs: Vec<Input>) -> Result<Played, NoMemory>
     ensures sent { IfOk result (λ played. AreSent played.sent book.state inputs.items) }
-    ensures deliveries { IfOk result (λ played. played.deliveries ≡ deliveries_of book.state inputs.items) }
+    ensures deliveries { IfOk result
+        (λ played. played.deliveries ≡ deliveries_of book.state inputs.items) }
     ensures book { IfOk result (λ played. played.book.state ≡ final_state book.state inputs.items) }
-    ensures exact { IfOk result (λ _. StateFits AreRows book.state → IsAlwaysExact book.state (actions inputs.items)) }
+    ensures exact { IfOk result (λ _. StateFits AreRows book.state →
+        IsAlwaysExact book.state (actions inputs.items)) }
 {
     let slots = match open_slots(alloc) {
         Ok(slots) => slots,
@@ -237,13 +245,14 @@ fn play_over(alloc: Global, book: Book, inputs: Vec<Input>) -> Result<Played, No
     Ok(Played { run })
 }
 
-/// Plays the inputs over a new book that accepts at most `max_events`: each session is sent the replies to its
-/// requests, in their order, and then its fault if it has one, and each finding is delivered where it comes.
-/// What comes for a session after its fault or its end is ignored.
+/// Plays the inputs over a new book that accepts at most `max_events`: each session is sent the
+/// replies to its requests, in their order, and then its fault if it has one, and each finding is
+/// delivered where it comes. What comes for a session after its fault or its end is ignored.
 ///
 /// # Errors
 ///
-/// `BadLimit` where `max_events` is not 1 to `MAX_EVENTS`, and `NoMemory` where a growth was refused.
+/// `BadLimit` where `max_events` is not 1 to `MAX_EVENTS`, and `NoMemory` where a growth was
+/// refused.
 pub fn play(
     alloc: Global,
     state: RandomState,
@@ -251,12 +260,16 @@ pub fn play(
     inputs: Vec<Input>,
 ) -> Result<Played, PlayRefused>
     ensures sent { IfOk result (λ played. AreSent played.sent (opening max_events) inputs.items) }
-    ensures deliveries { IfOk result (λ played. played.deliveries ≡ deliveries_of (opening max_events) inputs.items) }
-    ensures book { IfOk result (λ played. played.book.state ≡ final_state (opening max_events) inputs.items) }
+    ensures deliveries { IfOk result
+        (λ played. played.deliveries ≡ deliveries_of (opening max_events) inputs.items) }
+    ensures book { IfOk result
+        (λ played. played.book.state ≡ final_state (opening max_events) inputs.items) }
     // At every time the rows of each delivered task are exactly those of its question's events.
     ensures exact { IfOk result (λ _. IsAlwaysExact (opening max_events) (actions inputs.items)) }
-    // Each confirmed row that a report prints at any time has a witness that leads into its deadlock.
-    ensures deadlocks { IfOk result (λ _. AlwaysTellsDeadlocks (opening max_events) (actions inputs.items)) }
+    // Each confirmed row that a report prints at any time has a witness that leads into its
+    // deadlock.
+    ensures deadlocks { IfOk result
+        (λ _. AlwaysTellsDeadlocks (opening max_events) (actions inputs.items)) }
     ensures limit { IfOk result (λ _. IsLimit max_events) }
     ensures refused { IfErr result (IsRightlyRefused max_events) }
 {

@@ -2,7 +2,7 @@
 
 ghost use Rattle.std.specs.Prelude.{◌≡◌, ◌+◌, ◌<◌, ◌≤◌, slice_get, take, IfErr, IfOk, Some};
 ghost use Rattle.std.specs.Arc.{arc_value};
-ghost use Rattle.trace_model.specs.Machine.{Question};
+ghost use Rattle.trace_model.specs.Protocol.Machine.{Question};
 ghost use Rattle.sequencer.specs.Book.{RefusesSnapshot};
 
 use crate::book::Book;
@@ -21,21 +21,29 @@ impl Book {
     ///
     /// `NoSuchQuestion`, or `NoMemory` where a growth was refused.
     pub fn snapshot(&self, question: u32) -> Result<Arc<Snapshot, Global>, Refusal>
-        ensures ok { IfOk result (λ shared. (q : Question) × (slice_get self.now.state.questions question ≡ Some q) × (arc_value shared ≡ take q.length self.now.state.accepted)) }
+        ensures ok { IfOk result (λ shared. (q : Question)
+            × (slice_get self.now.state.questions question ≡ Some q)
+            × (arc_value shared ≡ take q.length self.now.state.accepted)) }
         ensures refused { IfErr result (RefusesSnapshot self.now.state question) }
     {
         let _ = &self.recorder;
         snapshot_of::<Brand>(self, question, Blank::new(1))
     }
 
-    /// The same, with a count of the events that are copied: at most 4,096, however many there are. The others are
-    /// shared.
+    /// The same, with a count of the events that are copied: at most 4,096, however many there are.
+    /// The others are shared.
+    ///
+    /// # Errors
+    ///
+    /// Those of `snapshot`.
     pub fn snapshot_counted<L: Ledger>(
         &self,
         question: u32,
         copies: &mut Copies<L>,
     ) -> Result<Arc<Snapshot, Global>, Refusal>
-        ensures ok { IfOk result (λ shared. (q : Question) × (slice_get self.now.state.questions question ≡ Some q) × (arc_value shared ≡ take q.length self.now.state.accepted)) }
+        ensures ok { IfOk result (λ shared. (q : Question)
+            × (slice_get self.now.state.questions question ≡ Some q)
+            × (arc_value shared ≡ take q.length self.now.state.accepted)) }
         ensures refused { IfErr result (RefusesSnapshot self.now.state question) }
         ensures copies { copies.new ≤ copies.old + 4096 }
     {
@@ -44,7 +52,7 @@ impl Book {
         };
         match self
             .recorder
-            .snapshot(asked.events(), asked.total(), copies)
+            .snapshot(asked.length(), asked.total(), copies)
         {
             Ok(shared) => Ok(shared),
             Err(_) => Err(Refusal::NoMemory),
@@ -61,7 +69,9 @@ fn snapshot_of<L: Ledger>(
     requires name { blank.name ≡ L.name }
     requires parts { blank.parts ≡ L.parts }
     requires some { 0 < L.parts }
-    ensures ok { IfOk result (λ shared. (q : Question) × (slice_get book.now.state.questions question ≡ Some q) × (arc_value shared ≡ take q.length book.now.state.accepted)) }
+    ensures ok { IfOk result (λ shared. (q : Question)
+        × (slice_get book.now.state.questions question ≡ Some q)
+        × (arc_value shared ≡ take q.length book.now.state.accepted)) }
     ensures refused { IfErr result (RefusesSnapshot book.now.state question) }
 {
     let mut copies = Copies::<L>::new(blank);

@@ -1,9 +1,9 @@
 //! A request in two parts: what may be refused, and what takes no memory.
 
 ghost use Rattle.std.specs.Prelude.{◌≡◌, IfErr, IfOk};
-ghost use Rattle.trace_model.specs.Machine as machine;
-ghost use Rattle.trace_model.specs.Replies.{IsReply};
-ghost use Rattle.trace_model.specs.declared.session.Request.TheVariants as requests;
+ghost use Rattle.trace_model.specs.Protocol.Machine as machine;
+ghost use Rattle.trace_model.specs.Protocol.Replies.{IsReply};
+ghost use Rattle.trace_model.specs.declared.messages.session.Request.TheVariants as requests;
 ghost use Rattle.sequencer.specs.Book.{IsPrepared, IsRefusal, Refuses, request_of};
 ghost use Rattle.sequencer.specs.Called.{IsSingle, StepsOrMemory, WantsRightly, lacks_memory};
 ghost use Rattle.sequencer.specs.Printing.{printing};
@@ -48,16 +48,18 @@ impl Step {
 }
 
 impl Book {
-    /// Tests a request, which must be no batch, and makes every growth for it. What a reply shows is unchanged.
+    /// Tests a request, which must be no batch, and makes every growth for it. What a reply shows
+    /// is unchanged.
     ///
     /// # Errors
     ///
-    /// The reply that refuses the request. `NoMemory` comes after all tests passed, and only where an event or a
-    /// question would be added or a report printed.
+    /// The reply that refuses the request. `NoMemory` comes after all tests passed, and only where
+    /// an event or a question would be added or a report printed.
     pub fn prepare(&mut self, request: &Request) -> Result<Step, Reply>
         requires { IsSingle request.now }
         ensures shown { self.new.state ≡ self.old.state }
-        ensures ok { IfOk result (λ planned. (request_of planned.change ≡ request.now) × IsPrepared self.new planned) }
+        ensures ok { IfOk result (λ planned. (request_of planned.change ≡ request.now)
+            × IsPrepared self.new planned) }
         ensures refused { IfErr result (Refuses self.old.state request.now) }
         ensures refusal { IfErr result (IsRefusal self.old.state request.now) }
     {
@@ -72,7 +74,8 @@ impl Book {
 
     fn prepare_offer(&mut self, event: Event) -> Result<Step, Reply>
         ensures shown { self.new.state ≡ self.old.state }
-        ensures ok { IfOk result (λ planned. (request_of planned.change ≡ requests.Offer event) × IsPrepared self.new planned) }
+        ensures ok { IfOk result (λ planned. (request_of planned.change ≡ requests.Offer event)
+            × IsPrepared self.new planned) }
         ensures refused { IfErr result (Refuses self.old.state (requests.Offer event)) }
         ensures refusal { IfErr result (IsRefusal self.old.state (requests.Offer event)) }
     {
@@ -87,7 +90,8 @@ impl Book {
 
     fn prepare_ask(&mut self, bound: u8) -> Result<Step, Reply>
         ensures shown { self.new.state ≡ self.old.state }
-        ensures ok { IfOk result (λ planned. (request_of planned.change ≡ requests.Ask bound) × IsPrepared self.new planned) }
+        ensures ok { IfOk result (λ planned. (request_of planned.change ≡ requests.Ask bound)
+            × IsPrepared self.new planned) }
         ensures refused { IfErr result (Refuses self.old.state (requests.Ask bound)) }
         ensures refusal { IfErr result (IsRefusal self.old.state (requests.Ask bound)) }
     {
@@ -108,7 +112,8 @@ impl Book {
     }
 
     fn prepare_answer(&self, question: u32) -> Result<Step, Reply>
-        ensures ok { IfOk result (λ planned. (request_of planned.change ≡ requests.Answer question) × IsPrepared self.now planned) }
+        ensures ok { IfOk result (λ planned. (request_of planned.change ≡ requests.Answer question)
+            × IsPrepared self.now planned) }
         ensures refused { IfErr result (Refuses self.now.state (requests.Answer question)) }
         ensures refusal { IfErr result (IsRefusal self.now.state (requests.Answer question)) }
     {
@@ -128,7 +133,8 @@ impl Book {
     }
 
     fn prepare_status(&self, question: u32) -> Result<Step, Reply>
-        ensures ok { IfOk result (λ planned. (request_of planned.change ≡ requests.Status question) × IsPrepared self.now planned) }
+        ensures ok { IfOk result (λ planned. (request_of planned.change ≡ requests.Status question)
+            × IsPrepared self.now planned) }
         ensures refused { IfErr result (Refuses self.now.state (requests.Status question)) }
         ensures refusal { IfErr result (IsRefusal self.now.state (requests.Status question)) }
     {
@@ -154,7 +160,8 @@ impl Book {
     /// Takes the step, which must have been prepared on this book as it is. It takes no memory.
     pub fn commit(&mut self, planned: Step) -> Reply
         requires { IsPrepared self.old planned }
-        ensures { machine.step printing self.old.state (request_of planned.change) ≡ (result, self.new.state) }
+        ensures { machine.step printing self.old.state (request_of planned.change) ≡
+            (result, self.new.state) }
     {
         let Step { change, reply } = planned;
         match change {
@@ -165,8 +172,9 @@ impl Book {
         reply
     }
 
-    /// The reply to a request: a batch is offered, any other request is prepared and committed. `Refusal::NoMemory` is
-    /// told where a growth was refused: nothing has changed then, but for the events of a batch that came in before.
+    /// The reply to a request: a batch is offered, any other request is prepared and committed.
+    /// `Refusal::NoMemory` is told where a growth was refused: nothing has changed then, but for
+    /// the events of a batch that came in before.
     pub fn call(&mut self, request: &Request) -> Reply
         ensures steps { StepsOrMemory self.old.state request.now result self.new.state }
         ensures wanting { WantsRightly self.old.state request.now result }

@@ -32,7 +32,8 @@ impl Rest {
         self.awake = AWAKE;
     }
 
-    /// After a turn that delivered nothing: another thread may go on first, and later the worker sleeps.
+    /// After a turn that delivered nothing: another thread may go on first, and later the worker
+    /// sleeps.
     pub fn after_nothing(&mut self, clock: &impl Clock)
         ensures { self.new.awake ≡ self.old.awake - 1 }
     {

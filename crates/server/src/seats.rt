@@ -2,7 +2,7 @@
 use board::{BoardReader, Naming};
 
 /// The most sessions at a time.
-pub const MAX_SESSIONS: usize = 16;
+pub const MAX_SEATS: usize = 16;
 
 /// The readers that no session has, and how many sessions are open.
 #[derive(Drop)]
@@ -19,7 +19,7 @@ impl<N: Naming> Seats<N> {
 
     /// Takes a seat for a session, if one is free.
     pub fn take(&mut self) -> bool {
-        if self.open >= MAX_SESSIONS {
+        if self.open >= MAX_SEATS {
             return false;
         }
         self.open += 1;

@@ -4,7 +4,7 @@ ghost use Rattle.sequencer.specs.Book.{IsLimit};
 ghost use Rattle.server.specs.Service.{IsWorkers};
 
 use crate::rest::Rest;
-use crate::seats::{MAX_SESSIONS, Seats};
+use crate::seats::{MAX_SEATS, Seats};
 use crate::sessions::hold_session;
 use board::{BoardReader, Naming, Opened, Shown};
 use claims::{Claimant, claimants};
@@ -29,8 +29,8 @@ pub enum ServerFault {
     NotMade,
 }
 
-/// How many workers a server has, how many sessions it takes (0: without end), and how many events its book
-/// accepts at most.
+/// How many workers a server has, how many sessions it takes (0: without end), and how many events
+/// its book accepts at most.
 #[derive(Clone, Copy)]
 pub struct Service {
     pub workers: u32,
@@ -134,8 +134,8 @@ fn work<N: Naming, R: Wait + Clock + Copy>(
     drop(worker);
 }
 
-/// Takes sessions, each in a thread of its own, up to so many, and answers how many they were once they have
-/// ended. A connection for which there is no seat or no thread is closed and not counted.
+/// Takes sessions, each in a thread of its own, up to so many, and answers how many they were once
+/// they have ended. A connection for which there is no seat or no thread is closed and not counted.
 fn take_sessions<N: Naming + Send + Sync, R: Threads + Wait + Copy + Send + Sync>(
     rt: R,
     alloc: Global,
@@ -221,7 +221,7 @@ fn serve_named<
     requires limit { service.limit ≡ N.limit }
     requires workers { IsWorkers service.workers }
 {
-    let count = MAX_SESSIONS + service.workers as usize;
+    let count = MAX_SEATS + service.workers as usize;
     let Ok((desk, mut readers)) = Desk::<N, R, Shown<N>>::new(
         alloc,
         state,
@@ -253,16 +253,17 @@ fn serve_named<
     served
 }
 
-/// Serves the connections of the listener over one desk with its workers: a thread for each session, at most
-/// `MAX_SESSIONS` at a time, and one for each worker. A further connection, or one for which no thread can be
-/// made, is closed without a reply and not counted. Once `sessions` were taken it accepts nothing more; once they
-/// have ended it stops the workers, and answers how many sessions there were. A worker that found nothing to do for
-/// some turns sleeps from then on, and looks for a question every two milliseconds.
+/// Serves the connections of the listener over one desk with its workers: a thread for each
+/// session, at most `MAX_SEATS` at a time, and one for each worker. A further connection, or one
+/// for which no thread can be made, is closed without a reply and not counted. Once `sessions` were
+/// taken it accepts nothing more; once they have ended it stops the workers, and answers how many
+/// sessions there were. A worker that found nothing to do for some turns sleeps from then on, and
+/// looks for a question every two milliseconds.
 ///
 /// # Errors
 ///
-/// `Listen` where an accept failed, once the open sessions have ended; `NotMade` where the desk, the claimants or
-/// the threads of the workers were not made.
+/// `Listen` where an accept failed, once the open sessions have ended; `NotMade` where the desk,
+/// the claimants or the threads of the workers were not made.
 pub fn run_server<R: Threads + Wait + Clock + Copy + Send + Sync, H: Hold + Sync>(
     rt: R,
     alloc: Global,

@@ -14,8 +14,8 @@ const PIECE: usize = 4096;
 /// How many times bytes are dropped at most.
 const PIECES: usize = 1024;
 
-/// Reads and drops what the peer still sends, up to a bound, so that what was written reaches it before the
-/// socket is closed.
+/// Reads and drops what the peer still sends, up to a bound, so that what was written reaches it
+/// before the socket is closed.
 fn linger(stream: &TcpStream) {
     if stream.shutdown(Shutdown::Write).is_err() {
         return;

@@ -1,6 +1,7 @@
 //! A client that closes its socket before its reply comes.
 
 use crate::on_server::{Peers, asked, serves};
+use fixtures::frame;
 use server::Unheld;
 use std::alloc::Global;
 use std::hash::RandomState;
@@ -8,14 +9,12 @@ use std::io::{self, Write};
 use std::net::{Net, SocketAddr, TcpStream};
 use std::test::*;
 
-/// `0w7`
-const WRITE: [u8; 11] = [0, 9, 6, 0, 0, 0, 0, 0, 0, 0, 7];
-
 /// How many writes the other client offers at most.
-const MOST: u32 = 10_000;
+const LIMIT: u32 = 10_000;
 
-/// A client offers a write and closes without reading. Another offers writes, until one is placed above its own count
-/// of earlier ones: the first client's write was accepted. It answers whether that came.
+/// A client offers a write and closes without reading. Another offers writes, until one is placed
+/// above its own count of earlier ones: the first client's write was accepted. It answers whether
+/// that came.
 pub(crate) fn one_closes_early<R: Net<Stream = TcpStream>>(
     rt: &R,
     alloc: Global,
@@ -23,8 +22,8 @@ pub(crate) fn one_closes_early<R: Net<Stream = TcpStream>>(
 ) -> io::Result<bool> {
     write_and_close(rt, address)?;
     let stream = TcpStream::connect(rt, address)?;
-    for earlier in 0..MOST {
-        if placed(&asked(alloc, &stream, &WRITE)?)? > earlier {
+    for earlier in 0..LIMIT {
+        if placed(&asked(alloc, &stream, &frame(6, 0, 7))?)? > earlier {
             return Ok(true);
         }
     }
@@ -33,7 +32,7 @@ pub(crate) fn one_closes_early<R: Net<Stream = TcpStream>>(
 
 fn write_and_close<R: Net<Stream = TcpStream>>(rt: &R, address: SocketAddr) -> io::Result<()> {
     let stream = TcpStream::connect(rt, address)?;
-    (&mut &stream).write_all(&WRITE)
+    (&mut &stream).write_all(&frame(6, 0, 7))
 }
 
 /// The place in the body of a reply that gives one.

@@ -1,5 +1,11 @@
+//! Tests of the server, over sockets.
+
 use crate::on_closed_clients::one_closes_early;
+use desk_fixtures::TasksMeet;
 use findings::Hold;
+use fixtures::{
+    ANSWER, LIMIT, Meeting, OPENED, REPORT, REPORT_HEAD, SETTLED, STATUS, placed, question_frames,
+};
 use server::{Service, Unheld, run_server};
 use std::alloc::Global;
 use std::hash::RandomState;
@@ -7,33 +13,10 @@ use std::io::{self, Read, Write};
 use std::net::{Net, SocketAddr, TcpListener, TcpStream};
 use std::process::Abort;
 use std::sync::Wait;
-use std::sync::atomic::{AtomicU64, Ordering};
 use std::test::*;
 use std::thread;
 use std::thread::Threads;
 use std::time::Clock;
-
-/// `0f1 0f2 1a10 1a20 1r20 1r10 2a20 2a10 2r10 2r20`, each as a kind, a thread and an object.
-const OPPOSITE_ORDERS: [(u8, u8, u8); 10] = [
-    (1, 0, 1),
-    (1, 0, 2),
-    (3, 1, 10),
-    (3, 1, 20),
-    (4, 1, 20),
-    (4, 1, 10),
-    (3, 2, 20),
-    (3, 2, 10),
-    (4, 2, 10),
-    (4, 2, 20),
-];
-
-/// What is reported of them.
-const REPORT: &str =
-    "question 0 length 10 bound 2 cycles 1 confirmed 1\ncycle 0 1 confirmed\n  thread 1 lock 20 holds 10 place 3\n  thread 2 lock 10 holds 20 place 7\n  witness 0 1 2 6\n";
-
-const ANSWER: [u8; 7] = [0, 5, 8, 0, 0, 0, 0];
-
-const STATUS: [u8; 7] = [0, 5, 9, 0, 0, 0, 0];
 
 /// Serves so many sessions, with two workers, and answers how many there were.
 fn served<R: Threads + Wait + Clock + Copy + Send + Sync, H: Hold + Sync>(
@@ -47,7 +30,7 @@ fn served<R: Threads + Wait + Clock + Copy + Send + Sync, H: Hold + Sync>(
     let service = Service {
         workers: 2,
         sessions,
-        limit: 1_048_576,
+        limit: LIMIT,
     };
     run_server(rt, alloc, state, listener, service, hold).ok()
 }
@@ -67,21 +50,15 @@ pub(crate) fn asked(alloc: Global, mut stream: &TcpStream, request: &[u8]) -> io
     reply(alloc, stream)
 }
 
-/// Sends the events of two opposite orders and asks about them. It answers whether each reply is right.
+/// Sends the events of two opposite orders and asks about them. It answers whether each reply is
+/// right.
 fn opposite_orders(alloc: Global, mut stream: &TcpStream) -> io::Result<bool> {
-    let mut requests = Vec::new(alloc);
-    for (kind, thread, object) in OPPOSITE_ORDERS {
-        requests.extend_from_slice(&[0, 9, kind, 0, 0, 0, thread, 0, 0, 0, object])?;
-    }
-    requests.extend_from_slice(&[0, 2, 7, 2])?;
-    stream.write_all(&requests)?;
+    stream.write_all(&question_frames(alloc)?)?;
     let mut right = true;
     for place in 0..10u8 {
-        let placed = reply(alloc, stream)?;
-        right &= placed.as_slice() == [65, 0, 0, 0, place].as_slice();
+        right &= reply(alloc, stream)?.as_slice() == &placed(place)[4..];
     }
-    let opened = reply(alloc, stream)?;
-    right &= opened.as_slice() == [67, 0, 0, 0, 0, 0, 0, 0, 10, 0, 0, 0, 2].as_slice();
+    right &= reply(alloc, stream)?.as_slice() == &OPENED[4..];
     Ok(right)
 }
 
@@ -105,13 +82,9 @@ fn whole_session<R: Net<Stream = TcpStream>>(
 ) -> io::Result<bool> {
     let stream = TcpStream::connect(rt, address)?;
     let mut right = opposite_orders(alloc, &stream)?;
-    let mut report = Vec::from_slice(alloc, &[69, 0, 0, 0, 0])?;
-    report.extend_from_slice(REPORT.as_bytes())?;
-    right &= settled(alloc, &stream)?.as_slice() == report.as_slice();
-    let mut status = Vec::from_slice(alloc, &[70, 0, 0, 0, 0, 0, 0, 0, 10, 0, 0, 0, 1])?;
-    status.extend_from_slice(&[0, 0, 0, 10, 2, 0, 0, 0, 2, 0, 0, 0, 2])?;
-    status.extend_from_slice(&[0, 0, 0, 0, 0, 0, 0, 1, 0, 0, 0, 0, 0, 0, 0, 1])?;
-    right &= asked(alloc, &stream, &STATUS)?.as_slice() == status.as_slice();
+    let report = settled(alloc, &stream)?;
+    right &= report.as_slice().strip_prefix(&REPORT_HEAD[4..]) == Some(REPORT);
+    right &= asked(alloc, &stream, &STATUS)?.as_slice() == &SETTLED[4..];
     Ok(right)
 }
 
@@ -187,49 +160,21 @@ fn client_over_a_socket(rt: HostRuntime) -> Result<(), Fail> {
     )
 }
 
-/// Keeps task 0 until it was called for task 1, and task 1 until it was called for task 0, but not for ever.
-#[derive(Drop)]
-struct Meeting {
-    first: AtomicU64,
-    second: AtomicU64,
-    gave_up: AtomicU64,
-}
-
-impl Hold for Meeting {
-    fn hold(&self, _question: u32, task: u32) {
-        let (own, other) = if task == 0 {
-            (&self.first, &self.second)
-        } else {
-            (&self.second, &self.first)
-        };
-        own.fetch_add(1, Ordering::SeqCst);
-        for _ in 0..1_000_000u32 {
-            if other.load(Ordering::SeqCst) > 0 {
-                return;
-            }
-            thread::yield_now();
-        }
-        self.gave_up.store(1, Ordering::SeqCst);
-    }
-}
-
 #[test]
 fn two_workers_meet(rt: HostRuntime) -> Result<(), Fail> {
-    let meeting = Meeting {
-        first: AtomicU64::new(0),
-        second: AtomicU64::new(0),
-        gave_up: AtomicU64::new(0),
+    let hold = TasksMeet {
+        meeting: Meeting::new(),
     };
     serves(
         rt,
         rt.alloc(),
         RandomState::new(&rt)?,
-        &meeting,
+        &hold,
         Peers::WholeSession,
     )?;
-    assert!(rt; meeting.first.load(Ordering::SeqCst) > 0);
-    assert!(rt; meeting.second.load(Ordering::SeqCst) > 0);
-    assert_eq!(rt; meeting.gave_up.load(Ordering::SeqCst), 0);
+    let (first, second) = hold.meeting.came();
+    assert!(rt; first > 0 && second > 0);
+    assert!(rt; !hold.meeting.gave_up());
     Ok(())
 }
 
@@ -244,7 +189,8 @@ fn answered<R: Net<Stream = TcpStream>>(
     Ok(stream)
 }
 
-/// Sixteen sessions are open, and a further connection reads the end. They close, and then another is answered.
+/// Sixteen sessions are open, and a further connection reads the end. They close, and then another
+/// is answered.
 fn seventeen<R: Net<Stream = TcpStream>>(
     rt: &R,
     alloc: Global,

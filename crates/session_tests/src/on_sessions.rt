@@ -2,6 +2,7 @@
 
 use crate::one_byte::{OneByteSink, OneByteSource};
 use crate::served::{Session, serve_anew};
+use fixtures::{ANSWER, OPENED, frame, placed, question_frames};
 use question_server::{Ended, MemorySink, MemorySource, ReadSource, ServeFault, WriteSink};
 use std::alloc::{AllocError, Global};
 use std::io;
@@ -11,49 +12,25 @@ use std::sync::Wait;
 use std::test::{Fail, *};
 use trace_model::Fault;
 
-/// What is reported of two threads that nest two locks in opposite orders.
-pub(crate) const REPORT: &str =
-    "question 0 length 10 bound 2 cycles 1 confirmed 1\ncycle 0 1 confirmed\n  thread 1 lock 20 holds 10 place 3\n  thread 2 lock 10 holds 20 place 7\n  witness 0 1 2 6\n";
-
 // calls without end
 const EVER: u64 = 1_000_000;
 
-/// The frame of an event of small numbers.
-fn frame(kind: u8, thread: u8, object: u8) -> [u8; 11] {
-    [0, 9, kind, 0, 0, 0, thread, 0, 0, 0, object]
-}
-
-/// The frames of `0f1 0f2 1a10 1a20 1r20 1r10 2a20 2a10 2r10 2r20`, of an ask with the bound 2, and of the
-/// answer of question 0: 121 bytes.
+/// The frames of the events of opposite orders, of an ask with the bound 2, and of the answer of
+/// question 0: 121 bytes.
 pub(crate) fn questions(alloc: Global) -> Result<Vec<u8>, AllocError> {
-    let events = [
-        (1, 0, 1),
-        (1, 0, 2),
-        (3, 1, 10),
-        (3, 1, 20),
-        (4, 1, 20),
-        (4, 1, 10),
-        (3, 2, 20),
-        (3, 2, 10),
-        (4, 2, 10),
-        (4, 2, 20),
-    ];
-    let mut bytes = Vec::new(alloc);
-    for (kind, thread, object) in events {
-        bytes.extend_from_slice(&frame(kind, thread, object))?;
-    }
-    bytes.extend_from_slice(&[0, 2, 7, 2])?;
-    bytes.extend_from_slice(&[0, 5, 8, 0, 0, 0, 0])?;
+    let mut bytes = question_frames(alloc)?;
+    bytes.extend_from_slice(&ANSWER)?;
     Ok(bytes)
 }
 
-/// Their replies: placed 0 to 9, opened 0 of length 10 with 2 tasks, and pending 0 of 2, together 124 bytes.
+/// Their replies: placed 0 to 9, opened 0 of length 10 with 2 tasks, and pending 0 of 2, together
+/// 124 bytes.
 pub(crate) fn replies(alloc: Global) -> Result<Vec<u8>, AllocError> {
     let mut bytes = Vec::new(alloc);
     for place in 0..10u8 {
-        bytes.extend_from_slice(&[0, 0, 0, 5, 65, 0, 0, 0, place])?;
+        bytes.extend_from_slice(&placed(place))?;
     }
-    bytes.extend_from_slice(&[0, 0, 0, 13, 67, 0, 0, 0, 0, 0, 0, 0, 10, 0, 0, 0, 2])?;
+    bytes.extend_from_slice(&OPENED)?;
     bytes.extend_from_slice(&[0, 0, 0, 13, 68, 0, 0, 0, 0, 0, 0, 0, 0, 0, 0, 0, 2])?;
     Ok(bytes)
 }
@@ -90,8 +67,9 @@ fn opposite_orders_byte_by_byte(rt: HostRuntime) -> Result<(), Fail> {
     Ok(())
 }
 
-/// Bytes, their fault, what is written, and how many events were placed: an unknown kind, and a valid frame after
-/// it, which has no reply and no effect; a length of 0; the end after one event and a byte.
+/// Bytes, their fault, what is written, and how many events were placed: an unknown kind, and a
+/// valid frame after it, which has no reply and no effect; a length of 0; the end after one event
+/// and a byte.
 const FAULTS: [(&[u8], Fault, &[u8], usize); 3] = [
     (
         &[0, 1, 200, 0, 9, 1, 0, 0, 0, 0, 0, 0, 0, 1],
@@ -118,7 +96,8 @@ fn faults_end_a_session(rt: HostRuntime) -> Result<(), Fail> {
     Ok(())
 }
 
-/// What comes of the session of the questions, whose source fails at this call, and what is written.
+/// What comes of the session of the questions, whose source fails at this call, and what is
+/// written.
 fn with_failing_read(
     rt: &(impl RandomSource + AllocGlobal + Wait),
     call: u64,
@@ -244,14 +223,14 @@ fn counted(rt: &(impl RandomSource + AllocGlobal + Wait), bytes: &[u8]) -> Resul
 fn frames_in_flight_cost_one_read_and_one_write(rt: HostRuntime) -> Result<(), Fail> {
     let alloc = rt.alloc();
     let mut bytes = Vec::new(alloc);
-    let mut placed = Vec::new(alloc);
+    let mut replies = Vec::new(alloc);
     for place in 0..64u8 {
         bytes.extend_from_slice(&frame(6, 0, 1))?;
-        placed.extend_from_slice(&[0, 0, 0, 5, 65, 0, 0, 0, place])?;
+        replies.extend_from_slice(&placed(place))?;
     }
     let found = counted(&rt, &bytes)?;
     assert!(rt; found.session.ended == Ok(Ended::Input));
-    assert!(rt; found.written == placed);
+    assert!(rt; found.written == replies);
     // the second read finds the end
     assert!(rt; found.writes == 1 && found.reads == 2);
     Ok(())

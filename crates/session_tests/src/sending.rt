@@ -1,6 +1,7 @@
 //! When replies are sent.
 
 use crate::served::serve_anew;
+use fixtures::frame;
 use question_server::{Ended, ReadSource, WriteSink};
 use std::alloc::Global;
 use std::io;
@@ -8,9 +9,6 @@ use std::io::{Read, Write};
 use std::sync::Arc;
 use std::sync::atomic::{AtomicU64, Ordering};
 use std::test::*;
-
-/// `0w1`
-const FRAME: [u8; 11] = [0, 9, 6, 0, 0, 0, 0, 0, 0, 0, 1];
 
 /// Gives a frame a read, so many times, and notes at each read how many bytes were written by then.
 #[derive(Drop)]
@@ -27,8 +25,9 @@ impl Read for Frames<'_> {
             return Ok(0);
         }
         self.left -= 1;
-        let len = FRAME.len().min(buffer.len());
-        buffer[..len].copy_from_slice(&FRAME[..len]);
+        let frame = frame(6, 0, 1);
+        let len = frame.len().min(buffer.len());
+        buffer[..len].copy_from_slice(&frame[..len]);
         Ok(len)
     }
 }

@@ -1,13 +1,12 @@
 //! A session over a book of its own.
 
+use fixtures::LIMIT;
 use question_server::{Ended, ServeFault, Sink, Source, serve_book};
 use sequencer::Book;
 use std::hash::RandomState;
 use std::random::RandomSource;
 use std::sync::Wait;
 use std::test::*;
-
-const MOST: u32 = 1_048_576;
 
 /// How a session ended, how many events its book then has, and whether that has a question.
 #[derive(Drop)]
@@ -24,7 +23,7 @@ pub(crate) fn serve_anew<S: Source, K: Sink>(
     source: &mut S,
     sink: &mut K,
 ) -> Result<Session, Fail> {
-    let mut book = Book::new(rt.alloc(), RandomState::new(rt)?, MOST)?;
+    let mut book = Book::new(rt.alloc(), RandomState::new(rt)?, LIMIT)?;
     let ended = serve_book(rt, rt.alloc(), source, sink, &mut book);
     let session = Session {
         ended,

@@ -2,6 +2,7 @@
 ghost use Rattle.std.specs.Prelude.{None};
 
 use crate::served::{Session, serve_anew};
+use fixtures::frame;
 use question_server::{Ended, Failed, MemorySink, MemorySource, Source, count_failure};
 use std::alloc::Global;
 use std::random::RandomSource;
@@ -88,7 +89,7 @@ fn nothing_is_read_after_a_fault(rt: HostRuntime) -> Result<(), Fail> {
 fn writes(alloc: Global, count: usize) -> Result<Vec<u8>, Fail> {
     let mut bytes = Vec::new(alloc);
     for _ in 0..count {
-        bytes.extend_from_slice(&[0, 9, 6, 0, 0, 0, 0, 0, 0, 0, 1])?;
+        bytes.extend_from_slice(&frame(6, 0, 1))?;
     }
     Ok(bytes)
 }

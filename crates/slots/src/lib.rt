@@ -1,11 +1,14 @@
-//! Tables by number, in which a number is looked for first where the last one was found, and where it stands if the numbers came
-//! in order: there it is not hashed.
+//! Tables by number, in which a number is looked for first where it was last found, and where it
+//! stands if the numbers came in order: there it is not hashed.
 #![tactic(auto)]
+
+mod guesses;
 
 ghost use Rattle.std.specs.Prelude.{◌≡◌, ℕ, Some, IsSome, true, cond, nat_eq};
 ghost use Rattle.std.specs.HashMap.{get};
 ghost use Rattle.slots.specs.Slots.{HasSlot};
 
+pub use guesses::Guesses;
 use indexmap::IndexMap;
 use std::collections::hash_map::RandomState;
 
@@ -22,8 +25,9 @@ fn stands_at<V>(table: &NumberTable<V>, slot: usize, number: u32) -> bool
     }
 }
 
-/// The index of a number in the table, if it is there. It is not hashed where it stands at the near index, nor where the
-/// numbers came in order, from 0 or from 1 on. It takes no memory, and neither do the others.
+/// The index of a number in the table, if it is there. It is not hashed where it stands at the near
+/// index, nor where the numbers came in order, from 0 or from 1 on. It takes no memory, and neither
+/// do the others.
 pub fn slot_of<V>(table: &NumberTable<V>, near: usize, number: u32) -> Option<usize>
     ensures { HasSlot nat_eq table.now number result }
 {
@@ -56,7 +60,8 @@ pub fn value_of<V: Copy>(table: &NumberTable<V>, near: usize, number: u32) -> Op
 /// Writes what the table has for a number, which must be there.
 pub fn write_value<V: Copy>(table: &mut NumberTable<V>, near: usize, number: u32, value: V)
     requires { IsSome (get nat_eq table.old number) }
-    ensures { (q : ℕ) → get nat_eq table.new q ≡ cond (nat_eq number q) (Some value) (get nat_eq table.old q) }
+    ensures { (q : ℕ) → get nat_eq table.new q ≡
+        cond (nat_eq number q) (Some value) (get nat_eq table.old q) }
 {
     match slot_of(table, near, number) {
         Some(slot) => match table.get_index_mut(slot) {

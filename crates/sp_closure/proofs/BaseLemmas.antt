@@ -4,26 +4,31 @@ use Rattle.std.specs.Option.{option_map_or}
 use Rattle.std.proofs.lemmas.Bool.{eq-eqb, eqb-true, false≢true, and_parts}
 use Rattle.std.proofs.lemmas.Bool.Decides.{nat_tests}
 use Rattle.std.proofs.lemmas.Option.{same_Some, none-some}
-use Rattle.trace_model.specs.Trace.{Trace, OfThread}
+use Rattle.trace_model.specs.Theory.Trace.{Trace, OfThread}
 use Rattle.std.specs.Arc.{arc_value}
 use Rattle.std.specs.List.{Contains}
-use Rattle.trace_model.specs.Lawful.{IsWellFormed}
-use Rattle.trace_model.specs.Closure.{Places, IsClosure}
-use Rattle.trace_model.proofs.Stability.{closure_below}
-use Rattle.trace_index.specs.Numbers.{count_below, of_thread, number_at}
+use Rattle.trace_model.specs.Theory.Lawful.{IsWellFormed}
+use Rattle.trace_model.specs.Theory.Closure.{Places, IsClosure}
+use Rattle.trace_model.proofs.Theory.Stability.{closure_below}
+use Rattle.links.specs.Links.{count_below}
+use Rattle.links.proofs.Counting.{count-agree}
+use Rattle.trace_index.specs.Numbers.{of_thread, number_at}
 use Rattle.sp_closure.specs.declared.demands.Goal.{Goal}
 use Rattle.sp_closure.specs.declared.demands.Item.{Item}
 use Rattle.sp_closure.specs.declared.demands.Section.{Section}
+use Rattle.sp_closure.specs.declared.demands.Demands.{Demands}
 use Rattle.sp_closure.specs.declared.layer.Layer.{Layer}
+use Rattle.sp_closure.specs.declared.work.Work.{Work}
 use Rattle.sp_closure.specs.Sheets.{at}
 use Rattle.sp_closure.specs.declared.fronts.Fronts.{Fronts}
 use Rattle.sp_closure.specs.State.{count_of, places_in}
-use Rattle.sp_closure.specs.Slots.{class_of, AreSlots, HasFirst, in_front}
+use Rattle.sp_closure.specs.Slots.{class_of, slots_of, AreSlots, HasFirst, in_front}
 use Rattle.sp_closure.specs.Layers.{front_of, done_of, last_of, first_some, IsEmpty}
-use Rattle.sp_closure.specs.Work.{State, IsOnWay, sum_to}
+use Rattle.sp_closure.specs.Demands.{AreDemands}
+use Rattle.sp_closure.specs.Work.{State, IsFit, IsOnWay, sum_to}
 use Rattle.sp_closure.specs.declared.closer.Closer.{Closer}
-use Rattle.sp_closure.specs.Closers.{leads_to, HasBase, Keeps, KeepsFor, KeepsNothing, kept, goal_at}
-use Rattle.sp_closure.proofs.Counts.{count_le, count_same}
+use Rattle.sp_closure.specs.Closers.{leads_to, CountsBut, HasBase, Keeps, KeepsFor, KeepsNothing, kept, goal_at, total_over}
+use Rattle.sp_closure.proofs.Counts.{count_le}
 use Rattle.sp_closure.proofs.FrontLemmas.{of_thread_from, of_thread_so, lt_true}
 use Rattle.sp_closure.proofs.ThreadLemmas.{place_below}
 use Rattle.sp_closure.proofs.SlotLemmas.{number_is}
@@ -95,7 +100,7 @@ first_counted s slots count a (suc c) known has =
     let (p, x) = has c (omega arith) in
     let (t, o) = known.of_place p a x.slot in
     let n = number_is s p t c o x.number in
-    let here : count_below (of_thread s t) p ≡ count_below (in_slot slots a) p = count_same (of_thread s t) (in_slot slots a) p (λ q l. same_thread s slots count p a t known x.slot o q) in
+    let here : count_below (of_thread s t) p ≡ count_below (in_slot slots a) p = count-agree (of_thread s t) (in_slot slots a) p (λ q l. same_thread s slots count p a t known x.slot o q) in
     let one : count_below (in_slot slots a) (suc p) ≡ suc (count_below (in_slot slots a) p) =
     ap (λ b. cond b (suc (count_below (in_slot slots a) p)) (count_below (in_slot slots a) p)) (slot_from slots a p x.slot) in
     omega (arith, n, here, one, count_le (in_slot slots a) (suc p) (length s) (omega (arith, place_below s t p o)))
@@ -151,9 +156,13 @@ sum_most : (f g : ℕ → ℕ) (n : ℕ) → ((a : ℕ) → f a ≤ g a) → sum
 sum_most f g zero h = omega arith
 sum_most f g (suc n) h = omega (arith, sum_most f g n h, h n)
 
-pub at_most_all : (s : Trace) (slots : ℕ → Option ℕ) (count n : ℕ) (front : ℕ → ℕ) → AreSlots s slots count → ((a : ℕ) → HasFirst s slots a (front a)) → sum_to front n ≤ length s
+at_most_all : (s : Trace) (slots : ℕ → Option ℕ) (count n : ℕ) (front : ℕ → ℕ) → AreSlots s slots count → ((a : ℕ) → HasFirst s slots a (front a)) → sum_to front n ≤ length s
 at_most_all s slots count n front known has =
     omega (arith, sum_most front (λ a. count_below (in_slot slots a) (length s)) n (λ a. first_counted s slots count a (front a) known (has a)), sum_counts slots n (length s))
+
+-- work that fits has no more in than there is
+pub total_most : (s : Trace) (d : Demands) (under : Layer) (w : Work) → AreDemands s d → IsFit s d under w → total_over under w d ≤ length s
+total_most s d under w known fits = at_most_all s (slots_of d.threads) d.threads.count d.threads.count (front_of under w.layer) known.slots fits.fronts
 
 -- fronts that agree below the count of slots hold the same places
 pub in_front_same : (s : Trace) (slots : ℕ → Option ℕ) (count : ℕ) (f g : ℕ → ℕ) → AreSlots s slots count → ((a : ℕ) → a < count → f a ≡ g a) →
@@ -213,7 +222,7 @@ no_base s c m k none keeps = go keeps.has
 
 -- a closer that keeps nothing counts all that is in
 pub counted_all : (s : Trace) (c : Closer) (numbers : List ℕ) (before after all : ℕ) → KeepsNothing c →
-    (k : ℕ) × KeepsFor s c numbers k × (after + k ≡ before + all) → after ≡ before + all
+    CountsBut (KeepsFor s c numbers) before after all → after ≡ before + all
 counted_all s c numbers before after all none (k, (m, first, keeps), e) =
     omega (arith, e, no_base s c m k none keeps)
 
@@ -230,7 +239,8 @@ closure_cut s places set end w closure most p = go (set p) refl
     go true e = rw (lt_true p end (closure_below s w places end p most ((closure p).0 e))) refl
     go false e = and_off (nat_lt p end)
 
--- fronts that agree with a closure below the count of slots, as far as the greatest of the places, hold it
+-- fronts that agree with a closure below the count of slots, as far as the greatest of the places,
+-- hold it
 pub set_of_fronts : (s : Trace) (places : List ℕ) (classes : List (Option ℕ)) (count : ℕ) (front : ℕ → ℕ) (fronts : Fronts) → IsWellFormed s →
     AreSlots s (class_of classes) count → (arc_value fronts.slots).items ≡ classes → ((a : ℕ) → a < count → front a ≡ count_of fronts a) →
     ((p : ℕ) → Contains places p → p ≤ fronts.end) → IsClosure s places (in_front s (class_of classes) front) → in_front s (class_of classes) front ≡ places_in s fronts

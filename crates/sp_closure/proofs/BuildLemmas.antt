@@ -6,16 +6,16 @@ use Rattle.std.specs.Option.{option_and_then}
 use Rattle.std.proofs.lemmas.Bool.{cases_lt}
 use Rattle.std.proofs.lemmas.Option.{none-some, same_Some, slice_get_within, slice_get-get_or, get_or_from_slice_get}
 use Rattle.std.proofs.lemmas.List.Elements.{Contains-append_cases}
-use Rattle.trace_model.specs.Trace.{Trace, OfThread}
-use Rattle.trace_model.specs.Held.{BeginsOn}
+use Rattle.trace_model.specs.Theory.Trace.{Trace, OfThread}
+use Rattle.trace_model.specs.Theory.Held.{BeginsOn}
 use Rattle.trace_model.proofs.Lists.{at_index, get-set_same, get-set_other}
 use Rattle.trace_index.specs.Numbers.{number_at}
 use Rattle.sp_closure.specs.declared.demands.Need.TheVariants.{Reach, Begin}
 use Rattle.sp_closure.specs.declared.demands.Item.{Item}
 use Rattle.sp_closure.specs.declared.demands.Demands.{Demands}
-use Rattle.sp_closure.specs.Slots.{class_of, AreSlots, Stands}
-use Rattle.sp_closure.specs.Demands.{Needs, AreLocks, AreItems, AreDemands, item, item_at}
-use Rattle.sp_closure.specs.Pushing.{IsDemand, IsForkLater, IsReached, IsBegun, AddsDemands, AreBuilt, AreAllBuilt}
+use Rattle.sp_closure.specs.Slots.{AreSlots, AreThreadSlots, Stands}
+use Rattle.sp_closure.specs.Demands.{Needs, AreLockSlots, AreItems, AreDemands, item, item_at}
+use Rattle.sp_closure.specs.Pushing.{Slotted, with_slots, IsDemand, IsForkLater, IsReached, IsBegun, AddsDemands, AreBuilt, AreAllBuilt}
 use Rattle.sp_closure.proofs.SlotLemmas.{before_stands, has_upto}
 use Rattle.sp_closure.proofs.ThreadLemmas.{place_below}
 use Rattle.sp_closure.proofs.PushLemmas.{reached_left, reached_right, begun_left, begun_right}
@@ -42,36 +42,36 @@ upto p q l = elim (cases_lt q p) [
   | inr not ↦ inr (omega (arith, l, not))
 ]
 
-built_other : (s : Trace) (slots locks : ℕ → Option ℕ) (p a : ℕ) (xs : List Item) → (slots p ≡ Some a → ⊥) → AreBuilt s slots locks p a xs → AreBuilt s slots locks (suc p) a xs
-built_other s slots locks p a xs apart b = record {
+built_other : (v : Slotted) (p a : ℕ) (xs : List Item) → (v.slots p ≡ Some a → ⊥) → AreBuilt v p a xs → AreBuilt v (suc p) a xs
+built_other v p a xs apart b = record {
   only = λ i h. let (q, l, st, d) = b.only i h in (q, omega (arith, l), st, d);
   ascend = b.ascend;
   needs = λ q r n l st need. elim (upto p q l) [
     | inl less ↦ b.needs q r n less st need
-    | inr e ↦ absurd (apart (subst (λ z. slots z ≡ Some a) e st.slot))
+    | inr e ↦ absurd (apart (subst (λ z. v.slots z ≡ Some a) e st.slot))
   ];
   begins = λ q k n l st on. elim (upto p q l) [
     | inl less ↦ b.begins q k n less st on
-    | inr e ↦ absurd (apart (subst (λ z. slots z ≡ Some a) e st.slot))
+    | inr e ↦ absurd (apart (subst (λ z. v.slots z ≡ Some a) e st.slot))
   ];
 }
 
-built_pushed : (s : Trace) (slots locks : ℕ → Option ℕ) (count p a : ℕ) (xs ys : List Item) → AreSlots s slots count → slots p ≡ Some a → AreBuilt s slots locks p a xs →
-    AddsDemands s slots locks p xs ys → AreBuilt s slots locks (suc p) a ys
-built_pushed s slots locks count p a xs ys k slot b (n, added, num, is, d) = subst (AreBuilt s slots locks (suc p) a) (sym is) (record {
+built_pushed : (v : Slotted) (count p a : ℕ) (xs ys : List Item) → AreSlots v.trace v.slots count → v.slots p ≡ Some a → AreBuilt v p a xs →
+    AddsDemands v p xs ys → AreBuilt v (suc p) a ys
+built_pushed v count p a xs ys k slot b (n, added, num, is, d) = subst (AreBuilt v (suc p) a) (sym is) (record {
   only = λ i h. elim (Contains-append_cases xs added i h) [
     | inl old ↦ let (q, l, st, dem) = b.only i old in (q, omega (arith, l), st, dem)
     | inr new ↦
         let dem = d.only i new in
         let e : i.number ≡ n = dem.number in
-        (p, omega arith, subst (Stands s slots p a) (sym e) here, subst (λ z. IsDemand s slots locks p z i) (sym e) dem)
+        (p, omega arith, subst (Stands v.trace v.slots p a) (sym e) here, subst (λ z. IsDemand v p z i) (sym e) dem)
   ];
   ascend = λ i j x y l hx hy. elim (two_lists xs added i x hx) [
     | inl ox ↦ elim (two_lists xs added j y hy) [
       | inl oy ↦ b.ascend i j x y l ox oy
       | inr ny ↦
           let (q, less, st, dem) = b.only x (contained xs i x ox) in
-          omega (arith, before_stands s slots count q p a x.number n k st here less, (d.only y ny.1).number)
+          omega (arith, before_stands v.trace v.slots count q p a x.number n k st here less, (d.only y ny.1).number)
     ]
     | inr nx ↦ elim (two_lists xs added j y hy) [
       | inl oy ↦ absurd (omega (arith, l, nx.0, slice_get_within xs j y oy))
@@ -81,32 +81,32 @@ built_pushed s slots locks count p a xs ys k slot b (n, added, num, is, d) = sub
   needs = λ q r m l st need. elim (upto p q l) [
     | inl less ↦ elim (b.needs q r m less st need) [
       | inl later ↦ inl later
-      | inr at ↦ inr (reached_left s slots m r xs added at)
+      | inr at ↦ inr (reached_left v.trace v.slots m r xs added at)
     ]
     | inr e ↦
-        let same : n ≡ m = same_Some n m (sym num ∙ subst (λ z. number_at s z ≡ Some m) e st.number) in
-        let now : IsForkLater s p m r ⊎ IsReached s slots m r added = subst (λ z. IsForkLater s p z r ⊎ IsReached s slots z r added) same (d.needs r (subst (λ z. Needs s z r) e need)) in
+        let same : n ≡ m = same_Some n m (sym num ∙ subst (λ z. number_at v.trace z ≡ Some m) e st.number) in
+        let now : IsForkLater v.trace p m r ⊎ IsReached v.trace v.slots m r added = subst (λ z. IsForkLater v.trace p z r ⊎ IsReached v.trace v.slots z r added) same (d.needs r (subst (λ z. Needs v.trace z r) e need)) in
         elim now [
-          | inl later ↦ inl (subst (λ z. IsForkLater s z m r) (sym e) later)
-          | inr at ↦ inr (reached_right s slots m r xs added at)
+          | inl later ↦ inl (subst (λ z. IsForkLater v.trace z m r) (sym e) later)
+          | inr at ↦ inr (reached_right v.trace v.slots m r xs added at)
         ]
   ];
   begins = λ q j m l st on. elim (upto p q l) [
     | inl less ↦ begun_left q m xs added (b.begins q j m less st on)
     | inr e ↦
-        let same : n ≡ m = same_Some n m (sym num ∙ subst (λ z. number_at s z ≡ Some m) e st.number) in
-        let now : IsBegun p m added = subst (λ z. IsBegun p z added) same (d.begins j (subst (λ z. BeginsOn s z j) e on)) in
+        let same : n ≡ m = same_Some n m (sym num ∙ subst (λ z. number_at v.trace z ≡ Some m) e st.number) in
+        let now : IsBegun p m added = subst (λ z. IsBegun p z added) same (d.begins j (subst (λ z. BeginsOn v.trace z j) e on)) in
         begun_right q m xs added (subst (λ z. IsBegun z m added) (sym e) now)
   ];
 })
   where
-    here : Stands s slots p a n
+    here : Stands v.trace v.slots p a n
     here = record { slot = slot; number = num }
 
 -- one more place
-pub all_pushed : (s : Trace) (slots locks : ℕ → Option ℕ) (count p a : ℕ) (lists : List (Vec Item Global)) (old new : Vec Item Global) → AreSlots s slots count → slots p ≡ Some a →
-    slice_get lists a ≡ Some old → AddsDemands s slots locks p old.items new.items → AreAllBuilt s slots locks p lists → AreAllBuilt s slots locks (suc p) (slice_set lists a new)
-all_pushed s slots locks count p a lists old new k slot at adds all b zs h = elim (cases_lt a b) [
+pub all_pushed : (v : Slotted) (count p a : ℕ) (lists : List (Vec Item Global)) (old new : Vec Item Global) → AreSlots v.trace v.slots count → v.slots p ≡ Some a →
+    slice_get lists a ≡ Some old → AddsDemands v p old.items new.items → AreAllBuilt v p lists → AreAllBuilt v (suc p) (slice_set lists a new)
+all_pushed v count p a lists old new k slot at adds all b zs h = elim (cases_lt a b) [
   | inl less ↦ other (λ e. omega (arith, less, e))
   | inr not ↦ elim (cases_lt b a) [
     | inl more ↦ other (λ e. omega (arith, more, e))
@@ -114,14 +114,14 @@ all_pushed s slots locks count p a lists old new k slot at adds all b zs h = eli
   ]
 ]
   where
-    other : (a ≡ b → ⊥) → AreBuilt s slots locks (suc p) b zs.items
-    other ne = built_other s slots locks p b zs.items (λ e. ne (same_Some a b (sym slot ∙ e))) (all b zs (sym (get-set_other lists a b new ne) ∙ h))
+    other : (a ≡ b → ⊥) → AreBuilt v (suc p) b zs.items
+    other ne = built_other v p b zs.items (λ e. ne (same_Some a b (sym slot ∙ e))) (all b zs (sym (get-set_other lists a b new ne) ∙ h))
 
-    same : a ≡ b → AreBuilt s slots locks (suc p) b zs.items
+    same : a ≡ b → AreBuilt v (suc p) b zs.items
     same e =
         let is : new ≡ zs = same_Some new zs (sym (get-set_same lists a old new at) ∙ subst (λ z. slice_get (slice_set lists a new) z ≡ Some zs) (sym e) h) in
-        subst (λ z. AreBuilt s slots locks (suc p) b z.items) is
-        (subst (λ z. AreBuilt s slots locks (suc p) z new.items) e (built_pushed s slots locks count p a old.items new.items k slot (all a old at) adds))
+        subst (λ z. AreBuilt v (suc p) b z.items) is
+        (subst (λ z. AreBuilt v (suc p) z new.items) e (built_pushed v count p a old.items new.items k slot (all a old at) adds))
 
 item_so : (d : Demands) (a j : ℕ) (x : Item) → item_at d a j ≡ Some x → (xs : Vec Item Global) × (slice_get d.items.items a ≡ Some xs) × (slice_get xs.items j ≡ Some x)
 item_so d a j x h = go (slice_get d.items.items a) refl h
@@ -136,9 +136,9 @@ item_from d a xs x h c =
     let (j, at) = found_at xs.items x c in
     (j, ap (option_and_then (λ z. slice_get z.items j)) h ∙ at)
 
-pub items_built : (s : Trace) (d : Demands) (slots locks : ℕ → Option ℕ) (count : ℕ) → AreSlots s slots count → length d.items.items ≡ count →
-    AreAllBuilt s slots locks (length s) d.items.items → AreItems s slots locks (item_at d)
-items_built s d slots locks count k len all = record {
+pub items_built : (v : Slotted) (d : Demands) (count : ℕ) → AreSlots v.trace v.slots count → length d.items.items ≡ count →
+    AreAllBuilt v (length v.trace) d.items.items → AreItems v.trace v.slots v.locks (item_at d)
+items_built v d count k len all = record {
   ascend = λ a i j x y l hx hy.
       let (xs, at, fx) = item_so d a i x hx in
       let (ys, other, fy) = item_so d a j y hy in
@@ -153,15 +153,15 @@ items_built s d slots locks count k len all = record {
       let (xs, at, f) = item_so d a j (item n (Begin l c)) h in
       let (q, less, st, dem) = (all a xs at).only (item n (Begin l c)) (contained xs.items j (item n (Begin l c)) f) in
       let (i, e, on, lock, ends) = dem.begin l c refl in
-      (i, subst (λ z. Stands s slots z a n) (sym e) st, subst (λ z. BeginsOn s z i) (sym e) on, subst (λ z. locks z ≡ Some l) (sym e) lock, ends);
+      (i, subst (λ z. Stands v.trace v.slots z a n) (sym e) st, subst (λ z. BeginsOn v.trace z i) (sym e) on, subst (λ z. v.locks z ≡ Some l) (sym e) lock, ends);
   needs = λ q r a n need st.
       let (t, oq) = k.of_place q a st.slot in
       let (xs, at) = list_of q a t st.slot oq in
-      elim ((all a xs at).needs q r n (place_below s t q oq) st need) [
+      elim ((all a xs at).needs q r n (place_below v.trace t q oq) st need) [
         | inl (z, u, ou, fork) ↦
-            let (p, sp) = has_upto s slots count q a n k st 0 (omega arith) in
+            let (p, sp) = has_upto v.trace v.slots count q a n k st 0 (omega arith) in
             let op = k.apart q p a u st.slot sp.slot ou in
-            elim ((all a xs at).needs p r 0 (place_below s u p op) sp (inl (inl (u, op, fork)))) [
+            elim ((all a xs at).needs p r 0 (place_below v.trace u p op) sp (inl (inl (u, op, fork)))) [
               | inl later ↦ absurd (later.0 refl)
               | inr (goal, m, c, sr, less) ↦ let (j, f) = item_from d a xs (item 0 (Reach goal)) at c in inr (j, 0, goal, m, f, omega arith, sr, less)
             ]
@@ -170,20 +170,17 @@ items_built s d slots locks count k len all = record {
   begins = λ q i a n on st.
       let (t, oq) = k.of_place q a st.slot in
       let (xs, at) = list_of q a t st.slot oq in
-      let (l, c, h, e) = (all a xs at).begins q i n (place_below s t q oq) st on in
+      let (l, c, h, e) = (all a xs at).begins q i n (place_below v.trace t q oq) st on in
       let (j, f) = item_from d a xs (item n (Begin l c)) at h in
       (j, l, c, f, e);
 }
   where
-    list_of : (q a t : ℕ) → slots q ≡ Some a → OfThread s q t → (xs : Vec Item Global) × (slice_get d.items.items a ≡ Some xs)
+    list_of : (q a t : ℕ) → v.slots q ≡ Some a → OfThread v.trace q t → (xs : Vec Item Global) × (slice_get d.items.items a ≡ Some xs)
     list_of q a t e o =
         let (b, f, less) = k.each q t o in
         at_index d.items.items a (omega (arith, len, less, same_Some a b (sym e ∙ f)))
 
-pub demands_built : (s : Trace) (d : Demands) → AreSlots s (class_of d.threads.of.items) d.threads.count → AreLocks s (class_of d.locks.of.items) d.locks.count →
-    length d.items.items ≡ d.threads.count → AreAllBuilt s (class_of d.threads.of.items) (class_of d.locks.of.items) (length s) d.items.items → AreDemands s d
-demands_built s d slots locks len all = record {
-  slots = slots;
-  locks = locks;
-  items = items_built s d (class_of d.threads.of.items) (class_of d.locks.of.items) d.threads.count slots len all;
-}
+pub demands_built : (s : Trace) (d : Demands) → AreThreadSlots s d.threads → AreLockSlots s d.locks → length d.items.items ≡ d.threads.count →
+    AreAllBuilt (with_slots s d.threads d.locks) (length s) d.items.items → AreDemands s d
+demands_built s d slots locks len all =
+    record { slots = slots; locks = locks; items = items_built (with_slots s d.threads d.locks) d d.threads.count slots len all }

@@ -2,8 +2,8 @@
 use Rattle.std.proofs.Common.{◌≡◌, ◌≢◌, ℕ, zero, suc, ◌≤◌, max, inl, inr, List, [], ◌∷◌, ◌++◌, length, take, Option, refl, sym, ap, subst, ◌∙◌, arith}
 use Rattle.std.specs.List.{Contains}
 use Rattle.std.proofs.lemmas.Bool.{cases_lt}
-use Rattle.trace_model.specs.Trace.{Trace}
-use Rattle.trace_model.specs.Closure.{Places}
+use Rattle.trace_model.specs.Theory.Trace.{Trace}
+use Rattle.trace_model.specs.Theory.Closure.{Places}
 use Rattle.trace_model.proofs.Lists.{get-push}
 use Rattle.sp_closure.specs.declared.demands.Goal.{Goal}
 use Rattle.sp_closure.specs.declared.demands.Item.{Item}
@@ -40,7 +40,7 @@ reach_pushed s slots few front m n known has is e i l = elim (cases_lt i (front 
 ]
 
 pub ahead_pushed : (s : Trace) (slots : ℕ → Option ℕ) (set : Places) (old new : List Member) (m : Member) (xs : List ℕ) → IsAhead s old set → IsFirstMember s slots xs m →
-    new ≡ old ++ m ∷ [] → StopsIn s set xs → IsAhead s new set
+    new ≡ old ++ m ∷ [] → StopsIn s xs set → IsAhead s new set
 ahead_pushed s slots set old new m xs a f e (q, c, stop) =
     subst (λ zs. IsAhead s zs set) (sym e)
     (record {
@@ -50,7 +50,7 @@ ahead_pushed s slots set old new m xs a f e (q, c, stop) =
     })
 
 pub held_pushed : (s : Trace) (slots : ℕ → Option ℕ) (few : ℕ) (set : Places) (front : ℕ → ℕ) (m : Member) (xs : List ℕ) (n : ℕ) → AreSlots s slots few →
-    ((a : ℕ) → HoldsFirst s slots set a (front a)) → IsFirstMember s slots xs m → StopsIn s set xs → n ≡ max (front m.slot) m.number → HoldsFirst s slots set m.slot n
+    ((a : ℕ) → HoldsFirst s slots set a (front a)) → IsFirstMember s slots xs m → StopsIn s xs set → n ≡ max (front m.slot) m.number → HoldsFirst s slots set m.slot n
 held_pushed s slots few set front m xs n known holds f (q, c, stop) e p i x l = elim (cases_lt i (front m.slot)) [
   | inl less ↦ holds m.slot p i x less
   | inr more ↦
@@ -75,25 +75,25 @@ lists_entered old pushed new m xs e f a = same_lists pushed new a ∙ (ap lists 
 
 pub on_way_raised : (items : ℕ → ℕ → Option Item) (k : ℕ) (goal : Goal) (x y : State) → IsOnWay items x → Raises k goal x y → IsOnWay items y
 on_way_raised items k goal x y w r = record {
-  inside = λ b j i h l. omega (arith, w.inside b j i h (omega (arith, l, r.done b)), r.grows b);
-  reached = λ b j n g h l. omega (arith, w.reached b j n g h (omega (arith, l, r.done b)), r.grows g.slot);
+  inside = λ b j i h l. omega (arith, w.inside b j i h (omega (arith, l, r.growth.done b)), r.growth.grows b);
+  reached = λ b j n g h l. omega (arith, w.reached b j n g h (omega (arith, l, r.growth.done b)), r.growth.grows g.slot);
   lasts = λ m c h.
       let (b, j, n, l, i) = w.lasts m c (sym (r.last m) ∙ h) in
-      (b, j, n, omega (arith, l, r.done b), i);
+      (b, j, n, omega (arith, l, r.growth.done b), i);
   ended = λ b j n m c h l.
-      let (s, was, both) = w.ended b j n m c h (omega (arith, l, r.done b)) in (
+      let (s, was, both) = w.ended b j n m c h (omega (arith, l, r.growth.done b)) in (
         s,
         r.last m ∙ was,
         elim both [
           | inl z ↦ inl z
-          | inr z ↦ inr (z.0, omega (arith, z.1, r.grows c.end.slot))
+          | inr z ↦ inr (z.0, omega (arith, z.1, r.growth.grows c.end.slot))
         ],
       );
-  owed = λ b j i h l. elim (r.pended b) [
+  owed = λ b j i h l. elim (r.growth.pended b) [
     | inr c ↦ inr c
     | inl same ↦ elim (w.owed b j i h (omega (arith, l, same))) [
-      | inl z ↦ inl (omega (arith, z, r.done b))
-      | inr c ↦ inr (r.kept b c)
+      | inl z ↦ inl (omega (arith, z, r.growth.done b))
+      | inr c ↦ inr (r.growth.kept b c)
     ]
   ];
 }

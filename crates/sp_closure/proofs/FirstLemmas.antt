@@ -3,23 +3,26 @@ use Rattle.std.proofs.Common.{◌≡◌, ℕ, zero, suc, ◌<◌, ◌≤◌, inl
 use Rattle.std.specs.Option.{option_and_then}
 use Rattle.std.proofs.lemmas.Bool.{cases_lt}
 use Rattle.std.proofs.lemmas.Option.{none-some, same_Some, slice_get_within}
-use Rattle.trace_model.specs.declared.event.Event.{Event}
-use Rattle.trace_model.specs.Trace.{Trace, At, last_place, OfThread}
-use Rattle.trace_model.specs.Held.{BeginsOn, begins_on, begun}
-use Rattle.trace_model.specs.Closure.{Places, ascending}
-use Rattle.trace_model.proofs.Lookups.{begins_so, begins_from}
-use Rattle.trace_model.proofs.Places.{last_place_some, last_place_none}
-use Rattle.trace_model.proofs.Ascending.{ascending_so, place_of, contains_ascending}
-use Rattle.trace_model.proofs.Unique.{ascending_strict, increasing_ordered}
+use Rattle.trace_model.specs.declared.traces.event.Event.{Event}
+use Rattle.trace_model.specs.Theory.Trace.{Trace, At, last_place, OfThread}
+use Rattle.trace_model.specs.Theory.Held.{BeginsOn, begins_on, begun}
+use Rattle.trace_model.specs.Theory.Closure.{Places, ascending}
+use Rattle.trace_model.proofs.Theory.Lookups.{begins_so, begins_from}
+use Rattle.trace_model.proofs.Theory.Places.{last_place_some, last_place_none}
+use Rattle.trace_model.proofs.Theory.Ascending.{ascending_so, place_of, contains_ascending}
+use Rattle.trace_model.proofs.Theory.Unique.{ascending_strict, increasing_ordered}
 use Rattle.trace_model.proofs.Lists.{at_index}
-use Rattle.trace_model.proofs.Least.{at_thread}
+use Rattle.trace_model.proofs.Theory.Least.{at_thread}
 use Rattle.std.specs.List.Sorted.{IsStrictlyIncreasing}
 use Rattle.trace_index.specs.Numbers.{of_thread, thread_before, acquire_before}
-use Rattle.trace_model.proofs.Begun.{begun_so, begun_from}
-use Rattle.sp_closure.specs.Slots.{class_of, AreSlots}
+use Rattle.trace_model.proofs.Theory.Begun.{begun_so, begun_from}
+use Rattle.sp_closure.specs.declared.classes.Classes.{Classes}
+use Rattle.sp_closure.specs.declared.demands.Shared.{Shared}
+use Rattle.sp_closure.specs.declared.demands.Shared.TheVariants.{Thread, Lock}
+use Rattle.sp_closure.specs.Slots.{class_of, slots_of, AreSlots}
 use Rattle.sp_closure.specs.Demands.{AreLocks}
 use Rattle.sp_closure.specs.Classes.{AreFirsts, AreClasses}
-use Rattle.sp_closure.specs.Firsts.{first_of_thread, first_of_lock, AreFound}
+use Rattle.sp_closure.specs.Firsts.{first_of_thread, first_of_lock, first_of, AreFound, AreSlotsOf}
 use Rattle.sp_closure.proofs.FrontLemmas.{of_thread_from, of_thread_so}
 use Rattle.sp_closure.proofs.ThreadLemmas.{place_below}
 
@@ -36,7 +39,8 @@ least_listed f n p l h =
     before xs up zero x p a b = omega (arith, same_Some x p (sym a ∙ b))
     before xs up (suc k) x p a b = omega (arith, increasing_ordered xs up 0 (suc k) x p (omega arith) a b)
 
--- places by what they are on, a thread or a lock, of which there is one: each has the first place on the same one
+-- places by what they are on, a thread or a lock, of which there is one: each has the first place
+-- on the same one
 record HaveFirsts (On : ℕ → ℕ → Type 0) (first_of : ℕ → Option ℕ) (n : ℕ) : Type 0 where
   first : (p k : ℕ) → On p k → (x : ℕ) × (first_of p ≡ Some x) × (x ≤ p) × On x k
   some : (p x : ℕ) → first_of p ≡ Some x → (k : ℕ) × On p k
@@ -108,10 +112,7 @@ threads_have s = record {
   below = λ p t o. place_below s t p o;
 }
 
-pub thread_firsts : (s : Trace) (firsts : ℕ → Option ℕ) → ((p : ℕ) → firsts p ≡ first_of_thread s p) → AreFirsts firsts
-thread_firsts s firsts same = firsts_are (OfThread s) (first_of_thread s) (length s) (threads_have s) firsts same
-
-pub thread_slots : (s : Trace) (firsts slots : ℕ → Option ℕ) (count : ℕ) → ((p : ℕ) → firsts p ≡ first_of_thread s p) →
+thread_slots : (s : Trace) (firsts slots : ℕ → Option ℕ) (count : ℕ) → ((p : ℕ) → firsts p ≡ first_of_thread s p) →
     AreClasses firsts slots count (length s) → AreSlots s slots count
 thread_slots s firsts slots count same c = record {
   each = each_has (OfThread s) (first_of_thread s) (length s) (threads_have s) firsts same slots count c;
@@ -159,16 +160,23 @@ locks_have s = record {
   below = λ p k b. slice_get_within s p _ b.1.0;
 }
 
-pub lock_firsts : (s : Trace) (firsts : ℕ → Option ℕ) → ((p : ℕ) → firsts p ≡ first_of_lock s p) → AreFirsts firsts
-lock_firsts s firsts same = firsts_are (BeginsOn s) (first_of_lock s) (length s) (locks_have s) firsts same
-
-pub lock_slots : (s : Trace) (firsts locks : ℕ → Option ℕ) (count : ℕ) → ((p : ℕ) → firsts p ≡ first_of_lock s p) →
+lock_slots : (s : Trace) (firsts locks : ℕ → Option ℕ) (count : ℕ) → ((p : ℕ) → firsts p ≡ first_of_lock s p) →
     AreClasses firsts locks count (length s) → AreLocks s locks count
 lock_slots s firsts locks count same c = record {
   each = each_has (BeginsOn s) (first_of_lock s) (length s) (locks_have s) firsts same locks count c;
   apart = are_apart (BeginsOn s) (first_of_lock s) (length s) (locks_have s) firsts same locks count c;
   alike = are_alike (BeginsOn s) (first_of_lock s) (length s) (locks_have s) firsts same locks count c;
 }
+
+-- and of both
+pub shared_firsts : (s : Trace) (shared : Shared) (firsts : ℕ → Option ℕ) → ((p : ℕ) → firsts p ≡ first_of s shared p) → AreFirsts firsts
+shared_firsts s Thread firsts same = firsts_are (OfThread s) (first_of_thread s) (length s) (threads_have s) firsts same
+shared_firsts s Lock firsts same = firsts_are (BeginsOn s) (first_of_lock s) (length s) (locks_have s) firsts same
+
+pub shared_slots : (s : Trace) (shared : Shared) (firsts : ℕ → Option ℕ) (classes : Classes) → ((p : ℕ) → firsts p ≡ first_of s shared p) →
+    AreClasses firsts (slots_of classes) classes.count (length s) → AreSlotsOf s shared classes
+shared_slots s Thread firsts classes same c = thread_slots s firsts (slots_of classes) classes.count same c
+shared_slots s Lock firsts classes same c = lock_slots s firsts (slots_of classes) classes.count same c
 
 pub some_within : (o : Option ℕ) (n : ℕ) → ((p : ℕ) → o ≡ Some p → p < n) → IfSome o (λ p. p < n)
 some_within None n f = tt

@@ -6,10 +6,10 @@ use Rattle.sp_closure.specs.declared.work.Work.{Work}
 use Rattle.sp_closure.specs.declared.demands.Goal.{Goal}
 use Rattle.sp_closure.specs.declared.closer.Closer.{Closer}
 use Rattle.std.specs.Prelude.{unwrap_or}
-use Rattle.trace_model.specs.Trace.{Trace}
+use Rattle.trace_model.specs.Theory.Trace.{Trace}
 use Rattle.trace_index.specs.Numbers.{number_at}
 use Rattle.sp_closure.specs.declared.demands.Demands.{Demands}
-use Rattle.sp_closure.specs.Slots.{class_of}
+use Rattle.sp_closure.specs.Slots.{slots_of}
 use Rattle.sp_closure.specs.Closers.{HasBase, Keeps, Stays, base_total, kept, total_over}
 
 -- an element of a list with one more at its end is one of the list, or that one
@@ -47,5 +47,5 @@ stays_kept s c new m k same has stays = record {
   of = new.base_of;
   places = base_total new;
   has = has;
-  count = stays.count ∙ ap (λ (d : Demands). kept new.base_of (record { slot = unwrap_or (class_of d.threads.of.items stays.p) 0; count = unwrap_or (number_at s stays.p) 0 }) (base_total new)) same;
+  count = stays.count ∙ ap (λ (d : Demands). kept new.base_of (record { slot = unwrap_or (slots_of d.threads stays.p) 0; count = unwrap_or (number_at s stays.p) 0 }) (base_total new)) same;
 }

@@ -5,11 +5,11 @@ use Rattle.std.specs.Slice.{IsItemAt}
 use denote.Ref.{Bor}
 use Rattle.std.proofs.lemmas.Bool.Decides.{eqb_tells}
 use Rattle.std.proofs.lemmas.Option.{none-some, slice_get_read, slice_get_within, same_Some}
-use Rattle.trace_model.specs.Trace.{Trace}
-use Rattle.trace_model.specs.Closure.{Places, IsClosed}
-use Rattle.trace_model.proofs.Ascending.{place_of}
+use Rattle.trace_model.specs.Theory.Trace.{Trace}
+use Rattle.trace_model.specs.Theory.Closure.{Places, IsClosed}
+use Rattle.trace_model.proofs.Theory.Ascending.{place_of}
 use Rattle.trace_model.proofs.Lists.{at_index, get-set_same, get-set_other}
-use Rattle.trace_model.proofs.Unique.{increasing_ordered}
+use Rattle.trace_model.proofs.Theory.Unique.{increasing_ordered}
 use Rattle.sp_closure.specs.declared.demands.Goal.{Goal}
 use Rattle.sp_closure.specs.declared.tracks.Past.{Past}
 use Rattle.sp_closure.specs.declared.tracks.Track.{Track}

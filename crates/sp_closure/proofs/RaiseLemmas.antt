@@ -4,8 +4,8 @@ use Rattle.std.specs.List.{Contains}
 use Rattle.std.proofs.lemmas.Bool.{cases_lt}
 use Rattle.std.proofs.lemmas.Bool.Decides.{eqb_tells}
 use Rattle.std.proofs.lemmas.Option.{same_Some, slice_get_within}
-use Rattle.trace_model.specs.Trace.{Trace}
-use Rattle.trace_model.specs.Closure.{Places}
+use Rattle.trace_model.specs.Theory.Trace.{Trace}
+use Rattle.trace_model.specs.Theory.Closure.{Places}
 use Rattle.trace_model.proofs.Lists.{at_index, length-push}
 use Rattle.sp_closure.specs.declared.demands.Goal.{Goal}
 use Rattle.sp_closure.specs.declared.members.Member.{Member}
@@ -77,19 +77,21 @@ pub lifted_raises : (k : ℕ) (goal : Goal) (x y : State) (n : ℕ) (a : ℕ) �
     y.pending ≡ x.pending ++ a ∷ [] → a ≡ goal.slot → ((b : ℕ) → y.done b ≡ x.done b) → ((b : ℕ) → y.last b ≡ x.last b) → Raises k goal x y
 lifted_raises k goal x y n a l m less p same d e = record {
   upto = omega (arith, l.here, m);
-  grows = lifted_grows x.front y.front goal.slot n l;
-  pended = λ b. elim (eqb_tells b goal.slot) [
-    | inl i ↦ inr (subst (λ z. Contains z b) (sym p) (subst (λ z. Contains (x.pending ++ a ∷ []) z) (same ∙ sym i.1) (push_last x.pending a)))
-    | inr i ↦ inl (l.others b i.1)
-  ];
-  kept = λ b c. subst (λ z. Contains z b) (sym p) (push_kept x.pending a b c);
-  known = λ old b c. elim (push_cases x.pending a b (subst (λ z. Contains z b) p c)) [
-    | inl was ↦ old b was
-    | inr new ↦ omega (arith, sym new ∙ same, less)
-  ];
-  done = d;
+  growth = record {
+    grows = lifted_grows x.front y.front goal.slot n l;
+    pended = λ b. elim (eqb_tells b goal.slot) [
+      | inl i ↦ inr (subst (λ z. Contains z b) (sym p) (subst (λ z. Contains (x.pending ++ a ∷ []) z) (same ∙ sym i.1) (push_last x.pending a)))
+      | inr i ↦ inl (l.others b i.1)
+    ];
+    kept = λ b c. subst (λ z. Contains z b) (sym p) (push_kept x.pending a b c);
+    known = λ old b c. elim (push_cases x.pending a b (subst (λ z. Contains z b) p c)) [
+      | inl was ↦ old b was
+      | inr new ↦ omega (arith, sym new ∙ same, less)
+    ];
+    done = d;
+    more = omega (arith, ap length p, length-push x.pending a);
+  };
   last = e;
-  more = omega (arith, ap length p, length-push x.pending a);
 }
 
 -- settled members are right behind the lifted front

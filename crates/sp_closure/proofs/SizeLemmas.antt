@@ -1,17 +1,23 @@
 -- The sum of the fronts is the number of places that are in.
-use Rattle.std.proofs.Common.{◌≡◌, ◌≢◌, ℕ, zero, suc, ◌+◌, ◌<◌, inl, inr, min, Bool, true, false, ◌&&◌, cond, nat_lt, length, Option, refl, sym, ap, ◌∙◌, arith}
+use Rattle.std.proofs.Common.{◌≡◌, ◌≢◌, ℕ, zero, suc, ◌+◌, ◌<◌, ◌≤◌, inl, inr, List, min, Bool, true, false, ◌&&◌, cond, nat_lt, length, Option, refl, sym, ap, ◌∙◌, arith}
 use Rattle.std.proofs.lemmas.Bool.{cases_lt}
 use Rattle.std.proofs.lemmas.Option.{same_Some}
-use Rattle.trace_model.specs.Trace.{Trace}
-use Rattle.trace_model.specs.Closure.{Places, ascending}
-use Rattle.trace_index.specs.Numbers.{count_below, of_thread}
-use Rattle.trace_index.proofs.Counting.{length_ascending}
-use Rattle.sp_closure.specs.Slots.{AreSlots, Stands, HasFirst, in_front}
+use Rattle.std.specs.Arc.{arc_value}
+use Rattle.std.specs.List.{Contains}
+use Rattle.trace_model.specs.Theory.Trace.{Trace}
+use Rattle.trace_model.specs.Theory.Lawful.{IsWellFormed}
+use Rattle.trace_model.specs.Theory.Closure.{Places, IsClosure, ascending}
+use Rattle.links.specs.Links.{count_below}
+use Rattle.links.proofs.Counting.{length_ascending, count-agree}
+use Rattle.trace_index.specs.Numbers.{of_thread}
+use Rattle.sp_closure.specs.declared.classes.Classes.{Classes}
+use Rattle.sp_closure.specs.declared.fronts.Fronts.{Fronts}
+use Rattle.sp_closure.specs.Slots.{slots_of, AreSlots, AreThreadSlots, Stands, HasFirst, HasFronts, in_front}
+use Rattle.sp_closure.specs.State.{count_of, places_in, size_in}
 use Rattle.sp_closure.specs.Work.{sum_to}
-use Rattle.sp_closure.proofs.Counts.{count_same}
 use Rattle.sp_closure.proofs.FrontLemmas.{lt_true, lt_false}
 use Rattle.sp_closure.proofs.SlotLemmas.{has_number, number_is, in_front_at, in_front_so}
-use Rattle.sp_closure.proofs.BaseLemmas.{in_slot, slot_so, slot_from, one_of, bit_off, same_thread, first_counted, count_step, sum_none, sum_plus, sum_equal}
+use Rattle.sp_closure.proofs.BaseLemmas.{in_slot, slot_so, slot_from, one_of, bit_off, same_thread, first_counted, count_step, set_of_fronts, sum_none, sum_plus, sum_equal}
 
 -- the place is of the slot, and in
 abbrev slot_in : Trace → (ℕ → Option ℕ) → (ℕ → ℕ) → ℕ → Places
@@ -31,7 +37,7 @@ step_on test n e = ap (λ b. cond b (suc (count_below test n)) (count_below test
 slot_number : (s : Trace) (slots : ℕ → Option ℕ) (count p a m : ℕ) → AreSlots s slots count → Stands s slots p a m → count_below (in_slot slots a) p ≡ m
 slot_number s slots count p a m known x =
     let (t, o) = known.of_place p a x.slot in
-    sym (count_same (of_thread s t) (in_slot slots a) p (λ q l. same_thread s slots count p a t known x.slot o q)) ∙ number_is s p t m o x.number
+    sym (count-agree (of_thread s t) (in_slot slots a) p (λ q l. same_thread s slots count p a t known x.slot o q)) ∙ number_is s p t m o x.number
 
 -- of a slot's places below n, as many are in as its front counts, if there are so many
 slot_counted : (s : Trace) (slots : ℕ → Option ℕ) (count : ℕ) (front : ℕ → ℕ) (a n : ℕ) → AreSlots s slots count →
@@ -106,3 +112,18 @@ fronts_size s slots count front known has =
     sum_equal front (λ a. count_below (slot_in s slots front a) (length s)) count
     (λ a. omega (arith, slot_counted s slots count front a (length s) known, first_counted s slots count a (front a) known (has a)))
     ∙ (sum_counted s slots count front (length s) known ∙ sym (length_ascending (in_front s slots front) (length s)))
+
+-- fronts that hold a closure of these fronts, and as many places
+pub record AreGathered (s : Trace) (threads : Classes) (front : ℕ → ℕ) (fronts : Fronts) : Type 0 where
+  pub set : in_front s (slots_of threads) front ≡ places_in s fronts
+  pub size : HasFronts s (slots_of threads) front → sum_to front threads.count ≡ size_in s fronts
+
+pub all_gathered : (s : Trace) (places : List ℕ) (threads : Classes) (front : ℕ → ℕ) (fronts : Fronts) → IsWellFormed s → AreThreadSlots s threads →
+    (arc_value fronts.slots).items ≡ threads.of.items → ((a : ℕ) → a < threads.count → count_of fronts a ≡ front a) → ((p : ℕ) → Contains places p → p ≤ fronts.end) →
+    IsClosure s places (in_front s (slots_of threads) front) → AreGathered s threads front fronts
+all_gathered s places threads front fronts w known list same most closure =
+    let set = set_of_fronts s places threads.of.items threads.count front fronts w known list (λ a l. sym (same a l)) most closure in
+    record {
+      set = set;
+      size = λ has. fronts_size s (slots_of threads) threads.count front known has ∙ ap (λ z. length (ascending z (length s))) set;
+    }

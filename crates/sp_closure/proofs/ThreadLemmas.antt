@@ -2,12 +2,13 @@
 use Rattle.std.proofs.Common.{◌≡◌, ℕ, zero, suc, ◌-◌, ◌<◌, inl, inr, Bool, true, false, cond, ◌++◌, ◌∷◌, [], length, slice_get, Some, sym, ap, ◌∙◌, arith}
 use Rattle.std.proofs.lemmas.Bool.{cases_lt}
 use Rattle.std.proofs.lemmas.Option.{none-some, slice_get_within}
-use Rattle.trace_model.specs.Trace.{Trace, event, OfThread}
-use Rattle.trace_model.specs.Closure.{Places, ascending}
+use Rattle.trace_model.specs.Theory.Trace.{Trace, event, OfThread}
+use Rattle.trace_model.specs.Theory.Closure.{Places, ascending}
 use Rattle.trace_model.proofs.Lists.{get-push}
-use Rattle.trace_model.proofs.Ascending.{ascending_so}
-use Rattle.trace_index.specs.Numbers.{count_below, of_thread, earlier_events}
-use Rattle.trace_index.proofs.Counting.{length_ascending}
+use Rattle.trace_model.proofs.Theory.Ascending.{ascending_so}
+use Rattle.links.specs.Links.{count_below}
+use Rattle.links.proofs.Counting.{length_ascending}
+use Rattle.trace_index.specs.Numbers.{of_thread, earlier_events}
 use Rattle.sp_closure.specs.Threads.{IsNumbered, IsLastOf}
 use Rattle.sp_closure.proofs.Counts.{count_lt}
 use Rattle.sp_closure.proofs.FrontLemmas.{of_thread_from, of_thread_so}

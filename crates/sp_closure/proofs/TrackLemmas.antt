@@ -3,8 +3,8 @@ use Rattle.std.proofs.Common.{◌≡◌, ℕ, zero, suc, ◌≤◌, inl, inr, Li
 use Rattle.std.proofs.lemmas.Bool.{cases_lt, false≢true}
 use Rattle.std.proofs.lemmas.Bool.Decides.{eqb_tells}
 use Rattle.std.proofs.lemmas.Option.{none-some, same_Some}
-use Rattle.trace_model.specs.Trace.{Trace}
-use Rattle.trace_model.specs.Closure.{Places, IsClosed}
+use Rattle.trace_model.specs.Theory.Trace.{Trace}
+use Rattle.trace_model.specs.Theory.Closure.{Places, IsClosed}
 use Rattle.trace_model.proofs.Lists.{get-set_same, get-set_other}
 use Rattle.sp_closure.specs.declared.tracks.Past.{Past}
 use Rattle.sp_closure.specs.declared.tracks.Track.{Track}
@@ -16,7 +16,8 @@ use Rattle.sp_closure.specs.Pointers.{NumberAt}
 use Rattle.sp_closure.specs.Pasts.{AllFrom, ArePasts, AreFrom, IsFront, Moves, NoneStops, StandsAt, StopsFrom, StopsFromAt, StopsNowhere}
 use Rattle.sp_closure.proofs.SlotLemmas.{stands_before}
 
--- a closed set that stops at none of the pointer's places before its entry holds the past of the place there
+-- a closed set that stops at none of the pointer's places before its entry holds the past of the
+-- place there
 pub past_held : (s : Trace) (pasts : Pasts) (are : ArePasts s pasts) (by : Pointer) (set : Places) (q slot front : ℕ) → IsClosed s set → NumberAt s q by.number →
     StopsAt s set q → StopsFromAt s are.slots pasts set by → IsFront pasts by slot front → HoldsFirst s are.slots set slot front
 past_held s pasts are by set q slot front closed here stop from (inl none) = λ p n stands less. absurd (omega (arith, none, less))
@@ -29,10 +30,10 @@ past_held s pasts are by set q slot front closed here stop from (inr has) =
     slot front has.front_at
 
 -- where the set holds these first places of the track's slot, it stops at none of them
-pub next_from : (s : Trace) (slots : ℕ → Option ℕ) (set : Places) (m : ℕ) (track : Track) (entry front : ℕ) (result : Option ℕ) → HoldsFirst s slots set track.slot front →
-    StopsFrom s slots set m track entry → ((k : ℕ) (x : Past) → slice_get track.pasts.items k ≡ Some x → entry ≤ k → front ≤ x.number → MatchOption result ⊥ (λ e. e ≤ k)) →
-    MatchOption result (StopsNowhere s set m) (λ e. StopsFrom s slots set m track e)
-next_from s slots set m track entry front result holds from next = go result next
+pub next_from : (s : Trace) (slots : ℕ → Option ℕ) (set : Places) (track : Track) (of : Pointer) (front : ℕ) (result : Option ℕ) → HoldsFirst s slots set track.slot front →
+    StopsFrom s slots set track of → ((k : ℕ) (x : Past) → slice_get track.pasts.items k ≡ Some x → of.entry ≤ k → front ≤ x.number → MatchOption result ⊥ (λ e. e ≤ k)) →
+    MatchOption result (StopsNowhere s set of.number) (λ e. StopsFrom s slots set track (record { number = of.number; entry = e }))
+next_from s slots set track of front result holds from next = go result next
   where
     not_in : (q : ℕ) → StopsAt s set q → (k : ℕ) → (at : StandsAt s slots track k q) → front ≤ at.past.number
     not_in q stop k at = elim (cases_lt at.past.number front) [
@@ -40,8 +41,8 @@ next_from s slots set m track entry front result holds from next = go result nex
       | inr le ↦ le
     ]
 
-    go : (r : Option ℕ) → ((k : ℕ) (x : Past) → slice_get track.pasts.items k ≡ Some x → entry ≤ k → front ≤ x.number → MatchOption r ⊥ (λ e. e ≤ k)) →
-        MatchOption r (StopsNowhere s set m) (λ e. StopsFrom s slots set m track e)
+    go : (r : Option ℕ) → ((k : ℕ) (x : Past) → slice_get track.pasts.items k ≡ Some x → of.entry ≤ k → front ≤ x.number → MatchOption r ⊥ (λ e. e ≤ k)) →
+        MatchOption r (StopsNowhere s set of.number) (λ e. StopsFrom s slots set track (record { number = of.number; entry = e }))
     go None n = λ q here stop.
         let (k, le, at) = from q here stop in
         n k at.past at.at le (not_in q stop k at)
@@ -50,9 +51,9 @@ next_from s slots set m track entry front result holds from next = go result nex
         (k, n k at.past at.at le (not_in q stop k at), at)
 
 -- one member's entry is another one, from which it stops too
-pub entry_set : (s : Trace) (slots : ℕ → Option ℕ) (pasts : Pasts) (numbers entries : List ℕ) (set : Places) (j m old new : ℕ) → AreFrom s slots pasts numbers entries set →
+pub entry_set : (s : Trace) (slots : ℕ → Option ℕ) (pasts : Pasts) (numbers entries : List ℕ) (set : Places) (j m old new : ℕ) → AreFrom (StopsFromAt s slots pasts set) numbers entries →
     slice_get numbers j ≡ Some m → slice_get entries j ≡ Some old → StopsFromAt s slots pasts set (record { number = m; entry = new }) →
-    AreFrom s slots pasts numbers (slice_set entries j new) set
+    AreFrom (StopsFromAt s slots pasts set) numbers (slice_set entries j new)
 entry_set s slots pasts numbers entries set j m old new are at_m at_old from = record {
   each = λ i n e hn he. elim (eqb_tells i j) [
     | inl same ↦
@@ -66,7 +67,7 @@ entry_set s slots pasts numbers entries set j m old new are at_m at_old from = r
 
 -- at the first entries the set stops at no place before them
 pub all_from_none : (s : Trace) (pasts : Pasts) (are : ArePasts s pasts) (numbers entries : List ℕ) (set : Places) → ((j e : ℕ) → slice_get entries j ≡ Some e → e ≡ 0) →
-    AreFrom s are.slots pasts numbers entries set
+    AreFrom (StopsFromAt s are.slots pasts set) numbers entries
 all_from_none s pasts are numbers entries set first = record {
   each = λ j m e hm he track at q here stop.
       let (k, st) = (are.each m track at).places q here in
@@ -80,13 +81,13 @@ pub moves_after : (pasts : Pasts) (by of : Pointer) (track : Track) (front : ℕ
     Moves pasts by of result
 moves_after pasts by of track front result at has next = λ s are set q closed here stop from_by from_of.
     let holds = past_held s pasts are by set q track.slot front closed here stop from_by has in
-    go s are.slots set result (next_from s are.slots set of.number track of.entry front result holds (from_of track at) next)
+    go s are.slots set result (next_from s are.slots set track of front result holds (from_of track at) next)
   where
-    go : (s : Trace) (slots : ℕ → Option ℕ) (set : Places) (r : Option ℕ) → MatchOption r (StopsNowhere s set of.number) (λ e. StopsFrom s slots set of.number track e) →
+    go : (s : Trace) (slots : ℕ → Option ℕ) (set : Places) (r : Option ℕ) → MatchOption r (StopsNowhere s set of.number) (λ e. StopsFrom s slots set track (record { number = of.number; entry = e })) →
         MatchOption r (StopsNowhere s set of.number) (λ e. StopsFromAt s slots pasts set (record { number = of.number; entry = e }))
     go s slots set None h = h
     go s slots set (Some e) h = λ other found.
-        subst (λ (t : Track). StopsFrom s slots set of.number t e) (same_Some track other (sym at ∙ found)) h
+        subst (λ (t : Track). StopsFrom s slots set t (record { number = of.number; entry = e })) (same_Some track other (sym at ∙ found)) h
 
 -- one member moved after another one's past
 pub one_moved : (pasts : Pasts) (numbers entries : List ℕ) (i j m n e f : ℕ) (result : Option ℕ) → slice_get numbers i ≡ Some m → slice_get entries i ≡ Some e →

@@ -4,10 +4,10 @@ use Rattle.std.specs.List.{Contains}
 use Rattle.std.proofs.lemmas.Bool.{cases_lt, false≢true}
 use Rattle.std.proofs.lemmas.Bool.Decides.{eqb_tells}
 use Rattle.std.proofs.lemmas.Option.{same_Some}
-use Rattle.trace_model.specs.Trace.{Trace, EarlierInThread}
-use Rattle.trace_model.specs.Held.{BeginsOn}
-use Rattle.trace_model.specs.Lookups.{release}
-use Rattle.trace_model.specs.Closure.{Places, IsClosed}
+use Rattle.trace_model.specs.Theory.Trace.{Trace, EarlierInThread}
+use Rattle.trace_model.specs.Theory.Held.{BeginsOn}
+use Rattle.trace_model.specs.Theory.Lookups.{release}
+use Rattle.trace_model.specs.Theory.Closure.{Places, IsClosed}
 use Rattle.sp_closure.specs.declared.demands.Goal.{Goal}
 use Rattle.sp_closure.specs.declared.demands.Section.{Section}
 use Rattle.sp_closure.specs.declared.demands.Need.{Need}
@@ -16,7 +16,7 @@ use Rattle.sp_closure.specs.declared.demands.Item.{Item}
 use Rattle.sp_closure.specs.Slots.{AreSlots, Stands, HoldsFirst, HasFirst, in_front}
 use Rattle.sp_closure.specs.Layers.{Changes}
 use Rattle.sp_closure.specs.Demands.{AreLocks, Needs, IsGoal, EndsSection, no_goal, item, AreItems}
-use Rattle.sp_closure.specs.Work.{State, IsOnWay, Raises, Begins, IsBegun, Meets, AreKnownSlots}
+use Rattle.sp_closure.specs.Work.{Grows, State, IsOnWay, Raises, Begins, IsBegun, Meets, AreKnownSlots}
 use Rattle.sp_closure.proofs.SlotLemmas.{stands_before, before_stands, earlier_stands, has_upto, in_front_from, in_front_so}
 
 is_reach : Need → Bool
@@ -206,11 +206,9 @@ on_way_begin items count a n l c x y z w p at less begun others one = record {
   owed = owed_on items a x y w p;
 }
 
-pub raises_followed : (k l : ℕ) (c d : Section) (x m y : State) → x.last l ≡ Some d → d.place < c.place → Changes x.last l (Some c) m.last →
-    ((a : ℕ) → m.front a ≡ x.front a) → ((a : ℕ) → m.done a ≡ x.done a) → m.pending ≡ x.pending → Raises k d.end m y → Begins k l c x y
-raises_followed k l c d x m y was less last front done pending r = record {
-  begun = subst (λ o. IsBegun o c y l) (sym was) (inl (less, r.last l ∙ last.here, r.upto));
-  others = λ j ne. r.last j ∙ last.others j ne;
+-- from a state with the same fronts and pending slots
+grows_from : (k : ℕ) (x m y : State) → ((a : ℕ) → m.front a ≡ x.front a) → m.pending ≡ x.pending → Grows k m y → ((a : ℕ) → m.done a ≡ x.done a) → Grows k x y
+grows_from k x m y front pending r done = record {
   grows = λ a. omega (arith, front a, r.grows a);
   pended = λ a. elim (r.pended a) [
     | inl e ↦ inl (e ∙ front a)
@@ -222,22 +220,17 @@ raises_followed k l c d x m y was less last front done pending r = record {
   more = omega (arith, r.more, ap length pending);
 }
 
--- the state that changed by one demand passed, and then by a raise
-pub passes_raised : (k a : ℕ) (goal : Goal) (x m y : State) → Changes x.done a (x.done a + 1) m.done → ((b : ℕ) → m.front b ≡ x.front b) → m.pending ≡ x.pending →
-    Raises k goal m y → Passes a x y
-passes_raised k a goal x m y done front pending r = record {
-  done = record { here = r.done a ∙ done.here; others = λ b ne. r.done b ∙ done.others b ne };
-  grows = λ b. omega (arith, front b, r.grows b);
-  pended = λ b. elim (r.pended b) [
-    | inl e ↦ inl (e ∙ front b)
-    | inr p ↦ inr p
-  ];
-  kept = λ b p. r.kept b (subst (λ z. Contains z b) (sym pending) p);
+pub raises_followed : (k l : ℕ) (c d : Section) (x m y : State) → x.last l ≡ Some d → d.place < c.place → Changes x.last l (Some c) m.last →
+    ((a : ℕ) → m.front a ≡ x.front a) → ((a : ℕ) → m.done a ≡ x.done a) → m.pending ≡ x.pending → Raises k d.end m y → Begins k l c x y
+raises_followed k l c d x m y was less last front done pending r = record {
+  begun = subst (λ o. IsBegun o c y l) (sym was) (inl (less, r.last l ∙ last.here, r.upto));
+  others = λ j ne. r.last j ∙ last.others j ne;
+  growth = grows_from k x m y front pending r.growth done;
 }
 
-pub passes_begun : (k a l : ℕ) (c : Section) (x m y : State) → Changes x.done a (x.done a + 1) m.done → ((b : ℕ) → m.front b ≡ x.front b) → m.pending ≡ x.pending →
-    Begins k l c m y → Passes a x y
-passes_begun k a l c x m y done front pending r = record {
+-- the state that changed by one demand passed, and then grew
+pub passes_grown : (k a : ℕ) (x m y : State) → Changes x.done a (x.done a + 1) m.done → ((b : ℕ) → m.front b ≡ x.front b) → m.pending ≡ x.pending → Grows k m y → Passes a x y
+passes_grown k a x m y done front pending r = record {
   done = record { here = r.done a ∙ done.here; others = λ b ne. r.done b ∙ done.others b ne };
   grows = λ b. omega (arith, front b, r.grows b);
   pended = λ b. elim (r.pended b) [
@@ -250,26 +243,26 @@ passes_begun k a l c x m y done front pending r = record {
 pub meets_reach : (items : ℕ → ℕ → Option Item) (k a n : ℕ) (goal : Goal) (x m y : State) → IsOnWay items x → items a (x.done a) ≡ Some (item n (Reach goal)) → n < x.front a →
     Changes x.done a (x.done a + 1) m.done → ((b : ℕ) → m.front b ≡ x.front b) → ((l : ℕ) → m.last l ≡ x.last l) → m.pending ≡ x.pending → Raises k goal m y → Meets items k a x y
 meets_reach items k a n goal x m y w at less done front last pending r =
-    let p = passes_raised k a goal x m y done front pending r in
+    let p = passes_grown k a x m y done front pending r.growth in
     record {
       on_way = on_way_reach items a n goal x y w p at less r.upto (λ l. r.last l ∙ last l);
-      known = λ q. r.known (subst (AreKnownSlots k) (sym pending) q);
+      known = λ q. r.growth.known (subst (AreKnownSlots k) (sym pending) q);
       grows = p.grows;
       done = p.done;
-      pending = omega (arith, r.more, ap length pending);
+      pending = omega (arith, r.growth.more, ap length pending);
     }
 
 pub meets_begin : (items : ℕ → ℕ → Option Item) (k a n l : ℕ) (c : Section) (x m y : State) → IsOnWay items x → items a (x.done a) ≡ Some (item n (Begin l c)) → n < x.front a →
     Changes x.done a (x.done a + 1) m.done → ((b : ℕ) → m.front b ≡ x.front b) → ((l : ℕ) → m.last l ≡ x.last l) → m.pending ≡ x.pending → Begins k l c m y →
     ((d : Section) → x.last l ≡ Some d → c.place ≡ d.place → c ≡ d) → Meets items k a x y
 meets_begin items k a n l c x m y w at less done front last pending r one =
-    let p = passes_begun k a l c x m y done front pending r in
+    let p = passes_grown k a x m y done front pending r.growth in
     record {
       on_way = on_way_begin items k a n l c x y y w p at less (subst (λ o. IsBegun o c y l) (last l) r.begun) (λ j ne. r.others j ne ∙ last j) one;
-      known = λ q. r.known (subst (AreKnownSlots k) (sym pending) q);
+      known = λ q. r.growth.known (subst (AreKnownSlots k) (sym pending) q);
       grows = p.grows;
       done = p.done;
-      pending = omega (arith, r.more, ap length pending);
+      pending = omega (arith, r.growth.more, ap length pending);
     }
 
 -- goals that can be reached

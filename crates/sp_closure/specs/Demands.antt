@@ -1,23 +1,28 @@
 -- What the places of a trace demand, as tables.
 use Rattle.std.specs.Prelude.{◌≡◌, ℕ, suc, ◌<◌, ◌≤◌, ◌⊎◌, slice_get, Option, Some, MatchOption}
 use Rattle.std.specs.Option.{option_and_then}
-use Rattle.trace_model.specs.Trace.{Trace, EarlierInThread}
-use Rattle.trace_model.specs.Held.{BeginsOn}
-use Rattle.trace_model.specs.Lookups.{writer, release}
-use Rattle.trace_model.specs.Reordering.{ForkOrJoin}
+use Rattle.trace_model.specs.Theory.Trace.{Trace, EarlierInThread}
+use Rattle.trace_model.specs.Theory.Held.{BeginsOn}
+use Rattle.trace_model.specs.Theory.Lookups.{writer, release}
+use Rattle.trace_model.specs.Theory.Reordering.{ForkOrJoin}
+use Rattle.sp_closure.specs.declared.classes.Classes.{Classes}
 use Rattle.sp_closure.specs.declared.demands.Goal.{Goal}
 use Rattle.sp_closure.specs.declared.demands.Section.{Section}
 use Rattle.sp_closure.specs.declared.demands.Need.{Need}
 use Rattle.sp_closure.specs.declared.demands.Need.TheVariants.{Reach, Begin}
 use Rattle.sp_closure.specs.declared.demands.Item.{Item}
 use Rattle.sp_closure.specs.declared.demands.Demands.{Demands}
-use Rattle.sp_closure.specs.Slots.{class_of, AreSlots, Stands}
+use Rattle.sp_closure.specs.Slots.{slots_of, AreThreadSlots, Stands}
 
 -- the slots of the places that begin sections: one for each lock
 pub record AreLocks (s : Trace) (locks : ℕ → Option ℕ) (count : ℕ) : Type 0 where
   pub each : (p k : ℕ) → BeginsOn s p k → (l : ℕ) × (locks p ≡ Some l) × (l < count)
   pub apart : (p q l k : ℕ) → locks p ≡ Some l → locks q ≡ Some l → BeginsOn s p k → BeginsOn s q k
   pub alike : (p q l k : ℕ) → locks p ≡ Some l → BeginsOn s p k → BeginsOn s q k → locks q ≡ Some l
+
+-- the classes are the slots of the trace's locks
+abbrev pub AreLockSlots : Trace → Classes → Type 0
+AreLockSlots s locks = AreLocks s (slots_of locks) locks.count
 
 -- the place r has to be in as soon as q is
 abbrev pub Needs : Trace → ℕ → ℕ → Type 0
@@ -42,19 +47,23 @@ abbrev pub item_at : Demands → ℕ → ℕ → Option Item
 item_at d a j = option_and_then (λ xs. slice_get xs.items j) (slice_get d.items.items a)
 
 -- the items are true demands, and each demand has its item
-pub record AreItems (s : Trace) (slots locks : ℕ → Option ℕ) (items : ℕ → ℕ → Option Item) : Type 0 where
-  pub ascend : (a i j : ℕ) (x y : Item) → i ≤ j → items a i ≡ Some x → items a j ≡ Some y → x.number ≤ y.number
+pub record AreItems (s : Trace) (slots locks : ℕ → Option ℕ) (items : ℕ → ℕ →
+    Option Item) : Type 0 where
+  pub ascend : (a i j : ℕ) (x y : Item) → i ≤ j → items a i ≡ Some x → items a j ≡ Some y →
+      x.number ≤ y.number
   pub reach : (a j n : ℕ) (goal : Goal) → items a j ≡ Some (item n (Reach goal)) →
       (q : ℕ) × (r : ℕ) × Stands s slots q a n × Needs s q r × IsGoal s slots goal r
   pub begin : (a j n l : ℕ) (c : Section) → items a j ≡ Some (item n (Begin l c)) →
-      (k : ℕ) × Stands s slots c.place a n × BeginsOn s c.place k × (locks c.place ≡ Some l) × EndsSection s slots c
+      (k : ℕ) × Stands s slots c.place a n × BeginsOn s c.place k × (locks c.place ≡ Some l)
+      × EndsSection s slots c
   pub needs : (q r a n : ℕ) → Needs s q r → Stands s slots q a n → EarlierInThread s r q
-      ⊎ ((j : ℕ) × (m : ℕ) × (goal : Goal) × (i : ℕ) × (items a j ≡ Some (item m (Reach goal))) × (m ≤ n) × Stands s slots r goal.slot i × (i < goal.count))
+      ⊎ ((j : ℕ) × (m : ℕ) × (goal : Goal) × (i : ℕ) × (items a j ≡ Some (item m (Reach goal)))
+      × (m ≤ n) × Stands s slots r goal.slot i × (i < goal.count))
   pub begins : (q k a n : ℕ) → BeginsOn s q k → Stands s slots q a n →
       (j : ℕ) × (l : ℕ) × (c : Section) × (items a j ≡ Some (item n (Begin l c))) × (c.place ≡ q)
 
 -- the tables are those of the trace
 pub record AreDemands (s : Trace) (d : Demands) : Type 0 where
-  pub slots : AreSlots s (class_of d.threads.of.items) d.threads.count
-  pub locks : AreLocks s (class_of d.locks.of.items) d.locks.count
-  pub items : AreItems s (class_of d.threads.of.items) (class_of d.locks.of.items) (item_at d)
+  pub slots : AreThreadSlots s d.threads
+  pub locks : AreLockSlots s d.locks
+  pub items : AreItems s (slots_of d.threads) (slots_of d.locks) (item_at d)

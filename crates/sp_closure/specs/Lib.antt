@@ -15,3 +15,4 @@ pub mod Classes
 pub mod Firsts
 pub mod Pushing
 pub mod Pasts
+pub mod Filling

@@ -1,8 +1,8 @@
 -- A set of places on its way to being closed.
 use Rattle.std.specs.Prelude.{◌≡◌, ◌≢◌, ℕ, zero, suc, ◌+◌, ◌<◌, ◌≤◌, ◌⊎◌, List, length, slice_get, Option, Some, MatchOption}
 use Rattle.std.specs.List.{Contains}
-use Rattle.trace_model.specs.Trace.{Trace}
-use Rattle.trace_model.specs.Closure.{Places}
+use Rattle.trace_model.specs.Theory.Trace.{Trace}
+use Rattle.trace_model.specs.Theory.Closure.{Places}
 use Rattle.sp_closure.specs.declared.demands.Goal.{Goal}
 use Rattle.sp_closure.specs.declared.demands.Section.{Section}
 use Rattle.sp_closure.specs.declared.demands.Need.TheVariants.{Reach, Begin}
@@ -11,8 +11,8 @@ use Rattle.sp_closure.specs.declared.demands.Demands.{Demands}
 use Rattle.sp_closure.specs.declared.layer.Layer.{Layer}
 use Rattle.sp_closure.specs.declared.work.Work.{Work}
 use Rattle.sp_closure.specs.declared.members.Member.{Member}
-use Rattle.sp_closure.specs.Slots.{class_of, HoldsFirst, HasFirst}
-use Rattle.sp_closure.specs.Layers.{front_of, done_of, last_of, Changes, HasRoom}
+use Rattle.sp_closure.specs.Slots.{slots_of, HasFronts, HoldsFronts}
+use Rattle.sp_closure.specs.Layers.{front_of, done_of, last_of, Changes, HasRoomFor}
 use Rattle.sp_closure.specs.Demands.{item}
 use Rattle.sp_closure.specs.Members.{Each, IsMember, IsAhead}
 
@@ -38,51 +38,54 @@ sum_to f (suc n) = sum_to f n + f n
 
 -- the work has room, and its fronts are within the trace
 pub record IsFit (s : Trace) (d : Demands) (under : Layer) (w : Work) : Type 0 where
-  pub room : HasRoom d.threads.count d.locks.count w.layer
-  pub fronts : (a : ℕ) → HasFirst s (class_of d.threads.of.items) a (front_of under w.layer a)
+  pub room : HasRoomFor d w.layer
+  pub fronts : HasFronts s (slots_of d.threads) (front_of under w.layer)
 
 -- what was met is in, and what it demands; what is in and not met is owed by a pending slot
 pub record IsOnWay (items : ℕ → ℕ → Option Item) (x : State) : Type 0 where
   pub inside : (a j : ℕ) (i : Item) → items a j ≡ Some i → j < x.done a → i.number < x.front a
-  pub reached : (a j n : ℕ) (goal : Goal) → items a j ≡ Some (item n (Reach goal)) → j < x.done a → goal.count ≤ x.front goal.slot
+  pub reached : (a j n : ℕ) (goal : Goal) → items a j ≡ Some (item n (Reach goal)) → j < x.done a →
+      goal.count ≤ x.front goal.slot
   pub lasts : (l : ℕ) (c : Section) → x.last l ≡ Some c →
       (a : ℕ) × (j : ℕ) × (n : ℕ) × (j < x.done a) × (items a j ≡ Some (item n (Begin l c)))
   pub ended : (a j n l : ℕ) (c : Section) → items a j ≡ Some (item n (Begin l c)) → j < x.done a →
-      (d : Section) × (x.last l ≡ Some d) × ((c ≡ d) ⊎ ((c.place < d.place) × (c.end.count ≤ x.front c.end.slot)))
-  pub owed : (a j : ℕ) (i : Item) → items a j ≡ Some i → i.number < x.front a → (j < x.done a) ⊎ Contains x.pending a
+      (d : Section) × (x.last l ≡ Some d)
+      × ((c ≡ d) ⊎ ((c.place < d.place) × (c.end.count ≤ x.front c.end.slot)))
+  pub owed : (a j : ℕ) (i : Item) → items a j ≡ Some i → i.number < x.front a → (j < x.done a)
+      ⊎ Contains x.pending a
 
 -- the pending slots are slots
 abbrev pub AreKnownSlots : ℕ → List ℕ → Type 0
 AreKnownSlots count pending = (a : ℕ) → Contains pending a → a < count
 
--- more is in, up to the goal; whose front moved is pending, and nothing else is different
-pub record Raises (count : ℕ) (goal : Goal) (old new : State) : Type 0 where
-  pub upto : goal.count ≤ new.front goal.slot
+-- more is in; whose front moved is pending, and no demand is met
+pub record Grows (count : ℕ) (old new : State) : Type 0 where
   pub grows : (a : ℕ) → old.front a ≤ new.front a
   pub pended : (a : ℕ) → (new.front a ≡ old.front a) ⊎ Contains new.pending a
   pub kept : (a : ℕ) → Contains old.pending a → Contains new.pending a
   pub known : AreKnownSlots count old.pending → AreKnownSlots count new.pending
   pub done : (a : ℕ) → new.done a ≡ old.done a
-  pub last : (l : ℕ) → new.last l ≡ old.last l
   pub more : length new.pending ≤ length old.pending + 1
 
--- the section begins: it is the lock's last one, or the last one stays; the earlier of both is ended
+-- more is in, up to the goal, and the last sections are the same
+pub record Raises (count : ℕ) (goal : Goal) (old new : State) : Type 0 where
+  pub upto : goal.count ≤ new.front goal.slot
+  pub growth : Grows count old new
+  pub last : (l : ℕ) → new.last l ≡ old.last l
+
+-- the section begins: it is the lock's last one, or the last one stays; the earlier of both is
+-- ended
 abbrev pub IsBegun : Option Section → Section → State → ℕ → Type 0
 IsBegun old c y l = MatchOption old (y.last l ≡ Some c) (λ d.
     ((d.place < c.place) × (y.last l ≡ Some c) × (d.end.count ≤ y.front d.end.slot))
     ⊎ ((c.place < d.place) × (y.last l ≡ Some d) × (c.end.count ≤ y.front c.end.slot))
     ⊎ ((c.place ≡ d.place) × (y.last l ≡ Some d)))
 
--- the same, with what else is different
+-- the same, where more is in
 pub record Begins (count l : ℕ) (c : Section) (old new : State) : Type 0 where
   pub begun : IsBegun (old.last l) c new l
   pub others : (m : ℕ) → m ≢ l → new.last m ≡ old.last m
-  pub grows : (a : ℕ) → old.front a ≤ new.front a
-  pub pended : (a : ℕ) → (new.front a ≡ old.front a) ⊎ Contains new.pending a
-  pub kept : (a : ℕ) → Contains old.pending a → Contains new.pending a
-  pub known : AreKnownSlots count old.pending → AreKnownSlots count new.pending
-  pub done : (a : ℕ) → new.done a ≡ old.done a
-  pub more : length new.pending ≤ length old.pending + 1
+  pub growth : Grows count old new
 
 -- a demand of the slot is met: what was on the way still is, and more is in
 pub record Meets (items : ℕ → ℕ → Option Item) (count a : ℕ) (old new : State) : Type 0 where
@@ -93,21 +96,24 @@ pub record Meets (items : ℕ → ℕ → Option Item) (count a : ℕ) (old new 
   pub pending : length new.pending ≤ length old.pending + 1
 
 -- a set that is ahead of the members and holds all that is in
-pub record IsBound (s : Trace) (slots : ℕ → Option ℕ) (front : ℕ → ℕ) (members : List Member) (set : Places) : Type 0 where
+pub record IsBound (s : Trace) (slots : ℕ → Option ℕ) (front : ℕ → ℕ) (members : List Member)
+    (set : Places) : Type 0 where
   pub ahead : IsAhead s members set
-  pub holds : (a : ℕ) → HoldsFirst s slots set a (front a)
+  pub holds : HoldsFronts s slots front set
 
 -- each member stands right behind the front of its thread
 abbrev pub IsAtFront : (ℕ → ℕ) → Member → Type 0
 IsAtFront front m = m.number ≡ front m.slot
 
 -- the members are members, each right behind the front of its thread
-pub record AreAtFront (s : Trace) (slots : ℕ → Option ℕ) (front : ℕ → ℕ) (members : List Member) : Type 0 where
+pub record AreAtFront (s : Trace) (slots : ℕ → Option ℕ) (front : ℕ → ℕ)
+    (members : List Member) : Type 0 where
   pub each : Each (IsMember s slots) members
   pub at : Each (IsAtFront front) members
 
 -- the same, but those of the goal's slot may be behind it
-pub record AreUpTo (s : Trace) (slots : ℕ → Option ℕ) (front : ℕ → ℕ) (goal : Goal) (members : List Member) : Type 0 where
+pub record AreUpTo (s : Trace) (slots : ℕ → Option ℕ) (front : ℕ → ℕ) (goal : Goal)
+    (members : List Member) : Type 0 where
   pub each : Each (IsMember s slots) members
   pub others : Each (λ m. m.slot ≢ goal.slot → m.number ≡ front m.slot) members
   pub here : Each (λ m. m.slot ≡ goal.slot → m.number ≤ goal.count) members
@@ -115,4 +121,5 @@ pub record AreUpTo (s : Trace) (slots : ℕ → Option ℕ) (front : ℕ → ℕ
 -- the same members, perhaps at later places
 pub record AreSame (old new : List Member) : Type 0 where
   pub same_length : length new ≡ length old
-  pub places : (i : ℕ) (x y : Member) → slice_get old i ≡ Some x → slice_get new i ≡ Some y → y.places ≡ x.places
+  pub places : (i : ℕ) (x y : Member) → slice_get old i ≡ Some x → slice_get new i ≡ Some y →
+      y.places ≡ x.places

@@ -1,12 +1,14 @@
 //! How the pasts of all places of the dependencies are made.
 
 ghost use Rattle.std.specs.Prelude.{◌≡◌, ℕ, ◌<◌, ◌≤◌, length, slice_get, Some, IfOk, IfSome};
-ghost use Rattle.dependencies.specs.Tables.{known, FollowsTrace};
-ghost use Rattle.sp_closure.specs.Slots.{class_of, AreSlots, HasFirst};
+ghost use Rattle.dependencies.specs.Tables.{known};
+ghost use Rattle.sp_closure.specs.Slots.{slots_of, AreThreadSlots, HasPlaces};
 ghost use Rattle.sp_closure.specs.Layers.{front_of};
 ghost use Rattle.sp_closure.specs.declared.demands.Goal.{Goal};
 ghost use Rattle.sp_closure.specs.Pasts.{ArePasts, AreTracks, HasGoal, IsTrack, IsWithin, Puts, PutsAt};
+ghost use Rattle.sp_closure.specs.Pointers.{FollowsWhole};
 ghost use Rattle.sp_closure.specs.Closers.{IsCloser};
+ghost use Rattle.sp_closure.specs.Filling.{IsFilling};
 
 use crate::classes::Classes;
 use crate::closer::{Closer, MOST_BASES};
@@ -26,7 +28,8 @@ const MOST_FRONTS: usize = 4_194_304;
 
 /// The fronts of the layer, slot by slot.
 fn fronts_of(alloc: Global, none: &Layer, layer: &Layer, count: u32) -> Result<Vec<u32>, NoMemory>
-    ensures { IfOk result (λ fronts. (a n : ℕ) → slice_get fronts.items a ≡ Some n → n ≡ front_of none.now layer.now a) }
+    ensures { IfOk result (λ fronts. (a n : ℕ) → slice_get fronts.items a ≡ Some n →
+        n ≡ front_of none.now layer.now a) }
 {
     let mut fronts = Vec::with_capacity(alloc, count as usize)?;
     for slot in 0..count {
@@ -43,10 +46,10 @@ fn track_of(
     table: &DepTable,
     number: u32,
 ) -> Result<Track, NoMemory>
-    requires slots { AreSlots index.now.events (class_of threads.now.of.items) threads.now.count }
-    requires one_trace { FollowsTrace table.now index.now.events (length index.now.events) }
+    requires slots { AreThreadSlots index.now.events threads.now }
+    requires one_trace { FollowsWhole table.now index.now.events }
     requires known { number < length (known table.now) }
-    ensures { IfOk result (IsTrack index.now.events (class_of threads.now.of.items) number) }
+    ensures { IfOk result (IsTrack index.now.events (slots_of threads.now) number) }
 {
     let first = first_member(index, threads, table, number);
     let count = first.places.len();
@@ -72,9 +75,10 @@ fn tracks_of(
     threads: &Classes,
     table: &DepTable,
 ) -> Result<Vec<Track>, NoMemory>
-    requires slots { AreSlots index.now.events (class_of threads.now.of.items) threads.now.count }
-    requires one_trace { FollowsTrace table.now index.now.events (length index.now.events) }
-    ensures { IfOk result (λ tracks. AreTracks index.now.events (class_of threads.now.of.items) tracks.items) }
+    requires slots { AreThreadSlots index.now.events threads.now }
+    requires one_trace { FollowsWhole table.now index.now.events }
+    ensures { IfOk result (λ tracks.
+        AreTracks index.now.events (slots_of threads.now) tracks.items) }
 {
     let mut tracks = Vec::with_capacity(alloc, table.len())?;
     for number in 0..table.len() {
@@ -84,8 +88,8 @@ fn tracks_of(
     Ok(tracks)
 }
 
-/// At each place of the trace the dependency that it has, and which of its places it is. By this the pasts are made
-/// in the order in which they grow; what they are does not hang on it.
+/// At each place of the trace the dependency that it has, and which of its places it is. By this
+/// the pasts are made in the order in which they grow; what they are does not hang on it.
 fn in_order(
     alloc: Global,
     index: &TraceIndex,
@@ -145,8 +149,9 @@ fn put_at(tracks: &mut [Track], at: Pointer, fronts: Vec<u32>)
 }
 
 impl Closer {
-    /// Whether the pasts of these dependencies are made fast and take little room: there are no more threads than
-    /// bases, and at most `MOST_FRONTS` numbers for their first places. It takes no memory.
+    /// Whether the pasts of these dependencies are made fast and take little room: there are no
+    /// more threads than bases, and at most `MOST_FRONTS` numbers for their first places. It takes
+    /// no memory.
     pub fn are_pasts_small(&self, table: &DepTable) -> bool {
         let threads = self.demands.threads.count as usize;
         threads <= MOST_BASES + 1 && table.len() <= MOST_FRONTS / (MOST_BASES + 1)
@@ -160,10 +165,11 @@ impl Closer {
         steps: &mut Steps<L>,
     ) -> Result<Vec<u32>, NoMemory>
         requires closer { IsCloser index.now.events self.old }
-        requires reach { HasFirst index.now.events (class_of self.old.demands.threads.of.items) goal.slot goal.count }
+        requires reach { HasPlaces index.now.events (slots_of self.old.demands.threads) goal }
         ensures closer { IsCloser index.now.events self.new }
         ensures slots { self.new.demands ≡ self.old.demands }
-        ensures past { IfOk result (λ fronts. IsWithin index.now.events (class_of self.new.demands.threads.of.items) goal fronts.items) }
+        ensures past { IfOk result (λ fronts.
+            IsWithin index.now.events (slots_of self.new.demands.threads) goal fronts.items) }
     {
         self.turn_to(index, goal.slot)?;
         self.base_on(index, goal, steps)?;
@@ -183,11 +189,9 @@ impl Closer {
         at: Pointer,
         steps: &mut Steps<L>,
     ) -> Result<(), NoMemory>
-        requires closer { IsCloser index.now.events self.old }
-        requires tracks { AreTracks index.now.events (class_of self.old.demands.threads.of.items) tracks.old.items }
-        ensures closer { IsCloser index.now.events self.new }
+        requires filling { IsFilling index.now.events self.old tracks.old.items }
+        ensures filling { IsFilling index.now.events self.new tracks.new.items }
         ensures slots { self.new.demands ≡ self.old.demands }
-        ensures tracks { AreTracks index.now.events (class_of self.new.demands.threads.of.items) tracks.new.items }
     {
         let Some(goal) = goal_at(tracks.as_slice(), at) else {
             return Ok(());
@@ -197,8 +201,8 @@ impl Closer {
         Ok(())
     }
 
-    /// Makes the past of the place, if there is one and there is room for so many numbers, and answers what room is
-    /// left.
+    /// Makes the past of the place, if there is one and there is room for so many numbers, and
+    /// answers what room is left.
     fn fill_within<L: Ledger>(
         &mut self,
         index: &TraceIndex,
@@ -207,11 +211,9 @@ impl Closer {
         room: usize,
         steps: &mut Steps<L>,
     ) -> Result<usize, NoMemory>
-        requires closer { IsCloser index.now.events self.old }
-        requires tracks { AreTracks index.now.events (class_of self.old.demands.threads.of.items) tracks.old.items }
-        ensures closer { IsCloser index.now.events self.new }
+        requires filling { IsFilling index.now.events self.old tracks.old.items }
+        ensures filling { IsFilling index.now.events self.new tracks.new.items }
         ensures slots { self.new.demands ≡ self.old.demands }
-        ensures tracks { AreTracks index.now.events (class_of self.new.demands.threads.of.items) tracks.new.items }
     {
         let Some(left) = room.checked_sub(self.demands.threads.count as usize) else {
             return Ok(room);
@@ -231,11 +233,9 @@ impl Closer {
         order: &[Option<Pointer>],
         steps: &mut Steps<L>,
     ) -> Result<(), NoMemory>
-        requires closer { IsCloser index.now.events self.old }
-        requires tracks { AreTracks index.now.events (class_of self.old.demands.threads.of.items) tracks.old.items }
-        ensures closer { IsCloser index.now.events self.new }
+        requires filling { IsFilling index.now.events self.old tracks.old.items }
+        ensures filling { IsFilling index.now.events self.new tracks.new.items }
         ensures slots { self.new.demands ≡ self.old.demands }
-        ensures tracks { AreTracks index.now.events (class_of self.new.demands.threads.of.items) tracks.new.items }
     {
         let mut room = MOST_FRONTS;
         for at in order {
@@ -244,10 +244,10 @@ impl Closer {
         Ok(())
     }
 
-    /// The pasts of the places of all dependencies. The caller owes the index that the closer was made over, and a
-    /// table that numbers the dependencies of its trace. It takes a list of one number a thread for each place, while
-    /// these are no more than `MOST_FRONTS`, and time for one closure of the whole trace a thread, where there are no
-    /// more threads than bases.
+    /// The pasts of the places of all dependencies. The caller owes the index that the closer was
+    /// made over, and a table that numbers the dependencies of its trace. It takes a list of one
+    /// number a thread for each place, while these are no more than `MOST_FRONTS`, and time for one
+    /// closure of the whole trace a thread, where there are no more threads than bases.
     ///
     /// # Errors
     ///
@@ -259,7 +259,7 @@ impl Closer {
         steps: &mut Steps<L>,
     ) -> Result<Pasts, NoMemory>
         requires closer { IsCloser index.now.events self.old }
-        requires one_trace { FollowsTrace table.now index.now.events (length index.now.events) }
+        requires one_trace { FollowsWhole table.now index.now.events }
         ensures closer { IsCloser index.now.events self.new }
         ensures pasts { IfOk result (ArePasts index.now.events) }
     {

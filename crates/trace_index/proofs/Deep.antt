@@ -3,27 +3,27 @@ use Rattle.std.proofs.Common.{◌≡◌, ℕ, suc, ◌+◌, ◌-◌, ◌≤◌, 
 use Rattle.std.proofs.lemmas.Bool.{eqb-true, leb-true, cases_lt}
 use Rattle.std.proofs.lemmas.Option.{none-some, same_Some, slice_get_within}
 use Rattle.std.specs.HashMap.{HashMap}
-use Rattle.trace_model.specs.declared.event.Event.{Event}
-use Rattle.trace_model.specs.declared.event.Op.{Op}
-use Rattle.trace_model.specs.declared.event.Op.TheVariants.{Fork, Join, Acquire, Release, Read, Write}
+use Rattle.trace_model.specs.declared.traces.event.Event.{Event}
+use Rattle.trace_model.specs.declared.traces.event.Op.{Op}
+use Rattle.trace_model.specs.declared.traces.event.Op.TheVariants.{Fork, Join, Acquire, Release, Read, Write}
 use Rattle.trace_model.specs.declared.limits.TheConstants.{MAX_EVENTS}
-use Rattle.trace_model.specs.declared.owner.Owner.{Owner}
-use Rattle.trace_model.specs.Trace.{Trace, At}
-use Rattle.trace_model.specs.Held.{depth}
-use Rattle.trace_model.specs.Holders.{owner, owner_after, owned, released}
-use Rattle.trace_model.specs.Lawful.{refusal_of, op_refusal_of, IsWellFormed}
-use Rattle.trace_model.proofs.Growing.{well_formed_take}
-use Rattle.trace_model.proofs.Lawful.{passed}
+use Rattle.trace_model.specs.declared.traces.owner.Owner.{Owner}
+use Rattle.trace_model.specs.Theory.Trace.{Trace, At}
+use Rattle.trace_model.specs.Theory.Held.{depth}
+use Rattle.trace_model.specs.Theory.Holders.{owner, owner_after, owned, released}
+use Rattle.trace_model.specs.Theory.Lawful.{refusal_of, op_refusal_of, IsWellFormed}
+use Rattle.trace_model.proofs.Theory.Growing.{well_formed_take}
+use Rattle.trace_model.proofs.Theory.Lawful.{passed}
 use Rattle.trace_model.proofs.Lists.{get-append, get-take, get-take_past, get-push_last, length-push}
-use Rattle.trace_model.proofs.OneMore.{lawful_op, lawful_acquire}
-use Rattle.trace_model.proofs.Owners.{owner-push, acquired_owned, released_owned}
-use Rattle.trace_model.proofs.Prefix.{Agree, depth-agree}
-use Rattle.trace_model.proofs.Sections.{depth-take}
+use Rattle.trace_model.proofs.Theory.OneMore.{lawful_op, lawful_acquire}
+use Rattle.trace_model.proofs.Theory.Owners.{owner-push, acquired_owned, released_owned}
+use Rattle.trace_model.proofs.Theory.Prefix.{Agree, depth-agree}
+use Rattle.trace_model.proofs.Theory.Sections.{depth-take}
 use Rattle.trace_index.specs.declared.row.Row.{Row}
 use Rattle.trace_index.specs.Depths.{depth_in, op_depth, event_depth, IsShallow, depth_noted, AreDeep, AreDepths}
 use Rattle.trace_index.specs.Links.{trace_of}
 use Rattle.trace_index.proofs.Chains.{length_trace, trace_push, trace_take}
-use Rattle.trace_index.proofs.Lists.{take_next}
+use Rattle.links.proofs.Lists.{take_next}
 
 -- ---- by owners and by threads
 

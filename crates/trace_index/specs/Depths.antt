@@ -1,13 +1,13 @@
 -- How deep locks are held, as an index keeps it.
 use Rattle.std.specs.Prelude.{◌≡◌, ℕ, suc, ◌-◌, ◌<◌, ◌≤◌, nat_eq, List, length, take, slice_get, Option, Some, IsSome, unwrap_or, if◌then◌else◌}
 use Rattle.std.specs.HashMap.{HashMap, get}
-use Rattle.trace_model.specs.declared.event.Event.{Event}
-use Rattle.trace_model.specs.declared.event.Op.{Op}
-use Rattle.trace_model.specs.declared.event.Op.TheVariants.{Acquire, Release}
+use Rattle.trace_model.specs.declared.traces.event.Event.{Event}
+use Rattle.trace_model.specs.declared.traces.event.Op.{Op}
+use Rattle.trace_model.specs.declared.traces.event.Op.TheVariants.{Acquire, Release}
 use Rattle.trace_model.specs.declared.limits.TheConstants.{MAX_DEPTH}
-use Rattle.trace_model.specs.Trace.{Trace}
-use Rattle.trace_model.specs.Held.{depth}
-use Rattle.trace_model.specs.Holders.{owner, owned}
+use Rattle.trace_model.specs.Theory.Trace.{Trace}
+use Rattle.trace_model.specs.Theory.Held.{depth}
+use Rattle.trace_model.specs.Theory.Holders.{owner, owned}
 use Rattle.trace_index.specs.declared.row.Row.{Row}
 use Rattle.trace_index.specs.declared.row.Ready.{Ready}
 use Rattle.trace_index.specs.Links.{trace_of}

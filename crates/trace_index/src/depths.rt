@@ -1,25 +1,25 @@
 //! How deep each lock is held.
 ghost use Rattle.std.specs.Prelude.{◌≡◌, ℕ, ◌+◌, ◌<◌, ◌≤◌, ◌^◌, length, OnOk, cond, nat_eq};
 ghost use Rattle.trace_model.specs.declared.limits.TheConstants.{MAX_EVENTS};
-ghost use Rattle.trace_model.specs.Lawful.{IsWellFormed};
+ghost use Rattle.trace_model.specs.Theory.Lawful.{IsWellFormed};
 ghost use Rattle.trace_index.specs.Depths.{depth_in, op_depth, depth_noted, HasEntry, HasOpEntry, IsShallow, AreDeep, AreDepths};
 ghost use Rattle.trace_index.specs.Links.{trace_of};
 
 use crate::row::Row;
 use indexmap::IndexMap;
 use segments::Segments;
-use slots::{NumberTable, slot_of, value_of, write_value};
+use slots::{Guesses, NumberTable, slot_of, value_of, write_value};
 use std::alloc::Global;
 use std::collections::hash_map::RandomState;
 use trace_model::{NoMemory, Op};
 
-/// How deep each lock is held after the first rows, as many as noted: by one thread at most, since the trace is well
-/// formed. It lags behind where the rows are another index's, since making room for their locks may be refused.
+/// How deep each lock is held after the first rows, as many as noted: by one thread at most, since
+/// the trace is well formed. It lags behind where the rows are another index's, since making room
+/// for their locks may be refused.
 #[derive(Drop)]
 pub(crate) struct Depths {
     pub(crate) table: NumberTable<u8>,
-    /// Where the lock of the last reserved event stands.
-    near: usize,
+    guesses: Guesses,
     pub(crate) noted: usize,
 }
 
@@ -31,7 +31,7 @@ impl Depths {
     {
         Depths {
             table: IndexMap::with_hasher(alloc, state),
-            near: 0,
+            guesses: Guesses::new(),
             noted: 0,
         }
     }
@@ -40,7 +40,7 @@ impl Depths {
     fn of(&self, lock: u32) -> u8
         ensures { result ≡ depth_in self.now.table lock }
     {
-        value_of(&self.table, self.near, lock).unwrap_or(0)
+        value_of(&self.table, self.guesses.of(lock), lock).unwrap_or(0)
     }
 
     /// How deep the lock of an operation is held, 0 where it is about none.
@@ -60,13 +60,13 @@ impl Depths {
         ensures noted { self.new.noted ≡ self.old.noted }
         ensures ok { OnOk result (HasEntry self.new.table lock) }
     {
-        if let Some(slot) = slot_of(&self.table, self.near, lock) {
-            self.near = slot;
+        if let Some(slot) = slot_of(&self.table, self.guesses.of(lock), lock) {
+            self.guesses.note(lock, slot);
             return Ok(());
         }
         let slot = self.table.len();
         self.table.insert(lock, 0)?;
-        self.near = slot;
+        self.guesses.note(lock, slot);
         Ok(())
     }
 
@@ -82,7 +82,8 @@ impl Depths {
         }
     }
 
-    /// Notes one more row: its operation, for whose lock there is an entry, and how deep that was held before.
+    /// Notes one more row: its operation, for whose lock there is an entry, and how deep that was
+    /// held before.
     pub(crate) fn note(&mut self, op: Op, depth: u8)
         requires entry { HasOpEntry self.old.table op }
         requires shallow { IsShallow op depth }
@@ -92,9 +93,19 @@ impl Depths {
         ensures noted { self.new.noted ≡ self.old.noted + 1 }
     {
         match op {
-            Op::Acquire(lock) => write_value(&mut self.table, self.near, lock, depth + 1),
+            Op::Acquire(lock) => write_value(
+                &mut self.table,
+                self.guesses.of(lock),
+                lock,
+                depth + 1,
+            ),
             Op::Release(lock) => {
-                write_value(&mut self.table, self.near, lock, depth.saturating_sub(1));
+                write_value(
+                    &mut self.table,
+                    self.guesses.of(lock),
+                    lock,
+                    depth.saturating_sub(1),
+                );
             }
             _ => {}
         }

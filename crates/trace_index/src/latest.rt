@@ -1,6 +1,8 @@
+//! The last place of each key.
+
 ghost use Rattle.std.specs.Prelude.{◌≡◌, ◌≤◌, ◌*◌, ℕ, None, length, OnOk};
 ghost use Rattle.std.specs.HashMap.{get};
-ghost use Rattle.trace_model.specs.Trace.{Trace};
+ghost use Rattle.trace_model.specs.Theory.Trace.{Trace};
 ghost use Rattle.trace_index.specs.declared.row.Key.{Key as KeyValue};
 ghost use Rattle.trace_index.specs.Links.{same_key, AreLatest};
 ghost use Rattle.trace_index.specs.Marks.{AreSealed};
@@ -13,8 +15,8 @@ use std::collections::hash_map::RandomState;
 use std::sync::Arc;
 use trace_model::NoMemory;
 
-/// The last place of each key in the first full segments, as many as noted. It lags behind, since only the next
-/// row asks for it, and making room for that may be refused.
+/// The last place of each key in the first full segments, as many as noted. It lags behind, since
+/// only the next row asks for it, and making room for that may be refused.
 #[derive(Drop)]
 pub(crate) struct Latest {
     pub(crate) places: Places,
@@ -36,7 +38,8 @@ impl Latest {
     /// Notes the segments that are not noted yet.
     pub(crate) fn follow(&mut self, sealed: &[Arc<Marked>]) -> Result<(), NoMemory>
         requires { self.old.noted ≤ length sealed.now }
-        ensures latest { (s : Trace) → AreSealed s sealed.now → AreLatest s (4096 * self.old.noted) self.old.places →
+        ensures latest { (s : Trace) → AreSealed s sealed.now →
+            AreLatest s (4096 * self.old.noted) self.old.places →
             AreLatest s (4096 * self.new.noted) self.new.places }
         ensures within { self.new.noted ≤ length sealed.now }
         ensures ok { OnOk result (self.new.noted ≡ length sealed.now) }

@@ -15,23 +15,24 @@ mod share;
 
 ghost use Rattle.std.specs.Prelude.{◌≡◌, ℕ, ◌<◌, ◌≤◌, ◌↔◌, ◌++◌, ◌∷◌, [], length, take, slice_get, Some, IfOk};
 ghost use Rattle.trace_model.specs.declared.limits.TheConstants.{MAX_EVENTS};
-ghost use Rattle.trace_model.specs.declared.event.Op.TheVariants.{Fork};
-ghost use Rattle.trace_model.specs.Trace.{Does};
-ghost use Rattle.trace_model.specs.Held.{begins_on, begun};
-ghost use Rattle.trace_model.specs.Closure.{ascending};
-ghost use Rattle.trace_model.specs.Lawful.{IsWellFormed};
-ghost use Rattle.trace_model.specs.Lookups.{writer, release};
+ghost use Rattle.trace_model.specs.declared.traces.event.Op.TheVariants.{Fork};
+ghost use Rattle.trace_model.specs.Theory.Trace.{Does};
+ghost use Rattle.trace_model.specs.Theory.Held.{begins_on, begun};
+ghost use Rattle.trace_model.specs.Theory.Closure.{ascending};
+ghost use Rattle.trace_model.specs.Theory.Lawful.{IsWellFormed};
+ghost use Rattle.trace_model.specs.Theory.Lookups.{writer, release};
 ghost use Rattle.trace_index.specs.Numbers.{of_thread, number_at, thread_before, acquire_before};
-ghost use Rattle.trace_index.specs.Links.{written_by, begun_by, taken_before};
+ghost use Rattle.trace_index.specs.Links.{passes, written_by, begun_by, taken_before};
 
+use chain::Chain;
 pub use copies::Copies;
 use depths::Depths;
-use guesses::Guesses;
 use latest::Latest;
 pub use list::PlacesOf;
 use marks::{Marks, ended_in, last_marked};
-use row::{Key, Ready, Row, place_of};
+use row::{Key, Ready, Row, index_of, place_of};
 use segments::Segments;
+use slots::Guesses;
 use std::alloc::Global;
 use std::collections::hash_map::RandomState;
 use std::marker::{Brand, Model};
@@ -91,9 +92,9 @@ fn build_counted<L: Ledger>(
     Ok(index)
 }
 
-/// A well-formed trace with links between its places, which grows by `reserve` and `record`. Look-ups take no
-/// memory, and answer none or an empty view for what is not in the trace. Full segments may be shared with
-/// other indices.
+/// A well-formed trace with links between its places, which grows by `reserve` and `record`.
+/// Look-ups take no memory, and answer none or an empty view for what is not in the trace. Full
+/// segments may be shared with other indices.
 ///
 /// Contracts see the events, and the event that is reserved.
 #[derive(Drop)]
@@ -127,8 +128,11 @@ impl Model for TraceIndex {
 impl TraceIndex {
     /// The index of a trace, made in one pass over its events: each is reserved and then recorded.
     ///
-    /// The caller owes a well-formed trace. `state` hashes the keys of the tables. NoMemory where a growth
-    /// was refused.
+    /// The caller owes a well-formed trace. `state` hashes the keys of the tables.
+    ///
+    /// # Errors
+    ///
+    /// `NoMemory` where a growth was refused.
     pub fn build(
         alloc: Global,
         state: RandomState,
@@ -159,7 +163,8 @@ impl TraceIndex {
         }
     }
 
-    /// The writer of a read: the last write to its variable before it, or none. None for any other event.
+    /// The writer of a read: the last write to its variable before it, or none. None for any other
+    /// event.
     pub fn writer(&self, place: Place) -> Option<Place>
         ensures { result ≡ writer self.now.events place }
     {
@@ -189,7 +194,8 @@ impl TraceIndex {
         }
     }
 
-    /// The lock on which a critical section begins at a place: that of an outermost acquire. None for any other event.
+    /// The lock on which a critical section begins at a place: that of an outermost acquire. None
+    /// for any other event.
     pub fn begun(&self, place: Place) -> Option<u32>
         ensures { result ≡ begun self.now.events place }
     {
@@ -199,7 +205,8 @@ impl TraceIndex {
         }
     }
 
-    /// Of an outermost acquire the last one of its lock before it, or none. None for any other event.
+    /// Of an outermost acquire the last one of its lock before it, or none. None for any other
+    /// event.
     pub fn acquire_before(&self, place: Place) -> Option<Place>
         ensures { result ≡ acquire_before self.now.events place }
     {
@@ -209,8 +216,8 @@ impl TraceIndex {
         }
     }
 
-    /// The release of an outermost acquire: the next outermost release of its lock by its thread, or none. None for any
-    /// other event.
+    /// The release of an outermost acquire: the next outermost release of its lock by its thread,
+    /// or none. None for any other event.
     pub fn release_of(&self, place: Place) -> Option<Place>
         ensures { result ≡ release self.now.events place }
     {
@@ -230,16 +237,23 @@ impl TraceIndex {
         last_marked(&self.marks.sealed, &self.marks.tail, Key::ForkOf(thread))
     }
 
+    /// The places of a key, ascending.
+    fn places_of(&self, key: Key) -> PlacesOf<'_>
+        ensures { result ≡ ascending (passes self.now.events key) (length self.now.events) }
+    {
+        let chain = Chain {
+            rows: &self.rows,
+            key,
+        };
+        let last = index_of(last_marked(&self.marks.sealed, &self.marks.tail, key));
+        PlacesOf { chain, last }
+    }
+
     /// The places of a thread, ascending.
     pub fn thread_places(&self, thread: u32) -> PlacesOf<'_>
         ensures { result ≡ ascending (of_thread self.now.events thread) (length self.now.events) }
     {
-        let key = Key::OfThread(thread);
-        PlacesOf {
-            rows: &self.rows,
-            key,
-            last: last_marked(&self.marks.sealed, &self.marks.tail, key),
-        }
+        self.places_of(Key::OfThread(thread))
     }
 
     /// The places of the outermost acquires of a lock, by whichever thread, ascending.
@@ -247,11 +261,6 @@ impl TraceIndex {
         ensures { result ≡ ascending (begins_on self.now.events lock)
             (length self.now.events) }
     {
-        let key = Key::Taking(lock);
-        PlacesOf {
-            rows: &self.rows,
-            key,
-            last: last_marked(&self.marks.sealed, &self.marks.tail, key),
-        }
+        self.places_of(Key::Taking(lock))
     }
 }

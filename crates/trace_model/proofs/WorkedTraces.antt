@@ -1,19 +1,19 @@
 -- The definitions that compute, at small traces.
 use Rattle.std.proofs.Common.{◌≡◌, ℕ, List, [], ◌∷◌, take, Some, None, map, refl, inl, inr, arith}
 use Rattle.trace_model.specs.declared.refusal.Refusal.TheVariants.{Full, Unforked, Ended, AlreadyForked, JoinsItself, JoinUnknown, JoinedTwice, HeldByOther, NotHeld}
-use Rattle.trace_model.specs.Trace.{Trace}
-use Rattle.trace_model.specs.Lawful.{refusal_of}
-use Rattle.trace_model.specs.Lookups.{writer, release}
-use Rattle.trace_model.specs.Dependencies.{Dependency, dependencies}
+use Rattle.trace_model.specs.Theory.Trace.{Trace}
+use Rattle.trace_model.specs.Theory.Lawful.{refusal_of}
+use Rattle.trace_model.specs.Theory.Lookups.{writer, release}
+use Rattle.trace_model.specs.Theory.Dependencies.{Dependency, dependencies}
 use Rattle.trace_model.specs.WorkedTraces.{f, j, a, r, w, opposite_orders, gate_lock, later_instance, swapped_sections, three_locks, read_without_writer, forked_after, joined_before}
-use Rattle.trace_model.specs.declared.event.Op.TheVariants.{Fork, Join, Acquire, Release, Read, Write}
-use Rattle.trace_model.specs.Reordering.{Reached}
-use Rattle.trace_model.specs.declared.session.Reply.TheVariants.{Opened, Pending, Refused, Report}
+use Rattle.trace_model.specs.declared.traces.event.Op.TheVariants.{Fork, Join, Acquire, Release, Read, Write}
+use Rattle.trace_model.specs.Theory.Reordering.{Reached}
+use Rattle.trace_model.specs.declared.messages.session.Reply.TheVariants.{Opened, Pending, Refused, Report}
 use Rattle.trace_model.specs.declared.refusal.Refusal.TheVariants.{BadBound, NoSuchQuestion, NoSuchTask, Double, OtherBound, OtherTrace}
-use Rattle.trace_model.specs.Machine.{State, ask, deliver, answer}
-use Rattle.trace_model.proofs.Ascending.{listed_contains}
-use Rattle.trace_model.proofs.Existence.{reordering_closes, reaching_holds}
-use Rattle.trace_model.proofs.Computed.{reached_if}
+use Rattle.trace_model.specs.Protocol.Machine.{State, ask, deliver, answer}
+use Rattle.trace_model.proofs.Theory.Ascending.{listed_contains}
+use Rattle.trace_model.proofs.Theory.Existence.{reordering_closes, reaching_holds}
+use Rattle.trace_model.proofs.Theory.Computed.{reached_if}
 
 abbrev dep : ℕ → ℕ → List ℕ → Dependency
 dep t l ks = record { thread = t; lock = l; held = ks }

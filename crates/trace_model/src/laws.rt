@@ -1,11 +1,11 @@
 //! Laws of the definitions.
 
-ghost use Rattle.trace_model.specs.Laws.{HeldIsHeld, HoldsInSection, WriterIsGreatest, ReleaseIsLeast, ClosureIsExistence, ClosureIsSmallest, ClosureIsBefore, ClosureIsStable, LesserIsReached, StandsIsStanding, HeldByOtherIsHeld, HeldAscends, DependenciesAreNumbered, ReachedIsDeadlocked, RowsAreUnique, RowsAreSound, ConfirmedStays, WellFormedGrows, ReorderingIsWalk, ClosureGrows, CaughtIsEarly, ThreadsAreForked, ThreadsAreForkedOnce, NothingFollowsJoin, ReleaseIsOwn, SectionsAreApart};
-ghost use Rattle.trace_model.specs.EventLaws.{OneMoreEvent, OwnerHolds, HeldAreFew, LawfulHigher};
-ghost use Rattle.trace_model.specs.RunLaws.{SummariesAreStates, RunsFit, RunsSplit, MachineTakesSteps, RunsAreUnique, RunsAreSound, RunsAreLegal, StatusesAreShown};
-ghost use Rattle.trace_model.specs.Frames.{OneReading};
-ghost use Rattle.trace_model.specs.FormerFrames.{FormerTextsKeep};
-ghost use Rattle.trace_model.specs.Batches.{BatchesAreLongest};
+ghost use Rattle.trace_model.specs.Theory.Laws.{HeldIsHeld, HoldsInSection, WriterIsGreatest, ReleaseIsLeast, ClosureIsExistence, ClosureIsSmallest, ClosureIsBefore, ClosureIsStable, LesserIsReached, StandsIsStanding, HeldByOtherIsHeld, HeldAscends, DependenciesAreNumbered, ReachedIsDeadlocked, RowsAreUnique, RowsAreSound, ConfirmedStays, WellFormedGrows, ReorderingIsWalk, ClosureGrows, CaughtIsEarly, ThreadsAreForked, ThreadsAreForkedOnce, NothingFollowsJoin, ReleaseIsOwn, SectionsAreApart};
+ghost use Rattle.trace_model.specs.Theory.EventLaws.{OneMoreEvent, OwnerHolds, HeldAreFew, LawfulHigher};
+ghost use Rattle.trace_model.specs.Protocol.RunLaws.{SummariesAreStates, RunsFit, RunsSplit, MachineTakesSteps, RunsAreUnique, RunsAreSound, RunsAreLegal, StatusesAreShown};
+ghost use Rattle.trace_model.specs.Protocol.Frames.{OneReading};
+ghost use Rattle.trace_model.specs.Protocol.FormerFrames.{FormerTextsKeep};
+ghost use Rattle.trace_model.specs.Protocol.Batches.{BatchesAreLongest};
 
 /// The look-ups are what their words say.
 pub fn lookups_are_exact()
@@ -55,7 +55,8 @@ pub fn rows_are_unique()
     ensures sound { RowsAreSound }
 {}
 
-/// A confirmed row stays as the trace grows: its cycle's numbers, its instance and its witness are the same.
+/// A confirmed row stays as the trace grows: its cycle's numbers, its instance and its witness are
+/// the same.
 pub fn confirmed_stays()
     ensures { ConfirmedStays }
 {}
@@ -65,15 +66,16 @@ pub fn well_formed_grows()
     ensures { WellFormedGrows }
 {}
 
-/// What the gate's tests give of a well-formed trace: its threads were forked, each once, before their
-/// events; nothing of a thread follows its join.
+/// What the gate's tests give of a well-formed trace: its threads were forked, each once, before
+/// their events; nothing of a thread follows its join.
 pub fn threads_are_ordered()
     ensures forked { ThreadsAreForked }
     ensures once { ThreadsAreForkedOnce }
     ensures joined { NothingFollowsJoin }
 {}
 
-/// In a well-formed trace a critical section is ended by its own thread, before the next one of its lock.
+/// In a well-formed trace a critical section is ended by its own thread, before the next one of its
+/// lock.
 pub fn sections_are_apart()
     ensures own { ReleaseIsOwn }
     ensures apart { SectionsAreApart }

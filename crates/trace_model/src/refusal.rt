@@ -1,31 +1,56 @@
+//! Refusals, their numbers and their names.
+
 use std::alloc::AllocError;
 use thiserror::Error;
 
 /// Why something is refused.
 #[derive(Clone, Copy, Debug, PartialEq, Eq)]
 pub enum Refusal {
+    /// The trace has as many events as the limit.
     Full,
+    /// The event's thread is not 0, and no fork of it is in the trace.
     Unforked,
+    /// A join of the event's thread is in the trace.
     Ended,
+    /// A fork of thread 0, or of a thread whose fork is in the trace.
     AlreadyForked,
+    /// A fork, and the trace has `MAX_FORKS` forks.
     TooManyThreads,
+    /// A thread joins itself.
     JoinsItself,
+    /// A join of thread 0, or of a thread whose fork is not in the trace.
     JoinUnknown,
+    /// A join of a thread whose join is in the trace.
     JoinedTwice,
+    /// An acquire of a lock that the thread holds at depth `MAX_DEPTH`.
     TooNested,
+    /// An acquire of a lock that another thread holds.
     HeldByOther,
+    /// An outermost acquire while the thread holds `MAX_HELD` locks.
     TooDeep,
+    /// A release of a lock that the thread does not hold.
     NotHeld,
+    /// A growth was refused where nothing else was.
     NoMemory,
+    /// An ask whose bound is not `MIN_BOUND` to `MAX_BOUND`.
     BadBound,
+    /// An ask where there are as many questions as the limit.
     TooManyQuestions,
+    /// There is no question with this number.
     NoSuchQuestion,
+    /// The text of a report would have more than `MAX_REPORT` bytes.
     ReportTooLong,
+    /// A finding of a task that its question does not have.
     NoSuchTask,
+    /// A finding of a task whose finding was delivered.
     Double,
+    /// A finding with another bound than its question's.
     OtherBound,
+    /// A finding over another trace than its question's.
     OtherTrace,
+    /// A status, and the board was not to be read.
     BoardBusy,
+    /// A task has more than `MAX_CYCLES` cycles.
     TooManyCycles,
 }
 
@@ -36,7 +61,7 @@ pub struct NoMemory(#[from(alloc)] AllocError);
 
 impl Refusal {
     ghost use Rattle.std.specs.Prelude.{◌≡◌};
-    ghost use Rattle.trace_model.specs.Refusals.{number_of};
+    ghost use Rattle.trace_model.specs.Protocol.Refusals.{number_of};
 
     /// Its number.
     pub fn number(self) -> u8
@@ -71,7 +96,7 @@ impl Refusal {
 }
 
 ghost use Rattle.std.specs.Prelude.{◌≡◌, option_map};
-ghost use Rattle.trace_model.specs.Refusals.{refusal_name};
+ghost use Rattle.trace_model.specs.Protocol.Refusals.{refusal_name};
 
 /// The name of the refusal with this number, none for a number that no refusal has.
 pub fn refusal_name(number: u8) -> Option<&'static str>

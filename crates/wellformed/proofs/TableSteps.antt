@@ -1,19 +1,19 @@
 -- One more event, in the tables and in the events.
 use Rattle.std.proofs.Common.{◌≡◌, ℕ, ◌+◌, ◌-◌, ◌<◌, Bool, true, false, cond, leb, ◌==◌, ◌||◌, List, [], ◌∷◌, ◌++◌, length, None, refl, sym, ap, ◌∙◌, arith}
 use Rattle.std.proofs.lemmas.Bool.{eqb-true, eqb-false}
-use Rattle.trace_model.specs.declared.event.Event.{Event}
-use Rattle.trace_model.specs.declared.event.Op.{Op}
-use Rattle.trace_model.specs.declared.event.Op.TheVariants.{Fork, Join, Acquire, Release}
+use Rattle.trace_model.specs.declared.traces.event.Event.{Event}
+use Rattle.trace_model.specs.declared.traces.event.Op.{Op}
+use Rattle.trace_model.specs.declared.traces.event.Op.TheVariants.{Fork, Join, Acquire, Release}
 use Rattle.trace_model.specs.declared.limits.TheConstants.{MAX_DEPTH}
-use Rattle.trace_model.specs.Trace.{Trace, op_eq}
-use Rattle.trace_model.specs.Held.{depth, has, held, held_after, with_lock, without_lock}
-use Rattle.trace_model.specs.Holders.{owned, owner, owner_after}
-use Rattle.trace_model.specs.Lawful.{is_fork, op_refusal_of, IsWellFormed}
-use Rattle.trace_model.proofs.Held.{held_from, held_so}
-use Rattle.trace_model.proofs.HeldAscends.{ascends_held}
-use Rattle.trace_model.proofs.OneMore.{stands-push, forks-push, held-push, lawful_acquire, lawful_release}
-use Rattle.trace_model.proofs.Owners.{owner-push, acquired_owned, released_owned}
-use Rattle.trace_model.proofs.Depths.{length-with, length-without, with-known}
+use Rattle.trace_model.specs.Theory.Trace.{Trace, op_eq}
+use Rattle.trace_model.specs.Theory.Held.{depth, has, held, held_after, with_lock, without_lock}
+use Rattle.trace_model.specs.Theory.Holders.{owned, owner, owner_after}
+use Rattle.trace_model.specs.Theory.Lawful.{is_fork, op_refusal_of, IsWellFormed}
+use Rattle.trace_model.proofs.Theory.Held.{held_from, held_so}
+use Rattle.trace_model.proofs.Theory.HeldAscends.{ascends_held}
+use Rattle.trace_model.proofs.Theory.OneMore.{stands-push, forks-push, held-push, lawful_acquire, lawful_release}
+use Rattle.trace_model.proofs.Theory.Owners.{owner-push, acquired_owned, released_owned}
+use Rattle.trace_model.proofs.Theory.Depths.{length-with, length-without, with-known}
 use Rattle.wellformed.specs.Owners.{OwnerTable, owner_in, op_owner}
 use Rattle.wellformed.specs.Threads.{ThreadTable, thread_in, thread_after, count_after, unknown}
 use Rattle.wellformed.specs.Tables.{AreTables}

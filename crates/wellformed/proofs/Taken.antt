@@ -3,26 +3,26 @@ use Rattle.std.proofs.Common.{◌≡◌, ℕ, zero, suc, ◌<◌, ◌≤◌, inl
 use Rattle.std.proofs.lemmas.Bool.{false≢true, cases_lt, ltb-true, ltb-false, lt-ltb, le-leb}
 use Rattle.std.proofs.lemmas.List.Sums.{fold-append}
 use Rattle.std.proofs.lemmas.Option.{same_Some, slice_get_within}
-use Rattle.trace_model.specs.declared.event.Event.{Event}
-use Rattle.trace_model.specs.declared.event.Op.{Op}
-use Rattle.trace_model.specs.declared.event.Op.TheVariants.{Fork, Join, Acquire, Release, Read, Write}
+use Rattle.trace_model.specs.declared.traces.event.Event.{Event}
+use Rattle.trace_model.specs.declared.traces.event.Op.{Op}
+use Rattle.trace_model.specs.declared.traces.event.Op.TheVariants.{Fork, Join, Acquire, Release, Read, Write}
 use Rattle.trace_model.specs.declared.limits.TheConstants.{MAX_EVENTS}
-use Rattle.trace_model.specs.declared.owner.Owner.{Owner}
-use Rattle.trace_model.specs.Trace.{Trace, event, At, op_eq}
-use Rattle.trace_model.specs.Held.{depth}
-use Rattle.trace_model.specs.Holders.{owned, owner, owner_after, released}
-use Rattle.trace_model.specs.Lawful.{op_refusal_of, IsWellFormed}
-use Rattle.trace_model.proofs.Growing.{well_formed_take}
-use Rattle.trace_model.proofs.Held.{DepthCases, depth_cases}
-use Rattle.trace_model.proofs.Lawful.{passed}
+use Rattle.trace_model.specs.declared.traces.owner.Owner.{Owner}
+use Rattle.trace_model.specs.Theory.Trace.{Trace, event, At, op_eq}
+use Rattle.trace_model.specs.Theory.Held.{depth}
+use Rattle.trace_model.specs.Theory.Holders.{owned, owner, owner_after, released}
+use Rattle.trace_model.specs.Theory.Lawful.{op_refusal_of, IsWellFormed}
+use Rattle.trace_model.proofs.Theory.Growing.{well_formed_take}
+use Rattle.trace_model.proofs.Theory.Held.{DepthCases, depth_cases}
+use Rattle.trace_model.proofs.Theory.Lawful.{passed}
 use Rattle.trace_model.proofs.Lists.{by_pushes, get-push_kept, get-append, get-take, get-take_past}
-use Rattle.trace_model.proofs.OneMore.{well_formed-front, well_formed-last, lawful_op}
-use Rattle.trace_model.proofs.Owners.{owner-push}
-use Rattle.trace_model.proofs.Places.{op_eq_same}
-use Rattle.trace_model.proofs.Prefix.{depth-agree}
-use Rattle.trace_model.proofs.Sections.{depth-take}
+use Rattle.trace_model.proofs.Theory.OneMore.{well_formed-front, well_formed-last, lawful_op}
+use Rattle.trace_model.proofs.Theory.Owners.{owner-push}
+use Rattle.trace_model.proofs.Theory.Places.{op_eq_same}
+use Rattle.trace_model.proofs.Theory.Prefix.{depth-agree}
+use Rattle.trace_model.proofs.Theory.Sections.{depth-take}
 use Rattle.wellformed.specs.Flat.{acquires_taken, taken, taken_after, IsFlat}
-use Rattle.trace_model.proofs.Owners.{acquired_owned, released_owned}
+use Rattle.trace_model.proofs.Theory.Owners.{acquired_owned, released_owned}
 
 -- every acquire below n is outermost
 abbrev pub IsFlatBelow : Trace → ℕ → Type 0

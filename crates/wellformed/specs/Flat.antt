@@ -1,13 +1,13 @@
 -- Traces without inner acquires, of which the former definitions say what the present ones say.
 use Rattle.std.specs.Prelude.{◌≡◌, ℕ, ◌↔◌, Bool, true, false, List, fold, if◌then◌else◌}
-use Rattle.trace_model.specs.declared.event.Event.{Event}
-use Rattle.trace_model.specs.declared.event.Op.{Op}
-use Rattle.trace_model.specs.declared.event.Op.TheVariants.{Acquire, Release}
-use Rattle.trace_model.specs.Trace.{Trace, event, At, op_eq}
-use Rattle.trace_model.specs.Held.{depth}
-use Rattle.trace_model.specs.Dependencies.{dependencies}
-use Rattle.trace_model.specs.Reordering.{IsReordering}
-use Rattle.trace_model.specs.Rows.{Row, IsRow, AreRows}
+use Rattle.trace_model.specs.declared.traces.event.Event.{Event}
+use Rattle.trace_model.specs.declared.traces.event.Op.{Op}
+use Rattle.trace_model.specs.declared.traces.event.Op.TheVariants.{Acquire, Release}
+use Rattle.trace_model.specs.Theory.Trace.{Trace, event, At, op_eq}
+use Rattle.trace_model.specs.Theory.Held.{depth}
+use Rattle.trace_model.specs.Theory.Dependencies.{dependencies}
+use Rattle.trace_model.specs.Theory.Reordering.{IsReordering}
+use Rattle.trace_model.specs.Theory.Rows.{Row, IsRow, AreRows}
 use Rattle.wellformed.specs.Former.Lawful as former_lawful
 use Rattle.wellformed.specs.Former.Dependencies as former_dependencies
 use Rattle.wellformed.specs.Former.Reordering as former_reordering

@@ -2,9 +2,9 @@
 use Rattle.std.specs.Prelude.{ℕ, List, Option, None, nat_eq, IsSome}
 use Rattle.std.specs.Option.{option_flatten}
 use Rattle.std.specs.Map.{lookup}
-use Rattle.trace_model.specs.declared.owner.Owner.{Owner}
-use Rattle.trace_model.specs.declared.event.Op.{Op}
-use Rattle.trace_model.specs.declared.event.Op.TheVariants.{Acquire, Release}
+use Rattle.trace_model.specs.declared.traces.owner.Owner.{Owner}
+use Rattle.trace_model.specs.declared.traces.event.Op.{Op}
+use Rattle.trace_model.specs.declared.traces.event.Op.TheVariants.{Acquire, Release}
 
 -- the owner of each lock, by its number
 abbrev pub OwnerTable : Type 0

@@ -1,19 +1,20 @@
 -- What the gate's tables have to do with the recorded events.
 use Rattle.std.specs.Prelude.{◌≡◌, ℕ, ◌<◌, ◌≤◌, length, Option, Some, None}
-use Rattle.trace_model.specs.declared.event.Event.{Event}
-use Rattle.trace_model.specs.declared.event.Op.{Op}
-use Rattle.trace_model.specs.declared.event.Op.TheVariants.{Fork, Join, Acquire, Release}
+use Rattle.trace_model.specs.declared.traces.event.Event.{Event}
+use Rattle.trace_model.specs.declared.traces.event.Op.{Op}
+use Rattle.trace_model.specs.declared.traces.event.Op.TheVariants.{Fork, Join, Acquire, Release}
 use Rattle.trace_model.specs.declared.limits.TheConstants.{MAX_EVENTS}
-use Rattle.trace_model.specs.Trace.{Trace, stands}
-use Rattle.trace_model.specs.Held.{held}
-use Rattle.trace_model.specs.Holders.{owner}
-use Rattle.trace_model.specs.Lawful.{forks, refusal_of, IsWellFormed}
+use Rattle.trace_model.specs.Theory.Trace.{Trace, stands}
+use Rattle.trace_model.specs.Theory.Held.{held}
+use Rattle.trace_model.specs.Theory.Holders.{owner}
+use Rattle.trace_model.specs.Theory.Lawful.{forks, refusal_of, IsWellFormed}
 use Rattle.wellformed.specs.declared.tables.GateTables.{GateTables}
 use Rattle.wellformed.specs.Owners.{OwnerTable, owner_in, HasLock}
 use Rattle.wellformed.specs.Threads.{ThreadTable, thread_in, HasThread}
 
 -- the tables say of each thread and lock what the events say
-pub record AreTables (events : Trace) (threads : ThreadTable) (owners : OwnerTable) (forked : ℕ) : Type 0 where
+pub record AreTables (events : Trace) (threads : ThreadTable) (owners : OwnerTable)
+    (forked : ℕ) : Type 0 where
   pub forked_is : (t : ℕ) → (thread_in threads t).forked ≡ stands events (Fork t)
   pub joined_is : (t : ℕ) → (thread_in threads t).joined ≡ stands events (Join t)
   pub held_is : (t : ℕ) → (thread_in threads t).held ≡ length (held events (length events) t)
@@ -52,10 +53,11 @@ pub record FollowEvents (tables : GateTables) (events : Trace) : Type 0 where
 abbrev pub IsLawfulNext : GateTables → Event → Type 0
 IsLawfulNext tables e = (s : Trace) × FollowEvents tables s × (refusal_of MAX_EVENTS s e ≡ None)
 
--- what a gate keeps
-pub record IsKept (limit : ℕ) (events : Trace) (reserved : Option Event) (len capacity : ℕ) (tables : GateTables) : Type 0 where
+-- what a gate keeps, whose list has so many events and room for so many
+pub record IsKept (limit : ℕ) (events : Trace) (reserved : Option Event) (list : ℕ × ℕ)
+    (tables : GateTables) : Type 0 where
   pub within : length events ≤ limit
   pub small : limit ≤ MAX_EVENTS
   pub follow : FollowEvents tables events
   pub entries : (e : Event) → reserved ≡ Some e → HasRoomFor tables e
-  pub room : (e : Event) → reserved ≡ Some e → len < capacity
+  pub room : (e : Event) → reserved ≡ Some e → list.0 < list.1

@@ -1,10 +1,10 @@
 -- What a table of threads shows.
 use Rattle.std.specs.Prelude.{ℕ, List, ◌+◌, ◌-◌, ◌==◌, false, ◌||◌, if◌then◌else◌, nat_eq, nat_le, IsSome, unwrap_or}
 use Rattle.std.specs.Map.{lookup}
-use Rattle.trace_model.specs.declared.event.Event.{Event}
-use Rattle.trace_model.specs.declared.event.Op.{Op}
-use Rattle.trace_model.specs.declared.event.Op.TheVariants.{Fork, Join, Acquire, Release}
-use Rattle.trace_model.specs.Trace.{op_eq}
+use Rattle.trace_model.specs.declared.traces.event.Event.{Event}
+use Rattle.trace_model.specs.declared.traces.event.Op.{Op}
+use Rattle.trace_model.specs.declared.traces.event.Op.TheVariants.{Fork, Join, Acquire, Release}
+use Rattle.trace_model.specs.Theory.Trace.{op_eq}
 use Rattle.wellformed.specs.declared.threads.ThreadEntry.{ThreadEntry}
 
 -- what is known of each thread, by its number

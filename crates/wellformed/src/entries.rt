@@ -3,7 +3,7 @@ ghost use Rattle.std.specs.Prelude.{◌≡◌, ◌+◌, ◌<◌, ◌^◌, ℕ, O
 ghost use Rattle.wellformed.specs.Owners.{owner_in, op_owner};
 ghost use Rattle.wellformed.specs.Threads.{thread_in, thread_after, HasThread};
 ghost use Rattle.wellformed.specs.Tables.{HasOpThread, HasOpLock};
-ghost use Rattle.trace_model.specs.Holders.{owner_after, owned, released};
+ghost use Rattle.trace_model.specs.Theory.Holders.{owner_after, owned, released};
 ghost use Rattle.trace_model.specs.declared.limits.TheConstants.{MAX_DEPTH};
 
 use crate::owners::{Owners, owner_of, reserve_owner, set_owner};
@@ -48,7 +48,8 @@ pub fn note_lock(owners: &mut Owners, event: &Event, was: Option<Owner>)
     requires entry { HasOpLock owners.old event.now.op }
     requires was { was ≡ op_owner owners.old event.now.op }
     requires room { (lock : ℕ) → event.now.op ≡ Op.Acquire lock → owned was < MAX_DEPTH }
-    ensures { (lock : ℕ) → owner_in owners.new lock ≡ owner_after lock (owner_in owners.old lock) event.now }
+    ensures { (lock : ℕ) → owner_in owners.new lock ≡
+        owner_after lock (owner_in owners.old lock) event.now }
 {
     match event.op {
         Op::Acquire(lock) => {
@@ -64,6 +65,10 @@ pub fn note_lock(owners: &mut Owners, event: &Event, was: Option<Owner>)
 }
 
 /// Makes the entries that the event needs in the table of locks.
+///
+/// # Errors
+///
+/// `NoMemory` where a growth was refused. What the table shows stays.
 pub fn reserve_lock(owners: &mut Owners, event: &Event) -> Result<(), NoMemory>
     ensures shown { (lock : ℕ) → owner_in owners.new lock ≡ owner_in owners.old lock }
     ensures ok { OnOk result (HasOpLock owners.new event.now.op) }
@@ -76,13 +81,14 @@ pub fn reserve_lock(owners: &mut Owners, event: &Event) -> Result<(), NoMemory>
     }
 }
 
-/// Notes the event in the table of threads. Its lock was so deep: a thread holds one lock more, or one less, only after
-/// an outermost acquire or release.
+/// Notes the event in the table of threads. Its lock was so deep: a thread holds one lock more, or
+/// one less, only after an outermost acquire or release.
 pub fn note_thread(threads: &mut Threads, event: &Event, depth: u8)
     requires own { HasThread threads.old event.now.thread }
     requires other { HasOpThread threads.old event.now.op }
     requires few { (thread_in threads.old event.now.thread).held + 1 < 2 ^ 32 }
-    ensures { (t : ℕ) → thread_in threads.new t ≡ thread_after depth event.now t (thread_in threads.old t) }
+    ensures { (t : ℕ) → thread_in threads.new t ≡
+        thread_after depth event.now t (thread_in threads.old t) }
 {
     match event.op {
         Op::Fork(child) => {
@@ -122,13 +128,18 @@ pub fn note_thread(threads: &mut Threads, event: &Event, depth: u8)
 }
 
 /// Makes the entries that the event needs in the table of threads.
+///
+/// # Errors
+///
+/// `NoMemory` where a growth was refused. What the table shows stays.
 pub fn reserve_threads(threads: &mut Threads, event: &Event) -> Result<(), NoMemory>
     ensures shown { (t : ℕ) → thread_in threads.new t ≡ thread_in threads.old t }
     ensures own { OnOk result (HasThread threads.new event.now.thread) }
     ensures other { OnOk result (HasOpThread threads.new event.now.op) }
     ensures kept { (t : ℕ) → HasThread threads.old t → HasThread threads.new t }
     ensures kept_other { (op : Op) → HasOpThread threads.old op → HasOpThread threads.new op }
-    ensures wanting { OnErr result (HasThread threads.old event.now.thread → HasOpThread threads.old event.now.op → ⊥) }
+    ensures wanting { OnErr result (HasThread threads.old event.now.thread →
+        HasOpThread threads.old event.now.op → ⊥) }
 {
     reserve_thread(threads, event.thread)?;
     match event.op {

@@ -1,13 +1,14 @@
 //! Traces without an inner acquire.
 ghost use Rattle.std.specs.Prelude.{◌≡◌, ◌↔◌, IsTrue};
-ghost use Rattle.trace_model.specs.Lawful.{IsWellFormed};
+ghost use Rattle.trace_model.specs.Theory.Lawful.{IsWellFormed};
 ghost use Rattle.wellformed.specs.Flat.{acquires_taken, taken, AgreesWithFormer, IsFlat};
 
 use trace_model::{Event, Op};
 
-/// Whether each acquire among the events, which must be well formed, is outermost: no thread acquires a lock that it
-/// holds. Where it answers true, the definitions that knew no inner acquires say the same of the events as those that
-/// do: that they are well formed, which lists are reorderings, and what the dependencies and the rows are.
+/// Whether each acquire among the events, which must be well formed, is outermost: no thread
+/// acquires a lock that it holds. Where it answers true, the definitions that knew no inner
+/// acquires say the same of the events as those that do: that they are well formed, which lists are
+/// reorderings, and what the dependencies and the rows are.
 ///
 /// It takes no memory. From each acquire it looks back to the last event on the same lock.
 pub fn flat(events: &[Event]) -> bool
@@ -33,7 +34,8 @@ fn acquires_taken(before: &[Event], op: Op) -> bool
     }
 }
 
-/// Whether the last event on the lock is an acquire of it. Read from the end, since it mostly stands near there.
+/// Whether the last event on the lock is an acquire of it. Read from the end, since it mostly
+/// stands near there.
 fn is_taken(before: &[Event], lock: u32) -> bool
     ensures { result ≡ taken before.now lock }
 {

@@ -1,7 +1,9 @@
+//! The gate: which events are lawful, one after the other.
+
 ghost use Rattle.std.specs.Prelude.{◌≡◌, ◌≢◌, ◌≤◌, length, None, Some, [], ◌∷◌, ◌++◌, OnErr, OnOk};
 ghost use Rattle.std.specs.Result.{result_err};
 ghost use Rattle.trace_model.specs.declared.limits.TheConstants.{MAX_EVENTS};
-ghost use Rattle.trace_model.specs.Lawful.{refusal_of, IsWellFormed};
+ghost use Rattle.trace_model.specs.Theory.Lawful.{refusal_of, IsWellFormed};
 
 use crate::GateTables;
 use std::alloc::Global;
@@ -25,10 +27,14 @@ impl Model for Gate {
 
     ghost Value = { Admitted };
 
-    ghost view = { λ g. record { limit = g.limit; events = g.events.items; reserved = g.reserved } };
+    ghost view = { λ g. record {
+      limit = g.limit;
+      events = g.events.items;
+      reserved = g.reserved;
+    } };
 
     ghost invariant = { λ g. IsKept g.limit g.events.items g.reserved
-        (vec_len g.events) (vec_capacity g.events) g.tables };
+        (vec_len g.events, vec_capacity g.events) g.tables };
 }
 
 impl Gate {
@@ -69,7 +75,8 @@ impl Gate {
     ///
     /// # Errors
     ///
-    /// `NoMemory`, but not where there is room for this very event. Nothing has changed: an earlier reservation stays.
+    /// `NoMemory`, but not where there is room for this very event. Nothing has changed: an earlier
+    /// reservation stays.
     pub fn reserve(&mut self, event: &Event) -> Result<(), NoMemory>
         ensures events { (self.new.events ≡ self.old.events) × (self.new.limit ≡ self.old.limit) }
         ensures ok { OnOk result (self.new.reserved ≡ Some event.now) }
@@ -82,11 +89,17 @@ impl Gate {
         Ok(())
     }
 
-    /// Records the event, which must be lawful, and the one that room was last made for. It takes no memory.
+    /// Records the event, which must be lawful, and the one that room was last made for. It takes
+    /// no memory.
     pub fn record(&mut self, event: &Event)
         requires reserved { self.old.reserved ≡ Some event.now }
         requires lawful { refusal_of self.old.limit self.old.events event.now ≡ None }
-        ensures { self.new ≡ record { limit = self.old.limit; events = self.old.events ++ event.now ∷ []; reserved = None } }
+        ensures { self.new ≡ record {
+          limit = self.old.limit;
+          events = self.old.events ++
+              event.now ∷ [];
+          reserved = None;
+        } }
     {
         self.tables.record(event);
         self.events.push_reserved(*event);

@@ -1,4 +1,5 @@
-//! The gate: which events may follow the recorded ones. And a test for traces without inner acquires.
+//! The gate: which events may follow the recorded ones. And a test for traces without inner
+//! acquires.
 #![tactic(auto)]
 
 mod entries;

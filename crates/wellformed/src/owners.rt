@@ -3,17 +3,17 @@ ghost use Rattle.std.specs.Prelude.{◌≡◌, ℕ, None, nat_eq, cond, OnErr, O
 ghost use Rattle.wellformed.specs.Owners.{owner_in, HasLock};
 
 use indexmap::IndexMap;
-use slots::{NumberTable, slot_of, value_of, write_value};
+use slots::{Guesses, NumberTable, slot_of, value_of, write_value};
 use std::alloc::Global;
 use std::hash::RandomState;
 use std::marker::Model;
 use trace_model::{NoMemory, Owner};
 
-/// The owner of each lock. An entry may be empty. It remembers where the last reserved one stands.
+/// The owner of each lock. An entry may be empty.
 #[derive(Drop)]
 pub struct Owners {
     table: NumberTable<Option<Owner>>,
-    near: usize,
+    guesses: Guesses,
 }
 
 impl Model for Owners {
@@ -30,7 +30,7 @@ pub fn no_owners(alloc: Global, state: RandomState) -> Owners
 {
     Owners {
         table: IndexMap::with_hasher(alloc, state),
-        near: 0,
+        guesses: Guesses::new(),
     }
 }
 
@@ -38,30 +38,35 @@ pub fn no_owners(alloc: Global, state: RandomState) -> Owners
 pub fn owner_of(owners: &Owners, lock: u32) -> Option<Owner>
     ensures { result ≡ owner_in owners.now lock }
 {
-    value_of(&owners.table, owners.near, lock).flatten()
+    value_of(&owners.table, owners.guesses.of(lock), lock).flatten()
 }
 
 /// Makes an entry for a lock, which shows nothing until it is written.
+///
+/// # Errors
+///
+/// `NoMemory` where a growth was refused. What the table shows stays.
 pub fn reserve_owner(owners: &mut Owners, lock: u32) -> Result<(), NoMemory>
     ensures shown { (other : ℕ) → owner_in owners.new other ≡ owner_in owners.old other }
     ensures ok { OnOk result (HasLock owners.new lock) }
     ensures kept { (other : ℕ) → HasLock owners.old other → HasLock owners.new other }
     ensures wanting { OnErr result (¬ HasLock owners.old lock) }
 {
-    if let Some(slot) = slot_of(&owners.table, owners.near, lock) {
-        owners.near = slot;
+    if let Some(slot) = slot_of(&owners.table, owners.guesses.of(lock), lock) {
+        owners.guesses.note(lock, slot);
         return Ok(());
     }
     let slot = owners.table.len();
     owners.table.insert(lock, None)?;
-    owners.near = slot;
+    owners.guesses.note(lock, slot);
     Ok(())
 }
 
 /// Writes the owner of a lock, which must have an entry.
 pub fn set_owner(owners: &mut Owners, lock: u32, owner: Option<Owner>)
     requires { HasLock owners.old lock }
-    ensures { (other : ℕ) → owner_in owners.new other ≡ (cond (nat_eq lock other) owner (owner_in owners.old other)) }
+    ensures { (other : ℕ) → owner_in owners.new other ≡
+        (cond (nat_eq lock other) owner (owner_in owners.old other)) }
 {
-    write_value(&mut owners.table, owners.near, lock, owner);
+    write_value(&mut owners.table, owners.guesses.of(lock), lock, owner);
 }

@@ -1,11 +1,13 @@
+//! What the gate keeps of the trace.
+
 ghost use Rattle.std.specs.Prelude.{◌≡◌, ◌+◌, ◌<◌, ◌^◌, cond, length, None, [], ◌∷◌, ◌++◌, OnErr, OnOk};
 ghost use Rattle.std.specs.Result.{result_err};
 ghost use Rattle.trace_model.specs.declared.limits.TheConstants.{MAX_EVENTS};
-ghost use Rattle.trace_model.specs.declared.event.Event.{Event as EventValue};
-ghost use Rattle.trace_model.specs.Trace.{Trace};
-ghost use Rattle.trace_model.specs.Held.{depth, held};
-ghost use Rattle.trace_model.specs.Holders.{depth_by, is_other_owner};
-ghost use Rattle.trace_model.specs.Lawful.{is_fork, held_by_other, op_refusal_of, refusal_of};
+ghost use Rattle.trace_model.specs.declared.traces.event.Event.{Event as EventValue};
+ghost use Rattle.trace_model.specs.Theory.Trace.{Trace};
+ghost use Rattle.trace_model.specs.Theory.Held.{depth, held};
+ghost use Rattle.trace_model.specs.Theory.Holders.{depth_by, is_other_owner};
+ghost use Rattle.trace_model.specs.Theory.Lawful.{is_fork, held_by_other, op_refusal_of, refusal_of};
 ghost use Rattle.wellformed.specs.Tables.{FollowEvents, HasRoomFor, IsLawfulNext};
 
 use crate::entries::{
@@ -24,8 +26,9 @@ struct Holder {
     other: bool,
 }
 
-/// What the gate has to know of the recorded events: how many they are and how many of them fork a thread, what is
-/// known of each thread, and who owns each lock and how deep. The events themselves are kept by whoever has them anyway.
+/// What the gate has to know of the recorded events: how many they are and how many of them fork a
+/// thread, what is known of each thread, and who owns each lock and how deep. The events themselves
+/// are kept by whoever has them anyway.
 #[derive(Drop)]
 pub struct GateTables {
     count: usize,
@@ -47,7 +50,8 @@ impl GateTables {
         }
     }
 
-    /// Whether the event may follow the recorded ones, of which there may be `limit`. It takes no memory.
+    /// Whether the event may follow the recorded ones, of which there may be `limit`. It takes no
+    /// memory.
     ///
     /// # Errors
     ///
@@ -106,7 +110,8 @@ impl GateTables {
     }
 
     fn check_acquire(&self, thread: u32, lock: u32, count: u32) -> Result<(), Refusal>
-        ensures { (s : Trace) → FollowEvents self.now s → count ≡ length (held s (length s) thread) →
+        ensures { (s : Trace) → FollowEvents self.now s →
+            count ≡ length (held s (length s) thread) →
             result_err result ≡ op_refusal_of s thread (Op.Acquire lock) }
     {
         let holder = self.holder(thread, lock);
@@ -145,7 +150,8 @@ impl GateTables {
     ///
     /// # Errors
     ///
-    /// `NoMemory`, but not where there is room for this very event. Room that was made for another event stays.
+    /// `NoMemory`, but not where there is room for this very event. Room that was made for another
+    /// event stays.
     pub fn reserve(&mut self, event: &Event) -> Result<(), NoMemory>
         ensures follow { (s : Trace) → FollowEvents self.old s → FollowEvents self.new s }
         ensures ok { OnOk result (HasRoomFor self.new event.now) }

@@ -3,7 +3,7 @@ ghost use Rattle.std.specs.Prelude.{◌≡◌, ℕ, nat_eq, cond, OnErr, OnOk};
 ghost use Rattle.wellformed.specs.Threads.{thread_in, unknown, HasThread};
 
 use indexmap::IndexMap;
-use slots::{NumberTable, slot_of, value_of, write_value};
+use slots::{Guesses, NumberTable, slot_of, value_of, write_value};
 use std::alloc::Global;
 use std::hash::RandomState;
 use std::marker::Model;
@@ -17,11 +17,11 @@ pub struct ThreadEntry {
     pub held: u32,
 }
 
-/// What is known of each thread. An entry may show nothing. It remembers where the last reserved one stands.
+/// What is known of each thread. An entry may show nothing.
 #[derive(Drop)]
 pub struct Threads {
     table: NumberTable<ThreadEntry>,
-    near: usize,
+    guesses: Guesses,
 }
 
 impl Model for Threads {
@@ -44,7 +44,7 @@ pub fn no_threads(alloc: Global, state: RandomState) -> Threads
 {
     Threads {
         table: IndexMap::with_hasher(alloc, state),
-        near: 0,
+        guesses: Guesses::new(),
     }
 }
 
@@ -52,30 +52,40 @@ pub fn no_threads(alloc: Global, state: RandomState) -> Threads
 pub fn known(threads: &Threads, thread: u32) -> ThreadEntry
     ensures { result ≡ thread_in threads.now thread }
 {
-    value_of(&threads.table, threads.near, thread).unwrap_or(UNKNOWN)
+    value_of(&threads.table, threads.guesses.of(thread), thread).unwrap_or(UNKNOWN)
 }
 
 /// Makes an entry for a thread, which shows nothing until it is written.
+///
+/// # Errors
+///
+/// `NoMemory` where a growth was refused. What the table shows stays.
 pub fn reserve_thread(threads: &mut Threads, thread: u32) -> Result<(), NoMemory>
     ensures shown { (t : ℕ) → thread_in threads.new t ≡ thread_in threads.old t }
     ensures ok { OnOk result (HasThread threads.new thread) }
     ensures kept { (t : ℕ) → HasThread threads.old t → HasThread threads.new t }
     ensures wanting { OnErr result (¬ HasThread threads.old thread) }
 {
-    if let Some(slot) = slot_of(&threads.table, threads.near, thread) {
-        threads.near = slot;
+    if let Some(slot) = slot_of(&threads.table, threads.guesses.of(thread), thread) {
+        threads.guesses.note(thread, slot);
         return Ok(());
     }
     let slot = threads.table.len();
     threads.table.insert(thread, UNKNOWN)?;
-    threads.near = slot;
+    threads.guesses.note(thread, slot);
     Ok(())
 }
 
 /// Writes what is known of a thread, which must have an entry.
 pub fn set_thread(threads: &mut Threads, thread: u32, entry: ThreadEntry)
     requires { HasThread threads.old thread }
-    ensures { (t : ℕ) → thread_in threads.new t ≡ cond (nat_eq thread t) entry (thread_in threads.old t) }
+    ensures { (t : ℕ) → thread_in threads.new t ≡
+        cond (nat_eq thread t) entry (thread_in threads.old t) }
 {
-    write_value(&mut threads.table, threads.near, thread, entry);
+    write_value(
+        &mut threads.table,
+        threads.guesses.of(thread),
+        thread,
+        entry,
+    );
 }

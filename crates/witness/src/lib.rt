@@ -1,11 +1,13 @@
-//! Rows of a report: the cycle, its members' dependencies, and for a confirmed one the instance with its
-//! witness; and the report's text.
+//! Rows of a report: the cycle, its members' dependencies, and for a confirmed one the instance
+//! with its witness; and the report's text.
 #![tactic(auto)]
 
 mod measure;
 mod order;
+mod page;
 mod report;
 mod row;
+mod taker;
 mod write;
 
 pub use measure::confirmed_in;

@@ -1,17 +1,16 @@
-//! How long a text will be, before it is written.
+//! How long a text will be, and how many rows it counts, before it is written.
 
-ghost use Rattle.std.specs.Prelude.{◌≡◌, ℕ, ◌<◌, ◌≤◌, ◌^◌, ◌++◌, ◌+◌, length, decimal, codes, count_by, sum_by};
-ghost use Rattle.std.specs.List.{flat_map, zip};
-ghost use Rattle.std.specs.Prelude.{Some, None};
-ghost use Rattle.witness.specs.Text.{spaced, member, member_line, placed_line, witness_line, verdict, row_text, about, counts, is_confirmed, Spends};
+ghost use Rattle.std.specs.Prelude.{◌≡◌, ℕ, ◌<◌, ◌≤◌, ◌^◌, ◌+◌, length, decimal, [], count_by, sum_by, MatchResult};
+ghost use Rattle.trace_model.specs.declared.limits.TheConstants.{MAX_REPORT};
+ghost use Rattle.witness.specs.Text.{is_confirmed};
 ghost use Rattle.witness.specs.Decades.{IsDecade};
 
-use crate::row::{Found, Row};
-use dependencies::Dependency;
-use trace_model::{Instance, Place};
+use crate::row::Row;
+use crate::taker::Taker;
+use trace_model::{MAX_REPORT, Place};
 
 /// How many digits the number has.
-pub(crate) fn digits(number: u64) -> u64
+fn digits(number: u64) -> u64
     ensures value { result ≡ length (decimal number) }
     ensures short { result ≤ 20 }
 {
@@ -24,18 +23,8 @@ pub(crate) fn digits(number: u64) -> u64
     count
 }
 
-/// What is left after numbers, each after one space.
-pub(crate) fn after_numbers(left: u64, numbers: &[u32]) -> Option<u64>
-    ensures { Spends left (spaced numbers.now) result }
-{
-    let mut left = left;
-    for number in numbers {
-        left = left.checked_sub(1 + digits(u64::from(*number)))?;
-    }
-    Some(left)
-}
-
-/// Numbers that have equally many digits, from `low` on and below `high`; each is `width` bytes with its space.
+/// Numbers that have equally many digits, from `low` on and below `high`; each is `width` bytes
+/// with its space.
 #[derive(Clone, Copy)]
 struct Decade {
     low: u64,
@@ -79,129 +68,68 @@ impl Decade {
     }
 }
 
-/// The same of places. Places that follow one another mostly have equally many digits.
-pub(crate) fn after_places(left: u64, places: &[Place]) -> Option<u64>
-    ensures { Spends left (spaced places.now) result }
-{
-    let mut left = left;
-    let mut decade = decade_of(0);
-    for place in places {
-        decade = decade.with(place.get());
-        left = left.checked_sub(decade.width)?;
-    }
-    Some(left)
+/// The text has more bytes than `MAX_REPORT`.
+#[derive(Drop)]
+pub(crate) struct TooLong;
+
+/// Counts the bytes of a text, of which it takes at most `MAX_REPORT`. Places that follow one
+/// another mostly have equally many digits, so it keeps the decade of the last one.
+#[derive(Drop)]
+pub(crate) struct Counter {
+    pub(crate) left: u64,
+    decade: Decade,
+    ghost within: { left ≤ MAX_REPORT },
+    ghost wide: { IsDecade decade },
 }
 
-/// A member of a cycle, but for the end of its line.
-pub(crate) fn after_member(left: u64, dependency: &Dependency) -> Option<u64>
-    ensures { Spends left (member dependency.now) result }
-{
-    let words = 9 + 6 + 6;
-    let thread = digits(u64::from(dependency.thread));
-    let lock = digits(u64::from(dependency.lock));
-    let left = left.checked_sub(words + thread + lock)?;
-    after_numbers(left, dependency.held.locks())
-}
-
-pub(crate) fn after_member_line(left: u64, dependency: &Dependency) -> Option<u64>
-    ensures { Spends left (member_line dependency.now) result }
-{
-    after_member(left, dependency)?.checked_sub(1)
-}
-
-pub(crate) fn after_placed_line(left: u64, dependency: &Dependency, place: Place) -> Option<u64>
-    ensures { Spends left (placed_line (dependency.now, place)) result }
-{
-    let words = 7 + 1;
-    let left = after_member(left, dependency)?;
-    left.checked_sub(words + digits(u64::from(place.get())))
-}
-
-pub(crate) fn after_members(left: u64, dependencies: &[Dependency]) -> Option<u64>
-    ensures { Spends left (flat_map member_line dependencies.now) result }
-{
-    let mut left = left;
-    for dependency in dependencies {
-        left = after_member_line(left, dependency)?;
-    }
-    Some(left)
-}
-
-pub(crate) fn after_placed(left: u64, dependencies: &[Dependency], places: &Instance) -> Option<u64>
-    ensures { Spends left (flat_map placed_line (zip dependencies.now places.now)) result }
-{
-    let mut left = left;
-    for i in 0..dependencies.len().min(places.len()) {
-        left = after_placed_line(left, &dependencies[i], places.get(i).unwrap())?;
-    }
-    Some(left)
-}
-
-pub(crate) fn after_witness_line(left: u64, places: &[Place]) -> Option<u64>
-    ensures { Spends left (witness_line places.now) result }
-{
-    after_places(left, places)?.checked_sub(9 + 1)
-}
-
-pub(crate) fn after_verdict(
-    left: u64,
-    dependencies: &[Dependency],
-    found: &Option<Found>,
-) -> Option<u64>
-    ensures { Spends left (verdict dependencies.now found.now) result }
-{
-    let left = left.checked_sub(11)?;
-    match found {
-        None => after_members(left, dependencies),
-        Some(found) => {
-            let left = after_placed(left, dependencies, &found.places)?;
-            after_witness_line(left, found.witness.as_slice())
+impl Counter {
+    /// One that took nothing.
+    pub(crate) fn new() -> Counter
+        ensures { ⟦<Counter as Taker>⟧.room.has result [] }
+    {
+        Counter {
+            left: MAX_REPORT as u64,
+            decade: decade_of(0),
         }
     }
-}
 
-pub(crate) fn after_row(left: u64, row: &Row) -> Option<u64>
-    ensures { Spends left (row_text row.now) result }
-{
-    let left = left.checked_sub(5)?;
-    let left = after_numbers(left, row.numbers.numbers())?;
-    after_verdict(left, row.dependencies.as_slice(), &row.found)
-}
-
-pub(crate) fn after_rows(left: u64, rows: &[Row]) -> Option<u64>
-    ensures { Spends left (flat_map row_text rows.now) result }
-{
-    let mut left = left;
-    for row in rows {
-        left = after_row(left, row)?;
+    /// Counts so many bytes.
+    ///
+    /// # Errors
+    ///
+    /// `TooLong` exactly where fewer are left, which then stay left.
+    fn count(&mut self, bytes: u64) -> Result<(), TooLong>
+        ensures { MatchResult result (λ _. self.new.left + bytes ≡ self.old.left)
+            (λ _. (self.old.left < bytes) × (self.new.left ≡ self.old.left)) }
+    {
+        self.left = self.left.checked_sub(bytes).ok_or(TooLong)?;
+        Ok(())
     }
-    Some(left)
 }
 
-pub(crate) fn after_tasks(left: u64, tasks: &[Vec<Row>]) -> Option<u64>
-    ensures { Spends left (flat_map (λ task. flat_map row_text task.items) tasks.now) result }
-{
-    let mut left = left;
-    for task in tasks {
-        left = after_rows(left, task.as_slice())?;
+impl Taker for Counter {
+    ghost use Rattle.std.specs.Prelude.{◌≡◌, ◌+◌, length};
+    ghost use Rattle.trace_model.specs.declared.limits.TheConstants.{MAX_REPORT};
+
+    type Refused = TooLong;
+
+    ghost room = { record {
+      has = λ c told. c.left + length told ≡ MAX_REPORT;
+      least = MAX_REPORT + 1;
+    } };
+
+    fn take(&mut self, bytes: &[u8]) -> Result<(), TooLong> {
+        self.count(bytes.len() as u64)
     }
-    Some(left)
-}
 
-pub(crate) fn after_about(left: u64, question: u32, events: u32, bound: u8) -> Option<u64>
-    ensures { Spends left (about question events bound) result }
-{
-    let words = 9 + 8 + 7;
-    left.checked_sub(
-        words + digits(u64::from(question)) + digits(u64::from(events)) + digits(u64::from(bound)),
-    )
-}
+    fn take_number(&mut self, before: &[u8], number: u64) -> Result<(), TooLong> {
+        self.count(before.len() as u64 + digits(number))
+    }
 
-pub(crate) fn after_counts(left: u64, cycles: u64, confirmed: u64) -> Option<u64>
-    ensures { Spends left (counts cycles confirmed) result }
-{
-    let words = 8 + 11 + 1;
-    left.checked_sub(words + digits(cycles) + digits(confirmed))
+    fn take_place(&mut self, place: Place) -> Result<(), TooLong> {
+        self.decade = self.decade.with(place.get());
+        self.count(self.decade.width)
+    }
 }
 
 /// How many of the rows are confirmed.

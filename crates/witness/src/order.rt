@@ -1,9 +1,9 @@
 //! The witness of an instance, from the fronts of its closure.
 
 ghost use Rattle.std.specs.Prelude.{◌≡◌, List, ℕ, length, IfOk};
-ghost use Rattle.trace_model.specs.Closure.{IsClosure, ascending};
-ghost use Rattle.trace_model.specs.Reordering.{Reached};
-ghost use Rattle.trace_model.specs.Rows.{IsWitness};
+ghost use Rattle.trace_model.specs.Theory.Closure.{IsClosure, ascending};
+ghost use Rattle.trace_model.specs.Theory.Reordering.{Reached};
+ghost use Rattle.trace_model.specs.Theory.Rows.{IsWitness};
 ghost use Rattle.sp_closure.specs.State.{places_in};
 
 use sp_closure::Fronts;
@@ -11,19 +11,26 @@ use std::alloc::Global;
 use trace_index::TraceIndex;
 use trace_model::{NoMemory, Place};
 
-/// The places of the fronts, ascending. Where the fronts are the closure of what reached places need, this
-/// is a reordering that reaches them, and its places are in every other one. It looks at no place past the
-/// greatest of those that were to be reached.
+/// The places of the fronts, ascending. Where the fronts are the closure of what reached places
+/// need, this is a reordering that reaches them, and its places are in every other one. It looks at
+/// no place past the greatest of those that were to be reached.
 ///
-/// The caller owes the index of the trace that the fronts were made over. NoMemory where a growth was
-/// refused.
+/// The caller owes the index of the trace that the fronts were made over.
+///
+/// # Errors
+///
+/// `NoMemory` where a growth was refused; what was written is dropped.
 pub fn write_witness(
     alloc: Global,
     index: &TraceIndex,
     fronts: &Fronts,
 ) -> Result<Vec<Place>, NoMemory>
-    ensures ascends { IfOk result (λ order. order.items ≡ ascending (places_in index.now.events fronts.now) (length index.now.events)) }
-    ensures smallest { IfOk result (λ order. (places : List ℕ) → IsClosure index.now.events places (places_in index.now.events fronts.now) → Reached index.now.events places →
+    ensures ascends { IfOk result
+        (λ order. order.items ≡ ascending (places_in index.now.events fronts.now)
+        (length index.now.events)) }
+    ensures smallest { IfOk result (λ order. (places : List ℕ) →
+        IsClosure index.now.events places (places_in index.now.events fronts.now) →
+        Reached index.now.events places →
         IsWitness index.now.events places order.items) }
 {
     let mut places = Vec::new(alloc);

@@ -5,8 +5,8 @@ use dependencies::Dependency;
 use std::marker::Model;
 use trace_model::{Instance, Place};
 
-/// The reached instance of a confirmed cycle, a place for each member, and the witness: the places of the
-/// least reordering that reaches it, ascending.
+/// The reached instance of a confirmed cycle, a place for each member, and the witness: the places
+/// of the least reordering that reaches it, ascending.
 #[derive(Drop)]
 pub struct Found {
     pub places: Instance,
@@ -14,17 +14,18 @@ pub struct Found {
 }
 
 impl Model for Found {
-    ghost use Rattle.trace_model.specs.Rows as model;
+    ghost use Rattle.trace_model.specs.Theory.Rows as model;
 
     ghost Value = { model.Found };
 
     ghost view = { λ f. record { places = f.places; witness = f.witness.items } };
 }
 
-/// A cycle, the dependencies that its numbers name, in its order, and what was found if it is confirmed.
+/// A cycle, the dependencies that its numbers name, in its order, and what was found if it is
+/// confirmed.
 #[derive(Drop)]
 pub struct Row {
-    pub numbers: Cycle,
+    pub cycle: Cycle,
     pub dependencies: Vec<Dependency>,
     pub found: Option<Found>,
 }
@@ -34,5 +35,8 @@ impl Model for Row {
 
     ghost Value = { Printed };
 
-    ghost view = { λ r. record { row = record { numbers = r.numbers; found = r.found }; dependencies = r.dependencies.items } };
+    ghost view = { λ r. record {
+      row = record { cycle = r.cycle; found = r.found };
+      dependencies = r.dependencies.items;
+    } };
 }

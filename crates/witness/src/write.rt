@@ -1,77 +1,83 @@
-//! The text of a report, piece by piece.
+//! The text of a report, piece by piece, for what measures it and for what keeps it.
+//!
+//! # Errors
+//!
+//! Each function answers `Refused` where the taker refuses a piece of its text; the pieces before
+//! it stay taken.
 
-ghost use Rattle.std.specs.Prelude.{◌≡◌, ℕ, ◌<◌, ◌≤◌, ◌^◌, ◌++◌, ◌+◌, length, decimal, codes, OnOk, count_by, sum_by};
+ghost use Rattle.std.specs.Prelude.{◌≡◌, ℕ, ◌<◌, ◌≤◌, ◌^◌, ◌++◌, ◌+◌, length, decimal, codes};
 ghost use Rattle.std.specs.List.{flat_map, zip};
 ghost use Rattle.std.specs.Prelude.{Some, None};
 ghost use Rattle.witness.specs.Text.{spaced, member, member_line, placed_line, witness_line, verdict, row_text, about, counts};
+ghost use Rattle.witness.specs.Taking.{Takes};
 
 use crate::row::{Found, Row};
+use crate::taker::Taker;
 use dependencies::Dependency;
-use itoa::Buffer;
-use trace_model::{Instance, NoMemory, Place};
+use trace_model::{Instance, Place};
 
 /// Numbers in decimal, each after one space.
-pub(crate) fn write_numbers(text: &mut Vec<u8>, numbers: &[u32]) -> Result<(), NoMemory>
-    ensures { OnOk result (text.new.items ≡ text.old.items ++ spaced numbers.now) }
+pub(crate) fn write_numbers<T: Taker>(text: &mut T, numbers: &[u32]) -> Result<(), T::Refused>
+    ensures { Takes T.room text.old (spaced numbers.now) result text.new }
 {
-    let mut buffer = Buffer::new();
     for number in numbers {
-        text.push(b' ')?;
-        text.extend_from_slice(buffer.format(*number).as_bytes())?;
+        text.take_number(b" ", u64::from(*number))?;
     }
     Ok(())
 }
 
 /// The same of places.
-pub(crate) fn write_places(text: &mut Vec<u8>, places: &[Place]) -> Result<(), NoMemory>
-    ensures { OnOk result (text.new.items ≡ text.old.items ++ spaced places.now) }
+pub(crate) fn write_places<T: Taker>(text: &mut T, places: &[Place]) -> Result<(), T::Refused>
+    ensures { Takes T.room text.old (spaced places.now) result text.new }
 {
-    let mut buffer = Buffer::new();
     for place in places {
-        text.push(b' ')?;
-        text.extend_from_slice(buffer.format(place.get()).as_bytes())?;
+        text.take_place(*place)?;
     }
     Ok(())
 }
 
 /// A member of a cycle, but for the end of its line.
-pub(crate) fn write_member(text: &mut Vec<u8>, dependency: &Dependency) -> Result<(), NoMemory>
-    ensures { OnOk result (text.new.items ≡ text.old.items ++ member dependency.now) }
+pub(crate) fn write_member<T: Taker>(
+    text: &mut T,
+    dependency: &Dependency,
+) -> Result<(), T::Refused>
+    ensures { Takes T.room text.old (member dependency.now) result text.new }
 {
-    let mut buffer = Buffer::new();
-    text.extend_from_slice(b"  thread ")?;
-    text.extend_from_slice(buffer.format(dependency.thread).as_bytes())?;
-    text.extend_from_slice(b" lock ")?;
-    text.extend_from_slice(buffer.format(dependency.lock).as_bytes())?;
-    text.extend_from_slice(b" holds")?;
+    text.take_number(b"  thread ", u64::from(dependency.thread))?;
+    text.take_number(b" lock ", u64::from(dependency.lock))?;
+    text.take(b" holds")?;
     write_numbers(text, dependency.held.locks())
 }
 
-pub(crate) fn write_member_line(text: &mut Vec<u8>, dependency: &Dependency) -> Result<(), NoMemory>
-    ensures { OnOk result (text.new.items ≡ text.old.items ++ member_line dependency.now) }
+pub(crate) fn write_member_line<T: Taker>(
+    text: &mut T,
+    dependency: &Dependency,
+) -> Result<(), T::Refused>
+    ensures { Takes T.room text.old (member_line dependency.now) result text.new }
 {
     write_member(text, dependency)?;
-    text.push(b'\n')?;
-    Ok(())
+    text.take(b"\n")
 }
 
-pub(crate) fn write_placed_line(
-    text: &mut Vec<u8>,
+pub(crate) fn write_placed_line<T: Taker>(
+    text: &mut T,
     dependency: &Dependency,
     place: Place,
-) -> Result<(), NoMemory>
-    ensures { OnOk result (text.new.items ≡ text.old.items ++ placed_line (dependency.now, place)) }
+) -> Result<(), T::Refused>
+    ensures { Takes T.room text.old (placed_line (dependency.now, place)) result text.new }
 {
-    let mut buffer = Buffer::new();
     write_member(text, dependency)?;
-    text.extend_from_slice(b" place ")?;
-    text.extend_from_slice(buffer.format(place.get()).as_bytes())?;
-    text.push(b'\n')?;
+    text.take(b" place")?;
+    text.take_place(place)?;
+    text.take(b"\n")?;
     Ok(())
 }
 
-pub(crate) fn write_members(text: &mut Vec<u8>, dependencies: &[Dependency]) -> Result<(), NoMemory>
-    ensures { OnOk result (text.new.items ≡ text.old.items ++ flat_map member_line dependencies.now) }
+pub(crate) fn write_members<T: Taker>(
+    text: &mut T,
+    dependencies: &[Dependency],
+) -> Result<(), T::Refused>
+    ensures { Takes T.room text.old (flat_map member_line dependencies.now) result text.new }
 {
     for dependency in dependencies {
         write_member_line(text, dependency)?;
@@ -79,12 +85,13 @@ pub(crate) fn write_members(text: &mut Vec<u8>, dependencies: &[Dependency]) -> 
     Ok(())
 }
 
-pub(crate) fn write_placed(
-    text: &mut Vec<u8>,
+pub(crate) fn write_placed<T: Taker>(
+    text: &mut T,
     dependencies: &[Dependency],
     places: &Instance,
-) -> Result<(), NoMemory>
-    ensures { OnOk result (text.new.items ≡ text.old.items ++ flat_map placed_line (zip dependencies.now places.now)) }
+) -> Result<(), T::Refused>
+    ensures { Takes T.room text.old
+        (flat_map placed_line (zip dependencies.now places.now)) result text.new }
 {
     for i in 0..dependencies.len().min(places.len()) {
         write_placed_line(text, &dependencies[i], places.get(i).unwrap())?;
@@ -92,48 +99,44 @@ pub(crate) fn write_placed(
     Ok(())
 }
 
-pub(crate) fn write_witness_line(text: &mut Vec<u8>, places: &[Place]) -> Result<(), NoMemory>
-    ensures { OnOk result (text.new.items ≡ text.old.items ++ witness_line places.now) }
+pub(crate) fn write_witness_line<T: Taker>(text: &mut T, places: &[Place]) -> Result<(), T::Refused>
+    ensures { Takes T.room text.old (witness_line places.now) result text.new }
 {
-    text.extend_from_slice(b"  witness")?;
+    text.take(b"  witness")?;
     write_places(text, places)?;
-    text.push(b'\n')?;
-    Ok(())
+    text.take(b"\n")
 }
 
-pub(crate) fn write_verdict(
-    text: &mut Vec<u8>,
+pub(crate) fn write_verdict<T: Taker>(
+    text: &mut T,
     dependencies: &[Dependency],
     found: &Option<Found>,
-) -> Result<(), NoMemory>
-    ensures { OnOk result (text.new.items ≡ text.old.items ++ verdict dependencies.now found.now) }
+) -> Result<(), T::Refused>
+    ensures { Takes T.room text.old (verdict dependencies.now found.now) result text.new }
 {
     match found {
         None => {
-            text.extend_from_slice(b" potential\n")?;
-            write_members(text, dependencies)?;
-            Ok(())
+            text.take(b" potential\n")?;
+            write_members(text, dependencies)
         }
         Some(found) => {
-            text.extend_from_slice(b" confirmed\n")?;
+            text.take(b" confirmed\n")?;
             write_placed(text, dependencies, &found.places)?;
-            write_witness_line(text, found.witness.as_slice())?;
-            Ok(())
+            write_witness_line(text, found.witness.as_slice())
         }
     }
 }
 
-pub(crate) fn write_row(text: &mut Vec<u8>, row: &Row) -> Result<(), NoMemory>
-    ensures { OnOk result (text.new.items ≡ text.old.items ++ row_text row.now) }
+pub(crate) fn write_row<T: Taker>(text: &mut T, row: &Row) -> Result<(), T::Refused>
+    ensures { Takes T.room text.old (row_text row.now) result text.new }
 {
-    text.extend_from_slice(b"cycle")?;
-    write_numbers(text, row.numbers.numbers())?;
-    write_verdict(text, row.dependencies.as_slice(), &row.found)?;
-    Ok(())
+    text.take(b"cycle")?;
+    write_numbers(text, row.cycle.numbers())?;
+    write_verdict(text, row.dependencies.as_slice(), &row.found)
 }
 
-pub(crate) fn write_rows(text: &mut Vec<u8>, rows: &[Row]) -> Result<(), NoMemory>
-    ensures { OnOk result (text.new.items ≡ text.old.items ++ flat_map row_text rows.now) }
+pub(crate) fn write_rows<T: Taker>(text: &mut T, rows: &[Row]) -> Result<(), T::Refused>
+    ensures { Takes T.room text.old (flat_map row_text rows.now) result text.new }
 {
     for row in rows {
         write_row(text, row)?;
@@ -141,8 +144,9 @@ pub(crate) fn write_rows(text: &mut Vec<u8>, rows: &[Row]) -> Result<(), NoMemor
     Ok(())
 }
 
-pub(crate) fn write_tasks(text: &mut Vec<u8>, tasks: &[Vec<Row>]) -> Result<(), NoMemory>
-    ensures { OnOk result (text.new.items ≡ text.old.items ++ flat_map (λ task. flat_map row_text task.items) tasks.now) }
+pub(crate) fn write_tasks<T: Taker>(text: &mut T, tasks: &[Vec<Row>]) -> Result<(), T::Refused>
+    ensures { Takes T.room text.old
+        (flat_map (λ task. flat_map row_text task.items) tasks.now) result text.new }
 {
     for task in tasks {
         write_rows(text, task.as_slice())?;
@@ -150,32 +154,27 @@ pub(crate) fn write_tasks(text: &mut Vec<u8>, tasks: &[Vec<Row>]) -> Result<(), 
     Ok(())
 }
 
-pub(crate) fn write_about(
-    text: &mut Vec<u8>,
+pub(crate) fn write_about<T: Taker>(
+    text: &mut T,
     question: u32,
     events: u32,
     bound: u8,
-) -> Result<(), NoMemory>
-    ensures { OnOk result (text.new.items ≡ text.old.items ++ about question events bound) }
+) -> Result<(), T::Refused>
+    ensures { Takes T.room text.old (about question events bound) result text.new }
 {
-    let mut buffer = Buffer::new();
-    text.extend_from_slice(b"question ")?;
-    text.extend_from_slice(buffer.format(question).as_bytes())?;
-    text.extend_from_slice(b" length ")?;
-    text.extend_from_slice(buffer.format(events).as_bytes())?;
-    text.extend_from_slice(b" bound ")?;
-    text.extend_from_slice(buffer.format(bound).as_bytes())?;
-    Ok(())
+    text.take_number(b"question ", u64::from(question))?;
+    text.take_number(b" length ", u64::from(events))?;
+    text.take_number(b" bound ", u64::from(bound))
 }
 
-pub(crate) fn write_counts(text: &mut Vec<u8>, cycles: u64, confirmed: u64) -> Result<(), NoMemory>
-    ensures { OnOk result (text.new.items ≡ text.old.items ++ counts cycles confirmed) }
+pub(crate) fn write_counts<T: Taker>(
+    text: &mut T,
+    cycles: u64,
+    confirmed: u64,
+) -> Result<(), T::Refused>
+    ensures { Takes T.room text.old (counts cycles confirmed) result text.new }
 {
-    let mut buffer = Buffer::new();
-    text.extend_from_slice(b" cycles ")?;
-    text.extend_from_slice(buffer.format(cycles).as_bytes())?;
-    text.extend_from_slice(b" confirmed ")?;
-    text.extend_from_slice(buffer.format(confirmed).as_bytes())?;
-    text.push(b'\n')?;
-    Ok(())
+    text.take_number(b" cycles ", cycles)?;
+    text.take_number(b" confirmed ", confirmed)?;
+    text.take(b"\n")
 }

@@ -1,6 +1,6 @@
-//! Runs the worked traces in its folder of data by the program's own calls, and compares what they print with what
-//! must be printed. Each script is also run as one session with findings, and each witness of a report is handed to
-//! the checker.
+//! Runs the worked traces in its folder of data by the program's own calls, and compares what they
+//! print with what must be printed. Each script is also run as one session with findings, and each
+//! witness of a report is handed to the checker.
 #![tactic(auto)]
 
 ghost use Rattle.command_line.specs.CommandLine.{IsInRange};

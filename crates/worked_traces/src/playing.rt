@@ -25,7 +25,8 @@ enum Awaited {
     Refused(Refusal),
 }
 
-/// Who sends what a script says. Findings are computed over a book of its own, which is told the same.
+/// Who sends what a script says. Findings are computed over a book of its own, which is told the
+/// same.
 #[derive(Drop)]
 struct Sender {
     alloc: Global,
@@ -213,8 +214,9 @@ fn inputs_of(
     }
 }
 
-/// What the script in these bytes prints, by one run of `play`: the requests are the bytes of one session, in pieces of
-/// at most so many, and the findings of `work` and `deliver` come between them.
+/// What the script in these bytes prints, by one run of `play`: the requests are the bytes of one
+/// session, in pieces of at most so many, and the findings of `work` and `deliver` come between
+/// them.
 pub(crate) fn played(rt: &HostRuntime, file: &[u8], limit: u32, piece: usize) -> Result<Vec<u8>>
     requires { IsLimit limit }
 {

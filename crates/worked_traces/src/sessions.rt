@@ -131,8 +131,8 @@ fn print_run(text: &mut Vec<u8>, run: &Played) -> Result<()> {
     Ok(())
 }
 
-/// Runs the inputs of a file, a line each: `piece S BYTES`, `end S`, or `finding Q K J EVENTS`. It prints what each
-/// session was sent, and what became of the findings.
+/// Runs the inputs of a file, a line each: `piece S BYTES`, `end S`, or `finding Q K J EVENTS`. It
+/// prints what each session was sent, and what became of the findings.
 pub(crate) fn run_sessions(rt: &HostRuntime, file: &[u8]) -> Result<Vec<u8>> {
     let alloc = rt.alloc();
     let state = RandomState::new(rt)?;

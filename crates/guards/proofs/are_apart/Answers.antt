@@ -1,5 +1,5 @@
 use Rattle.std.proofs.Common.{◌↔◌, IsTrue, subst}
-use Rattle.trace_model.specs.Dependencies.{Dependency}
+use Rattle.trace_model.specs.Theory.Dependencies.{Dependency}
 use Rattle.guards.specs.Compatible.{AreApart}
 use Rattle.guards.proofs.are_apart.Goals as goal
 

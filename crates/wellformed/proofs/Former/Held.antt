@@ -2,13 +2,13 @@
 use Rattle.std.proofs.Common.{◌≡◌, ℕ, zero, suc, ◌≤◌, Bool, true, false, cond, ◌==◌, List, [], ◌∷◌, length, slice_get, Option, Some, None, refl, sym, ap, ◌∙◌, arith}
 use Rattle.std.proofs.lemmas.Bool.{le-leb}
 use Rattle.std.specs.Option.{option_and_then}
-use Rattle.trace_model.specs.declared.event.Event.{Event}
-use Rattle.trace_model.specs.declared.event.Op.{Op}
-use Rattle.trace_model.specs.declared.event.Op.TheVariants.{Fork, Join, Acquire, Release, Read, Write}
-use Rattle.trace_model.specs.Trace.{Trace, event, At, Does}
-use Rattle.trace_model.specs.Held.{depth, has, held, held_after, held_step, without_lock, BeginsOn}
-use Rattle.trace_model.specs.Dependencies.{dependency_of, dependency_at, dependencies_below, dependencies, with_new}
-use Rattle.trace_model.proofs.Held.{held_so}
+use Rattle.trace_model.specs.declared.traces.event.Event.{Event}
+use Rattle.trace_model.specs.declared.traces.event.Op.{Op}
+use Rattle.trace_model.specs.declared.traces.event.Op.TheVariants.{Fork, Join, Acquire, Release, Read, Write}
+use Rattle.trace_model.specs.Theory.Trace.{Trace, event, At, Does}
+use Rattle.trace_model.specs.Theory.Held.{depth, has, held, held_after, held_step, without_lock, BeginsOn}
+use Rattle.trace_model.specs.Theory.Dependencies.{dependency_of, dependency_at, dependencies_below, dependencies, with_new}
+use Rattle.trace_model.proofs.Theory.Held.{held_so}
 use Rattle.wellformed.specs.Flat.{IsFlat}
 use Rattle.wellformed.specs.Former.Held as former
 use Rattle.wellformed.specs.Former.Dependencies as former_dependencies

@@ -3,18 +3,18 @@ use Rattle.std.proofs.Common.{◌≡◌, ℕ, ◌<◌, false, not, ltb, leb, ◌
 use Rattle.std.proofs.lemmas.Bool.{lt-leb, lt-ltb, ltb-true}
 use Rattle.std.proofs.lemmas.Option.{slice_get_within}
 use Rattle.std.specs.List.{list_any}
-use Rattle.trace_model.specs.declared.event.Op.{Op}
-use Rattle.trace_model.specs.declared.event.Op.TheVariants.{Fork, Join, Acquire, Release, Read, Write}
+use Rattle.trace_model.specs.declared.traces.event.Op.{Op}
+use Rattle.trace_model.specs.declared.traces.event.Op.TheVariants.{Fork, Join, Acquire, Release, Read, Write}
 use Rattle.trace_model.specs.declared.refusal.Refusal.TheVariants.{Full, Unforked, Ended}
 use Rattle.trace_model.specs.declared.limits.TheConstants.{MAX_EVENTS, MAX_HELD}
-use Rattle.trace_model.specs.Trace.{Trace, event, stands}
-use Rattle.trace_model.specs.Held.{depth, has, held}
-use Rattle.trace_model.specs.Lawful.{held_by, held_by_other, op_refusal_of, IsWellFormed}
-use Rattle.trace_model.proofs.Held.{held_from, held_so}
-use Rattle.trace_model.proofs.Lawful.{passes}
+use Rattle.trace_model.specs.Theory.Trace.{Trace, event, stands}
+use Rattle.trace_model.specs.Theory.Held.{depth, has, held}
+use Rattle.trace_model.specs.Theory.Lawful.{held_by, held_by_other, op_refusal_of, IsWellFormed}
+use Rattle.trace_model.proofs.Theory.Held.{held_from, held_so}
+use Rattle.trace_model.proofs.Theory.Lawful.{passes}
 use Rattle.trace_model.proofs.Lists.{same_bool}
-use Rattle.trace_model.proofs.OneMore.{lawful_acquire, lawful_release}
-use Rattle.trace_model.proofs.Sections.{depth-take}
+use Rattle.trace_model.proofs.Theory.OneMore.{lawful_acquire, lawful_release}
+use Rattle.trace_model.proofs.Theory.Sections.{depth-take}
 use Rattle.wellformed.specs.Flat.{IsFlat}
 use Rattle.wellformed.specs.Former.Held as former_held
 use Rattle.wellformed.specs.Former.Lawful as former

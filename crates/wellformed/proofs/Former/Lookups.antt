@@ -3,18 +3,18 @@ use Rattle.std.proofs.Common.{◌≡◌, ℕ, suc, ◌-◌, ◌<◌, inl, inr, t
 use Rattle.std.proofs.lemmas.Bool.{cases_eq, cases_lt}
 use Rattle.std.proofs.lemmas.Option.{same_Some}
 use Rattle.std.specs.Option.{option_and_then}
-use Rattle.trace_model.specs.declared.event.Event.{Event}
-use Rattle.trace_model.specs.declared.event.Op.{Op}
-use Rattle.trace_model.specs.declared.event.Op.TheVariants.{Fork, Join, Acquire, Release, Read, Write}
-use Rattle.trace_model.specs.Trace.{Trace, event, At, Does, does, first_place}
-use Rattle.trace_model.specs.Held.{ends_of, Begins, Ends, InSection}
-use Rattle.trace_model.specs.Lawful.{IsWellFormed}
-use Rattle.trace_model.specs.Lookups.{release}
-use Rattle.trace_model.proofs.Deadlock.{releaser_holds}
-use Rattle.trace_model.proofs.Held.{section_holds, section_of}
-use Rattle.trace_model.proofs.Lookups.{ends_from, ends_so, release_computes}
-use Rattle.trace_model.proofs.Places.{does_from, does_so, first_place_is, first_place_none, first_place_some}
-use Rattle.trace_model.proofs.Sections.{others_lack}
+use Rattle.trace_model.specs.declared.traces.event.Event.{Event}
+use Rattle.trace_model.specs.declared.traces.event.Op.{Op}
+use Rattle.trace_model.specs.declared.traces.event.Op.TheVariants.{Fork, Join, Acquire, Release, Read, Write}
+use Rattle.trace_model.specs.Theory.Trace.{Trace, event, At, Does, does, first_place}
+use Rattle.trace_model.specs.Theory.Held.{ends_of, Begins, Ends, InSection}
+use Rattle.trace_model.specs.Theory.Lawful.{IsWellFormed}
+use Rattle.trace_model.specs.Theory.Lookups.{release}
+use Rattle.trace_model.proofs.Theory.Deadlock.{releaser_holds}
+use Rattle.trace_model.proofs.Theory.Held.{section_holds, section_of}
+use Rattle.trace_model.proofs.Theory.Lookups.{ends_from, ends_so, release_computes}
+use Rattle.trace_model.proofs.Theory.Places.{does_from, does_so, first_place_is, first_place_none, first_place_some}
+use Rattle.trace_model.proofs.Theory.Sections.{others_lack}
 use Rattle.wellformed.specs.Flat.{IsFlat}
 use Rattle.wellformed.specs.Former.Lookups as former
 use Rattle.wellformed.proofs.Former.Held.{shallow}

@@ -1,11 +1,11 @@
 -- Reorderings and rows of a well-formed trace whose acquires are outermost are the former ones.
 use Rattle.std.proofs.Common.{◌≡◌, ℕ, List, map, slice_get, Option, Some, None, MatchOption, sym, subst, ◌∙◌}
 use Rattle.std.proofs.lemmas.List.Elements.{All-weaker}
-use Rattle.trace_model.specs.Trace.{Trace}
-use Rattle.trace_model.specs.Cycles.{AreCyclesFrom, IsInstance, IsConfirmed}
-use Rattle.trace_model.specs.Lawful.{IsWellFormed}
-use Rattle.trace_model.specs.Reordering.{IsReordering, Reached}
-use Rattle.trace_model.specs.Rows.{Found, Row, IsLeastInstance, IsWitness, IsRow, AreRows}
+use Rattle.trace_model.specs.Theory.Trace.{Trace}
+use Rattle.trace_model.specs.Theory.Cycles.{AreCyclesFrom, IsInstance, IsConfirmed}
+use Rattle.trace_model.specs.Theory.Lawful.{IsWellFormed}
+use Rattle.trace_model.specs.Theory.Reordering.{IsReordering, Reached}
+use Rattle.trace_model.specs.Theory.Rows.{Found, Row, IsLeastInstance, IsWitness, IsRow, AreRows}
 use Rattle.wellformed.specs.Flat.{AgreesWithFormer, IsFlat}
 use Rattle.wellformed.specs.Former.Reordering as former_reordering
 use Rattle.wellformed.specs.Former.Rows as former
@@ -104,29 +104,29 @@ module _ (s : Trace) (w : IsWellFormed s) (flat : IsFlat s) where
   to_row row is = go row.found is
     where
       go : (o : Option Found) →
-          MatchOption o (former.IsConfirmed s row.numbers → ⊥) (λ f. former.IsLeastInstance s row.numbers f.places × former.IsWitness s f.places f.witness) →
-          MatchOption o (IsConfirmed s row.numbers → ⊥) (λ f. IsLeastInstance s row.numbers f.places × IsWitness s f.places f.witness)
-      go None h = λ c. h (from_confirmed row.numbers c)
-      go (Some f) h = (to_least row.numbers f.places h.0, to_witness f.places f.witness h.1)
+          MatchOption o (former.IsConfirmed s row.cycle → ⊥) (λ f. former.IsLeastInstance s row.cycle f.places × former.IsWitness s f.places f.witness) →
+          MatchOption o (IsConfirmed s row.cycle → ⊥) (λ f. IsLeastInstance s row.cycle f.places × IsWitness s f.places f.witness)
+      go None h = λ c. h (from_confirmed row.cycle c)
+      go (Some f) h = (to_least row.cycle f.places h.0, to_witness f.places f.witness h.1)
 
   from_row : (row : Row) → IsRow s row → former.IsRow s row
   from_row row is = go row.found is
     where
       go : (o : Option Found) →
-          MatchOption o (IsConfirmed s row.numbers → ⊥) (λ f. IsLeastInstance s row.numbers f.places × IsWitness s f.places f.witness) →
-          MatchOption o (former.IsConfirmed s row.numbers → ⊥) (λ f. former.IsLeastInstance s row.numbers f.places × former.IsWitness s f.places f.witness)
-      go None h = λ c. h (to_confirmed row.numbers c)
-      go (Some f) h = (from_least row.numbers f.places h.0, from_witness f.places f.witness h.1)
+          MatchOption o (IsConfirmed s row.cycle → ⊥) (λ f. IsLeastInstance s row.cycle f.places × IsWitness s f.places f.witness) →
+          MatchOption o (former.IsConfirmed s row.cycle → ⊥) (λ f. former.IsLeastInstance s row.cycle f.places × former.IsWitness s f.places f.witness)
+      go None h = λ c. h (to_confirmed row.cycle c)
+      go (Some f) h = (from_least row.cycle f.places h.0, from_witness f.places f.witness h.1)
 
   to_rows : (bound root : ℕ) (rows : List Row) → former.AreRows s bound root rows → AreRows s bound root rows
   to_rows bound root rows are = record {
-    cycles = subst (λ ds. AreCyclesFrom ds bound root (map (λ row. row.numbers) rows)) (dependencies_are s flat) are.cycles;
+    cycles = subst (λ ds. AreCyclesFrom ds bound root (map (λ row. row.cycle) rows)) (dependencies_are s flat) are.cycles;
     exact = All-weaker (former.IsRow s) (IsRow s) to_row rows are.exact;
   }
 
   from_rows : (bound root : ℕ) (rows : List Row) → AreRows s bound root rows → former.AreRows s bound root rows
   from_rows bound root rows are = record {
-    cycles = subst (λ ds. AreCyclesFrom ds bound root (map (λ row. row.numbers) rows)) (sym (dependencies_are s flat)) are.cycles;
+    cycles = subst (λ ds. AreCyclesFrom ds bound root (map (λ row. row.cycle) rows)) (sym (dependencies_are s flat)) are.cycles;
     exact = All-weaker (IsRow s) (former.IsRow s) from_row rows are.exact;
   }
 

@@ -1,10 +1,10 @@
 -- Which lock a thread took while it held which, numbered by first appearance.
 use Rattle.std.specs.Prelude.{ℕ, zero, suc, List, [], ◌∷◌, length, slice_get, Option, Some, None}
 use Rattle.std.specs.Option.{option_and_then}
-use Rattle.trace_model.specs.declared.event.Op.{Op}
-use Rattle.trace_model.specs.declared.event.Op.TheVariants.{Acquire}
-use Rattle.trace_model.specs.Trace.{Trace}
-use Rattle.trace_model.specs.Dependencies.{Dependency, with_new}
+use Rattle.trace_model.specs.declared.traces.event.Op.{Op}
+use Rattle.trace_model.specs.declared.traces.event.Op.TheVariants.{Acquire}
+use Rattle.trace_model.specs.Theory.Trace.{Trace}
+use Rattle.trace_model.specs.Theory.Dependencies.{Dependency, with_new}
 use Rattle.wellformed.specs.Former.Held.{held}
 
 abbrev pub dependency_of : ℕ → Op → List ℕ → Option Dependency
@@ -13,7 +13,8 @@ dependency_of t _ _ = None
 
 -- the dependency of the place, if it acquires a lock with a held set that is not empty
 abbrev pub dependency_at : Trace → ℕ → Option Dependency
-dependency_at s p = option_and_then (λ e. dependency_of e.thread e.op (held s p e.thread)) (slice_get s p)
+dependency_at s p = option_and_then (λ e. dependency_of e.thread e.op (held s p e.thread))
+    (slice_get s p)
 
 -- the distinct dependencies of the first n events, by first appearance
 abbrev pub dependencies_below : Trace → ℕ → List Dependency

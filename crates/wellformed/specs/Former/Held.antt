@@ -1,10 +1,10 @@
 -- The locks that a thread holds.
 use Rattle.std.specs.Prelude.{ℕ, zero, suc, List, [], slice_get, Option, Some, None, ◌==◌, if◌then◌else◌}
-use Rattle.trace_model.specs.declared.event.Event.{Event}
-use Rattle.trace_model.specs.declared.event.Op.{Op}
-use Rattle.trace_model.specs.declared.event.Op.TheVariants.{Acquire, Release}
-use Rattle.trace_model.specs.Trace.{Trace, Does}
-use Rattle.trace_model.specs.Held.{with_lock, without_lock}
+use Rattle.trace_model.specs.declared.traces.event.Event.{Event}
+use Rattle.trace_model.specs.declared.traces.event.Op.{Op}
+use Rattle.trace_model.specs.declared.traces.event.Op.TheVariants.{Acquire, Release}
+use Rattle.trace_model.specs.Theory.Trace.{Trace, Does}
+use Rattle.trace_model.specs.Theory.Held.{with_lock, without_lock}
 
 -- some thread begins a critical section on the lock at the place: it acquires it
 abbrev pub BeginsOn : Trace → ℕ → ℕ → Type 0

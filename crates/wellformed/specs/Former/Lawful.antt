@@ -1,15 +1,15 @@
 -- Which events may come next, and why not.
 use Rattle.std.specs.Prelude.{◌≡◌, ℕ, Bool, not, ◌==◌, ◌&&◌, nat_le, length, take, Option, Some, None, if◌then◌else◌}
 use Rattle.std.specs.List.{list_any}
-use Rattle.trace_model.specs.declared.event.Event.{Event}
-use Rattle.trace_model.specs.declared.event.Op.{Op}
-use Rattle.trace_model.specs.declared.event.Op.TheVariants.{Fork, Join, Acquire, Release}
+use Rattle.trace_model.specs.declared.traces.event.Event.{Event}
+use Rattle.trace_model.specs.declared.traces.event.Op.{Op}
+use Rattle.trace_model.specs.declared.traces.event.Op.TheVariants.{Fork, Join, Acquire, Release}
 use Rattle.trace_model.specs.declared.refusal.Refusal.{Refusal}
 use Rattle.trace_model.specs.declared.refusal.Refusal.TheVariants.{Full, Unforked, Ended, TooNested, HeldByOther, TooDeep, NotHeld}
 use Rattle.trace_model.specs.declared.limits.TheConstants.{MAX_EVENTS, MAX_HELD}
-use Rattle.trace_model.specs.Trace.{Trace, At, stands}
-use Rattle.trace_model.specs.Held.{has}
-use Rattle.trace_model.specs.Lawful as present
+use Rattle.trace_model.specs.Theory.Trace.{Trace, At, stands}
+use Rattle.trace_model.specs.Theory.Held.{has}
+use Rattle.trace_model.specs.Theory.Lawful as present
 use Rattle.wellformed.specs.Former.Held.{held}
 
 -- after the trace the thread holds the lock, or another one does
@@ -19,7 +19,8 @@ held_by s t l = has l (held s (length s) t)
 abbrev pub held_by_other : Trace → ℕ → ℕ → Bool
 held_by_other s t l = list_any (λ e. not (e.thread == t) && held_by s e.thread l) s
 
--- the first refusal that applies to what the thread does: a lock that it holds is nested too deep at once
+-- the first refusal that applies to what the thread does: a lock that it holds is nested too deep
+-- at once
 abbrev pub op_refusal_of : Trace → ℕ → Op → Option Refusal
 op_refusal_of s t (Acquire l) =
     if held_by s t l then Some TooNested

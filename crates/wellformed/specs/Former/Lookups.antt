@@ -1,9 +1,9 @@
 -- The release of an acquire.
 use Rattle.std.specs.Prelude.{ℕ, suc, ◌-◌, length, slice_get, Option, None}
 use Rattle.std.specs.Option.{option_and_then}
-use Rattle.trace_model.specs.declared.event.Op.{Op}
-use Rattle.trace_model.specs.declared.event.Op.TheVariants.{Acquire, Release}
-use Rattle.trace_model.specs.Trace.{Trace, does, first_place}
+use Rattle.trace_model.specs.declared.traces.event.Op.{Op}
+use Rattle.trace_model.specs.declared.traces.event.Op.TheVariants.{Acquire, Release}
+use Rattle.trace_model.specs.Theory.Trace.{Trace, does, first_place}
 
 -- of an acquire, the least later place that releases its lock
 abbrev pub release_of : Trace → ℕ → Op → Option ℕ

@@ -1,10 +1,10 @@
 -- Lists of places that the program could have run.
 use Rattle.std.specs.Prelude.{◌≡◌, ℕ, ◌<◌, List, length, slice_get, Some, MatchOption}
 use Rattle.std.specs.List.{Contains}
-use Rattle.trace_model.specs.declared.event.Op.TheVariants.{Read, Write}
-use Rattle.trace_model.specs.Trace.{Trace, Does, EarlierInThread}
-use Rattle.trace_model.specs.Lookups.{writer}
-use Rattle.trace_model.specs.Reordering.{Before, ForkOrJoin, LastWrite, Reaches}
+use Rattle.trace_model.specs.declared.traces.event.Op.TheVariants.{Read, Write}
+use Rattle.trace_model.specs.Theory.Trace.{Trace, Does, EarlierInThread}
+use Rattle.trace_model.specs.Theory.Lookups.{writer}
+use Rattle.trace_model.specs.Theory.Reordering.{Before, ForkOrJoin, LastWrite, Reaches}
 use Rattle.wellformed.specs.Former.Held.{BeginsOn}
 use Rattle.wellformed.specs.Former.Lookups.{release}
 

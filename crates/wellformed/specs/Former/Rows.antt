@@ -2,11 +2,11 @@
 use Rattle.std.specs.Prelude.{◌≡◌, ℕ, List, length, map, slice_get, Some, MatchOption}
 use Rattle.std.specs.List.{Contains, All}
 use Rattle.std.specs.List.Sorted.{IsStrictlyIncreasing}
-use Rattle.trace_model.specs.Trace.{Trace}
-use Rattle.trace_model.specs.Dependencies.{Dependency}
-use Rattle.trace_model.specs.Cycles.{AreCyclesFrom}
-use Rattle.trace_model.specs.Reordering.{Reaches}
-use Rattle.trace_model.specs.Rows.{Row, NoLater}
+use Rattle.trace_model.specs.Theory.Trace.{Trace}
+use Rattle.trace_model.specs.Theory.Dependencies.{Dependency}
+use Rattle.trace_model.specs.Theory.Cycles.{AreCyclesFrom}
+use Rattle.trace_model.specs.Theory.Reordering.{Reaches}
+use Rattle.trace_model.specs.Theory.Rows.{Row, NoLater}
 use Rattle.wellformed.specs.Former.Dependencies.{dependency_at, dependencies}
 use Rattle.wellformed.specs.Former.Reordering.{IsReordering, Reached}
 
@@ -14,7 +14,8 @@ use Rattle.wellformed.specs.Former.Reordering.{IsReordering, Reached}
 abbrev pub IsInstance : Trace → List ℕ → List ℕ → Type 0
 IsInstance s numbers places =
     (length places ≡ length numbers)
-    × ((i m p : ℕ) (d : Dependency) → slice_get numbers i ≡ Some m → slice_get (dependencies s) m ≡ Some d →
+    × ((i m p : ℕ) (d : Dependency) → slice_get numbers i ≡ Some m →
+    slice_get (dependencies s) m ≡ Some d →
     slice_get places i ≡ Some p → dependency_at s p ≡ Some d)
 
 abbrev pub IsConfirmed : Trace → List ℕ → Type 0
@@ -29,14 +30,15 @@ pub record IsWitness (s : Trace) (places order : List ℕ) : Type 0 where
   pub ascends : IsStrictlyIncreasing order
   pub reorders : IsReordering s order
   pub reaches : Reaches s order places
-  pub smallest : (other : List ℕ) → IsReordering s other → Reaches s other places → (q : ℕ) → Contains order q → Contains other q
+  pub smallest : (other : List ℕ) → IsReordering s other → Reaches s other places → (q : ℕ) →
+      Contains order q → Contains other q
 
 abbrev pub IsRow : Trace → Row → Type 0
 IsRow s row = MatchOption row.found
-    (IsConfirmed s row.numbers → ⊥)
-    (λ found. IsLeastInstance s row.numbers found.places × IsWitness s found.places found.witness)
+    (IsConfirmed s row.cycle → ⊥)
+    (λ found. IsLeastInstance s row.cycle found.places × IsWitness s found.places found.witness)
 
 -- the rows of the cycles with this first number, in lexicographic order
 pub record AreRows (s : Trace) (bound root : ℕ) (rows : List Row) : Type 0 where
-  pub cycles : AreCyclesFrom (dependencies s) bound root (map (λ row. row.numbers) rows)
+  pub cycles : AreCyclesFrom (dependencies s) bound root (map (λ row. row.cycle) rows)
   pub exact : All (IsRow s) rows

@@ -1,10 +1,10 @@
 use Rattle.std.proofs.Common.{◌≡◌, ◌∙◌, ◌∷◌, [], ◌++◌, None, get_or, sym, ap, subst}
 use Rattle.std.proofs.lemmas.List.{take_all, take_more}
-use Rattle.trace_model.specs.declared.event.Event.{Event}
-use Rattle.trace_model.specs.declared.event.Op.TheVariants.{Fork}
-use Rattle.trace_model.specs.Trace.{Trace}
-use Rattle.trace_model.specs.Lawful.{refusal_of, IsWellFormed}
-use Rattle.trace_model.proofs.Growing.{well_formed_push}
+use Rattle.trace_model.specs.declared.traces.event.Event.{Event}
+use Rattle.trace_model.specs.declared.traces.event.Op.TheVariants.{Fork}
+use Rattle.trace_model.specs.Theory.Trace.{Trace}
+use Rattle.trace_model.specs.Theory.Lawful.{refusal_of, IsWellFormed}
+use Rattle.trace_model.proofs.Theory.Growing.{well_formed_push}
 use Rattle.commands.proofs.admission.record_lawful.Goals as goal
 
 pub returns : goal.returns

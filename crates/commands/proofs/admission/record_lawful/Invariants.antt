@@ -1,6 +1,6 @@
 use Rattle.std.proofs.Common.{◌≡◌, take}
 use Rattle.trace_model.specs.declared.limits.TheConstants.{MAX_EVENTS}
-use Rattle.trace_model.specs.Lawful.{IsWellFormed}
+use Rattle.trace_model.specs.Theory.Lawful.{IsWellFormed}
 use Rattle.commands.proofs.admission.record_lawful.Given as goal
 
 abbrev pub invariant-loop-index : goal.invariant-loop-index

@@ -1,6 +1,6 @@
 use Rattle.std.proofs.Common.{◌++◌, ◌∷◌, [], ℕ, List, map, take, sym, ap, ◌∙◌}
 use Rattle.std.proofs.Math.Numerals.{add-one}
-use Rattle.trace_model.specs.Dependencies.{Dependency}
+use Rattle.trace_model.specs.Theory.Dependencies.{Dependency}
 use Rattle.dependencies.specs.Tables.{known}
 use Rattle.cycle_search.specs.Ranked.{rank_in}
 use Rattle.cycle_search.proofs.Ranked.{map-more}

@@ -1,6 +1,6 @@
 use Rattle.std.proofs.Common.{◌≡◌, ◌<◌, ◌≤◌, ℕ, Some, slice_get}
 use Rattle.std.specs.List.{Contains}
-use Rattle.trace_model.specs.Dependencies.{Dependency}
+use Rattle.trace_model.specs.Theory.Dependencies.{Dependency}
 use Rattle.dependencies.specs.Tables.{known}
 use Rattle.cycle_search.specs.Ranked.{rank_in}
 use Rattle.cycle_search.proofs.ranks.rises.Given as goal

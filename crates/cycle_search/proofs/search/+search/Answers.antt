@@ -3,7 +3,7 @@ use Rattle.std.proofs.lemmas.Option.{slice_get-get_or, slice_get_within, get_or_
 use Rattle.std.proofs.lemmas.Grind.{get_or_default_zero}
 use Rattle.std.proofs.lemmas.Result.{err_from_is_err_and}
 use Rattle.std.specs.List.{Contains}
-use Rattle.trace_model.specs.Dependencies.{Dependency}
+use Rattle.trace_model.specs.Theory.Dependencies.{Dependency}
 use Rattle.guards.specs.Compatible.{IsCompatible}
 use Rattle.dependencies.specs.Tables.{known}
 use Rattle.cycle_search.specs.Search.{IsPath, Closes, AboveFirst, LinksTo, TakesBack, AreSome, AreAll, Adds, Exceeds, CycleBeyond, CycleThrough}

@@ -1,6 +1,6 @@
 use Rattle.std.proofs.Common.{◌≡◌, ◌-◌, ◌*◌, ◌≤◌, length, slice_index}
 use Rattle.dependencies.specs.Tables.{known}
-use Rattle.cycle_search.specs.Search.{Adds, CycleAmong, CycleUpTo}
+use Rattle.cycle_search.specs.Search.{Adds, CycleOver, IsAmong, CycleUpTo}
 use Rattle.cycle_search.proofs.search.+search.Given as goal
 
 abbrev pub decreases-extend : goal.decreases-extend
@@ -16,7 +16,7 @@ abbrev pub invariant-extend-loop-next : goal.invariant-extend-loop-next
 invariant-extend-loop-next l = record {
   same : l.path.items ≡ l.fn.path.items;
   few : length l.found.items ≤ l.limits.cycles;
-  added : Adds (CycleAmong (known l.table) l.limits.members l.fn.path.items l.nexts l.next-index) l.fn.found.items l.found.items;
+  added : Adds (CycleOver (known l.table) l.limits.members l.fn.path.items (IsAmong l.nexts l.next-index)) l.fn.found.items l.found.items;
 }
 
 abbrev pub decreases-close-loop-next : goal.decreases-close-loop-next

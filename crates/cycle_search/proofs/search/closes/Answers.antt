@@ -1,6 +1,6 @@
 use Rattle.std.proofs.Common.{◌∙◌, ◌-◌, List, ℕ, length, get_or, slice_get, sym, ap}
-use Rattle.trace_model.specs.Dependencies.{Dependency}
-use Rattle.trace_model.specs.Held.{has}
+use Rattle.trace_model.specs.Theory.Dependencies.{Dependency}
+use Rattle.trace_model.specs.Theory.Held.{has}
 use Rattle.dependencies.specs.Tables.{known}
 use Rattle.cycle_search.proofs.Paths.{closes-decided, has-decided}
 use Rattle.cycle_search.proofs.search.closes.Goals as goal

@@ -1,7 +1,7 @@
 use Rattle.std.proofs.Common.{◌≡◌, Bool, true, false, not, List, ℕ, get_or, slice_get, sym, ap, ◌∙◌}
 use Rattle.std.proofs.lemmas.Bool.{false≢true}
-use Rattle.trace_model.specs.Dependencies.{Dependency}
-use Rattle.trace_model.specs.Held.{has}
+use Rattle.trace_model.specs.Theory.Dependencies.{Dependency}
+use Rattle.trace_model.specs.Theory.Held.{has}
 use Rattle.dependencies.specs.Tables.{known}
 use Rattle.cycle_search.proofs.Paths.{closed-back, has-decided}
 use Rattle.cycle_search.proofs.search.ends_open.Goals as goal

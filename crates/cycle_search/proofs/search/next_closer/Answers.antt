@@ -1,5 +1,5 @@
 use Rattle.std.proofs.Common.{◌<◌, List, ℕ, length, get_or, slice_get, sym, ap, ◌∙◌, subst}
-use Rattle.trace_model.specs.Dependencies.{Dependency}
+use Rattle.trace_model.specs.Theory.Dependencies.{Dependency}
 use Rattle.dependencies.specs.Tables.{known}
 use Rattle.cycle_search.specs.Search.{TakesBack}
 use Rattle.cycle_search.specs.Takers.{takers_of, IsListed, IsNext}

@@ -1,5 +1,5 @@
 use Rattle.std.proofs.Common.{◌∙◌, ◌-◌, List, ℕ, length, get_or, slice_get, sym, ap}
-use Rattle.trace_model.specs.Dependencies.{Dependency}
+use Rattle.trace_model.specs.Theory.Dependencies.{Dependency}
 use Rattle.lock_graph.specs.Graph.{holders_below}
 use Rattle.dependencies.specs.Tables.{known}
 use Rattle.cycle_search.proofs.Paths.{nexts-known}

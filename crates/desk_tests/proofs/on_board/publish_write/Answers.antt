@@ -1,13 +1,13 @@
 use Rattle.std.proofs.Common.{◌≡◌, List, [], ◌∷◌, ◌++◌, None, refl, sym, ap, subst, ◌∙◌}
-use Rattle.trace_model.specs.declared.event.Op.TheVariants.{Write}
-use Rattle.trace_model.specs.declared.step.BoardStep.{BoardStep}
-use Rattle.trace_model.specs.declared.step.BoardStep.TheVariants.{Accept}
+use Rattle.trace_model.specs.declared.traces.event.Op.TheVariants.{Write}
+use Rattle.trace_model.specs.declared.messages.step.BoardStep.{BoardStep}
+use Rattle.trace_model.specs.declared.messages.step.BoardStep.TheVariants.{Accept}
 use Rattle.trace_model.specs.declared.limits.TheConstants.{MAX_EVENTS}
-use Rattle.trace_model.specs.Trace.{event}
-use Rattle.trace_model.specs.Machine.{opening, with_event}
-use Rattle.trace_model.specs.Rows.{AreRows}
-use Rattle.trace_model.specs.Runs.{IsLegal}
-use Rattle.trace_model.proofs.Taking.{one_takes}
+use Rattle.trace_model.specs.Theory.Trace.{event}
+use Rattle.trace_model.specs.Protocol.Machine.{opening, with_event}
+use Rattle.trace_model.specs.Theory.Rows.{AreRows}
+use Rattle.trace_model.specs.Protocol.Runs.{IsLegal}
+use Rattle.trace_model.proofs.Protocol.Taking.{one_takes}
 use Rattle.desk_tests.proofs.on_board.publish_write.Goals as goal
 
 abbrev one : List BoardStep

@@ -1,7 +1,7 @@
 use Rattle.std.proofs.Common.{◌+◌, Some, take, drop, get_or, sym, ap, ◌∙◌}
 use Rattle.std.proofs.lemmas.Option.{same_Some}
 use Rattle.event_frames.proofs.Turns.{rest_is}
-use Rattle.trace_model.specs.Frames.{object_of}
+use Rattle.trace_model.specs.Protocol.Frames.{object_of}
 use Rattle.event_files.proofs.EventWords.{taken_apart}
 use Rattle.event_files.proofs.event_file.event.Goals as goal
 

@@ -1,6 +1,6 @@
 use Rattle.std.proofs.Common.{◌+◌, ◌-◌, ◌*◌, drop, cond, Bool, Some, sym, ap, ◌∙◌, arith}
-use Rattle.trace_model.specs.declared.session.Fault.TheVariants.{BadBatch}
-use Rattle.trace_model.specs.Frames.{cells_fault}
+use Rattle.trace_model.specs.declared.messages.session.Fault.TheVariants.{BadBatch}
+use Rattle.trace_model.specs.Protocol.Frames.{cells_fault}
 use Rattle.event_frames.proofs.Batches.{cell_here, cells_end}
 use Rattle.event_frames.proofs.cells.cells_fault.Goals as goal
 

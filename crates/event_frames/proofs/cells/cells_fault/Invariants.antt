@@ -1,5 +1,5 @@
 use Rattle.std.proofs.Common.{◌-◌, ◌≡◌, ◌*◌, ◌≤◌, drop}
-use Rattle.trace_model.specs.Frames.{cells_fault}
+use Rattle.trace_model.specs.Protocol.Frames.{cells_fault}
 use Rattle.event_frames.proofs.cells.cells_fault.Given as goal
 
 -- the fault of those that are left is that of all

@@ -1,6 +1,6 @@
 use Rattle.std.proofs.Common.{◌≡◌, ◌+◌, ◌-◌, ◌*◌, suc, length, take, drop, ◌++◌, ◌∷◌, [], sym, ap, ◌∙◌, arith}
 use Rattle.std.proofs.lemmas.List.{length-drop, take_all}
-use Rattle.trace_model.specs.Frames.{event_of, events_of}
+use Rattle.trace_model.specs.Protocol.Frames.{event_of, events_of}
 use Rattle.event_frames.proofs.Batches.{events_more, length_events}
 use Rattle.event_frames.proofs.cells.read_batch.Goals as goal
 

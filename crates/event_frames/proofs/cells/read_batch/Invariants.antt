@@ -1,5 +1,5 @@
 use Rattle.std.proofs.Common.{◌-◌, ◌≡◌, ◌≤◌}
-use Rattle.trace_model.specs.Frames.{events_of}
+use Rattle.trace_model.specs.Protocol.Frames.{events_of}
 use Rattle.event_frames.proofs.cells.read_batch.Given as goal
 
 abbrev pub invariant-loop-index : goal.invariant-loop-index

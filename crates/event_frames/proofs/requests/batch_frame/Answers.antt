@@ -2,9 +2,9 @@ use Rattle.std.proofs.Common.{◌≡◌, ◌+◌, ◌*◌, ◌∷◌, ◌++◌, 
 use Rattle.std.specs.Int.{w16, to_be_bytes}
 use Rattle.std.specs.List.{flat_map}
 use Rattle.std.proofs.lemmas.List.{take_all}
-use Rattle.trace_model.specs.declared.session.Request.TheVariants.{Batch}
-use Rattle.trace_model.specs.Frames.{body, event_bytes, frame}
-use Rattle.trace_model.proofs.BatchFrames.{length_cells}
+use Rattle.trace_model.specs.declared.messages.session.Request.TheVariants.{Batch}
+use Rattle.trace_model.specs.Protocol.Frames.{body, event_bytes, frame}
+use Rattle.trace_model.proofs.Protocol.BatchFrames.{length_cells}
 use Rattle.event_frames.proofs.requests.batch_frame.Goals as goal
 
 pub returns : goal.returns

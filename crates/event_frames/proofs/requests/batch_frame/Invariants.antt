@@ -1,7 +1,7 @@
 use Rattle.std.proofs.Common.{◌≡◌, ◌+◌, ◌*◌, ◌++◌, ◌∷◌, length, take}
 use Rattle.std.specs.Int.{w16, to_be_bytes}
 use Rattle.std.specs.List.{flat_map}
-use Rattle.trace_model.specs.Frames.{event_bytes}
+use Rattle.trace_model.specs.Protocol.Frames.{event_bytes}
 use Rattle.event_frames.proofs.requests.batch_frame.Given as goal
 
 -- the events so far are written

@@ -1,5 +1,5 @@
 use Rattle.std.proofs.Common.{sym, subst}
-use Rattle.trace_model.specs.Cycles.{IsConfirmed}
+use Rattle.trace_model.specs.Theory.Cycles.{IsConfirmed}
 use Rattle.sp_closure.specs.Pointers.{AreKnown}
 use Rattle.findings.proofs.scratch.is_ruled_out.Goals as goal
 

@@ -1,5 +1,5 @@
 use Rattle.std.proofs.Common.{◌≡◌, ◌<◌, ℕ, Some, List, Option, length, slice_get, ap, subst, ◌∙◌, arith}
-use Rattle.trace_model.specs.Trace.{last_place}
+use Rattle.trace_model.specs.Theory.Trace.{last_place}
 use Rattle.numbered.specs.Notes.{is_of, pairs_of, notes_below}
 use Rattle.numbered.proofs.Noted.{numbered_take, length_pairs, pairs_take}
 use Rattle.numbered.proofs.NumberedPlaces.share.Goals as goal

@@ -1,8 +1,8 @@
 use Rattle.std.proofs.Common.{◌≡◌, ◌+◌, suc, take, sym, ap, subst, ◌∙◌, arith}
 use Rattle.std.proofs.lemmas.List.{take_all}
 use Rattle.std.proofs.lemmas.Option.{slice_get-get_or}
-use Rattle.trace_model.specs.declared.event.Op.TheVariants.{Fork}
-use Rattle.trace_model.specs.Lawful.{IsWellFormed}
+use Rattle.trace_model.specs.declared.traces.event.Op.TheVariants.{Fork}
+use Rattle.trace_model.specs.Theory.Lawful.{IsWellFormed}
 use Rattle.wellformed.specs.Tables.{FollowEvents}
 use Rattle.offline_report.proofs.WholeReports.{take_next}
 use Rattle.offline_report.proofs.opening.admit.Goals as goal

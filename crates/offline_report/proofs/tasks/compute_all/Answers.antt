@@ -2,8 +2,8 @@ use Rattle.std.proofs.Common.{◌≡◌, ◌-◌, ◌∙◌, length, ap, arith}
 use Rattle.std.specs.List.{range_with_len}
 use Rattle.rayon.specs.Numbers.{nat_range}
 use Rattle.rayon.proofs.ListFacts.{AllZip-weaken, IfOk-then}
-use Rattle.trace_model.specs.Trace.{Trace}
-use Rattle.trace_model.specs.Dependencies.{dependencies}
+use Rattle.trace_model.specs.Theory.Trace.{Trace}
+use Rattle.trace_model.specs.Theory.Dependencies.{dependencies}
 use Rattle.offline_report.specs.Offline.{IsTask}
 use Rattle.offline_report.proofs.Collected.{collected}
 use Rattle.offline_report.proofs.tasks.compute_all.Goals as goal

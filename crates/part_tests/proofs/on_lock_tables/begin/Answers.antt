@@ -1,11 +1,11 @@
 use Rattle.std.proofs.Common.{◌≡◌, ℕ, ◌≤◌, Fits, w32, length, take, sym, ap, ◌∙◌, arith}
 use Rattle.std.proofs.Math.Facts.{Fits-below}
 use Rattle.std.proofs.lemmas.List.{length-take-le}
-use Rattle.trace_model.specs.Trace.{Trace}
-use Rattle.trace_model.specs.Dependencies.{dependencies_below}
+use Rattle.trace_model.specs.Theory.Trace.{Trace}
+use Rattle.trace_model.specs.Theory.Dependencies.{dependencies_below}
 use Rattle.trace_model.proofs.Lists.{get-take}
-use Rattle.trace_model.proofs.Bounds.{dependencies_few}
-use Rattle.trace_model.proofs.Dependencies.{dependencies-agree}
+use Rattle.trace_model.proofs.Protocol.Bounds.{dependencies_few}
+use Rattle.trace_model.proofs.Theory.Dependencies.{dependencies-agree}
 use Rattle.dependencies.specs.Tables.{known}
 use Rattle.lock_tables.specs.declared.tables.LockTables.{LockTables}
 use Rattle.lock_tables.specs.Tables.{FollowTrace, CountsBelow}

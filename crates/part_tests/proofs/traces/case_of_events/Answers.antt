@@ -1,5 +1,5 @@
 use Rattle.std.proofs.Common.{length, sym, subst}
-use Rattle.trace_model.specs.Trace.{Trace}
+use Rattle.trace_model.specs.Theory.Trace.{Trace}
 use Rattle.dependencies.specs.Tables.{FollowsTrace}
 use Rattle.part_tests.proofs.traces.case_of_events.Goals as goal
 

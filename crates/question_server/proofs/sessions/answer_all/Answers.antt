@@ -1,6 +1,6 @@
 use Rattle.std.proofs.Common.{ℕ, List, Ok, ap, ◌∙◌, subst}
 use Rattle.std.proofs.lemmas.Result.{err_from_is_err_and}
-use Rattle.trace_model.specs.declared.session.Request.{Request}
+use Rattle.trace_model.specs.declared.messages.session.Request.{Request}
 use Rattle.event_frames.specs.Reader.{Answers, Tells, HasRead}
 use Rattle.question_server.proofs.Answering.{answered_one, broken_reply, answered_all, broken_fault, frame_positive}
 use Rattle.question_server.proofs.sessions.answer_all.Goals as goal
@@ -9,7 +9,7 @@ pub loop-request-smaller : goal.loop-request-smaller
 loop-request-smaller g c =
     let r = c.in-Ok-Some.is ∙ ap Ok c.in-Ok-Some.field-0-is in
     let t = subst (λ x. Answers c.loop-request.reader x c.next.new.self) r c.next.ensures.answers in
-    frame_positive c.loop-request.reader.rest c.in-Ok-Some.request c.next.new.self.rest t.front
+    frame_positive c.loop-request.reader.rest c.in-Ok-Some.request c.next.new.self.rest t.leading
 
 pub loop-request-preserved : goal.loop-request-preserved
 loop-request-preserved g c =

@@ -1,7 +1,7 @@
 use Rattle.std.proofs.Common.{◌≡◌, List, ℕ, subst}
 use Rattle.std.specs.Prelude.{IfOk, Ok, Err, Result, ◌↔◌}
-use Rattle.trace_model.specs.Lawful.{IsWellFormed}
-use Rattle.trace_model.specs.Trace.{Trace}
+use Rattle.trace_model.specs.Theory.Lawful.{IsWellFormed}
+use Rattle.trace_model.specs.Theory.Trace.{Trace}
 use Rattle.replay.specs.declared.verdict.Verdict.{Verdict}
 use Rattle.replay.specs.declared.verdict.Verdict.TheVariants.{Reaches}
 use Rattle.replay.specs.Laws.{IsWitnessFor}

@@ -1,8 +1,8 @@
 use Rattle.std.proofs.Common.{◌≡◌, ℕ, ◌<◌, inl, length, take, get_or, slice_get, Some, ap, sym, subst, ◌∙◌, arith}
 use Rattle.std.proofs.lemmas.Option.{slice_get-get_or}
-use Rattle.trace_model.specs.declared.event.Event.{Event}
-use Rattle.trace_model.specs.declared.event.Op.TheVariants.{Fork}
-use Rattle.trace_model.specs.Trace.{Does}
+use Rattle.trace_model.specs.declared.traces.event.Event.{Event}
+use Rattle.trace_model.specs.declared.traces.event.Op.TheVariants.{Fork}
+use Rattle.trace_model.specs.Theory.Trace.{Does}
 use Rattle.replay.specs.Verdict.{order_tests}
 use Rattle.replay.proofs.Verdicts.{follows_so, passes_more}
 use Rattle.replay.proofs.LastPlaces.{walked_empty, walked_next}

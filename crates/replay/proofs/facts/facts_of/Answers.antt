@@ -1,8 +1,8 @@
 use Rattle.std.proofs.Common.{length, ap, ◌∙◌}
 use Rattle.std.specs.List.{slice_get}
-use Rattle.trace_model.specs.Lookups.{writer}
-use Rattle.trace_model.proofs.OneMore.{length_well_formed}
-use Rattle.trace_model.specs.Held.{begun}
+use Rattle.trace_model.specs.Theory.Lookups.{writer}
+use Rattle.trace_model.proofs.Theory.OneMore.{length_well_formed}
+use Rattle.trace_model.specs.Theory.Held.{begun}
 use Rattle.replay.specs.Facts.{previous}
 use Rattle.replay.proofs.FactLists.{get-each}
 use Rattle.replay.proofs.facts.facts_of.Goals as goal

@@ -1,7 +1,7 @@
 use Rattle.std.proofs.Common.{get_or, sym, ◌∙◌}
 use Rattle.std.proofs.lemmas.Option.{slice_get-get_or}
-use Rattle.trace_model.specs.declared.event.Event.{Event}
-use Rattle.trace_model.specs.declared.event.Op.TheVariants.{Fork}
+use Rattle.trace_model.specs.declared.traces.event.Event.{Event}
+use Rattle.trace_model.specs.declared.traces.event.Op.TheVariants.{Fork}
 use Rattle.replay.specs.Facts.{previous}
 use Rattle.replay.proofs.FactLists.{each_more, thread_more, previous_is}
 use Rattle.replay.proofs.facts.previous_places.Goals as goal

@@ -1,6 +1,6 @@
 use Rattle.std.proofs.Common.{◌≡◌, ℕ, nat_eq}
 use Rattle.std.specs.HashMap.{get}
-use Rattle.trace_model.specs.Trace.{last_place}
+use Rattle.trace_model.specs.Theory.Trace.{last_place}
 use Rattle.replay.specs.Facts.{previous, is_of, each}
 use Rattle.replay.proofs.facts.previous_places.Given as goal
 

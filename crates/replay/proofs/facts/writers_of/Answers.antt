@@ -1,9 +1,9 @@
 use Rattle.std.proofs.Common.{get_or, nat_eq, ◌∙◌}
 use Rattle.std.specs.HashMap.{get}
 use Rattle.std.proofs.lemmas.Option.{slice_get-get_or}
-use Rattle.trace_model.specs.declared.event.Event.{Event}
-use Rattle.trace_model.specs.declared.event.Op.TheVariants.{Fork, Write}
-use Rattle.trace_model.specs.Lookups.{writer}
+use Rattle.trace_model.specs.declared.traces.event.Event.{Event}
+use Rattle.trace_model.specs.declared.traces.event.Op.TheVariants.{Fork, Write}
+use Rattle.trace_model.specs.Theory.Lookups.{writer}
 use Rattle.replay.proofs.FactLists.{each_more, does_more, writer_seen}
 use Rattle.replay.proofs.facts.writers_of.Goals as goal
 

@@ -1,8 +1,8 @@
 use Rattle.std.proofs.Common.{◌≡◌, ℕ, nat_eq}
 use Rattle.std.specs.HashMap.{get}
-use Rattle.trace_model.specs.declared.event.Op.TheVariants.{Write}
-use Rattle.trace_model.specs.Trace.{does, last_place}
-use Rattle.trace_model.specs.Lookups.{writer}
+use Rattle.trace_model.specs.declared.traces.event.Op.TheVariants.{Write}
+use Rattle.trace_model.specs.Theory.Trace.{does, last_place}
+use Rattle.trace_model.specs.Theory.Lookups.{writer}
 use Rattle.replay.specs.Facts.{each}
 use Rattle.replay.proofs.facts.writers_of.Given as goal
 

@@ -3,11 +3,11 @@ use Rattle.std.specs.HashMap.{get}
 use Rattle.std.specs.Map.{lookup}
 use Rattle.std.proofs.lemmas.Option.{slice_get-get_or}
 use Rattle.std.proofs.Math.ListN.{length-replicate}
-use Rattle.trace_model.specs.declared.event.Event.{Event}
-use Rattle.trace_model.specs.declared.event.Op.TheVariants.{Fork}
-use Rattle.trace_model.specs.Lookups.{release}
-use Rattle.trace_model.proofs.OneMore.{length_well_formed}
-use Rattle.trace_model.specs.Held.{begun}
+use Rattle.trace_model.specs.declared.traces.event.Event.{Event}
+use Rattle.trace_model.specs.declared.traces.event.Op.TheVariants.{Fork}
+use Rattle.trace_model.specs.Theory.Lookups.{release}
+use Rattle.trace_model.proofs.Theory.OneMore.{length_well_formed}
+use Rattle.trace_model.specs.Theory.Held.{begun}
 use Rattle.replay.specs.OpenSections.{open_after, ended_by, with_end}
 use Rattle.replay.proofs.FactLists.{each_more}
 use Rattle.replay.proofs.OpenSections.{blank_is, IsOpen, so_far, so_far_all, none_so_far, none_open, open_more, has_room, begun_seen, ended_so, ended_from, releases_more, length-with_end}

@@ -1,7 +1,7 @@
 use Rattle.std.proofs.Common.{◌≡◌, ℕ, ◌<◌, length, slice_get, nat_eq, Some}
 use Rattle.std.specs.HashMap.{get}
-use Rattle.trace_model.specs.Lookups.{release}
-use Rattle.trace_model.specs.Held.{begun}
+use Rattle.trace_model.specs.Theory.Lookups.{release}
+use Rattle.trace_model.specs.Theory.Held.{begun}
 use Rattle.replay.specs.Facts.{each}
 use Rattle.replay.proofs.OpenSections.{AreOpen, so_far}
 use Rattle.replay.proofs.sections.sections_of.Given as goal

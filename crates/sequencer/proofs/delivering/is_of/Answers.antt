@@ -2,8 +2,8 @@ use Rattle.std.proofs.Common.{◌≡◌, ℕ, ◌<◌, length, take, slice_get, 
 use Rattle.std.proofs.Math.Seq.{take-length}
 use Rattle.std.proofs.lemmas.List.{length-take-le}
 use Rattle.std.specs.Option.{option_eq}
-use Rattle.trace_model.specs.Machine.{same_event}
-use Rattle.trace_model.specs.Trace.{Trace}
+use Rattle.trace_model.specs.Protocol.Machine.{same_event}
+use Rattle.trace_model.specs.Theory.Trace.{Trace}
 use Rattle.trace_model.proofs.Lists.{get-take}
 use Rattle.sequencer.proofs.Told.{is_at, other_events, other_at, same_at, same_all}
 use Rattle.sequencer.proofs.delivering.is_of.Goals as goal

@@ -1,6 +1,6 @@
 use Rattle.std.proofs.Common.{ℕ, List, Ok, sym, ap, ◌∙◌, subst}
 use Rattle.std.proofs.lemmas.Result.{on_ok_weaker}
-use Rattle.trace_model.specs.declared.session.Request.{Request}
+use Rattle.trace_model.specs.declared.messages.session.Request.{Request}
 use Rattle.event_frames.specs.Reader.{Answers, Tells, HasRead}
 use Rattle.sequencer.proofs.Called.{steps_exactly}
 use Rattle.sequencer.proofs.Drained.{goes_on, stops, fails, frame_positive}
@@ -10,7 +10,7 @@ pub loop-request-smaller : goal.loop-request-smaller
 loop-request-smaller c =
     let r = c.in-Ok-Some.is ∙ ap Ok c.in-Ok-Some.field-0-is in
     let t = subst (λ x. Answers c.loop-request.reader x c.next.new.self) r c.next.ensures.answers in
-    frame_positive c.loop-request.reader.rest c.in-Ok-Some.request c.next.new.self.rest t.front
+    frame_positive c.loop-request.reader.rest c.in-Ok-Some.request c.next.new.self.rest t.leading
 
 pub loop-request-preserved : goal.loop-request-preserved
 loop-request-preserved c =

@@ -1,8 +1,8 @@
 use Rattle.std.proofs.Common.{refl, sym, subst}
-use Rattle.trace_model.specs.Machine.{State}
-use Rattle.trace_model.specs.Rows.{AreRows}
-use Rattle.trace_model.specs.Bounds.{StateFits}
-use Rattle.trace_model.proofs.Bounds.{opening_fits}
+use Rattle.trace_model.specs.Protocol.Machine.{State}
+use Rattle.trace_model.specs.Theory.Rows.{AreRows}
+use Rattle.trace_model.specs.Protocol.Bounds.{StateFits}
+use Rattle.trace_model.proofs.Protocol.Bounds.{opening_fits}
 use Rattle.sequencer.specs.Exact.{IsAlwaysExact}
 use Rattle.sequencer.specs.Played.{AreSent}
 use Rattle.sequencer.specs.Sessions.{actions}

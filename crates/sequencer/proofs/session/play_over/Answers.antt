@@ -1,5 +1,5 @@
 use Rattle.std.proofs.Common.{[], ap, subst, sym}
-use Rattle.trace_model.specs.Machine.{State}
+use Rattle.trace_model.specs.Protocol.Machine.{State}
 use Rattle.sequencer.specs.Drains.{IsPlayed}
 use Rattle.sequencer.proofs.Playing.{starts_played, all_sent}
 use Rattle.sequencer.proofs.session.play_over.Goals as goal

@@ -1,5 +1,5 @@
 use Rattle.std.proofs.Common.{◌≡◌, List, ◌++◌}
-use Rattle.trace_model.specs.Machine.{State}
+use Rattle.trace_model.specs.Protocol.Machine.{State}
 use Rattle.sequencer.specs.declared.input.Input.{Input}
 use Rattle.sequencer.specs.Drains.{IsPlayed}
 use Rattle.sequencer.proofs.session.take_all.Given as goal

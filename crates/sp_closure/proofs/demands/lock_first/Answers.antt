@@ -1,5 +1,5 @@
 use Rattle.std.proofs.Common.{◌≡◌, Some, ap, sym, ◌∙◌}
-use Rattle.trace_model.specs.Held.{begun}
+use Rattle.trace_model.specs.Theory.Held.{begun}
 use Rattle.trace_index.specs.Numbers.{acquire_before}
 use Rattle.sp_closure.specs.Slots.{class_of}
 use Rattle.sp_closure.proofs.FirstLemmas.{lock_first_none, lock_first_some, lock_first_never}

@@ -1,7 +1,7 @@
 use Rattle.std.proofs.Common.{◌≡◌, inl, inr, slice_get, Some, sym, ap, ◌∙◌, arith}
 use Rattle.std.proofs.lemmas.Bool.{cases_lt}
 use Rattle.std.proofs.lemmas.Option.{same_Some, slice_get-get_or, slice_get_within}
-use Rattle.trace_model.proofs.Ascending.{place_of}
+use Rattle.trace_model.proofs.Theory.Ascending.{place_of}
 use Rattle.sp_closure.proofs.fronts.greatest.Goals as goal
 
 pub loop-place-preserved : goal.loop-place-preserved

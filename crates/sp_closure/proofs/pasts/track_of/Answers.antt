@@ -2,11 +2,11 @@ use Rattle.std.proofs.Common.{inl, inr, [], ◌∷◌, length, slice_get, sym, a
 use Rattle.std.proofs.lemmas.List.{length-append}
 use Rattle.std.specs.List.{Contains}
 use Rattle.std.specs.List.Sorted.{IsStrictlyIncreasing}
-use Rattle.trace_model.proofs.Ascending.{contains_at}
+use Rattle.trace_model.proofs.Theory.Ascending.{contains_at}
 use Rattle.trace_model.proofs.Lists.{get-push}
 use Rattle.dependencies.proofs.Follow.{tables_number}
 use Rattle.sp_closure.specs.declared.tracks.Past.{Past}
-use Rattle.sp_closure.specs.Slots.{class_of}
+use Rattle.sp_closure.specs.Slots.{slots_of}
 use Rattle.sp_closure.proofs.PastLemmas.{IsMade, track_made}
 use Rattle.sp_closure.proofs.PointerLemmas.{number_in_trace}
 use Rattle.sp_closure.proofs.TableLemmas.{ArePlaces, table_places}
@@ -24,7 +24,7 @@ goal_before-goal-requires-clause-in_trace c =
 pub loop-entry-preserved : goal.loop-entry-preserved
 loop-entry-preserved c =
     let s = c.args.index.now.events in
-    let slots = class_of c.args.threads.now.of.items in
+    let slots = slots_of c.args.threads.now in
     let was = c.loop-entry.invariant in
     let first = c.first_member-first.result in
     let place = c.get-place.result in
@@ -56,5 +56,5 @@ returns c =
     let member = c.first_member-first.ensures.member in
     let are = subst (ArePlaces s m) (sym member.places)
     (table_places c.args.table.now s m c.requires.one_trace (subst IsStrictlyIncreasing member.places c.len-count.ensures.ascends)) in
-    track_made s (class_of c.args.threads.now.of.items) c.args.threads.now.count m first.places (record { slot = first.slot; pasts = c.loop-entry.pasts }) c.requires.slots are
+    track_made s (slots_of c.args.threads.now) c.args.threads.now.count m first.places (record { slot = first.slot; pasts = c.loop-entry.pasts }) c.requires.slots are
     (omega (arith, c.loop-entry.invariant.count, c.len-count.ensures.length)) c.loop-entry.invariant.made

@@ -1,11 +1,11 @@
 use Rattle.std.proofs.Common.{◌≡◌, ℕ, length, slice_get, Some}
 use Rattle.sp_closure.specs.declared.tracks.Past.{Past}
-use Rattle.sp_closure.specs.Slots.{class_of}
+use Rattle.sp_closure.specs.Slots.{slots_of}
 use Rattle.sp_closure.proofs.PastLemmas.{IsMade}
 use Rattle.sp_closure.proofs.pasts.track_of.Given as goal
 
 abbrev pub invariant-loop-entry : goal.invariant-loop-entry
 invariant-loop-entry l = record {
   count : length l.pasts.items ≡ l.entry;
-  made : (k : ℕ) (x : Past) → slice_get l.pasts.items k ≡ Some x → IsMade l.fn.index.events (class_of l.fn.threads.of.items) l.first.places l.first.slot k x;
+  made : (k : ℕ) (x : Past) → slice_get l.pasts.items k ≡ Some x → IsMade l.fn.index.events (slots_of l.fn.threads) l.first.places l.first.slot k x;
 }

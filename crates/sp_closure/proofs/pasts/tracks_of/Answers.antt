@@ -1,7 +1,7 @@
 use Rattle.std.proofs.Common.{inl, inr, [], ◌∷◌, length, slice_get, sym, ap, subst, ◌∙◌, arith}
 use Rattle.std.proofs.lemmas.List.{length-append}
 use Rattle.trace_model.proofs.Lists.{get-push}
-use Rattle.sp_closure.specs.Slots.{class_of}
+use Rattle.sp_closure.specs.Slots.{slots_of}
 use Rattle.sp_closure.specs.Pasts.{IsTrack}
 use Rattle.sp_closure.proofs.pasts.tracks_of.Goals as goal
 
@@ -10,7 +10,7 @@ loop-number-preserved c =
     let s = c.args.index.now.events in
     let was = c.loop-number.invariant in
     let fresh = c.in_ok-track.track in
-    let slots = class_of c.args.threads.now.of.items in
+    let slots = slots_of c.args.threads.now in
     record {
       count = omega (arith, ap length c.in_ok-push.ensures.items, length-append c.loop-number.tracks.items (fresh ∷ []), was.count);
       each = λ m track at. elim (get-push c.loop-number.tracks.items fresh m track (ap (λ xs. slice_get xs m) (sym c.in_ok-push.ensures.items) ∙ at)) [

@@ -1,5 +1,5 @@
 use Rattle.std.proofs.Common.{ap, ◌∙◌}
-use Rattle.trace_model.specs.Held.{begun}
+use Rattle.trace_model.specs.Theory.Held.{begun}
 use Rattle.trace_index.proofs.Shown.{begun_found, begun_none}
 use Rattle.trace_index.proofs.TraceIndex.begun.Goals as goal
 

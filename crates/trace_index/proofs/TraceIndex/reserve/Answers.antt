@@ -1,7 +1,7 @@
 use Rattle.std.proofs.lemmas.Option.{same_Some}
 use Rattle.std.proofs.Common.{◌≡◌, ◌*◌, length, refl, sym, ap, subst, ◌∙◌, w32, arith, ℕ, None}
 use Rattle.std.proofs.Math.Facts.{Fits-below}
-use Rattle.trace_model.specs.Trace.{Trace}
+use Rattle.trace_model.specs.Theory.Trace.{Trace}
 use Rattle.trace_index.specs.Depths.{depth_in, op_depth, HasOpEntry}
 use Rattle.trace_index.specs.Links.{trace_of, AreLatest}
 use Rattle.trace_index.specs.Marks.{AreAllMarks}

@@ -1,4 +1,4 @@
-use Rattle.trace_model.proofs.Confirmed.{confirmed_stays}
+use Rattle.trace_model.proofs.Theory.Confirmed.{confirmed_stays}
 use Rattle.trace_model.proofs.laws.confirmed_stays.Goals as goal
 
 pub returns : goal.returns

@@ -1,4 +1,4 @@
-use Rattle.trace_model.proofs.FormerTexts as former
+use Rattle.trace_model.proofs.Protocol.FormerTexts as former
 use Rattle.trace_model.proofs.laws.former_texts_keep.Goals as goal
 
 pub returns : goal.returns

@@ -1,7 +1,7 @@
-use Rattle.trace_model.specs.Rows.{AreRows, AreSound}
-use Rattle.trace_model.specs.RunLaws.{RunSplits}
-use Rattle.trace_model.specs.Runs.{Good}
-use Rattle.trace_model.proofs.Taking.{run_joins, run_parts, machine_steps, run_unique, status_shown, run_sound, run_legal}
+use Rattle.trace_model.specs.Theory.Rows.{AreRows, AreSound}
+use Rattle.trace_model.specs.Protocol.RunLaws.{RunSplits}
+use Rattle.trace_model.specs.Protocol.Runs.{Good}
+use Rattle.trace_model.proofs.Protocol.Taking.{run_joins, run_parts, machine_steps, run_unique, status_shown, run_sound, run_legal}
 use Rattle.trace_model.proofs.laws.runs_go_on.Goals as goal
 
 splits : (good : Good) → RunSplits good

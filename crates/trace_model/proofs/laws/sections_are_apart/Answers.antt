@@ -1,5 +1,5 @@
-use Rattle.trace_model.proofs.Sections.{released_between}
-use Rattle.trace_model.proofs.Lookups.{release_of_acquire}
+use Rattle.trace_model.proofs.Theory.Sections.{released_between}
+use Rattle.trace_model.proofs.Theory.Lookups.{release_of_acquire}
 use Rattle.trace_model.proofs.laws.sections_are_apart.Goals as goal
 
 pub returns-clause-own : goal.returns-clause-own

@@ -1,4 +1,4 @@
-use Rattle.trace_model.proofs.Lawful.{forked, fork_first, fork_once, join_after}
+use Rattle.trace_model.proofs.Theory.Lawful.{forked, fork_first, fork_once, join_after}
 use Rattle.trace_model.proofs.laws.threads_are_ordered.Goals as goal
 
 pub returns-clause-forked : goal.returns-clause-forked

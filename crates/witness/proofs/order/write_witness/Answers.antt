@@ -1,8 +1,8 @@
 use Rattle.std.proofs.Common.{◌≡◌, ℕ, zero, suc, ◌<◌, ◌≤◌, inl, inr, true, false, Bool, length, refl, sym, ap, subst, ◌∙◌, arith}
 use Rattle.std.proofs.lemmas.Bool.{cases_lt}
-use Rattle.trace_model.specs.Closure.{Places, ascending}
-use Rattle.trace_model.specs.Rows.{IsWitness}
-use Rattle.trace_model.proofs.Unique.{closure_witness}
+use Rattle.trace_model.specs.Theory.Closure.{Places, ascending}
+use Rattle.trace_model.specs.Theory.Rows.{IsWitness}
+use Rattle.trace_model.proofs.Theory.Unique.{closure_witness}
 use Rattle.sp_closure.specs.State.{places_in}
 use Rattle.witness.proofs.order.write_witness.Goals as goal
 

@@ -1,5 +1,5 @@
 use Rattle.std.proofs.Common.{◌≡◌}
-use Rattle.trace_model.specs.Closure.{ascending}
+use Rattle.trace_model.specs.Theory.Closure.{ascending}
 use Rattle.sp_closure.specs.State.{places_in}
 use Rattle.witness.proofs.order.write_witness.Given as goal
 

@@ -1,29 +1,33 @@
-use Rattle.std.proofs.Common.{refl, sym, ◌∙◌, arith}
-use Rattle.std.proofs.lemmas.List.Concat.{length-flat_map}
+use Rattle.std.proofs.Common.{[], arith}
+use Rattle.std.proofs.lemmas.Result.{err_from_is_err_and}
 use Rattle.witness.specs.Text.{is_confirmed}
-use Rattle.witness.proofs.Counting.{length-report, rows_within, confirmed_within, count_by-flat_map, over_rows, over_about, over_counts, spent}
+use Rattle.witness.proofs.Counting.{rows_within, confirmed_within, over_rows, over_about, over_counts, planned}
 use Rattle.witness.proofs.report.plan_of.Goals as goal
 
-pub returns-in_default : goal.returns-in_default
-returns-in_default c = over_rows _ _ _ _ _ (length-report c.args.question c.args.events c.args.bound (λ task. task.items) c.args.tasks.now _ _ refl refl) c.in_default.ensures
+pub returns-in_err-write_tasks : goal.returns-in_err-write_tasks
+returns-in_err-write_tasks c =
+    rw (err_from_is_err_and c.from_residual.result c.from_residual.ensures.1).1
+    (over_rows c.args.question c.args.events c.args.bound (λ task. task.items) c.args.tasks.now _ (c.in_err-write_tasks.ensures [] c.new-counter.ensures))
 
-pub returns-in_default-after_about : goal.returns-in_default-after_about
-returns-in_default-after_about c = over_about _ _ _ _ _ _ (length-report c.args.question c.args.events c.args.bound (λ task. task.items) c.args.tasks.now _ _ refl refl) c.in-Some.ensures c.in_default-after_about.ensures
+pub returns-in_err-write_about : goal.returns-in_err-write_about
+returns-in_err-write_about c =
+    rw (err_from_is_err_and c.from_residual-in_err-write_about.result c.from_residual-in_err-write_about.ensures.1).1
+    (over_about c.args.question c.args.events c.args.bound (λ task. task.items) c.args.tasks.now _
+    (c.in_err-write_about.ensures _ (c.in_ok-write_tasks.ensures [] c.new-counter.ensures)))
 
 pub count_rows-cycles-requires : goal.count_rows-cycles-requires
-count_rows-cycles-requires c = omega (arith, rows_within (λ task. task.items) c.args.tasks.now, c.in-Some.ensures)
+count_rows-cycles-requires c = omega (arith, rows_within (λ task. task.items) c.args.tasks.now, c.in_ok-write_tasks.ensures [] c.new-counter.ensures)
 
 pub count_confirmed-confirmed-requires : goal.count_confirmed-confirmed-requires
-count_confirmed-confirmed-requires c = omega (arith, confirmed_within is_confirmed (λ task. task.items) c.args.tasks.now, c.in-Some.ensures)
+count_confirmed-confirmed-requires c = omega (arith, confirmed_within is_confirmed (λ task. task.items) c.args.tasks.now, c.in_ok-write_tasks.ensures [] c.new-counter.ensures)
 
-pub returns-in_default-after_counts : goal.returns-in_default-after_counts
-returns-in_default-after_counts c =
-    let cycles = c.count_rows-cycles.ensures ∙ sym (length-flat_map (λ task. task.items) c.args.tasks.now) in
-    let confirmed = c.count_confirmed-confirmed.ensures ∙ sym (count_by-flat_map is_confirmed (λ task. task.items) c.args.tasks.now) in
-    over_counts _ _ _ _ _ _ _ (length-report c.args.question c.args.events c.args.bound (λ task. task.items) c.args.tasks.now _ _ cycles confirmed) c.in-Some.ensures c.in-Some-after_about.ensures c.in_default-after_counts.ensures
+pub returns-in_err-write_counts : goal.returns-in_err-write_counts
+returns-in_err-write_counts c =
+    rw (err_from_is_err_and c.from_residual-in_err-write_counts.result c.from_residual-in_err-write_counts.ensures.1).1
+    (over_counts c.args.question c.args.events c.args.bound (λ task. task.items) c.args.tasks.now _ _ _ c.count_rows-cycles.ensures c.count_confirmed-confirmed.ensures
+    (c.in_err-write_counts.ensures _ (c.in_ok-write_about.ensures _ (c.in_ok-write_tasks.ensures [] c.new-counter.ensures))))
 
 pub returns : goal.returns
 returns c =
-    let cycles = c.count_rows-cycles.ensures ∙ sym (length-flat_map (λ task. task.items) c.args.tasks.now) in
-    let confirmed = c.count_confirmed-confirmed.ensures ∙ sym (count_by-flat_map is_confirmed (λ task. task.items) c.args.tasks.now) in
-    ((spent _ _ _ _ _ _ _ _ (length-report c.args.question c.args.events c.args.bound (λ task. task.items) c.args.tasks.now _ _ cycles confirmed) c.in-Some.ensures c.in-Some-after_about.ensures c.in-Some-after_counts.ensures, cycles, confirmed), omega arith)
+    planned c.args.question c.args.events c.args.bound (λ task. task.items) c.args.tasks.now _ _ _ _ c.count_rows-cycles.ensures c.count_confirmed-confirmed.ensures
+    (c.in_ok-write_counts.ensures _ (c.in_ok-write_about.ensures _ (c.in_ok-write_tasks.ensures [] c.new-counter.ensures)))

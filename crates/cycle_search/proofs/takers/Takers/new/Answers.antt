@@ -1,6 +1,6 @@
 use Rattle.std.proofs.Common.{◌≤◌, length, map, subst, arith}
 use Rattle.std.proofs.lemmas.List.{take_all}
-use Rattle.trace_model.specs.Dependencies.{Dependency}
+use Rattle.trace_model.specs.Theory.Dependencies.{Dependency}
 use Rattle.dependencies.specs.Tables.{known}
 use Rattle.lock_graph.specs.Lists.{listed}
 use Rattle.lock_graph.specs.Graph.{IsGraphOf}

@@ -3,7 +3,7 @@ use Rattle.std.proofs.lemmas.Bool.{true≢false, cases_eq, ne_eqb}
 use Rattle.std.specs.List.{IsDistinct}
 use Rattle.std.specs.Map.{keys_of}
 use Rattle.indexmap.specs.IndexMap.{spare}
-use Rattle.trace_model.specs.Dependencies.{same_dependency}
+use Rattle.trace_model.specs.Theory.Dependencies.{same_dependency}
 use Rattle.dependencies.proofs.Shown.{inserted, take_past}
 use Rattle.dependencies.proofs.keys.Keys.add.Goals as goal
 

@@ -2,7 +2,7 @@ use Rattle.std.proofs.Common.{◌≡◌, ◌+◌, ◌++◌, ◌∷◌, [], suc, 
 use Rattle.std.specs.List.{IsDistinct}
 use Rattle.std.specs.Map.{keys_of}
 use Rattle.indexmap.proofs.MapLemmas.{distinct-take}
-use Rattle.trace_model.specs.Dependencies.{same_dependency}
+use Rattle.trace_model.specs.Theory.Dependencies.{same_dependency}
 use Rattle.dependencies.proofs.Shown.{take_next, dependencies_are}
 use Rattle.dependencies.proofs.keys.Keys.share.Goals as goal
 

@@ -1,5 +1,5 @@
 use Rattle.std.proofs.Common.{◌++◌, ◌∙◌}
-use Rattle.trace_model.specs.declared.step.BoardStep.TheVariants.{Open}
+use Rattle.trace_model.specs.declared.messages.step.BoardStep.TheVariants.{Open}
 use Rattle.desk.proofs.Steps.{kept_on, legal_next, takes_ask}
 use Rattle.desk.proofs.locked.Locked.ask.Goals as goal
 

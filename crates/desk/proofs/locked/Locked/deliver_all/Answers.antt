@@ -2,7 +2,7 @@ use Rattle.std.proofs.Common.{List, [], ◌∷◌, ◌++◌, length, sym, ap, su
 use Rattle.std.proofs.lemmas.List.{append-nil}
 use Rattle.findings.specs.Found.{FoundRows}
 use Rattle.sequencer.specs.Sessions.{Delivered}
-use Rattle.trace_model.specs.Runs.{IsLegal}
+use Rattle.trace_model.specs.Protocol.Runs.{IsLegal}
 use Rattle.desk.specs.Published.{After, Kept}
 use Rattle.desk.specs.Together.{AreOutcomes, taken_steps}
 use Rattle.desk.proofs.Steps.{legal_kept}

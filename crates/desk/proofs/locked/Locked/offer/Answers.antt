@@ -1,5 +1,5 @@
 use Rattle.std.proofs.Common.{[], ◌∷◌, ◌++◌, ap, ◌∙◌}
-use Rattle.trace_model.specs.declared.step.BoardStep.TheVariants.{Accept}
+use Rattle.trace_model.specs.declared.messages.step.BoardStep.TheVariants.{Accept}
 use Rattle.desk.proofs.Steps.{kept_on, legal_next, takes_offer}
 use Rattle.desk.proofs.locked.Locked.offer.Goals as goal
 

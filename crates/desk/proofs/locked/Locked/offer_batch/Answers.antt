@@ -1,6 +1,6 @@
 use Rattle.std.proofs.Common.{◌≡◌, [], ◌∷◌, ◌++◌, map, take, ap, subst, ◌∙◌}
-use Rattle.trace_model.specs.declared.step.BoardStep.TheVariants.{Accept}
-use Rattle.trace_model.specs.Machine.{State}
+use Rattle.trace_model.specs.declared.messages.step.BoardStep.TheVariants.{Accept}
+use Rattle.trace_model.specs.Protocol.Machine.{State}
 use Rattle.sequencer.specs.Batched.{IsBatched}
 use Rattle.board.specs.Fits.{kept}
 use Rattle.desk.proofs.Steps.{kept_on, legal_next, takes_batch}

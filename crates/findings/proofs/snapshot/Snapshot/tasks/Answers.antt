@@ -1,5 +1,5 @@
 use Rattle.std.proofs.Common.{length, ap, arith}
-use Rattle.trace_model.proofs.Bounds.{dependencies_few}
+use Rattle.trace_model.proofs.Protocol.Bounds.{dependencies_few}
 use Rattle.findings.proofs.snapshot.Snapshot.tasks.Goals as goal
 
 pub overflow_cast-result : goal.overflow_cast-result

@@ -1,7 +1,7 @@
 use Rattle.std.proofs.Common.{◌≡◌, ℕ, ◌<◌, ◌≤◌, ◌==◌, List, length, false, get_or, sym, ap, subst, ◌∙◌}
 use Rattle.std.specs.List.{list_any}
 use Rattle.std.specs.List.Sorted.{IsStrictlyIncreasing}
-use Rattle.trace_model.specs.Held.{with_lock}
+use Rattle.trace_model.specs.Theory.Held.{with_lock}
 use Rattle.held_sets.proofs.Locks.{insert_is_with, with_increases}
 use Rattle.held_sets.proofs.set.HeldSet.insert.Goals as goal
 

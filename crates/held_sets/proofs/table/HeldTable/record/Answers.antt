@@ -1,6 +1,6 @@
 use Rattle.std.proofs.Common.{◌≡◌, ◌<◌, [], length, nat_eq, unwrap_or, sym, ap, subst, ◌∙◌}
 use Rattle.std.specs.HashMap.{get}
-use Rattle.trace_model.specs.declared.event.Op.TheVariants.{Acquire}
+use Rattle.trace_model.specs.declared.traces.event.Op.TheVariants.{Acquire}
 use Rattle.trace_model.specs.declared.limits.TheConstants.{MAX_HELD, MAX_DEPTH}
 use Rattle.slots.proofs.Numbers.{written_at, no_value_gone}
 use Rattle.held_sets.specs.Tables.{locks_of, depth_of, holding_in, IsHeldAfter}

@@ -1,6 +1,6 @@
 use Rattle.std.proofs.Common.{[], nat_eq, unwrap_or, sym, ap, subst, ◌∙◌}
 use Rattle.std.specs.HashMap.{get}
-use Rattle.trace_model.specs.declared.event.Op.TheVariants.{Release}
+use Rattle.trace_model.specs.declared.traces.event.Op.TheVariants.{Release}
 use Rattle.slots.proofs.Numbers.{written_at, no_value_gone}
 use Rattle.held_sets.specs.Tables.{IsHeldAfter, IsAfter}
 use Rattle.held_sets.proofs.Written.{written, after_from, after_nothing}

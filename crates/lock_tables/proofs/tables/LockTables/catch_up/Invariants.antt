@@ -1,5 +1,5 @@
 use Rattle.std.proofs.Common.{◌-◌, length}
-use Rattle.trace_model.specs.Trace.{Trace}
+use Rattle.trace_model.specs.Theory.Trace.{Trace}
 use Rattle.dependencies.specs.Tables.{known}
 use Rattle.lock_tables.specs.Tables.{FollowTrace}
 use Rattle.lock_tables.proofs.tables.LockTables.catch_up.Given as goal

@@ -1,8 +1,8 @@
 use Rattle.std.proofs.Common.{◌≡◌, ◌≤◌, Option, length, take, sym, subst, ap, ◌∙◌, arith}
-use Rattle.trace_model.specs.Dependencies.{Dependency, dependency_of, with_new}
-use Rattle.trace_model.specs.Held.{held}
+use Rattle.trace_model.specs.Theory.Dependencies.{Dependency, dependency_of, with_new}
+use Rattle.trace_model.specs.Theory.Held.{held}
 use Rattle.trace_model.proofs.Lists.{length-push}
-use Rattle.trace_model.proofs.OneMore.{dependencies-push}
+use Rattle.trace_model.proofs.Theory.OneMore.{dependencies-push}
 use Rattle.dependencies.specs.Tables.{AllBelow, known}
 use Rattle.lock_graph.specs.Graph.{IsGraphOf}
 use Rattle.lock_tables.specs.Tables.{shared_holders}

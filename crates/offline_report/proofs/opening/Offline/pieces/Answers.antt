@@ -2,7 +2,7 @@ use Rattle.std.proofs.Common.{◌<◌, length, IfErr, ap, subst, sym, ◌∙◌}
 use Rattle.std.specs.Arc.{arc_value}
 use Rattle.std.proofs.lemmas.Result.{err_from_is_err_and}
 use Rattle.trace_model.specs.declared.limits.TheConstants.{MAX_REPORT}
-use Rattle.trace_model.specs.Lawful.{IsWellFormed}
+use Rattle.trace_model.specs.Theory.Lawful.{IsWellFormed}
 use Rattle.findings.specs.Found.{Asked}
 use Rattle.offline_report.specs.Offline.{IsNotComputed, IsRefused, IsReport, IsToldAs, tasks_report, whole}
 use Rattle.offline_report.specs.declared.refused.OfflineRefused.TheVariants.{TooLong}

@@ -1,7 +1,7 @@
 use Rattle.std.proofs.Common.{◌≡◌, sym, subst, ◌∙◌, ap}
-use Rattle.trace_model.specs.declared.session.Reply.{Reply}
-use Rattle.trace_model.specs.declared.session.Reply.TheVariants as replies
-use Rattle.trace_model.specs.declared.session.Request.TheVariants.{Batch}
+use Rattle.trace_model.specs.declared.messages.session.Reply.{Reply}
+use Rattle.trace_model.specs.declared.messages.session.Reply.TheVariants as replies
+use Rattle.trace_model.specs.declared.messages.session.Request.TheVariants.{Batch}
 use Rattle.sequencer.specs.declared.batching.Batched.{Batched}
 use Rattle.question_server.specs.Clients.{IsTold}
 use Rattle.question_server.proofs.Told.{told_batch}

@@ -1,4 +1,4 @@
-use Rattle.question_server.proofs.Held.{handed_on}
+use Rattle.question_server.proofs.Buffered.{handed_on}
 use Rattle.question_server.proofs.streams.WriteSink.hand_on.Goals as goal
 
 pub returns-in-Ok-clause-kept : goal.returns-in-Ok-clause-kept

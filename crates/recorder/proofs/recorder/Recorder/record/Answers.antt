@@ -1,7 +1,7 @@
 use Rattle.std.proofs.Common.{◌≡◌, None, ap, ◌∙◌}
 use Rattle.trace_model.specs.declared.limits.TheConstants.{MAX_EVENTS}
-use Rattle.trace_model.specs.Lawful.{refusal_of}
-use Rattle.trace_model.proofs.OneMore.{lawful_higher}
+use Rattle.trace_model.specs.Theory.Lawful.{refusal_of}
+use Rattle.trace_model.proofs.Theory.OneMore.{lawful_higher}
 use Rattle.wellformed.specs.Gate.{Admitted}
 use Rattle.recorder.proofs.recorder.Recorder.record.Goals as goal
 

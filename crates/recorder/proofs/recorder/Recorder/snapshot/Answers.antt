@@ -1,6 +1,6 @@
 use Rattle.std.proofs.Common.{◌≡◌, ◌≤◌, length, take, sym, ap, subst, ◌∙◌}
-use Rattle.trace_model.specs.Trace.{Trace}
-use Rattle.trace_model.specs.Dependencies.{dependencies}
+use Rattle.trace_model.specs.Theory.Trace.{Trace}
+use Rattle.trace_model.specs.Theory.Dependencies.{dependencies}
 use Rattle.wellformed.specs.Gate.{Admitted}
 use Rattle.lock_tables.specs.Tables.{ArePartsOf, CountsBelow}
 use Rattle.recorder.proofs.Beginnings.{dependencies_first}

@@ -10,7 +10,7 @@ returns-then-thread-ne0 c =
     let q = c.args.place in
     let e = c.event-thread.result in (
       λ h. (e.thread, (e.op, c.event-thread.ensures), (λ z. absurd (c.if-thread-ne0.true z)), c.misses_fork.ensures.0 h),
-      λ (u, o, z, n). c.misses_fork.ensures.1 (subst (NoForkIn s c.args.self.now.front.now) (sym (one_thread s q e u c.event-thread.ensures o)) n),
+      λ (u, o, z, n). c.misses_fork.ensures.1 (subst (NoForkIn s c.args.self.now.passed.now) (sym (one_thread s q e u c.event-thread.ensures o)) n),
     )
 
 pub returns-else-thread-ne0 : goal.returns-else-thread-ne0

@@ -2,8 +2,8 @@ use Rattle.std.proofs.Common.{Some, None, sym, subst, ◌∙◌}
 use Rattle.std.proofs.lemmas.Bool.{false≢true}
 use Rattle.std.proofs.lemmas.Option.{none-some, same_Some, slice_get_within}
 use Rattle.std.specs.List.{Contains}
-use Rattle.trace_model.specs.Lookups.{release}
-use Rattle.trace_model.proofs.Lookups.{release_so}
+use Rattle.trace_model.specs.Theory.Lookups.{release}
+use Rattle.trace_model.proofs.Theory.Lookups.{release_so}
 use Rattle.replay.proofs.Lists.{entry_is}
 use Rattle.replay.proofs.order_rules.Known.is_closed.Goals as goal
 
@@ -20,7 +20,7 @@ returns-in-Some c =
     let q = c.args.place in
     let is = entry_is c.deref.result.now k.facts.now.releases.items q (Some c.in-Some.release) (release k.trace.now q) c.deref.ensures.value c.in-Some.ensures (c.requires.known.0.releases q c.requires.in_trace) in (
       λ h. (c.in-Some.release, is, c.stands.ensures.0 h),
-      λ (r, e, m). c.stands.ensures.1 (subst (Contains k.front.now) (same_Some r c.in-Some.release (sym e ∙ is)) m),
+      λ (r, e, m). c.stands.ensures.1 (subst (Contains k.passed.now) (same_Some r c.in-Some.release (sym e ∙ is)) m),
     )
 
 pub returns-in-None : goal.returns-in-None

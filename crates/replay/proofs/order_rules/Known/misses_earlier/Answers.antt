@@ -17,11 +17,11 @@ returns-in-Some c =
     let k = c.args.self.now in
     let q = c.args.place in
     let is = entry_is c.deref.result.now k.facts.now.previous.items q (Some c.in-Some.previous) (previous k.trace.now q) c.deref.ensures.value c.in-Some.ensures (c.requires.known.0.previous q c.requires.in_trace) in
-    missed_earlier k.trace.now k.front.now c.requires.known.1.walked q c.in-Some.previous c.stands.result c.requires.in_trace is c.stands.ensures
+    missed_earlier k.trace.now k.passed.now c.requires.known.1.walked q c.in-Some.previous c.stands.result c.requires.in_trace is c.stands.ensures
 
 pub returns-in-None : goal.returns-in-None
 returns-in-None c =
     let k = c.args.self.now in
     let q = c.args.place in
     let is = entry_is c.deref.result.now k.facts.now.previous.items q None (previous k.trace.now q) c.deref.ensures.value c.in-None.ensures (c.requires.known.0.previous q c.requires.in_trace) in
-    (λ h. absurd (false≢true h), λ m. absurd (none_missed_earlier k.trace.now k.front.now q c.requires.in_trace is m))
+    (λ h. absurd (false≢true h), λ m. absurd (none_missed_earlier k.trace.now k.passed.now q c.requires.in_trace is m))

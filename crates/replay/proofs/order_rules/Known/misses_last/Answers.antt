@@ -1,6 +1,6 @@
 use Rattle.std.proofs.Common.{length, sym, ◌∙◌}
 use Rattle.std.proofs.lemmas.Bool.{false≢true}
-use Rattle.trace_model.proofs.Places.{last_place_some}
+use Rattle.trace_model.proofs.Theory.Places.{last_place_some}
 use Rattle.replay.specs.Facts.{is_of}
 use Rattle.replay.proofs.FactLists.{missed_by_last, none_missed}
 use Rattle.replay.proofs.order_rules.Known.misses_last.Goals as goal
@@ -13,10 +13,10 @@ stands-requires-clause-in_trace c =
 pub returns-in-Some : goal.returns-in-Some
 returns-in-Some c =
     let k = c.args.self.now in
-    missed_by_last k.trace.now k.front.now c.requires.1.walked c.args.thread (length k.trace.now) c.in-Some.place c.stands.result
+    missed_by_last k.trace.now k.passed.now c.requires.1.walked c.args.thread (length k.trace.now) c.in-Some.place c.stands.result
     (sym (c.in-Some.ensures ∙ c.requires.0.lasts c.args.thread)) c.stands.ensures
 
 pub returns-in-None : goal.returns-in-None
 returns-in-None c =
     let k = c.args.self.now in
-    (λ h. absurd (false≢true h), λ m. absurd (none_missed k.trace.now k.front.now c.args.thread (length k.trace.now) (sym (c.in-None.ensures ∙ c.requires.0.lasts c.args.thread)) m))
+    (λ h. absurd (false≢true h), λ m. absurd (none_missed k.trace.now k.passed.now c.args.thread (length k.trace.now) (sym (c.in-None.ensures ∙ c.requires.0.lasts c.args.thread)) m))

@@ -1,5 +1,5 @@
 use Rattle.std.proofs.Common.{◌≡◌, None, ap, ◌∙◌}
-use Rattle.trace_model.specs.Lawful.{refusal_of}
+use Rattle.trace_model.specs.Theory.Lawful.{refusal_of}
 use Rattle.sequencer.specs.Book.{Kept}
 use Rattle.sequencer.proofs.KeptOn.{kept_event}
 use Rattle.sequencer.proofs.book.Book.accept.Goals as goal

@@ -1,15 +1,15 @@
 use Rattle.std.proofs.Common.{◌≡◌, ◌≤◌, ◌++◌, ◌∷◌, [], None, Some, length, take, get_or, sym, ap, subst, ◌∙◌, arith, append_assoc}
 use Rattle.std.proofs.lemmas.List.{take_more}
 use Rattle.std.proofs.lemmas.Option.{get_or_from_slice_get, slice_get-get_or, slice_get_past}
-use Rattle.trace_model.specs.declared.event.Event.{Event}
-use Rattle.trace_model.specs.declared.event.Op.TheVariants.{Fork}
-use Rattle.trace_model.specs.Batches.{AreLawful}
-use Rattle.trace_model.specs.Lawful.{refusal_of}
-use Rattle.trace_model.specs.Machine.{State, with_event, with_events}
-use Rattle.trace_model.specs.Trace.{Trace}
+use Rattle.trace_model.specs.declared.traces.event.Event.{Event}
+use Rattle.trace_model.specs.declared.traces.event.Op.TheVariants.{Fork}
+use Rattle.trace_model.specs.Protocol.Batches.{AreLawful}
+use Rattle.trace_model.specs.Theory.Lawful.{refusal_of}
+use Rattle.trace_model.specs.Protocol.Machine.{State, with_event, with_events}
+use Rattle.trace_model.specs.Theory.Trace.{Trace}
 use Rattle.sequencer.specs.Batched.{EndsBatch}
 use Rattle.sequencer.specs.Book.{RefusesOffer}
-use Rattle.trace_model.proofs.Batches.{lawful_more, lawful_one}
+use Rattle.trace_model.proofs.Protocol.Batches.{lawful_more, lawful_one}
 use Rattle.sequencer.proofs.book.Book.accept_batch.Goals as goal
 
 -- an event of which nothing is asked

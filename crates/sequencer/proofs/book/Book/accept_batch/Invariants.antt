@@ -1,6 +1,6 @@
 use Rattle.std.proofs.Common.{◌≡◌, ◌≤◌, ◌-◌, length, take}
-use Rattle.trace_model.specs.Batches.{AreLawful}
-use Rattle.trace_model.specs.Machine.{with_events}
+use Rattle.trace_model.specs.Protocol.Batches.{AreLawful}
+use Rattle.trace_model.specs.Protocol.Machine.{with_events}
 use Rattle.sequencer.proofs.book.Book.accept_batch.Given as goal
 
 -- the events so far are accepted, each lawful after those before it

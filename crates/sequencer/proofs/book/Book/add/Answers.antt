@@ -1,5 +1,5 @@
 use Rattle.std.proofs.Common.{◌≡◌, [], ◌∷◌, ◌++◌, sym, ap, subst, ◌∙◌}
-use Rattle.trace_model.specs.Machine.{State, ask_refused, with_question}
+use Rattle.trace_model.specs.Protocol.Machine.{State, ask_refused, with_question}
 use Rattle.sequencer.specs.Asked.{Told}
 use Rattle.sequencer.specs.Book.{Kept, IsKept, fresh, state_of}
 use Rattle.sequencer.proofs.KeptOn.{kept_question, with_fresh}

@@ -1,11 +1,11 @@
 use Rattle.std.proofs.Common.{◌≡◌, ◌<◌, ℕ, List, length, inl, inr, Err, refl, sym, ap, subst, ◌∙◌}
 use Rattle.std.specs.List.{flat_map}
 use Rattle.trace_model.specs.declared.limits.TheConstants.{MAX_REPORT}
-use Rattle.trace_model.specs.declared.session.Reply.TheVariants.{Report}
+use Rattle.trace_model.specs.declared.messages.session.Reply.TheVariants.{Report}
 use Rattle.witness.specs.Text.{report}
 use Rattle.sequencer.specs.Book.{IsAccepted, TakesMemory}
 use Rattle.sequencer.specs.Printing.{printing}
-use Rattle.trace_model.specs.Machine.{answer}
+use Rattle.trace_model.specs.Protocol.Machine.{answer}
 use Rattle.witness.specs.declared.report.TextRefused.{TextRefused}
 use Rattle.witness.specs.declared.report.TextRefused.TheVariants as refusals
 use Rattle.sequencer.proofs.Told.{pending, reported, short_report, long_report, not_long, not_too_long, text_not_refused}
@@ -22,8 +22,8 @@ returns-in-Ok-clause-ok c =
     let tasks = c.in-Some-settled.tasks.now in
     let s = c.args.self.now.state in
     let text = report c.args.question told.length told.bound (flat_map (λ task. task.items) tasks) in
-    let counted : report c.args.question c.events.result c.bound.result (flat_map (λ task. task.items) tasks) ≡ text =
-    λ i. report c.args.question (c.events.ensures i) (c.bound.ensures i) (flat_map (λ task. task.items) tasks) in
+    let counted : report c.args.question c.length.result c.bound.result (flat_map (λ task. task.items) tasks) ≡ text =
+    λ i. report c.args.question (c.length.ensures i) (c.bound.ensures i) (flat_map (λ task. task.items) tasks) in
     let short = not_long (length text) (λ l. text_not_refused c.in-Ok.text refusals.TooLong (c.in-Ok.ensures.too_long.1 (subst (λ t. MAX_REPORT < length t) (sym counted) l))) in
     let told_is = reported (λ task. task.items) s c.args.question told tasks (sym c.in-Some.ensures.value) c.in-Some-settled.ensures c.in-Some.ensures.named in
     short_report c.args.question text (answer printing s c.args.question) short told_is ∙ ap (Report c.args.question) (sym (c.from_vec.ensures ∙ (c.in-Ok.ensures.text ∙ counted)))
@@ -34,8 +34,8 @@ returns-in-Err-TooLong-clause-refused c =
     let tasks = c.in-Some-settled.tasks.now in
     let s = c.args.self.now.state in
     let text = report c.args.question told.length told.bound (flat_map (λ task. task.items) tasks) in
-    let counted : report c.args.question c.events.result c.bound.result (flat_map (λ task. task.items) tasks) ≡ text =
-    λ i. report c.args.question (c.events.ensures i) (c.bound.ensures i) (flat_map (λ task. task.items) tasks) in
+    let counted : report c.args.question c.length.result c.bound.result (flat_map (λ task. task.items) tasks) ≡ text =
+    λ i. report c.args.question (c.length.ensures i) (c.bound.ensures i) (flat_map (λ task. task.items) tasks) in
     let long : MAX_REPORT < length text = subst (λ t. MAX_REPORT < length t) counted (c.in-Err-TooLong.ensures.too_long.0 (ap (λ (r : TextRefused). Err r) c.in-Err-TooLong.field-0-is)) in
     let told_is = reported (λ task. task.items) s c.args.question told tasks (sym c.in-Some.ensures.value) c.in-Some-settled.ensures c.in-Some.ensures.named in
     inl (long_report c.args.question text (answer printing s c.args.question) long told_is)
@@ -47,8 +47,8 @@ printed c =
     let tasks = c.in-Some-settled.tasks.now in
     let s = c.args.self.now.state in
     let text = report c.args.question told.length told.bound (flat_map (λ task. task.items) tasks) in
-    let counted : report c.args.question c.events.result c.bound.result (flat_map (λ task. task.items) tasks) ≡ text =
-    λ i. report c.args.question (c.events.ensures i) (c.bound.ensures i) (flat_map (λ task. task.items) tasks) in
+    let counted : report c.args.question c.length.result c.bound.result (flat_map (λ task. task.items) tasks) ≡ text =
+    λ i. report c.args.question (c.length.ensures i) (c.bound.ensures i) (flat_map (λ task. task.items) tasks) in
     let short = not_long (length text) (λ l. not_too_long (sym (ap (λ (r : TextRefused). Err r) c.in-Err-NoMemory.field-0-is) ∙ c.in-Err-NoMemory.ensures.too_long.1 (subst (λ t. MAX_REPORT < length t) (sym counted) l))) in
     let told_is = reported (λ task. task.items) s c.args.question told tasks (sym c.in-Some.ensures.value) c.in-Some-settled.ensures c.in-Some.ensures.named in
     (text, short_report c.args.question text (answer printing s c.args.question) short told_is)

@@ -1,7 +1,7 @@
 use Rattle.std.proofs.Common.{◌≡◌, ◌≤◌, length, take, ap, subst, IfSome}
 use Rattle.std.specs.Slice.{IsItemAt}
-use Rattle.trace_model.specs.Trace.{Trace}
-use Rattle.trace_model.specs.Dependencies.{dependencies}
+use Rattle.trace_model.specs.Theory.Trace.{Trace}
+use Rattle.trace_model.specs.Theory.Dependencies.{dependencies}
 use Rattle.sequencer.specs.Asked.{TellsNamed}
 use Rattle.sequencer.specs.Book.{Kept}
 use Rattle.sequencer.proofs.KeptOn.{lent_within, lent_named, lent_total}

@@ -1,8 +1,8 @@
 use Rattle.std.proofs.Common.{◌≡◌, inl, sym, ap, subst, ◌∙◌}
-use Rattle.trace_model.specs.declared.session.Reply.{Reply}
-use Rattle.trace_model.specs.declared.session.Request.{Request}
-use Rattle.trace_model.specs.declared.session.Request.TheVariants.{Batch}
-use Rattle.trace_model.specs.Machine.{State, step}
+use Rattle.trace_model.specs.declared.messages.session.Reply.{Reply}
+use Rattle.trace_model.specs.declared.messages.session.Request.{Request}
+use Rattle.trace_model.specs.declared.messages.session.Request.TheVariants.{Batch}
+use Rattle.trace_model.specs.Protocol.Machine.{State, step}
 use Rattle.sequencer.specs.Called.{StepsOrMemory}
 use Rattle.sequencer.specs.Printing.{printing}
 use Rattle.sequencer.proofs.Called.{batch_steps, exact_steps, is_single, refused_rightly, refused_steps}

@@ -1,8 +1,8 @@
 use Rattle.std.proofs.Common.{◌≡◌, sym, ap, ◌∙◌}
-use Rattle.trace_model.specs.Machine.{step}
-use Rattle.trace_model.specs.declared.session.Request.{Request}
-use Rattle.trace_model.specs.declared.session.Request.TheVariants.{Offer}
-use Rattle.trace_model.specs.declared.session.Reply.{Reply}
+use Rattle.trace_model.specs.Protocol.Machine.{step}
+use Rattle.trace_model.specs.declared.messages.session.Request.{Request}
+use Rattle.trace_model.specs.declared.messages.session.Request.TheVariants.{Offer}
+use Rattle.trace_model.specs.declared.messages.session.Reply.{Reply}
 use Rattle.sequencer.specs.Book.{Planned, request_of}
 use Rattle.sequencer.specs.Printing.{printing}
 use Rattle.sequencer.proofs.Told.{accepted_offer, taken_offer}

@@ -1,7 +1,7 @@
 use Rattle.std.proofs.Common.{length, ap, arith}
-use Rattle.trace_model.specs.Trace.{Trace}
-use Rattle.trace_model.specs.Dependencies.{dependencies}
-use Rattle.trace_model.proofs.Bounds.{dependencies_few}
+use Rattle.trace_model.specs.Theory.Trace.{Trace}
+use Rattle.trace_model.specs.Theory.Dependencies.{dependencies}
+use Rattle.trace_model.proofs.Protocol.Bounds.{dependencies_few}
 use Rattle.sequencer.proofs.book.Book.grow.Goals as goal
 
 pub overflow_cast-total : goal.overflow_cast-total

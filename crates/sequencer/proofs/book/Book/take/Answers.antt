@@ -1,5 +1,5 @@
 use Rattle.std.proofs.Common.{◌≡◌, slice_set, None, sym, ap, subst, ◌∙◌}
-use Rattle.trace_model.specs.Machine.{deliver, deliver_refused}
+use Rattle.trace_model.specs.Protocol.Machine.{deliver, deliver_refused}
 use Rattle.sequencer.specs.Book.{Kept, IsKept, state_of, findings_rows}
 use Rattle.sequencer.proofs.KeptOn.{few_cycles, own_question, kept_told, told_state, told_with}
 use Rattle.sequencer.proofs.book.Book.take.Goals as goal

@@ -3,7 +3,7 @@ use Rattle.std.proofs.Math.ListN.{length-set}
 use Rattle.sp_closure.proofs.EnterLemmas.{written}
 use Rattle.sp_closure.specs.declared.demands.Demands.{Demands}
 use Rattle.sp_closure.specs.declared.demands.Goal.{Goal}
-use Rattle.sp_closure.specs.Slots.{class_of, HasFirst}
+use Rattle.sp_closure.specs.Slots.{slots_of, HasFirst}
 use Rattle.sp_closure.specs.Pasts.{AreTracks, HasGoal, PutsAt}
 use Rattle.sp_closure.proofs.PastLemmas.{tracks_put}
 use Rattle.sp_closure.proofs.closer.Closer.fill.Goals as goal
@@ -11,21 +11,24 @@ use Rattle.sp_closure.proofs.closer.Closer.fill.Goals as goal
 pub past_of-requires-clause-reach : goal.past_of-requires-clause-reach
 past_of-requires-clause-reach g c =
     let s = c.args.index.now.events in
-    let slots = class_of c.args.self.now.demands.threads.of.items in
+    let slots = slots_of c.args.self.now.demands.threads in
     let has = subst (λ xs. HasGoal xs c.args.at c.in-Some.goal) c.as_slice.ensures.value c.in-Some.ensures in
     subst (λ (z : Goal). HasFirst s slots z.slot z.count) (sym has.is)
-    ((c.requires.tracks c.args.at.number has.track has.track_at).reach c.args.at.entry has.past has.past_at)
+    ((c.requires.filling.tracks c.args.at.number has.track has.track_at).reach c.args.at.entry has.past has.past_at)
 
-pub returns-clause-tracks : goal.returns-clause-tracks
-returns-clause-tracks g c =
+pub returns-clause-filling : goal.returns-clause-filling
+returns-clause-filling g c =
     let s = c.args.index.now.events in
     let tracks = c.args.tracks.now.items in
     let d = c.past_of.new.self.demands in
-    let slots = class_of d.threads.of.items in
+    let slots = slots_of d.threads in
     let has = subst (λ xs. HasGoal xs c.args.at c.in-Some.goal) c.as_slice.ensures.value c.in-Some.ensures in
-    let are = subst (λ (e : Demands). AreTracks s (class_of e.threads.of.items) tracks) (sym c.past_of.ensures.slots) c.requires.tracks in
+    let are = subst (λ (e : Demands). AreTracks s (slots_of e.threads) tracks) (sym c.past_of.ensures.slots) c.requires.filling.tracks in
     let puts = subst (λ xs. PutsAt xs c.args.at c.in_ok-fronts.fronts c.put_at.new.tracks) c.as_mut_slice.ensures.value c.put_at.ensures in
     let same = ap length puts.put ∙ length-set tracks c.args.at.number puts.other in
     let back = written c.args.tracks.now.len c.put_at.new.tracks _ (c.args.tracks.now.ok.0 ∙ sym same) in
-    subst (AreTracks s slots) (sym back)
-    (tracks_put s slots tracks c.put_at.new.tracks c.args.at c.in-Some.goal c.in_ok-fronts.fronts are has c.in_ok-fronts.ensures.past puts)
+    record {
+      closer = c.past_of.ensures.closer;
+      tracks = subst (AreTracks s slots) (sym back)
+          (tracks_put s slots tracks c.put_at.new.tracks c.args.at c.in-Some.goal c.in_ok-fronts.fronts are has c.in_ok-fronts.ensures.past puts);
+    }

@@ -2,17 +2,17 @@ use Rattle.std.proofs.Common.{sym, ap, subst}
 use Rattle.sp_closure.specs.declared.closer.Closer.{Closer}
 use Rattle.sp_closure.specs.declared.demands.Demands.{Demands}
 use Rattle.sp_closure.specs.Layers.{front_of}
-use Rattle.sp_closure.specs.Slots.{class_of, HasFirst}
+use Rattle.sp_closure.specs.Slots.{slots_of, HasFirst}
 use Rattle.sp_closure.proofs.PastLemmas.{fronts_within}
 use Rattle.sp_closure.proofs.closer.Closer.past_of.Goals as goal
 
 pub base_on-requires-clause-reach : goal.base_on-requires-clause-reach
 base_on-requires-clause-reach g c =
-    subst (λ (d : Demands). HasFirst c.args.index.now.events (class_of d.threads.of.items) c.args.goal.slot c.args.goal.count)
+    subst (λ (d : Demands). HasFirst c.args.index.now.events (slots_of d.threads) c.args.goal.slot c.args.goal.count)
     (sym (ap (λ (z : Closer). z.demands) c.turn_to.ensures.same)) c.requires.reach
 
 pub returns-clause-past : goal.returns-clause-past
 returns-clause-past g c =
     let z = c.base_on.new.self in
-    fronts_within c.args.index.now.events (class_of z.demands.threads.of.items) c.args.goal c.fronts_of.result (front_of z.none z.base.layer) c.fronts_of.ensures
+    fronts_within c.args.index.now.events (slots_of z.demands.threads) c.args.goal c.fronts_of.result (front_of z.none z.base.layer) c.fronts_of.ensures
     c.in_ok-base_on.ensures.base.least

@@ -1,5 +1,5 @@
-use Rattle.std.proofs.Common.{Bool, Option, Some, None, MatchOption, get_or, sym, subst}
-use Rattle.sp_closure.specs.Pasts.{AllFrom, NoneStops}
+use Rattle.std.proofs.Common.{Some, None, get_or, sym, subst}
+use Rattle.sp_closure.specs.Pasts.{StayFrom}
 use Rattle.std.proofs.lemmas.Option.{slice_get-get_or}
 use Rattle.sp_closure.proofs.TrackLemmas.{one_moved}
 use Rattle.sp_closure.proofs.tracks.Pasts.move_one.Goals as goal
@@ -10,7 +10,7 @@ returns-in_err-entry-clause-from c =
     let es = c.args.entries.now in
     let i = c.args.i in
     let j = c.args.j in
-    subst (λ (r : Option Bool). MatchOption r (NoneStops c.args.self.now xs) (λ went. AllFrom c.args.self.now xs es)) (sym c.from_residual.ensures)
+    subst (StayFrom c.args.self.now xs es) (sym c.from_residual.ensures)
     (one_moved c.args.self.now xs es i j (get_or xs i 0) (get_or xs j 0) (get_or es i 0) (get_or es j 0) None
     (slice_get-get_or xs i 0 c.requires.by.0) (slice_get-get_or es i 0 c.requires.by.1)
     (slice_get-get_or xs j 0 c.requires.of.0) (slice_get-get_or es j 0 c.requires.of.1) c.requires.from c.in_err-entry.ensures)

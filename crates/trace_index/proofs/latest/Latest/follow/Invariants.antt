@@ -1,5 +1,5 @@
 use Rattle.std.proofs.Common.{◌≡◌, ◌≤◌, ◌*◌, length}
-use Rattle.trace_model.specs.Trace.{Trace}
+use Rattle.trace_model.specs.Theory.Trace.{Trace}
 use Rattle.trace_index.specs.Links.{AreLatest}
 use Rattle.trace_index.specs.Marks.{AreSealed}
 use Rattle.trace_index.proofs.latest.Latest.follow.Given as goal

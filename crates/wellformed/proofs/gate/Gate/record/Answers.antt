@@ -1,6 +1,6 @@
 use Rattle.std.proofs.Common.{arith}
 use Rattle.trace_model.proofs.Lists.{length-push}
-use Rattle.trace_model.proofs.OneMore.{lawful_higher, lawful_room}
+use Rattle.trace_model.proofs.Theory.OneMore.{lawful_higher, lawful_room}
 use Rattle.wellformed.proofs.gate.Gate.record.Goals as goal
 
 pub record-requires-clause-lawful : goal.record-requires-clause-lawful

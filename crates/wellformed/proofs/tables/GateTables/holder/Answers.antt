@@ -1,6 +1,6 @@
 use Rattle.std.proofs.Common.{ap, sym, ◌∙◌}
-use Rattle.trace_model.specs.Holders.{depth_by, is_other_owner}
-use Rattle.trace_model.proofs.Owners.{depth-owner, held_by_other-owner}
+use Rattle.trace_model.specs.Theory.Holders.{depth_by, is_other_owner}
+use Rattle.trace_model.proofs.Theory.Owners.{depth-owner, held_by_other-owner}
 use Rattle.wellformed.proofs.tables.GateTables.holder.Goals as goal
 
 pub returns-clause-depth : goal.returns-clause-depth

@@ -1,5 +1,5 @@
 use Rattle.std.proofs.Common.{refl}
-use Rattle.trace_model.proofs.Growing.{well_formed_nil}
+use Rattle.trace_model.proofs.Theory.Growing.{well_formed_nil}
 use Rattle.wellformed.proofs.TableSteps.{tables-none}
 use Rattle.wellformed.proofs.tables.GateTables.new.Goals as goal
 

@@ -1,13 +1,13 @@
 use Rattle.std.proofs.Common.{◌≡◌, ap, subst, sym, ◌∙◌, ◌<◌, length, None, arith}
 use Rattle.trace_model.specs.declared.limits.TheConstants.{MAX_DEPTH}
-use Rattle.trace_model.specs.Holders.{owned}
-use Rattle.trace_model.specs.Lawful.{op_refusal_of}
+use Rattle.trace_model.specs.Theory.Holders.{owned}
+use Rattle.trace_model.specs.Theory.Lawful.{op_refusal_of}
 use Rattle.wellformed.specs.Owners.{op_owner}
 use Rattle.wellformed.specs.Threads.{thread_in, thread_after}
-use Rattle.trace_model.proofs.Depths.{held_shallow}
-use Rattle.trace_model.proofs.Growing.{well_formed_push}
+use Rattle.trace_model.proofs.Theory.Depths.{held_shallow}
+use Rattle.trace_model.proofs.Theory.Growing.{well_formed_push}
 use Rattle.trace_model.proofs.Lists.{length-push}
-use Rattle.trace_model.proofs.OneMore.{lawful_op}
+use Rattle.trace_model.proofs.Theory.OneMore.{lawful_op}
 use Rattle.wellformed.proofs.TableSteps.{acquire_room, tables-push}
 use Rattle.wellformed.proofs.tables.GateTables.record.Goals as goal
 

@@ -1,4 +1,0 @@
-use Rattle.desk_tests.proofs.eight_threads.eight_threads.Given as goal
-
-abbrev pub ghosts-offers_of_eight : goal.ghosts-offers_of_eight
-ghosts-offers_of_eight g a = record { book = a.opened.seen.book; limit = a.limit }

@@ -1,0 +1,13 @@
+-- What stands first, by how many bytes it takes.
+use Rattle.std.specs.Prelude.{◌≡◌, ℕ, ◌≤◌, List, length, drop, ◌++◌, Option, Some, None, Result, Ok, Err}
+use Rattle.trace_model.specs.declared.messages.session.Request.{Request}
+use Rattle.trace_model.specs.declared.messages.session.Fault.{Fault}
+use Rattle.trace_model.specs.Protocol.Frames.{frame, IsRequest, leading_of}
+
+-- what stands first: a fault, nothing whole, or a request and how many bytes its frame takes
+abbrev pub IsLeading : List ℕ → Result (Option (Request × ℕ)) Fault → Type 0
+IsLeading bytes (Err fault) = leading_of bytes ≡ Err fault
+IsLeading bytes (Ok None) = leading_of bytes ≡ Ok None
+IsLeading bytes (Ok (Some found)) = IsRequest found.0
+    × (bytes ≡ frame found.0 ++ drop found.1 bytes)
+    × (found.1 ≤ length bytes)

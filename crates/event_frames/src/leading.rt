@@ -1,0 +1,111 @@
+//! What stands first in the bytes of a session.
+ghost use Rattle.std.specs.Prelude.{◌≡◌, ◌+◌, ◌≤◌, length, true, None};
+ghost use Rattle.trace_model.specs.Protocol.Frames.{fields_fault, header_fault, is_kind, is_length_of, request_of};
+ghost use Rattle.event_frames.specs.Leading.{IsLeading};
+
+use crate::cells::{batch_fault, op_of, read_batch, word};
+use trace_model::{Event, Fault, Request};
+
+fn is_kind(kind: u8) -> bool
+    ensures { result ≡ is_kind kind }
+{
+    1 <= kind && kind <= 10
+}
+
+/// Whether a body of this kind may have this length.
+fn is_length_of(kind: u8, len: u16) -> bool
+    requires { is_kind kind ≡ true }
+    ensures { result ≡ is_length_of kind len }
+{
+    match kind {
+        1..=6 => len == 9,
+        7 => len == 2,
+        8 | 9 => len == 5,
+        _ => 11 <= len && len <= 578 && len % 9 == 2,
+    }
+}
+
+/// The fault of the fields of this kind that are there already, by the length of the body.
+fn fields_fault(kind: u8, len: u16, fields: &[u8]) -> Option<Fault>
+    ensures { result ≡ fields_fault kind len fields.now }
+{
+    if kind == 10 {
+        batch_fault(usize::from(len / 9), fields)
+    } else {
+        None
+    }
+}
+
+/// The fault that the bytes show already, whatever follows them.
+#[tactic(auto, unfolding(trace_model::specs::Protocol::Frames::header_fault))]
+fn header_fault(bytes: &[u8]) -> Option<Fault>
+    ensures { result ≡ header_fault bytes.now }
+{
+    match bytes {
+        [] => None,
+        [_] => None,
+        [high, low] => {
+            if u16::from_be_bytes([*high, *low]) == 0 {
+                Some(Fault::BadLength)
+            } else {
+                None
+            }
+        }
+        [high, low, kind, fields @ ..] => {
+            let len = u16::from_be_bytes([*high, *low]);
+            if len == 0 {
+                return Some(Fault::BadLength);
+            }
+            if !is_kind(*kind) {
+                return Some(Fault::BadKind);
+            }
+            if !is_length_of(*kind, len) {
+                return Some(Fault::BadLength);
+            }
+            fields_fault(*kind, len, fields)
+        }
+    }
+}
+
+/// The request of this kind whose fields are the first of these bytes, by the length of its body.
+#[tactic(auto, unfolding(trace_model::specs::Protocol::Frames::request_of))]
+fn request_of(kind: u8, len: u16, fields: &[u8]) -> Request
+    requires kind { is_kind kind ≡ true }
+    requires right { is_length_of kind len ≡ true }
+    requires sound { fields_fault kind len fields.now ≡ None }
+    requires whole { len ≤ length fields.now + 1 }
+    ensures { result ≡ request_of kind fields.now }
+{
+    match kind {
+        1..=6 => Request::Offer(Event {
+            thread: word(fields),
+            op: op_of(kind, word(&fields[4..])),
+        }),
+        7 => Request::Ask(fields[0]),
+        8 => Request::Answer(word(fields)),
+        9 => Request::Status(word(fields)),
+        _ => Request::Batch(read_batch(usize::from(fields[0]), &fields[1..])),
+    }
+}
+
+/// A fault, nothing whole, or a request and how many bytes its frame takes.
+///
+/// # Errors
+///
+/// The fault that the bytes show, whatever comes after them.
+#[tactic(auto, unfolding(trace_model::specs::Protocol::Frames::leading_of, trace_model::specs::Protocol::Frames::whole_frame))]
+pub fn leading(bytes: &[u8]) -> Result<Option<(Request, usize)>, Fault>
+    ensures { IsLeading bytes.now result }
+{
+    if let Some(fault) = header_fault(bytes) {
+        return Err(fault);
+    }
+    let [high, low, kind, fields @ ..] = bytes else {
+        return Ok(None);
+    };
+    let len = u16::from_be_bytes([*high, *low]);
+    if fields.len() + 1 < usize::from(len) {
+        return Ok(None);
+    }
+    Ok(Some((request_of(*kind, len, fields), usize::from(len) + 2)))
+}

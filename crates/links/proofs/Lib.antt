@@ -1,0 +1,3 @@
+pub mod Counting
+pub mod Links
+pub mod Lists

@@ -1,0 +1,24 @@
+-- Lemmas of traces.
+pub mod Places
+pub mod Held
+pub mod HeldAscends
+pub mod Begun
+pub mod Prefix
+pub mod Lawful
+pub mod Sections
+pub mod Lookups
+pub mod Ascending
+pub mod Growing
+pub mod Existence
+pub mod Stability
+pub mod Least
+pub mod Pointers
+pub mod Walk
+pub mod Dependencies
+pub mod OneMore
+pub mod Owners
+pub mod Depths
+pub mod Deadlock
+pub mod Unique
+pub mod Confirmed
+pub mod Computed

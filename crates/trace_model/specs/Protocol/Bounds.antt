@@ -1,0 +1,47 @@
+-- What is so of every state after a run, and how great its numbers can be.
+use Rattle.std.specs.Prelude.{◌≡◌, ℕ, ◌*◌, ◌≤◌, List, length, take, slice_get, Some}
+use Rattle.trace_model.specs.declared.limits.TheConstants.{MAX_EVENTS, MAX_QUESTIONS, MAX_CYCLES, MIN_BOUND, MAX_BOUND}
+use Rattle.trace_model.specs.declared.messages.step.BoardStep.{BoardStep}
+use Rattle.trace_model.specs.Theory.Trace.{Trace}
+use Rattle.trace_model.specs.Theory.Lawful.{IsWellFormed}
+use Rattle.trace_model.specs.Theory.Dependencies.{dependencies}
+use Rattle.trace_model.specs.Theory.Rows.{Row}
+use Rattle.trace_model.specs.Protocol.Machine.{Question, State, opening}
+use Rattle.trace_model.specs.Protocol.Runs.{Good, IsRun, Shown, Summary, summary}
+
+-- a question about a beginning of the trace
+pub record QuestionFits (good : Good) (s : Trace) (q : Question) : Type 0 where
+  pub within : q.length ≤ length s
+  pub at_least : MIN_BOUND ≤ q.bound
+  pub at_most : q.bound ≤ MAX_BOUND
+  pub total : length q.tasks ≡ length (dependencies (take q.length s))
+  pub told : (task : ℕ) (rows : List Row) → slice_get q.tasks task ≡ Some (Some rows) →
+      good (take q.length s) q.bound task rows × (length rows ≤ MAX_CYCLES)
+
+pub record StateFits (good : Good) (s : State) : Type 0 where
+  pub limit : s.limit ≤ MAX_EVENTS
+  pub well_formed : IsWellFormed s.accepted
+  pub within : length s.accepted ≤ s.limit
+  pub few : length s.questions ≤ MAX_QUESTIONS
+  pub each : (k : ℕ) (q : Question) → slice_get s.questions k ≡ Some q →
+      QuestionFits good s.accepted q
+
+pub record ShownFits (b : Summary) (shown : Shown) : Type 0 where
+  pub before : shown.before ≤ b.accepted
+  pub at_least : MIN_BOUND ≤ shown.bound
+  pub at_most : shown.bound ≤ MAX_BOUND
+  pub total : shown.total ≤ shown.before
+  pub delivered : shown.delivered ≤ shown.total
+  pub cycles : shown.cycles ≤ MAX_CYCLES * shown.total
+  pub confirmed : shown.confirmed ≤ shown.cycles
+
+pub record SummaryFits (b : Summary) : Type 0 where
+  pub accepted : b.accepted ≤ MAX_EVENTS
+  pub opened : length b.questions ≤ MAX_QUESTIONS
+  pub each : (k : ℕ) (shown : Shown) → slice_get b.questions k ≡ Some shown → ShownFits b shown
+
+abbrev pub RunFits : Good → Type 0
+RunFits good =
+    (limit : ℕ) (steps : List BoardStep) (last : State) → limit ≤ MAX_EVENTS →
+    IsRun good (opening limit) steps last →
+    StateFits good last × SummaryFits (summary steps)

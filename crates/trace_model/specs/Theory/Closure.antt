@@ -1,0 +1,37 @@
+-- IsClosed sets of places, and the least one that holds what an instance needs.
+use Rattle.std.specs.Prelude.{◌≡◌, ℕ, zero, suc, ◌<◌, ◌↔◌, Bool, IsTrue, List, [], ◌∷◌, ◌++◌, Some, if◌then◌else◌}
+use Rattle.std.specs.List.{Contains}
+use Rattle.trace_model.specs.Theory.Trace.{Trace, EarlierInThread}
+use Rattle.trace_model.specs.Theory.Held.{BeginsOn}
+use Rattle.trace_model.specs.Theory.Lookups.{writer, release}
+use Rattle.trace_model.specs.Theory.Reordering.{ForkOrJoin}
+
+-- a set of places, as a test
+abbrev pub Places : Type 0
+Places = ℕ → Bool
+
+pub record IsClosed (s : Trace) (set : Places) : Type 0 where
+  pub threads : (p q : ℕ) → IsTrue (set q) → EarlierInThread s p q → IsTrue (set p)
+  pub forks_joins : (p q : ℕ) → IsTrue (set q) → ForkOrJoin s p q → IsTrue (set p)
+  pub writers : (w q : ℕ) → IsTrue (set q) → writer s q ≡ Some w → IsTrue (set w)
+  pub sections : (p q r l : ℕ) → p < q → BeginsOn s p l → BeginsOn s q l →
+      IsTrue (set p) → IsTrue (set q) → release s p ≡ Some r → IsTrue (set r)
+
+-- the set holds all thread predecessors of the places
+abbrev pub HoldsPredecessors : Trace → List ℕ → Places → Type 0
+HoldsPredecessors s places set =
+    (p q : ℕ) → Contains places p → EarlierInThread s q p → IsTrue (set q)
+
+-- the place lies in every closed set that holds all thread predecessors of the places
+abbrev pub InClosure : Trace → List ℕ → ℕ → Type 0
+InClosure s places q =
+    (set : Places) → IsClosed s set → HoldsPredecessors s places set → IsTrue (set q)
+
+-- the set is the closure of the thread predecessors of the places
+abbrev pub IsClosure : Trace → List ℕ → Places → Type 0
+IsClosure s places set = (q : ℕ) → IsTrue (set q) ↔ InClosure s places q
+
+-- the places below n that are in the set, ascending
+abbrev pub ascending : Places → ℕ → List ℕ
+ascending set zero = []
+ascending set (suc n) = if set n then ascending set n ++ n ∷ [] else ascending set n

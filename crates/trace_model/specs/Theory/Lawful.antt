@@ -1,0 +1,58 @@
+-- Which events may come next, and why not.
+use Rattle.std.specs.Prelude.{◌≡◌, ℕ, Bool, true, false, not, ◌==◌, ◌&&◌, ◌||◌, nat_le, nat_lt, length, take, Option, Some, None, if◌then◌else◌}
+use Rattle.std.specs.List.{list_any, count_by}
+use Rattle.trace_model.specs.declared.traces.event.Event.{Event}
+use Rattle.trace_model.specs.declared.traces.event.Op.{Op}
+use Rattle.trace_model.specs.declared.traces.event.Op.TheVariants.{Fork, Join, Acquire, Release, Read, Write}
+use Rattle.trace_model.specs.declared.refusal.Refusal.{Refusal}
+use Rattle.trace_model.specs.declared.refusal.Refusal.TheVariants.{Full, Unforked, Ended, AlreadyForked, TooManyThreads, JoinsItself, JoinUnknown, JoinedTwice, TooNested, HeldByOther, TooDeep, NotHeld}
+use Rattle.trace_model.specs.declared.limits.TheConstants.{MAX_EVENTS, MAX_FORKS, MAX_HELD, MAX_DEPTH}
+use Rattle.trace_model.specs.Theory.Trace.{Trace, At, stands}
+use Rattle.trace_model.specs.Theory.Held.{depth, held}
+
+abbrev pub is_fork : Op → Bool
+is_fork (Fork c) = true
+is_fork _ = false
+
+-- how many forks the trace has
+abbrev pub forks : Trace → ℕ
+forks s = count_by (λ e. is_fork e.op) s
+
+-- after the trace the thread holds the lock, or another one does
+abbrev pub held_by : Trace → ℕ → ℕ → Bool
+held_by s t l = nat_lt 0 (depth s (length s) t l)
+
+abbrev pub held_by_other : Trace → ℕ → ℕ → Bool
+held_by_other s t l = list_any (λ e. not (e.thread == t) && held_by s e.thread l) s
+
+-- the first refusal that applies to what the thread does
+abbrev pub op_refusal_of : Trace → ℕ → Op → Option Refusal
+op_refusal_of s t (Fork c) =
+    if c == 0 || stands s (Fork c) then Some AlreadyForked
+    else (if nat_le MAX_FORKS (forks s) then Some TooManyThreads
+    else None)
+op_refusal_of s t (Join c) =
+    if c == t then Some JoinsItself
+    else (if c == 0 || not (stands s (Fork c)) then Some JoinUnknown
+    else (if stands s (Join c) then Some JoinedTwice
+    else None))
+op_refusal_of s t (Acquire l) =
+    if nat_le MAX_DEPTH (depth s (length s) t l) then Some TooNested
+    else (if held_by_other s t l then Some HeldByOther
+    else (if not (held_by s t l) && nat_le MAX_HELD (length (held s (length s) t)) then Some TooDeep
+    else None))
+op_refusal_of s t (Release l) = if held_by s t l then None else Some NotHeld
+op_refusal_of s t (Read v) = None
+op_refusal_of s t (Write v) = None
+
+-- none where the event is lawful after the trace, or the first refusal that applies
+abbrev pub refusal_of : ℕ → Trace → Event → Option Refusal
+refusal_of limit s e =
+    if nat_le limit (length s) then Some Full
+    else (if not (e.thread == 0) && not (stands s (Fork e.thread)) then Some Unforked
+    else (if stands s (Join e.thread) then Some Ended
+    else op_refusal_of s e.thread e.op))
+
+-- each event is lawful after those before it
+abbrev pub IsWellFormed : Trace → Type 0
+IsWellFormed s = (p : ℕ) (e : Event) → At s p e → refusal_of MAX_EVENTS (take p s) e ≡ None

@@ -1,0 +1,47 @@
+-- Lists of places that the program could have run, and what they reach.
+use Rattle.std.specs.Prelude.{◌≡◌, ℕ, ◌<◌, ◌⊎◌, List, length, slice_get, Some, MatchOption}
+use Rattle.std.specs.List.{Contains}
+use Rattle.trace_model.specs.declared.traces.event.Op.TheVariants.{Fork, Join, Read, Write}
+use Rattle.trace_model.specs.Theory.Trace.{Trace, Does, OfThread, EarlierInThread}
+use Rattle.trace_model.specs.Theory.Held.{BeginsOn}
+use Rattle.trace_model.specs.Theory.Lookups.{writer, release}
+
+-- p stands before q in the list
+abbrev pub Before : List ℕ → ℕ → ℕ → Type 0
+Before order p q =
+    (i : ℕ) × (j : ℕ) × (i < j) × (slice_get order i ≡ Some p) × (slice_get order j ≡ Some q)
+
+-- p is the fork of q's thread; or q is a join, and p the fork or a place of the joined thread
+abbrev pub ForkOrJoin : Trace → ℕ → ℕ → Type 0
+ForkOrJoin s p q =
+    ((t : ℕ) × OfThread s q t × Does s p (Fork t))
+    ⊎ ((c : ℕ) × Does s q (Join c) × (Does s p (Fork c) ⊎ OfThread s p c))
+
+-- w is the last write to the variable before q in the list
+abbrev pub LastWrite : Trace → List ℕ → ℕ → ℕ → ℕ → Type 0
+LastWrite s order v q w =
+    Before order w q
+    × ((u : ℕ) → Does s u (Write v) → Before order w u → Before order u q → ⊥)
+
+pub record IsReordering (s : Trace) (order : List ℕ) : Type 0 where
+  pub in_trace : (q : ℕ) → Contains order q → q < length s
+  pub distinct : (i j q : ℕ) → slice_get order i ≡ Some q → slice_get order j ≡ Some q → i ≡ j
+  pub threads : (p q : ℕ) → Contains order q → EarlierInThread s p q → Before order p q
+  pub forks_joins : (p q : ℕ) → Contains order q → ForkOrJoin s p q → Before order p q
+  pub writers : (q v : ℕ) → Contains order q → Does s q (Read v) →
+      MatchOption (writer s q)
+      ((u : ℕ) → Does s u (Write v) → Before order u q → ⊥)
+      (LastWrite s order v q)
+  pub sections : (p q l : ℕ) → BeginsOn s p l → BeginsOn s q l → Before order p q →
+      (r : ℕ) × (release s p ≡ Some r) × Before order p r × Before order r q
+  pub lock_order : (p q l : ℕ) → BeginsOn s p l → BeginsOn s q l → Before order p q → p < q
+
+-- the list holds none of the places, and all earlier places of their threads
+abbrev pub Reaches : Trace → List ℕ → List ℕ → Type 0
+Reaches s order places =
+    (p : ℕ) → Contains places p →
+    (Contains order p → ⊥) × ((q : ℕ) → EarlierInThread s q p → Contains order q)
+
+-- some reordering reaches the places
+abbrev pub Reached : Trace → List ℕ → Type 0
+Reached s places = (order : List ℕ) × IsReordering s order × Reaches s order places

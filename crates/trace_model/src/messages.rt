@@ -1,0 +1,6 @@
+//! What a session asks and is answered, batches, reports, and the steps that a board shows.
+
+pub(crate) mod batch;
+pub(crate) mod report;
+pub(crate) mod session;
+pub(crate) mod step;

@@ -1,0 +1,57 @@
+//! An instance of a cycle: a place for each member.
+
+use crate::traces::place::Place;
+use arrayvec::ArrayVec;
+use std::marker::Model;
+
+/// Two to eight places, one for each member of a cycle.
+#[derive(Drop)]
+pub struct Instance {
+    places: ArrayVec<Place, 8>,
+}
+
+impl Model for Instance {
+    ghost use Rattle.std.specs.Prelude.{List, ℕ, ◌≤◌};
+    ghost use Rattle.arrayvec.specs.ArrayVec.{array_vec_len};
+
+    ghost Value = { List ℕ };
+
+    ghost view = { λ i. i.places.items };
+
+    ghost invariant = { λ i. 2 ≤ array_vec_len i.places };
+}
+
+impl Instance {
+    ghost use Rattle.std.specs.Prelude.{◌≡◌, ◌≤◌, ◌↔◌, IfSome, IsSome, length, slice_get};
+
+    /// The instance of these places, if they are 2 to 8.
+    pub fn new(places: &[Place]) -> Option<Instance>
+        ensures value { IfSome result (λ i. i ≡ places.now) }
+        ensures in_range { IsSome result ↔ ((2 ≤ length places.now) × (length places.now ≤ 8)) }
+    {
+        if places.len() < 2 {
+            return None;
+        }
+        let mut found = ArrayVec::new();
+        match found.try_extend_from_slice(places) {
+            Ok(()) => Some(Instance { places: found }),
+            Err(_) => None,
+        }
+    }
+
+    /// How many places it has.
+    pub fn len(&self) -> usize
+        ensures value { result ≡ length self.now }
+        ensures low { 2 ≤ result }
+        ensures high { result ≤ 8 }
+    {
+        self.places.len()
+    }
+
+    /// The place of the member, if there is one.
+    pub fn get(&self, member: usize) -> Option<Place>
+        ensures { result ≡ slice_get self.now member }
+    {
+        self.places.get(member).copied()
+    }
+}
