@@ -120,10 +120,7 @@ impl<N: Naming> BoardReader<N> {
         ensures legal { IsLegal self.new }
         ensures busy { OnErr result (self.new ≡ self.old) }
     {
-        let Some(guard) = self.handle.enter() else {
-            return Err(Busy);
-        };
-        let shown: &Shown<N> = &guard;
+        let shown = self.handle.enter().ok_or(Busy)?;
         follow(&mut self.beginning, shown.beginning())?;
         let summary = *shown.totals();
         Ok(summary)
@@ -145,10 +142,7 @@ impl<N: Naming> BoardReader<N> {
         ensures legal { IsLegal self.new }
         ensures busy { OnErr result (self.new ≡ self.old) }
     {
-        let Some(guard) = self.handle.enter() else {
-            return Err(Busy);
-        };
-        let shown: &Shown<N> = &guard;
+        let shown = self.handle.enter().ok_or(Busy)?;
         follow(&mut self.beginning, shown.beginning())?;
         Ok(shown.totals().least_unsettled(passed_over))
     }

@@ -5,7 +5,7 @@ use Rattle.trace_model.specs.Theory.Trace.{Trace}
 use Rattle.trace_model.specs.declared.refusal.Refusal.{Refusal}
 use Rattle.trace_model.specs.declared.refusal.Refusal.TheVariants as refusals
 use Rattle.offline_report.specs.declared.refused.OfflineRefused.{OfflineRefused}
-use Rattle.offline_report.specs.declared.refused.OfflineRefused.TheVariants.{Gate, TooLong, TooManyCycles, NoMemory}
+use Rattle.offline_report.specs.declared.refused.OfflineRefused.TheVariants.{Unlawful, TooLong, TooManyCycles, NoMemory}
 use Rattle.offline_report.specs.Offline.{IsReport, IsRefused}
 use Rattle.commands.specs.Script.{refusal_words}
 use Rattle.commands.specs.Admission.{refused_at_line}
@@ -18,7 +18,7 @@ refusal_line refusal = refusal_words refusal ++ codes "\n"
 
 -- the line that tells why there is no report; a growth that was refused is told elsewhere
 abbrev pub refused_line : OfflineRefused → List ℕ
-refused_line (Gate refusal index) = refused_at_line refusal index
+refused_line (Unlawful first) = refused_at_line first
 refused_line TooLong = refusal_line refusals.ReportTooLong
 refused_line TooManyCycles = refusal_line refusals.TooManyCycles
 refused_line NoMemory = []

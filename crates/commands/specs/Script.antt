@@ -3,6 +3,7 @@ use Rattle.std.specs.Prelude.{ℕ, List, [], ◌++◌, Option, Some, None, codes
 use Rattle.trace_model.specs.Protocol.Refusals.{number_of, name_of}
 use Rattle.trace_model.specs.declared.refusal.Refusal.{Refusal}
 use Rattle.trace_model.specs.declared.messages.session.Reply.{Reply}
+use Rattle.trace_model.specs.declared.messages.status.QuestionStatus.{QuestionStatus}
 use Rattle.trace_model.specs.declared.messages.session.Reply.TheVariants.{Placed, Refused, Opened, Pending, Report, Status, Fault as FaultReply, Batched}
 
 -- the words that tell a refusal: its number and its name
@@ -25,20 +26,19 @@ pending_line question delivered total = told (codes "pending ") question ++
     told (codes " delivered ") delivered ++ told_line (codes " total ") total
 
 -- what a status tells of the book, and of the question before its tasks
-abbrev pub book_words : ℕ → ℕ → ℕ → ℕ → ℕ → List ℕ
-book_words question accepted opened len bound =
-    told (codes "status ") question ++ told (codes " accepted ") accepted ++
-    told (codes " opened ") opened
-    ++ told (codes " length ") len ++ told (codes " bound ") bound
+abbrev pub book_words : QuestionStatus → List ℕ
+book_words s =
+    told (codes "status ") s.question ++ told (codes " accepted ") s.accepted ++
+    told (codes " opened ") s.opened
+    ++ told (codes " length ") s.length ++ told (codes " bound ") s.bound
 
 -- what it tells of the tasks
-abbrev pub task_words : ℕ → ℕ → List ℕ
-task_words total delivered = told (codes " total ") total ++ told (codes " delivered ") delivered
+abbrev pub task_words : QuestionStatus → List ℕ
+task_words s = told (codes " total ") s.total ++ told (codes " delivered ") s.delivered
 
 -- what it tells of their rows
-abbrev pub row_words : ℕ → ℕ → List ℕ
-row_words cycles confirmed = told (codes " cycles ") cycles ++
-    told_line (codes " confirmed ") confirmed
+abbrev pub row_words : QuestionStatus → List ℕ
+row_words s = told (codes " cycles ") s.cycles ++ told_line (codes " confirmed ") s.confirmed
 
 -- what refuses an event, if anything does
 abbrev pub refused_line : Option Refusal → List ℕ
@@ -57,8 +57,6 @@ reply_text (Refused refusal) = refusal_words refusal ++ codes "\n"
 reply_text (Opened question len total) = opened_line question len total
 reply_text (Pending question delivered total) = pending_line question delivered total
 reply_text (Report question text) = text
-reply_text (Status question accepted opened len bound total delivered cycles confirmed) =
-    book_words question accepted opened len bound ++
-    (task_words total delivered ++ row_words cycles confirmed)
+reply_text (Status s) = book_words s ++ (task_words s ++ row_words s)
 reply_text (FaultReply fault) = []
 reply_text (Batched accepted refusal len) = batch_lines accepted refusal len

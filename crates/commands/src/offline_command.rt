@@ -31,7 +31,7 @@ fn push_refused(text: &mut Vec<u8>, refused: OfflineRefused) -> Result<(), NoMem
     ensures { OnOk result (text.new.items ≡ text.old.items ++ refused_line refused) }
 {
     match refused {
-        OfflineRefused::Gate { refusal, index } => push_refused_at(text, refusal, index),
+        OfflineRefused::Unlawful(first) => push_refused_at(text, first),
         OfflineRefused::TooLong => push_refusal_line(text, Refusal::ReportTooLong),
         OfflineRefused::TooManyCycles => push_refusal_line(text, Refusal::TooManyCycles),
         OfflineRefused::NoMemory => Ok(()),

@@ -1,5 +1,6 @@
 //! The command that checks a witness against a trace.
 ghost use Rattle.std.specs.Prelude.{◌≡◌, ◌++◌, OnOk};
+ghost use Rattle.trace_model.specs.Theory.Lawful.{IsWellFormed};
 ghost use Rattle.commands.specs.Replay.{verdict_line, verdict_status};
 
 use crate::admission::{Admission, admit_file, push_refused_at};
@@ -10,8 +11,8 @@ use replay::{Verdict, check};
 use std::alloc::Global;
 use std::hash::RandomState;
 use std::io::Write;
-use trace_model::{NoMemory, Refusal};
-use wellformed::Gate;
+use trace_model::{Event, NoMemory};
+use wellformed::FirstUnlawful;
 
 /// The files of a replay: a trace, and a witness.
 #[derive(Clone, Copy)]
@@ -66,12 +67,11 @@ enum Part {
 /// Tells the first event of the trace that is not lawful.
 fn tell_refused<O: Write>(
     alloc: Global,
-    refusal: Refusal,
-    index: usize,
+    first: FirstUnlawful,
     out: &mut O,
 ) -> Result<Status, Stopped> {
     let mut text = Vec::new(alloc);
-    push_refused_at(&mut text, refusal, index)?;
+    push_refused_at(&mut text, first)?;
     write_text(out, &text)?;
     Ok(Status::Refused)
 }
@@ -83,13 +83,13 @@ fn checked<O: Write>(
     out: &mut O,
 ) -> Result<Status, (Part, Stopped)> {
     match admit_file(alloc, state, files.trace) {
-        Ok(Admission::Admitted(gate)) => {
-            let verdict = verdict_of(alloc, state, &gate, files.witness, out);
-            drop(gate);
+        Ok(Admission::Admitted(events)) => {
+            let verdict = verdict_of(alloc, state, &events, files.witness, out);
+            drop(events);
             verdict.map_err(|stopped| (Part::Witness, stopped))
         }
-        Ok(Admission::Refused(refusal, index)) => {
-            let told = tell_refused(alloc, refusal, index, out);
+        Ok(Admission::Refused(first)) => {
+            let told = tell_refused(alloc, first, out);
             told.map_err(|stopped| (Part::Trace, stopped))
         }
         Err(stopped) => Err((Part::Trace, stopped)),
@@ -99,18 +99,14 @@ fn checked<O: Write>(
 fn verdict_of<O: Write>(
     alloc: Global,
     state: RandomState,
-    gate: &Gate,
+    events: &[Event],
     witness: &[u8],
     out: &mut O,
-) -> Result<Status, Stopped> {
+) -> Result<Status, Stopped>
+    requires { IsWellFormed events.now }
+{
     let witness = read_witness(alloc, witness)?;
-    let verdict = check(
-        alloc,
-        state,
-        gate.events(),
-        &witness.order,
-        &witness.instance,
-    )?;
+    let verdict = check(alloc, state, events, &witness.order, &witness.instance)?;
     let mut text = Vec::new(alloc);
     push_verdict(&mut text, &verdict)?;
     write_text(out, &text)?;

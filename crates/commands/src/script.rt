@@ -11,7 +11,7 @@ use sequencer::Book;
 use std::alloc::Global;
 use std::hash::RandomState;
 use std::io::Write;
-use trace_model::{Bound, MAX_EVENTS, Refusal, Reply};
+use trace_model::{MAX_EVENTS, Refusal, Reply};
 
 /// The one session of a script, over its book.
 #[derive(Drop)]
@@ -101,11 +101,8 @@ impl ScriptSession {
         let Ok(status) = self.book.status(question) else {
             return Err(Refusal::NoSuchQuestion);
         };
-        let Some(bound) = Bound::new(status.bound) else {
-            return Err(Refusal::BadBound);
-        };
         let snapshot = self.book.snapshot(question)?;
-        Ok(Job::new(self.alloc, snapshot, question, bound))
+        Ok(Job::new(self.alloc, snapshot, question, status.bound))
     }
 
     /// Computes a task of a question of the book, and delivers it.

@@ -4,7 +4,7 @@ ghost use Rattle.trace_model.specs.Protocol.Refusals.{name_of};
 ghost use Rattle.commands.specs.Script.{told, told_line, refusal_words, opened_line, pending_line, batch_lines, refused_line, book_words, task_words, row_words, reply_text};
 
 use itoa::Buffer;
-use trace_model::{NoMemory, Refusal, Reply, refusal_name};
+use trace_model::{NoMemory, QuestionStatus, Refusal, Reply, refusal_name};
 
 #[tactic(auto, using(crate::proofs::RefusalNames::named))]
 fn name_of(refusal: Refusal) -> &'static str
@@ -78,40 +78,32 @@ fn push_pending(
 }
 
 /// Adds what a status tells of the book, and of the question before its tasks.
-fn push_book(
-    text: &mut Vec<u8>,
-    question: u32,
-    accepted: u32,
-    opened: u32,
-    length: u32,
-    bound: u8,
-) -> Result<(), NoMemory>
-    ensures { OnOk result (text.new.items ≡ text.old.items ++
-        book_words question accepted opened length bound) }
+fn push_book(text: &mut Vec<u8>, status: &QuestionStatus) -> Result<(), NoMemory>
+    ensures { OnOk result (text.new.items ≡ text.old.items ++ book_words status.now) }
 {
-    push_number(text, b"status ", question as u64)?;
-    push_number(text, b" accepted ", accepted as u64)?;
-    push_number(text, b" opened ", opened as u64)?;
-    push_number(text, b" length ", length as u64)?;
-    push_number(text, b" bound ", bound as u64)?;
+    push_number(text, b"status ", status.question as u64)?;
+    push_number(text, b" accepted ", status.accepted as u64)?;
+    push_number(text, b" opened ", status.opened as u64)?;
+    push_number(text, b" length ", status.length as u64)?;
+    push_number(text, b" bound ", status.bound.get() as u64)?;
     Ok(())
 }
 
 /// Adds what a status tells of the question's tasks.
-fn push_tasks(text: &mut Vec<u8>, total: u32, delivered: u32) -> Result<(), NoMemory>
-    ensures { OnOk result (text.new.items ≡ text.old.items ++ task_words total delivered) }
+fn push_tasks(text: &mut Vec<u8>, status: &QuestionStatus) -> Result<(), NoMemory>
+    ensures { OnOk result (text.new.items ≡ text.old.items ++ task_words status.now) }
 {
-    push_number(text, b" total ", total as u64)?;
-    push_number(text, b" delivered ", delivered as u64)?;
+    push_number(text, b" total ", status.total as u64)?;
+    push_number(text, b" delivered ", status.delivered as u64)?;
     Ok(())
 }
 
 /// Adds what a status tells of the rows of these tasks.
-fn push_rows(text: &mut Vec<u8>, cycles: u64, confirmed: u64) -> Result<(), NoMemory>
-    ensures { OnOk result (text.new.items ≡ text.old.items ++ row_words cycles confirmed) }
+fn push_rows(text: &mut Vec<u8>, status: &QuestionStatus) -> Result<(), NoMemory>
+    ensures { OnOk result (text.new.items ≡ text.old.items ++ row_words status.now) }
 {
-    push_number(text, b" cycles ", cycles)?;
-    push_last(text, b" confirmed ", confirmed)?;
+    push_number(text, b" cycles ", status.cycles)?;
+    push_last(text, b" confirmed ", status.confirmed)?;
     Ok(())
 }
 
@@ -169,20 +161,10 @@ pub fn push_reply(text: &mut Vec<u8>, reply: &Reply) -> Result<(), NoMemory>
             text.extend_from_slice(report.as_slice())?;
             Ok(())
         }
-        Reply::Status {
-            question,
-            accepted,
-            opened,
-            length,
-            bound,
-            total,
-            delivered,
-            cycles,
-            confirmed,
-        } => {
-            push_book(text, *question, *accepted, *opened, *length, *bound)?;
-            push_tasks(text, *total, *delivered)?;
-            push_rows(text, *cycles, *confirmed)
+        Reply::Status(status) => {
+            push_book(text, status)?;
+            push_tasks(text, status)?;
+            push_rows(text, status)
         }
         Reply::Fault(_) => Ok(()),
         Reply::Batched {

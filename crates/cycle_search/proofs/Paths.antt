@@ -265,13 +265,13 @@ last-takes_back ds bound path m [] p full c =
       closed-back ds path m first.0 last.0 p.begun first.1 last.1 (closes-from_cycle ds bound (path ++ m ∷ []) c),
     )
 
--- a number that passed the test of the code
-pub path-tested : (ds : List Dependency) (path : List ℕ) (m : ℕ) (members : List ℕ) → IsPath ds path → m < length ds → AboveFirst path m → LinksTo ds path m →
-    members ≡ path → IsCompatible ds members m → IsPath ds (path ++ m ∷ [])
-path-tested ds path m members p known above links f apart = path-push ds path m p (record {
+-- a number that passed the tests of the code
+pub path-tested : (ds : List Dependency) (path : List ℕ) (m : ℕ) → IsPath ds path → m < length ds → AboveFirst path m → LinksTo ds path m →
+    IsCompatible ds path m → IsPath ds (path ++ m ∷ [])
+path-tested ds path m p known above links apart = path-push ds path m p (record {
   known = known;
   above = above;
-  compatible = subst (λ z. IsCompatible ds z m) f apart;
+  compatible = apart;
   linked = links;
 })
 

@@ -1,11 +1,16 @@
 -- What the search for cycles knows at each point.
-use Rattle.std.specs.Prelude.{◌≡◌, ◌≢◌, ℕ, suc, ◌+◌, ◌<◌, ◌≤◌, List, ◌∷◌, ◌++◌, length, slice_get, Some}
+use Rattle.std.specs.Prelude.{◌≡◌, ◌≢◌, ℕ, suc, ◌+◌, ◌<◌, ◌≤◌, List, ◌∷◌, ◌++◌, length, slice_get, Some, Result, Err}
+use Rattle.std.specs.Global.{Vec}
+use Rattle.arrayvec.specs.ArrayVec.{ArrayVec}
 use Rattle.std.specs.List.{Contains, All}
 use Rattle.std.specs.List.Sorted.{IsStrictlyIncreasing}
 use Rattle.trace_model.specs.Theory.Dependencies.{Dependency}
 use Rattle.held_sets.specs.Tables.{AreDisjoint}
 use Rattle.trace_model.specs.Theory.Cycles.{Member, IsCycle, InOrder}
 use Rattle.guards.specs.Compatible.{IsCompatible}
+use Rattle.cycle_search.specs.declared.refused.SearchRefused.{SearchRefused}
+use Rattle.cycle_search.specs.declared.refused.SearchRefused.TheVariants.{TooMany}
+use Rattle.cycle_search.specs.declared.search.Search.{Search}
 
 -- some of the lists with a property, each once, in lexicographic order
 pub record AreSome (P : List ℕ → Type 0) (lists : List (List ℕ)) : Type 0 where
@@ -29,6 +34,15 @@ MoreThan P n = (some : List (List ℕ)) × AreSome P some × (n < length some)
 abbrev pub Exceeds : (List ℕ → Type 0) → ℕ → List (List ℕ) → Type 0
 Exceeds P n old = (more : List (List ℕ)) × AreSome P more × (n < length old + length more)
 
+-- the fact holds where a search was refused for too many cycles
+abbrev pub IfTooMany : {T : Type 0} → Result T SearchRefused → Type 0 → Type 0
+IfTooMany result Fact = result ≡ Err TooMany → Fact
+
+-- a path may have eight members at most, and what was found so far is within the limit
+pub record IsWithin (search : Search) (found : List (List ℕ)) : Type 0 where
+  pub members : search.members ≤ 8
+  pub cycles : length found ≤ search.cycles
+
 -- a cycle up to the bound with this first number
 abbrev pub CycleFrom : List Dependency → ℕ → ℕ → List ℕ → Type 0
 CycleFrom ds bound root numbers = IsCycle ds bound numbers × (slice_get numbers 0 ≡ Some root)
@@ -42,6 +56,26 @@ CycleBeyond ds bound path numbers =
 abbrev pub CycleThrough : List Dependency → ℕ → List ℕ → ℕ → List ℕ → Type 0
 CycleThrough ds bound path next numbers =
     IsCycle ds bound numbers × ((rest : List ℕ) × (numbers ≡ path ++ next ∷ rest))
+
+-- a search adds to what was found all that begin with the path and go on
+abbrev pub AddsBeyond : Search → ArrayVec ℕ → Vec (List ℕ) → Vec (List ℕ) → Type 0
+AddsBeyond search path old new =
+    Adds (CycleBeyond search.searched.now search.members path.items) old.items new.items
+
+-- with what was found, these are more than it may find
+abbrev pub ExceedsBeyond : Search → ArrayVec ℕ → Vec (List ℕ) → Type 0
+ExceedsBeyond search path old =
+    Exceeds (CycleBeyond search.searched.now search.members path.items) search.cycles old.items
+
+-- it adds all that go on with this number
+abbrev pub AddsThrough : Search → ArrayVec ℕ → ℕ → Vec (List ℕ) → Vec (List ℕ) → Type 0
+AddsThrough search path next old new =
+    Adds (CycleThrough search.searched.now search.members path.items next) old.items new.items
+
+-- with what was found, these are more than it may find
+abbrev pub ExceedsThrough : Search → ArrayVec ℕ → ℕ → Vec (List ℕ) → Type 0
+ExceedsThrough search path next old = Exceeds
+    (CycleThrough search.searched.now search.members path.items next) search.cycles old.items
 
 -- one that goes on with a number that has the property
 abbrev pub CycleOver : List Dependency → ℕ → List ℕ → (ℕ → Type 0) → List ℕ → Type 0

@@ -7,9 +7,11 @@ mod cycle;
 mod ranks;
 mod refused;
 mod search;
+mod searched;
 mod takers;
 
 pub use cycle::Cycle;
 pub use ranks::Ranks;
 pub use refused::SearchRefused;
 pub use search::{cycles_from, cycles_within};
+pub use searched::Searched;

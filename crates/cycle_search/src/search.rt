@@ -3,19 +3,15 @@
 ghost use Rattle.std.specs.Prelude.{◌≡◌, ◌<◌, ◌≤◌, ◌↔◌, ◌+◌, ◌++◌, ◌∷◌, [], slice_index, length, IsTrue, IfOk, OnOk, Err};
 ghost use Rattle.trace_model.specs.declared.limits.TheConstants.{MAX_CYCLES};
 ghost use Rattle.trace_model.specs.Theory.Cycles.{AreCyclesFrom};
-ghost use Rattle.dependencies.specs.Tables.{known};
-ghost use Rattle.lock_graph.specs.Graph.{HasGraphOf};
-ghost use Rattle.cycle_search.specs.Ranked.{AreRanks};
+ghost use Rattle.guards.specs.Compatible.{IsCompatible};
 ghost use Rattle.cycle_search.specs.Takers.{IsNext};
-ghost use Rattle.cycle_search.specs.Search.{IsPath, Closes, AboveFirst, LinksTo, TakesBack, AreNexts, Adds, Exceeds, MoreThan, CycleFrom, CycleBeyond, CycleThrough};
+ghost use Rattle.cycle_search.specs.Search.{IsPath, Closes, AboveFirst, LinksTo, TakesBack, AreNexts, MoreThan, CycleFrom, IsWithin, AddsBeyond, ExceedsBeyond, AddsThrough, ExceedsThrough, IfTooMany};
 
 use crate::ascending::above;
 use crate::cycle::MOST_MEMBERS;
-use crate::{Cycle, Ranks, SearchRefused};
+use crate::{Cycle, Ranks, SearchRefused, Searched};
 use arrayvec::ArrayVec;
-use dependencies::DepTable;
 use guards::compatible;
-use lock_graph::LockGraph;
 use std::alloc::Global;
 use trace_model::{Bound, MAX_CYCLES};
 
@@ -25,39 +21,35 @@ type Path = ArrayVec<u32, MOST_MEMBERS>;
 /// How many successors are visited in the time of one search among the takers of a lock.
 const VISITS_PER_SEARCH: usize = 4;
 
-/// The most members of a cycle, and the most cycles.
+/// What is searched, with the most members of a cycle, and the most cycles.
 #[derive(Clone, Copy)]
-struct Limits {
+struct Search<'a> {
+    searched: &'a Searched<'a>,
     members: usize,
     cycles: usize,
     /// Of a path with more successors, the last members are found by the locks that they take.
     successors: usize,
 }
 
-/// All cycles up to the bound whose first number is `root`, each once, in lexicographic order. The
-/// ranks must be those of the table, and `root` one of its numbers. The graph must be that of the
-/// table's dependencies; later ones that it may have besides are left out.
+/// All cycles up to the bound whose first number is `root`, each once, in lexicographic order.
+/// `root` must be a number of the dependencies.
 ///
 /// # Errors
 ///
 /// `TooMany` where there are more than 4,294,967,295, and `NoMemory` where a growth was refused.
 pub fn cycles_from(
     alloc: Global,
-    table: &DepTable,
-    graph: &LockGraph,
-    ranks: &Ranks,
+    searched: &Searched<'_>,
     root: u32,
     bound: Bound,
 ) -> Result<Vec<Cycle>, SearchRefused>
-    requires graph { HasGraphOf (known table.now) graph.now }
-    requires ranks { AreRanks (known table.now) ranks.now }
-    requires root { root < length (known table.now) }
-    ensures ok { IfOk result (λ cycles. AreCyclesFrom (known table.now) bound root cycles.items) }
+    requires root { root < length searched.now }
+    ensures ok { IfOk result (λ cycles. AreCyclesFrom searched.now bound root cycles.items) }
     ensures few { IfOk result (λ cycles. length cycles.items ≤ MAX_CYCLES) }
     ensures too_many { result ≡ Err SearchRefused.TooMany →
-        MoreThan (CycleFrom (known table.now) bound root) MAX_CYCLES }
+        MoreThan (CycleFrom searched.now bound root) MAX_CYCLES }
 {
-    cycles_within(alloc, table, graph, ranks, root, bound, MAX_CYCLES)
+    cycles_within(alloc, searched, root, bound, MAX_CYCLES)
 }
 
 /// The same, but that `TooMany` is answered where there are more than `most`.
@@ -67,75 +59,58 @@ pub fn cycles_from(
 /// `NoMemory` where a growth was refused, `TooMany` exactly as said.
 pub fn cycles_within(
     alloc: Global,
-    table: &DepTable,
-    graph: &LockGraph,
-    ranks: &Ranks,
+    searched: &Searched<'_>,
     root: u32,
     bound: Bound,
     most: usize,
 ) -> Result<Vec<Cycle>, SearchRefused>
-    requires graph { HasGraphOf (known table.now) graph.now }
-    requires ranks { AreRanks (known table.now) ranks.now }
-    requires root { root < length (known table.now) }
-    ensures ok { IfOk result (λ cycles. AreCyclesFrom (known table.now) bound root cycles.items) }
+    requires root { root < length searched.now }
+    ensures ok { IfOk result (λ cycles. AreCyclesFrom searched.now bound root cycles.items) }
     ensures few { IfOk result (λ cycles. length cycles.items ≤ most) }
-    ensures too_many { result ≡ Err SearchRefused.TooMany →
-        MoreThan (CycleFrom (known table.now) bound root) most }
+    ensures too_many { IfTooMany result (MoreThan (CycleFrom searched.now bound root) most) }
 {
-    let limits = Limits {
+    let search = Search {
+        searched,
         members: bound.get() as usize,
         cycles: most,
-        successors: closing_visits(table, ranks, root),
+        successors: closing_visits(searched, root),
     };
     let mut found = Vec::new(alloc);
     let mut path = Path::new();
     path.push(root);
-    extend(table, graph, ranks, limits, &mut path, &mut found)?;
+    extend(&search, &mut path, &mut found)?;
     Ok(found)
 }
 
 /// How many successors are visited in the time that it takes to find all members that may close a
 /// path of the root.
-fn closing_visits(table: &DepTable, ranks: &Ranks, root: u32) -> usize
-    requires { root < length (known table.now) }
+fn closing_visits(searched: &Searched<'_>, root: u32) -> usize
+    requires { root < length searched.now }
 {
-    let locks = table.get(root).held.locks();
-    let searches = ranks.takers().count(locks).saturating_mul(locks.len());
+    let locks = searched.table.get(root).held.locks();
+    let takers = searched.ranks.takers();
+    let searches = takers.count(locks).saturating_mul(locks.len());
     searches.saturating_mul(VISITS_PER_SEARCH)
 }
 
 /// Adds all cycles that begin with the path and go on.
 #[cycle(search)]
-fn extend(
-    table: &DepTable,
-    graph: &LockGraph,
-    ranks: &Ranks,
-    limits: Limits,
-    path: &mut Path,
-    found: &mut Vec<Cycle>,
-) -> Result<(), SearchRefused>
-    requires graph { HasGraphOf (known table.now) graph.now }
-    requires ranks { AreRanks (known table.now) ranks.now }
-    requires path { IsPath (known table.now) path.old.items }
-    requires room { length path.old.items < limits.members }
-    requires bound { limits.members ≤ 8 }
-    requires few { length found.old.items ≤ limits.cycles }
+fn extend(search: &Search<'_>, path: &mut Path, found: &mut Vec<Cycle>) -> Result<(), SearchRefused>
+    requires path { IsPath search.now.searched.now path.old.items }
+    requires room { length path.old.items < search.now.members }
+    requires limits { IsWithin search.now found.old.items }
     ensures path { OnOk result (path.new.items ≡ path.old.items) }
-    ensures all { OnOk result
-        (Adds (CycleBeyond (known table.now) limits.members path.old.items) found.old.items
-        found.new.items) }
-    ensures few { OnOk result (length found.new.items ≤ limits.cycles) }
-    ensures too_many { result ≡ Err SearchRefused.TooMany →
-        Exceeds (CycleBeyond (known table.now) limits.members path.old.items) limits.cycles
-        found.old.items }
+    ensures all { OnOk result (AddsBeyond search.now path.old found.old found.new) }
+    ensures few { OnOk result (length found.new.items ≤ search.now.cycles) }
+    ensures too_many { IfTooMany result (ExceedsBeyond search.now path.old found.old) }
 {
-    let nexts = successors(table, graph, path);
+    let nexts = successors(search.searched, path);
     // many may hold the lock of the last member where few take one that the first member holds
-    if path.len() + 1 == limits.members && limits.successors < nexts.len() {
-        return close(table, graph, ranks, limits, path, found);
+    if path.len() + 1 == search.members && search.successors < nexts.len() {
+        return close(search, path, found);
     }
     for next in nexts {
-        visit(table, graph, ranks, limits, path, *next, found)?;
+        visit(search, path, *next, found)?;
     }
     Ok(())
 }
@@ -143,33 +118,19 @@ fn extend(
 /// Adds all cycles of the path and one member more, which is found by the locks that the first one
 /// holds.
 #[cycle(search)]
-fn close(
-    table: &DepTable,
-    graph: &LockGraph,
-    ranks: &Ranks,
-    limits: Limits,
-    path: &mut Path,
-    found: &mut Vec<Cycle>,
-) -> Result<(), SearchRefused>
-    requires graph { HasGraphOf (known table.now) graph.now }
-    requires ranks { AreRanks (known table.now) ranks.now }
-    requires path { IsPath (known table.now) path.old.items }
-    requires room { length path.old.items + 1 ≡ limits.members }
-    requires bound { limits.members ≤ 8 }
-    requires few { length found.old.items ≤ limits.cycles }
+fn close(search: &Search<'_>, path: &mut Path, found: &mut Vec<Cycle>) -> Result<(), SearchRefused>
+    requires path { IsPath search.now.searched.now path.old.items }
+    requires room { length path.old.items + 1 ≡ search.now.members }
+    requires limits { IsWithin search.now found.old.items }
     ensures path { OnOk result (path.new.items ≡ path.old.items) }
-    ensures all { OnOk result
-        (Adds (CycleBeyond (known table.now) limits.members path.old.items) found.old.items
-        found.new.items) }
-    ensures few { OnOk result (length found.new.items ≤ limits.cycles) }
-    ensures too_many { result ≡ Err SearchRefused.TooMany →
-        Exceeds (CycleBeyond (known table.now) limits.members path.old.items) limits.cycles
-        found.old.items }
+    ensures all { OnOk result (AddsBeyond search.now path.old found.old found.new) }
+    ensures few { OnOk result (length found.new.items ≤ search.now.cycles) }
+    ensures too_many { IfTooMany result (ExceedsBeyond search.now path.old found.old) }
 {
     let mut last = path[0];
-    while let Some(next) = next_closer(table, ranks, path, last) {
-        if links(table, path, next) {
-            visit(table, graph, ranks, limits, path, next, found)?;
+    while let Some(next) = next_closer(search.searched, path, last) {
+        if links(search.searched, path, next) {
+            visit(search, path, next, found)?;
         }
         last = next;
     }
@@ -179,49 +140,40 @@ fn close(
 /// Adds all cycles that begin with the path and go on with the number.
 #[cycle(search)]
 fn visit(
-    table: &DepTable,
-    graph: &LockGraph,
-    ranks: &Ranks,
-    limits: Limits,
+    search: &Search<'_>,
     path: &mut Path,
     next: u32,
     found: &mut Vec<Cycle>,
 ) -> Result<(), SearchRefused>
-    requires graph { HasGraphOf (known table.now) graph.now }
-    requires ranks { AreRanks (known table.now) ranks.now }
-    requires path { IsPath (known table.now) path.old.items }
-    requires room { length path.old.items < limits.members }
-    requires bound { limits.members ≤ 8 }
-    requires few { length found.old.items ≤ limits.cycles }
-    requires known { next < length (known table.now) }
+    requires path { IsPath search.now.searched.now path.old.items }
+    requires room { length path.old.items < search.now.members }
+    requires limits { IsWithin search.now found.old.items }
+    requires known { next < length search.now.searched.now }
     requires above { AboveFirst path.old.items next }
-    requires linked { LinksTo (known table.now) path.old.items next }
+    requires linked { LinksTo search.now.searched.now path.old.items next }
     ensures path { OnOk result (path.new.items ≡ path.old.items) }
-    ensures all { OnOk result
-        (Adds (CycleThrough (known table.now) limits.members path.old.items next) found.old.items
-        found.new.items) }
-    ensures few { OnOk result (length found.new.items ≤ limits.cycles) }
-    ensures too_many { result ≡ Err SearchRefused.TooMany →
-        Exceeds (CycleThrough (known table.now) limits.members path.old.items next) limits.cycles
-        found.old.items }
+    ensures all { OnOk result (AddsThrough search.now path.old next found.old found.new) }
+    ensures few { OnOk result (length found.new.items ≤ search.now.cycles) }
+    ensures too_many { IfTooMany result (ExceedsThrough search.now path.old next found.old) }
 {
-    if !same_rank(ranks, path, next) {
+    let searched = search.searched;
+    if !same_rank(searched.ranks, path, next) {
         return Ok(());
     }
-    if ends_open(table, limits, path, next) {
+    if ends_open(searched, search.members, path, next) {
         return Ok(());
     }
-    if !compatible(table, path.as_slice(), next) {
+    if !fits(searched, path, next) {
         return Ok(());
     }
     path.push(next);
-    if closes(table, path) {
-        if found.len() >= limits.cycles {
+    if closes(searched, path) {
+        if found.len() >= search.cycles {
             return Err(SearchRefused::TooMany);
         }
         found.push(cycle_of(path))?;
-    } else if path.len() < limits.members {
-        extend(table, graph, ranks, limits, path, found)?;
+    } else if path.len() < search.members {
+        extend(search, path, found)?;
     }
     path.pop();
     Ok(())
@@ -239,19 +191,28 @@ fn same_rank(ranks: &Ranks, path: &Path, next: u32) -> bool
     ranks.are_equal(path[0], next)
 }
 
-/// Whether the path has room for the number alone, and is not closed by it.
-fn ends_open(table: &DepTable, limits: Limits, path: &Path, next: u32) -> bool
-    requires path { IsPath (known table.now) path.now.items }
-    requires next { next < length (known table.now) }
-    ensures last { IsTrue result → limits.members ≤ length path.now.items + 1 }
-    ensures is_open { IsTrue result → ¬ Closes (known table.now) (path.now.items ++ next ∷ []) }
+/// Whether a path of so many members has room for the number alone, and is not closed by it.
+fn ends_open(searched: &Searched<'_>, members: usize, path: &Path, next: u32) -> bool
+    requires path { IsPath searched.now path.now.items }
+    requires next { next < length searched.now }
+    ensures last { IsTrue result → members ≤ length path.now.items + 1 }
+    ensures is_open { IsTrue result → ¬ Closes searched.now (path.now.items ++ next ∷ []) }
 {
-    if path.len() + 1 < limits.members {
+    if path.len() + 1 < members {
         return false;
     }
-    let first = table.get(path[0]);
-    let last = table.get(next);
+    let first = searched.table.get(path[0]);
+    let last = searched.table.get(next);
     !first.held.contains(last.lock)
+}
+
+/// Whether the number may stand in one cycle with all members of the path.
+fn fits(searched: &Searched<'_>, path: &Path, next: u32) -> bool
+    requires path { IsPath searched.now path.now.items }
+    requires next { next < length searched.now }
+    ensures { IsTrue result ↔ IsCompatible searched.now path.now.items next }
+{
+    compatible(searched.table, path.as_slice(), next)
 }
 
 /// The cycle with the numbers of a path.
@@ -266,41 +227,41 @@ fn cycle_of(path: &Path) -> Cycle
 }
 
 /// Whether the lock of the last member is in the held set of the first.
-fn closes(table: &DepTable, path: &Path) -> bool
-    requires { IsPath (known table.now) path.now.items }
-    ensures { IsTrue result ↔ Closes (known table.now) path.now.items }
+fn closes(searched: &Searched<'_>, path: &Path) -> bool
+    requires { IsPath searched.now path.now.items }
+    ensures { IsTrue result ↔ Closes searched.now path.now.items }
 {
-    let first = table.get(path[0]);
-    let last = table.get(path[path.len() - 1]);
+    let first = searched.table.get(path[0]);
+    let last = searched.table.get(path[path.len() - 1]);
     first.held.contains(last.lock)
 }
 
 /// The dependencies above the path's first member that hold the lock of its last, ascending.
-fn successors<'a>(table: &DepTable, graph: &'a LockGraph, path: &Path) -> &'a [u32]
-    requires graph { HasGraphOf (known table.now) graph.now }
-    requires path { IsPath (known table.now) path.now.items }
-    ensures { AreNexts (known table.now) path.now.items result.now }
+fn successors<'a>(searched: &Searched<'a>, path: &Path) -> &'a [u32]
+    requires { IsPath searched.now path.now.items }
+    ensures { AreNexts searched.now path.now.items result.now }
 {
-    let last = table.get(path[path.len() - 1]);
-    above(graph.successors_below(last.lock, table.len()), path[0])
+    let last = searched.table.get(path[path.len() - 1]);
+    let total = searched.table.len();
+    let holders = searched.graph.successors_below(last.lock, total);
+    above(holders, path[0])
 }
 
 /// The least number above a bound whose dependency takes a lock that the path's first member holds.
-fn next_closer(table: &DepTable, ranks: &Ranks, path: &Path, bound: u32) -> Option<u32>
-    requires ranks { AreRanks (known table.now) ranks.now }
-    requires path { IsPath (known table.now) path.now.items }
-    ensures { IsNext bound (TakesBack (known table.now) path.now.items) result }
+fn next_closer(searched: &Searched<'_>, path: &Path, bound: u32) -> Option<u32>
+    requires { IsPath searched.now path.now.items }
+    ensures { IsNext bound (TakesBack searched.now path.now.items) result }
 {
-    let first = table.get(path[0]);
-    ranks.takers().next(first.held.locks(), bound)
+    let first = searched.table.get(path[0]);
+    searched.ranks.takers().next(first.held.locks(), bound)
 }
 
 /// Whether the number's dependency holds the lock of the path's last member.
-fn links(table: &DepTable, path: &Path, next: u32) -> bool
-    requires path { IsPath (known table.now) path.now.items }
-    requires next { next < length (known table.now) }
-    ensures { IsTrue result ↔ LinksTo (known table.now) path.now.items next }
+fn links(searched: &Searched<'_>, path: &Path, next: u32) -> bool
+    requires path { IsPath searched.now path.now.items }
+    requires next { next < length searched.now }
+    ensures { IsTrue result ↔ LinksTo searched.now path.now.items next }
 {
-    let last = table.get(path[path.len() - 1]);
-    table.get(next).held.contains(last.lock)
+    let last = searched.table.get(path[path.len() - 1]);
+    searched.table.get(next).held.contains(last.lock)
 }

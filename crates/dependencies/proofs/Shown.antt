@@ -15,7 +15,7 @@ use Rattle.indexmap.proofs.CallerLemmas.{insert_entry-new}
 use Rattle.numbered.specs.Notes.{places_in, Ascend}
 use Rattle.trace_model.specs.Theory.Dependencies.{Dependency, same_dependency}
 use Rattle.trace_model.proofs.Theory.Dependencies.{same_dependency_so, same_dependency_itself}
-use Rattle.trace_model.proofs.Lists.{length-push, same_bool}
+use Rattle.trace_model.proofs.Lists.{length-push, same_bool, take_next}
 use Rattle.trace_model.proofs.Theory.Ascending.{place_of, contains_at}
 use Rattle.std.specs.List.Sorted.{IsStrictlyIncreasing}
 use Rattle.dependencies.specs.Tables.{named, placed, EndBelow, HaveOneMore}
@@ -173,10 +173,6 @@ new_noted ds ds' notes notes' p d n none gone at is keys =
     (subst (λ i. HaveOneMore (rows_from 0 ds notes) p d i (rows_from 0 ds notes ++ (d, p ∷ []) ∷ [])) (len ∙ sym at)
     (noted_new (rows_from 0 ds notes) p d (ap (list_any (same_dependency d)) (known_from 0 ds notes) ∙ gone)))
 
-pub same_kept : (ds ds' : List Dependency) (notes notes' : List (ℕ × ℕ)) (k k' : ℕ) → ds' ≡ ds → notes' ≡ notes → k' ≡ k → IsKeptOf ds notes k → IsKeptOf ds' notes' k'
-same_kept ds ds' notes notes' k k' a b c h =
-    subst (λ x. IsKeptOf x notes' k') (sym a) (subst (λ x. IsKeptOf ds x k') (sym b) (subst (IsKeptOf ds notes) (sym c) h))
-
 numbers_grow : (n k after : ℕ) → n ≤ k → after ≡ cond (nat_eq n k) (k + 1) k → (k ≤ after) × (n < after)
 numbers_grow n k after l h = elim (cases_eq n k) [
   | inl e ↦ let next : after ≡ k + 1 = h ∙ ap (λ b. cond b (k + 1) k) (eq-eqb n k e) in (omega arith, omega arith)
@@ -265,11 +261,6 @@ kept_new ds ds' notes notes' p d n k k' kept below at is keys after =
     }
 
 -- ---- the first ones, and the next
-
-pub take_next : {X : Type 0} → (n : ℕ) (xs : List X) (x : X) → slice_get xs n ≡ Some x → take (suc n) xs ≡ take n xs ++ x ∷ []
-take_next {X} n [] x h = absurd (none-some x h)
-take_next {X} zero (y ∷ xs) x h = ap (λ z. z ∷ []) (same_Some y x h)
-take_next {X} (suc n) (y ∷ xs) x h = ap (λ zs. y ∷ zs) (take_next n xs x h)
 
 pub take_past : {X : Type 0} → (n : ℕ) (xs : List X) → length xs ≤ n → take n xs ≡ xs
 take_past {X} zero [] l = refl

@@ -1,4 +1,3 @@
-pub mod Bounds
 pub mod Known
 pub mod Steps
 pub mod Together

@@ -1,13 +1,13 @@
 -- One finding more that is delivered.
-use Rattle.std.proofs.Common.{◌≡◌, ℕ, List, [], ◌∷◌, ◌++◌, length, map, take, slice_get, Some, None, Ok, Err, OnOk, OnErr, IfErr, inl, inr, refl, sym, ap, subst, ◌∙◌, arith, append_assoc}
+use Rattle.std.proofs.Common.{◌≡◌, ℕ, List, [], ◌∷◌, ◌++◌, length, map, take, slice_get, Some, Ok, Err, inl, inr, refl, sym, ap, subst, ◌∙◌, arith, append_assoc}
 use Rattle.std.proofs.lemmas.List.{append-nil, map-append, take-append-le}
 use Rattle.std.proofs.lemmas.Option.{none-some, same_Some, slice_get_within}
 use Rattle.trace_model.specs.declared.messages.step.BoardStep.{BoardStep}
 use Rattle.trace_model.proofs.Lists.{get-append, get-push, get-push_last, length-push, take-push}
-use Rattle.findings.specs.Found.{AreRowsOf, FoundRows}
-use Rattle.sequencer.specs.Sessions.{Delivered, delivery}
+use Rattle.findings.specs.Found.{FoundRows}
+use Rattle.sequencer.specs.Sessions.{Delivered}
+use Rattle.desk.specs.Deliveries.{WentSo}
 use Rattle.desk.specs.Published.{After, Kept, delivery_step}
-use Rattle.desk.specs.Refused.{RefusesFinding}
 use Rattle.desk.specs.Together.{AreOutcomes, IsOutcome, taken, taken_steps}
 
 taken_more : (fs : List FoundRows) (os : List Delivered) (f : FoundRows) (o : Delivered) → length os ≡ length fs →
@@ -50,15 +50,14 @@ outcomes_more limit run now fs os f o are was is = record {
 
 -- what `deliver` says of one
 pub outcome_of : (limit : ℕ) (s next : Kept) (f : FoundRows) (o : Delivered) → After limit s.published s.state →
-    OnOk o (delivery s.state f ≡ (None, next.state)) → OnOk o (AreRowsOf f.events f.bound f.task f.rows) →
-    IfErr o (λ refused. RefusesFinding s.state f refused.0) → IfErr o (λ refused. refused.1 ≡ f) → IsOutcome limit s.published f o
-outcome_of limit s next f (Ok u) after took exact refused back = ((s.state, after, ap (λ r. r.0) took), exact)
-outcome_of limit s next f (Err r) after took exact refused back = ((s.state, after, refused), back)
+    WentSo s next f o → IsOutcome limit s.published f o
+outcome_of limit s next f (Ok u) after taken = ((s.state, after, ap (λ r. r.0) taken.taken), taken.exact)
+outcome_of limit s next f (Err r) after refused = ((s.state, after, refused.refuses), refused.back)
 
-pub steps_of : (s next : Kept) (f : FoundRows) (o : Delivered) → OnOk o (next.published ≡ s.published ++ delivery_step f ∷ []) → OnErr o (next ≡ s) →
+pub steps_of : (s next : Kept) (f : FoundRows) (o : Delivered) → WentSo s next f o →
     next.published ≡ s.published ++ taken_steps (f ∷ []) (o ∷ [])
-steps_of s next f (Ok u) published same = published
-steps_of s next f (Err r) published same = ap (λ (k : Kept). k.published) same ∙ sym (append-nil s.published)
+steps_of s next f (Ok u) taken = taken.published
+steps_of s next f (Err r) refused = ap (λ (k : Kept). k.published) refused.same ∙ sym (append-nil s.published)
 
 pub none_yet : (limit : ℕ) (run : List BoardStep) (outcomes : List Delivered) → outcomes ≡ [] → AreOutcomes limit run [] outcomes
 none_yet limit run outcomes none = record {

@@ -2,4 +2,5 @@ pub mod Published
 pub mod Batches
 pub mod Questions
 pub mod Refused
+pub mod Deliveries
 pub mod Together

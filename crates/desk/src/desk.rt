@@ -60,7 +60,7 @@ impl<N: Naming, R: Wait + Copy> Desk<N, R, Shown<N>> {
         ensures allowed { IfOk result (λ _. IsLimit max_events × IsCount readers) }
         ensures refused { IfErr result (RefusesDesk max_events readers) }
     {
-        let (locked, all) = Locked::new(alloc, state, rt, opened, max_events, readers)?;
+        let (locked, all) = Locked::open(alloc, state, rt, opened, max_events, readers)?;
         let desk = Desk {
             locked: Mutex::new(locked),
             rt,

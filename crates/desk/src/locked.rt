@@ -9,16 +9,15 @@ ghost use Rattle.trace_model.specs.Protocol.Runs.{IsLegal};
 ghost use Rattle.trace_model.specs.declared.messages.step.BoardStep.TheVariants as steps;
 ghost use Rattle.trace_model.specs.declared.messages.session.Request.TheVariants as requests;
 ghost use Rattle.trace_model.specs.declared.messages.session.Reply.TheVariants.{Placed, Refused};
-ghost use Rattle.findings.specs.Found.{AreRowsOf};
 ghost use Rattle.sequencer.specs.Batched.{IsBatched};
 ghost use Rattle.sequencer.specs.Book.{IsLimit, Refuses, RefusesSnapshot, answer_refusal, answer_reply, ask_refusal, finding_refused, opened_reply};
 ghost use Rattle.sequencer.specs.Printing.{printing};
-ghost use Rattle.sequencer.specs.Sessions.{delivery};
 ghost use Rattle.board.specs.Totals.{Shows};
 ghost use Rattle.desk.specs.Batches.{accepting};
+ghost use Rattle.desk.specs.Deliveries.{WentSo};
 ghost use Rattle.desk.specs.Published.{After, delivery_step};
 ghost use Rattle.desk.specs.Questions.{AreEventsOf, IsFirstMissing};
-ghost use Rattle.desk.specs.Refused.{IsCount, RefusesDesk, RefusesFinding};
+ghost use Rattle.desk.specs.Refused.{IsCount, RefusesDesk};
 ghost use Rattle.desk.specs.Together.{AreOutcomes, taken_steps};
 
 use crate::own::OwnFinding;
@@ -73,9 +72,8 @@ impl<N: Naming, R: Wait + Copy> Locked<N, R, Shown<N>> {
     ///
     /// # Errors
     ///
-    /// `BadLimit` where `max_events` is not 1 to `MAX_EVENTS`, then `BadCount` where the readers
-    /// are not 1 to 40, then `NotMade` where a growth was refused.
-    pub fn new(
+    /// As of `Desk::new`.
+    pub(crate) fn open(
         alloc: Global,
         state: RandomState,
         rt: R,
@@ -214,8 +212,11 @@ impl<N: Naming, R: Wait + Copy, T: Follows<N>> Locked<N, R, T> {
             Err(refused) => return (Err(refused), self.board.receipt()),
         };
         let opened = self.book.opens(&asked);
-        let total = opened.total;
-        let Ok(()) = self.board.grow(BoardStep::Open { bound, total }) else {
+        let step = BoardStep::Open {
+            bound: asked.bound(),
+            total: opened.total,
+        };
+        let Ok(()) = self.board.grow(step) else {
             return (Err(AskRefused::NoMemory), self.board.receipt());
         };
         self.book.add(asked);
@@ -232,15 +233,7 @@ impl<N: Naming, R: Wait + Copy, T: Follows<N>> Locked<N, R, T> {
     pub fn deliver(&mut self, finding: Finding) -> (Result<(), (Refusal, Finding)>, Receipt<N>)
         ensures before { After N.limit self.old.published self.old.state }
         ensures after { After N.limit self.new.published self.new.state }
-        ensures taken { OnOk result.0 (delivery self.old.state finding ≡ (None, self.new.state)) }
-        ensures published { OnOk result.0 (self.new.published ≡ self.old.published ++
-            delivery_step finding ∷ []) }
-        ensures exact { OnOk result.0
-            (AreRowsOf finding.events finding.bound finding.task finding.rows) }
-        ensures refused { IfErr result.0
-            (λ refused. RefusesFinding self.old.state finding refused.0) }
-        ensures back { IfErr result.0 (λ refused. refused.1 ≡ finding) }
-        ensures same { OnErr result.0 (self.new ≡ self.old) }
+        ensures went { WentSo self.old self.new finding result.0 }
         ensures receipt { result.1 ≡ self.new.published }
         ensures legal { IsLegal self.new.published }
     {
@@ -260,13 +253,7 @@ impl<N: Naming, R: Wait + Copy, T: Follows<N>> Locked<N, R, T> {
     ) -> (Result<(), (Refusal, Finding)>, Receipt<N>)
         ensures before { After N.limit self.old.published self.old.state }
         ensures after { After N.limit self.new.published self.new.state }
-        ensures taken { OnOk result.0 (delivery self.old.state own ≡ (None, self.new.state)) }
-        ensures published { OnOk result.0 (self.new.published ≡ self.old.published ++
-            delivery_step own ∷ []) }
-        ensures exact { OnOk result.0 (AreRowsOf own.events own.bound own.task own.rows) }
-        ensures refused { IfErr result.0 (λ refused. RefusesFinding self.old.state own refused.0) }
-        ensures back { IfErr result.0 (λ refused. refused.1 ≡ own) }
-        ensures same { OnErr result.0 (self.new ≡ self.old) }
+        ensures went { WentSo self.old self.new own result.0 }
         ensures receipt { result.1 ≡ self.new.published }
         ensures legal { IsLegal self.new.published }
     {
@@ -286,15 +273,7 @@ impl<N: Naming, R: Wait + Copy, T: Follows<N>> Locked<N, R, T> {
         requires admitted { result_err admitted ≡ finding_refused self.old.state finding }
         ensures before { After N.limit self.old.published self.old.state }
         ensures after { After N.limit self.new.published self.new.state }
-        ensures taken { OnOk result.0 (delivery self.old.state finding ≡ (None, self.new.state)) }
-        ensures published { OnOk result.0 (self.new.published ≡ self.old.published ++
-            delivery_step finding ∷ []) }
-        ensures exact { OnOk result.0
-            (AreRowsOf finding.events finding.bound finding.task finding.rows) }
-        ensures refused { IfErr result.0
-            (λ refused. RefusesFinding self.old.state finding refused.0) }
-        ensures back { IfErr result.0 (λ refused. refused.1 ≡ finding) }
-        ensures same { OnErr result.0 (self.new ≡ self.old) }
+        ensures went { WentSo self.old self.new finding result.0 }
         ensures receipt { result.1 ≡ self.new.published }
         ensures legal { IsLegal self.new.published }
     {

@@ -112,14 +112,11 @@ impl<N: Naming, R: Wait + Copy, T: Follows<N>> Worker<N, R, T> {
             drop(self.job.take());
             return Turn::Idle;
         };
-        let Some(bound) = Bound::new(shown.bound) else {
-            unreachable!()
-        };
         let Some(picked) = self.pick(number, shown.total) else {
             return Turn::Idle;
         };
         let question = u32::from(number);
-        match self.compute(question, bound, picked.task) {
+        match self.compute(question, shown.bound, picked.task) {
             Ok(own) => {
                 hold.hold(question, picked.task);
                 self.deliver(own)

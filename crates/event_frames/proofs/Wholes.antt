@@ -1,5 +1,5 @@
 -- What the calls of a reader say of the whole text.
-use Rattle.std.proofs.Common.{◌≡◌, ℕ, Bool, true, false, List, [], ◌∷◌, ◌++◌, Option, Some, None, Result, Ok, Err, refl, sym, ap, subst, ◌∙◌, append_assoc}
+use Rattle.std.proofs.Common.{◌≡◌, ℕ, Bool, true, false, List, [], ◌∷◌, ◌++◌, Option, Some, None, Result, Ok, Err, refl, sym, ap, ◌∙◌, append_assoc}
 use Rattle.std.specs.Option.{is_some}
 use Rattle.std.specs.List.{flat_map, AllByRecursion}
 use Rattle.std.proofs.lemmas.List.{append-nil}
@@ -86,18 +86,6 @@ feeds old piece new not_ended f text given k =
 ends_at : (rest : List ℕ) (g : Fault) (b : Bool) → requests_in rest ≡ [] → fault_in rest b ≡ Some g → fault_in rest true ≡ Some g
 ends_at rest g true n e = e
 ends_at rest g false n e = ap (λ (x : List ℕ). fault_in x true) (sym (append-nil rest)) ∙ (fault_stays rest [] true g n e).stands
-
-pub finishes : (old new : Reading) → new ≡ record old { ended = true } → (text : List ℕ) (given : List Request) → HasRead text given old → HasRead text given new
-finishes old new e text given k =
-    subst (λ (v : Reading). HasRead text given v) (sym e) (record {
-      each = k.each;
-      rest = k.rest;
-      whole = k.whole;
-      follows = record {
-        untold = λ u. k.follows.untold u;
-        told = λ g u. let t = k.follows.told g u in (t.0, ends_at k.rest g old.ended t.0 t.1);
-      };
-    })
 
 -- once a fault was told, all requests were given, and the fault stands, ended or not
 pub told_whole : (text : List ℕ) (given : List Request) (v : Reading) (fault : Fault) → HasRead text given v → v.told ≡ Some fault → given ≡ requests_in text

@@ -4,7 +4,7 @@ ghost use Rattle.std.specs.Int.{w32, w64, to_be_bytes};
 ghost use Rattle.trace_model.specs.Protocol.Replies.{reply_body, reply_frame, fault_number, refusal_number, three_words, status_fields, IsReply};
 
 use std::alloc::{AllocError, Global};
-use trace_model::{Fault, NoMemory, Refusal, Reply};
+use trace_model::{Fault, NoMemory, QuestionStatus, Refusal, Reply};
 
 fn fault_number(fault: Fault) -> u8
     ensures { result ≡ fault_number fault }
@@ -28,7 +28,7 @@ fn body_len(reply: &Reply) -> u32
         Reply::Opened { .. } => 13,
         Reply::Pending { .. } => 13,
         Reply::Report { text, .. } => 5 + text.as_slice().len() as u32,
-        Reply::Status { .. } => 42,
+        Reply::Status(_) => 42,
         Reply::Fault(_) => 2,
         Reply::Batched { .. } => 7,
     }
@@ -49,47 +49,29 @@ fn put_words(out: &mut Vec<u8>, first: u32, second: u32, third: u32) -> Result<(
 }
 
 /// Adds what was counted of a question at the end.
-fn put_counts(
-    out: &mut Vec<u8>,
-    total: u32,
-    delivered: u32,
-    cycles: u64,
-    confirmed: u64,
-) -> Result<(), AllocError>
+fn put_counts(out: &mut Vec<u8>, status: &QuestionStatus) -> Result<(), AllocError>
     ensures ok { OnOk result (out.new.items ≡ out.old.items ++
-        (to_be_bytes w32 total ++ to_be_bytes w32 delivered ++ to_be_bytes w64 cycles ++
-        to_be_bytes w64 confirmed)) }
+        (to_be_bytes w32 status.now.total ++ to_be_bytes w32 status.now.delivered ++
+        to_be_bytes w64 status.now.cycles ++ to_be_bytes w64 status.now.confirmed)) }
     ensures room { vec_len out.old + 24 ≤ vec_capacity out.old → IsOk result }
 {
-    out.extend_from_slice(&total.to_be_bytes())?;
-    out.extend_from_slice(&delivered.to_be_bytes())?;
-    out.extend_from_slice(&cycles.to_be_bytes())?;
-    out.extend_from_slice(&confirmed.to_be_bytes())?;
+    out.extend_from_slice(&status.total.to_be_bytes())?;
+    out.extend_from_slice(&status.delivered.to_be_bytes())?;
+    out.extend_from_slice(&status.cycles.to_be_bytes())?;
+    out.extend_from_slice(&status.confirmed.to_be_bytes())?;
     Ok(())
 }
 
 /// Adds the fields of a status at the end.
 #[tactic(auto, unfolding(trace_model::specs::Protocol::Replies::status_fields))]
-fn put_status(
-    out: &mut Vec<u8>,
-    question: u32,
-    accepted: u32,
-    opened: u32,
-    length: u32,
-    bound: u8,
-    total: u32,
-    delivered: u32,
-    cycles: u64,
-    confirmed: u64,
-) -> Result<(), AllocError>
-    ensures ok { OnOk result (out.new.items ≡ out.old.items ++
-        status_fields question accepted opened length bound total delivered cycles confirmed) }
+fn put_status(out: &mut Vec<u8>, status: &QuestionStatus) -> Result<(), AllocError>
+    ensures ok { OnOk result (out.new.items ≡ out.old.items ++ status_fields status.now) }
     ensures room { vec_len out.old + 41 ≤ vec_capacity out.old → IsOk result }
 {
-    put_words(out, question, accepted, opened)?;
-    out.extend_from_slice(&length.to_be_bytes())?;
-    out.push(bound)?;
-    put_counts(out, total, delivered, cycles, confirmed)?;
+    put_words(out, status.question, status.accepted, status.opened)?;
+    out.extend_from_slice(&status.length.to_be_bytes())?;
+    out.push(status.bound.get())?;
+    put_counts(out, status)?;
     Ok(())
 }
 
@@ -161,22 +143,9 @@ fn put_body(out: &mut Vec<u8>, reply: &Reply) -> Result<(), AllocError>
             out.extend_from_slice(text.as_slice())?;
             Ok(())
         }
-        Reply::Status {
-            question,
-            accepted,
-            opened,
-            length,
-            bound,
-            total,
-            delivered,
-            cycles,
-            confirmed,
-        } => {
+        Reply::Status(status) => {
             out.push(70)?;
-            put_status(
-                out, *question, *accepted, *opened, *length, *bound, *total, *delivered, *cycles,
-                *confirmed,
-            )
+            put_status(out, status)
         }
         Reply::Fault(fault) => {
             out.push(71)?;

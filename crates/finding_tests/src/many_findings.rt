@@ -302,7 +302,7 @@ fn reads<N: Naming, R: Abort>(
     };
     let question = summary.question(0).ok_or("a question")?;
     assert_eq!(rt;
-        (question.length, question.bound, question.total),
+        (question.length, question.bound.get(), question.total),
         (10, 2, 2)
     );
     assert_eq!(rt;

@@ -17,7 +17,7 @@ ghost use Rattle.findings.specs.Scratches.{IsScratch};
 
 use crate::rows::rows_by;
 use crate::snapshot::Snapshot;
-use cycle_search::{Cycle, Ranks, SearchRefused, cycles_from};
+use cycle_search::{Cycle, Ranks, SearchRefused, Searched, cycles_from};
 use sp_closure::{Closer, Pasts, Steps};
 use std::alloc::Global;
 use std::marker::Brand;
@@ -71,14 +71,8 @@ impl Scratch {
         let Ok(ranks) = ranks_of(alloc, snapshot, self.ranks.take()) else {
             return Err(SearchRefused::NoMemory);
         };
-        let cycles = cycles_from(
-            alloc,
-            &snapshot.dependencies,
-            &snapshot.graph,
-            &ranks,
-            task,
-            bound,
-        );
+        let searched = Searched::new(&snapshot.dependencies, &snapshot.graph, &ranks);
+        let cycles = cycles_from(alloc, &searched, task, bound);
         self.ranks = Some(ranks);
         cycles
     }

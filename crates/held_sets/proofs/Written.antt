@@ -38,10 +38,3 @@ after_nothing table t l none = after_from table table table t (Release l) [] ref
     same : (u : ℕ) (b : Bool) → nat_eq t u ≡ b → holding_in table u ≡ cond b [] (holding_in table u)
     same u true e = subst (λ v. holding_in table v ≡ []) (eqb-true t u e) none
     same u false e = refl
-
--- what shows the same holdings is the same to what comes after
-pub after_shown : (old mid new : Table) (t : ℕ) (o : Op) → ((u : ℕ) → holding_in mid u ≡ holding_in old u) → IsAfter mid t o new → IsAfter old t o new
-after_shown old mid new t o same h = record {
-  held = λ u. h.held u ∙ ap (λ ds. cond (t == u) (held_after (depth_of ds) o (locks_of ds)) (locks_of ds)) (same u);
-  depth = λ u l. h.depth u l ∙ ap (λ ds. cond (t == u) (depth_after o l (depth_of ds l)) (depth_of ds l)) (same u);
-}

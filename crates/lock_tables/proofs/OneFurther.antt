@@ -7,10 +7,9 @@ use Rattle.std.specs.List.Sorted.{IsStrictlyIncreasing}
 use Rattle.trace_model.specs.declared.traces.event.Op.{Op}
 use Rattle.trace_model.specs.declared.traces.event.Op.TheVariants.{Fork, Join, Acquire, Release, Read, Write}
 use Rattle.trace_model.specs.Theory.Dependencies.{Dependency, same_dependency, with_new}
-use Rattle.trace_model.proofs.Lists.{length-push, take-take_below}
+use Rattle.trace_model.proofs.Lists.{length-push, take-take_below, take_next}
 use Rattle.held_sets.specs.Tables.{keeps_locks}
 use Rattle.dependencies.specs.Tables.{Rows, named}
-use Rattle.dependencies.proofs.Shown.{take_next}
 use Rattle.lock_graph.specs.declared.graph.LockGraph.{LockGraph}
 use Rattle.lock_graph.specs.Graph.{HoldsLock, IsGraphOf, HasGraphOf, holders}
 use Rattle.lock_graph.proofs.Beginning.{graphs_begin}

@@ -1,11 +1,10 @@
 -- What was collected of all tasks.
-use Rattle.std.proofs.Common.{◌≡◌, ℕ, zero, suc, ◌<◌, List, [], ◌∷◌, map, length, get_or, slice_get, Option, Some, None, Contains, ap, ◌∙◌, Result, Ok, Err, MatchResult, refl, sym, subst, arith}
+use Rattle.std.proofs.Common.{◌≡◌, ℕ, zero, suc, ◌<◌, List, [], ◌∷◌, map, length, get_or, slice_get, Some, Contains, ap, ◌∙◌, Result, Ok, Err, MatchResult, refl, sym, subst, arith}
 use Rattle.std.specs.Global.{Vec}
 use Rattle.std.specs.List.{AllZip, range_with_len}
 use Rattle.std.proofs.lemmas.List.FromFn.{get_or-range_with_len, length-range_with_len}
 use Rattle.std.proofs.lemmas.Option.{none-some, same_Some, slice_get_within}
 use Rattle.trace_model.specs.Theory.Trace.{Trace}
-use Rattle.trace_model.specs.Theory.Dependencies.{dependencies}
 use Rattle.witness.specs.Printed.{Printed}
 use Rattle.findings.specs.Found.{AreRowsOf}
 use Rattle.offline_report.specs.Offline.{AreComputed, IsNotComputed, IsTask, Tells}

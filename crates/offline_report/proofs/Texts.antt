@@ -4,7 +4,7 @@ use Rattle.std.specs.List.{AllZip}
 use Rattle.std.proofs.lemmas.List.Concat.{length-flat_map}
 use Rattle.trace_model.specs.declared.limits.TheConstants.{MAX_REPORT}
 use Rattle.witness.specs.Printed.{Printed}
-use Rattle.witness.specs.Text.{about, counts, is_confirmed, row_text}
+use Rattle.witness.specs.Text.{about, counts, is_confirmed}
 use Rattle.witness.proofs.Counting.{count_by-flat_map, confirmed_within, report_by_tasks, rows_within}
 use Rattle.offline_report.specs.Offline.{Tells, size_of, tasks_report, tasks_text, text_of}
 use Rattle.offline_report.specs.declared.parts.Part.{Part}

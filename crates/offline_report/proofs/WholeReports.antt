@@ -1,21 +1,20 @@
 -- The report on all tasks, and the first event that is not lawful.
-use Rattle.std.proofs.Common.{◌≡◌, ℕ, zero, suc, List, [], ◌∷◌, ◌++◌, length, map, take, slice_get, option_map, Option, Some, None, refl, sym, ap, subst, ◌∙◌}
+use Rattle.std.proofs.Common.{◌≡◌, ℕ, suc, List, [], ◌∷◌, ◌++◌, length, map, slice_get, option_map, Option, Some, None, refl, sym, ap, subst, ◌∙◌}
 use Rattle.std.specs.List.{flat_map, All}
 use Rattle.std.proofs.lemmas.List.{length-map, map-append}
 use Rattle.std.proofs.lemmas.List.Concat.{flat_map-cons}
 use Rattle.std.proofs.lemmas.List.Elements.{All-head, All-tail}
 use Rattle.std.proofs.lemmas.Option.{none-some, same_Some, slice_get-map}
-use Rattle.trace_model.specs.declared.traces.event.Event.{Event}
-use Rattle.trace_model.specs.Theory.Trace.{Trace, At}
+use Rattle.trace_model.specs.Theory.Trace.{Trace}
 use Rattle.trace_model.specs.Theory.Lawful.{IsWellFormed}
 use Rattle.trace_model.specs.Theory.Dependencies.{Dependency, dependencies}
 use Rattle.trace_model.specs.Theory.Rows.{Row, AreRows}
 use Rattle.witness.specs.Printed.{Printed, with_dependencies}
 use Rattle.witness.specs.Text.{report}
-use Rattle.offline_report.specs.Offline.{AreComputed, AreTasks, report_of, IsNotAdmitted, IsNotComputed, IsRefused, tasks_report}
+use Rattle.offline_report.specs.Offline.{AreComputed, AreTasks, report_of, IsNotComputed, IsRefused, tasks_report}
 use Rattle.offline_report.specs.declared.parts.Part.{Part}
 use Rattle.offline_report.specs.declared.refused.OfflineRefused.{OfflineRefused}
-use Rattle.offline_report.specs.declared.refused.OfflineRefused.TheVariants.{Gate, TooLong, TooManyCycles, NoMemory}
+use Rattle.offline_report.specs.declared.refused.OfflineRefused.TheVariants.{Unlawful, TooLong, TooManyCycles, NoMemory}
 
 -- the rows of a task, and of each task, without the dependencies that they name
 abbrev pub plain : List Printed → List Row
@@ -62,21 +61,8 @@ are_tasks s bound tasks parts c = record {
   each = λ task rows e. task_rows s bound (length (dependencies s)) tasks parts task rows (slice_get tasks task) c refl (sym (slice_get-map plain tasks task) ∙ e);
 }
 
--- one event more of a beginning
-pub take_next : (s : Trace) (n : ℕ) (e : Event) → At s n e → take (suc n) s ≡ take n s ++ e ∷ []
-take_next [] n e h = absurd (none-some e h)
-take_next (d ∷ s) zero e h = ap (λ x. x ∷ []) (same_Some d e h)
-take_next (d ∷ s) (suc n) e h = ap (λ r. d ∷ r) (take_next s n e h)
-
--- what is refused on the way to a report is rightly refused
-pub not_admitted : (s : Trace) (bound : ℕ) (refused : OfflineRefused) → IsNotAdmitted s refused → IsRefused s bound refused
-not_admitted s bound (Gate refusal index) h = h
-not_admitted s bound TooLong h = absurd h
-not_admitted s bound TooManyCycles h = absurd h
-not_admitted s bound NoMemory h = tt
-
 pub not_computed : (s : Trace) (bound : ℕ) (refused : OfflineRefused) → IsWellFormed s → IsNotComputed s bound refused → IsRefused s bound refused
-not_computed s bound (Gate refusal index) w h = absurd h
+not_computed s bound (Unlawful first) w h = absurd h
 not_computed s bound TooLong w h = absurd h
 not_computed s bound TooManyCycles w h = (w, h)
 not_computed s bound NoMemory w h = tt

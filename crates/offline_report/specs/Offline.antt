@@ -1,22 +1,21 @@
 -- The report on a whole list of events.
-use Rattle.std.specs.Prelude.{◌≡◌, ℕ, suc, ◌<◌, List, [], length, map, take, slice_get, count_by, Option, Some, MatchOption, Result, MatchResult}
+use Rattle.std.specs.Prelude.{◌≡◌, ℕ, suc, ◌<◌, List, [], length, map, slice_get, count_by, Option, Some, MatchOption, Result, MatchResult}
 use Rattle.std.specs.Global.{Vec}
 use Rattle.std.specs.List.{AllZip, flat_map}
 use Rattle.std.specs.Option.{option_map_or}
-use Rattle.trace_model.specs.declared.traces.event.Event.{Event}
-use Rattle.trace_model.specs.declared.limits.TheConstants.{MAX_EVENTS, MAX_REPORT, MAX_CYCLES}
-use Rattle.trace_model.specs.declared.refusal.Refusal.{Refusal}
-use Rattle.trace_model.specs.Theory.Trace.{Trace, At}
-use Rattle.trace_model.specs.Theory.Lawful.{IsWellFormed, refusal_of}
+use Rattle.trace_model.specs.declared.limits.TheConstants.{MAX_REPORT, MAX_CYCLES}
+use Rattle.trace_model.specs.Theory.Trace.{Trace}
+use Rattle.trace_model.specs.Theory.Lawful.{IsWellFormed}
 use Rattle.trace_model.specs.Theory.Dependencies.{dependencies}
 use Rattle.trace_model.specs.Theory.Rows.{Row, AreRows}
+use Rattle.wellformed.specs.FirstUnlawful.{IsFirstUnlawful}
 use Rattle.witness.specs.Printed.{Printed, with_dependencies}
 use Rattle.witness.specs.Text.{report, row_text, is_confirmed}
 use Rattle.cycle_search.specs.Search.{CycleFrom, MoreThan}
 use Rattle.findings.specs.Found.{AreRowsOf}
 use Rattle.offline_report.specs.declared.parts.Part.{Part}
 use Rattle.offline_report.specs.declared.refused.OfflineRefused.{OfflineRefused}
-use Rattle.offline_report.specs.declared.refused.OfflineRefused.TheVariants.{Gate, TooLong, TooManyCycles, NoMemory}
+use Rattle.offline_report.specs.declared.refused.OfflineRefused.TheVariants.{Unlawful, TooLong, TooManyCycles, NoMemory}
 
 -- of each task its rows, in the order of the tasks
 pub record AreTasks (s : Trace) (bound : ℕ) (tasks : List (List Row)) : Type 0 where
@@ -35,15 +34,9 @@ abbrev pub IsReport : Trace → ℕ → List ℕ → Type 0
 IsReport s bound text = IsWellFormed s
     × ((tasks : List (List Row)) × AreTasks s bound tasks × (text ≡ report_of s bound tasks))
 
--- the event at the index is not lawful after those before it, and these are
-abbrev pub IsFirstUnlawful : Trace → ℕ → Refusal → Type 0
-IsFirstUnlawful s index refusal =
-    IsWellFormed (take index s)
-    × ((e : Event) × At s index e × (refusal_of MAX_EVENTS (take index s) e ≡ Some refusal))
-
 -- there is rightly no report
 abbrev pub IsRefused : Trace → ℕ → OfflineRefused → Type 0
-IsRefused s bound (Gate refusal index) = IsFirstUnlawful s index refusal
+IsRefused s bound (Unlawful first) = IsFirstUnlawful s first
 IsRefused s bound TooLong = IsWellFormed s
     × ((tasks : List (List Row)) × AreTasks s bound tasks
     × (MAX_REPORT < length (report_of s bound tasks)))
@@ -54,13 +47,13 @@ IsRefused s bound NoMemory = Unit {0}
 -- ---- the parts
 
 abbrev pub IsNotAdmitted : Trace → OfflineRefused → Type 0
-IsNotAdmitted s (Gate refusal index) = IsFirstUnlawful s index refusal
+IsNotAdmitted s (Unlawful first) = IsFirstUnlawful s first
 IsNotAdmitted s TooLong = ⊥
 IsNotAdmitted s TooManyCycles = ⊥
 IsNotAdmitted s NoMemory = Unit {0}
 
 abbrev pub IsNotComputed : Trace → ℕ → OfflineRefused → Type 0
-IsNotComputed s bound (Gate refusal index) = ⊥
+IsNotComputed s bound (Unlawful first) = ⊥
 IsNotComputed s bound TooLong = ⊥
 IsNotComputed s bound TooManyCycles = (task : ℕ)
     × MoreThan (CycleFrom (dependencies s) bound task) MAX_CYCLES

@@ -1,7 +1,6 @@
 //! Events that passed the gate, with their tables.
 ghost use Rattle.std.specs.Prelude.{◌≡◌, length, IfOk, IfErr, OnOk};
 ghost use Rattle.std.specs.Arc.{arc_value};
-ghost use Rattle.trace_model.specs.declared.limits.TheConstants.{MAX_EVENTS};
 ghost use Rattle.trace_model.specs.Theory.Dependencies.{dependencies};
 ghost use Rattle.trace_model.specs.Theory.Lawful.{IsWellFormed};
 ghost use Rattle.offline_report.specs.Offline.{IsNotAdmitted, IsRefused, IsReport, whole};
@@ -15,8 +14,8 @@ use std::hash::RandomState;
 use std::marker::Model;
 use std::sync::Arc;
 use std::thread::Threads;
-use trace_model::{Bound, Event, MAX_EVENTS, NoMemory};
-use wellformed::GateTables;
+use trace_model::{Bound, Event, NoMemory};
+use wellformed::first_unlawful;
 
 /// Well-formed events with the tables that the tasks of a question with a bound are computed from.
 /// Contracts see it as that question, number 0.
@@ -41,7 +40,7 @@ impl Offline {
     ///
     /// # Errors
     ///
-    /// `Gate` with the first event that is not lawful, where there is one, and `NoMemory` where a
+    /// `Unlawful` with the first event that is not lawful, where there is one, and `NoMemory` where a
     /// growth was refused.
     pub fn open(
         alloc: Global,
@@ -119,22 +118,16 @@ impl Offline {
     }
 }
 
-/// Tests each event after those before it, in their order.
+/// Passes the events through a gate.
 fn admit(alloc: Global, state: RandomState, events: &[Event]) -> Result<(), OfflineRefused>
     ensures ok { OnOk result (IsWellFormed events.now) }
     ensures refused { IfErr result (IsNotAdmitted events.now) }
 {
-    let mut gate = GateTables::new(alloc, state);
-    for (index, event) in events.iter().enumerate() {
-        if let Err(refusal) = gate.check(MAX_EVENTS, event) {
-            return Err(OfflineRefused::Gate { refusal, index });
-        }
-        let Ok(()) = gate.reserve(event) else {
-            return Err(OfflineRefused::NoMemory);
-        };
-        gate.record(event);
+    match first_unlawful(alloc, state, events) {
+        Ok(None) => Ok(()),
+        Ok(Some(first)) => Err(OfflineRefused::Unlawful(first)),
+        Err(_) => Err(OfflineRefused::NoMemory),
     }
-    Ok(())
 }
 
 fn share(

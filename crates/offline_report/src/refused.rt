@@ -1,14 +1,14 @@
 //! Why there is no report.
 
 use thiserror::Error;
-use trace_model::Refusal;
+use wellformed::FirstUnlawful;
 
 /// Why there is no report.
 #[derive(Clone, Copy, Debug, PartialEq, Eq, Error)]
 pub enum OfflineRefused {
-    /// The event at this index is the first that is not lawful, with its refusal.
+    /// An event is not lawful after those before it.
     #[error("an event is not lawful")]
-    Gate { refusal: Refusal, index: usize },
+    Unlawful(FirstUnlawful),
     /// The text has more bytes than `MAX_REPORT`.
     #[error("the report is too long")]
     TooLong,

@@ -22,7 +22,7 @@ impl Hold for Unheld {
 ///
 /// # Errors
 ///
-/// `Gate` with the first event that is not lawful, where there is one; `TooManyCycles` where a task
+/// `Unlawful` with the first event that is not lawful, where there is one; `TooManyCycles` where a task
 /// has too many, `TooLong` where the text is, and `NoMemory` where a growth was refused. Where
 /// several tasks fail, what one of them refused.
 pub fn offline_with<R: Threads + Sync, H: Hold + Sync>(

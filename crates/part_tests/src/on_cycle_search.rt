@@ -7,7 +7,7 @@ ghost use Rattle.lock_graph.specs.Graph.{HasGraphOf};
 ghost use Rattle.cycle_search.specs.Ranked.{AreRanks};
 
 use crate::traces::{gate_after_forks, kept_if};
-use cycle_search::{Cycle, Ranks, SearchRefused, cycles_from, cycles_within};
+use cycle_search::{Cycle, Ranks, SearchRefused, Searched, cycles_from, cycles_within};
 use lock_tables::{LockParts, LockTables};
 use std::alloc::Global;
 use std::hash::RandomState;
@@ -61,9 +61,9 @@ fn push_roots(
     requires graph { HasGraphOf (known parts.now.dependencies) (arc_value parts.now.graph) }
     requires ranks { AreRanks (known parts.now.dependencies) ranks.now }
 {
-    let table = &parts.dependencies;
-    for root in 0..table.len() {
-        let found = cycles_from(alloc, table, &parts.graph, ranks, root as u32, bound)?;
+    let searched = Searched::new(&parts.dependencies, &parts.graph, ranks);
+    for root in 0..parts.dependencies.len() {
+        let found = cycles_from(alloc, &searched, root as u32, bound)?;
         let pushed = push_cycles(text, &found);
         drop(found);
         pushed?;
@@ -321,11 +321,11 @@ fn refusal(
     requires graph { HasGraphOf (known parts.now.dependencies) (arc_value parts.now.graph) }
     requires ranks { AreRanks (known parts.now.dependencies) ranks.now }
 {
-    let table = &parts.dependencies;
-    if table.is_empty() {
+    if parts.dependencies.is_empty() {
         return None;
     }
-    cycles_within(alloc, table, &parts.graph, ranks, 0, bound, most).err()
+    let searched = Searched::new(&parts.dependencies, &parts.graph, ranks);
+    cycles_within(alloc, &searched, 0, bound, most).err()
 }
 
 fn refusal_in(

@@ -8,7 +8,9 @@ use event_frames::{FrameReader, encode_reply};
 use fixtures::event;
 use std::alloc::Global;
 use std::test::*;
-use trace_model::{Event, Fault, NoMemory, Op, Place, Refusal, Reply, ReportText, Request};
+use trace_model::{
+    Bound, Event, Fault, NoMemory, Op, Place, QuestionStatus, Refusal, Reply, ReportText, Request,
+};
 
 // `0f1`, and `1a10`
 const FORK: [u8; 11] = [0, 9, 1, 0, 0, 0, 0, 0, 0, 0, 1];
@@ -181,17 +183,18 @@ fn frames_of_replies_about_questions(rt: HostRuntime) -> Result<(), Fail> {
 
 #[test]
 fn frame_of_a_status(rt: HostRuntime) -> Result<(), Fail> {
-    let status = Reply::Status {
+    let bound = Bound::new(2).expect(&rt, "a bound is 2 to 8");
+    let status = Reply::Status(QuestionStatus {
         question: 0,
         accepted: 10,
         opened: 1,
         length: 10,
-        bound: 2,
+        bound,
         total: 2,
         delivered: 2,
         cycles: 1,
         confirmed: 1,
-    };
+    });
     let frame = [
         0, 0, 0, 0x2a, 0x46, 0, 0, 0, 0, 0, 0, 0, 10, 0, 0, 0, 1, 0, 0, 0, 10, 2, 0, 0, 0, 2, 0, 0,
         0, 2, 0, 0, 0, 0, 0, 0, 0, 1, 0, 0, 0, 0, 0, 0, 0, 1,

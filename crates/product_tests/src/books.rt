@@ -5,14 +5,14 @@ use findings::Finding;
 use fixtures::{LIMIT, OPPOSITE_ORDERS, REPORT, event, frame};
 use sequencer::{
     Answer, AnswerRefused, AskRefused, Book, BookRefused, Input, NoSuchQuestion, PlayRefused,
-    Session, Status, play,
+    Session, play,
 };
 use std::alloc::{AllocError, Global};
 use std::hash::RandomState;
 use std::process::Abort;
 use std::random::RandomSource;
 use std::test::*;
-use trace_model::{Bound, Event, Op, Refusal};
+use trace_model::{Bound, Event, Op, QuestionStatus, Refusal};
 
 fn is_settled(answer: Result<Answer, AnswerRefused>, report: &[u8]) -> bool {
     match answer {
@@ -106,11 +106,13 @@ fn reports(rt: &(impl AllocGlobal + Abort), book: &mut Book) -> Result<(), Fail>
     deliver_next(rt, book, 0, 1)?;
     assert_eq!(rt; book.missing(0)?, None);
     assert!(rt; is_settled(book.answer(0), REPORT));
-    let status = Status {
+    let bound = Bound::new(2).expect(rt, "a bound is 2 to 8");
+    let status = QuestionStatus {
+        question: 0,
         accepted: 11,
         opened: 1,
         length: 10,
-        bound: 2,
+        bound,
         total: 2,
         delivered: 2,
         cycles: 1,

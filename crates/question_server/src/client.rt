@@ -12,10 +12,9 @@ ghost use Rattle.question_server.specs.Clients.{IsTold, IsStatus, StepsAtDesk};
 use crate::ends::Calls;
 use board::{BoardReader, Busy, Follows, Naming, Receipt, Summary};
 use desk::Desk;
-use sequencer::Answer;
 use std::marker::Model;
 use std::sync::{Arc, Wait};
-use trace_model::{Event, Refusal, Reply, Request};
+use trace_model::{Event, QuestionStatus, Refusal, Reply, Request};
 
 /// A desk with a reader of its board, which learns the receipt of each of the client's calls: so
 /// its status, which is read from the board, holds every step that its session was answered.
@@ -91,11 +90,7 @@ impl<N: Naming, R: Wait + Copy, T: Follows<N>> Client<N, R, T> {
     {
         let told = self.desk.ask(bound);
         match self.learn(told) {
-            Ok(opened) => Reply::Opened {
-                question: opened.question,
-                length: opened.length,
-                total: opened.total,
-            },
+            Ok(opened) => opened.reply(),
             Err(refused) => Reply::Refused(refused.refusal()),
         }
     }
@@ -107,12 +102,7 @@ impl<N: Naming, R: Wait + Copy, T: Follows<N>> Client<N, R, T> {
     {
         let told = self.desk.answer(question);
         match self.learn(told) {
-            Ok(Answer::Pending { delivered, total }) => Reply::Pending {
-                question,
-                delivered,
-                total,
-            },
-            Ok(Answer::Settled(text)) => Reply::Report { question, text },
+            Ok(told) => told.reply(question),
             Err(refused) => Reply::Refused(refused.refusal()),
         }
     }
@@ -136,7 +126,7 @@ fn status_in(summary: &Summary, question: u32) -> Reply
     ensures fits { IsReply result }
 {
     match summary.question(question) {
-        Some(asked) => Reply::Status {
+        Some(asked) => Reply::Status(QuestionStatus {
             question,
             accepted: summary.accepted,
             opened: summary.opened,
@@ -146,7 +136,7 @@ fn status_in(summary: &Summary, question: u32) -> Reply
             delivered: asked.delivered,
             cycles: asked.cycles,
             confirmed: asked.confirmed,
-        },
+        }),
         None => Reply::Refused(Refusal::NoSuchQuestion),
     }
 }

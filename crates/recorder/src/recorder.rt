@@ -6,6 +6,7 @@ ghost use Rattle.std.specs.Result.{result_err};
 ghost use Rattle.trace_model.specs.declared.limits.TheConstants.{MAX_EVENTS};
 ghost use Rattle.trace_model.specs.Theory.Dependencies.{dependencies};
 ghost use Rattle.trace_model.specs.Theory.Lawful.{refusal_of, IsWellFormed};
+ghost use Rattle.wellformed.specs.Gate.{with_event};
 
 use findings::Snapshot;
 use lock_tables::LockTables;
@@ -151,12 +152,7 @@ impl Recorder {
     pub fn record(&mut self, event: &Event)
         requires reserved { self.old.reserved ≡ Some event.now }
         requires lawful { refusal_of self.old.limit self.old.events event.now ≡ None }
-        ensures { self.new ≡ record {
-          limit = self.old.limit;
-          events = self.old.events ++
-              event.now ∷ [];
-          reserved = None;
-        } }
+        ensures { self.new ≡ with_event self.old event.now }
     {
         let _len = self.index.len();
         self.ready = None;

@@ -9,18 +9,17 @@ use Rattle.trace_model.specs.declared.traces.event.Op.TheVariants.{Fork, Join, W
 use Rattle.trace_model.specs.Theory.Trace.{Trace, Does, OfThread}
 use Rattle.trace_model.specs.Theory.Lawful.{IsWellFormed}
 use Rattle.trace_model.specs.Theory.Lookups.{writer, release}
-use Rattle.trace_model.specs.Theory.Reordering.{ForkOrJoin, IsReordering}
+use Rattle.trace_model.specs.Theory.Reordering.{IsReordering}
 use Rattle.trace_model.specs.Theory.Reordering as reordering
 use Rattle.trace_model.specs.Theory.Walk.{LastIn, Follows, Walks}
 use Rattle.trace_model.proofs.Theory.Ascending.{place_of, contains_at}
 use Rattle.trace_model.proofs.Theory.Lawful.{fork_once, fork_first, forked, join_passed}
-use Rattle.trace_model.proofs.Lists.{get-take, get-take_past}
-use Rattle.trace_model.proofs.Theory.Walk.{front_from, walk_reorders, reordering_walks}
+use Rattle.trace_model.proofs.Theory.Walk.{walk_reorders, reordering_walks}
 use Rattle.replay.specs.declared.verdict.Fault.{Fault}
 use Rattle.replay.specs.declared.verdict.Fault.TheVariants.{OutOfTrace, Repeated, ThreadOrder, ForkOrder, JoinOrder, WrongWriter, Overlap, LockOrder, TooFar, NotReached}
 use Rattle.replay.specs.declared.verdict.Verdict.{Verdict}
 use Rattle.replay.specs.declared.verdict.Verdict.TheVariants.{Reaches, Fails}
-use Rattle.replay.specs.Tests.{NoForkIn, NoWriteIn, IsDistinctList, IsClosedIn, Breaks}
+use Rattle.replay.specs.Tests.{NoForkIn, NoWriteIn, IsClosedIn, Breaks}
 use Rattle.replay.specs.Laws.{InTrace}
 use Rattle.replay.specs.Verdict.{order_tests, instance_tests, IsFirst, Passes, StopsAt, OrderPasses, IsVerdict}
 use Rattle.replay.proofs.Lists.{in_unless}
@@ -220,21 +219,6 @@ sees_decided s passed v None None h d = (λ _. h, λ _. refl)
 sees_decided s passed v None (Some w) h d = (λ e. absurd (false≢true e), λ l. absurd (h w (d w refl) l.0))
 sees_decided s passed v (Some w) None h d = (λ e. absurd (false≢true e), λ n. absurd (n w h.1 h.0.0))
 sees_decided s passed v (Some w) (Some u) h d = (λ e. subst (LastIn s passed v) (eqb-true w u e) h.0, λ l. eq-eqb w u (last_unique s passed v w u h.1 (d u refl) h.0 l))
-
--- where places pass, they are distinct
-pub passes_distinct : (s : Trace) (order : List ℕ) (k : ℕ) → Passes order_tests s (λ k. take k order) order k → IsDistinctList (take k order)
-passes_distinct s order k h i j q a b =
-    elim (cases_lt i j) [
-      | inl l ↦ absurd (twice i j q l a b)
-      | inr l ↦ elim (cases_lt j i) [ inl m ↦ absurd (twice j i q m b a) | inr m ↦ omega arith ]
-    ]
-  where
-    twice : (i j q : ℕ) → i < j → slice_get (take k order) i ≡ Some q → slice_get (take k order) j ≡ Some q → ⊥
-    twice i j q l a b =
-        let low = get-take_past k order j q b in
-        let e : slice_get order j ≡ Some q = sym (get-take k order j low) ∙ b in
-        none_of order_tests s (take j order) q (h j q low e) 1 Repeated refl
-        (front_from order j q i l (sym (get-take k order i (omega arith)) ∙ a))
 
 -- one more place passes
 pub passes_more : (fs : List Fault) (s : Trace) (passed : ℕ → List ℕ) (places : List ℕ) (n q : ℕ) → Passes fs s passed places n →

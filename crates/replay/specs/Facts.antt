@@ -1,5 +1,5 @@
 -- What the trace alone says of each of its places.
-use Rattle.std.specs.Prelude.{◌≡◌, ℕ, zero, suc, ◌<◌, Bool, false, ◌==◌, List, [], ◌∷◌, ◌++◌, length, slice_get, nat_eq, Option, Some, None, if◌then◌else◌}
+use Rattle.std.specs.Prelude.{◌≡◌, ℕ, zero, suc, ◌<◌, Bool, false, ◌==◌, List, [], ◌∷◌, ◌++◌, length, slice_get, nat_eq, Option, Some, None}
 use Rattle.std.specs.HashMap.{get}
 use Rattle.std.specs.Option.{option_and_then, option_map_or}
 use Rattle.trace_model.specs.declared.traces.event.Op.{Op}

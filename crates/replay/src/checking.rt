@@ -1,6 +1,6 @@
 //! The check of a list of places against a trace.
 
-ghost use Rattle.std.specs.Prelude.{◌≡◌, ◌↔◌, IfOk};
+ghost use Rattle.std.specs.Prelude.{◌≡◌, ◌↔◌, [], IfOk};
 ghost use Rattle.trace_model.specs.Theory.Lawful.{IsWellFormed};
 ghost use Rattle.replay.specs.declared.verdict.Verdict.{Verdict};
 ghost use Rattle.replay.specs.Facts.{AreFacts};
@@ -40,29 +40,31 @@ pub fn check(
     ensures exact { IfOk result (λ v.
         (v ≡ Verdict.Reaches) ↔ IsWitnessFor trace.now order.now instance.now) }
 {
-    verdict_of(alloc, state, trace, order, instance)
+    let facts = facts_of(alloc, state, trace)?;
+    let mut walked = Walked::new(alloc, state, trace.len())?;
+    walk(trace, order, instance, &facts, &mut walked)
 }
 
-/// The verdict, by one walk along the list.
-fn verdict_of(
-    alloc: Global,
-    state: RandomState,
+/// The verdict, by one walk along the list, which has not begun.
+fn walk(
     trace: &[Event],
     order: &[Place],
     instance: &Instance,
+    facts: &Facts,
+    walked: &mut Walked,
 ) -> Result<Verdict, NoMemory>
-    requires { IsWellFormed trace.now }
+    requires well_formed { IsWellFormed trace.now }
+    requires facts { AreFacts trace.now facts.now }
+    requires begins { IsWalked trace.now [] walked.old }
     ensures { IfOk result (λ v. IsVerdict trace.now order.now instance.now v) }
 {
-    let facts = facts_of(alloc, state, trace)?;
-    let mut walked = Walked::new(alloc, state, trace.len())?;
     for k in 0..order.len() {
         let place = order[k];
         let known = Known {
             trace,
             passed: &order[..k],
-            facts: &facts,
-            walked: &walked,
+            facts,
+            walked,
         };
         if let Some(fault) = known.order_fault(place) {
             return Ok(Verdict::Fails(fault, place));
@@ -70,7 +72,7 @@ fn verdict_of(
         let begun = known.begun(place);
         walked.push(place, trace[place.get() as usize].op, begun)?;
     }
-    Ok(check_instance(trace, order, &facts, &walked, instance))
+    Ok(check_instance(trace, order, facts, walked, instance))
 }
 
 /// The first test that fails at a place of the instance, once the list was walked to its end.

@@ -1,14 +1,13 @@
 -- The counts of a question.
-use Rattle.std.proofs.Common.{◌≡◌, ℕ, zero, suc, ◌+◌, ◌*◌, ◌≤◌, cond, List, [], ◌∷◌, length, map, replicate, slice_get, slice_set, is_some, option_map, Option, Some, None, refl, sym, ap, ◌∙◌, arith}
+use Rattle.std.proofs.Common.{◌≡◌, ℕ, zero, suc, ◌+◌, ◌*◌, ◌≤◌, cond, List, [], ◌∷◌, length, map, replicate, slice_get, slice_set, option_map, Option, Some, None, refl, sym, ap, ◌∙◌, arith}
 use Rattle.std.proofs.lemmas.List.{length-map, length-replicate, map-set}
 use Rattle.std.proofs.Math.ListN.{length-set}
 use Rattle.std.proofs.lemmas.List.Sums.{sum_by-cons, sum_by-le-sum_by, count_by-le-length}
 use Rattle.std.proofs.lemmas.Option.{none-some, same_Some, slice_get-map}
 use Rattle.std.specs.List.{count_by, sum_by}
 use Rattle.trace_model.specs.declared.limits.TheConstants.{MAX_CYCLES}
-use Rattle.trace_model.specs.declared.refusal.Refusal.TheVariants.{NoSuchTask, Double}
 use Rattle.trace_model.specs.Theory.Rows.{Row}
-use Rattle.trace_model.specs.Protocol.Machine.{Question, cycles_of, confirmed_of, is_confirmed, rows_of, task_refused}
+use Rattle.trace_model.specs.Protocol.Machine.{Question, cycles_of, confirmed_of, is_confirmed, rows_of}
 use Rattle.trace_model.proofs.Protocol.Summary.{sum_told}
 use Rattle.witness.specs.Printed.{Printed}
 use Rattle.witness.specs.Text as Text
@@ -16,13 +15,6 @@ use Rattle.result_ledger.specs.Tasks.{Tasks}
 use Rattle.sequencer.specs.Asked.{Told, rows_in, IsCounted}
 
 -- ---- of each task what is printed, and the machine's rows
-
-pub told_is_told : (tasks : Tasks) → count_by is_some (map (option_map rows_in) tasks) ≡ count_by is_some tasks
-told_is_told [] = refl
-told_is_told (None ∷ tasks) =
-    omega (arith, told_is_told tasks, sum_by-cons (λ t. cond (is_some t) 1 0) None (map (option_map rows_in) tasks), sum_by-cons (λ t. cond (is_some t) 1 0) None tasks)
-told_is_told (Some rows ∷ tasks) =
-    omega (arith, told_is_told tasks, sum_by-cons (λ t. cond (is_some t) 1 0) (Some (rows_in rows)) (map (option_map rows_in) tasks), sum_by-cons (λ t. cond (is_some t) 1 0) (Some rows) tasks)
 
 pub confirmed_rows : (rows : List Printed) → count_by is_confirmed (rows_in rows) ≡ count_by Text.is_confirmed rows
 confirmed_rows [] = refl
@@ -77,12 +69,3 @@ pub confirmed_fewer : (q : Question) → confirmed_of q ≤ cycles_of q
 confirmed_fewer q = sum_by-le-sum_by (λ x. count_by is_confirmed (rows_of x)) (λ x. length (rows_of x)) q.tasks (λ x. count_by-le-length is_confirmed (rows_of x))
 
 -- ---- what refuses a task
-
-pub refused_unknown : (tasks : Tasks) (task : ℕ) → slice_get tasks task ≡ None → task_refused (slice_get (map (option_map rows_in) tasks) task) ≡ Some NoSuchTask
-refused_unknown tasks task h = ap task_refused (slice_get-map (option_map rows_in) tasks task ∙ ap (option_map (option_map rows_in)) h)
-
-pub refused_double : (tasks : Tasks) (task : ℕ) (rows : List Printed) → slice_get tasks task ≡ Some (Some rows) → task_refused (slice_get (map (option_map rows_in) tasks) task) ≡ Some Double
-refused_double tasks task rows h = ap task_refused (slice_get-map (option_map rows_in) tasks task ∙ ap (option_map (option_map rows_in)) h)
-
-pub refused_none : (tasks : Tasks) (task : ℕ) → slice_get tasks task ≡ Some None → task_refused (slice_get (map (option_map rows_in) tasks) task) ≡ None
-refused_none tasks task h = ap task_refused (missing_row tasks task h)

@@ -1,5 +1,5 @@
 -- What the loop that answers a session keeps.
-use Rattle.std.proofs.Common.{◌≡◌, ℕ, ◌<◌, Bool, List, [], ◌∷◌, ◌++◌, length, Option, Some, None, Ok, Err, refl, sym, ap, subst, ◌∙◌, append_assoc, arith, length-append}
+use Rattle.std.proofs.Common.{◌≡◌, ℕ, ◌<◌, Bool, List, [], ◌∷◌, ◌++◌, length, Option, Some, None, Ok, Err, sym, ap, subst, ◌∙◌, append_assoc, arith, length-append}
 use Rattle.std.proofs.lemmas.List.{append-nil}
 use Rattle.trace_model.specs.declared.messages.session.Request.{Request}
 use Rattle.trace_model.specs.declared.messages.session.Reply.{Reply}
@@ -22,9 +22,6 @@ pub record IsDrained (book : State) (reader : Reading) (sent : List ℕ) (now : 
   pub answers : out ++ answer_to now (requests_in left.rest) ≡ sent ++ answer_to book (requests_in reader.rest)
   pub fault : fault_in left.rest left.ended ≡ fault_in reader.rest reader.ended
   pub whole : (text : List ℕ) (given : List Request) → HasRead text given reader → (now_given : List Request) × HasRead text now_given left
-
-pub starts : (book : State) (reader : Reading) (sent : List ℕ) → reader.told ≡ None → IsDrained book reader sent book reader sent
-starts book reader sent e = record { untold = e; ended = refl; state = refl; answers = refl; fault = refl; whole = λ text given h. (given, h) }
 
 pub goes_on : (book : State) (reader : Reading) (sent : List ℕ) (now : State) (left : Reading) (out : List ℕ) (request : Request) (after : Reading) (next : State) (reply : Reply) (longer : List ℕ) → IsDrained book reader sent now left out → TakesRequest left request after → ((text : List ℕ) (given : List Request) → HasRead text given left → HasRead text (given ++ request ∷ []) after) → step printing now request ≡ (reply, next) → longer ≡ out ++ reply_frame reply → IsDrained book reader sent next after longer
 goes_on book reader sent now left out request after next reply longer d t w s l =

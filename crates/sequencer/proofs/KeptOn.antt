@@ -39,9 +39,6 @@ told_at asked k q h = go (slice_get asked k) refl
     go None e = absurd (none-some q (sym (ap (option_map question_of) e) ∙ (sym (slice_get-map question_of asked k) ∙ h)))
     go (Some told) e = (told, e, same_Some (question_of told) q (sym (ap (option_map question_of) e) ∙ (sym (slice_get-map question_of asked k) ∙ h)))
 
-pub no_question : (asked : List Told) (k : ℕ) → slice_get asked k ≡ None → slice_get (map question_of asked) k ≡ None
-no_question asked k h = slice_get-map question_of asked k ∙ ap (option_map question_of) h
-
 pub fits_at : (admitted limit : ℕ) (events : Trace) (asked : List Told) (k : ℕ) (told : Told) → IsKept admitted limit events asked → slice_get asked k ≡ Some told → QuestionFits AreRows events (question_of told)
 fits_at admitted limit events asked k told kept h = kept.fits.each k (question_of told) (question_at asked k told h)
 

@@ -7,7 +7,7 @@ use Rattle.trace_model.specs.declared.refusal.Refusal.TheVariants.{NoMemory, Bad
 use Rattle.trace_model.specs.declared.messages.session.Request.{Request}
 use Rattle.trace_model.specs.declared.messages.session.Request.TheVariants.{Offer, Ask, Answer as AskAnswer, Status as AskStatus}
 use Rattle.trace_model.specs.declared.messages.session.Reply.{Reply}
-use Rattle.trace_model.specs.declared.messages.session.Reply.TheVariants.{Placed as PlacedReply, Refused, Opened as OpenedReply, Pending as PendingReply, Report, Status as StatusReply}
+use Rattle.trace_model.specs.declared.messages.session.Reply.TheVariants.{Placed as PlacedReply, Refused, Opened as OpenedReply, Pending as PendingReply, Report}
 use Rattle.trace_model.specs.Theory.Trace.{Trace}
 use Rattle.trace_model.specs.Theory.Lawful.{refusal_of}
 use Rattle.trace_model.specs.Theory.Dependencies.{dependencies}
@@ -19,7 +19,6 @@ use Rattle.sequencer.specs.Asked.{Told, question_of, rows_in, TellsNamed}
 use Rattle.sequencer.specs.Printing.{printing}
 use Rattle.sequencer.specs.declared.answering.Answer.{Answer}
 use Rattle.sequencer.specs.declared.answering.Answer.TheVariants.{Pending, Settled}
-use Rattle.sequencer.specs.declared.answering.Status.{Status}
 use Rattle.sequencer.specs.declared.answering.AnswerRefused.{AnswerRefused}
 use Rattle.sequencer.specs.declared.answering.AnswerRefused.TheVariants as NoAnswer
 use Rattle.sequencer.specs.declared.asking.AskRefused.{AskRefused}
@@ -167,12 +166,6 @@ opened_reply o = OpenedReply o.question o.length o.total
 abbrev pub answer_reply : ℕ → Answer → Reply
 answer_reply question (Pending delivered total) = PendingReply question delivered total
 answer_reply question (Settled text) = Report question text
-
--- the reply that the status of the question gets
-abbrev pub status_reply : ℕ → Status → Reply
-status_reply question s =
-    StatusReply question s.accepted s.opened s.length s.bound s.total s.delivered s.cycles
-    s.confirmed
 
 -- what refuses a finding, and the rows of a finding
 abbrev pub outcome : Result Unit (Refusal × FoundRows) → Option Refusal

@@ -3,13 +3,13 @@
 ghost use Rattle.std.specs.Prelude.{◌≡◌, Err, IfErr, IfOk};
 ghost use Rattle.trace_model.specs.Protocol.Machine as machine;
 ghost use Rattle.trace_model.specs.declared.refusal.Refusal.TheVariants as refusals;
-ghost use Rattle.trace_model.specs.declared.messages.session.Reply.TheVariants.{Refused};
-ghost use Rattle.sequencer.specs.Book.{RefusesAnswer, TakesMemory, answer_refusal, answer_reply, status_reply};
+ghost use Rattle.trace_model.specs.declared.messages.session.Reply.TheVariants.{Refused, Status};
+ghost use Rattle.sequencer.specs.Book.{RefusesAnswer, TakesMemory, answer_refusal, answer_reply};
 ghost use Rattle.sequencer.specs.Printing.{printing};
 
 use crate::book::{Book, NoSuchQuestion};
 use thiserror::Error;
-use trace_model::{Refusal, ReportText};
+use trace_model::{QuestionStatus, Refusal, ReportText};
 use witness::{TextRefused, report_text};
 
 /// What is known of a question: how many of its tasks are delivered, or the report once all are.
@@ -41,21 +41,6 @@ impl AnswerRefused {
             AnswerRefused::NoMemory => Refusal::NoMemory,
         }
     }
-}
-
-/// The book and a question in numbers: how many events are accepted and questions opened; how many
-/// events the question is about, its bound, how many tasks it has and how many are delivered, and
-/// how many cycles and confirmed ones these have.
-#[derive(Clone, Copy, Debug, PartialEq, Eq)]
-pub struct Status {
-    pub accepted: u32,
-    pub opened: u32,
-    pub length: u32,
-    pub bound: u8,
-    pub total: u32,
-    pub delivered: u32,
-    pub cycles: u64,
-    pub confirmed: u64,
 }
 
 impl Book {
@@ -93,20 +78,21 @@ impl Book {
     /// # Errors
     ///
     /// `NoSuchQuestion`.
-    pub fn status(&self, question: u32) -> Result<Status, NoSuchQuestion>
-        ensures ok { IfOk result (λ shown. machine.status self.now.state question ≡
-            status_reply question shown) }
+    pub fn status(&self, question: u32) -> Result<QuestionStatus, NoSuchQuestion>
+        ensures ok { IfOk result (λ status. machine.status self.now.state question ≡
+            Status status) }
         ensures refused { IfErr result (λ _. machine.status self.now.state question ≡
             Refused refusals.NoSuchQuestion) }
     {
         let Some(asked) = self.asked(question) else {
             return Err(NoSuchQuestion);
         };
-        Ok(Status {
+        Ok(QuestionStatus {
+            question,
             accepted: self.length(),
             opened: self.opened(),
             length: asked.length(),
-            bound: asked.bound().get(),
+            bound: asked.bound(),
             total: asked.total(),
             delivered: asked.delivered(),
             cycles: asked.cycles(),

@@ -64,7 +64,7 @@ impl Asked {
     }
 
     /// Its bound.
-    pub(crate) fn bound(&self) -> Bound
+    pub fn bound(&self) -> Bound
         ensures { result ≡ self.now.bound }
     {
         self.bound

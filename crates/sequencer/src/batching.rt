@@ -5,7 +5,7 @@ ghost use Rattle.trace_model.specs.Theory.Lawful.{refusal_of};
 ghost use Rattle.sequencer.specs.Batched.{IsBatched, FirstIsAdmitted};
 
 use crate::book::Book;
-use trace_model::{Event, Refusal, Reply};
+use trace_model::{Event, Refusal};
 
 /// What became of a batch.
 #[derive(Clone, Copy, Debug, PartialEq, Eq)]
@@ -16,21 +16,6 @@ pub struct Batched {
     pub refusal: Option<Refusal>,
     /// How many events were accepted before the batch: the place of its first one.
     pub length: u32,
-}
-
-impl Batched {
-    ghost use Rattle.trace_model.specs.declared.messages.session.Reply.TheVariants as replies;
-
-    /// The reply that tells it.
-    pub fn reply(self) -> Reply
-        ensures { result ≡ replies.Batched self.accepted self.refusal self.length }
-    {
-        Reply::Batched {
-            accepted: self.accepted,
-            refusal: self.refusal,
-            length: self.length,
-        }
-    }
 }
 
 impl Book {

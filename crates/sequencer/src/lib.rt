@@ -9,11 +9,12 @@ mod batching;
 mod book;
 mod delivering;
 mod input;
+mod replies;
 mod session;
 mod sharing;
 mod step;
 
-pub use answering::{Answer, AnswerRefused, Status};
+pub use answering::{Answer, AnswerRefused};
 pub use asked::Asked;
 pub use asking::{AskRefused, Opened};
 pub use batching::Batched;

@@ -8,7 +8,6 @@ ghost use Rattle.sequencer.specs.Book.{IsPrepared, IsRefusal, Refuses, request_o
 ghost use Rattle.sequencer.specs.Called.{IsSingle, StepsOrMemory, WantsRightly, lacks_memory};
 ghost use Rattle.sequencer.specs.Printing.{printing};
 
-use crate::answering::Answer;
 use crate::asked::Asked;
 use crate::book::Book;
 use std::marker::Model;
@@ -97,14 +96,10 @@ impl Book {
     {
         match self.open(bound) {
             Ok(asked) => {
-                let opened = self.opens(&asked);
+                let reply = self.opens(&asked).reply();
                 Ok(Step {
                     change: Change::Open(asked),
-                    reply: Reply::Opened {
-                        question: opened.question,
-                        length: opened.length,
-                        total: opened.total,
-                    },
+                    reply,
                 })
             }
             Err(refused) => Err(Reply::Refused(refused.refusal())),
@@ -117,19 +112,13 @@ impl Book {
         ensures refused { IfErr result (Refuses self.now.state (requests.Answer question)) }
         ensures refusal { IfErr result (IsRefusal self.now.state (requests.Answer question)) }
     {
-        let reply = match self.answer(question) {
-            Ok(Answer::Pending { delivered, total }) => Reply::Pending {
-                question,
-                delivered,
-                total,
-            },
-            Ok(Answer::Settled(text)) => Reply::Report { question, text },
-            Err(refused) => return Err(Reply::Refused(refused.refusal())),
-        };
-        Ok(Step {
-            change: Change::Tell(question),
-            reply,
-        })
+        match self.answer(question) {
+            Ok(told) => Ok(Step {
+                change: Change::Tell(question),
+                reply: told.reply(question),
+            }),
+            Err(refused) => Err(Reply::Refused(refused.refusal())),
+        }
     }
 
     fn prepare_status(&self, question: u32) -> Result<Step, Reply>
@@ -143,17 +132,7 @@ impl Book {
         };
         Ok(Step {
             change: Change::Show(question),
-            reply: Reply::Status {
-                question,
-                accepted: status.accepted,
-                opened: status.opened,
-                length: status.length,
-                bound: status.bound,
-                total: status.total,
-                delivered: status.delivered,
-                cycles: status.cycles,
-                confirmed: status.confirmed,
-            },
+            reply: Reply::Status(status),
         })
     }
 

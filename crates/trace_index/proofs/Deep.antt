@@ -23,7 +23,7 @@ use Rattle.trace_index.specs.declared.row.Row.{Row}
 use Rattle.trace_index.specs.Depths.{depth_in, op_depth, event_depth, IsShallow, depth_noted, AreDeep, AreDepths}
 use Rattle.trace_index.specs.Links.{trace_of}
 use Rattle.trace_index.proofs.Chains.{length_trace, trace_push, trace_take}
-use Rattle.links.proofs.Lists.{take_next}
+use Rattle.links.proofs.Lists.{take_one_more}
 
 -- ---- by owners and by threads
 
@@ -116,7 +116,7 @@ depths_push s e d old new are is more l =
 pub depths_next : {S T : Type 0} (s : Trace) → IsWellFormed s → (n : ℕ) (e : Event) (d : ℕ) (old : HashMap ℕ ℕ S) (new : HashMap ℕ ℕ T) → At s n e → d ≡ event_depth s n e →
     AreDepths s n old → ((l : ℕ) → depth_in new l ≡ depth_noted e.op d l (depth_in old l)) → AreDepths s (n + 1) new
 depths_next s w n e d old new at is are more l =
-    depths_push (take n s) e d old new are (is ∙ sym (owned_there s w n e at)) more l ∙ ap (λ r. owned_in r l) (sym (take_next s n e (sym at)))
+    depths_push (take n s) e d old new are (is ∙ sym (owned_there s w n e at)) more l ∙ ap (λ r. owned_in r l) (sym (take_one_more s n e (sym at)))
 
 -- ---- the rows
 

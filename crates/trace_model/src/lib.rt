@@ -17,6 +17,7 @@ pub use limits::{
 pub use messages::batch::{EventBatch, MAX_BATCH};
 pub use messages::report::ReportText;
 pub use messages::session::{Fault, Reply, Request};
+pub use messages::status::QuestionStatus;
 pub use messages::step::BoardStep;
 pub use refusal::{NoMemory, Refusal, refusal_name};
 pub use traces::bound::Bound;

@@ -3,4 +3,5 @@
 pub(crate) mod batch;
 pub(crate) mod report;
 pub(crate) mod session;
+pub(crate) mod status;
 pub(crate) mod step;

@@ -62,18 +62,6 @@ module _ (s : Trace) (w : IsWellFormed s) (t : ℕ) where
 
 -- ---- the tables
 
--- entries that show nothing change nothing
-pub tables-shown : (s : Trace) (threads threads' : ThreadTable) (owners owners' : OwnerTable) (n : ℕ) →
-    AreTables s threads owners n → ((t : ℕ) → thread_in threads' t ≡ thread_in threads t) → ((l : ℕ) → owner_in owners' l ≡ owner_in owners l) →
-    AreTables s threads' owners' n
-tables-shown s threads threads' owners owners' n old by_thread by_lock = record {
-  forked_is = λ t. ap (λ x. x.forked) (by_thread t) ∙ old.forked_is t;
-  joined_is = λ t. ap (λ x. x.joined) (by_thread t) ∙ old.joined_is t;
-  held_is = λ t. ap (λ x. x.held) (by_thread t) ∙ old.held_is t;
-  owner_is = λ l. by_lock l ∙ old.owner_is l;
-  forks_is = old.forks_is;
-}
-
 pub tables-push : (s : Trace) (e : Event) (threads threads' : ThreadTable) (owners owners' : OwnerTable) (n m : ℕ) →
     IsWellFormed s → AreTables s threads owners n → op_refusal_of s e.thread e.op ≡ None →
     ((t : ℕ) → thread_in threads' t ≡ thread_after (owned (op_owner owners e.op)) e t (thread_in threads t)) →

@@ -4,3 +4,4 @@ pub mod Threads
 pub mod Tables
 pub mod Former
 pub mod Flat
+pub mod FirstUnlawful

@@ -1,9 +1,10 @@
 //! The gate: which events are lawful, one after the other.
 
-ghost use Rattle.std.specs.Prelude.{◌≡◌, ◌≢◌, ◌≤◌, length, None, Some, [], ◌∷◌, ◌++◌, OnErr, OnOk};
+ghost use Rattle.std.specs.Prelude.{◌≡◌, ◌≢◌, ◌≤◌, length, None, Some, [], OnErr, OnOk};
 ghost use Rattle.std.specs.Result.{result_err};
 ghost use Rattle.trace_model.specs.declared.limits.TheConstants.{MAX_EVENTS};
 ghost use Rattle.trace_model.specs.Theory.Lawful.{refusal_of, IsWellFormed};
+ghost use Rattle.wellformed.specs.Gate.{with_event};
 
 use crate::GateTables;
 use std::alloc::Global;
@@ -94,12 +95,7 @@ impl Gate {
     pub fn record(&mut self, event: &Event)
         requires reserved { self.old.reserved ≡ Some event.now }
         requires lawful { refusal_of self.old.limit self.old.events event.now ≡ None }
-        ensures { self.new ≡ record {
-          limit = self.old.limit;
-          events = self.old.events ++
-              event.now ∷ [];
-          reserved = None;
-        } }
+        ensures { self.new ≡ with_event self.old event.now }
     {
         self.tables.record(event);
         self.events.push_reserved(*event);

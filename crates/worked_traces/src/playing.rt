@@ -10,7 +10,7 @@ use sequencer::{Book, Input, Played, Session, play};
 use std::alloc::Global;
 use std::hash::RandomState;
 use std::io::Write;
-use trace_model::{Bound, Refusal};
+use trace_model::Refusal;
 
 /// What a run is to print of a command.
 #[derive(Clone, Copy)]
@@ -92,7 +92,7 @@ impl Sender {
             Ok(snapshot) => snapshot,
             Err(refusal) => return Ok(Err(refusal)),
         };
-        let bound = Bound::new(self.book.status(question)?.bound).context("a bound")?;
+        let bound = self.book.status(question)?.bound;
         Ok(Ok(Job::new(self.alloc, snapshot, question, bound)))
     }
 

@@ -181,4 +181,14 @@ status_shown b s number (a, l, each) = go (slice_get b.questions number) refl (s
         absurd (none-some there.0 (sym f ∙ there.1))
     go (Some x) e (Some q) f =
         let (e1, e2, e3, e4, e5, e6) = each number x q e f in
-        λ i. Status number (a i) (l i) (e1 i) (e2 i) (e3 i) (e4 i) (e5 i) (e6 i)
+        λ i. Status (record {
+          question = number;
+          accepted = a i;
+          opened = l i;
+          length = e1 i;
+          bound = e2 i;
+          total = e3 i;
+          delivered = e4 i;
+          cycles = e5 i;
+          confirmed = e6 i;
+        })

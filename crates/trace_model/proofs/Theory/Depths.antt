@@ -30,16 +30,6 @@ length-with l (k ∷ ks) h = go (length-with l ks (or_parts (k == l) (has l ks) 
     go more false true e = absurd (false≢true (sym h ∙ or_left (k == l) (has l ks) (eq-eqb k l (sym (eqb-true l k e)))))
     go more false false e = ap suc more
 
-pub length-with_most : (l : ℕ) (ks : List ℕ) → length (with_lock l ks) ≤ suc (length ks)
-length-with_most l [] = omega arith
-length-with_most l (k ∷ ks) = go (length-with_most l ks) (ltb l k) (l == k)
-  where
-    go : length (with_lock l ks) ≤ suc (length ks) → (x y : Bool) →
-        length (cond x (l ∷ k ∷ ks) (cond y (k ∷ ks) (k ∷ with_lock l ks))) ≤ suc (suc (length ks))
-    go more true y = omega arith
-    go more false true = omega arith
-    go more false false = omega arith
-
 pub above_lacks : (l : ℕ) (ks : List ℕ) → Above l ks → Ascends ks → has l ks ≡ false
 above_lacks l [] a h = refl
 above_lacks l (k ∷ ks) a h = rw (ne_eqb k l (λ e. omega (arith, e, a)), above_lacks l ks (above_lower l k ks a h.0) h.1) refl

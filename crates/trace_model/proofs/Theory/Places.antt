@@ -145,10 +145,3 @@ stands_from (e ∷ s) o zero (t, h) =
     or_left (op_eq e.op o) (stands s o) k
 stands_from (e ∷ s) o (suc p) (t, h) =
     or_right (op_eq e.op o) (stands s o) (stands_from s o p (t, h))
-
--- one step down, as a loop over the places takes it
-pub last_place_down : (test : ℕ → Bool) (n : ℕ) → 0 < n → test (n - 1) ≡ false → last_place test n ≡ last_place test (n - 1)
-last_place_down test zero l h = absurd (omega arith)
-last_place_down test (suc n) l h =
-    let e : suc n - 1 ≡ n = omega arith in
-    rw e (rw (rw e at h) refl)

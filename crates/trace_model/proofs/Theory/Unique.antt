@@ -146,12 +146,6 @@ closure_witness s w places set is reached = record {
       closure_in_every s places q ((is q).0 (ascending_contains set (length s) q c).1) other r e;
 }
 
--- and nothing else is
-pub least_row : (s : Trace) → IsWellFormed s → (numbers places : List ℕ) (set : Places) →
-    IsLeastInstance s numbers places → IsClosure s places set →
-    IsRow s (record { cycle = numbers; found = Some (record { places = places; witness = ascending set (length s) }) })
-least_row s w numbers places set least is = (least, closure_witness s w places set is least.is_reached)
-
 -- ---- exact rows are sound
 
 found_sound : (s : Trace) (numbers : List ℕ) (found : Option Found) →

@@ -164,8 +164,17 @@ answer text s number = answer_of text s number (slice_get s.questions number)
 abbrev pub status_of : State → ℕ → Option Question → Reply
 status_of s number None = Refused NoSuchQuestion
 status_of s number (Some q) =
-    Status number (length s.accepted) (length s.questions) q.length q.bound (length q.tasks)
-    (delivered q) (cycles_of q) (confirmed_of q)
+    Status (record {
+      question = number;
+      accepted = length s.accepted;
+      opened = length s.questions;
+      length = q.length;
+      bound = q.bound;
+      total = length q.tasks;
+      delivered = delivered q;
+      cycles = cycles_of q;
+      confirmed = confirmed_of q;
+    })
 
 abbrev pub status : State → ℕ → Reply
 status s number = status_of s number (slice_get s.questions number)

@@ -5,6 +5,7 @@ use Rattle.trace_model.specs.declared.limits.TheConstants.{MAX_REPORT}
 use Rattle.trace_model.specs.declared.refusal.Refusal.{Refusal}
 use Rattle.trace_model.specs.Protocol.Refusals.{number_of}
 use Rattle.trace_model.specs.declared.messages.session.Reply.{Reply}
+use Rattle.trace_model.specs.declared.messages.status.QuestionStatus.{QuestionStatus}
 use Rattle.trace_model.specs.declared.messages.session.Reply.TheVariants.{Placed, Refused, Opened, Pending, Report, Status, Fault as FaultReply, Batched}
 use Rattle.trace_model.specs.declared.messages.session.Fault.{Fault}
 use Rattle.trace_model.specs.declared.messages.session.Fault.TheVariants.{BadKind, BadLength, Truncated, BadBatch}
@@ -24,11 +25,11 @@ unfoldable pub three_words : ℕ → ℕ → ℕ → List ℕ
 three_words first second third = to_be_bytes w32 first ++ to_be_bytes w32 second ++
     to_be_bytes w32 third
 
-unfoldable pub status_fields : ℕ → ℕ → ℕ → ℕ → ℕ → ℕ → ℕ → ℕ → ℕ → List ℕ
-status_fields question accepted opened len bound total delivered cycles confirmed =
-    three_words question accepted opened ++ to_be_bytes w32 len ++ (bound ∷ []) ++
-    to_be_bytes w32 total ++ to_be_bytes w32 delivered
-    ++ to_be_bytes w64 cycles ++ to_be_bytes w64 confirmed
+unfoldable pub status_fields : QuestionStatus → List ℕ
+status_fields s =
+    three_words s.question s.accepted s.opened ++ to_be_bytes w32 s.length ++ (s.bound ∷ []) ++
+    to_be_bytes w32 s.total ++ to_be_bytes w32 s.delivered
+    ++ to_be_bytes w64 s.cycles ++ to_be_bytes w64 s.confirmed
 
 abbrev pub reply_body : Reply → List ℕ
 reply_body (Placed place) = 65 ∷ to_be_bytes w32 place
@@ -36,8 +37,7 @@ reply_body (Refused refusal) = 66 ∷ number_of refusal ∷ []
 reply_body (Opened question len total) = 67 ∷ three_words question len total
 reply_body (Pending question delivered total) = 68 ∷ three_words question delivered total
 reply_body (Report question text) = 69 ∷ to_be_bytes w32 question ++ text
-reply_body (Status question accepted opened len bound total delivered cycles confirmed) =
-    70 ∷ status_fields question accepted opened len bound total delivered cycles confirmed
+reply_body (Status s) = 70 ∷ status_fields s
 reply_body (FaultReply fault) = 71 ∷ fault_number fault ∷ []
 reply_body (Batched accepted refusal len) = 72 ∷ accepted ∷ refusal_number refusal ∷
     to_be_bytes w32 len

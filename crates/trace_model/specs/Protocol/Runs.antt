@@ -109,8 +109,17 @@ ShowsState b s =
 abbrev pub shown_status_of : Summary → ℕ → Option Shown → Reply
 shown_status_of b number None = Refused NoSuchQuestion
 shown_status_of b number (Some q) =
-    Status number b.accepted (length b.questions) q.before q.bound q.total q.delivered q.cycles
-    q.confirmed
+    Status (record {
+      question = number;
+      accepted = b.accepted;
+      opened = length b.questions;
+      length = q.before;
+      bound = q.bound;
+      total = q.total;
+      delivered = q.delivered;
+      cycles = q.cycles;
+      confirmed = q.confirmed;
+    })
 
 -- the reply to a status that is read off the board
 abbrev pub shown_status : Summary → ℕ → Reply

@@ -2,6 +2,7 @@
 
 use crate::messages::batch::EventBatch;
 use crate::messages::report::ReportText;
+use crate::messages::status::QuestionStatus;
 use crate::refusal::Refusal;
 use crate::traces::event::Event;
 use crate::traces::place::Place;
@@ -67,26 +68,7 @@ pub enum Reply {
         text: ReportText,
     },
     /// How a question stands.
-    Status {
-        /// Its number.
-        question: u32,
-        /// How many events the trace has.
-        accepted: u32,
-        /// How many questions there are.
-        opened: u32,
-        /// How many events the trace had when it was opened.
-        length: u32,
-        /// How many members its cycles may have.
-        bound: u8,
-        /// How many tasks it has.
-        total: u32,
-        /// How many of their findings were delivered.
-        delivered: u32,
-        /// How many cycles these have.
-        cycles: u64,
-        /// How many of these are confirmed.
-        confirmed: u64,
-    },
+    Status(QuestionStatus),
     /// The bytes are no requests from here on: the session's last reply.
     Fault(Fault),
     /// What became of a batch.

@@ -1,6 +1,7 @@
 //! The steps of the machine that are published.
 
 use crate::messages::batch::EventBatch;
+use crate::traces::bound::Bound;
 
 /// What one commit publishes.
 #[derive(Debug, Drop, PartialEq, Eq)]
@@ -10,7 +11,7 @@ pub enum BoardStep {
     /// A question about the trace as it is.
     Open {
         /// How many members its cycles may have.
-        bound: u8,
+        bound: Bound,
         /// How many tasks it has: one for each dependency of the trace.
         total: u32,
     },

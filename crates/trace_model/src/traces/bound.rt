@@ -35,6 +35,13 @@ impl Bound {
         }
     }
 
+    /// The least one.
+    pub fn least() -> Bound
+        ensures { result ≡ MIN_BOUND }
+    {
+        Bound(MIN_BOUND)
+    }
+
     /// The number.
     pub fn get(self) -> u8
         ensures value { result ≡ self }

@@ -10,6 +10,6 @@ returns-in_ok-push_tasks-in-Status c =
     let text = c.args.text.now.items in
     on_ok_weaker c.push_rows.result (λ e.
     added_thrice text c.push_book.new.text.items c.push_tasks.new.text.items c.push_rows.new.text.items
-    (book_words s.question s.accepted s.opened s.length s.bound) (task_words s.total s.delivered) (row_words s.cycles s.confirmed)
+    (book_words s.status) (task_words s.status) (row_words s.status)
     c.in_ok-push_book-in-Status.ensures c.in_ok-push_tasks-in-Status.ensures e
     ∙ ap (λ r. text ++ reply_text r) (sym s.is)) c.push_rows.ensures

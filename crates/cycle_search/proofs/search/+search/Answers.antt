@@ -4,7 +4,6 @@ use Rattle.std.proofs.lemmas.Grind.{get_or_default_zero}
 use Rattle.std.proofs.lemmas.Result.{err_from_is_err_and}
 use Rattle.std.specs.List.{Contains}
 use Rattle.trace_model.specs.Theory.Dependencies.{Dependency}
-use Rattle.guards.specs.Compatible.{IsCompatible}
 use Rattle.dependencies.specs.Tables.{known}
 use Rattle.cycle_search.specs.Search.{IsPath, Closes, AboveFirst, LinksTo, TakesBack, AreSome, AreAll, Adds, Exceeds, CycleBeyond, CycleThrough}
 use Rattle.cycle_search.specs.Takers.{IsNext}
@@ -14,7 +13,7 @@ use Rattle.cycle_search.proofs.Turns.{adds-more, adds-end, exceeds-more, closers
 use Rattle.cycle_search.proofs.Paths.{path-tested}
 use Rattle.cycle_search.proofs.Ranked.{other-rank}
 use Rattle.cycle_search.proofs.search.+search.Goals as goal
-use Rattle.cycle_search.proofs.search.+search.Goals.{visit-then-closes+else-len-limits+in_ok-push, visit-else-closes+then-len-limits-2+in_ok-extend, visit-else-closes+else-len-limits-2}
+use Rattle.cycle_search.proofs.search.+search.Goals.{visit-then-closes+else-len-search+in_ok-push, visit-else-closes+then-len-search-2+in_ok-extend, visit-else-closes+else-len-search-2}
 
 pub extend-visit-requires : goal.extend-visit-requires
 extend-visit-requires t c =
@@ -25,7 +24,7 @@ extend-visit-requires t c =
     let here : Contains items m = (i, c.loop-next-test.true, get_or_default_zero items i m c.loop-next-test.true) in
     let same = sym c.loop-next.invariant.same in
     let shorter = ap (λ (p : List ℕ). length p) same in
-    (omega (arith, shorter), (c.requires.graph, (c.requires.ranks, (subst (λ p. IsPath (known c.args.table.now) p) same c.requires.path, (subst (λ (p : List ℕ). length p < c.args.limits.members) same c.requires.room, (c.requires.bound, (c.loop-next.invariant.few, (n.known m here, (subst (λ p. AboveFirst p m) same (n.above m here), subst (λ p. LinksTo (known c.args.table.now) p m) same (n.linked m here))))))))))
+    (omega (arith, shorter), (subst (λ p. IsPath c.args.search.now.searched.now p) same c.requires.path, (subst (λ (p : List ℕ). length p < c.args.search.now.members) same c.requires.room, (record { members = c.requires.limits.members; cycles = c.loop-next.invariant.few }, (n.known m here, (subst (λ p. AboveFirst p m) same (n.above m here), subst (λ p. LinksTo c.args.search.now.searched.now p m) same (n.linked m here)))))))
 
 pub extend-returns-in_err-visit-clause-too_many : goal.extend-returns-in_err-visit-clause-too_many
 extend-returns-in_err-visit-clause-too_many t c e =
@@ -33,9 +32,9 @@ extend-returns-in_err-visit-clause-too_many t c e =
     let i = c.loop-next.next-index in
     let items = c.successors-nexts.result.now in
     let q = c.visit.ensures.too_many (c.in_err-visit.was ∙ ap Err (sym p.2) ∙ sym p.1 ∙ e) in
-    exceeds-more (known c.args.table.now) c.args.limits.members c.args.path.now.items items c.successors-nexts.ensures.ascends i (get_or items i 0)
-    (slice_get-get_or items i 0 c.loop-next-test.true) c.args.limits.cycles _ _ c.loop-next.invariant.added
-    (subst (λ p. Exceeds (CycleThrough (known c.args.table.now) c.args.limits.members p (get_or items i 0)) c.args.limits.cycles c.loop-next.found.items) c.loop-next.invariant.same q)
+    exceeds-more c.args.search.now.searched.now c.args.search.now.members c.args.path.now.items items c.successors-nexts.ensures.ascends i (get_or items i 0)
+    (slice_get-get_or items i 0 c.loop-next-test.true) c.args.search.now.cycles _ _ c.loop-next.invariant.added
+    (subst (λ p. Exceeds (CycleThrough c.args.search.now.searched.now c.args.search.now.members p (get_or items i 0)) c.args.search.now.cycles c.loop-next.found.items) c.loop-next.invariant.same q)
 
 pub extend-loop-next-preserved : goal.extend-loop-next-preserved
 extend-loop-next-preserved t c = let e = c.in_ok-visit.ensures in
@@ -44,14 +43,14 @@ extend-loop-next-preserved t c = let e = c.in_ok-visit.ensures in
     record {
       same = e.path ∙ c.loop-next.invariant.same;
       few = e.few;
-      added = adds-more (known c.args.table.now) c.args.limits.members c.args.path.now.items items c.successors-nexts.ensures.ascends i (get_or items i 0)
+      added = adds-more c.args.search.now.searched.now c.args.search.now.members c.args.path.now.items items c.successors-nexts.ensures.ascends i (get_or items i 0)
           (slice_get-get_or items i 0 c.loop-next-test.true) _ _ _ c.loop-next.invariant.added
-          (subst (λ p. Adds (CycleThrough (known c.args.table.now) c.args.limits.members p (get_or items i 0)) c.loop-next.found.items c.visit.new.found.items) c.loop-next.invariant.same e.all);
+          (subst (λ p. Adds (CycleThrough c.args.search.now.searched.now c.args.search.now.members p (get_or items i 0)) c.loop-next.found.items c.visit.new.found.items) c.loop-next.invariant.same e.all);
     }
 
 pub extend-returns-clause-all : goal.extend-returns-clause-all
 extend-returns-clause-all t c =
-    adds-end (known c.args.table.now) c.args.limits.members c.args.path.now.items c.successors-nexts.result.now c.loop-next.next-index _ _ c.requires.path.begun
+    adds-end c.args.search.now.searched.now c.args.search.now.members c.args.path.now.items c.successors-nexts.result.now c.loop-next.next-index _ _ c.requires.path.begun
     c.successors-nexts.ensures c.loop-next-test.false c.loop-next.invariant.added
 
 -- what the search for the next closer answers, of the path as it was
@@ -65,16 +64,16 @@ close-loop-next-init t c =
     let head = ap (λ (xs : List ℕ). get_or xs 0 0) (sym c.deref.ensures.0) in
     record {
       same = refl;
-      few = c.requires.few;
+      few = c.requires.limits.cycles;
       first = omega (arith, head);
-      added = closers-begin (known c.args.table.now) c.args.limits.members c.args.path.now.items c.requires.path c.requires.room _ _
+      added = closers-begin c.args.search.now.searched.now c.args.search.now.members c.args.path.now.items c.requires.path c.requires.room _ _
           (slice_get-get_or c.args.path.now.items 0 0 c.requires.path.begun ∙ ap Some head);
     }
 
 pub close-links-requires-clause-next : goal.close-links-requires-clause-next
 close-links-requires-clause-next t c =
     let back = (c.next_closer.ensures.sound c.in-Some.next c.in-Some.is).1 in
-    slice_get_within (known c.args.table.now) c.in-Some.next back.1 back.3
+    slice_get_within c.args.search.now.searched.now c.in-Some.next back.1 back.3
 
 pub close-visit-requires : goal.close-visit-requires
 close-visit-requires t c =
@@ -84,66 +83,64 @@ close-visit-requires t c =
     let shorter = ap (λ (p : List ℕ). length p) same in
     let head = ap (λ (p : List ℕ). get_or p 0 0) same in
     let begun = λ (first : ℕ) (at : slice_get c.loop-next.path.items 0 ≡ Some first). get_or_from_slice_get c.loop-next.path.items 0 first 0 at in
-    (omega (arith, shorter, c.requires.room), (c.requires.graph, (c.requires.ranks, (subst (λ p. IsPath (known c.args.table.now) p) same c.requires.path, (omega (arith, shorter, c.requires.room), (c.requires.bound, (c.loop-next.invariant.few, (slice_get_within (known c.args.table.now) c.in-Some.next more.1.1 more.1.3, (λ first at. omega (arith, head, more.0, begun first at, c.loop-next.invariant.first), c.links.ensures.0 c.if-links.true)))))))))
+    (omega (arith, shorter, c.requires.room), (subst (λ p. IsPath c.args.search.now.searched.now p) same c.requires.path, (omega (arith, shorter, c.requires.room), (record { members = c.requires.limits.members; cycles = c.loop-next.invariant.few }, (slice_get_within c.args.search.now.searched.now c.in-Some.next more.1.1 more.1.3, (λ first at. omega (arith, head, more.0, begun first at, c.loop-next.invariant.first), c.links.ensures.0 c.if-links.true))))))
 
 pub close-returns-in_err-visit-clause-too_many : goal.close-returns-in_err-visit-clause-too_many
 close-returns-in_err-visit-clause-too_many t c e =
     let p = err_from_is_err_and c.from_residual.result c.from_residual.ensures.1 in
     let q = c.visit.ensures.too_many (c.in_err-visit.was ∙ ap Err (sym p.2) ∙ sym p.1 ∙ e) in
-    closers-exceed (known c.args.table.now) c.args.limits.members c.args.path.now.items c.requires.path c.requires.room c.loop-next.last c.in-Some.next
-    (closer-of (known c.args.table.now) c.args.path.now.items _ c.loop-next.last _ _ c.loop-next.invariant.same c.in-Some.is c.next_closer.ensures)
-    c.args.limits.cycles _ _ c.loop-next.invariant.added
-    (subst (λ p. Exceeds (CycleThrough (known c.args.table.now) c.args.limits.members p c.in-Some.next) c.args.limits.cycles c.loop-next.found.items) c.loop-next.invariant.same q)
+    closers-exceed c.args.search.now.searched.now c.args.search.now.members c.args.path.now.items c.requires.path c.requires.room c.loop-next.last c.in-Some.next
+    (closer-of c.args.search.now.searched.now c.args.path.now.items _ c.loop-next.last _ _ c.loop-next.invariant.same c.in-Some.is c.next_closer.ensures)
+    c.args.search.now.cycles _ _ c.loop-next.invariant.added
+    (subst (λ p. Exceeds (CycleThrough c.args.search.now.searched.now c.args.search.now.members p c.in-Some.next) c.args.search.now.cycles c.loop-next.found.items) c.loop-next.invariant.same q)
 
 smaller : (ds : List Dependency) (path : List ℕ) (last next : ℕ) → (last < next) × TakesBack ds path next → length ds - next < length ds - last
 smaller ds path last next (more, (first, d, head, at, takes)) = omega (arith, more, slice_get_within ds next d at)
 
 pub close-loop-next-smaller-in_ok-visit : goal.close-loop-next-smaller-in_ok-visit
-close-loop-next-smaller-in_ok-visit t c = smaller (known c.args.table.now) _ _ _ (c.next_closer.ensures.sound c.in-Some.next c.in-Some.is)
+close-loop-next-smaller-in_ok-visit t c = smaller c.args.search.now.searched.now _ _ _ (c.next_closer.ensures.sound c.in-Some.next c.in-Some.is)
 
 pub close-loop-next-preserved-in_ok-visit : goal.close-loop-next-preserved-in_ok-visit
 close-loop-next-preserved-in_ok-visit t c = let e = c.in_ok-visit.ensures in record {
   same = e.path ∙ c.loop-next.invariant.same;
   few = e.few;
   first = omega (arith, c.loop-next.invariant.first, (c.next_closer.ensures.sound c.in-Some.next c.in-Some.is).0);
-  added = closers-more (known c.args.table.now) c.args.limits.members c.args.path.now.items c.requires.path c.requires.room c.loop-next.last c.in-Some.next
-      (closer-of (known c.args.table.now) c.args.path.now.items _ c.loop-next.last _ _ c.loop-next.invariant.same c.in-Some.is c.next_closer.ensures)
+  added = closers-more c.args.search.now.searched.now c.args.search.now.members c.args.path.now.items c.requires.path c.requires.room c.loop-next.last c.in-Some.next
+      (closer-of c.args.search.now.searched.now c.args.path.now.items _ c.loop-next.last _ _ c.loop-next.invariant.same c.in-Some.is c.next_closer.ensures)
       _ _ _ c.loop-next.invariant.added
-      (subst (λ p. Adds (CycleThrough (known c.args.table.now) c.args.limits.members p c.in-Some.next) c.loop-next.found.items c.visit.new.found.items) c.loop-next.invariant.same e.all);
+      (subst (λ p. Adds (CycleThrough c.args.search.now.searched.now c.args.search.now.members p c.in-Some.next) c.loop-next.found.items c.visit.new.found.items) c.loop-next.invariant.same e.all);
 }
 
 pub close-loop-next-smaller : goal.close-loop-next-smaller
-close-loop-next-smaller t c = smaller (known c.args.table.now) _ _ _ (c.next_closer.ensures.sound c.in-Some.next c.in-Some.is)
+close-loop-next-smaller t c = smaller c.args.search.now.searched.now _ _ _ (c.next_closer.ensures.sound c.in-Some.next c.in-Some.is)
 
 pub close-loop-next-preserved : goal.close-loop-next-preserved
 close-loop-next-preserved t c = record {
   same = c.loop-next.invariant.same;
   few = c.loop-next.invariant.few;
   first = omega (arith, c.loop-next.invariant.first, (c.next_closer.ensures.sound c.in-Some.next c.in-Some.is).0);
-  added = closers-more (known c.args.table.now) c.args.limits.members c.args.path.now.items c.requires.path c.requires.room c.loop-next.last c.in-Some.next
-      (closer-of (known c.args.table.now) c.args.path.now.items _ c.loop-next.last _ _ c.loop-next.invariant.same c.in-Some.is c.next_closer.ensures)
+  added = closers-more c.args.search.now.searched.now c.args.search.now.members c.args.path.now.items c.requires.path c.requires.room c.loop-next.last c.in-Some.next
+      (closer-of c.args.search.now.searched.now c.args.path.now.items _ c.loop-next.last _ _ c.loop-next.invariant.same c.in-Some.is c.next_closer.ensures)
       _ _ _ c.loop-next.invariant.added (
         [],
         sym (append-nil c.loop-next.found.items),
-        rejected (known c.args.table.now) c.args.limits.members c.args.path.now.items c.in-Some.next c.requires.path.begun
-            (λ f. true≢false (sym (c.links.ensures.1 (subst (λ p. LinksTo (known c.args.table.now) p c.in-Some.next) (sym c.loop-next.invariant.same) f.linked)) ∙ c.if-links.false)),
+        rejected c.args.search.now.searched.now c.args.search.now.members c.args.path.now.items c.in-Some.next c.requires.path.begun
+            (λ f. true≢false (sym (c.links.ensures.1 (subst (λ p. LinksTo c.args.search.now.searched.now p c.in-Some.next) (sym c.loop-next.invariant.same) f.linked)) ∙ c.if-links.false)),
       );
 }
 
 pub close-returns-clause-all : goal.close-returns-clause-all
 close-returns-clause-all t c =
-    closers-end (known c.args.table.now) c.args.limits.members c.args.path.now.items c.requires.path c.requires.room c.loop-next.last
-    (closer-of (known c.args.table.now) c.args.path.now.items _ c.loop-next.last _ _ c.loop-next.invariant.same c.in_default.is c.next_closer.ensures)
+    closers-end c.args.search.now.searched.now c.args.search.now.members c.args.path.now.items c.requires.path c.requires.room c.loop-next.last
+    (closer-of c.args.search.now.searched.now c.args.path.now.items _ c.loop-next.last _ _ c.loop-next.invariant.same c.in_default.is c.next_closer.ensures)
     _ _ c.loop-next.invariant.added
 
-pub visit-returns-then-not-compatible-clause-all : goal.visit-returns-then-not-compatible-clause-all
-visit-returns-then-not-compatible-clause-all t c = (
+pub visit-returns-then-not-fits-clause-all : goal.visit-returns-then-not-fits-clause-all
+visit-returns-then-not-fits-clause-all t c = (
   [],
   sym (append-nil c.args.found.now.items),
-  rejected (known c.args.table.now) c.args.limits.members c.args.path.now.items c.args.next c.requires.path.begun
-      (λ f.
-      let yes = c.compatible.ensures.1 (subst (λ p. IsCompatible (known c.args.table.now) p c.args.next) (sym c.as_slice.ensures.value) f.compatible) in
-      true≢false (sym yes ∙ c.if-not-compatible.true)),
+  rejected c.args.search.now.searched.now c.args.search.now.members c.args.path.now.items c.args.next c.requires.path.begun
+      (λ f. true≢false (sym (c.fits.ensures.1 f.compatible) ∙ c.if-not-fits.true)),
 )
 
 pub visit-returns-then-ends_open-clause-all : goal.visit-returns-then-ends_open-clause-all
@@ -152,7 +149,7 @@ visit-returns-then-ends_open-clause-all t c =
     let test = c.if-ends_open.true in (
       [],
       sym (append-nil c.args.found.now.items),
-      full (known c.args.table.now) c.args.limits.members c.args.path.now.items c.args.next (ends.is_open test)
+      full c.args.search.now.searched.now c.args.search.now.members c.args.path.now.items c.args.next (ends.is_open test)
           (omega (arith, ends.last test, length-push c.args.path.now.items c.args.next)),
     )
 
@@ -160,24 +157,23 @@ pub visit-returns-then-not-same_rank-clause-all : goal.visit-returns-then-not-sa
 visit-returns-then-not-same_rank-clause-all t c = (
   [],
   sym (append-nil c.args.found.now.items),
-  other-rank (known c.args.table.now) c.args.limits.members c.args.path.now.items c.args.next c.args.ranks.now
-      c.requires.ranks c.requires.path.begun (λ e. true≢false (sym (c.same_rank.ensures.1 e) ∙ c.if-not-same_rank.true)),
+  subst (λ ds. AreAll (CycleThrough ds c.args.search.now.members c.args.path.now.items c.args.next) []) c.searched.view_is
+      (other-rank (known c.searched.inside.table.now) c.args.search.now.members c.args.path.now.items c.args.next c.searched.inside.ranks.now
+      c.searched.invariant.ranks c.requires.path.begun (λ e. true≢false (sym (c.same_rank.ensures.1 e) ∙ c.if-not-same_rank.true))),
 )
 
 pub visit-closes-requires : goal.visit-closes-requires
-visit-closes-requires t c = subst (λ p. IsPath (known c.args.table.now) p) (sym c.push.ensures.items)
-    (path-tested (known c.args.table.now) c.args.path.now.items c.args.next c.as_slice.result.now c.requires.path c.requires.known c.requires.above c.requires.linked
-    c.as_slice.ensures.value (c.compatible.ensures.0 c.if-not-compatible.false))
+visit-closes-requires t c = subst (λ p. IsPath c.args.search.now.searched.now p) (sym c.push.ensures.items)
+    (path-tested c.args.search.now.searched.now c.args.path.now.items c.args.next c.requires.path c.requires.known c.requires.above c.requires.linked (c.fits.ensures.0 c.if-not-fits.false))
 
-pub visit-returns-then-len-limits-clause-too_many :
-    goal.visit-returns-then-len-limits-clause-too_many
-visit-returns-then-len-limits-clause-too_many t c e = (
+pub visit-returns-then-len-search-clause-too_many :
+    goal.visit-returns-then-len-search-clause-too_many
+visit-returns-then-len-search-clause-too_many t c e = (
   (c.args.path.now.items ++ c.args.next ∷ []) ∷ [],
-  one-closed (known c.args.table.now) c.args.limits.members c.args.path.now.items c.args.next
-      (path-tested (known c.args.table.now) c.args.path.now.items c.args.next c.as_slice.result.now c.requires.path c.requires.known c.requires.above c.requires.linked
-      c.as_slice.ensures.value (c.compatible.ensures.0 c.if-not-compatible.false))
-      (subst (λ p. Closes (known c.args.table.now) p) c.push.ensures.items (c.closes.ensures.0 c.if-closes.true)) c.requires.path.begun c.requires.room,
-  omega (arith, c.len.ensures, c.if-len-limits.true),
+  one-closed c.args.search.now.searched.now c.args.search.now.members c.args.path.now.items c.args.next
+      (path-tested c.args.search.now.searched.now c.args.path.now.items c.args.next c.requires.path c.requires.known c.requires.above c.requires.linked (c.fits.ensures.0 c.if-not-fits.false))
+      (subst (λ p. Closes c.args.search.now.searched.now p) c.push.ensures.items (c.closes.ensures.0 c.if-closes.true)) c.requires.path.begun c.requires.room,
+  omega (arith, c.len.ensures, c.if-len-search.true),
 )
 
 pub visit-returns-in_err-push-clause-too_many : goal.visit-returns-in_err-push-clause-too_many
@@ -189,15 +185,9 @@ pub visit-extend-requires : goal.visit-extend-requires
 visit-extend-requires t c = let d = c.decreases in (
   omega (arith, c.push.ensures.len),
   (
-    c.requires.graph,
-    (
-      c.requires.ranks,
-      (
-        subst (λ p. IsPath (known c.args.table.now) p) (sym c.push.ensures.items) (path-tested (known c.args.table.now) c.args.path.now.items c.args.next c.as_slice.result.now c.requires.path c.requires.known c.requires.above c.requires.linked
-            c.as_slice.ensures.value (c.compatible.ensures.0 c.if-not-compatible.false)),
-        (omega arith, (c.requires.bound, c.requires.few)),
-      ),
-    ),
+    subst (λ p. IsPath c.args.search.now.searched.now p) (sym c.push.ensures.items)
+        (path-tested c.args.search.now.searched.now c.args.path.now.items c.args.next c.requires.path c.requires.known c.requires.above c.requires.linked (c.fits.ensures.0 c.if-not-fits.false)),
+    (omega arith, c.requires.limits),
   ),
 )
 
@@ -206,35 +196,34 @@ visit-returns-in_err-extend-clause-too_many t c e =
     let p = err_from_is_err_and c.from_residual-in_err-extend.result c.from_residual-in_err-extend.ensures.1 in
     let q = c.extend.ensures.too_many (c.in_err-extend.was ∙ ap Err (sym p.2) ∙ sym p.1 ∙ e) in (
       q.0,
-      deeper-some (known c.args.table.now) c.args.limits.members c.args.path.now.items c.args.next q.0
-          (subst (λ z. AreSome (CycleBeyond (known c.args.table.now) c.args.limits.members z) q.0) c.push.ensures.items q.1),
+      deeper-some c.args.search.now.searched.now c.args.search.now.members c.args.path.now.items c.args.next q.0
+          (subst (λ z. AreSome (CycleBeyond c.args.search.now.searched.now c.args.search.now.members z) q.0) c.push.ensures.items q.1),
       q.2,
     )
 
 pub visit-returns-clause-all : goal.visit-returns-clause-all
 visit-returns-clause-all t c = elim c.if-closes.branch [
-  | visit-then-closes+else-len-limits+in_ok-push w ↦ let f = w.found-is in (
+  | visit-then-closes+else-len-search+in_ok-push w ↦ let f = w.found-is in (
     (c.args.path.now.items ++ c.args.next ∷ []) ∷ [],
     rw f (w.in_ok-push.ensures.items ∙ ap (λ (z : List ℕ). c.args.found.now.items ++ z ∷ []) (w.cycle_of.ensures ∙ c.push.ensures.items)),
-    closed (known c.args.table.now) c.args.limits.members c.args.path.now.items c.args.next
-        (path-tested (known c.args.table.now) c.args.path.now.items c.args.next c.as_slice.result.now c.requires.path c.requires.known c.requires.above c.requires.linked
-        c.as_slice.ensures.value (c.compatible.ensures.0 c.if-not-compatible.false))
-        (subst (λ p. Closes (known c.args.table.now) p) c.push.ensures.items (c.closes.ensures.0 w.if-closes.true)) c.requires.path.begun c.requires.room,
+    closed c.args.search.now.searched.now c.args.search.now.members c.args.path.now.items c.args.next
+        (path-tested c.args.search.now.searched.now c.args.path.now.items c.args.next c.requires.path c.requires.known c.requires.above c.requires.linked (c.fits.ensures.0 c.if-not-fits.false))
+        (subst (λ p. Closes c.args.search.now.searched.now p) c.push.ensures.items (c.closes.ensures.0 w.if-closes.true)) c.requires.path.begun c.requires.room,
   )
-  | visit-else-closes+then-len-limits-2+in_ok-extend w ↦
+  | visit-else-closes+then-len-search-2+in_ok-extend w ↦
       let f = w.found-is in let a = w.in_ok-extend.ensures.all in (
         a.0,
         rw f a.1,
-        deeper (known c.args.table.now) c.args.limits.members c.args.path.now.items c.args.next a.0
-            (λ k. true≢false (sym (c.closes.ensures.1 (subst (λ p. Closes (known c.args.table.now) p) (sym c.push.ensures.items) k)) ∙ w.if-closes.false))
-            (subst (λ z. AreAll (CycleBeyond (known c.args.table.now) c.args.limits.members z) a.0) c.push.ensures.items a.2),
+        deeper c.args.search.now.searched.now c.args.search.now.members c.args.path.now.items c.args.next a.0
+            (λ k. true≢false (sym (c.closes.ensures.1 (subst (λ p. Closes c.args.search.now.searched.now p) (sym c.push.ensures.items) k)) ∙ w.if-closes.false))
+            (subst (λ z. AreAll (CycleBeyond c.args.search.now.searched.now c.args.search.now.members z) a.0) c.push.ensures.items a.2),
       )
-  | visit-else-closes+else-len-limits-2 w ↦
+  | visit-else-closes+else-len-search-2 w ↦
       let f = w.found-is in (
         [],
         rw f (sym (append-nil c.args.found.now.items)),
-        full (known c.args.table.now) c.args.limits.members c.args.path.now.items c.args.next
-            (λ k. true≢false (sym (c.closes.ensures.1 (subst (λ p. Closes (known c.args.table.now) p) (sym c.push.ensures.items) k)) ∙ w.if-closes.false))
-            (omega (arith, w.if-len-limits-2.false, w.len-else-closes.ensures.value, ap (λ (xs : List ℕ). length xs) c.push.ensures.items)),
+        full c.args.search.now.searched.now c.args.search.now.members c.args.path.now.items c.args.next
+            (λ k. true≢false (sym (c.closes.ensures.1 (subst (λ p. Closes c.args.search.now.searched.now p) (sym c.push.ensures.items) k)) ∙ w.if-closes.false))
+            (omega (arith, w.if-len-search-2.false, w.len-else-closes.ensures.value, ap (λ (xs : List ℕ). length xs) c.push.ensures.items)),
       )
 ]

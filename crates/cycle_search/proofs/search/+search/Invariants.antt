@@ -1,31 +1,30 @@
 use Rattle.std.proofs.Common.{◌≡◌, ◌-◌, ◌*◌, ◌≤◌, length, slice_index}
-use Rattle.dependencies.specs.Tables.{known}
 use Rattle.cycle_search.specs.Search.{Adds, CycleOver, IsAmong, CycleUpTo}
 use Rattle.cycle_search.proofs.search.+search.Given as goal
 
 abbrev pub decreases-extend : goal.decreases-extend
-decreases-extend l = 3 * (l.limits.members - length l.path.now.items)
+decreases-extend l = 3 * (l.search.now.members - length l.path.now.items)
 
 abbrev pub decreases-close : goal.decreases-close
-decreases-close l = 3 * (l.limits.members - length l.path.now.items) - 1
+decreases-close l = 3 * (l.search.now.members - length l.path.now.items) - 1
 
 abbrev pub decreases-visit : goal.decreases-visit
-decreases-visit l = 3 * (l.limits.members - length l.path.now.items) - 2
+decreases-visit l = 3 * (l.search.now.members - length l.path.now.items) - 2
 
 abbrev pub invariant-extend-loop-next : goal.invariant-extend-loop-next
 invariant-extend-loop-next l = record {
   same : l.path.items ≡ l.fn.path.items;
-  few : length l.found.items ≤ l.limits.cycles;
-  added : Adds (CycleOver (known l.table) l.limits.members l.fn.path.items (IsAmong l.nexts l.next-index)) l.fn.found.items l.found.items;
+  few : length l.found.items ≤ l.search.cycles;
+  added : Adds (CycleOver l.search.searched.now l.search.members l.fn.path.items (IsAmong l.nexts l.next-index)) l.fn.found.items l.found.items;
 }
 
 abbrev pub decreases-close-loop-next : goal.decreases-close-loop-next
-decreases-close-loop-next l = length (known l.table) - l.last
+decreases-close-loop-next l = length l.search.searched.now - l.last
 
 abbrev pub invariant-close-loop-next : goal.invariant-close-loop-next
 invariant-close-loop-next l = record {
   same : l.path.items ≡ l.fn.path.items;
-  few : length l.found.items ≤ l.limits.cycles;
+  few : length l.found.items ≤ l.search.cycles;
   first : slice_index l.fn.path.items 0 ≤ l.last;
-  added : Adds (CycleUpTo (known l.table) l.limits.members l.fn.path.items l.last) l.fn.found.items l.found.items;
+  added : Adds (CycleUpTo l.search.searched.now l.search.members l.fn.path.items l.last) l.fn.found.items l.found.items;
 }

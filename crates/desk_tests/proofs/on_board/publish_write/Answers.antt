@@ -1,4 +1,4 @@
-use Rattle.std.proofs.Common.{◌≡◌, List, [], ◌∷◌, ◌++◌, None, refl, sym, ap, subst, ◌∙◌}
+use Rattle.std.proofs.Common.{◌≡◌, List, [], ◌∷◌, ◌++◌, refl, sym, ap, subst, ◌∙◌}
 use Rattle.trace_model.specs.declared.traces.event.Op.TheVariants.{Write}
 use Rattle.trace_model.specs.declared.messages.step.BoardStep.{BoardStep}
 use Rattle.trace_model.specs.declared.messages.step.BoardStep.TheVariants.{Accept}

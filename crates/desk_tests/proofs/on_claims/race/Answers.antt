@@ -1,4 +1,4 @@
-use Rattle.std.proofs.Common.{rules, arith, sym, ap, ◌∙◌, ◌+◌, ◌*◌, ◌≡◌, ◌<◌, length, get_or, List, ℕ}
+use Rattle.std.proofs.Common.{arith, sym, ap, ◌∙◌, ◌+◌, ◌*◌, ◌<◌, length, get_or, List}
 use Rattle.std.proofs.lemmas.List.{get_or-replicate, length-replicate}
 use Rattle.claims.specs.Draws.{draws_of, Seen, newcomer}
 use Rattle.claims.proofs.Keeps.{total_same}

@@ -1,7 +1,4 @@
-use Rattle.std.proofs.Common.{◌++◌, flat_map, ap, sym, subst, ◌∙◌, arith}
-use Rattle.trace_model.specs.declared.limits.TheConstants.{MAX_REPORT}
-use Rattle.witness.specs.Text.{about, counts}
-use Rattle.offline_report.specs.Offline.{text_of}
+use Rattle.std.proofs.Common.{sym, ◌∙◌, arith}
 use Rattle.offline_report.proofs.Texts.{confirmed_few, cycles_within, is_told, over_head, over_rows}
 use Rattle.offline_report.proofs.parts.report_pieces.Goals as goal
 

@@ -1,7 +1,7 @@
-use Rattle.std.proofs.Common.{◌≡◌, ◌+◌, suc, take, slice_get, Some, sym, ap, subst, ◌∙◌, arith}
+use Rattle.std.proofs.Common.{◌≡◌, ◌+◌, suc, take, slice_get, sym, ap, subst, ◌∙◌, arith}
 use Rattle.std.proofs.lemmas.Option.{slice_get-get_or}
 use Rattle.trace_model.specs.declared.traces.event.Op.TheVariants.{Fork}
-use Rattle.dependencies.proofs.Shown.{take_next}
+use Rattle.trace_model.proofs.Lists.{take_next}
 use Rattle.lock_tables.specs.Tables.{FollowTrace}
 use Rattle.part_tests.proofs.on_lock_tables.grow.Goals as goal
 

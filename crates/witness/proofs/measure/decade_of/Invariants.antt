@@ -1,4 +1,4 @@
-use Rattle.std.proofs.Common.{◌≡◌, ℕ, ◌*◌, ◌-◌, ◌≤◌}
+use Rattle.std.proofs.Common.{◌*◌, ◌-◌, ◌≤◌}
 use Rattle.witness.specs.Decades.{IsDecade}
 use Rattle.witness.proofs.measure.decade_of.Given as goal
 

@@ -3,7 +3,8 @@ use Rattle.std.specs.List.{IsDistinct}
 use Rattle.std.specs.Map.{keys_of}
 use Rattle.indexmap.proofs.MapLemmas.{distinct-take}
 use Rattle.trace_model.specs.Theory.Dependencies.{same_dependency}
-use Rattle.dependencies.proofs.Shown.{take_next, dependencies_are}
+use Rattle.trace_model.proofs.Lists.{take_next}
+use Rattle.dependencies.proofs.Shown.{dependencies_are}
 use Rattle.dependencies.proofs.keys.Keys.share.Goals as goal
 
 pub loop-number-preserved : goal.loop-number-preserved

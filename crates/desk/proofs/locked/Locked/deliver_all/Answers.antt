@@ -28,13 +28,13 @@ loop-finding-preserved g c =
     let d = c.deliver-outcome.ensures in
     let f = c.in-Some.finding in
     let o = c.deliver-outcome.result.0 in
-    let is = outcome_of g.N.Naming.limit c.loop-finding.self c.deliver-outcome.new.self f o i.after d.taken d.exact d.refused d.back in
+    let is = outcome_of g.N.Naming.limit c.loop-finding.self c.deliver-outcome.new.self f o i.after d.went in
     let items = c.push_reserved.ensures.items in
     record {
       are = subst (λ (os : List Delivered). AreOutcomes g.N.Naming.limit c.args.self.now.published (c.loop-finding.yielded ++ f ∷ []) os) (sym items)
           (outcomes_more g.N.Naming.limit c.args.self.now.published c.loop-finding.self.published c.loop-finding.yielded c.loop-finding.outcomes.items f o i.are i.run is);
       run = steps_more c.args.self.now.published c.loop-finding.self.published c.deliver-outcome.new.self.published c.loop-finding.yielded c.loop-finding.outcomes.items f o i.are.count i.run
-          (steps_of c.loop-finding.self c.deliver-outcome.new.self f o d.published d.same)
+          (steps_of c.loop-finding.self c.deliver-outcome.new.self f o d.went)
           ∙ ap (λ (os : List Delivered). c.args.self.now.published ++ taken_steps (c.loop-finding.yielded ++ f ∷ []) os) (sym items);
       after = d.after;
       rest = append_assoc c.loop-finding.yielded (f ∷ []) c.next.new.self.rest.items

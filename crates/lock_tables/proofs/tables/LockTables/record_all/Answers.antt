@@ -2,7 +2,7 @@ use Rattle.std.proofs.Common.{◌≡◌, ◌+◌, suc, take, sym, ap, subst, ◌
 use Rattle.std.proofs.lemmas.List.{take_all}
 use Rattle.std.proofs.lemmas.Option.{slice_get-get_or}
 use Rattle.trace_model.specs.declared.traces.event.Op.TheVariants.{Fork}
-use Rattle.dependencies.proofs.Shown.{take_next}
+use Rattle.trace_model.proofs.Lists.{take_next}
 use Rattle.lock_tables.specs.Tables.{FollowTrace}
 use Rattle.lock_tables.proofs.tables.LockTables.record_all.Goals as goal
 

@@ -1,7 +1,7 @@
 use Rattle.std.proofs.Common.{take}
 use Rattle.replay.specs.Verdict.{order_tests, Passes}
 use Rattle.replay.specs.Walking.{IsWalked}
-use Rattle.replay.proofs.checking.verdict_of.Given as goal
+use Rattle.replay.proofs.checking.walk.Given as goal
 
 -- the places so far pass, and the walk went along them
 abbrev pub invariant-loop-k : goal.invariant-loop-k

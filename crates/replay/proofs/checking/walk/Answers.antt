@@ -5,18 +5,17 @@ use Rattle.trace_model.specs.declared.traces.event.Op.TheVariants.{Fork}
 use Rattle.trace_model.specs.Theory.Trace.{Does}
 use Rattle.replay.specs.Verdict.{order_tests}
 use Rattle.replay.proofs.Verdicts.{follows_so, passes_more}
-use Rattle.replay.proofs.LastPlaces.{walked_empty, walked_next}
-use Rattle.replay.proofs.checking.verdict_of.Goals as goal
+use Rattle.replay.proofs.LastPlaces.{walked_next}
+use Rattle.replay.proofs.checking.walk.Goals as goal
 
 abbrev nothing : Event
 nothing = record { thread = 0; op = Fork 0 }
 
 pub loop-k-init : goal.loop-k-init
 loop-k-init c =
-    let e = c.in_ok-walked.ensures in
     record {
       passes = λ k q l e. absurd (omega arith);
-      walked = walked_empty c.args.trace.now c.in_ok-walked.walked e.inside e.forks e.writes e.acquires;
+      walked = c.requires.begins;
     }
 
 pub returns-in-Some : goal.returns-in-Some
@@ -29,7 +28,7 @@ returns-in-Some c =
 pub begun-begun-requires-clause-in_trace : goal.begun-begun-requires-clause-in_trace
 begun-begun-requires-clause-in_trace c =
     let order = c.args.order.now in
-    (follows_so c.args.trace.now c.requires (take c.loop-k.k order) c.index-order-k.result c.in_default.ensures).in_trace
+    (follows_so c.args.trace.now c.requires.well_formed (take c.loop-k.k order) c.index-order-k.result c.in_default.ensures).in_trace
 
 pub loop-k-preserved : goal.loop-k-preserved
 loop-k-preserved c =
@@ -39,14 +38,14 @@ loop-k-preserved c =
     let p = c.index-order-k.result in
     let at : slice_get order k ≡ Some p = slice_get-get_or order k p c.loop-k-test.true ∙ ap Some (sym c.index-order-k.is) in
     let fine = c.in_default.ensures in
-    let within : p < length s = (follows_so s c.requires (take k order) p fine).in_trace in
+    let within : p < length s = (follows_so s c.requires.well_formed (take k order) p fine).in_trace in
     let o = (get_or s c.get.result nothing).op in
     let does : Does s p o = subst (λ (q : ℕ). Does s p (get_or s q nothing).op) (sym c.get.ensures)
     ((get_or s p nothing).thread, slice_get-get_or s p nothing within) in
     let e = c.in_ok-push.ensures in
     record {
       passes = passes_more order_tests s (λ k. take k order) order k p c.loop-k.invariant.passes at fine;
-      walked = walked_next s c.requires order k p o c.begun-begun.result c.loop-k.walked c.push.new.self at c.loop-k.invariant.walked fine does (sym c.begun-begun.ensures) e.inside e.forks e.writes e.acquires;
+      walked = walked_next s c.requires.well_formed order k p o c.begun-begun.result c.loop-k.walked c.push.new.self at c.loop-k.invariant.walked fine does (sym c.begun-begun.ensures) e.inside e.forks e.writes e.acquires;
     }
 
 pub check_instance-requires-clause-passes : goal.check_instance-requires-clause-passes

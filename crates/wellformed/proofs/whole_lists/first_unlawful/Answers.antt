@@ -3,12 +3,12 @@ use Rattle.std.proofs.lemmas.List.{take_all}
 use Rattle.std.proofs.lemmas.Option.{slice_get-get_or}
 use Rattle.trace_model.specs.declared.traces.event.Op.TheVariants.{Fork}
 use Rattle.trace_model.specs.Theory.Lawful.{IsWellFormed}
+use Rattle.trace_model.proofs.Lists.{take_next}
 use Rattle.wellformed.specs.Tables.{FollowEvents}
-use Rattle.offline_report.proofs.WholeReports.{take_next}
-use Rattle.offline_report.proofs.opening.admit.Goals as goal
+use Rattle.wellformed.proofs.whole_lists.first_unlawful.Goals as goal
 
-pub returns-in-Err-clause-refused : goal.returns-in-Err-clause-refused
-returns-in-Err-clause-refused c =
+pub returns-in-Err : goal.returns-in-Err
+returns-in-Err c =
     let s = c.args.events.now in
     let i = c.loop-index.index in
     let f = c.loop-index.invariant in
@@ -19,13 +19,13 @@ loop-index-preserved c =
     let s = c.args.events.now in
     let i = c.loop-index.index in
     let next : suc i ≡ i + 1 = omega arith in
-    let more = take_next s i _ (slice_get-get_or s i (record { thread = 0; op = Fork 0 }) c.loop-index-test.true) in
+    let more = take_next i s _ (slice_get-get_or s i (record { thread = 0; op = Fork 0 }) c.loop-index-test.true) in
     let f = c.loop-index.invariant in
-    let room = c.reserve.ensures.follow (take i s) f in
+    let room = c.in_ok-reserve.ensures.follow (take i s) f in
     subst (FollowEvents c.record.new.self) (sym more ∙ ap (λ n. take n s) next) (c.record.ensures (take i s) room (sym (c.in_default.ensures (take i s) f)))
 
-pub returns-clause-ok : goal.returns-clause-ok
-returns-clause-ok c =
+pub returns : goal.returns
+returns c =
     let s = c.args.events.now in
     let past = c.loop-index-test.false in
     subst IsWellFormed (take_all c.loop-index.index s (omega arith)) (c.loop-index.invariant).well_formed
