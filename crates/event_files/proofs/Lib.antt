@@ -1,2 +1,3 @@
 pub mod EventWords
 pub mod Lines
+pub mod Numerals

@@ -1,1 +1,2 @@
 pub mod EventFile
+pub mod Numbers

@@ -7,29 +7,10 @@ ghost use Rattle.trace_model.specs.declared.traces.event.Op.{Op};
 ghost use Rattle.trace_model.specs.declared.messages.session.Request.TheVariants.{Offer};
 ghost use Rattle.event_files.specs.EventFile.{is_no_digit, letter_of, event_word, pieces_at, is_comment, line_words, AreEventsOf};
 
+use crate::numbers::number;
 use crate::refused::FileRefused;
-use itoa::Buffer;
 use std::alloc::{AllocError, Global};
-use std::str;
 use trace_model::{Event, NoMemory, Op};
-
-/// The number that is written so in decimal.
-pub fn number(digits: &[u8]) -> Option<u32>
-    ensures sound { IfSome result (λ n. digits.now ≡ decimal n) }
-    ensures complete { (n : ℕ) → n < 2 ^ 32 → digits.now ≡ decimal n → result ≡ Some n }
-{
-    let Ok(text) = str::from_utf8(digits) else {
-        return None;
-    };
-    let Ok(value) = text.parse::<u32>() else {
-        return None;
-    };
-    if Buffer::new().format(value).as_bytes() == digits {
-        Some(value)
-    } else {
-        None
-    }
-}
 
 /// The operation of a letter.
 fn op_of(letter: u8, object: u32) -> Option<Op>

@@ -1,5 +1,6 @@
 //! Witness files: the places of an instance, and a list of places.
-use crate::event_file::{number, words_of};
+use crate::event_file::words_of;
+use crate::numbers::number;
 use crate::refused::FileRefused;
 use std::alloc::Global;
 use trace_model::{Instance, NoMemory, Place};

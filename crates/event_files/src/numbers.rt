@@ -1,0 +1,34 @@
+//! Numbers in decimal.
+ghost use Rattle.std.specs.Prelude.{◌≡◌, ◌<◌, ◌^◌, ℕ, IfSome, IfNone, Some, decimal};
+ghost use Rattle.event_files.specs.Numbers.{IsValueOf, IsTooLarge};
+
+/// The value of a text of digits, none where another byte is there or the value is too large.
+fn value_of(digits: &[u8]) -> Option<u32>
+    ensures some { IfSome result (IsValueOf digits.now) }
+    ensures none { IfNone result (IsTooLarge digits.now) }
+{
+    let mut value: u32 = 0;
+    for digit in digits {
+        if !digit.is_ascii_digit() {
+            return None;
+        }
+        value = value
+            .checked_mul(10)?
+            .checked_add(u32::from(*digit - b'0'))?;
+    }
+    Some(value)
+}
+
+/// The number that is written so in decimal: `0`, or digits without a leading zero.
+pub fn number(digits: &[u8]) -> Option<u32>
+    ensures sound { IfSome result (λ n. digits.now ≡ decimal n) }
+    ensures complete { (n : ℕ) → n < 2 ^ 32 → digits.now ≡ decimal n → result ≡ Some n }
+{
+    if digits.is_empty() {
+        return None;
+    }
+    if digits[0] == b'0' {
+        return if digits.len() == 1 { Some(0) } else { None };
+    }
+    value_of(digits)
+}
