@@ -87,7 +87,7 @@ pub fn words_of(alloc: Global, line: &[u8]) -> Result<Vec<&[u8]>, NoMemory>
     ensures { IfOk result (λ words. map (λ word. word.now) words.items ≡ line_words line.now) }
 {
     let pieces = pieces_at(alloc, line, b' ')?;
-    let mut words = Vec::new(alloc);
+    let mut words = Vec::with_capacity(alloc, pieces.len())?;
     for index in 0..pieces.len() {
         if !pieces[index].is_empty() {
             words.push(pieces[index])?;
