@@ -50,7 +50,7 @@ fn report_on<R: Threads + Sync, P: Progress + Sync>(
     ensures text { IfOk result (λ pieces. IsReport events.items bound (whole pieces.items)) }
     ensures refused { IfErr result (IsRefused events.items bound) }
 {
-    let offline = Offline::open(alloc, state, events, bound)?;
+    let offline = Offline::open(rt, alloc, state, events, bound)?;
     progress.begin(offline.tasks());
     let pieces = offline.pieces(rt, progress);
     progress.end();

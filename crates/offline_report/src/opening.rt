@@ -36,13 +36,14 @@ impl Model for Offline {
 }
 
 impl Offline {
-    /// Passes the events through a gate, in their order, and makes their tables.
+    /// Passes the events through a gate, in their order, and makes their tables, by two threads.
     ///
     /// # Errors
     ///
     /// `Unlawful` with the first event that is not lawful, where there is one, and `NoMemory` where a
     /// growth was refused.
-    pub fn open(
+    pub fn open<R: Threads>(
+        rt: &R,
         alloc: Global,
         state: RandomState,
         events: Vec<Event>,
@@ -54,7 +55,7 @@ impl Offline {
         ensures refused { IfErr result (IsNotAdmitted events.items) }
     {
         admit(alloc, state, &events)?;
-        let Ok(snapshot) = share(alloc, state, &events) else {
+        let Ok(snapshot) = share(rt, alloc, state, &events) else {
             return Err(OfflineRefused::NoMemory);
         };
         Ok(Offline {
@@ -130,7 +131,8 @@ fn admit(alloc: Global, state: RandomState, events: &[Event]) -> Result<(), Offl
     }
 }
 
-fn share(
+fn share<R: Threads>(
+    rt: &R,
     alloc: Global,
     state: RandomState,
     events: &[Event],
@@ -138,6 +140,6 @@ fn share(
     requires { IsWellFormed events.now }
     ensures { IfOk result (λ shared. arc_value shared ≡ events.now) }
 {
-    let snapshot = Snapshot::build(alloc, state, events)?;
+    let snapshot = Snapshot::build(rt, alloc, state, events)?;
     Ok(Arc::new(alloc, snapshot)?)
 }

@@ -8,7 +8,7 @@ ghost use Rattle.offline_report.specs.Offline.{IsToldAs, Tells, size_of, tasks_r
 use crate::refused::OfflineRefused;
 use std::alloc::Global;
 use trace_model::{Bound, MAX_REPORT, NoMemory};
-use witness::{Row, TextRefused, confirmed_in, head_text, rows_text};
+use witness::{Page, Row, TextRefused, confirmed_in, head_text, rows_text};
 
 /// What the report has of a task: the text of its rows, none where that alone is too long for a
 /// report; how many rows there are, and how many confirmed ones.
@@ -20,11 +20,11 @@ pub(crate) struct Part {
 }
 
 /// What the report has of these rows, or that a growth was refused.
-pub(crate) fn part_of(alloc: Global, rows: &[Row]) -> Result<Part, OfflineRefused>
+pub(crate) fn part_of(page: &mut Page, rows: &[Row]) -> Result<Part, OfflineRefused>
     ensures part { IfOk result (Tells rows.now) }
     ensures refused { IfErr result (λ refused. refused ≡ OfflineRefused.NoMemory) }
 {
-    let text = match rows_text(alloc, rows) {
+    let text = match rows_text(page, rows) {
         Ok(text) => Some(text),
         Err(TextRefused::TooLong) => None,
         Err(TextRefused::NoMemory) => return Err(OfflineRefused::NoMemory),

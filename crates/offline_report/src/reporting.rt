@@ -36,7 +36,7 @@ pub fn offline_with<R: Threads + Sync, H: Hold + Sync>(
     ensures text { IfOk result (λ text. IsReport events.items bound text.items) }
     ensures refused { IfErr result (IsRefused events.items bound) }
 {
-    Offline::open(alloc, state, events, bound)?.report(rt, hold)
+    Offline::open(rt, alloc, state, events, bound)?.report(rt, hold)
 }
 
 /// The report of question 0 with this bound about all events, with no hold: see `offline_with`.

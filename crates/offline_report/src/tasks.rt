@@ -14,7 +14,7 @@ use std::marker::{Brand, Model, PhantomData};
 use std::sync::Arc;
 use std::thread::Threads;
 use trace_model::Bound;
-use witness::Row;
+use witness::{Page, Row};
 
 /// The number of the one question that is asked about a file.
 const QUESTION: u32 = 0;
@@ -36,15 +36,14 @@ impl About for Brand {
     ghost bound = { 0 };
 }
 
-/// What the tasks of one piece keep from one to the next. By its type it is about the named
-/// question, whichever thread has it.
+/// A job that by its type is about the named question, whichever thread has it.
 #[derive(Drop)]
-struct Piece<A: About> {
+struct NamedJob<A: About> {
     job: Job,
     name: PhantomData<A>,
 }
 
-impl<A: About> Model for Piece<A> {
+impl<A: About> Model for NamedJob<A> {
     ghost use Rattle.std.specs.Prelude.{◌≡◌};
     ghost use Rattle.findings.specs.Found.{Asked};
 
@@ -55,15 +54,15 @@ impl<A: About> Model for Piece<A> {
     ghost invariant = { λ p. (p.job.events ≡ A.events) × (p.job.bound ≡ A.bound) };
 }
 
-impl<A: About> Piece<A> {
-    /// A piece of which nothing is computed, none where the snapshot is not shared once more.
-    fn new(alloc: Global, snapshot: &Arc<Snapshot, Global>, bound: Bound) -> Option<Piece<A>>
+impl<A: About> NamedJob<A> {
+    /// A job of which nothing is computed, none where the snapshot is not shared once more.
+    fn new(alloc: Global, snapshot: &Arc<Snapshot, Global>, bound: Bound) -> Option<NamedJob<A>>
         requires events { arc_value snapshot.now ≡ A.events }
         requires bound { bound ≡ A.bound }
     {
         let snapshot = Arc::try_clone(snapshot).ok()?;
         let job = Job::new(alloc, snapshot, QUESTION, bound);
-        Some(Piece {
+        Some(NamedJob {
             job,
             name: PhantomData,
         })
@@ -82,21 +81,49 @@ impl<A: About> Piece<A> {
     }
 }
 
+/// What the tasks of one piece keep from one to the next: their job, if there is one, and a page for
+/// their texts.
+#[derive(Drop)]
+struct Piece<A: About> {
+    job: Option<NamedJob<A>>,
+    page: Page,
+}
+
+impl<A: About> Piece<A> {
+    /// A piece of which nothing is computed.
+    fn new(alloc: Global, snapshot: &Arc<Snapshot, Global>, bound: Bound) -> Piece<A>
+        requires events { arc_value snapshot.now ≡ A.events }
+        requires bound { bound ≡ A.bound }
+    {
+        Piece {
+            job: NamedJob::new(alloc, snapshot, bound),
+            page: Page::new(alloc),
+        }
+    }
+}
+
+/// The rows of a task, by the job of its piece.
+fn rows_by<A: About>(job: &mut Option<NamedJob<A>>, task: u32) -> Result<Vec<Row>, OfflineRefused>
+    ensures { MatchResult result (λ rows. AreRowsOf A.events A.bound task rows.items)
+        (IsNotComputed A.events A.bound) }
+{
+    match job {
+        Some(job) => job.rows(task),
+        None => Err(OfflineRefused::NoMemory),
+    }
+}
+
 /// What the report has of a task, by its piece. Calls the hold once its rows are there.
 fn part_by<A: About, H: Hold>(
-    alloc: Global,
-    piece: &mut Option<Piece<A>>,
+    piece: &mut Piece<A>,
     hold: &H,
     task: u32,
 ) -> Result<Part, OfflineRefused>
     ensures { IsTask A.events A.bound task result }
 {
-    let Some(piece) = piece else {
-        return Err(OfflineRefused::NoMemory);
-    };
-    let rows = piece.rows(task)?;
+    let rows = rows_by(&mut piece.job, task)?;
     hold.hold(QUESTION, task);
-    let part = part_of(alloc, &rows);
+    let part = part_of(&mut piece.page, &rows);
     drop(rows);
     part
 }
@@ -117,12 +144,12 @@ fn compute_all<A: About + Send, R: Threads + Sync, H: Hold + Sync>(
         .into_par_iter()
         .with_min_len(LEAST_PIECE)
         .map_init(
-            || -> Option<Piece<A>>
+            || -> Piece<A>
                 requires { (arc_value snapshot.now ≡ A.events) × (bound ≡ A.bound) }
             { Piece::new(alloc, snapshot, bound) },
-            |piece: &mut Option<Piece<A>>, task: u32| -> Result<Part, OfflineRefused>
+            |piece: &mut Piece<A>, task: u32| -> Result<Part, OfflineRefused>
                 ensures { IsTask A.events A.bound task result }
-            { part_by(alloc, piece, hold, task) },
+            { part_by(piece, hold, task) },
         )
         .collect(rt, alloc)
 }

@@ -9,6 +9,7 @@ use std::process::Abort;
 use std::random::RandomSource;
 use std::sync::Arc;
 use std::test::*;
+use std::thread::Threads;
 use trace_model::{Bound, Op, Place};
 use witness::{Found, Row};
 
@@ -19,10 +20,10 @@ fn has_events(snapshot: &Snapshot) -> bool {
 }
 
 fn snapshot_of(
-    rt: &(impl RandomSource + AllocGlobal + Abort),
+    rt: &(impl RandomSource + AllocGlobal + Abort + Threads),
 ) -> Result<Arc<Snapshot, Global>, Fail> {
     let events = opposite_orders();
-    let snapshot = Snapshot::build(rt.alloc(), RandomState::new(rt)?, &events)?;
+    let snapshot = Snapshot::build(rt, rt.alloc(), RandomState::new(rt)?, &events)?;
     assert!(rt; has_events(&snapshot));
     Ok(Arc::new(rt.alloc(), snapshot)?)
 }

@@ -98,7 +98,7 @@ fn tells_as_pieces(
 fn a_report_in_pieces(rt: HostRuntime) -> Result<(), Fail> {
     let events = read_events(rt.alloc(), OPPOSITE_ORDERS.as_bytes())?;
     let two = Bound::new(2).expect(&rt, "a bound is 2 to 8");
-    let offline = Offline::open(rt.alloc(), RandomState::new(&rt)?, events, two)?;
+    let offline = Offline::open(&rt, rt.alloc(), RandomState::new(&rt)?, events, two)?;
     assert_eq!(rt; offline.tasks(), 2);
     let told = tells_as_pieces(&rt, &offline);
     drop(offline);

@@ -3,7 +3,8 @@ use Rattle.std.proofs.Common.{◌≡◌, ℕ, zero, suc, ◌+◌, ◌<◌, ◌�
 use Rattle.std.specs.Option.{option_map_or}
 use Rattle.std.proofs.lemmas.Bool.{eq-eqb, eqb-true, false≢true, and_parts}
 use Rattle.std.proofs.lemmas.Bool.Decides.{nat_tests}
-use Rattle.std.proofs.lemmas.Option.{same_Some, none-some}
+use Rattle.std.proofs.lemmas.Option.{same_Some, none-some, slice_get_within}
+use Rattle.trace_model.proofs.Lists.{at_index}
 use Rattle.trace_model.specs.Theory.Trace.{Trace, OfThread}
 use Rattle.std.specs.Arc.{arc_value}
 use Rattle.std.specs.List.{Contains}
@@ -22,7 +23,7 @@ use Rattle.sp_closure.specs.declared.work.Work.{Work}
 use Rattle.sp_closure.specs.Sheets.{at}
 use Rattle.sp_closure.specs.declared.fronts.Fronts.{Fronts}
 use Rattle.sp_closure.specs.State.{count_of, places_in}
-use Rattle.sp_closure.specs.Slots.{class_of, slots_of, AreSlots, HasFirst, in_front}
+use Rattle.sp_closure.specs.Slots.{slots_of, AreSlots, AreStands, HasFirst, among, front_test, in_front}
 use Rattle.sp_closure.specs.Layers.{front_of, done_of, last_of, first_some, IsEmpty}
 use Rattle.sp_closure.specs.Demands.{AreDemands}
 use Rattle.sp_closure.specs.Work.{State, IsFit, IsOnWay, sum_to}
@@ -239,12 +240,35 @@ closure_cut s places set end w closure most p = go (set p) refl
     go true e = rw (lt_true p end (closure_below s w places end p most ((closure p).0 e))) refl
     go false e = and_off (nat_lt p end)
 
+-- a place that is not listed has no slot
+no_slot : (s : Trace) (slots : ℕ → Option ℕ) (count : ℕ) (stands : List Goal) → AreSlots s slots count → AreStands s slots stands → (p : ℕ) → slice_get stands p ≡ None → slots p ≡ None
+no_slot s slots count stands known are p none = go (slots p) refl
+  where
+    go : (o : Option ℕ) → slots p ≡ o → o ≡ None
+    go None e = refl
+    go (Some a) e =
+        let of = known.of_place p a e in
+        let there = at_index stands p (omega (arith, are.all, slice_get_within s p _ of.1.1)) in
+        absurd (none-some there.0 (sym none ∙ there.1))
+
+-- of places that are listed so, those that are in front
+in_front_among : (s : Trace) (slots : ℕ → Option ℕ) (count : ℕ) (stands : List Goal) (front : ℕ → ℕ) → AreSlots s slots count → AreStands s slots stands → (p : ℕ) →
+    in_front s slots front p ≡ among stands front p
+in_front_among s slots count stands front known are p = go (slice_get stands p) refl
+  where
+    go : (o : Option Goal) → slice_get stands p ≡ o → in_front s slots front p ≡ option_map_or (λ to. front_test front to.count to.slot) o false
+    go None e = ap (λ o. option_map_or (λ a. option_map_or (λ n. front_test front n a) (number_at s p) false) o false) (no_slot s slots count stands known are p e)
+    go (Some to) e =
+        let x = are.each p to e in
+        ap (λ o. option_map_or (λ a. option_map_or (λ n. front_test front n a) (number_at s p) false) o false) x.slot
+        ∙ ap (λ o. option_map_or (λ n. front_test front n to.slot) o false) x.number
+
 -- fronts that agree with a closure below the count of slots, as far as the greatest of the places,
 -- hold it
-pub set_of_fronts : (s : Trace) (places : List ℕ) (classes : List (Option ℕ)) (count : ℕ) (front : ℕ → ℕ) (fronts : Fronts) → IsWellFormed s →
-    AreSlots s (class_of classes) count → (arc_value fronts.slots).items ≡ classes → ((a : ℕ) → a < count → front a ≡ count_of fronts a) →
-    ((p : ℕ) → Contains places p → p ≤ fronts.end) → IsClosure s places (in_front s (class_of classes) front) → in_front s (class_of classes) front ≡ places_in s fronts
-set_of_fronts s places classes count front fronts w known list same most closure = λ i p.
-    (closure_cut s places (in_front s (class_of classes) front) fronts.end w closure most p
-    ∙ ap (λ b. nat_lt p fronts.end && b) (in_front_same s (class_of classes) count front (count_of fronts) known same p
-    ∙ ap (λ xs. in_front s (class_of xs) (count_of fronts) p) (sym list))) i
+pub set_of_fronts : (s : Trace) (places : List ℕ) (slots : ℕ → Option ℕ) (count : ℕ) (front : ℕ → ℕ) (fronts : Fronts) → IsWellFormed s → AreSlots s slots count →
+    AreStands s slots (arc_value fronts.stands).items → ((a : ℕ) → a < count → front a ≡ count_of fronts a) →
+    ((p : ℕ) → Contains places p → p ≤ fronts.end) → IsClosure s places (in_front s slots front) → in_front s slots front ≡ places_in fronts
+set_of_fronts s places slots count front fronts w known are same most closure = λ i p.
+    (closure_cut s places (in_front s slots front) fronts.end w closure most p
+    ∙ ap (λ b. nat_lt p fronts.end && b) (in_front_same s slots count front (count_of fronts) known same p
+    ∙ in_front_among s slots count (arc_value fronts.stands).items (count_of fronts) known are p)) i

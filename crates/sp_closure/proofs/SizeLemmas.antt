@@ -12,7 +12,7 @@ use Rattle.links.proofs.Counting.{length_ascending, count-agree}
 use Rattle.trace_index.specs.Numbers.{of_thread}
 use Rattle.sp_closure.specs.declared.classes.Classes.{Classes}
 use Rattle.sp_closure.specs.declared.fronts.Fronts.{Fronts}
-use Rattle.sp_closure.specs.Slots.{slots_of, AreSlots, AreThreadSlots, Stands, HasFirst, HasFronts, in_front}
+use Rattle.sp_closure.specs.Slots.{slots_of, AreSlots, AreStands, AreThreadSlots, Stands, HasFirst, HasFronts, in_front}
 use Rattle.sp_closure.specs.State.{count_of, places_in, size_in}
 use Rattle.sp_closure.specs.Work.{sum_to}
 use Rattle.sp_closure.proofs.FrontLemmas.{lt_true, lt_false}
@@ -115,14 +115,14 @@ fronts_size s slots count front known has =
 
 -- fronts that hold a closure of these fronts, and as many places
 pub record AreGathered (s : Trace) (threads : Classes) (front : ℕ → ℕ) (fronts : Fronts) : Type 0 where
-  pub set : in_front s (slots_of threads) front ≡ places_in s fronts
+  pub set : in_front s (slots_of threads) front ≡ places_in fronts
   pub size : HasFronts s (slots_of threads) front → sum_to front threads.count ≡ size_in s fronts
 
 pub all_gathered : (s : Trace) (places : List ℕ) (threads : Classes) (front : ℕ → ℕ) (fronts : Fronts) → IsWellFormed s → AreThreadSlots s threads →
-    (arc_value fronts.slots).items ≡ threads.of.items → ((a : ℕ) → a < threads.count → count_of fronts a ≡ front a) → ((p : ℕ) → Contains places p → p ≤ fronts.end) →
+    AreStands s (slots_of threads) (arc_value fronts.stands).items → ((a : ℕ) → a < threads.count → count_of fronts a ≡ front a) → ((p : ℕ) → Contains places p → p ≤ fronts.end) →
     IsClosure s places (in_front s (slots_of threads) front) → AreGathered s threads front fronts
-all_gathered s places threads front fronts w known list same most closure =
-    let set = set_of_fronts s places threads.of.items threads.count front fronts w known list (λ a l. sym (same a l)) most closure in
+all_gathered s places threads front fronts w known are same most closure =
+    let set = set_of_fronts s places (slots_of threads) threads.count front fronts w known are (λ a l. sym (same a l)) most closure in
     record {
       set = set;
       size = λ has. fronts_size s (slots_of threads) threads.count front known has ∙ ap (λ z. length (ascending z (length s))) set;

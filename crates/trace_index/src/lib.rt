@@ -4,6 +4,7 @@
 mod chain;
 mod copies;
 mod depths;
+mod ends;
 mod growing;
 mod guesses;
 mod latest;

@@ -18,10 +18,15 @@ pub adds_next : {S X : Type 0} (room : Room S) (a b c : S) (f : X → List ℕ) 
     Adds room a (flat_map f (take i xs)) b → Adds room b (f x) c → Adds room a (flat_map f (take (i + 1) xs)) c
 adds_next room a b c f xs i x l e h k = subst (λ t. Adds room a t c) (sym (flat_more f xs i x l e)) (adds_both room a b c (flat_map f (take i xs)) (f x) h k)
 
--- there is no room for one element, so there is none for all
+-- there is no room for a part, so there is none for all
+pub lacks_part : {S E : Type 0} (room : Room S) (a b c : S) (before text all : List ℕ) (r : Result (Unit {0}) E) →
+    IsErr r → length before + length text ≤ length all → Adds room a before b → Lacks room b text → Takes room a all r c
+lacks_part room a b c before text all (Ok _) is l h k = absurd (cc)
+lacks_part room a b c before text all (Err _) is l h k = λ told has.
+    omega (arith, k (told ++ before) (h told has), l, length-append told before, length-append (told ++ before) text, length-append told all)
+
+-- the same of one element
 pub lacks_one : {S X E : Type 0} (room : Room S) (a b c : S) (f : X → List ℕ) (xs : List X) (i : ℕ) (d : X) (text : List ℕ) (r : Result (Unit {0}) E) →
     IsErr r → i < length xs → text ≡ f (get_or xs i d) → Adds room a (flat_map f (take i xs)) b → Lacks room b text → Takes room a (flat_map f xs) r c
-lacks_one room a b c f xs i d text (Ok _) is l e h k = absurd (cc)
-lacks_one room a b c f xs i d text (Err _) is l e h k = λ told has.
-    let before = flat_map f (take i xs) in
-    omega (arith, k (told ++ before) (h told has), length-flat_map-take f xs i d l, ap length e, length-append told before, length-append (told ++ before) text, length-append told (flat_map f xs))
+lacks_one room a b c f xs i d text r is l e h k =
+    lacks_part room a b c (flat_map f (take i xs)) text (flat_map f xs) r is (omega (arith, length-flat_map-take f xs i d l, ap length e)) h k

@@ -1,6 +1,6 @@
 -- Numbers with equally many digits.
 use Rattle.std.specs.Prelude.{◌≡◌, ℕ, ◌+◌, ◌<◌, ◌≤◌, length, decimal}
-use Rattle.witness.specs.declared.measure.Decade.{Decade}
+use Rattle.witness.specs.declared.ruler.Decade.{Decade}
 
 -- each number of the decade is as long as it says, with a space
 abbrev pub IsDecade : Decade → Type 0

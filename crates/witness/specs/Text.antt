@@ -1,6 +1,6 @@
 -- The text of a report.
-use Rattle.std.specs.Prelude.{◌≡◌, ℕ, ◌+◌, ◌<◌, List, ◌++◌, length, codes, decimal, Option, Some, None, MatchOption, is_some, count_by, Bool}
-use Rattle.std.specs.List.{flat_map, zip}
+use Rattle.std.specs.Prelude.{◌≡◌, ℕ, ◌+◌, ◌<◌, List, ◌++◌, length, slice_index, codes, decimal, Option, Some, None, MatchOption, is_some, count_by, Bool}
+use Rattle.std.specs.List.{flat_map, range_with_len, zip}
 use Rattle.trace_model.specs.Theory.Dependencies.{Dependency}
 use Rattle.trace_model.specs.Theory.Rows.{Found}
 use Rattle.witness.specs.Printed.{Printed}
@@ -9,6 +9,15 @@ use Rattle.witness.specs.declared.report.Plan.{Plan}
 -- each number after one space
 abbrev pub spaced : List ℕ → List ℕ
 spaced numbers = flat_map (λ n. codes " " ++ decimal n) numbers
+
+-- so many numbers that follow one another, from the first one on
+abbrev pub run_text : ℕ → ℕ → List ℕ
+run_text first count = spaced (range_with_len first count)
+
+-- of the places, so many follow one another, from the one at an index on
+abbrev pub IsRun : List ℕ → ℕ → ℕ → Type 0
+IsRun places at count =
+    (k : ℕ) → k < count → slice_index places (at + k) ≡ slice_index places at + k
 
 abbrev pub member : Dependency → List ℕ
 member d = codes "  thread " ++ decimal d.thread ++ codes " lock " ++ decimal d.lock ++

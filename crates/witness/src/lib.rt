@@ -3,14 +3,17 @@
 #![tactic(auto)]
 
 mod measure;
+mod numerals;
 mod order;
 mod page;
 mod report;
 mod row;
+mod ruler;
 mod taker;
 mod write;
 
 pub use measure::confirmed_in;
 pub use order::write_witness;
+pub use page::Page;
 pub use report::{TextRefused, head_text, report_text, rows_text};
 pub use row::{Found, Row};

@@ -1,85 +1,24 @@
 //! How long a text will be, and how many rows it counts, before it is written.
 
-ghost use Rattle.std.specs.Prelude.{◌≡◌, ℕ, ◌<◌, ◌≤◌, ◌^◌, ◌+◌, length, decimal, [], count_by, sum_by, MatchResult};
+ghost use Rattle.std.specs.Prelude.{◌≡◌, ◌<◌, ◌≤◌, ◌^◌, ◌+◌, length, [], count_by, sum_by, MatchResult};
 ghost use Rattle.trace_model.specs.declared.limits.TheConstants.{MAX_REPORT};
 ghost use Rattle.witness.specs.Text.{is_confirmed};
-ghost use Rattle.witness.specs.Decades.{IsDecade};
 
 use crate::row::Row;
+use crate::ruler::{Ruler, digits};
 use crate::taker::Taker;
-use trace_model::{MAX_REPORT, Place};
-
-/// How many digits the number has.
-fn digits(number: u64) -> u64
-    ensures value { result ≡ length (decimal number) }
-    ensures short { result ≤ 20 }
-{
-    let mut count = 1;
-    let mut rest = number;
-    while rest >= 10 {
-        rest /= 10;
-        count += 1;
-    }
-    count
-}
-
-/// Numbers that have equally many digits, from `low` on and below `high`; each is `width` bytes
-/// with its space.
-#[derive(Clone, Copy)]
-struct Decade {
-    low: u64,
-    high: u64,
-    width: u64,
-}
-
-/// The numbers that have as many digits as this one.
-fn decade_of(number: u32) -> Decade
-    ensures decade { IsDecade result }
-    ensures within { (result.low ≤ number) × (number < result.high) }
-{
-    let number = u64::from(number);
-    let mut decade = Decade {
-        low: 0,
-        high: 10,
-        width: 2,
-    };
-    while decade.high <= number {
-        decade = Decade {
-            low: decade.high,
-            high: decade.high * 10,
-            width: decade.width + 1,
-        };
-    }
-    decade
-}
-
-impl Decade {
-    /// This one, if it has the number, and else the one that does.
-    fn with(self, number: u32) -> Decade
-        requires { IsDecade self }
-        ensures decade { IsDecade result }
-        ensures within { (result.low ≤ number) × (number < result.high) }
-    {
-        if self.low <= u64::from(number) && u64::from(number) < self.high {
-            self
-        } else {
-            decade_of(number)
-        }
-    }
-}
+use trace_model::MAX_REPORT;
 
 /// The text has more bytes than `MAX_REPORT`.
 #[derive(Drop)]
 pub(crate) struct TooLong;
 
-/// Counts the bytes of a text, of which it takes at most `MAX_REPORT`. Places that follow one
-/// another mostly have equally many digits, so it keeps the decade of the last one.
+/// Counts the bytes of a text, of which it takes at most `MAX_REPORT`.
 #[derive(Drop)]
 pub(crate) struct Counter {
     pub(crate) left: u64,
-    decade: Decade,
+    ruler: Ruler,
     ghost within: { left ≤ MAX_REPORT },
-    ghost wide: { IsDecade decade },
 }
 
 impl Counter {
@@ -89,7 +28,7 @@ impl Counter {
     {
         Counter {
             left: MAX_REPORT as u64,
-            decade: decade_of(0),
+            ruler: Ruler::new(),
         }
     }
 
@@ -126,9 +65,9 @@ impl Taker for Counter {
         self.count(before.len() as u64 + digits(number))
     }
 
-    fn take_place(&mut self, place: Place) -> Result<(), TooLong> {
-        self.decade = self.decade.with(place.get());
-        self.count(self.decade.width)
+    fn take_run(&mut self, first: u32, count: usize) -> Result<(), TooLong> {
+        let bytes = self.ruler.run(first, count);
+        self.count(bytes)
     }
 }
 

@@ -26,19 +26,18 @@ pub fn write_witness(
     fronts: &Fronts,
 ) -> Result<Vec<Place>, NoMemory>
     ensures ascends { IfOk result
-        (λ order. order.items ≡ ascending (places_in index.now.events fronts.now)
-        (length index.now.events)) }
+        (λ order. order.items ≡ ascending (places_in fronts.now) (length index.now.events)) }
     ensures smallest { IfOk result (λ order. (places : List ℕ) →
-        IsClosure index.now.events places (places_in index.now.events fronts.now) →
+        IsClosure index.now.events places (places_in fronts.now) →
         Reached index.now.events places →
         IsWitness index.now.events places order.items) }
 {
-    let mut places = Vec::new(alloc);
     let len = index.len();
-    let end = fronts.end().get() as usize;
-    for p in 0..len.min(end) {
+    let end = len.min(fronts.end().get() as usize);
+    let mut places = Vec::with_capacity(alloc, fronts.most().min(end))?;
+    for p in 0..end {
         let place = Place::new(p as u32);
-        if fronts.has(index, place) {
+        if fronts.has(place) {
             places.push(place)?;
         }
     }

@@ -101,21 +101,22 @@ pub fn report_text(
 {
     let most = bound.get();
     let plan = plan_of(question, events, most, tasks)?;
-    let mut page = Page::new(alloc, plan.length as usize)?;
+    let mut page = Page::new(alloc);
+    page.begin(plan.length as usize)?;
     write_about(&mut page, question, events, most)?;
     write_counts(&mut page, plan.cycles, plan.confirmed)?;
     write_tasks(&mut page, tasks)?;
-    Ok(page.text)
+    Ok(page.finish())
 }
 
 /// What the text of a report has of these rows: the text of a report is its head with this of all
-/// its rows.
+/// its rows. What the page keeps from one text to the next serves for any rows.
 ///
 /// # Errors
 ///
 /// `TooLong` exactly where that alone has more than `MAX_REPORT` bytes, which is known before any
 /// of it is written. `NoMemory` where a growth was refused; what was written is dropped.
-pub fn rows_text(alloc: Global, rows: &[Row]) -> Result<Vec<u8>, TextRefused>
+pub fn rows_text(page: &mut Page, rows: &[Row]) -> Result<Vec<u8>, TextRefused>
     ensures text { IfOk result (λ text. text.items ≡ flat_map row_text rows.now) }
     ensures too_long { IsErrOf result TextRefused.TooLong ↔
         (MAX_REPORT < length (flat_map row_text rows.now)) }
@@ -123,9 +124,9 @@ pub fn rows_text(alloc: Global, rows: &[Row]) -> Result<Vec<u8>, TextRefused>
     let mut counter = Counter::new();
     write_rows(&mut counter, rows)?;
     let room = MAX_REPORT as u64 - counter.left;
-    let mut page = Page::new(alloc, room as usize)?;
-    write_rows(&mut page, rows)?;
-    Ok(page.text)
+    page.begin(room as usize)?;
+    write_rows(page, rows)?;
+    Ok(page.finish())
 }
 
 /// How the text of a report begins, before its rows: with the number, the length and the bound of
@@ -145,8 +146,8 @@ pub fn head_text(
     ensures { IfOk result (λ text. text.items ≡ about question events bound ++
         counts cycles confirmed) }
 {
-    let mut page = Page::new(alloc, 0)?;
+    let mut page = Page::new(alloc);
     write_about(&mut page, question, events, bound.get())?;
     write_counts(&mut page, cycles, confirmed)?;
-    Ok(page.text)
+    Ok(page.finish())
 }

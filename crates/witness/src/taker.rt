@@ -1,9 +1,8 @@
 //! What takes a text, piece by piece: one walk over a report measures it, and writes it.
 
-ghost use Rattle.std.specs.Prelude.{◌++◌, codes, decimal};
+ghost use Rattle.std.specs.Prelude.{◌++◌, ◌+◌, ◌≤◌, ◌^◌, decimal};
 ghost use Rattle.witness.specs.Taking.{Room, Takes};
-
-use trace_model::Place;
+ghost use Rattle.witness.specs.Text.{run_text};
 
 /// What takes a text, piece by piece.
 pub(crate) trait Taker {
@@ -29,11 +28,13 @@ pub(crate) trait Taker {
     fn take_number(&mut self, before: &[u8], number: u64) -> Result<(), Self::Refused>
         ensures { Takes room self.old (before.now ++ decimal number) result self.new };
 
-    /// Takes a space, and then the place in decimal.
+    /// Takes so many numbers that follow one another, from the first one on, each in decimal after
+    /// a space.
     ///
     /// # Errors
     ///
-    /// `Refused` where it has no room for both; it may have taken a part.
-    fn take_place(&mut self, place: Place) -> Result<(), Self::Refused>
-        ensures { Takes room self.old (codes " " ++ decimal place) result self.new };
+    /// `Refused` where it has no room for all; it may have taken a part.
+    fn take_run(&mut self, first: u32, count: usize) -> Result<(), Self::Refused>
+        requires { first + count ≤ 2 ^ 32 }
+        ensures { Takes room self.old (run_text first count) result self.new };
 }

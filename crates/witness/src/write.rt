@@ -5,10 +5,9 @@
 //! Each function answers `Refused` where the taker refuses a piece of its text; the pieces before
 //! it stay taken.
 
-ghost use Rattle.std.specs.Prelude.{◌≡◌, ℕ, ◌<◌, ◌≤◌, ◌^◌, ◌++◌, ◌+◌, length, decimal, codes};
+ghost use Rattle.std.specs.Prelude.{◌<◌, ◌≤◌, ◌^◌, ◌+◌, length, slice_index};
 ghost use Rattle.std.specs.List.{flat_map, zip};
-ghost use Rattle.std.specs.Prelude.{Some, None};
-ghost use Rattle.witness.specs.Text.{spaced, member, member_line, placed_line, witness_line, verdict, row_text, about, counts};
+ghost use Rattle.witness.specs.Text.{spaced, IsRun, member, member_line, placed_line, witness_line, verdict, row_text, about, counts};
 ghost use Rattle.witness.specs.Taking.{Takes};
 
 use crate::row::{Found, Row};
@@ -26,12 +25,32 @@ pub(crate) fn write_numbers<T: Taker>(text: &mut T, numbers: &[u32]) -> Result<(
     Ok(())
 }
 
-/// The same of places.
+/// How many of the places follow one another, from the one at an index on.
+fn run_at(places: &[Place], at: usize) -> usize
+    requires { at < length places.now }
+    ensures some { 0 < result }
+    ensures within { at + result ≤ length places.now }
+    ensures run { IsRun places.now at result }
+    ensures few { slice_index places.now at + result ≤ 2 ^ 32 }
+{
+    let first = places[at].get() as usize;
+    for index in at + 1..places.len() {
+        if places[index].get() as usize != first + (index - at) {
+            return index - at;
+        }
+    }
+    places.len() - at
+}
+
+/// The same of places, of which those that follow one another are taken at once.
 pub(crate) fn write_places<T: Taker>(text: &mut T, places: &[Place]) -> Result<(), T::Refused>
     ensures { Takes T.room text.old (spaced places.now) result text.new }
 {
-    for place in places {
-        text.take_place(*place)?;
+    let mut at = 0;
+    while at < places.len() {
+        let count = run_at(places, at);
+        text.take_run(places[at].get(), count)?;
+        at += count;
     }
     Ok(())
 }
@@ -67,8 +86,7 @@ pub(crate) fn write_placed_line<T: Taker>(
     ensures { Takes T.room text.old (placed_line (dependency.now, place)) result text.new }
 {
     write_member(text, dependency)?;
-    text.take(b" place")?;
-    text.take_place(place)?;
+    text.take_number(b" place ", u64::from(place.get()))?;
     text.take(b"\n")?;
     Ok(())
 }

@@ -21,13 +21,13 @@ ascending_cut set m (suc n) l out = elim (cases_lt m (suc n)) [
 pub returns-clause-ascends : goal.returns-clause-ascends
 returns-clause-ascends c =
     let s = c.args.index.now.events in
-    let set = places_in s c.args.fronts.now in
+    let set = places_in c.args.fronts.now in
     c.loop-p.invariant ∙ sym (ascending_cut set c.loop-p.p (length s) (omega arith)
-    (λ p above less. false_from (set p) (λ h. let before = c.end.ensures s p h in omega arith)))
+    (λ p above less. false_from (set p) (λ h. let before = c.end.ensures p h in omega arith)))
 
 pub returns-clause-smallest : goal.returns-clause-smallest
 returns-clause-smallest c = λ places closure reached.
     let s = c.args.index.now.events in
-    let set = places_in s c.args.fronts.now in
+    let set = places_in c.args.fronts.now in
     subst (IsWitness s places) (sym (returns-clause-ascends c))
     (closure_witness s c.len-len.ensures.well_formed places set closure reached)

@@ -4,4 +4,4 @@ use Rattle.sp_closure.specs.State.{places_in}
 use Rattle.witness.proofs.order.write_witness.Given as goal
 
 abbrev pub invariant-loop-p : goal.invariant-loop-p
-invariant-loop-p l = l.places.items ≡ ascending (places_in l.index.events l.fronts) l.p
+invariant-loop-p l = l.places.items ≡ ascending (places_in l.fronts) l.p

@@ -7,7 +7,7 @@ returns-in_err-write_rows-clause-too_long c =
     let p = err_from_is_err_and c.from_residual.result c.from_residual.ensures.1 in
     rw (p.1, p.2) (λ _. c.in_err-write_rows.ensures [] c.new-counter.ensures, λ _. refl)
 
-pub returns-in_err-page-clause-too_long : goal.returns-in_err-page-clause-too_long
-returns-in_err-page-clause-too_long c =
-    let p = err_from_is_err_and c.from_residual-in_err-page.result c.from_residual-in_err-page.ensures.1 in
+pub returns-in_err-begin-clause-too_long : goal.returns-in_err-begin-clause-too_long
+returns-in_err-begin-clause-too_long c =
+    let p = err_from_is_err_and c.from_residual-in_err-begin.result c.from_residual-in_err-begin.ensures.1 in
     rw (p.1, p.2) (λ h. absurd (cc), λ h. absurd (omega (arith, h, c.in_ok-write_rows.ensures [] c.new-counter.ensures)))

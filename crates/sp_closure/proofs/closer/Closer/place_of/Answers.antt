@@ -29,7 +29,7 @@ returns-clause-closer c =
     let empty = c.in_ok-new.ensures in
     record {
       demands = old.demands;
-      shared = old.shared;
+      stands = old.stands;
       none = old.none;
       fits = old.fits;
       base = old.base;

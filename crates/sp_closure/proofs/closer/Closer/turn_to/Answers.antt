@@ -19,7 +19,7 @@ returns-clause-closer c =
     let it = is.others c.in_ok-at.at other at in
     record {
       demands = is.demands;
-      shared = is.shared;
+      stands = is.stands;
       none = is.none;
       fits = subst (IsFit s d none) (sym c.swap.ensures.x_after) it.fits;
       base = λ to e. subst (λ (w : Work). IsBase s d none to w.layer) (sym c.swap.ensures.x_after) (it.base to (sym c.swap-2.ensures.x_after ∙ e));

@@ -1,6 +1,6 @@
 use Rattle.std.proofs.Common.{arith}
 use Rattle.witness.proofs.Digits.{decade_first, decade_next}
-use Rattle.witness.proofs.measure.decade_of.Goals as goal
+use Rattle.witness.proofs.ruler.decade_of.Goals as goal
 
 pub loop-decade-init : goal.loop-decade-init
 loop-decade-init c = record {

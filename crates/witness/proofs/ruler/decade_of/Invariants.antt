@@ -1,6 +1,6 @@
 use Rattle.std.proofs.Common.{◌*◌, ◌-◌, ◌≤◌}
 use Rattle.witness.specs.Decades.{IsDecade}
-use Rattle.witness.proofs.measure.decade_of.Given as goal
+use Rattle.witness.proofs.ruler.decade_of.Given as goal
 
 abbrev pub invariant-loop-decade : goal.invariant-loop-decade
 invariant-loop-decade l = record {
