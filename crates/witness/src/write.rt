@@ -42,7 +42,7 @@ fn run_at(places: &[Place], at: usize) -> usize
     places.len() - at
 }
 
-/// The same of places, of which those that follow one another are taken at once.
+/// Places in decimal, each after one space. Those that follow one another are taken at once.
 pub(crate) fn write_places<T: Taker>(text: &mut T, places: &[Place]) -> Result<(), T::Refused>
     ensures { Takes T.room text.old (spaced places.now) result text.new }
 {
