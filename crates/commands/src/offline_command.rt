@@ -9,7 +9,7 @@ use crate::admission::push_refused_at;
 use crate::outcome::{Status, Stopped, write_text};
 use crate::progress::Progress;
 use crate::script_text::push_refusal;
-use event_files::read_events;
+use event_files::read_events_by;
 use offline_report::{Offline, OfflineRefused};
 use std::alloc::Global;
 use std::hash::RandomState;
@@ -96,7 +96,7 @@ fn report<R: Threads + Sync, P: Progress + Sync, O: Write>(
     ensures { IfOk result (λ status.
         OfflineTells file.now bound status (O.contents out.old) (O.contents out.new)) }
 {
-    let events = read_events(alloc, file)?;
+    let events = read_events_by(rt, alloc, file)?;
     match report_on(rt, alloc, state, events, bound, progress) {
         Ok(pieces) => {
             let written = write_pieces(out, &pieces);

@@ -49,6 +49,10 @@ line_words line = unless_comment (filter is_word (pieces_at 32 line))
 abbrev pub file_words : List ℕ → List (List ℕ)
 file_words file = flat_map line_words (pieces_at 10 file)
 
+-- the words of the lines are those of these events
+abbrev pub AreEventsIn : List Event → List (List ℕ) → Type 0
+AreEventsIn events lines = map event_word events ≡ flat_map line_words lines
+
 -- the words of the file are those of these events
 abbrev pub AreEventsOf : List Event → List ℕ → Type 0
 AreEventsOf events file = map event_word events ≡ file_words file

@@ -1,15 +1,16 @@
 //! Event files: lines of event words.
 ghost use Rattle.std.specs.Prelude.{◌≡◌, ◌<◌, ◌^◌, ◌++◌, ℕ, true, IfOk, IfSome, Ok, Some, decimal, map};
-ghost use Rattle.std.specs.List.{position};
+ghost use Rattle.std.specs.List.{filter, position};
 ghost use Rattle.trace_model.specs.Protocol.Frames.{IsRequest, object_of};
 ghost use Rattle.trace_model.specs.declared.traces.event.Event.{Event};
 ghost use Rattle.trace_model.specs.declared.traces.event.Op.{Op};
 ghost use Rattle.trace_model.specs.declared.messages.session.Request.TheVariants.{Offer};
-ghost use Rattle.event_files.specs.EventFile.{is_no_digit, letter_of, event_word, pieces_at, is_comment, line_words, AreEventsOf};
+ghost use Rattle.event_files.specs.EventFile.{is_no_digit, is_word, letter_of, event_word, pieces_at, is_comment, line_words, AreEventsIn, AreEventsOf};
 
 use crate::numbers::number;
 use crate::refused::FileRefused;
 use std::alloc::{AllocError, Global};
+use std::thread::{Threads, join};
 use trace_model::{Event, NoMemory, Op};
 
 /// The operation of a letter.
@@ -68,6 +69,16 @@ pub fn lines_of(alloc: Global, file: &[u8]) -> Result<Vec<&[u8]>, NoMemory>
     Ok(pieces_at(alloc, file, b'\n')?)
 }
 
+/// What stands between the spaces of a line.
+fn spaced<'a>(alloc: Global, line: &'a [u8]) -> Result<Vec<&'a [u8]>, AllocError>
+    ensures { IfOk result (λ words. map (λ word. word.now) words.items ≡
+        filter is_word (pieces_at 32 line.now)) }
+{
+    line.split(|byte| *byte == b' ')
+        .filter(|piece| !piece.is_empty())
+        .collect(alloc)
+}
+
 /// Whether a line is a comment whose first word this is.
 fn is_comment(word: &[u8]) -> bool
     ensures { result ≡ is_comment word.now }
@@ -86,13 +97,7 @@ fn is_comment(word: &[u8]) -> bool
 pub fn words_of(alloc: Global, line: &[u8]) -> Result<Vec<&[u8]>, NoMemory>
     ensures { IfOk result (λ words. map (λ word. word.now) words.items ≡ line_words line.now) }
 {
-    let pieces = pieces_at(alloc, line, b' ')?;
-    let mut words = Vec::with_capacity(alloc, pieces.len())?;
-    for index in 0..pieces.len() {
-        if !pieces[index].is_empty() {
-            words.push(pieces[index])?;
-        }
-    }
+    let words = spaced(alloc, line)?;
     match words.first() {
         Some(first) if is_comment(first) => Ok(Vec::new(alloc)),
         _ => Ok(words),
@@ -118,6 +123,27 @@ pub fn push_events(events: &mut Vec<Event>, words: &[&[u8]]) -> Result<bool, NoM
     Ok(true)
 }
 
+/// The events of these lines, of which so many stand before them in their file.
+///
+/// # Errors
+///
+/// The first line that is not understood, by its number in the file, or `NoMemory`.
+fn events_of(alloc: Global, lines: &[&[u8]], before: usize) -> Result<Vec<Event>, FileRefused>
+    ensures { IfOk result (λ events.
+        AreEventsIn events.items (map (λ line. line.now) lines.now)) }
+{
+    let mut events = Vec::new(alloc);
+    let mut number = before;
+    for line in lines {
+        number = number.saturating_add(1);
+        let words = words_of(alloc, line)?;
+        if !push_events(&mut events, &words)? {
+            return Err(FileRefused::Line(number));
+        }
+    }
+    Ok(events)
+}
+
 /// The events of a file, in their order.
 ///
 /// # Errors
@@ -126,13 +152,40 @@ pub fn push_events(events: &mut Vec<Event>, words: &[&[u8]]) -> Result<bool, NoM
 pub fn read_events(alloc: Global, file: &[u8]) -> Result<Vec<Event>, FileRefused>
     ensures { IfOk result (λ events. AreEventsOf events.items file.now) }
 {
-    let mut events = Vec::new(alloc);
     let lines = lines_of(alloc, file)?;
-    for index in 0..lines.len() {
-        let words = words_of(alloc, lines[index])?;
-        if !push_events(&mut events, &words)? {
-            return Err(FileRefused::Line(index + 1));
-        }
+    events_of(alloc, &lines, 0)
+}
+
+/// The events of a file, in their order, as `read_events` gives them: of its lines each half is
+/// read by a thread.
+///
+/// # Errors
+///
+/// As of `read_events`.
+pub fn read_events_by<R: Threads>(
+    rt: &R,
+    alloc: Global,
+    file: &[u8],
+) -> Result<Vec<Event>, FileRefused>
+    ensures { IfOk result (λ events. AreEventsOf events.items file.now) }
+{
+    let lines = lines_of(alloc, file)?;
+    let (front, back) = lines.split_at(lines.len() / 2);
+    let (first, second) = join(
+        rt,
+        || -> Result<Vec<Event>, FileRefused>
+            ensures { IfOk result (λ events.
+                AreEventsIn events.items (map (λ line. line.now) front.entry.now)) }
+        { events_of(alloc, front, 0) },
+        || -> Result<Vec<Event>, FileRefused>
+            ensures { IfOk result (λ events.
+                AreEventsIn events.items (map (λ line. line.now) back.entry.now)) }
+        { events_of(alloc, back, front.len()) },
+    );
+    let mut events = first?;
+    let rest = second?;
+    match events.extend_from_slice(&rest) {
+        Ok(()) => Ok(events),
+        Err(_) => Err(FileRefused::NoMemory),
     }
-    Ok(events)
 }

@@ -91,6 +91,7 @@ impl HeldTable {
     /// # Errors
     ///
     /// `NoMemory` where a growth was refused.
+    #[inline(always)]
     pub fn reserve(&mut self, thread: u32, _lock: u32) -> Result<(), NoMemory>
         ensures shown { (t : ℕ) → holding_in self.new t ≡ holding_in self.old t }
         ensures ok { OnOk result (HasEntry self.new thread) }
@@ -106,6 +107,7 @@ impl HeldTable {
     }
 
     /// Does what `acquire` does, where the thread has an entry. It takes no memory.
+    #[inline(always)]
     pub fn record(&mut self, thread: u32, lock: u32)
         requires entry { HasEntry self.old thread }
         requires nested { depth_in self.old thread lock < MAX_DEPTH }
@@ -124,6 +126,7 @@ impl HeldTable {
 
     /// The thread releases a lock, which it then holds at one less: at depth 1 no longer. A lock
     /// that it does not hold changes nothing. It takes no memory.
+    #[inline(always)]
     pub fn release(&mut self, thread: u32, lock: u32)
         ensures { IsAfter self.old thread (Release lock) self.new }
     {

@@ -1,6 +1,6 @@
 //! A link, and what has links.
 
-use segments::Earlier;
+use segments::MaybeIndex;
 
 /// Where an entry stands among those that pass: how many of them stand before it, the last of
 /// these, and one of them that is further off (the entry itself where there is none), by their
@@ -8,7 +8,7 @@ use segments::Earlier;
 #[derive(Clone, Copy, Debug)]
 pub struct Link {
     pub number: u32,
-    pub earlier: Earlier,
+    pub earlier: MaybeIndex,
     pub jump: u32,
 }
 

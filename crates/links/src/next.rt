@@ -5,7 +5,7 @@ ghost use Rattle.trace_model.specs.Theory.Trace.{last_place};
 ghost use Rattle.links.specs.Links.{IsLink};
 
 use crate::link::{Link, Linked};
-use segments::Earlier;
+use segments::MaybeIndex;
 
 /// The entry to which the next one that passes jumps, where `number` pass before that one, of which
 /// `index` is the last: it goes back to the number without its last binary one, so a way of jumps
@@ -29,6 +29,7 @@ fn further<L: Linked>(list: &L, index: u32, link: Link, number: u32) -> u32
 }
 
 /// The link of the entry that comes next, if it passes, after the last one that does.
+#[inline(always)]
 pub fn link_after<L: Linked>(list: &L, last: Option<u32>, index: u32) -> Link
     requires last { last ≡ last_place (L.passes list.now) (L.size list.now) }
     requires index { index ≡ L.size list.now }
@@ -37,7 +38,7 @@ pub fn link_after<L: Linked>(list: &L, last: Option<u32>, index: u32) -> Link
     let Some(before) = last else {
         return Link {
             number: 0,
-            earlier: Earlier::none(),
+            earlier: MaybeIndex::none(),
             jump: index,
         };
     };
@@ -45,7 +46,7 @@ pub fn link_after<L: Linked>(list: &L, last: Option<u32>, index: u32) -> Link
     let number = link.number + 1;
     Link {
         number,
-        earlier: Earlier::at(before),
+        earlier: MaybeIndex::at(before),
         jump: further(list, before, link, number),
     }
 }

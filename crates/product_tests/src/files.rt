@@ -46,6 +46,7 @@ fn traces_and_witnesses_that_are_not_understood(rt: HostRuntime) -> Result<(), F
     for file in [
         b"1r10\n\nask 2\n".as_slice(),
         b"1r10\n#\n0f1\r\n?".as_slice(),
+        b"1r10\n#\n?\n?\n?\n?\n".as_slice(),
     ] {
         let outcome = offline(&rt, file)?;
         assert!(rt; outcome.is_not_understood(b"FILE line 3 not understood\n"));

@@ -16,6 +16,7 @@ use std::collections::hash_map::RandomState;
 pub type NumberTable<V> = IndexMap<u32, V, RandomState>;
 
 /// Whether a number stands at an index.
+#[inline(always)]
 fn stands_at<V>(table: &NumberTable<V>, slot: usize, number: u32) -> bool
     ensures { result ≡ true → HasSlot nat_eq table.now number (Some slot) }
 {
@@ -28,13 +29,22 @@ fn stands_at<V>(table: &NumberTable<V>, slot: usize, number: u32) -> bool
 /// The index of a number in the table, if it is there. It is not hashed where it stands at the near
 /// index, nor where the numbers came in order, from 0 or from 1 on. It takes no memory, and neither
 /// do the others.
+#[inline(always)]
 pub fn slot_of<V>(table: &NumberTable<V>, near: usize, number: u32) -> Option<usize>
     ensures { HasSlot nat_eq table.now number result }
 {
-    let at = number as usize;
     if stands_at(table, near, number) {
         return Some(near);
     }
+    far_slot_of(table, number)
+}
+
+/// The index of a number that does not stand where it was last found.
+#[inline(never)]
+fn far_slot_of<V>(table: &NumberTable<V>, number: u32) -> Option<usize>
+    ensures { HasSlot nat_eq table.now number result }
+{
+    let at = number as usize;
     if stands_at(table, at, number) {
         return Some(at);
     }
@@ -45,6 +55,7 @@ pub fn slot_of<V>(table: &NumberTable<V>, near: usize, number: u32) -> Option<us
 }
 
 /// What the table has for a number.
+#[inline(always)]
 pub fn value_of<V: Copy>(table: &NumberTable<V>, near: usize, number: u32) -> Option<V>
     ensures { result ≡ get nat_eq table.now number }
 {
@@ -58,6 +69,7 @@ pub fn value_of<V: Copy>(table: &NumberTable<V>, near: usize, number: u32) -> Op
 }
 
 /// Writes what the table has for a number, which must be there.
+#[inline(always)]
 pub fn write_value<V: Copy>(table: &mut NumberTable<V>, near: usize, number: u32, value: V)
     requires { IsSome (get nat_eq table.old number) }
     ensures { (q : ℕ) → get nat_eq table.new q ≡

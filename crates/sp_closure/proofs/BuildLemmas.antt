@@ -8,12 +8,14 @@ use Rattle.std.proofs.lemmas.Option.{none-some, same_Some, slice_get_within, sli
 use Rattle.std.proofs.lemmas.List.Elements.{Contains-append_cases}
 use Rattle.trace_model.specs.Theory.Trace.{Trace, OfThread}
 use Rattle.trace_model.specs.Theory.Held.{BeginsOn}
-use Rattle.trace_model.proofs.Lists.{at_index, get-set_same, get-set_other}
+use Rattle.trace_model.proofs.Lists.{at_index, get-push, get-set_same, get-set_other}
 use Rattle.trace_index.specs.Numbers.{number_at}
+use Rattle.std.specs.Arc.{arc_value}
+use Rattle.sp_closure.specs.declared.demands.Goal.{Goal}
 use Rattle.sp_closure.specs.declared.demands.Need.TheVariants.{Reach, Begin}
 use Rattle.sp_closure.specs.declared.demands.Item.{Item}
 use Rattle.sp_closure.specs.declared.demands.Demands.{Demands}
-use Rattle.sp_closure.specs.Slots.{AreSlots, AreThreadSlots, Stands}
+use Rattle.sp_closure.specs.Slots.{slots_of, AreSlots, AreStands, AreThreadSlots, Stands}
 use Rattle.sp_closure.specs.Demands.{Needs, AreLockSlots, AreItems, AreDemands, item, item_at}
 use Rattle.sp_closure.specs.Pushing.{Slotted, with_slots, IsDemand, IsForkLater, IsReached, IsBegun, AddsDemands, AreBuilt, AreAllBuilt}
 use Rattle.sp_closure.proofs.SlotLemmas.{before_stands, has_upto}
@@ -180,7 +182,16 @@ items_built v d count k len all = record {
         let (b, f, less) = k.each q t o in
         at_index d.items.items a (omega (arith, len, less, same_Some a b (sym e ∙ f)))
 
-pub demands_built : (s : Trace) (d : Demands) → AreThreadSlots s d.threads → AreLockSlots s d.locks → length d.items.items ≡ d.threads.count →
+-- one more place is listed where it stands
+pub stands_pushed : (s : Trace) (slots : ℕ → Option ℕ) (old new : List Goal) (n : ℕ) (g : Goal) → new ≡ old ++ g ∷ [] → length old ≡ n →
+    ((p : ℕ) (to : Goal) → slice_get old p ≡ Some to → Stands s slots p to.slot to.count) → Stands s slots n g.slot g.count →
+    (p : ℕ) (to : Goal) → slice_get new p ≡ Some to → Stands s slots p to.slot to.count
+stands_pushed s slots old new n g is len each last p to at = elim (get-push old g p to (ap (λ z. slice_get z p) (sym is) ∙ at)) [
+  | inl before ↦ each p to before
+  | inr here ↦ subst (λ (z : Goal). Stands s slots p z.slot z.count) here.1 (subst (λ z. Stands s slots z g.slot g.count) (sym (here.0 ∙ len)) last)
+]
+
+pub demands_built : (s : Trace) (d : Demands) → AreThreadSlots s d.threads → AreLockSlots s d.locks → AreStands s (slots_of d.threads) (arc_value d.stands).items → length d.items.items ≡ d.threads.count →
     AreAllBuilt (with_slots s d.threads d.locks) (length s) d.items.items → AreDemands s d
-demands_built s d slots locks len all =
-    record { slots = slots; locks = locks; items = items_built (with_slots s d.threads d.locks) d d.threads.count slots len all }
+demands_built s d slots locks stands len all =
+    record { slots = slots; locks = locks; stands = stands; items = items_built (with_slots s d.threads d.locks) d d.threads.count slots len all }

@@ -167,3 +167,45 @@ classes_push firsts of count more c are old is_c is_more = push_from firsts of c
                 few = omega (arith, stays);
               }
         ]
+
+-- a place that has the same first place as an earlier one has its class
+pub as_before : (firsts classes : ℕ → Option ℕ) (count p q x : ℕ) → AreFirsts firsts → AreClasses firsts classes count p → q < p → firsts q ≡ Some x → firsts p ≡ Some x →
+    classes q ≡ next_class classes (firsts p) p count
+as_before firsts classes count p q x are old l fq fp =
+    let first = are.first q x fq in
+    let (a, class, below) = old.each q x l fq in
+    elim (next_cases classes x p count) [
+      | inl h ↦ absurd (omega (arith, first.0, l, h.0))
+      | inr h ↦
+          class ∙ sym (ap (λ z. next_class classes z p count) fp ∙ (h.1 ∙ old.alike q x a x (omega (arith, first.0, l)) class fq first.1))
+    ]
+
+-- and one that is its own first place has the next class
+pub as_first : (firsts classes : ℕ → Option ℕ) (count p : ℕ) → Some p ≡ firsts p → Some count ≡ next_class classes (firsts p) p count
+as_first firsts classes count p fp = elim (next_cases classes p p count) [
+  | inl h ↦ sym (ap (λ z. next_class classes z p count) (sym fp) ∙ h.1)
+  | inr h ↦ absurd (h.0 refl)
+]
+
+-- the count goes on by the class itself
+pub count_by_class : (firsts classes : ℕ → Option ℕ) (count p : ℕ) (c : Option ℕ) → AreFirsts firsts → AreClasses firsts classes count p → c ≡ next_class classes (firsts p) p count →
+    count_after c count count ≡ count_after (firsts p) p count
+count_by_class firsts classes count p c are old is = go (firsts p) refl
+  where
+    go : (o : Option ℕ) → firsts p ≡ o → count_after c count count ≡ count_after (firsts p) p count
+    go None e = ap (λ z. count_after z count count) (is ∙ ap (λ z. next_class classes z p count) e) ∙ sym (ap (λ z. count_after z p count) e)
+    go (Some x) e = elim (next_cases classes x p count) [
+      | inl h ↦
+          let fresh : c ≡ Some count = is ∙ (ap (λ z. next_class classes z p count) e ∙ h.1) in
+          ap (λ z. count_after z count count) fresh ∙ (ap (λ b. cond b (count + 1) count) (eq-eqb count count refl)
+          ∙ sym (ap (λ z. count_after z p count) e ∙ h.2))
+      | inr h ↦
+          let first = are.first p x e in
+          let (a, class, below) = old.each x x (omega (arith, first.0, h.0)) first.1 in
+          let known : c ≡ Some a = is ∙ (ap (λ z. next_class classes z p count) e ∙ (h.1 ∙ class)) in
+          elim (eqb_tells a count) [
+            | inl same ↦ absurd (omega (arith, below, same.1))
+            | inr other ↦ ap (λ z. count_after z count count) known ∙ (ap (λ b. cond b (count + 1) count) other.0
+                ∙ sym (ap (λ z. count_after z p count) e ∙ h.2))
+          ]
+    ]

@@ -21,8 +21,9 @@ use Rattle.sp_closure.specs.declared.demands.Shared.{Shared}
 use Rattle.sp_closure.specs.declared.demands.Shared.TheVariants.{Thread, Lock}
 use Rattle.sp_closure.specs.Slots.{class_of, slots_of, AreSlots}
 use Rattle.sp_closure.specs.Demands.{AreLocks}
-use Rattle.sp_closure.specs.Classes.{AreFirsts, AreClasses}
-use Rattle.sp_closure.specs.Firsts.{first_of_thread, first_of_lock, first_of, AreFound, AreSlotsOf}
+use Rattle.sp_closure.specs.Classes.{AreFirsts, AreClasses, next_class}
+use Rattle.sp_closure.specs.Firsts.{first_of_thread, first_of_lock, first_of, AreSlotsOf}
+use Rattle.sp_closure.proofs.ClassLemmas.{as_before, as_first}
 use Rattle.sp_closure.proofs.FrontLemmas.{of_thread_from, of_thread_so}
 use Rattle.sp_closure.proofs.ThreadLemmas.{place_below}
 
@@ -192,23 +193,28 @@ lock_old s p q k b last =
     (is.0, lock_at s q k (begins_so s k q is.1) ∙ sym (lock_at s p k b))
 
 -- from the place before it
-pub thread_first_none : (s : Trace) (p : ℕ) (e : Event) → At s p e → None ≡ thread_before s p → Some p ≡ first_of_thread s p
-thread_first_none s p e a none = thread_new s p e.thread (e.op, a) (sym (none ∙ ap (option_and_then (λ x. last_place (of_thread s x.thread) p)) a))
+pub thread_new_class : (s : Trace) (p count : ℕ) (e : Event) (classes : ℕ → Option ℕ) → At s p e → None ≡ thread_before s p → Some count ≡ next_class classes (first_of_thread s p) p count
+thread_new_class s p count e classes a none = as_first (first_of_thread s) classes count p
+    (thread_new s p e.thread (e.op, a) (sym (none ∙ ap (option_and_then (λ x. last_place (of_thread s x.thread) p)) a)))
 
-pub thread_first_some : (s : Trace) (p q : ℕ) (e : Event) (firsts : List (Option ℕ)) → At s p e → Some q ≡ thread_before s p → AreFound (first_of_thread s) firsts p → class_of firsts q ≡ first_of_thread s p
-thread_first_some s p q e firsts a some found =
+pub thread_old_class : (s : Trace) (p q count : ℕ) (e : Event) (classes : ℕ → Option ℕ) → At s p e → Some q ≡ thread_before s p → AreClasses (first_of_thread s) classes count p →
+    classes q ≡ next_class classes (first_of_thread s p) p count
+thread_old_class s p q count e classes a some known =
     let old = thread_old s p q e.thread (e.op, a) (sym (some ∙ ap (option_and_then (λ x. last_place (of_thread s x.thread) p)) a)) in
-    ap (option_and_then (λ c. c)) (found q old.0) ∙ old.1
+    let (x, first, l, o) = thread_first s p e.thread (e.op, a) in
+    as_before (first_of_thread s) classes count p q x (shared_firsts s Thread (first_of_thread s) (λ z. refl)) known old.0 (old.1 ∙ first) first
 
-pub lock_first_none : (s : Trace) (p k : ℕ) → begun s p ≡ Some k → None ≡ acquire_before s p → Some p ≡ first_of_lock s p
-lock_first_none s p k b none = lock_new s p k (begun_so s p k b) (sym (none ∙ ap (option_and_then (λ l. last_place (begins_on s l) p)) b))
+pub lock_new_class : (s : Trace) (p k count : ℕ) (classes : ℕ → Option ℕ) → begun s p ≡ Some k → None ≡ acquire_before s p → Some count ≡ next_class classes (first_of_lock s p) p count
+lock_new_class s p k count classes b none = as_first (first_of_lock s) classes count p
+    (lock_new s p k (begun_so s p k b) (sym (none ∙ ap (option_and_then (λ l. last_place (begins_on s l) p)) b)))
 
-pub lock_first_some : (s : Trace) (p q k : ℕ) (firsts : List (Option ℕ)) → begun s p ≡ Some k → Some q ≡ acquire_before s p → AreFound (first_of_lock s) firsts p →
-    class_of firsts q ≡ first_of_lock s p
-lock_first_some s p q k firsts b some found =
+pub lock_old_class : (s : Trace) (p q k count : ℕ) (classes : ℕ → Option ℕ) → begun s p ≡ Some k → Some q ≡ acquire_before s p → AreClasses (first_of_lock s) classes count p →
+    classes q ≡ next_class classes (first_of_lock s p) p count
+lock_old_class s p q k count classes b some known =
     let old = lock_old s p q k (begun_so s p k b) (sym (some ∙ ap (option_and_then (λ l. last_place (begins_on s l) p)) b)) in
-    ap (option_and_then (λ c. c)) (found q old.0) ∙ old.1
+    let (x, first, l, o) = lock_first s p k (begun_so s p k b) in
+    as_before (first_of_lock s) classes count p q x (shared_firsts s Lock (first_of_lock s) (λ z. refl)) known old.0 (old.1 ∙ first) first
 
 -- no section begins at the place
-pub lock_first_never : (s : Trace) (p : ℕ) → None ≡ begun s p → None ≡ first_of_lock s p
-lock_first_never s p none = ap (option_and_then (λ l. slice_get (ascending (begins_on s l) (length s)) 0)) none
+pub lock_no_class : (s : Trace) (p count : ℕ) (classes : ℕ → Option ℕ) → None ≡ begun s p → None ≡ next_class classes (first_of_lock s p) p count
+lock_no_class s p count classes none = ap (λ z. next_class classes (option_and_then (λ l. slice_get (ascending (begins_on s l) (length s)) 0) z) p count) none

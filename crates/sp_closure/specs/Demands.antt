@@ -1,6 +1,7 @@
 -- What the places of a trace demand, as tables.
 use Rattle.std.specs.Prelude.{◌≡◌, ℕ, suc, ◌<◌, ◌≤◌, ◌⊎◌, slice_get, Option, Some, MatchOption}
 use Rattle.std.specs.Option.{option_and_then}
+use Rattle.std.specs.Arc.{arc_value}
 use Rattle.trace_model.specs.Theory.Trace.{Trace, EarlierInThread}
 use Rattle.trace_model.specs.Theory.Held.{BeginsOn}
 use Rattle.trace_model.specs.Theory.Lookups.{writer, release}
@@ -12,7 +13,7 @@ use Rattle.sp_closure.specs.declared.demands.Need.{Need}
 use Rattle.sp_closure.specs.declared.demands.Need.TheVariants.{Reach, Begin}
 use Rattle.sp_closure.specs.declared.demands.Item.{Item}
 use Rattle.sp_closure.specs.declared.demands.Demands.{Demands}
-use Rattle.sp_closure.specs.Slots.{slots_of, AreThreadSlots, Stands}
+use Rattle.sp_closure.specs.Slots.{slots_of, AreThreadSlots, AreStands, Stands}
 
 -- the slots of the places that begin sections: one for each lock
 pub record AreLocks (s : Trace) (locks : ℕ → Option ℕ) (count : ℕ) : Type 0 where
@@ -66,4 +67,5 @@ pub record AreItems (s : Trace) (slots locks : ℕ → Option ℕ) (items : ℕ 
 pub record AreDemands (s : Trace) (d : Demands) : Type 0 where
   pub slots : AreThreadSlots s d.threads
   pub locks : AreLockSlots s d.locks
+  pub stands : AreStands s (slots_of d.threads) (arc_value d.stands).items
   pub items : AreItems s (slots_of d.threads) (slots_of d.locks) (item_at d)

@@ -37,6 +37,7 @@ impl Depths {
     }
 
     /// How deep a lock is held.
+    #[inline(always)]
     fn of(&self, lock: u32) -> u8
         ensures { result ≡ depth_in self.now.table lock }
     {
@@ -44,6 +45,7 @@ impl Depths {
     }
 
     /// How deep the lock of an operation is held, 0 where it is about none.
+    #[inline(always)]
     pub(crate) fn before(&self, op: Op) -> u8
         ensures { result ≡ op_depth (depth_in self.now.table) op }
     {
@@ -54,6 +56,7 @@ impl Depths {
     }
 
     /// Makes an entry for a lock, which shows nothing until it is written.
+    #[inline(always)]
     fn enter(&mut self, lock: u32) -> Result<(), NoMemory>
         ensures shown { (other : ℕ) →
             depth_in self.new.table other ≡ depth_in self.old.table other }
@@ -71,6 +74,7 @@ impl Depths {
     }
 
     /// Makes an entry for the lock of an operation.
+    #[inline(always)]
     pub(crate) fn reserve(&mut self, op: Op) -> Result<(), NoMemory>
         ensures shown { (lock : ℕ) → depth_in self.new.table lock ≡ depth_in self.old.table lock }
         ensures noted { self.new.noted ≡ self.old.noted }
@@ -84,6 +88,7 @@ impl Depths {
 
     /// Notes one more row: its operation, for whose lock there is an entry, and how deep that was
     /// held before.
+    #[inline(always)]
     pub(crate) fn note(&mut self, op: Op, depth: u8)
         requires entry { HasOpEntry self.old.table op }
         requires shallow { IsShallow op depth }
@@ -113,6 +118,7 @@ impl Depths {
     }
 
     /// Notes the rows that are not noted yet.
+    #[inline(always)]
     pub(crate) fn follow(&mut self, rows: &Segments<Row>) -> Result<(), NoMemory>
         requires well_formed { IsWellFormed (trace_of rows.now.0) }
         requires rows { AreDeep rows.now.0 }

@@ -32,6 +32,7 @@ impl Ends {
     }
 
     /// The release of an acquire of the segment.
+    #[inline(always)]
     fn near_end(&self, acquire: Place) -> Option<Place>
         ensures { result ≡ near_end self.now acquire }
     {
@@ -43,6 +44,7 @@ impl Ends {
     }
 
     /// The release of an acquire.
+    #[inline(always)]
     pub(crate) fn of(&self, acquire: Place) -> Option<Place>
         ensures { result ≡ end_in self.now acquire }
     {
@@ -53,6 +55,7 @@ impl Ends {
     }
 
     /// Makes room for one more place.
+    #[inline(always)]
     pub(crate) fn reserve(&mut self) -> Result<(), NoMemory>
         ensures same { (a : ℕ) → end_in self.new a ≡ end_in self.old a }
         ensures ok { OnOk result (HasEndRoom self.new) }
@@ -80,6 +83,7 @@ impl Ends {
     }
 
     /// One more place of the segment, and the acquire that it is the release of, if there is one.
+    #[inline(always)]
     pub(crate) fn note(&mut self, ended: Option<Place>, place: Place)
         requires { HasEndRoom self.old }
         ensures { (a : ℕ) → end_in self.new a ≡

@@ -11,6 +11,7 @@ pub(crate) fn guess(guesses: &Guesses, key: Key) -> usize {
 }
 
 /// The keys of the event were found at these slots.
+#[inline(always)]
 pub(crate) fn note(guesses: &mut Guesses, event: &Event, slots: Slots) {
     if let Some(slot) = slots.thread {
         guesses.note(cell(Key::OfThread(event.thread)), slot);

@@ -36,6 +36,7 @@ impl Latest {
     }
 
     /// Notes the segments that are not noted yet.
+    #[inline(always)]
     pub(crate) fn follow(&mut self, sealed: &[Arc<Marked>]) -> Result<(), NoMemory>
         requires { self.old.noted ≤ length sealed.now }
         ensures latest { (s : Trace) → AreSealed s sealed.now →

@@ -155,6 +155,7 @@ impl TraceIndex {
     }
 
     /// The event at a place.
+    #[inline(always)]
     pub fn event(&self, place: Place) -> Option<Event>
         ensures { result ≡ slice_get self.now.events place }
     {
@@ -166,6 +167,7 @@ impl TraceIndex {
 
     /// The writer of a read: the last write to its variable before it, or none. None for any other
     /// event.
+    #[inline(always)]
     pub fn writer(&self, place: Place) -> Option<Place>
         ensures { result ≡ writer self.now.events place }
     {
@@ -176,6 +178,7 @@ impl TraceIndex {
     }
 
     /// How many places of its thread stand before a place: its index in `thread_places`.
+    #[inline(always)]
     pub fn number(&self, place: Place) -> Option<u32>
         ensures { result ≡ number_at self.now.events place }
     {
@@ -186,6 +189,7 @@ impl TraceIndex {
     }
 
     /// The place before a place in its thread, or none.
+    #[inline(always)]
     pub fn thread_before(&self, place: Place) -> Option<Place>
         ensures { result ≡ thread_before self.now.events place }
     {
@@ -197,6 +201,7 @@ impl TraceIndex {
 
     /// The lock on which a critical section begins at a place: that of an outermost acquire. None
     /// for any other event.
+    #[inline(always)]
     pub fn begun(&self, place: Place) -> Option<u32>
         ensures { result ≡ begun self.now.events place }
     {
@@ -208,6 +213,7 @@ impl TraceIndex {
 
     /// Of an outermost acquire the last one of its lock before it, or none. None for any other
     /// event.
+    #[inline(always)]
     pub fn acquire_before(&self, place: Place) -> Option<Place>
         ensures { result ≡ acquire_before self.now.events place }
     {
@@ -219,6 +225,7 @@ impl TraceIndex {
 
     /// The release of an outermost acquire: the next outermost release of its lock by its thread,
     /// or none. None for any other event.
+    #[inline(always)]
     pub fn release_of(&self, place: Place) -> Option<Place>
         ensures { result ≡ release self.now.events place }
     {

@@ -11,6 +11,7 @@ use crate::threads::{ThreadEntry, Threads, known, reserve_thread, set_thread};
 use trace_model::{Event, NoMemory, Op, Owner};
 
 /// The owner of the lock that the operation names, none if it names none.
+#[inline(always)]
 pub fn owner_of_op(owners: &Owners, op: Op) -> Option<Owner>
     ensures { result ≡ op_owner owners.now op }
 {
@@ -44,6 +45,7 @@ fn released_once(owner: Option<Owner>) -> Option<Owner>
 }
 
 /// Notes the event in the table of locks. Its lock was owned so.
+#[inline(always)]
 pub fn note_lock(owners: &mut Owners, event: &Event, was: Option<Owner>)
     requires entry { HasOpLock owners.old event.now.op }
     requires was { was ≡ op_owner owners.old event.now.op }
@@ -69,6 +71,7 @@ pub fn note_lock(owners: &mut Owners, event: &Event, was: Option<Owner>)
 /// # Errors
 ///
 /// `NoMemory` where a growth was refused. What the table shows stays.
+#[inline(always)]
 pub fn reserve_lock(owners: &mut Owners, event: &Event) -> Result<(), NoMemory>
     ensures shown { (lock : ℕ) → owner_in owners.new lock ≡ owner_in owners.old lock }
     ensures ok { OnOk result (HasOpLock owners.new event.now.op) }
@@ -83,6 +86,7 @@ pub fn reserve_lock(owners: &mut Owners, event: &Event) -> Result<(), NoMemory>
 
 /// Notes the event in the table of threads. Its lock was so deep: a thread holds one lock more, or
 /// one less, only after an outermost acquire or release.
+#[inline(always)]
 pub fn note_thread(threads: &mut Threads, event: &Event, depth: u8)
     requires own { HasThread threads.old event.now.thread }
     requires other { HasOpThread threads.old event.now.op }
@@ -132,6 +136,7 @@ pub fn note_thread(threads: &mut Threads, event: &Event, depth: u8)
 /// # Errors
 ///
 /// `NoMemory` where a growth was refused. What the table shows stays.
+#[inline(always)]
 pub fn reserve_threads(threads: &mut Threads, event: &Event) -> Result<(), NoMemory>
     ensures shown { (t : ℕ) → thread_in threads.new t ≡ thread_in threads.old t }
     ensures own { OnOk result (HasThread threads.new event.now.thread) }

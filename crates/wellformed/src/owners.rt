@@ -35,6 +35,7 @@ pub fn no_owners(alloc: Global, state: RandomState) -> Owners
 }
 
 /// The owner of a lock.
+#[inline(always)]
 pub fn owner_of(owners: &Owners, lock: u32) -> Option<Owner>
     ensures { result ≡ owner_in owners.now lock }
 {
@@ -46,6 +47,7 @@ pub fn owner_of(owners: &Owners, lock: u32) -> Option<Owner>
 /// # Errors
 ///
 /// `NoMemory` where a growth was refused. What the table shows stays.
+#[inline(always)]
 pub fn reserve_owner(owners: &mut Owners, lock: u32) -> Result<(), NoMemory>
     ensures shown { (other : ℕ) → owner_in owners.new other ≡ owner_in owners.old other }
     ensures ok { OnOk result (HasLock owners.new lock) }
@@ -63,6 +65,7 @@ pub fn reserve_owner(owners: &mut Owners, lock: u32) -> Result<(), NoMemory>
 }
 
 /// Writes the owner of a lock, which must have an entry.
+#[inline(always)]
 pub fn set_owner(owners: &mut Owners, lock: u32, owner: Option<Owner>)
     requires { HasLock owners.old lock }
     ensures { (other : ℕ) → owner_in owners.new other ≡

@@ -56,6 +56,7 @@ impl GateTables {
     /// # Errors
     ///
     /// The first refusal that applies.
+    #[inline(always)]
     pub fn check(&self, limit: usize, event: &Event) -> Result<(), Refusal>
         ensures { (s : Trace) → FollowEvents self.now s →
             result_err result ≡ refusal_of limit s event.now }
@@ -152,6 +153,7 @@ impl GateTables {
     ///
     /// `NoMemory`, but not where there is room for this very event. Room that was made for another
     /// event stays.
+    #[inline(always)]
     pub fn reserve(&mut self, event: &Event) -> Result<(), NoMemory>
         ensures follow { (s : Trace) → FollowEvents self.old s → FollowEvents self.new s }
         ensures ok { OnOk result (HasRoomFor self.new event.now) }
@@ -163,6 +165,7 @@ impl GateTables {
     }
 
     /// Records the event, which must be lawful, and for which room was made. It takes no memory.
+    #[inline(always)]
     pub fn record(&mut self, event: &Event)
         requires room { HasRoomFor self.old event.now }
         requires lawful { IsLawfulNext self.old event.now }

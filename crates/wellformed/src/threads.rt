@@ -49,6 +49,7 @@ pub fn no_threads(alloc: Global, state: RandomState) -> Threads
 }
 
 /// What is known of a thread.
+#[inline(always)]
 pub fn known(threads: &Threads, thread: u32) -> ThreadEntry
     ensures { result ≡ thread_in threads.now thread }
 {
@@ -60,6 +61,7 @@ pub fn known(threads: &Threads, thread: u32) -> ThreadEntry
 /// # Errors
 ///
 /// `NoMemory` where a growth was refused. What the table shows stays.
+#[inline(always)]
 pub fn reserve_thread(threads: &mut Threads, thread: u32) -> Result<(), NoMemory>
     ensures shown { (t : ℕ) → thread_in threads.new t ≡ thread_in threads.old t }
     ensures ok { OnOk result (HasThread threads.new thread) }
@@ -77,6 +79,7 @@ pub fn reserve_thread(threads: &mut Threads, thread: u32) -> Result<(), NoMemory
 }
 
 /// Writes what is known of a thread, which must have an entry.
+#[inline(always)]
 pub fn set_thread(threads: &mut Threads, thread: u32, entry: ThreadEntry)
     requires { HasThread threads.old thread }
     ensures { (t : ℕ) → thread_in threads.new t ≡

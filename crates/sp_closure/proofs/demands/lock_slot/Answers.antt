@@ -2,24 +2,23 @@ use Rattle.std.proofs.Common.{◌≡◌, Some, ap, sym, ◌∙◌}
 use Rattle.trace_model.specs.Theory.Held.{begun}
 use Rattle.trace_index.specs.Numbers.{acquire_before}
 use Rattle.sp_closure.specs.Slots.{class_of}
-use Rattle.sp_closure.proofs.FirstLemmas.{lock_first_none, lock_first_some, lock_first_never}
-use Rattle.sp_closure.proofs.demands.lock_first.Goals as goal
+use Rattle.sp_closure.proofs.FirstLemmas.{lock_new_class, lock_old_class, lock_no_class}
+use Rattle.sp_closure.proofs.demands.lock_slot.Goals as goal
 
 pub returns-in-Some-acquire_before : goal.returns-in-Some-acquire_before
 returns-in-Some-acquire_before c =
     let s = c.args.index.now.events in
     let here : begun s c.args.place ≡ Some c.in-Some._lock = sym (ap (begun s) c.new-here.ensures) ∙ sym c.begun.ensures ∙ c.in-Some.is in
-    c.first_at.ensures ∙ ap (class_of c.args.firsts.now) c.get.ensures
-    ∙ lock_first_some s c.args.place c.in-Some-acquire_before.before c.in-Some._lock c.args.firsts.now here
-    (sym c.in-Some-acquire_before.is ∙ c.acquire_before.ensures ∙ ap (acquire_before s) c.new-here.ensures) c.requires.firsts
+    c.class_at.ensures ∙ lock_old_class s c.args.place c.in-Some-acquire_before.before c.in-Some._lock c.args.count (class_of c.args.of.now) here
+    (sym c.in-Some-acquire_before.is ∙ c.acquire_before.ensures ∙ ap (acquire_before s) c.new-here.ensures) c.requires.classes
 
 pub returns-in-None : goal.returns-in-None
 returns-in-None c =
     let s = c.args.index.now.events in
     let here : begun s c.args.place ≡ Some c.in-Some._lock = sym (ap (begun s) c.new-here.ensures) ∙ sym c.begun.ensures ∙ c.in-Some.is in
-    ap Some c.new-here.ensures ∙ lock_first_none s c.args.place c.in-Some._lock here (sym c.in-None.is ∙ c.acquire_before.ensures ∙ ap (acquire_before s) c.new-here.ensures)
+    c.at.ensures ∙ lock_new_class s c.args.place c.in-Some._lock c.args.count (class_of c.args.of.now) here (sym c.in-None.is ∙ c.acquire_before.ensures ∙ ap (acquire_before s) c.new-here.ensures)
 
 pub returns-in_default : goal.returns-in_default
 returns-in_default c =
     let s = c.args.index.now.events in
-    lock_first_never s c.args.place (sym c.in_default.is ∙ c.begun.ensures ∙ ap (begun s) c.new-here.ensures)
+    c.none.ensures ∙ lock_no_class s c.args.place c.args.count (class_of c.args.of.now) (sym c.in_default.is ∙ c.begun.ensures ∙ ap (begun s) c.new-here.ensures)

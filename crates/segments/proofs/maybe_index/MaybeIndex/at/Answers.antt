@@ -1,8 +1,8 @@
 use Rattle.std.proofs.Common.{◌≡◌, ◌+◌, suc, ap, arith}
-use Rattle.segments.specs.Links.{earlier_of}
-use Rattle.segments.proofs.earlier.Earlier.at.Goals as goal
+use Rattle.segments.specs.Links.{index_of}
+use Rattle.segments.proofs.maybe_index.MaybeIndex.at.Goals as goal
 
 pub returns : goal.returns
 returns c =
     let next : c.args.index + 1 ≡ suc c.args.index = omega arith in
-    ap earlier_of next
+    ap index_of next

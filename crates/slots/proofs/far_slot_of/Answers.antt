@@ -3,7 +3,7 @@ use Rattle.std.proofs.lemmas.Bool.{eqb-true}
 use Rattle.std.specs.Map.{keys_of, values_of}
 use Rattle.std.specs.HashMap.{get}
 use Rattle.slots.proofs.Slotted.{at_position, not_some, if_some}
-use Rattle.slots.proofs.slot_of.Goals as goal
+use Rattle.slots.proofs.far_slot_of.Goals as goal
 
 pub returns : goal.returns
 returns g c = record {

@@ -1,39 +1,39 @@
-//! Links from an item to an earlier one.
+//! Indices that may be none.
 
 use std::marker::Model;
 
-/// The index of an earlier item, or none, in four bytes: what links between items are made of.
-/// Contracts see an `Option`.
+/// An index, or none, in four bytes: what links between items are made of. Contracts see an
+/// `Option`.
 #[derive(Clone, Copy, Debug)]
-pub struct Earlier(u32);
+pub struct MaybeIndex(u32);
 
-impl Model for Earlier {
+impl Model for MaybeIndex {
     ghost use Rattle.std.specs.Prelude.{Option, ℕ};
-    ghost use Rattle.segments.specs.Links.{earlier_of, code_of};
+    ghost use Rattle.segments.specs.Links.{index_of, code_of};
 
     ghost Value = { Option ℕ };
 
-    ghost view = { λ e. earlier_of e.0 };
+    ghost view = { λ e. index_of e.0 };
 
     ghost inverse = { λ o. record { 0 = code_of o } };
 }
 
-impl Earlier {
+impl MaybeIndex {
     ghost use Rattle.std.specs.Prelude.{◌≡◌, ◌<◌, None, Some};
 
-    /// No item.
-    pub fn none() -> Earlier
+    /// No index.
+    pub fn none() -> MaybeIndex
         ensures { result ≡ None }
     {
-        Earlier(0)
+        MaybeIndex(0)
     }
 
-    /// The item with this index, which is below 4,294,967,295.
-    pub fn at(index: u32) -> Earlier
+    /// This index, which is below 4,294,967,295.
+    pub fn at(index: u32) -> MaybeIndex
         requires { index < 4294967295 }
         ensures { result ≡ Some index }
     {
-        Earlier(index + 1)
+        MaybeIndex(index + 1)
     }
 
     /// The index, if there is one.

@@ -3,7 +3,7 @@ use Rattle.std.specs.Map.{keys_of}
 use Rattle.trace_index.specs.contracts.row.KeyPartialEq.TheImpl.{eq-value}
 use Rattle.trace_index.proofs.Keys.{get_same, tested}
 use Rattle.slots.proofs.Slotted.{at_position, not_some}
-use Rattle.trace_index.proofs.places.slot_of.Goals as goal
+use Rattle.trace_index.proofs.places.hashed_slot_of.Goals as goal
 
 pub returns : goal.returns
 returns c = record {
