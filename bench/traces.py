@@ -8,6 +8,7 @@
   traces.py nested SECTIONS        12 threads that hold one to five of 40 locks, SECTIONS times in all
   traces.py pairs LOCKS            four threads that take all pairs of LOCKS locks, in one order
   traces.py orders LOCKS           four threads that take all pairs of LOCKS locks, in both orders
+  traces.py ring LOCKS             eight threads that take all pairs of LOCKS locks in a ring that are one to four apart
   traces.py small SEED EVENTS      a random lawful trace of few threads and locks
 """
 import random
@@ -94,6 +95,16 @@ def orders(locks):
     return words
 
 
+def ring(locks):
+    """A cycle goes round the ring, so with more than 32 locks no bound has one."""
+    words = forks(8)
+    for thread in range(1, 9):
+        for first in range(locks):
+            for further in range(1, 5):
+                words += section(thread, [first, (first + further) % locks])
+    return words
+
+
 def small(seed, events):
     """Lawful words of up to four threads, four locks and two variables; some acquires are inner, thread 3 may be joined."""
     chooser = random.Random(seed)
@@ -137,6 +148,7 @@ KINDS = {
     "nested": nested,
     "pairs": pairs,
     "orders": orders,
+    "ring": ring,
     "small": small,
 }
 

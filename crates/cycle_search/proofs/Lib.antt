@@ -4,3 +4,4 @@ pub mod Turns
 pub mod Ranked
 pub mod Listed
 pub mod Left
+pub mod WaysBack

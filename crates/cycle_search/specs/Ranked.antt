@@ -1,7 +1,6 @@
 -- Ranks of dependencies, which are equal all round a cycle, and the takers of locks beside them.
-use Rattle.std.specs.Prelude.{◌≡◌, ◌≤◌, ℕ, List, length, slice_get, slice_index, Some, nat_eq, unwrap_or}
+use Rattle.std.specs.Prelude.{◌≡◌, ◌≤◌, ℕ, List, length, slice_get, slice_index, Some}
 use Rattle.std.specs.List.{Contains}
-use Rattle.std.specs.HashMap.{get, HashMap}
 use Rattle.trace_model.specs.Theory.Dependencies.{Dependency}
 use Rattle.cycle_search.specs.declared.ranks.Ranks.{Ranks}
 use Rattle.cycle_search.specs.Takers.{takers_of, AreTakers}
@@ -14,10 +13,6 @@ pub record AreRanks (ds : List Dependency) (ranks : Ranks) : Type 0 where
       Contains b.held a.lock →
       slice_index ranks.numbers.items m ≤ slice_index ranks.numbers.items n
   pub takers : AreTakers ds (takers_of ranks.takers)
-
--- the rank that a table has for a lock, 0 where it has none
-abbrev pub rank_in : {S : Type 0} → HashMap ℕ ℕ S → ℕ → ℕ
-rank_in table lock = unwrap_or (get nat_eq table lock) 0
 
 -- no dependency holds a lock of a higher rank than that of the lock that it takes
 abbrev pub Rises : List Dependency → (ℕ → ℕ) → Type 0

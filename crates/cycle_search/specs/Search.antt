@@ -1,5 +1,5 @@
 -- What the search for cycles knows at each point.
-use Rattle.std.specs.Prelude.{◌≡◌, ◌≢◌, ℕ, suc, ◌+◌, ◌<◌, ◌≤◌, List, ◌∷◌, ◌++◌, length, slice_get, Some, Result, Err}
+use Rattle.std.specs.Prelude.{◌≡◌, ◌≢◌, ℕ, suc, ◌+◌, ◌<◌, ◌≤◌, List, ◌∷◌, ◌++◌, length, slice_get, slice_index, Some, Result, Err}
 use Rattle.std.specs.Global.{Vec}
 use Rattle.arrayvec.specs.ArrayVec.{ArrayVec}
 use Rattle.std.specs.List.{Contains, All}
@@ -11,6 +11,8 @@ use Rattle.guards.specs.Compatible.{IsCompatible}
 use Rattle.cycle_search.specs.declared.refused.SearchRefused.{SearchRefused}
 use Rattle.cycle_search.specs.declared.refused.SearchRefused.TheVariants.{TooMany}
 use Rattle.cycle_search.specs.declared.search.Search.{Search}
+use Rattle.cycle_search.specs.LockNumbers.{number_in}
+use Rattle.cycle_search.specs.Ways.{AreWaysBack}
 
 -- some of the lists with a property, each once, in lexicographic order
 pub record AreSome (P : List ℕ → Type 0) (lists : List (List ℕ)) : Type 0 where
@@ -42,6 +44,16 @@ IfTooMany result Fact = result ≡ Err TooMany → Fact
 pub record IsWithin (search : Search) (found : List (List ℕ)) : Type 0 where
   pub members : search.members ≤ 8
   pub cycles : length found ≤ search.cycles
+
+-- the ways lead back to the first member of the path
+abbrev pub HasWays : Search → List ℕ → Type 0
+HasWays search path =
+    AreWaysBack search.searched.now (slice_index path 0) (number_in search.ways.now)
+
+-- so many members must come after the number that with the path they are too many
+abbrev pub IsTooFar : Search → List ℕ → ℕ → Type 0
+IsTooFar search path next = (d : Dependency) → slice_get search.searched.now next ≡ Some d →
+    search.members ≤ length path + number_in search.ways.now d.lock
 
 -- a cycle up to the bound with this first number
 abbrev pub CycleFrom : List Dependency → ℕ → ℕ → List ℕ → Type 0

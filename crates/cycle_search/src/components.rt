@@ -8,6 +8,7 @@ ghost use Rattle.dependencies.specs.Tables.{known};
 ghost use Rattle.lock_graph.specs.Graph.{HasGraphOf};
 ghost use Rattle.cycle_search.specs.Walk.{left_in, Enters, Stays, StaysOrEnters};
 
+use crate::lock_numbers::LockNumbers;
 use dependencies::DepTable;
 use lock_graph::LockGraph;
 use std::alloc::Global;
@@ -15,18 +16,14 @@ use std::collections::HashMap;
 use std::collections::hash_map::RandomState;
 use trace_model::NoMemory;
 
-/// A rank for each lock that is taken while another is held.
-pub(crate) type LockRanks = HashMap<u32, u32, RandomState>;
-
 /// The ranks of the locks that the table's dependencies take. A lock's rank is that of its
-/// component,
-/// and no edge leads to a lower rank.
+/// component, and no edge leads to a lower rank.
 pub(crate) fn lock_ranks(
     alloc: Global,
     state: RandomState,
     table: &DepTable,
     graph: &LockGraph,
-) -> Result<LockRanks, NoMemory>
+) -> Result<LockNumbers, NoMemory>
     requires { HasGraphOf (known table.now) graph.now }
 {
     let mut walk = Walk {
@@ -39,7 +36,10 @@ pub(crate) fn lock_ranks(
     for number in 0..table.len() {
         walk.run(table, graph, table.get(number as u32).lock)?;
     }
-    Ok(walk.ranks)
+    Ok(LockNumbers {
+        table: walk.ranks,
+        otherwise: 0,
+    })
 }
 
 /// A lock that was met, and the least lock that it is known to reach,
@@ -64,7 +64,7 @@ struct Walk {
     path: Vec<Stop>,
     /// The locks that were met and have no rank yet, in order.
     stack: Vec<u32>,
-    ranks: LockRanks,
+    ranks: HashMap<u32, u32, RandomState>,
     /// The rank of the next component that is complete.
     rank: u32,
 }

@@ -3,12 +3,15 @@
 
 mod ascending;
 mod components;
+mod costs;
 mod cycle;
+mod lock_numbers;
 mod ranks;
 mod refused;
 mod search;
 mod searched;
 mod takers;
+mod ways;
 
 pub use cycle::Cycle;
 pub use ranks::Ranks;

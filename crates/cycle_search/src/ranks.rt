@@ -1,17 +1,17 @@
 //! The order in which dependencies are visited.
 
-ghost use Rattle.std.specs.Prelude.{◌≡◌, ◌<◌, ◌≤◌, length, map, nat_eq, slice_index, IfOk, IsTrue};
-ghost use Rattle.std.specs.List.{All};
+ghost use Rattle.std.specs.Prelude.{◌≡◌, ◌<◌, length, map, nat_eq, slice_index, IfOk, IsTrue};
 ghost use Rattle.dependencies.specs.Tables.{known};
 ghost use Rattle.lock_graph.specs.Graph.{HasGraphOf};
-ghost use Rattle.cycle_search.specs.Ranked.{AreRanks, rank_in, Rises};
+ghost use Rattle.cycle_search.specs.Ranked.{AreRanks, Rises};
+ghost use Rattle.cycle_search.specs.LockNumbers.{number_in};
 
-use crate::components::{LockRanks, lock_ranks};
+use crate::components::lock_ranks;
+use crate::lock_numbers::LockNumbers;
 use crate::takers::Takers;
 use dependencies::DepTable;
 use lock_graph::LockGraph;
 use std::alloc::Global;
-use std::collections::HashMap;
 use std::collections::hash_map::RandomState;
 use trace_model::NoMemory;
 
@@ -23,6 +23,7 @@ use trace_model::NoMemory;
 pub struct Ranks {
     numbers: Vec<u32>,
     takers: Takers,
+    state: RandomState,
 }
 
 impl Ranks {
@@ -47,7 +48,11 @@ impl Ranks {
         let ranks = rising(alloc, state, table, found);
         let numbers = ranks_of(alloc, table, &ranks)?;
         let takers = Takers::new(alloc, state, table)?;
-        Ok(Ranks { numbers, takers })
+        Ok(Ranks {
+            numbers,
+            takers,
+            state,
+        })
     }
 
     /// Whether the dependencies of two numbers have one rank.
@@ -66,39 +71,32 @@ impl Ranks {
     {
         &self.takers
     }
+
+    /// What hashes locks.
+    pub(crate) fn state(&self) -> RandomState {
+        self.state
+    }
 }
 
 /// The ranks of the locks if they rise, else one rank for all.
-fn rising(alloc: Global, state: RandomState, table: &DepTable, ranks: LockRanks) -> LockRanks
-    ensures { Rises (known table.now) (rank_in result) }
+fn rising(alloc: Global, state: RandomState, table: &DepTable, ranks: LockNumbers) -> LockNumbers
+    ensures { Rises (known table.now) (number_in result) }
 {
     if rises(table, &ranks) {
         ranks
     } else {
-        HashMap::with_hasher(alloc, state)
+        LockNumbers::all(alloc, state, 0)
     }
 }
 
 /// Whether no dependency holds a lock of a higher rank than that of the lock that it takes.
-fn rises(table: &DepTable, ranks: &LockRanks) -> bool
-    ensures { IsTrue result → Rises (known table.now) (rank_in ranks.now) }
+fn rises(table: &DepTable, ranks: &LockNumbers) -> bool
+    ensures { IsTrue result → Rises (known table.now) (number_in ranks.now) }
 {
     for number in 0..table.len() {
         let dependency = table.get(number as u32);
-        let most = rank_of(ranks, dependency.lock);
-        if !are_within(ranks, dependency.held.locks(), most) {
-            return false;
-        }
-    }
-    true
-}
-
-/// Whether none of the locks has a higher rank.
-fn are_within(ranks: &LockRanks, locks: &[u32], most: u32) -> bool
-    ensures { IsTrue result → All (λ lock. rank_in ranks.now lock ≤ most) locks.now }
-{
-    for lock in locks {
-        if rank_of(ranks, *lock) > most {
+        let most = ranks.of(dependency.lock);
+        if !ranks.are_within(dependency.held.locks(), most) {
             return false;
         }
     }
@@ -106,24 +104,14 @@ fn are_within(ranks: &LockRanks, locks: &[u32], most: u32) -> bool
 }
 
 /// For each dependency the rank of the lock that it takes.
-fn ranks_of(alloc: Global, table: &DepTable, ranks: &LockRanks) -> Result<Vec<u32>, NoMemory>
-    ensures { IfOk result (λ numbers. numbers.items ≡ map (λ d. rank_in ranks.now d.lock)
+fn ranks_of(alloc: Global, table: &DepTable, ranks: &LockNumbers) -> Result<Vec<u32>, NoMemory>
+    ensures { IfOk result (λ numbers. numbers.items ≡ map (λ d. number_in ranks.now d.lock)
         (known table.now)) }
 {
     let mut numbers = Vec::new(alloc);
     for number in 0..table.len() {
         let dependency = table.get(number as u32);
-        numbers.push(rank_of(ranks, dependency.lock))?;
+        numbers.push(ranks.of(dependency.lock))?;
     }
     Ok(numbers)
-}
-
-/// The rank of a lock, 0 where it has none.
-fn rank_of(ranks: &LockRanks, lock: u32) -> u32
-    ensures { result ≡ rank_in ranks.now lock }
-{
-    match ranks.get(&lock) {
-        Some(rank) => *rank,
-        None => 0,
-    }
 }

@@ -2,6 +2,7 @@
 
 use std::alloc::AllocFailed;
 use thiserror::Error;
+use trace_model::NoMemory;
 
 /// Why a search gave no cycles.
 #[derive(Debug, Drop, PartialEq, Eq, Error)]
@@ -21,6 +22,17 @@ impl<T: Drop> From<AllocFailed<T>> for SearchRefused {
     ghost from_gives = { λ _ e. e ≡ NoMemory };
 
     fn from(_value: AllocFailed<T>) -> SearchRefused {
+        SearchRefused::NoMemory
+    }
+}
+
+impl From<NoMemory> for SearchRefused {
+    ghost use Rattle.std.specs.Prelude.{◌≡◌};
+    ghost use Rattle.cycle_search.specs.declared.refused.SearchRefused.TheVariants as refusals;
+
+    ghost from_gives = { λ _ e. e ≡ refusals.NoMemory };
+
+    fn from(_refused: NoMemory) -> SearchRefused {
         SearchRefused::NoMemory
     }
 }

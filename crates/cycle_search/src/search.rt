@@ -4,27 +4,31 @@ ghost use Rattle.std.specs.Prelude.{◌≡◌, ◌<◌, ◌≤◌, ◌↔◌, �
 ghost use Rattle.trace_model.specs.declared.limits.TheConstants.{MAX_CYCLES};
 ghost use Rattle.trace_model.specs.Theory.Cycles.{AreCyclesFrom};
 ghost use Rattle.guards.specs.Compatible.{IsCompatible};
+ghost use Rattle.cycle_search.specs.LockNumbers.{number_in};
 ghost use Rattle.cycle_search.specs.Takers.{IsNext};
-ghost use Rattle.cycle_search.specs.Search.{IsPath, Closes, AboveFirst, LinksTo, TakesBack, AreNexts, MoreThan, CycleFrom, IsWithin, AddsBeyond, ExceedsBeyond, AddsThrough, ExceedsThrough, IfTooMany};
+ghost use Rattle.cycle_search.specs.Ways.{AreWaysBack};
+ghost use Rattle.cycle_search.specs.Search.{IsPath, Closes, AboveFirst, LinksTo, TakesBack, AreNexts, MoreThan, CycleFrom, IsWithin, HasWays, IsTooFar, AddsBeyond, ExceedsBeyond, AddsThrough, ExceedsThrough, IfTooMany};
 
 use crate::ascending::above;
+use crate::costs::{closing_visits, is_long};
 use crate::cycle::MOST_MEMBERS;
+use crate::lock_numbers::LockNumbers;
+use crate::ways::ways_back;
 use crate::{Cycle, Ranks, SearchRefused, Searched};
 use arrayvec::ArrayVec;
 use guards::compatible;
 use std::alloc::Global;
-use trace_model::{Bound, MAX_CYCLES};
+use trace_model::{Bound, MAX_CYCLES, NoMemory};
 
 /// The numbers of a path that may grow into a cycle.
-type Path = ArrayVec<u32, MOST_MEMBERS>;
-
-/// How many successors are visited in the time of one search among the takers of a lock.
-const VISITS_PER_SEARCH: usize = 4;
+pub(crate) type Path = ArrayVec<u32, MOST_MEMBERS>;
 
 /// What is searched, with the most members of a cycle, and the most cycles.
 #[derive(Clone, Copy)]
 struct Search<'a> {
     searched: &'a Searched<'a>,
+    /// How many members must come at least after one that takes a lock.
+    ways: &'a LockNumbers,
     members: usize,
     cycles: usize,
     /// Of a path with more successors, the last members are found by the locks that they take.
@@ -69,28 +73,39 @@ pub fn cycles_within(
     ensures few { IfOk result (λ cycles. length cycles.items ≤ most) }
     ensures too_many { IfTooMany result (MoreThan (CycleFrom searched.now bound root) most) }
 {
+    let mut path = Path::new();
+    path.push(root);
+    let ways = ways_of(alloc, searched, &path, bound)?;
     let search = Search {
         searched,
+        ways: &ways,
         members: bound.get() as usize,
         cycles: most,
         successors: closing_visits(searched, root),
     };
     let mut found = Vec::new(alloc);
-    let mut path = Path::new();
-    path.push(root);
     extend(&search, &mut path, &mut found)?;
     Ok(found)
 }
 
-/// How many successors are visited in the time that it takes to find all members that may close a
-/// path of the root.
-fn closing_visits(searched: &Searched<'_>, root: u32) -> usize
-    requires { root < length searched.now }
+/// The ways back to the path's one member, where a search from it is long, and else no way at all
+/// for each lock.
+fn ways_of(
+    alloc: Global,
+    searched: &Searched<'_>,
+    path: &Path,
+    bound: Bound,
+) -> Result<LockNumbers, NoMemory>
+    requires { IsPath searched.now path.now.items }
+    ensures { IfOk result (λ ways. AreWaysBack searched.now (slice_index path.now.items 0)
+        (number_in ways)) }
 {
-    let locks = searched.table.get(root).held.locks();
-    let takers = searched.ranks.takers();
-    let searches = takers.count(locks).saturating_mul(locks.len());
-    searches.saturating_mul(VISITS_PER_SEARCH)
+    let state = searched.ranks.state();
+    if !is_long(searched, path, bound.get() as usize) {
+        return Ok(LockNumbers::all(alloc, state, 0));
+    }
+    let most = u32::from(bound.get()).saturating_sub(1);
+    ways_back(alloc, state, searched.table, path[0], most)
 }
 
 /// Adds all cycles that begin with the path and go on.
@@ -99,6 +114,7 @@ fn extend(search: &Search<'_>, path: &mut Path, found: &mut Vec<Cycle>) -> Resul
     requires path { IsPath search.now.searched.now path.old.items }
     requires room { length path.old.items < search.now.members }
     requires limits { IsWithin search.now found.old.items }
+    requires ways { HasWays search.now path.old.items }
     ensures path { OnOk result (path.new.items ≡ path.old.items) }
     ensures all { OnOk result (AddsBeyond search.now path.old found.old found.new) }
     ensures few { OnOk result (length found.new.items ≤ search.now.cycles) }
@@ -122,6 +138,7 @@ fn close(search: &Search<'_>, path: &mut Path, found: &mut Vec<Cycle>) -> Result
     requires path { IsPath search.now.searched.now path.old.items }
     requires room { length path.old.items + 1 ≡ search.now.members }
     requires limits { IsWithin search.now found.old.items }
+    requires ways { HasWays search.now path.old.items }
     ensures path { OnOk result (path.new.items ≡ path.old.items) }
     ensures all { OnOk result (AddsBeyond search.now path.old found.old found.new) }
     ensures few { OnOk result (length found.new.items ≤ search.now.cycles) }
@@ -148,6 +165,7 @@ fn visit(
     requires path { IsPath search.now.searched.now path.old.items }
     requires room { length path.old.items < search.now.members }
     requires limits { IsWithin search.now found.old.items }
+    requires ways { HasWays search.now path.old.items }
     requires known { next < length search.now.searched.now }
     requires above { AboveFirst path.old.items next }
     requires linked { LinksTo search.now.searched.now path.old.items next }
@@ -158,6 +176,9 @@ fn visit(
 {
     let searched = search.searched;
     if !same_rank(searched.ranks, path, next) {
+        return Ok(());
+    }
+    if is_too_far(search, path, next) {
         return Ok(());
     }
     if ends_open(searched, search.members, path, next) {
@@ -189,6 +210,16 @@ fn same_rank(ranks: &Ranks, path: &Path, next: u32) -> bool
         slice_index ranks.now.numbers.items next) }
 {
     ranks.are_equal(path[0], next)
+}
+
+/// Whether a cycle that goes on with the number has more members than it may.
+fn is_too_far(search: &Search<'_>, path: &Path, next: u32) -> bool
+    requires { next < length search.now.searched.now }
+    ensures { IsTrue result → IsTooFar search.now path.now.items next }
+{
+    let (searched, ways) = (search.searched, search.ways);
+    let lock = searched.table.get(next).lock;
+    path.len() + ways.of(lock) as usize >= search.members
 }
 
 /// Whether a path of so many members has room for the number alone, and is not closed by it.
@@ -237,7 +268,7 @@ fn closes(searched: &Searched<'_>, path: &Path) -> bool
 }
 
 /// The dependencies above the path's first member that hold the lock of its last, ascending.
-fn successors<'a>(searched: &Searched<'a>, path: &Path) -> &'a [u32]
+pub(crate) fn successors<'a>(searched: &Searched<'a>, path: &Path) -> &'a [u32]
     requires { IsPath searched.now path.now.items }
     ensures { AreNexts searched.now path.now.items result.now }
 {

@@ -5,13 +5,16 @@ use Rattle.std.proofs.lemmas.Result.{err_from_is_err_and}
 use Rattle.std.specs.List.{Contains}
 use Rattle.trace_model.specs.Theory.Dependencies.{Dependency}
 use Rattle.dependencies.specs.Tables.{known}
-use Rattle.cycle_search.specs.Search.{IsPath, Closes, AboveFirst, LinksTo, TakesBack, AreSome, AreAll, Adds, Exceeds, CycleBeyond, CycleThrough}
+use Rattle.cycle_search.specs.Search.{IsPath, Closes, AboveFirst, LinksTo, TakesBack, AreSome, AreAll, Adds, Exceeds, CycleBeyond, CycleThrough, HasWays}
+use Rattle.cycle_search.specs.LockNumbers.{number_in}
 use Rattle.cycle_search.specs.Takers.{IsNext}
-use Rattle.trace_model.proofs.Lists.{length-push}
+use Rattle.cycle_search.specs.Ways.{AreWaysBack}
+use Rattle.trace_model.proofs.Lists.{length-push, get-push_kept}
 use Rattle.cycle_search.proofs.Listing.{append-nil}
 use Rattle.cycle_search.proofs.Turns.{adds-more, adds-end, exceeds-more, closers-begin, closers-more, closers-exceed, closers-end, rejected, closed, one-closed, deeper, deeper-some, full}
 use Rattle.cycle_search.proofs.Paths.{path-tested}
 use Rattle.cycle_search.proofs.Ranked.{other-rank}
+use Rattle.cycle_search.proofs.WaysBack.{too-far}
 use Rattle.cycle_search.proofs.search.+search.Goals as goal
 use Rattle.cycle_search.proofs.search.+search.Goals.{visit-then-closes+else-len-search+in_ok-push, visit-else-closes+then-len-search-2+in_ok-extend, visit-else-closes+else-len-search-2}
 
@@ -24,7 +27,7 @@ extend-visit-requires t c =
     let here : Contains items m = (i, c.loop-next-test.true, get_or_default_zero items i m c.loop-next-test.true) in
     let same = sym c.loop-next.invariant.same in
     let shorter = ap (λ (p : List ℕ). length p) same in
-    (omega (arith, shorter), (subst (λ p. IsPath c.args.search.now.searched.now p) same c.requires.path, (subst (λ (p : List ℕ). length p < c.args.search.now.members) same c.requires.room, (record { members = c.requires.limits.members; cycles = c.loop-next.invariant.few }, (n.known m here, (subst (λ p. AboveFirst p m) same (n.above m here), subst (λ p. LinksTo c.args.search.now.searched.now p m) same (n.linked m here)))))))
+    (omega (arith, shorter), (subst (λ p. IsPath c.args.search.now.searched.now p) same c.requires.path, (subst (λ (p : List ℕ). length p < c.args.search.now.members) same c.requires.room, (record { members = c.requires.limits.members; cycles = c.loop-next.invariant.few }, (subst (λ p. HasWays c.args.search.now p) same c.requires.ways, (n.known m here, (subst (λ p. AboveFirst p m) same (n.above m here), subst (λ p. LinksTo c.args.search.now.searched.now p m) same (n.linked m here))))))))
 
 pub extend-returns-in_err-visit-clause-too_many : goal.extend-returns-in_err-visit-clause-too_many
 extend-returns-in_err-visit-clause-too_many t c e =
@@ -83,7 +86,7 @@ close-visit-requires t c =
     let shorter = ap (λ (p : List ℕ). length p) same in
     let head = ap (λ (p : List ℕ). get_or p 0 0) same in
     let begun = λ (first : ℕ) (at : slice_get c.loop-next.path.items 0 ≡ Some first). get_or_from_slice_get c.loop-next.path.items 0 first 0 at in
-    (omega (arith, shorter, c.requires.room), (subst (λ p. IsPath c.args.search.now.searched.now p) same c.requires.path, (omega (arith, shorter, c.requires.room), (record { members = c.requires.limits.members; cycles = c.loop-next.invariant.few }, (slice_get_within c.args.search.now.searched.now c.in-Some.next more.1.1 more.1.3, (λ first at. omega (arith, head, more.0, begun first at, c.loop-next.invariant.first), c.links.ensures.0 c.if-links.true))))))
+    (omega (arith, shorter, c.requires.room), (subst (λ p. IsPath c.args.search.now.searched.now p) same c.requires.path, (omega (arith, shorter, c.requires.room), (record { members = c.requires.limits.members; cycles = c.loop-next.invariant.few }, (subst (λ p. HasWays c.args.search.now p) same c.requires.ways, (slice_get_within c.args.search.now.searched.now c.in-Some.next more.1.1 more.1.3, (λ first at. omega (arith, head, more.0, begun first at, c.loop-next.invariant.first), c.links.ensures.0 c.if-links.true)))))))
 
 pub close-returns-in_err-visit-clause-too_many : goal.close-returns-in_err-visit-clause-too_many
 close-returns-in_err-visit-clause-too_many t c e =
@@ -153,6 +156,14 @@ visit-returns-then-ends_open-clause-all t c =
           (omega (arith, ends.last test, length-push c.args.path.now.items c.args.next)),
     )
 
+pub visit-returns-then-is_too_far-clause-all : goal.visit-returns-then-is_too_far-clause-all
+visit-returns-then-is_too_far-clause-all t c = (
+  [],
+  sym (append-nil c.args.found.now.items),
+  too-far c.args.search.now.searched.now c.args.search.now.members c.args.path.now.items c.args.next (number_in c.args.search.now.ways.now)
+      c.requires.path.begun c.requires.ways c.requires.known (c.is_too_far.ensures c.if-is_too_far.true),
+)
+
 pub visit-returns-then-not-same_rank-clause-all : goal.visit-returns-then-not-same_rank-clause-all
 visit-returns-then-not-same_rank-clause-all t c = (
   [],
@@ -187,7 +198,16 @@ visit-extend-requires t c = let d = c.decreases in (
   (
     subst (λ p. IsPath c.args.search.now.searched.now p) (sym c.push.ensures.items)
         (path-tested c.args.search.now.searched.now c.args.path.now.items c.args.next c.requires.path c.requires.known c.requires.above c.requires.linked (c.fits.ensures.0 c.if-not-fits.false)),
-    (omega arith, c.requires.limits),
+    (
+      omega arith,
+      (
+        c.requires.limits,
+        subst (λ first. AreWaysBack c.args.search.now.searched.now first (number_in c.args.search.now.ways.now))
+            (sym (get_or_from_slice_get c.push.new.self.items 0 (get_or c.args.path.now.items 0 0) 0
+            (ap (λ (xs : List ℕ). slice_get xs 0) c.push.ensures.items
+            ∙ get-push_kept c.args.path.now.items c.args.next 0 (get_or c.args.path.now.items 0 0) (slice_get-get_or c.args.path.now.items 0 0 c.requires.path.begun)))) c.requires.ways,
+      ),
+    ),
   ),
 )
 

@@ -6,7 +6,7 @@ use Rattle.cycle_search.proofs.search.cycles_within.Goals as goal
 
 pub returns-in_err-extend-clause-too_many : goal.returns-in_err-extend-clause-too_many
 returns-in_err-extend-clause-too_many c e =
-    let p = err_from_is_err_and c.from_residual.result c.from_residual.ensures.1 in
+    let p = err_from_is_err_and c.from_residual-in_err-extend.result c.from_residual-in_err-extend.ensures.1 in
     let both = sym p.1 ∙ e in
     let same : p.0 ≡ TooMany = cc in
     too-many-made c.args.searched.now c.args.bound c.args.root c.args.most _ _ _ c.get.ensures.value
