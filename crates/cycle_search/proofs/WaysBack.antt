@@ -1,10 +1,9 @@
 -- After a member of a cycle come as many members as its lock's way has, or more.
-use Rattle.std.proofs.Common.{◌≡◌, ℕ, zero, suc, ◌+◌, ◌<◌, ◌≤◌, List, [], ◌∷◌, ◌++◌, length, slice_get, get_or, Some, refl, sym, ap, ◌∙◌, subst, arith}
+use Rattle.std.proofs.Common.{◌≡◌, ℕ, zero, suc, ◌+◌, ◌<◌, ◌≤◌, List, [], ◌∷◌, ◌++◌, length, slice_get, get_or, Some, sym, ◌∙◌, subst, arith}
 use Rattle.std.proofs.lemmas.Option.{slice_get-get_or, get_or_from_slice_get}
 use Rattle.std.proofs.lemmas.List.{length-append}
-use Rattle.std.specs.List.{Contains, All}
 use Rattle.trace_model.specs.Theory.Dependencies.{Dependency}
-use Rattle.trace_model.specs.Theory.Cycles.{Member, next, IsCycle}
+use Rattle.trace_model.specs.Theory.Cycles.{Member, IsCycle}
 use Rattle.trace_model.proofs.Theory.Unique.{contains_had}
 use Rattle.cycle_search.specs.Search.{CycleThrough, AreAll}
 use Rattle.cycle_search.specs.Ways.{AreWaysBack}
