@@ -67,16 +67,19 @@ map-more f [] i x h = absurd (none-some x h)
 map-more f (y ∷ xs) zero x h = ap (λ z. f z ∷ []) (same_Some y x h)
 map-more f (y ∷ xs) (suc i) x h = ap (λ ys. f y ∷ ys) (map-more f xs i x h)
 
+-- the number of a dependency is that of the lock that it takes
+pub of-lock : (ds : List Dependency) (of : ℕ → ℕ) (numbers : List ℕ) → numbers ≡ map (λ d. of d.lock) ds →
+    (m : ℕ) (a : Dependency) → slice_get ds m ≡ Some a → get_or numbers m 0 ≡ of a.lock
+of-lock ds of numbers e m a x = get_or_from_slice_get numbers m (of a.lock) 0
+    (ap (λ (xs : List ℕ). slice_get xs m) e ∙ slice_get-map (λ d. of d.lock) ds m ∙ ap (option_map (λ d. of d.lock)) x)
+
 pub ranks-rise : (ds : List Dependency) (rank : ℕ → ℕ) (ranks : Ranks) → ranks.numbers.items ≡ map (λ d. rank d.lock) ds → Rises ds rank →
     AreTakers ds (takers_of ranks.takers) → AreRanks ds ranks
 ranks-rise ds rank ranks e up takers = record {
   each = ap (λ (xs : List ℕ). length xs) e ∙ length-map ds (λ d. rank d.lock);
-  rise = λ m n a b x y c. omega (arith, of m a x, of n b y, up n a.lock b y c);
+  rise = λ m n a b x y c. omega (arith, of-lock ds rank ranks.numbers.items e m a x, of-lock ds rank ranks.numbers.items e n b y, up n a.lock b y c);
   takers = takers;
 }
-  where
-    of : (m : ℕ) (a : Dependency) → slice_get ds m ≡ Some a → get_or ranks.numbers.items m 0 ≡ rank a.lock
-    of m a x = get_or_from_slice_get ranks.numbers.items m (rank a.lock) 0 (ap (λ (xs : List ℕ). slice_get xs m) e ∙ slice_get-map (λ d. rank d.lock) ds m ∙ ap (option_map (λ d. rank d.lock)) x)
 
 -- a number that the graph lists for a lock is one of a dependency
 pub listed-known : (ds : List Dependency) (graph : ℕ → List ℕ) → IsGraphOf ds graph → (lock n : ℕ) (listed : List ℕ) → listed ≡ graph lock → Contains listed n → n < length ds

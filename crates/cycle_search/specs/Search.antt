@@ -11,7 +11,6 @@ use Rattle.guards.specs.Compatible.{IsCompatible}
 use Rattle.cycle_search.specs.declared.refused.SearchRefused.{SearchRefused}
 use Rattle.cycle_search.specs.declared.refused.SearchRefused.TheVariants.{TooMany}
 use Rattle.cycle_search.specs.declared.search.Search.{Search}
-use Rattle.cycle_search.specs.LockNumbers.{number_in}
 use Rattle.cycle_search.specs.Ways.{AreWaysBack}
 
 -- some of the lists with a property, each once, in lexicographic order
@@ -47,13 +46,11 @@ pub record IsWithin (search : Search) (found : List (List ℕ)) : Type 0 where
 
 -- the ways lead back to the first member of the path
 abbrev pub HasWays : Search → List ℕ → Type 0
-HasWays search path =
-    AreWaysBack search.searched.now (slice_index path 0) (number_in search.ways.now)
+HasWays search path = AreWaysBack search.searched.now (slice_index path 0) search.ways.now
 
 -- so many members must come after the number that with the path they are too many
 abbrev pub IsTooFar : Search → List ℕ → ℕ → Type 0
-IsTooFar search path next = (d : Dependency) → slice_get search.searched.now next ≡ Some d →
-    search.members ≤ length path + number_in search.ways.now d.lock
+IsTooFar search path next = search.members ≤ length path + slice_index search.ways.now next
 
 -- a cycle up to the bound with this first number
 abbrev pub CycleFrom : List Dependency → ℕ → ℕ → List ℕ → Type 0

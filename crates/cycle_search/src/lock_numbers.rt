@@ -1,9 +1,11 @@
 //! Numbers of locks.
 
-ghost use Rattle.std.specs.Prelude.{◌≡◌, ◌≤◌, ℕ, IsTrue};
+ghost use Rattle.std.specs.Prelude.{◌≡◌, ◌≤◌, ℕ, map, IfOk, IsTrue};
 ghost use Rattle.std.specs.List.{All};
+ghost use Rattle.dependencies.specs.Tables.{known};
 ghost use Rattle.cycle_search.specs.LockNumbers.{number_in};
 
+use dependencies::DepTable;
 use std::alloc::Global;
 use std::collections::HashMap;
 use std::collections::hash_map::RandomState;
@@ -47,6 +49,23 @@ impl LockNumbers {
             }
         }
         true
+    }
+
+    /// For each dependency of the table the number of the lock that it takes.
+    pub(crate) fn by_dependency(
+        &self,
+        alloc: Global,
+        table: &DepTable,
+    ) -> Result<Vec<u32>, NoMemory>
+        ensures { IfOk result (λ numbers. numbers.items ≡ map (λ d. number_in self.now d.lock)
+            (known table.now)) }
+    {
+        let mut numbers = Vec::new(alloc);
+        for number in 0..table.len() {
+            let dependency = table.get(number as u32);
+            numbers.push(self.of(dependency.lock))?;
+        }
+        Ok(numbers)
     }
 
     /// Gives the number to those of the locks that the table lacks.

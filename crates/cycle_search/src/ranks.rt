@@ -1,6 +1,6 @@
 //! The order in which dependencies are visited.
 
-ghost use Rattle.std.specs.Prelude.{◌≡◌, ◌<◌, length, map, nat_eq, slice_index, IfOk, IsTrue};
+ghost use Rattle.std.specs.Prelude.{◌≡◌, ◌<◌, length, nat_eq, slice_index, IfOk, IsTrue};
 ghost use Rattle.dependencies.specs.Tables.{known};
 ghost use Rattle.lock_graph.specs.Graph.{HasGraphOf};
 ghost use Rattle.cycle_search.specs.Ranked.{AreRanks, Rises};
@@ -46,7 +46,7 @@ impl Ranks {
     {
         let found = lock_ranks(alloc, state, table, graph)?;
         let ranks = rising(alloc, state, table, found);
-        let numbers = ranks_of(alloc, table, &ranks)?;
+        let numbers = ranks.by_dependency(alloc, table)?;
         let takers = Takers::new(alloc, state, table)?;
         Ok(Ranks {
             numbers,
@@ -101,17 +101,4 @@ fn rises(table: &DepTable, ranks: &LockNumbers) -> bool
         }
     }
     true
-}
-
-/// For each dependency the rank of the lock that it takes.
-fn ranks_of(alloc: Global, table: &DepTable, ranks: &LockNumbers) -> Result<Vec<u32>, NoMemory>
-    ensures { IfOk result (λ numbers. numbers.items ≡ map (λ d. number_in ranks.now d.lock)
-        (known table.now)) }
-{
-    let mut numbers = Vec::new(alloc);
-    for number in 0..table.len() {
-        let dependency = table.get(number as u32);
-        numbers.push(ranks.of(dependency.lock))?;
-    }
-    Ok(numbers)
 }

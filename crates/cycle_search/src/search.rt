@@ -4,7 +4,6 @@ ghost use Rattle.std.specs.Prelude.{◌≡◌, ◌<◌, ◌≤◌, ◌↔◌, �
 ghost use Rattle.trace_model.specs.declared.limits.TheConstants.{MAX_CYCLES};
 ghost use Rattle.trace_model.specs.Theory.Cycles.{AreCyclesFrom};
 ghost use Rattle.guards.specs.Compatible.{IsCompatible};
-ghost use Rattle.cycle_search.specs.LockNumbers.{number_in};
 ghost use Rattle.cycle_search.specs.Takers.{IsNext};
 ghost use Rattle.cycle_search.specs.Ways.{AreWaysBack};
 ghost use Rattle.cycle_search.specs.Search.{IsPath, Closes, AboveFirst, LinksTo, TakesBack, AreNexts, MoreThan, CycleFrom, IsWithin, HasWays, IsTooFar, AddsBeyond, ExceedsBeyond, AddsThrough, ExceedsThrough, IfTooMany};
@@ -12,7 +11,6 @@ ghost use Rattle.cycle_search.specs.Search.{IsPath, Closes, AboveFirst, LinksTo,
 use crate::ascending::above;
 use crate::costs::{closing_visits, is_long};
 use crate::cycle::MOST_MEMBERS;
-use crate::lock_numbers::LockNumbers;
 use crate::ways::ways_back;
 use crate::{Cycle, Ranks, SearchRefused, Searched};
 use arrayvec::ArrayVec;
@@ -27,8 +25,8 @@ pub(crate) type Path = ArrayVec<u32, MOST_MEMBERS>;
 #[derive(Clone, Copy)]
 struct Search<'a> {
     searched: &'a Searched<'a>,
-    /// How many members must come at least after one that takes a lock.
-    ways: &'a LockNumbers,
+    /// How many members must come at least after each dependency, none where that is not known.
+    ways: &'a [u32],
     members: usize,
     cycles: usize,
     /// Of a path with more successors, the last members are found by the locks that they take.
@@ -88,22 +86,21 @@ pub fn cycles_within(
     Ok(found)
 }
 
-/// The ways back to the path's one member, where a search from it is long, and else no way at all
-/// for each lock.
+/// The ways back to the path's one member, where a search from it is long, and else none.
 fn ways_of(
     alloc: Global,
     searched: &Searched<'_>,
     path: &Path,
     bound: Bound,
-) -> Result<LockNumbers, NoMemory>
+) -> Result<Vec<u32>, NoMemory>
     requires { IsPath searched.now path.now.items }
     ensures { IfOk result (λ ways. AreWaysBack searched.now (slice_index path.now.items 0)
-        (number_in ways)) }
+        ways.items) }
 {
-    let state = searched.ranks.state();
     if !is_long(searched, path, bound.get() as usize) {
-        return Ok(LockNumbers::all(alloc, state, 0));
+        return Ok(Vec::new(alloc));
     }
+    let state = searched.ranks.state();
     let most = u32::from(bound.get()).saturating_sub(1);
     ways_back(alloc, state, searched.table, path[0], most)
 }
@@ -214,12 +211,13 @@ fn same_rank(ranks: &Ranks, path: &Path, next: u32) -> bool
 
 /// Whether a cycle that goes on with the number has more members than it may.
 fn is_too_far(search: &Search<'_>, path: &Path, next: u32) -> bool
-    requires { next < length search.now.searched.now }
+    requires { length path.now.items < search.now.members }
     ensures { IsTrue result → IsTooFar search.now path.now.items next }
 {
-    let (searched, ways) = (search.searched, search.ways);
-    let lock = searched.table.get(next).lock;
-    path.len() + ways.of(lock) as usize >= search.members
+    match search.ways.get(next as usize) {
+        Some(way) => path.len() + *way as usize >= search.members,
+        None => false,
+    }
 }
 
 /// Whether a path of so many members has room for the number alone, and is not closed by it.

@@ -1,9 +1,9 @@
-//! How far locks are from where a search began.
+//! How far dependencies are from where a search began.
 
 ghost use Rattle.std.specs.Prelude.{◌<◌, length, IfOk, IsTrue};
 ghost use Rattle.dependencies.specs.Tables.{known};
 ghost use Rattle.cycle_search.specs.LockNumbers.{number_in};
-ghost use Rattle.cycle_search.specs.Ways.{AreWaysBack};
+ghost use Rattle.cycle_search.specs.Ways.{AreWaysBack, LeadBack};
 
 use crate::lock_numbers::LockNumbers;
 use dependencies::DepTable;
@@ -11,9 +11,9 @@ use std::alloc::Global;
 use std::collections::hash_map::RandomState;
 use trace_model::NoMemory;
 
-/// For each lock how many members of a cycle must come at least after one that takes it: the last
-/// of them takes a lock that the root holds, and none is below the root. Those of more than `most`
-/// are not told apart.
+/// For each dependency how many members of a cycle must come at least after it: the last of them
+/// takes a lock that the root holds, and none is below the root. Those of more than `most` are not
+/// told apart, and an empty list knows of none.
 ///
 /// # Errors
 ///
@@ -24,12 +24,15 @@ pub(crate) fn ways_back(
     table: &DepTable,
     root: u32,
     most: u32,
-) -> Result<LockNumbers, NoMemory>
+) -> Result<Vec<u32>, NoMemory>
     requires { root < length (known table.now) }
-    ensures { IfOk result (λ ways. AreWaysBack (known table.now) root (number_in ways)) }
+    ensures { IfOk result (λ ways. AreWaysBack (known table.now) root ways.items) }
 {
     let ways = found_back(alloc, state, table, root, most)?;
-    Ok(leading(alloc, state, table, root, ways))
+    if !lead_back(table, root, &ways) {
+        return Ok(Vec::new(alloc));
+    }
+    ways.by_dependency(alloc, table)
 }
 
 /// The ways, found from the root on backwards, a member more at a time. No contract says what they
@@ -62,29 +65,11 @@ fn widen(ways: &mut LockNumbers, table: &DepTable, root: u32, way: u32) -> Resul
     Ok(())
 }
 
-/// The ways if they lead back, else no way at all for each lock.
-fn leading(
-    alloc: Global,
-    state: RandomState,
-    table: &DepTable,
-    root: u32,
-    ways: LockNumbers,
-) -> LockNumbers
-    requires { root < length (known table.now) }
-    ensures { AreWaysBack (known table.now) root (number_in result) }
-{
-    if lead_back(table, root, &ways) {
-        ways
-    } else {
-        LockNumbers::all(alloc, state, 0)
-    }
-}
-
 /// Whether the ways lead back: those of locks that the root holds are none, and no other is longer
 /// by more than one than that of a lock that is taken while it is held.
 fn lead_back(table: &DepTable, root: u32, ways: &LockNumbers) -> bool
     requires { root < length (known table.now) }
-    ensures { IsTrue result → AreWaysBack (known table.now) root (number_in ways.now) }
+    ensures { IsTrue result → LeadBack (known table.now) root (number_in ways.now) }
 {
     if !ways.are_within(table.get(root).held.locks(), 0) {
         return false;

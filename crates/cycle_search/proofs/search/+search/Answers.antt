@@ -6,7 +6,6 @@ use Rattle.std.specs.List.{Contains}
 use Rattle.trace_model.specs.Theory.Dependencies.{Dependency}
 use Rattle.dependencies.specs.Tables.{known}
 use Rattle.cycle_search.specs.Search.{IsPath, Closes, AboveFirst, LinksTo, TakesBack, AreSome, AreAll, Adds, Exceeds, CycleBeyond, CycleThrough, HasWays}
-use Rattle.cycle_search.specs.LockNumbers.{number_in}
 use Rattle.cycle_search.specs.Takers.{IsNext}
 use Rattle.cycle_search.specs.Ways.{AreWaysBack}
 use Rattle.trace_model.proofs.Lists.{length-push, get-push_kept}
@@ -160,7 +159,7 @@ pub visit-returns-then-is_too_far-clause-all : goal.visit-returns-then-is_too_fa
 visit-returns-then-is_too_far-clause-all t c = (
   [],
   sym (append-nil c.args.found.now.items),
-  too-far c.args.search.now.searched.now c.args.search.now.members c.args.path.now.items c.args.next (number_in c.args.search.now.ways.now)
+  too-far c.args.search.now.searched.now c.args.search.now.members c.args.path.now.items c.args.next c.args.search.now.ways.now
       c.requires.path.begun c.requires.ways c.requires.known (c.is_too_far.ensures c.if-is_too_far.true),
 )
 
@@ -202,7 +201,7 @@ visit-extend-requires t c = let d = c.decreases in (
       omega arith,
       (
         c.requires.limits,
-        subst (λ first. AreWaysBack c.args.search.now.searched.now first (number_in c.args.search.now.ways.now))
+        subst (λ first. AreWaysBack c.args.search.now.searched.now first c.args.search.now.ways.now)
             (sym (get_or_from_slice_get c.push.new.self.items 0 (get_or c.args.path.now.items 0 0) 0
             (ap (λ (xs : List ℕ). slice_get xs 0) c.push.ensures.items
             ∙ get-push_kept c.args.path.now.items c.args.next 0 (get_or c.args.path.now.items 0 0) (slice_get-get_or c.args.path.now.items 0 0 c.requires.path.begun)))) c.requires.ways,
