@@ -66,6 +66,18 @@ fn asked(alloc: Global) -> Result<Vec<u8>, AllocError> {
     Ok(bytes)
 }
 
+/// Two batches after the ten events: thread 1 acquires lock 10, which thread 2 wants before thread 1
+/// has released it; and thread 1 releases it.
+const BATCHES: [u8; 44] = [
+    0, 29, 10, 3, 3, 0, 0, 0, 1, 0, 0, 0, 10, 3, 0, 0, 0, 2, 0, 0, 0, 10, 4, 0, 0, 0, 1, 0, 0, 0,
+    10, 0, 11, 10, 1, 4, 0, 0, 0, 1, 0, 0, 0, 10,
+];
+
+/// Of the first batch one event, up to the one that another thread's lock refuses; of the second all.
+const BATCHED: [u8; 22] = [
+    0, 0, 0, 7, 72, 1, 10, 0, 0, 0, 10, 0, 0, 0, 7, 72, 1, 0, 0, 0, 0, 11,
+];
+
 /// The worker does both tasks.
 fn works<N: Naming, R: Wait + Abort + Copy>(rt: &R, worker: &mut Worker<N, R, Shown<N>>) {
     for _ in 0..2 {
@@ -74,7 +86,8 @@ fn works<N: Naming, R: Wait + Abort + Copy>(rt: &R, worker: &mut Worker<N, R, Sh
     assert!(rt; worker.turn(&Free) == Turn::Idle);
 }
 
-/// A session asks, the worker works, and a later session reads what came of it.
+/// A session asks, the worker works, a later session reads what came of it, and another one sends
+/// batches.
 fn serves_around<N: Naming, R: Wait + Abort + Copy>(
     rt: &R,
     alloc: Global,
@@ -91,7 +104,9 @@ fn serves_around<N: Naming, R: Wait + Abort + Copy>(
         &replies(alloc)?,
     )?;
     works(rt, worker);
-    answered(rt, alloc, desk, readers, asked(alloc)?, &settled(alloc)?)
+    answered(rt, alloc, desk, readers, asked(alloc)?, &settled(alloc)?)?;
+    let batches = Vec::from_slice(alloc, &BATCHES)?;
+    answered(rt, alloc, desk, readers, batches, &BATCHED)
 }
 
 /// Two sessions, and a worker between them.
