@@ -35,7 +35,6 @@ fn body_len(reply: &Reply) -> u32
 }
 
 /// Adds three numbers at the end.
-#[tactic(auto, unfolding(trace_model::specs::Protocol::Replies::three_words))]
 fn put_words(out: &mut Vec<u8>, first: u32, second: u32, third: u32) -> Result<(), AllocError>
     ensures ok { OnOk result (out.new.items ≡ out.old.items ++ three_words first second third) }
     ensures room { vec_len out.old + 12 ≤ vec_capacity out.old → IsOk result }

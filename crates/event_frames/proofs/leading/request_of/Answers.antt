@@ -1,9 +1,10 @@
 use Rattle.std.proofs.Common.{◌≡◌, ℕ, ◌-◌, List, length, take, drop, sym, ap, ◌∙◌, arith}
 use Rattle.std.specs.Int.{w32, from_be_bytes}
+use Rattle.std.proofs.lemmas.Grind.{common_steps}
 use Rattle.std.proofs.lemmas.Bool.{le-leb}
 use Rattle.std.proofs.lemmas.List.{length-drop, take_all}
+use Rattle.trace_model.specs.Protocol.Frames.{request_of, op_of}
 use Rattle.trace_model.specs.declared.messages.session.Request.TheVariants.{Offer}
-use Rattle.trace_model.specs.Protocol.Frames.{op_of}
 use Rattle.trace_model.proofs.Protocol.Written.{request_event}
 use Rattle.event_frames.proofs.leading.request_of.Goals as goal
 
@@ -15,3 +16,7 @@ returns-in-1-to-6 c =
     let object = c.word-in-1-to-6-2.ensures ∙ ap (λ (x : List ℕ). from_be_bytes w32 (take 4 x)) rest in
     (λ i. Offer (record { thread = c.word-in-1-to-6.ensures i; op = (c.op_of.ensures ∙ ap (op_of kind) object) i }))
     ∙ sym (request_event kind fields (le-leb kind 6 (omega (arith, c.in-1-to-6))))
+
+pub returns-in_default : goal.returns-in_default
+unfolding request_of
+returns-in_default c = grind (arith, common_steps)
