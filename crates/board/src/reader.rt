@@ -18,9 +18,14 @@ pub struct Busy;
 
 /// Names the steps that were published when it was made: a legal run. Contracts see it as these
 /// steps. Any number of readers may learn it.
-#[derive(Drop)]
 pub struct Receipt<N: Naming> {
     beginning: Beginning<N>,
+}
+
+impl<N: Naming> Drop for Receipt<N> {
+    fn drop(self) {
+        let Receipt { beginning: _ } = self;
+    }
 }
 
 impl<N: Naming> Model for Receipt<N> {
@@ -80,10 +85,18 @@ fn follow<N: Naming>(beginning: &mut Beginning<N>, shown: &Beginning<N>) -> Resu
 
 /// A reader of the board. Contracts see it as the steps that it has seen or was told of: a legal
 /// run.
-#[derive(Drop)]
 pub struct BoardReader<N: Naming> {
     handle: ReadHandle<Shown<N>>,
     beginning: Beginning<N>,
+}
+
+impl<N: Naming> Drop for BoardReader<N> {
+    fn drop(self) {
+        let BoardReader {
+            handle: _,
+            beginning: _,
+        } = self;
+    }
 }
 
 impl<N: Naming> Model for BoardReader<N> {

@@ -96,13 +96,24 @@ fn stop<R: Wait>(rt: &R) -> ! {
 }
 
 /// The writer of the board. Contracts see it as the published steps, and those that wait.
-#[derive(Drop)]
 pub struct BoardWriter<N: Naming, R: Wait + Copy, T: Follows<N>> {
     handle: Handle<N, R, T>,
     head: Head<N>,
     beginning: Beginning<N>,
     waiting: Option<BoardStep>,
     rt: R,
+}
+
+impl<N: Naming, R: Wait + Copy, T: Follows<N>> Drop for BoardWriter<N, R, T> {
+    fn drop(self) {
+        let BoardWriter {
+            handle: _,
+            head: _,
+            beginning: _,
+            waiting: _,
+            rt: _,
+        } = self;
+    }
 }
 
 impl<N: Naming, R: Wait + Copy, T: Follows<N>> Model for BoardWriter<N, R, T> {

@@ -19,11 +19,20 @@ use trace_model::NoMemory;
 /// lock. So the members of a cycle have one rank, and a search leaves all others out. Beside it,
 /// for each lock the dependencies that take it: a search finds a cycle's last member among those
 /// that take what the first one holds. No answer depends on either.
-#[derive(Drop)]
 pub struct Ranks {
     numbers: Vec<u32>,
     takers: Takers,
     state: RandomState,
+}
+
+impl Drop for Ranks {
+    fn drop(self) {
+        let Ranks {
+            numbers: _,
+            takers: _,
+            state: _,
+        } = self;
+    }
 }
 
 impl Ranks {

@@ -13,10 +13,15 @@ use std::collections::hash_map::RandomState;
 use trace_model::{NoMemory, Place};
 
 /// The dependencies in order of first appearance, and the places of each number.
-#[derive(Drop)]
 pub(crate) struct Entries {
     keys: Keys,
     places: NumberedPlaces,
+}
+
+impl Drop for Entries {
+    fn drop(self) {
+        let Entries { keys: _, places: _ } = self;
+    }
 }
 
 impl Entries {

@@ -17,11 +17,20 @@ use trace_model::NoMemory;
 /// Dependencies in order, each once. A table that shares them has no number by hash until room is
 /// made in it. The number of one that came lately is looked for in a cell of its thread and lock,
 /// before its held set is hashed.
-#[derive(Drop)]
 pub(crate) struct Keys {
     list: Segments<Dependency>,
     numbers: IndexMap<Dependency, (), RandomState>,
     guesses: Guesses,
+}
+
+impl Drop for Keys {
+    fn drop(self) {
+        let Keys {
+            list: _,
+            numbers: _,
+            guesses: _,
+        } = self;
+    }
 }
 
 /// The cell of a dependency.

@@ -12,9 +12,14 @@ use std::marker::Model;
 use trace_model::{NoMemory, Place};
 
 /// The dependencies by number, from 0 by first appearance, each with its places.
-#[derive(Drop)]
 pub struct DepTable {
     entries: Entries,
+}
+
+impl Drop for DepTable {
+    fn drop(self) {
+        let DepTable { entries: _ } = self;
+    }
 }
 
 impl Model for DepTable {

@@ -31,11 +31,20 @@ use trace_model::{Bound, Event, Place, Refusal};
 /// A book that threads share, with the board that shows it. Each call takes the lock for its own
 /// work alone; the rows of a task are computed outside. What is said of a receipt is said of the
 /// steps that it names.
-#[derive(Drop)]
 pub struct Desk<N: Naming, R: Wait + Copy, T: Follows<N>> {
     locked: Mutex<Locked<N, R, T>>,
     rt: R,
     alloc: Global,
+}
+
+impl<N: Naming, R: Wait + Copy, T: Follows<N>> Drop for Desk<N, R, T> {
+    fn drop(self) {
+        let Desk {
+            locked: _,
+            rt: _,
+            alloc: _,
+        } = self;
+    }
 }
 
 impl<N: Naming, R: Wait + Copy> Desk<N, R, Shown<N>> {

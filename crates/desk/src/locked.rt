@@ -50,10 +50,15 @@ pub enum DeskRefused {
 
 /// The book with the board's writer. Contracts see it as the published steps and the state of the
 /// book, which is the machine's after these steps.
-#[derive(Drop)]
 pub struct Locked<N: Naming, R: Wait + Copy, T: Follows<N>> {
     book: Book,
     board: BoardWriter<N, R, T>,
+}
+
+impl<N: Naming, R: Wait + Copy, T: Follows<N>> Drop for Locked<N, R, T> {
+    fn drop(self) {
+        let Locked { book: _, board: _ } = self;
+    }
 }
 
 impl<N: Naming, R: Wait + Copy, T: Follows<N>> Model for Locked<N, R, T> {

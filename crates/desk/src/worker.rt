@@ -60,13 +60,24 @@ struct Picked {
 /// Computes tasks for a desk. It keeps the job of a question while that is not settled, and gives
 /// up a question whose least missing task has too many cycles. Contracts see it as the steps that
 /// it has seen or was told of.
-#[derive(Drop)]
 pub struct Worker<N: Naming, R: Wait + Copy, T: Follows<N>> {
     desk: Arc<Desk<N, R, T>>,
     claimant: Claimant,
     reader: BoardReader<N>,
     job: Option<OwnJob<N>>,
     given_up: [bool; MAX_QUESTIONS],
+}
+
+impl<N: Naming, R: Wait + Copy, T: Follows<N>> Drop for Worker<N, R, T> {
+    fn drop(self) {
+        let Worker {
+            desk: _,
+            claimant: _,
+            reader: _,
+            job: _,
+            given_up: _,
+        } = self;
+    }
 }
 
 impl<N: Naming, R: Wait + Copy, T: Follows<N>> Model for Worker<N, R, T> {

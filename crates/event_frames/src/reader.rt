@@ -9,12 +9,22 @@ use std::marker::Model;
 use trace_model::{Fault, NoMemory, Request};
 
 /// What a session sent and is not yet taken as requests.
-#[derive(Drop)]
 pub struct FrameReader {
     bytes: Vec<u8>,
     start: usize,
     ended: bool,
     told: Option<Fault>,
+}
+
+impl Drop for FrameReader {
+    fn drop(self) {
+        let FrameReader {
+            bytes: _,
+            start: _,
+            ended: _,
+            told: _,
+        } = self;
+    }
 }
 
 impl Model for FrameReader {

@@ -17,13 +17,24 @@ use trace_model::Bound;
 
 /// What the tasks of a question are computed from: the snapshot of its events, its bound, and what
 /// is kept from one task to the next. Contracts see it as the question.
-#[derive(Drop)]
 pub struct Job {
     alloc: Global,
     snapshot: Arc<Snapshot, Global>,
     question: u32,
     bound: Bound,
     scratch: Scratch,
+}
+
+impl Drop for Job {
+    fn drop(self) {
+        let Job {
+            alloc: _,
+            snapshot: _,
+            question: _,
+            bound: _,
+            scratch: _,
+        } = self;
+    }
 }
 
 impl Model for Job {

@@ -15,10 +15,18 @@ use std::marker::Model;
 use trace_model::NoMemory;
 
 /// The locks that each thread holds, and how deep.
-#[derive(Drop)]
 pub struct HeldTable {
     threads: NumberTable<Holding>,
     guesses: Guesses,
+}
+
+impl Drop for HeldTable {
+    fn drop(self) {
+        let HeldTable {
+            threads: _,
+            guesses: _,
+        } = self;
+    }
 }
 
 impl Model for HeldTable {

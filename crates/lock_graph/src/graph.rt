@@ -14,10 +14,15 @@ use std::collections::hash_map::RandomState;
 use trace_model::NoMemory;
 
 /// For each lock the numbers of the dependencies that hold it.
-#[derive(Drop)]
 pub struct LockGraph {
     lists: Lists,
     alloc: Global,
+}
+
+impl Drop for LockGraph {
+    fn drop(self) {
+        let LockGraph { lists: _, alloc: _ } = self;
+    }
 }
 
 impl LockGraph {

@@ -26,7 +26,6 @@ use trace_model::{Event, NoMemory, Place};
 ///
 /// Snapshots share the graph. So a new dependency comes into it with the growths for the next
 /// event, into a copy where it is shared: at most one copy for each snapshot.
-#[derive(Drop)]
 pub struct LockTables {
     alloc: Global,
     state: RandomState,
@@ -38,6 +37,20 @@ pub struct LockTables {
     graphed: usize,
     /// How many events there were.
     events: u32,
+}
+
+impl Drop for LockTables {
+    fn drop(self) {
+        let LockTables {
+            alloc: _,
+            state: _,
+            held: _,
+            dependencies: _,
+            graph: _,
+            graphed: _,
+            events: _,
+        } = self;
+    }
 }
 
 impl LockTables {
@@ -190,7 +203,8 @@ impl LockTables {
             held,
             dependencies,
             graph,
-            ..
+            graphed: _,
+            events: _,
         } = self;
         drop(held);
         match graph_or_new(alloc, state, graph) {

@@ -25,11 +25,20 @@ use trace_model::{NoMemory, Place};
 /// Places of numbers from 0 on, noted in ascending order.
 ///
 /// Contracts see the notes, each a number with a place, and whether there is room for one more.
-#[derive(Drop)]
 pub struct NumberedPlaces {
     alloc: Global,
     notes: Segments<Note>,
     heads: Vec<Option<u32>>,
+}
+
+impl Drop for NumberedPlaces {
+    fn drop(self) {
+        let NumberedPlaces {
+            alloc: _,
+            notes: _,
+            heads: _,
+        } = self;
+    }
 }
 
 impl Model for NumberedPlaces {

@@ -19,10 +19,15 @@ use trace_model::{Event, QuestionStatus, Refusal, Reply, Request};
 /// A desk with a reader of its board, which learns the receipt of each of the client's calls: so
 /// its status, which is read from the board, holds every step that its session was answered.
 /// Contracts see it as the steps that its reader has seen.
-#[derive(Drop)]
 pub struct Client<N: Naming, R: Wait + Copy, T: Follows<N>> {
     desk: Arc<Desk<N, R, T>>,
     reader: BoardReader<N>,
+}
+
+impl<N: Naming, R: Wait + Copy, T: Follows<N>> Drop for Client<N, R, T> {
+    fn drop(self) {
+        let Client { desk: _, reader: _ } = self;
+    }
 }
 
 impl<N: Naming, R: Wait + Copy, T: Follows<N>> Model for Client<N, R, T> {
@@ -46,7 +51,7 @@ impl<N: Naming, R: Wait + Copy, T: Follows<N>> Client<N, R, T> {
     pub fn into_reader(self) -> BoardReader<N>
         ensures { result ≡ self }
     {
-        let Client { reader, .. } = self;
+        let Client { desk: _, reader } = self;
         reader
     }
 

@@ -21,7 +21,6 @@ use wellformed::GateTables;
 
 /// The accepted events, each lawful after those before it, with their index and their lock tables,
 /// and the event that there is room for. Contracts see what a gate shows.
-#[derive(Drop)]
 pub struct Recorder {
     alloc: Global,
     state: RandomState,
@@ -30,6 +29,20 @@ pub struct Recorder {
     index: TraceIndex,
     tables: LockTables,
     ready: Option<Event>,
+}
+
+impl Drop for Recorder {
+    fn drop(self) {
+        let Recorder {
+            alloc: _,
+            state: _,
+            limit: _,
+            gate: _,
+            index: _,
+            tables: _,
+            ready: _,
+        } = self;
+    }
 }
 
 impl Model for Recorder {

@@ -22,7 +22,6 @@ pub enum LedgerRefused {
 /// The tasks of a question, numbered from 0, with the rows of those that are delivered.
 ///
 /// All its room is made by `open`; no other call takes memory.
-#[derive(Drop)]
 pub struct Ledger {
     // the rows of each task, none where it is not delivered
     rows: Vec<Vec<Row>>,
@@ -32,6 +31,17 @@ pub struct Ledger {
     delivered: u32,
     // the least that is not, or how many tasks there are
     missing: u32,
+}
+
+impl Drop for Ledger {
+    fn drop(self) {
+        let Ledger {
+            rows: _,
+            marks: _,
+            delivered: _,
+            missing: _,
+        } = self;
+    }
 }
 
 impl Model for Ledger {

@@ -13,7 +13,6 @@ use trace_model::{Bound, Refusal};
 use witness::{Row, confirmed_in};
 
 /// A question about the first events, its bound, and the rows of its tasks as they come in.
-#[derive(Drop)]
 pub struct Asked {
     length: u32,
     bound: Bound,
@@ -21,6 +20,19 @@ pub struct Asked {
     cycles: u64,
     confirmed: u64,
     ledger: Ledger,
+}
+
+impl Drop for Asked {
+    fn drop(self) {
+        let Asked {
+            length: _,
+            bound: _,
+            total: _,
+            cycles: _,
+            confirmed: _,
+            ledger: _,
+        } = self;
+    }
 }
 
 impl Model for Asked {

@@ -36,12 +36,22 @@ pub enum BookRefused {
 pub struct NoSuchQuestion;
 
 /// The accepted events, and the questions about their beginnings with the rows of their tasks.
-#[derive(Drop)]
 pub struct Book {
     pub(crate) alloc: Global,
     pub(crate) limit: u32,
     pub(crate) recorder: Recorder,
     pub(crate) questions: Vec<Asked>,
+}
+
+impl Drop for Book {
+    fn drop(self) {
+        let Book {
+            alloc: _,
+            limit: _,
+            recorder: _,
+            questions: _,
+        } = self;
+    }
 }
 
 impl Model for Book {

@@ -5,10 +5,18 @@ use board::{BoardReader, Naming};
 pub const MAX_SEATS: usize = 16;
 
 /// The readers that no session has, and how many sessions are open.
-#[derive(Drop)]
 pub struct Seats<N: Naming> {
     readers: Vec<BoardReader<N>>,
     open: usize,
+}
+
+impl<N: Naming> Drop for Seats<N> {
+    fn drop(self) {
+        let Seats {
+            readers: _,
+            open: _,
+        } = self;
+    }
 }
 
 impl<N: Naming> Seats<N> {

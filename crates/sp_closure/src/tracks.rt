@@ -23,9 +23,14 @@ pub(crate) struct Track {
 }
 
 /// The places of all dependencies with their pasts, by the dependencies' numbers.
-#[derive(Drop)]
 pub struct Pasts {
     pub(crate) of: Vec<Track>,
+}
+
+impl Drop for Pasts {
+    fn drop(self) {
+        let Pasts { of: _ } = self;
+    }
 }
 
 /// A member of a cycle: its dependency, and which of its places is the first at which a reordering

@@ -98,7 +98,6 @@ fn build_counted<L: Ledger>(
 /// segments may be shared with other indices.
 ///
 /// Contracts see the events, and the event that is reserved.
-#[derive(Drop)]
 pub struct TraceIndex {
     alloc: Global,
     state: RandomState,
@@ -108,6 +107,21 @@ pub struct TraceIndex {
     depths: Depths,
     guesses: Guesses,
     next: Option<Ready>,
+}
+
+impl Drop for TraceIndex {
+    fn drop(self) {
+        let TraceIndex {
+            alloc: _,
+            state: _,
+            rows: _,
+            marks: _,
+            latest: _,
+            depths: _,
+            guesses: _,
+            next: _,
+        } = self;
+    }
 }
 
 impl Model for TraceIndex {

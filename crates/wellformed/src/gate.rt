@@ -13,12 +13,22 @@ use std::marker::Model;
 use trace_model::{Event, NoMemory, Refusal};
 
 /// The recorded events, each lawful after those before it, and the event that there is room for.
-#[derive(Drop)]
 pub struct Gate {
     limit: usize,
     events: Vec<Event>,
     reserved: Option<Event>,
     tables: GateTables,
+}
+
+impl Drop for Gate {
+    fn drop(self) {
+        let Gate {
+            limit: _,
+            events: _,
+            reserved: _,
+            tables: _,
+        } = self;
+    }
 }
 
 impl Model for Gate {

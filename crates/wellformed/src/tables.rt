@@ -29,12 +29,22 @@ struct Holder {
 /// What the gate has to know of the recorded events: how many they are and how many of them fork a
 /// thread, what is known of each thread, and who owns each lock and how deep. The events themselves
 /// are kept by whoever has them anyway.
-#[derive(Drop)]
 pub struct GateTables {
     count: usize,
     forks: usize,
     threads: Threads,
     owners: Owners,
+}
+
+impl Drop for GateTables {
+    fn drop(self) {
+        let GateTables {
+            count: _,
+            forks: _,
+            threads: _,
+            owners: _,
+        } = self;
+    }
 }
 
 impl GateTables {

@@ -16,12 +16,22 @@ const LONG_RUN: usize = 16;
 /// Keeps a text while it is written, and from one text to the next the first numbers in decimal, as
 /// far as they were wanted: the places of a witness mostly follow one another, so that many of them
 /// are written by one copy.
-#[derive(Drop)]
 pub struct Page {
     alloc: Global,
     pub(crate) text: Vec<u8>,
     digits: Buffer,
     numerals: Numerals,
+}
+
+impl Drop for Page {
+    fn drop(self) {
+        let Page {
+            alloc: _,
+            text: _,
+            digits: _,
+            numerals: _,
+        } = self;
+    }
 }
 
 impl Page {

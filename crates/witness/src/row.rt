@@ -23,11 +23,20 @@ impl Model for Found {
 
 /// A cycle, the dependencies that its numbers name, in its order, and what was found if it is
 /// confirmed.
-#[derive(Drop)]
 pub struct Row {
     pub cycle: Cycle,
     pub dependencies: Vec<Dependency>,
     pub found: Option<Found>,
+}
+
+impl Drop for Row {
+    fn drop(self) {
+        let Row {
+            cycle: _,
+            dependencies: _,
+            found: _,
+        } = self;
+    }
 }
 
 impl Model for Row {

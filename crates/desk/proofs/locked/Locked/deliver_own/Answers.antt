@@ -12,7 +12,7 @@ admits_known-admitted-requires g c =
     let own = c.args.own in
     let parts = c.into_parts-finding in
     let both = c.later-later in
-    let now = subst (λ run. After limit run state) (sym c.receipt-2.ensures) c.self.invariant.after in
-    let known : AreKnown state own.question own.events = known_of limit parts.result.1 c.receipt-2.result both.result state own.question own.events
+    let now = subst (λ run. After limit run state) (sym c.receipt.ensures) c.self.invariant.after in
+    let known : AreKnown state own.question own.events = known_of limit parts.result.1 c.receipt.result both.result state own.question own.events
     c.self.invariant.allowed both.ensures.own both.ensures.others both.ensures.either now parts.ensures.known in
     record { known = subst (λ (f : FoundRows). AreKnown state f.question f.events) (sym parts.ensures.finding) known }
