@@ -28,9 +28,8 @@ impl Case<'_> {
         }
     }
 
-    /// The words of its command line.
-    pub(crate) fn words(&self, rt: &HostRuntime) -> Result<Vec<String>> {
-        let alloc = rt.alloc();
+    /// The words of its command line up to its files.
+    fn command(&self, alloc: Global) -> Result<Vec<String>, AllocError> {
         let endings: &[&str] = match self.folder {
             "replay" => &["trace", "witness"],
             _ => &["in"],
@@ -41,15 +40,25 @@ impl Case<'_> {
         for ending in endings {
             words.push(self.path(alloc, ending)?)?;
         }
-        let arguments = self.bytes(rt, "args")?;
-        let arguments = str::from_utf8(&arguments)
-            .ok()
-            .context("arguments in text")?;
-        for word in arguments.split_ascii_whitespace() {
-            words.push(String::from_str(alloc, word)?)?;
-        }
         Ok(words)
     }
+
+    /// The words of its command line.
+    pub(crate) fn words(&self, rt: &HostRuntime) -> Result<Vec<String>> {
+        let arguments = self.bytes(rt, "args")?;
+        let mut words = self.command(rt.alloc())?;
+        push_words(rt.alloc(), &mut words, &arguments)?;
+        Ok(words)
+    }
+}
+
+/// Adds the words of a text.
+fn push_words(alloc: Global, words: &mut Vec<String>, text: &[u8]) -> Result<()> {
+    let text = str::from_utf8(text).ok().context("arguments in text")?;
+    for word in text.split_ascii_whitespace() {
+        words.push(String::from_str(alloc, word)?)?;
+    }
+    Ok(())
 }
 
 /// The names of the cases in a folder, ascending: of each there is a file with its exit status.

@@ -75,24 +75,35 @@ fn judged_sessions(rt: &HostRuntime, case: Case<'_>) -> Result<Option<&'static s
     fault_of(rt, case, &told)
 }
 
-/// Runs a case of a command. It answers what is wrong, if anything is.
+/// Runs what a command line asks for. It answers what is wrong, if anything is.
+fn judged_invocation<T: Threads + Sync>(
+    rt: &HostRuntime,
+    threads: &T,
+    case: Case<'_>,
+    invocation: &Invocation<'_>,
+) -> Result<Option<&'static str>>
+    requires { IsInRange invocation.now }
+{
+    let told = run(rt, threads, invocation)?;
+    match fault_of(rt, case, &told)? {
+        Some(fault) => Ok(Some(fault)),
+        None => other_fault_of(rt, invocation, &told),
+    }
+}
+
+/// Runs a case of a command by the words of its command line. It answers what is wrong, if anything
+/// is.
 fn judged_command<T: Threads + Sync>(
     rt: &HostRuntime,
     threads: &T,
     case: Case<'_>,
+    given: &[String],
 ) -> Result<Option<&'static str>> {
-    let alloc = rt.alloc();
-    let given = case.words(rt)?;
-    let mut words = Vec::new(alloc);
-    for word in &given {
+    let mut words = Vec::new(rt.alloc());
+    for word in given {
         words.push(word.as_str())?;
     }
-    let invocation = parse(alloc, &words)?;
-    let told = run(rt, threads, &invocation)?;
-    match fault_of(rt, case, &told)? {
-        Some(fault) => Ok(Some(fault)),
-        None => other_fault_of(rt, &invocation, &told),
-    }
+    judged_invocation(rt, threads, case, &parse(rt.alloc(), &words)?)
 }
 
 fn judged<T: Threads + Sync>(
@@ -103,26 +114,58 @@ fn judged<T: Threads + Sync>(
     if case.folder == "sessions" {
         judged_sessions(rt, case)
     } else {
-        judged_command(rt, threads, case)
+        judged_command(rt, threads, case, &case.words(rt)?)
+    }
+}
+
+/// How many cases were run, and how many of them were wrong.
+#[derive(Clone, Copy)]
+struct Counts {
+    cases: u32,
+    wrong: u32,
+}
+
+impl Counts {
+    /// Runs a case, and prints what came of it.
+    fn run<T: Threads + Sync>(
+        &mut self,
+        rt: &HostRuntime,
+        threads: &T,
+        case: Case<'_>,
+    ) -> Result<()> {
+        let Case { folder, name } = case;
+        self.cases = self.cases.saturating_add(1);
+        match judged(rt, threads, case)? {
+            None => println!(rt; "{folder}/{name} ok")?,
+            Some(fault) => {
+                self.wrong = self.wrong.saturating_add(1);
+                println!(rt; "{folder}/{name} wrong: {fault}")?;
+            }
+        }
+        Ok(())
+    }
+
+    /// Runs the cases of a folder.
+    fn run_folder<T: Threads + Sync>(
+        &mut self,
+        rt: &HostRuntime,
+        threads: &T,
+        folder: &str,
+    ) -> Result<()> {
+        for name in &names_in(rt, folder)? {
+            let name = name.as_str();
+            self.run(rt, threads, Case { folder, name })?;
+        }
+        Ok(())
     }
 }
 
 fn main(rt: HostRuntime) -> Result<ExitCode> {
-    let mut count = 0u32;
-    let mut wrong = 0u32;
+    let mut counts = Counts { cases: 0, wrong: 0 };
     for folder in ["offline", "replay", "script", "sessions"] {
-        for name in &names_in(&rt, folder)? {
-            let name = name.as_str();
-            count = count.saturating_add(1);
-            match judged(&rt, &rt, Case { folder, name })? {
-                None => println!(rt; "{folder}/{name} ok")?,
-                Some(fault) => {
-                    wrong = wrong.saturating_add(1);
-                    println!(rt; "{folder}/{name} wrong: {fault}")?;
-                }
-            }
-        }
+        counts.run_folder(&rt, &rt, folder)?;
     }
-    println!(rt; "{count} cases, {wrong} wrong")?;
+    let Counts { cases, wrong } = counts;
+    println!(rt; "{cases} cases, {wrong} wrong")?;
     Ok(ExitCode::from(u8::from(wrong > 0)))
 }

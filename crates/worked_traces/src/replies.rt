@@ -8,21 +8,23 @@ use trace_model::refusal_name;
 pub struct Bytes<'a>(pub &'a [u8]);
 
 impl<'a> Bytes<'a> {
-    fn byte(&mut self) -> Result<u8> {
-        let (first, rest) = self.0.split_first().context("a reply is cut")?;
+    /// The next bytes, as many as the array has.
+    fn array<const N: usize>(&mut self) -> Result<[u8; N]> {
+        let (first, rest) = self.0.split_first_chunk().context("a reply is cut")?;
         self.0 = rest;
         Ok(*first)
     }
 
+    fn byte(&mut self) -> Result<u8> {
+        Ok(u8::from_be_bytes(self.array()?))
+    }
+
     fn number(&mut self) -> Result<u32> {
-        let bytes = [self.byte()?, self.byte()?, self.byte()?, self.byte()?];
-        Ok(u32::from_be_bytes(bytes))
+        Ok(u32::from_be_bytes(self.array()?))
     }
 
     fn wide(&mut self) -> Result<u64> {
-        let high = u64::from(self.number()?);
-        let low = u64::from(self.number()?);
-        Ok(high << 32 | low)
+        Ok(u64::from_be_bytes(self.array()?))
     }
 
     /// The body of the next frame.
@@ -44,23 +46,40 @@ pub(crate) fn print_refusal(text: &mut Vec<u8>, number: u8) -> Result<()> {
     Ok(())
 }
 
-fn print_status(text: &mut Vec<u8>, body: &mut Bytes<'_>) -> Result<()> {
+/// Prints the first numbers of a status.
+fn print_lengths(text: &mut Vec<u8>, body: &mut Bytes<'_>) -> Result<()> {
     let question = body.number()?;
     let accepted = body.number()?;
     let opened = body.number()?;
     let length = body.number()?;
-    let bound = body.byte()?;
-    let total = body.number()?;
-    let delivered = body.number()?;
-    let cycles = body.wide()?;
-    let confirmed = body.wide()?;
     write!(
         text,
         "status {question} accepted {accepted} opened {opened} length {length}"
     )?;
+    Ok(())
+}
+
+/// Prints what a status says of the question's tasks.
+fn print_tasks(text: &mut Vec<u8>, body: &mut Bytes<'_>) -> Result<()> {
+    let bound = body.byte()?;
+    let total = body.number()?;
+    let delivered = body.number()?;
     write!(text, " bound {bound} total {total} delivered {delivered}")?;
+    Ok(())
+}
+
+/// Prints what a status says of the question's cycles.
+fn print_cycles(text: &mut Vec<u8>, body: &mut Bytes<'_>) -> Result<()> {
+    let cycles = body.wide()?;
+    let confirmed = body.wide()?;
     writeln!(text, " cycles {cycles} confirmed {confirmed}")?;
     Ok(())
+}
+
+fn print_status(text: &mut Vec<u8>, body: &mut Bytes<'_>) -> Result<()> {
+    print_lengths(text, body)?;
+    print_tasks(text, body)?;
+    print_cycles(text, body)
 }
 
 fn print_batched(text: &mut Vec<u8>, body: &mut Bytes<'_>) -> Result<()> {
@@ -74,39 +93,58 @@ fn print_batched(text: &mut Vec<u8>, body: &mut Bytes<'_>) -> Result<()> {
     Ok(())
 }
 
+fn print_placed(text: &mut Vec<u8>, body: &mut Bytes<'_>) -> Result<()> {
+    let place = body.number()?;
+    writeln!(text, "placed {place}")?;
+    Ok(())
+}
+
+fn print_opened(text: &mut Vec<u8>, body: &mut Bytes<'_>) -> Result<()> {
+    let question = body.number()?;
+    let length = body.number()?;
+    let total = body.number()?;
+    writeln!(text, "opened {question} length {length} total {total}")?;
+    Ok(())
+}
+
+fn print_pending(text: &mut Vec<u8>, body: &mut Bytes<'_>) -> Result<()> {
+    let question = body.number()?;
+    let delivered = body.number()?;
+    let total = body.number()?;
+    writeln!(
+        text,
+        "pending {question} delivered {delivered} total {total}"
+    )?;
+    Ok(())
+}
+
+/// Prints the report that comes after the number of its question.
+fn print_report(text: &mut Vec<u8>, body: &mut Bytes<'_>) -> Result<()> {
+    body.number()?;
+    text.extend_from_slice(body.0)?;
+    body.0 = &[];
+    Ok(())
+}
+
+/// Prints a reply of this kind.
+fn print_kind(text: &mut Vec<u8>, kind: u8, body: &mut Bytes<'_>) -> Result<()> {
+    match kind {
+        65 => print_placed(text, body),
+        66 => print_refusal(text, body.byte()?),
+        67 => print_opened(text, body),
+        68 => print_pending(text, body),
+        69 => print_report(text, body),
+        70 => print_status(text, body),
+        72 => print_batched(text, body),
+        _ => bail!("a reply of another kind"),
+    }
+}
+
 /// Prints the next reply.
 pub(crate) fn print_reply(text: &mut Vec<u8>, sent: &mut Bytes<'_>) -> Result<()> {
     let mut body = sent.body()?;
-    match body.byte()? {
-        65 => {
-            let place = body.number()?;
-            writeln!(text, "placed {place}")?;
-        }
-        66 => print_refusal(text, body.byte()?)?,
-        67 => {
-            let question = body.number()?;
-            let length = body.number()?;
-            let total = body.number()?;
-            writeln!(text, "opened {question} length {length} total {total}")?;
-        }
-        68 => {
-            let question = body.number()?;
-            let delivered = body.number()?;
-            let total = body.number()?;
-            writeln!(
-                text,
-                "pending {question} delivered {delivered} total {total}"
-            )?;
-        }
-        69 => {
-            body.number()?;
-            text.extend_from_slice(body.0)?;
-            body.0 = &[];
-        }
-        70 => print_status(text, &mut body)?,
-        72 => print_batched(text, &mut body)?,
-        _ => bail!("a reply of another kind"),
-    }
+    let kind = body.byte()?;
+    print_kind(text, kind, &mut body)?;
     if !body.0.is_empty() {
         bail!("a reply is too long");
     }

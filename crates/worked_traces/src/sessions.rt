@@ -70,21 +70,41 @@ fn finding_of(rt: &HostRuntime, about: [u32; 3], words: &[&[u8]]) -> Result<Find
     Ok(finding)
 }
 
+/// A piece of bytes: its session and its bytes.
+fn piece_in(alloc: Global, words: &[&[u8]]) -> Result<Input> {
+    let [session, bytes] = words else {
+        bail!("a piece has a session and bytes");
+    };
+    Ok(Input::Piece(session_of(session)?, bytes_of(alloc, bytes)?))
+}
+
+/// The end of a session.
+fn end_in(words: &[&[u8]]) -> Result<Input> {
+    let [session] = words else {
+        bail!("an end has a session");
+    };
+    Ok(Input::End(session_of(session)?))
+}
+
+/// A finding: its question, bound and task, and the events that it is about.
+fn finding_in(rt: &HostRuntime, words: &[&[u8]]) -> Result<Input> {
+    let [question, bound, task, events @ ..] = words else {
+        bail!("a finding has a question, a bound and a task");
+    };
+    let mut about = [0u32; 3];
+    about[0] = number(question).context("a question")?;
+    about[1] = number(bound).context("a bound")?;
+    about[2] = number(task).context("a task")?;
+    Ok(Input::Finding(finding_of(rt, about, events)?))
+}
+
 /// What a line of these words brings.
 fn input_of(rt: &HostRuntime, words: &[&[u8]]) -> Result<Input> {
     let (keyword, rest) = words.split_first().context("a word")?;
-    match (str::from_utf8(keyword).ok(), rest) {
-        (Some("piece"), [session, bytes]) => {
-            Ok(Input::Piece(session_of(session)?, bytes_of(rt.alloc(), bytes)?))
-        }
-        (Some("end"), [session]) => Ok(Input::End(session_of(session)?)),
-        (Some("finding"), [question, bound, task, events @ ..]) => {
-            let mut about = [0u32; 3];
-            about[0] = number(question).context("a question")?;
-            about[1] = number(bound).context("a bound")?;
-            about[2] = number(task).context("a task")?;
-            Ok(Input::Finding(finding_of(rt, about, events)?))
-        }
+    match str::from_utf8(keyword).ok() {
+        Some("piece") => piece_in(rt.alloc(), rest),
+        Some("end") => end_in(rest),
+        Some("finding") => finding_in(rt, rest),
         _ => bail!("a line of a session is not understood"),
     }
 }
