@@ -7,7 +7,7 @@ use Rattle.std.proofs.lemmas.List.Kept.{IsStrictlyIncreasing-filter}
 use Rattle.std.proofs.lemmas.Option.{none-some, same_Some}
 use Rattle.std.specs.List.{filter, Contains}
 use Rattle.std.specs.List.Sorted.{IsStrictlyIncreasing}
-use Rattle.numbered.specs.Notes.{places_in, notes_below}
+use Rattle.segments.specs.Notes.{places_in, notes_below}
 use Rattle.trace_model.specs.Theory.Dependencies.{Dependency}
 use Rattle.trace_model.proofs.Theory.Ascending.{place_of, contains_at}
 use Rattle.dependencies.specs.Tables.{placed, AreRows, IsTotal, IsPart}

@@ -12,7 +12,7 @@ use Rattle.std.specs.Cmp.{IsEquivalence}
 use Rattle.std.specs.Map.{keys_of, lookup}
 use Rattle.indexmap.specs.IndexMap.{IndexMap, insert_entry}
 use Rattle.indexmap.proofs.CallerLemmas.{insert_entry-new}
-use Rattle.numbered.specs.Notes.{places_in, Ascend}
+use Rattle.segments.specs.Notes.{places_in, Ascend}
 use Rattle.trace_model.specs.Theory.Dependencies.{Dependency, same_dependency}
 use Rattle.trace_model.proofs.Theory.Dependencies.{same_dependency_so, same_dependency_itself}
 use Rattle.trace_model.proofs.Lists.{length-push, same_bool, take_next}

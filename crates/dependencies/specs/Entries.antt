@@ -1,6 +1,6 @@
 -- Dependencies and their places, both by number, and the room for one more place.
 use Rattle.std.specs.Prelude.{◌≡◌, ℕ, suc, ◌≤◌, ◌&&◌, List, [], ◌∷◌, length}
-use Rattle.numbered.specs.Notes.{places_in, Ascend}
+use Rattle.segments.specs.Notes.{places_in, Ascend}
 use Rattle.trace_model.specs.Theory.Dependencies.{Dependency}
 use Rattle.dependencies.specs.declared.entries.Entries.{Entries}
 use Rattle.dependencies.specs.Tables.{Rows, Table}

@@ -7,7 +7,7 @@ ghost use Rattle.dependencies.specs.Entries.{rows_of, shown_by, IsKept};
 
 use crate::Dependency;
 use crate::keys::Keys;
-use numbered::{NumberedPlaces, PlacesOf};
+use segments::{NumberedPlaces, PlacesOf};
 use std::alloc::Global;
 use std::collections::hash_map::RandomState;
 use trace_model::{NoMemory, Place};

@@ -5,7 +5,7 @@ ghost use Rattle.dependencies.specs.Tables.{known, places_of, AllBelow, IsNoted,
 
 use crate::Dependency;
 use crate::entries::Entries;
-use numbered::PlacesOf;
+use segments::PlacesOf;
 use std::alloc::Global;
 use std::collections::hash_map::RandomState;
 use std::marker::Model;

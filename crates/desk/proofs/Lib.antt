@@ -1,3 +1,4 @@
 pub mod Known
 pub mod Steps
 pub mod Together
+pub mod Told

@@ -4,3 +4,4 @@ pub mod Questions
 pub mod Refused
 pub mod Deliveries
 pub mod Together
+pub mod Clients

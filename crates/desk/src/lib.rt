@@ -4,11 +4,13 @@
 //! it, and the board shows its summary. Whoever was answered holds a receipt that says so.
 #![tactic(auto)]
 
+mod client;
 mod desk;
 mod locked;
 mod own;
 mod worker;
 
+pub use client::Client;
 pub use desk::Desk;
 pub use locked::{DeskRefused, Locked};
 pub use worker::{Failed, Turn, Worker};

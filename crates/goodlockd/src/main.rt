@@ -2,15 +2,13 @@
 #![tactic(auto)]
 
 ghost use Rattle.std.specs.Prelude.{◌≤◌};
-ghost use Rattle.command_line.specs.CommandLine.{IsLimit, IsWithin};
+ghost use Rattle.command_line.specs.CommandLine.{IsInRange, IsLimit, IsWithin};
 
-mod progress;
-
+use clap::Error;
 use clap::error::ErrorKind;
 use command_line::{Invocation, parse};
-use commands::{Files, Names, Status, run_offline, run_replay, run_script};
-use progress::ProgressLine;
-use server::{ServerFault, Service, Unheld, run_server};
+use commands::{Files, Names, ProgressLine, Status, run_offline, run_replay, run_script};
+use question_server::{ServerFault, Service, Unheld, run_server};
 use std::alloc::AllocError;
 use std::hash::RandomState;
 use std::io::{BufWriter, IsTerminal};
@@ -139,29 +137,21 @@ fn serve_at<T: Threads + Wait + Clock + Copy + Send + Sync>(
     }
 }
 
-/// Does what the command line asks for.
-fn run<T: Threads + Wait + Clock + Copy + Send + Sync>(
+/// Does what is asked for.
+fn carry_out<T: Threads + Wait + Clock + Copy + Send + Sync>(
     rt: &HostRuntime,
     threads: T,
-) -> io::Result<Status> {
-    let alloc = rt.alloc();
-    let mut arguments = Vec::new(alloc);
-    for argument in env::args(rt)? {
-        arguments.push(argument)?;
-    }
-    let mut words = Vec::new(alloc);
-    for argument in &arguments {
-        words.push(argument.as_str())?;
-    }
-    match parse(alloc, &words) {
-        Ok(
-            Invocation::Serve {
-                address,
-                workers,
-                sessions,
-                limit,
-            },
-        ) => {
+    invocation: Invocation,
+) -> io::Result<Status>
+    requires { IsInRange invocation }
+{
+    match invocation {
+        Invocation::Serve {
+            address,
+            workers,
+            sessions,
+            limit,
+        } => {
             let service = Service {
                 workers,
                 sessions,
@@ -169,18 +159,47 @@ fn run<T: Threads + Wait + Clock + Copy + Send + Sync>(
             };
             serve_at(rt, threads, address, service)
         }
-        Ok(Invocation::Script { file, limit }) => script_file(rt, file, limit),
-        Ok(Invocation::Offline { file, bound }) => offline_file(rt, &threads, file, bound),
-        Ok(Invocation::Replay { trace, witness }) => replay_files(rt, trace, witness),
-        Err(refused) if refused.kind() == ErrorKind::OutOfMemory => Err(AllocError.into()),
-        Err(refused) => {
-            refused.print(rt)?;
-            Ok(if refused.use_stderr() {
-                Status::NotUnderstood
-            } else {
-                Status::Done
-            })
-        }
+        Invocation::Script { file, limit } => script_file(rt, file, limit),
+        Invocation::Offline { file, bound } => offline_file(rt, &threads, file, bound),
+        Invocation::Replay { trace, witness } => replay_files(rt, trace, witness),
+    }
+}
+
+/// Tells why the command line asks for nothing, or the help that it asks for.
+fn tell(rt: &HostRuntime, refused: Error) -> io::Result<Status> {
+    if refused.kind() == ErrorKind::OutOfMemory {
+        return Err(AllocError.into());
+    }
+    refused.print(rt)?;
+    Ok(if refused.use_stderr() {
+        Status::NotUnderstood
+    } else {
+        Status::Done
+    })
+}
+
+/// The words of the command line.
+fn arguments(rt: &HostRuntime) -> io::Result<Vec<String>> {
+    let mut arguments = Vec::new(rt.alloc());
+    for argument in env::args(rt)? {
+        arguments.push(argument)?;
+    }
+    Ok(arguments)
+}
+
+/// Does what the command line asks for.
+fn run<T: Threads + Wait + Clock + Copy + Send + Sync>(
+    rt: &HostRuntime,
+    threads: T,
+) -> io::Result<Status> {
+    let arguments = arguments(rt)?;
+    let mut words = Vec::new(rt.alloc());
+    for argument in &arguments {
+        words.push(argument.as_str())?;
+    }
+    match parse(rt.alloc(), &words) {
+        Ok(invocation) => carry_out(rt, threads, invocation),
+        Err(refused) => tell(rt, refused),
     }
 }
 

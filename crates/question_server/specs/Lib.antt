@@ -1,4 +1,1 @@
-pub mod Serving
-pub mod Pending
-pub mod Books
-pub mod Clients
+pub mod Service

@@ -1,18 +1,12 @@
-//! Sessions over a source and a sink of bytes.
+//! The server: sessions over sockets and workers, each in a thread of its own, over one desk.
 #![tactic(auto)]
 
-mod books;
-mod client;
-mod counting;
-mod ends;
-mod memory;
-mod sessions;
-mod streams;
+mod connections;
+mod rest;
+mod seats;
+mod service;
+mod serving;
+mod workers;
 
-pub use books::serve_book;
-pub use client::Client;
-pub use counting::count_failure;
-pub use ends::{Calls, Failed, Sink, Source};
-pub use memory::{MemorySink, MemorySource};
-pub use sessions::{Ended, ServeFault, serve};
-pub use streams::{ReadSource, WriteSink};
+pub use service::{ServerFault, Service, Unheld};
+pub use serving::run_server;

@@ -14,7 +14,7 @@ ghost use Rattle.sequencer.specs.Book.{IsLimit, RefusesOffer, fresh};
 ghost use Rattle.sequencer.specs.Printing.{printing};
 
 use crate::asked::Asked;
-use recorder::Recorder;
+use crate::recorder::Recorder;
 use std::alloc::Global;
 use std::hash::RandomState;
 use std::marker::Model;

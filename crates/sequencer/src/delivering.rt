@@ -8,8 +8,8 @@ ghost use Rattle.findings.specs.Found.{AreRowsOf};
 ghost use Rattle.sequencer.specs.Book.{AreKnown, finding_refused, findings_rows, outcome};
 
 use crate::book::Book;
+use crate::recorder::Recorder;
 use findings::{Finding, Snapshot};
-use recorder::Recorder;
 use trace_model::{Place, Refusal};
 
 impl Book {

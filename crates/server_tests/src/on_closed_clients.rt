@@ -2,7 +2,7 @@
 
 use crate::on_server::{Peers, asked, serves};
 use fixtures::frame;
-use server::Unheld;
+use question_server::Unheld;
 use std::alloc::Global;
 use std::hash::RandomState;
 use std::io::{self, Write};

@@ -6,7 +6,7 @@ use findings::Hold;
 use fixtures::{
     ANSWER, LIMIT, Meeting, OPENED, REPORT, REPORT_HEAD, SETTLED, STATUS, placed, question_frames,
 };
-use server::{Service, Unheld, run_server};
+use question_server::{Service, Unheld, run_server};
 use std::alloc::Global;
 use std::hash::RandomState;
 use std::io::{self, Read, Write};

@@ -4,10 +4,10 @@ ghost use Rattle.std.specs.Prelude.{◌≡◌};
 
 use crate::on_sessions::{questions, replies};
 use board::{BoardReader, Naming, Opened, Shown};
-use desk::{Desk, Turn, Worker};
+use desk::{Client, Desk, Turn, Worker};
 use desk_fixtures::{Free, new_desk, workers_at};
 use fixtures::{ANSWER, LIMIT, REPORT, REPORT_HEAD, SETTLED, STATUS};
-use question_server::{Client, Ended, MemorySink, MemorySource, serve};
+use sessions::{Ended, MemorySink, MemorySource, serve};
 use std::alloc::{AllocError, Global};
 use std::hash::RandomState;
 use std::marker::Brand;

@@ -3,7 +3,7 @@
 use crate::one_byte::{OneByteSink, OneByteSource};
 use crate::served::{Session, serve_anew};
 use fixtures::{ANSWER, OPENED, frame, placed, question_frames};
-use question_server::{Ended, MemorySink, MemorySource, ReadSource, ServeFault, WriteSink};
+use sessions::{Ended, MemorySink, MemorySource, ReadSource, ServeFault, WriteSink};
 use std::alloc::{AllocError, Global};
 use std::io;
 use std::io::{Read, Write};

@@ -2,7 +2,7 @@
 ghost use Rattle.std.specs.Prelude.{◌≡◌, ◌≤◌, [], drop, Some, vec_len};
 ghost use Rattle.std.proofs.lemmas.List.{append-nil};
 
-use question_server::{Failed, Sink, Source, count_failure};
+use sessions::{Failed, Sink, Source, count_failure};
 use std::alloc::Global;
 use std::sync::Wait;
 

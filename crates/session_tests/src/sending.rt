@@ -2,7 +2,7 @@
 
 use crate::served::serve_anew;
 use fixtures::frame;
-use question_server::{Ended, ReadSource, WriteSink};
+use sessions::{Ended, ReadSource, WriteSink};
 use std::alloc::Global;
 use std::io;
 use std::io::{Read, Write};

@@ -1,8 +1,8 @@
 //! A session over a book of its own.
 
 use fixtures::LIMIT;
-use question_server::{Ended, ServeFault, Sink, Source, serve_book};
 use sequencer::Book;
+use sessions::{Ended, ServeFault, Sink, Source, serve_book};
 use std::hash::RandomState;
 use std::random::RandomSource;
 use std::sync::Wait;

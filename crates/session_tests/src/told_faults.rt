@@ -3,7 +3,7 @@ ghost use Rattle.std.specs.Prelude.{None};
 
 use crate::served::{Session, serve_anew};
 use fixtures::frame;
-use question_server::{Ended, Failed, MemorySink, MemorySource, Source, count_failure};
+use sessions::{Ended, Failed, MemorySink, MemorySource, Source, count_failure};
 use std::alloc::Global;
 use std::random::RandomSource;
 use std::sync::Wait;

@@ -11,8 +11,8 @@ use Rattle.std.specs.List.{Contains}
 use Rattle.trace_model.specs.Theory.Lawful.{IsWellFormed}
 use Rattle.trace_model.specs.Theory.Closure.{Places, IsClosure}
 use Rattle.trace_model.proofs.Theory.Stability.{closure_below}
-use Rattle.links.specs.Links.{count_below}
-use Rattle.links.proofs.Counting.{count-agree}
+use Rattle.segments.specs.Linking.{count_below}
+use Rattle.segments.proofs.Counting.{count-agree}
 use Rattle.trace_index.specs.Numbers.{of_thread, number_at}
 use Rattle.sp_closure.specs.declared.demands.Goal.{Goal}
 use Rattle.sp_closure.specs.declared.demands.Item.{Item}

@@ -7,8 +7,8 @@ use Rattle.std.specs.List.{Contains}
 use Rattle.trace_model.specs.Theory.Trace.{Trace}
 use Rattle.trace_model.specs.Theory.Lawful.{IsWellFormed}
 use Rattle.trace_model.specs.Theory.Closure.{Places, IsClosure, ascending}
-use Rattle.links.specs.Links.{count_below}
-use Rattle.links.proofs.Counting.{length_ascending, count-agree}
+use Rattle.segments.specs.Linking.{count_below}
+use Rattle.segments.proofs.Counting.{length_ascending, count-agree}
 use Rattle.trace_index.specs.Numbers.{of_thread}
 use Rattle.sp_closure.specs.declared.classes.Classes.{Classes}
 use Rattle.sp_closure.specs.declared.fronts.Fronts.{Fronts}

@@ -6,8 +6,8 @@ use Rattle.trace_model.specs.Theory.Trace.{Trace, event, OfThread}
 use Rattle.trace_model.specs.Theory.Closure.{Places, ascending}
 use Rattle.trace_model.proofs.Lists.{get-push}
 use Rattle.trace_model.proofs.Theory.Ascending.{ascending_so}
-use Rattle.links.specs.Links.{count_below}
-use Rattle.links.proofs.Counting.{length_ascending}
+use Rattle.segments.specs.Linking.{count_below}
+use Rattle.segments.proofs.Counting.{length_ascending}
 use Rattle.trace_index.specs.Numbers.{of_thread, earlier_events}
 use Rattle.sp_closure.specs.Threads.{IsNumbered, IsLastOf}
 use Rattle.sp_closure.proofs.Counts.{count_lt}

@@ -23,7 +23,7 @@ use Rattle.trace_index.specs.declared.row.Row.{Row}
 use Rattle.trace_index.specs.Depths.{depth_in, op_depth, event_depth, IsShallow, depth_noted, AreDeep, AreDepths}
 use Rattle.trace_index.specs.Links.{trace_of}
 use Rattle.trace_index.proofs.Chains.{length_trace, trace_push, trace_take}
-use Rattle.links.proofs.Lists.{take_one_more}
+use Rattle.segments.proofs.Lists.{take_one_more}
 
 -- ---- by owners and by threads
 

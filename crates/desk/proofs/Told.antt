@@ -1,0 +1,66 @@
+-- What a client reads off the board, and is told by the desk.
+use Rattle.std.proofs.Common.{◌≡◌, ℕ, zero, suc, List, ◌++◌, take, inl, refl, sym, ap, subst, ◌∙◌, arith}
+use Rattle.std.proofs.lemmas.List.{append-nil}
+use mathlib.Core.List.{IsPrefix}
+use Rattle.trace_model.specs.declared.traces.event.Event.{Event}
+use Rattle.trace_model.specs.declared.limits.TheConstants.{MAX_EVENTS}
+use Rattle.trace_model.specs.declared.messages.session.Reply.{Reply}
+use Rattle.trace_model.specs.declared.messages.session.Reply.TheVariants as replies
+use Rattle.trace_model.specs.declared.messages.session.Request.TheVariants.{Batch}
+use Rattle.trace_model.specs.declared.messages.step.BoardStep.{BoardStep}
+use Rattle.trace_model.specs.Protocol.Batches.{IsBatch}
+use Rattle.trace_model.specs.Protocol.Machine.{State}
+use Rattle.trace_model.specs.Theory.Trace.{Trace}
+use Rattle.trace_model.specs.Theory.Rows.{AreRows}
+use Rattle.trace_model.specs.Protocol.Runs as runs
+use Rattle.trace_model.specs.Protocol.Runs.{IsLegal, summary, shown_status}
+use Rattle.trace_model.proofs.Protocol.Summary.{summary_is_state}
+use Rattle.trace_model.proofs.Protocol.Taking.{status_shown}
+use Rattle.board.specs.Totals.{ShowsCounts, Shows}
+use Rattle.board.specs.declared.summary.Summary.{Summary}
+use Rattle.sequencer.specs.declared.batching.Batched.{Batched}
+use Rattle.sequencer.specs.Called.{StepsOrMemory}
+use Rattle.sequencer.proofs.Called.{batch_steps}
+use Rattle.desk.specs.Batches.{EndsByBatch, accepting}
+use Rattle.desk.specs.Published.{After}
+use Rattle.desk.proofs.Steps.{accepting_some}
+use Rattle.desk.specs.Clients.{IsStatus, IsTold, RepliesAfter}
+
+-- the status that is shown is the machine's
+pub told_status : (s : Summary) (question : ℕ) (reply : Reply) (old new : List BoardStep) → IsLegal new → Shows s new → ((counts : runs.Summary) → ShowsCounts s counts → reply ≡ shown_status counts question) → IsStatus old question reply new
+told_status s question reply old new legal shows is =
+    inl (legal.0, legal.1, is (summary new) shows ∙ status_shown (summary new) legal.0 question (summary_is_state AreRows MAX_EVENTS new legal.0 legal.1))
+
+-- what became of a batch is told by a run that ends with the step of its events, or that it left as
+-- it was
+pub told_batch : (limit : ℕ) (run seen : List BoardStep) (events : List Event) (b : Batched) → IsBatch events → IsPrefix run seen → EndsByBatch limit run events b →
+    IsTold limit (Batch events) (replies.Batched b.accepted b.refusal b.length) seen
+told_batch limit run seen events b some learnt h = record {
+  run = run;
+  learnt = learnt;
+  replies = by b.accepted refl;
+}
+  where
+    reply : ℕ → Reply
+    reply n = replies.Batched n b.refusal b.length
+
+    steps : StepsOrMemory h.state (Batch events) (reply b.accepted) h.next
+    steps = batch_steps h.state h.next events b h.went
+
+    by : (n : ℕ) → b.accepted ≡ n → RepliesAfter limit (Batch events) (reply n) run
+    by zero none =
+        let same : h.next ≡ h.state = h.went.appended ∙ (ap (λ n. record h.state { accepted = h.state.accepted ++ take n events }) none ∙ ap (λ (a : Trace). record h.state { accepted = a }) (append-nil h.state.accepted)) in
+        let whole : run ≡ h.before = h.ends ∙ (ap (λ n. h.before ++ accepting (take n events)) none ∙ append-nil h.before) in (
+          h.state,
+          subst (λ (r : List BoardStep). After limit r h.state) (sym whole) h.was,
+          subst (λ (s : State). StepsOrMemory h.state (Batch events) (reply 0) s) same (subst (λ n. StepsOrMemory h.state (Batch events) (reply n) h.next) none steps),
+        )
+    by (suc n) is = record {
+      before = h.before;
+      state = h.state;
+      next = h.next;
+      ends = h.ends ∙ (ap (λ k. h.before ++ accepting (take k events)) is ∙ ap (λ xs. h.before ++ xs) (accepting_some events (suc n) (omega arith) some.0));
+      was = h.was;
+      is = h.is;
+      took = subst (λ k. StepsOrMemory h.state (Batch events) (reply k) h.next) is steps;
+    }

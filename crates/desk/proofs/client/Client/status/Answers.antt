@@ -1,0 +1,12 @@
+use Rattle.std.proofs.Common.{inr, ◌∙◌}
+use Rattle.desk.proofs.Told.{told_status}
+use Rattle.desk.proofs.client.Client.status.Goals as goal
+use Rattle.desk.proofs.client.Client.status.Goals.{in-Ok, in-Err}
+
+pub returns-clause-shown : goal.returns-clause-shown
+returns-clause-shown g c =
+    elim c.match-status.branch [
+      | in-Ok w ↦
+          told_status w.in-Ok.summary c.args.question c.match-status.result c.args.self.now c.status.new.self w.in-Ok.ensures.legal w.in-Ok.ensures.summary (λ counts s. w.result-is ∙ w.status_in.ensures.shown counts s)
+      | in-Err w ↦ inr (w.result-is, w.in-Err.ensures.busy ∙ c.self.view_is)
+    ]

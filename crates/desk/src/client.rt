@@ -1,0 +1,163 @@
+//! A desk as a session has it.
+ghost use Rattle.std.specs.Prelude.{◌≡◌};
+ghost use mathlib.Core.List.{IsPrefix};
+ghost use Rattle.trace_model.specs.Protocol.Batches.{IsBatch};
+ghost use Rattle.trace_model.specs.Protocol.Replies.{IsReply};
+ghost use Rattle.trace_model.specs.Protocol.Runs as runs;
+ghost use Rattle.trace_model.specs.Protocol.Runs.{shown_status};
+ghost use Rattle.trace_model.specs.declared.messages.session.Request.TheVariants as requests;
+ghost use Rattle.board.specs.Totals.{ShowsCounts};
+ghost use Rattle.desk.specs.Clients.{IsTold, IsStatus, StepsAtDesk};
+
+use crate::desk::Desk;
+use board::{BoardReader, Busy, Follows, Naming, Receipt, Summary};
+use sequencer::Calls;
+use std::marker::Model;
+use std::sync::{Arc, Wait};
+use trace_model::{Event, QuestionStatus, Refusal, Reply, Request};
+
+/// A desk with a reader of its board, which learns the receipt of each of the client's calls: so
+/// its status, which is read from the board, holds every step that its session was answered.
+/// Contracts see it as the steps that its reader has seen.
+pub struct Client<N: Naming, R: Wait + Copy, T: Follows<N>> {
+    desk: Arc<Desk<N, R, T>>,
+    reader: BoardReader<N>,
+}
+
+impl<N: Naming, R: Wait + Copy, T: Follows<N>> Drop for Client<N, R, T> {
+    fn drop(self) {
+        let Client { desk: _, reader: _ } = self;
+    }
+}
+
+impl<N: Naming, R: Wait + Copy, T: Follows<N>> Model for Client<N, R, T> {
+    ghost use Rattle.std.specs.Prelude.{List};
+    ghost use Rattle.trace_model.specs.declared.messages.step.BoardStep.{BoardStep};
+
+    ghost Value = { List BoardStep };
+
+    ghost view = { λ c. c.reader };
+}
+
+impl<N: Naming, R: Wait + Copy, T: Follows<N>> Client<N, R, T> {
+    /// A client of the desk, which must be the reader's.
+    pub fn new(desk: Arc<Desk<N, R, T>>, reader: BoardReader<N>) -> Client<N, R, T>
+        ensures { result ≡ reader }
+    {
+        Client { desk, reader }
+    }
+
+    /// The reader, for a later session. It takes no memory.
+    pub fn into_reader(self) -> BoardReader<N>
+        ensures { result ≡ self }
+    {
+        let Client { desk: _, reader } = self;
+        reader
+    }
+
+    /// The desk's answer, whose receipt is learnt.
+    fn learn<A: Drop>(&mut self, told: (A, Receipt<N>)) -> A
+        ensures answer { result ≡ told.0 }
+        ensures later { IsPrefix self.old self.new }
+        ensures seen { IsPrefix told.1 self.new }
+    {
+        let (answer, receipt) = told;
+        self.reader.learn(&receipt);
+        answer
+    }
+
+    fn offer(&mut self, event: Event) -> Reply
+        ensures told { IsTold N.limit (requests.Offer event) result self.new }
+        ensures later { IsPrefix self.old self.new }
+        ensures fits { IsReply result }
+    {
+        let told = self.desk.offer(event);
+        match self.learn(told) {
+            Ok(place) => Reply::Placed(place),
+            Err(refusal) => Reply::Refused(refusal),
+        }
+    }
+
+    fn offer_batch(&mut self, events: &[Event]) -> Reply
+        requires { IsBatch events.now }
+        ensures told { IsTold N.limit (requests.Batch events.now) result self.new }
+        ensures later { IsPrefix self.old self.new }
+        ensures fits { IsReply result }
+    {
+        let told = self.desk.offer_batch(events);
+        self.learn(told).reply()
+    }
+
+    fn ask(&mut self, bound: u8) -> Reply
+        ensures told { IsTold N.limit (requests.Ask bound) result self.new }
+        ensures later { IsPrefix self.old self.new }
+        ensures fits { IsReply result }
+    {
+        let told = self.desk.ask(bound);
+        match self.learn(told) {
+            Ok(opened) => opened.reply(),
+            Err(refused) => Reply::Refused(refused.refusal()),
+        }
+    }
+
+    fn answer(&mut self, question: u32) -> Reply
+        ensures told { IsTold N.limit (requests.Answer question) result self.new }
+        ensures later { IsPrefix self.old self.new }
+        ensures fits { IsReply result }
+    {
+        let told = self.desk.answer(question);
+        match self.learn(told) {
+            Ok(told) => told.reply(question),
+            Err(refused) => Reply::Refused(refused.refusal()),
+        }
+    }
+
+    fn status(&mut self, question: u32) -> Reply
+        ensures shown { IsStatus self.old question result self.new }
+        ensures later { IsPrefix self.old self.new }
+        ensures fits { IsReply result }
+    {
+        match self.reader.status() {
+            Ok(summary) => status_in(&summary, question),
+            Err(Busy) => Reply::Refused(Refusal::BoardBusy),
+        }
+    }
+}
+
+/// What a summary shows of the question with this number.
+fn status_in(summary: &Summary, question: u32) -> Reply
+    ensures shown { (counts : runs.Summary) → ShowsCounts summary.now counts →
+        result ≡ shown_status counts question }
+    ensures fits { IsReply result }
+{
+    match summary.question(question) {
+        Some(asked) => Reply::Status(QuestionStatus {
+            question,
+            accepted: summary.accepted,
+            opened: summary.opened,
+            length: asked.length,
+            bound: asked.bound,
+            total: asked.total,
+            delivered: asked.delivered,
+            cycles: asked.cycles,
+            confirmed: asked.confirmed,
+        }),
+        None => Reply::Refused(Refusal::NoSuchQuestion),
+    }
+}
+
+/// The desk answers offers, asks and answers; a status is read from the board, and is `BoardBusy`
+/// where that gives no entry.
+impl<N: Naming, R: Wait + Copy, T: Follows<N>> Calls for Client<N, R, T> {
+    ghost steps = { λ old request reply new. StepsAtDesk N.limit old request reply new };
+
+    fn call(&mut self, request: Request) -> Reply {
+        match request {
+            Request::Offer(event) => self.offer(event),
+            Request::Ask(bound) => self.ask(bound),
+            Request::Answer(question) => self.answer(question),
+            Request::Status(question) => self.status(question),
+            Request::Batch(batch) => self.offer_batch(batch.events()),
+        }
+    }
+}

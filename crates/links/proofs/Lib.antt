@@ -1,3 +1,0 @@
-pub mod Counting
-pub mod Links
-pub mod Lists

@@ -1,8 +1,0 @@
-use Rattle.std.proofs.Common.{◌≡◌, ◌≤◌, true}
-use Rattle.links.proofs.next.further.Given as goal
-
-abbrev pub invariant-loop : goal.invariant-loop
-invariant-loop g l = record {
-  within : l.jump ≤ l.fn.index;
-  passes_is : g.L.Linked.passes l.list l.jump ≡ true;
-}

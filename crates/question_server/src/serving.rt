@@ -1,0 +1,179 @@
+//! The server: sessions over TCP and workers, each in a thread of its own, over one desk.
+ghost use Rattle.std.specs.Prelude.{◌≡◌};
+ghost use Rattle.sequencer.specs.Book.{IsLimit};
+ghost use Rattle.question_server.specs.Service.{IsWorkers};
+
+use crate::connections::hold_session;
+use crate::seats::{MAX_SEATS, Seats};
+use crate::service::{ServerFault, Service};
+use crate::workers::{make_workers, work};
+use board::{Naming, Opened, Shown};
+use desk::{Desk, Worker};
+use findings::Hold;
+use std::alloc::Global;
+use std::hash::RandomState;
+use std::marker::Brand;
+use std::net::TcpListener;
+use std::sync::atomic::{AtomicU64, Ordering};
+use std::sync::{Arc, Mutex, Wait};
+use std::thread;
+use std::thread::Threads;
+use std::time::Clock;
+
+/// The desk for a session that takes a seat, if one is free and the desk can be shared once more.
+fn take_seat<N: Naming, R: Wait + Copy>(
+    rt: &R,
+    desk: &Arc<Desk<N, R, Shown<N>>>,
+    seats: &Mutex<Seats<N>>,
+) -> Option<Arc<Desk<N, R, Shown<N>>>> {
+    if !seats.lock(rt).take() {
+        return None;
+    }
+    match Arc::try_clone(desk) {
+        Ok(shared) => Some(shared),
+        Err(_) => {
+            seats.lock(rt).leave();
+            None
+        }
+    }
+}
+
+/// Takes sessions, each in a thread of its own, up to so many, and answers how many they were once
+/// they have ended. A connection for which there is no seat or no thread is closed and not counted.
+fn take_sessions<N: Naming + Send + Sync, R: Threads + Wait + Copy + Send + Sync>(
+    rt: R,
+    alloc: Global,
+    listener: &TcpListener,
+    most: u64,
+    desk: &Arc<Desk<N, R, Shown<N>>>,
+    seats: &Mutex<Seats<N>>,
+) -> Result<u64, ServerFault> {
+    thread::scope(thread::scope_env(), &rt, |scope| {
+        let mut taken = 0u64;
+        for stream in listener.incoming() {
+            let Ok(stream) = stream else {
+                return Err(ServerFault::Listen);
+            };
+            let Some(shared) = take_seat(&rt, desk, seats) else {
+                continue;
+            };
+            if scope
+                .spawn(move || hold_session(rt, alloc, shared, seats, stream))
+                .is_err()
+            {
+                seats.lock(&rt).leave();
+                continue;
+            }
+            taken = taken.saturating_add(1);
+            if taken == most {
+                return Ok(taken);
+            }
+        }
+        Ok(taken)
+    })
+}
+
+/// Runs the workers and takes sessions, and stops the workers once the sessions have ended.
+fn serve_desk<
+    N: Naming + Send + Sync,
+    R: Threads + Wait + Clock + Copy + Send + Sync,
+    H: Hold + Sync,
+>(
+    rt: R,
+    alloc: Global,
+    listener: &TcpListener,
+    most: u64,
+    desk: &Arc<Desk<N, R, Shown<N>>>,
+    workers: Vec<Worker<N, R, Shown<N>>>,
+    seats: &Mutex<Seats<N>>,
+    hold: &H,
+) -> Result<u64, ServerFault> {
+    let stop = AtomicU64::new(0);
+    let flag = &stop;
+    thread::scope(thread::scope_env(), &rt, |scope| {
+        for worker in workers {
+            if scope.spawn(move || work(rt, worker, flag, hold)).is_err() {
+                flag.store(1, Ordering::SeqCst);
+                return Err(ServerFault::NotMade);
+            }
+        }
+        let served = take_sessions(rt, alloc, listener, most, desk, seats);
+        flag.store(1, Ordering::SeqCst);
+        served
+    })
+}
+
+/// Makes the desk of this history, and serves it.
+fn serve_named<
+    N: Naming + Send + Sync,
+    R: Threads + Wait + Clock + Copy + Send + Sync,
+    H: Hold + Sync,
+>(
+    rt: R,
+    alloc: Global,
+    state: RandomState,
+    opened: Opened,
+    listener: &TcpListener,
+    service: Service,
+    hold: &H,
+) -> Result<u64, ServerFault>
+    requires book { opened.seen.book ≡ N.book }
+    requires limit { service.limit ≡ N.limit }
+    requires workers { IsWorkers service.workers }
+{
+    let count = MAX_SEATS + service.workers as usize;
+    let Ok((desk, mut readers)) = Desk::<N, R, Shown<N>>::new(
+        alloc,
+        state,
+        rt,
+        opened,
+        service.limit,
+        count,
+    ) else {
+        return Err(ServerFault::NotMade);
+    };
+    let Ok(desk) = Arc::new(alloc, desk) else {
+        drop(readers);
+        return Err(ServerFault::NotMade);
+    };
+    let served = match make_workers(alloc, &desk, &mut readers, service.workers) {
+        Ok(workers) => {
+            let seats = Mutex::new(Seats::new(readers));
+            let most = u64::from(service.sessions);
+            let served = serve_desk(rt, alloc, listener, most, &desk, workers, &seats, hold);
+            drop(seats);
+            served
+        }
+        Err(fault) => {
+            drop(readers);
+            Err(fault)
+        }
+    };
+    drop(desk);
+    served
+}
+
+/// Serves the connections of the listener over one desk with its workers: a thread for each
+/// session, at most `MAX_SEATS` at a time, and one for each worker. A further connection, or one
+/// for which no thread can be made, is closed without a reply and not counted. Once `sessions` were
+/// taken it accepts nothing more; once they have ended it stops the workers, and answers how many
+/// sessions there were. A worker that found nothing to do for some turns sleeps from then on, and
+/// looks for a question every two milliseconds.
+///
+/// # Errors
+///
+/// `Listen` where an accept failed, once the open sessions have ended; `NotMade` where the desk,
+/// the claimants or the threads of the workers were not made.
+pub fn run_server<R: Threads + Wait + Clock + Copy + Send + Sync, H: Hold + Sync>(
+    rt: R,
+    alloc: Global,
+    state: RandomState,
+    listener: &TcpListener,
+    service: Service,
+    hold: &H,
+) -> Result<u64, ServerFault>
+    requires limit { IsLimit service.limit }
+    requires workers { IsWorkers service.workers }
+{
+    serve_named::<Brand, R, H>(rt, alloc, state, Opened::new(), listener, service, hold)
+}

@@ -1,0 +1,52 @@
+//! The link of an entry that comes next.
+
+ghost use Rattle.std.specs.Prelude.{◌≡◌, ◌<◌, ◌≤◌, true};
+ghost use Rattle.trace_model.specs.Theory.Trace.{last_place};
+ghost use Rattle.segments.specs.Linking.{IsLink};
+
+use crate::MaybeIndex;
+use crate::links::link::{Link, Linked};
+
+/// The entry to which the next one that passes jumps, where `number` pass before that one, of which
+/// `index` is the last: it goes back to the number without its last binary one, so a way of jumps
+/// has few steps.
+fn further<L: Linked>(list: &L, index: u32, link: Link, number: u32) -> u32
+    requires within { index < L.size list.now }
+    requires passing { L.passes list.now index ≡ true }
+    requires link { IsLink (L.passes list.now) index link }
+    ensures within { result ≤ index }
+    ensures passes { L.passes list.now result ≡ true }
+{
+    let rounds = number.trailing_zeros();
+    if rounds == 0 {
+        return index;
+    }
+    let mut jump = link.jump;
+    for _ in 1..rounds {
+        jump = list.link_at(jump).jump;
+    }
+    jump
+}
+
+/// The link of the entry that comes next, if it passes, after the last one that does.
+#[inline(always)]
+pub fn link_after<L: Linked>(list: &L, last: Option<u32>, index: u32) -> Link
+    requires last { last ≡ last_place (L.passes list.now) (L.size list.now) }
+    requires index { index ≡ L.size list.now }
+    ensures { IsLink (L.passes list.now) index result }
+{
+    let Some(before) = last else {
+        return Link {
+            number: 0,
+            earlier: MaybeIndex::none(),
+            jump: index,
+        };
+    };
+    let link = list.link_at(before);
+    let number = link.number + 1;
+    Link {
+        number,
+        earlier: MaybeIndex::at(before),
+        jump: further(list, before, link, number),
+    }
+}

@@ -1,0 +1,57 @@
+//! The places of a number, read by index.
+
+use crate::links::{count_passing, entry_at};
+use crate::numbered::notes_of::NotesOf;
+use std::marker::Model;
+use trace_model::Place;
+
+/// The places of a number, ascending, to be read by index. A reading follows links, from the last
+/// on.
+#[derive(Drop)]
+pub struct PlacesOf<'a> {
+    pub(crate) list: NotesOf<'a>,
+    pub(crate) last: Option<u32>,
+}
+
+impl<'a> Model for PlacesOf<'a> {
+    ghost use Rattle.std.specs.Prelude.{List, ℕ};
+    ghost use Rattle.segments.specs.Notes.{places_in, pairs_of, IsPlacesOf};
+
+    ghost Value = { List ℕ };
+
+    ghost view = { λ v. places_in (pairs_of v.list.notes.now.0) v.list.number };
+
+    ghost invariant = { λ v. IsPlacesOf v.list.notes.now.0 v.list.number v.last };
+}
+
+impl<'a> PlacesOf<'a> {
+    ghost use Rattle.std.specs.Prelude.{◌≡◌, ◌<◌, Some, length, nat_eq, slice_get};
+    ghost use Rattle.std.specs.List.Sorted.{IsStrictlyIncreasing};
+
+    /// How many places there are.
+    pub fn len(&self) -> usize
+        ensures length { result ≡ length self.now }
+        ensures ascends { IsStrictlyIncreasing self.now }
+    {
+        count_passing(&self.list, self.last)
+    }
+
+    /// Whether there is none.
+    pub fn is_empty(&self) -> bool
+        ensures { result ≡ nat_eq (length self.now) 0 }
+    {
+        self.len() == 0
+    }
+
+    /// The place with this index, which must be below the length.
+    pub fn get(&self, index: usize) -> Place
+        requires { index < length self.now }
+        ensures { slice_get self.now index ≡ Some result }
+    {
+        let found = entry_at(&self.list, self.last, index);
+        let Some(note) = self.list.notes.get(found as usize) else {
+            unreachable!()
+        };
+        note.place
+    }
+}

@@ -1,0 +1,207 @@
+//! What a book records of its trace.
+
+ghost use Rattle.std.specs.Prelude.{◌≡◌, ◌+◌, ◌≤◌, ◌<◌, [], ◌∷◌, ◌++◌, length, take, nat_eq, slice_get, Some, None, IfOk, OnOk};
+ghost use Rattle.std.specs.Arc.{arc_value};
+ghost use Rattle.std.specs.Result.{result_err};
+ghost use Rattle.trace_model.specs.declared.limits.TheConstants.{MAX_EVENTS};
+ghost use Rattle.trace_model.specs.Theory.Dependencies.{dependencies};
+ghost use Rattle.trace_model.specs.Theory.Lawful.{refusal_of, IsWellFormed};
+ghost use Rattle.wellformed.specs.Gate.{with_event};
+
+use findings::Snapshot;
+use lock_tables::LockTables;
+use std::alloc::Global;
+use std::collections::hash_map::RandomState;
+use std::marker::{Brand, Model};
+use std::sync::Arc;
+use std::sync::ledger::{Blank, Ledger};
+use trace_index::{Copies, TraceIndex};
+use trace_model::{Event, NoMemory, Place, Refusal};
+use wellformed::GateTables;
+
+/// The accepted events, each lawful after those before it, with their index and their lock tables,
+/// and the event that there is room for. Contracts see what a gate shows.
+pub struct Recorder {
+    alloc: Global,
+    state: RandomState,
+    limit: usize,
+    gate: GateTables,
+    index: TraceIndex,
+    tables: LockTables,
+    ready: Option<Event>,
+}
+
+impl Drop for Recorder {
+    fn drop(self) {
+        let Recorder {
+            alloc: _,
+            state: _,
+            limit: _,
+            gate: _,
+            index: _,
+            tables: _,
+            ready: _,
+        } = self;
+    }
+}
+
+impl Model for Recorder {
+    ghost use Rattle.wellformed.specs.Gate.{Admitted};
+    ghost use Rattle.sequencer.specs.Recording.{IsRecording};
+
+    ghost Value = { Admitted };
+
+    ghost view = { λ r. record { limit = r.limit; events = r.index.events; reserved = r.ready } };
+
+    ghost invariant = { λ r. IsRecording r.limit r.gate r.index r.tables r.ready };
+}
+
+/// Puts the event, for which there is room, into the index, with a count of its own.
+fn record_in<L: Ledger>(index: &mut TraceIndex, event: &Event, blank: Blank)
+    requires name { blank.name ≡ L.name }
+    requires parts { blank.parts ≡ L.parts }
+    requires some { 0 < L.parts }
+    requires reserved { index.old.reserved ≡ Some event.now }
+    requires lawful { refusal_of MAX_EVENTS index.old.events event.now ≡ None }
+    ensures { index.new.events ≡ index.old.events ++ event.now ∷ [] }
+{
+    let mut copies = Copies::<L>::new(blank);
+    index.record(event, &mut copies);
+}
+
+impl Recorder {
+    /// A recorder without events, which takes at most `max_events`. That is at most `MAX_EVENTS`.
+    /// It takes no memory.
+    pub fn new(alloc: Global, state: RandomState, max_events: usize) -> Recorder
+        requires { max_events ≤ MAX_EVENTS }
+        ensures { result ≡ record { limit = max_events; events = []; reserved = None } }
+    {
+        Recorder {
+            alloc,
+            state,
+            limit: max_events,
+            gate: GateTables::new(alloc, state),
+            index: TraceIndex::new(alloc, state),
+            tables: LockTables::new(alloc, state),
+            ready: None,
+        }
+    }
+
+    /// Whether the event may follow the recorded ones. It takes no memory.
+    ///
+    /// # Errors
+    ///
+    /// The first refusal that applies.
+    pub fn check(&self, event: &Event) -> Result<(), Refusal>
+        ensures { result_err result ≡ refusal_of self.now.limit self.now.events event.now }
+    {
+        self.gate.check(self.limit, event)
+    }
+
+    /// How many events are recorded. It takes no memory.
+    pub fn len(&self) -> usize
+        ensures length { result ≡ length self.now.events }
+        ensures well_formed { IsWellFormed self.now.events }
+        ensures within { length self.now.events ≤ self.now.limit }
+    {
+        self.index.len()
+    }
+
+    /// Whether no event is recorded. It takes no memory.
+    pub fn is_empty(&self) -> bool
+        ensures { result ≡ nat_eq (length self.now.events) 0 }
+    {
+        self.len() == 0
+    }
+
+    /// The event at a place, or none. It takes no memory.
+    pub fn event(&self, place: Place) -> Option<Event>
+        ensures { result ≡ slice_get self.now.events place }
+    {
+        self.index.event(place)
+    }
+
+    /// How many dependencies the recorded events have. It takes no memory.
+    pub fn dependencies(&self) -> usize
+        ensures { result ≡ length (dependencies self.now.events) }
+    {
+        let _ = &self.index;
+        self.tables.len()
+    }
+
+    /// Makes every growth for this event, in gate, index and tables. Room that was made for another
+    /// is then given up.
+    ///
+    /// # Errors
+    ///
+    /// `NoMemory`. No look-up has changed.
+    pub fn reserve(&mut self, event: &Event) -> Result<(), NoMemory>
+        ensures events { (self.new.events ≡ self.old.events) × (self.new.limit ≡ self.old.limit) }
+        ensures ok { OnOk result (self.new.reserved ≡ Some event.now) }
+    {
+        self.ready = None;
+        self.gate.reserve(event)?;
+        self.index.reserve(event)?;
+        self.tables.reserve(event)?;
+        self.ready = Some(*event);
+        Ok(())
+    }
+
+    /// Brings all dependencies into the graph, so that no snapshot copies it before the next event.
+    /// Room that was made for an event is given up.
+    ///
+    /// # Errors
+    ///
+    /// `NoMemory` where a growth was refused. No look-up has changed.
+    pub fn catch_up(&mut self) -> Result<(), NoMemory>
+        ensures { (self.new.events ≡ self.old.events) × (self.new.limit ≡ self.old.limit) }
+    {
+        self.ready = None;
+        self.tables.catch_up()
+    }
+
+    /// Records the event, which must be lawful, and the one that room was last made for. It takes
+    /// no memory.
+    pub fn record(&mut self, event: &Event)
+        requires reserved { self.old.reserved ≡ Some event.now }
+        requires lawful { refusal_of self.old.limit self.old.events event.now ≡ None }
+        ensures { self.new ≡ with_event self.old event.now }
+    {
+        let _len = self.index.len();
+        self.ready = None;
+        record_in::<Brand>(&mut self.index, event, Blank::new(1));
+        self.tables.record(event);
+        self.gate.record(event);
+    }
+
+    /// The first `count` events with what is needed to compute their rows, `total` being the number
+    /// of their dependencies. Full segments are shared, and at most one is copied; `copies` counts
+    /// the events in it.
+    ///
+    /// # Errors
+    ///
+    /// `NoMemory` where a growth was refused.
+    pub fn snapshot<L: Ledger>(
+        &self,
+        count: u32,
+        total: u32,
+        copies: &mut Copies<L>,
+    ) -> Result<Arc<Snapshot, Global>, NoMemory>
+        requires within { count ≤ length self.now.events }
+        requires total { total ≡ length (dependencies (take count self.now.events)) }
+        ensures events { IfOk result (λ shared. arc_value shared ≡ take count self.now.events) }
+        ensures copies { copies.new ≤ copies.old + 4096 }
+    {
+        let parts = self.tables.share(total, count)?;
+        match self.index.share(count as usize, copies) {
+            Ok(index) => {
+                let snapshot = Snapshot::of(self.state, index, parts);
+                Ok(Arc::new(self.alloc, snapshot)?)
+            }
+            Err(refused) => {
+                drop(parts);
+                Err(refused)
+            }
+        }
+    }
+}

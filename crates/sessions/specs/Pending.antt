@@ -1,0 +1,14 @@
+-- What a sink buffers.
+use Rattle.std.specs.Prelude.{ℕ, List, take, drop, Option, Some, None, refl}
+use Rattle.std.specs.Io.KnownBytes.{append_known}
+use Rattle.sessions.specs.Serving.{IsBeginning}
+
+-- the bytes of the buffer between these places
+abbrev pub pending : List ℕ → ℕ → ℕ → List ℕ
+pending buffer start end = drop start (take end buffer)
+
+-- what the writer has is a beginning of all that the sink took
+pub sent_begins : (known : Option (List ℕ)) (held : List ℕ) →
+    IsBeginning known (append_known known held)
+sent_begins None held = tt
+sent_begins (Some front) held = (held, refl)

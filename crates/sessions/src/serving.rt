@@ -1,0 +1,178 @@
+//! The loop of a session.
+ghost use Rattle.std.specs.Prelude.{◌≡◌, ◌<◌, ℕ, take, None, IfOk, OnOk, OnErr, IfErr};
+ghost use Rattle.std.specs.Io.KnownBytes.{Appends, Keeps};
+ghost use Rattle.trace_model.specs.Protocol.Replies.{reply_frame, IsReply};
+ghost use Rattle.sessions.specs.Serving.{between, standing, Answered, Broken, IsCounted, Served, Counts};
+ghost use Rattle.sessions.specs.declared.serving.ServeFault.TheVariants.{Write};
+
+use crate::ends::{Failed, Sink, Source};
+use event_frames::{FrameReader, encode_reply};
+use sequencer::Calls;
+use std::alloc::Global;
+use std::sync::Wait;
+use thiserror::Error;
+use trace_model::{Fault, Reply};
+
+/// How many bytes a session reads at a time.
+const PIECE: usize = 4096;
+
+/// How a session ended: its input did, or with this fault, which was sent.
+#[derive(Clone, Copy, Debug, PartialEq, Eq)]
+pub enum Ended {
+    Input,
+    Frame(Fault),
+}
+
+/// Why a session broke off.
+#[derive(Clone, Copy, Debug, PartialEq, Eq, Error)]
+pub enum ServeFault {
+    /// The source failed.
+    #[error("a read failed")]
+    Read,
+    /// The sink failed.
+    #[error("a write failed")]
+    Write,
+    /// A growth was refused.
+    #[error("no memory")]
+    Memory,
+}
+
+/// Writes all of the bytes, or a beginning of them.
+fn write_all<R: Wait, K: Sink>(rt: &R, sink: &mut K, bytes: &[u8]) -> Result<(), Failed>
+    ensures ok { OnOk result (Appends (K.written sink.old) (K.written sink.new) bytes.now) }
+    ensures same { OnOk result (K.failures sink.new ≡ K.failures sink.old) }
+    ensures failed { OnErr result (K.failures sink.old < K.failures sink.new) }
+    ensures err { OnErr result
+        ((n : ℕ) × Appends (K.written sink.old) (K.written sink.new) (take n bytes.now)) }
+{
+    let mut at = 0;
+    while at < bytes.len() {
+        at += sink.write(rt, &bytes[at..])?;
+    }
+    Ok(())
+}
+
+/// Writes a reply, or a beginning of it. Where there is no memory for it, those before it are sent.
+fn reply_with<R: Wait, K: Sink>(
+    rt: &R,
+    alloc: Global,
+    sink: &mut K,
+    reply: Reply,
+) -> Result<(), ServeFault>
+    requires { IsReply reply }
+    ensures ok { OnOk result (Appends (K.written sink.old) (K.written sink.new)
+        (reply_frame reply)) }
+    ensures err { OnErr result
+        ((n : ℕ) × Appends (K.written sink.old) (K.written sink.new) (take n (reply_frame reply))) }
+    ensures same { OnOk result (K.failures sink.new ≡ K.failures sink.old) }
+    ensures counted { IfErr result
+        (λ fault. IsCounted fault (K.failures sink.old) (K.failures sink.new)) }
+{
+    let Ok(bytes) = encode_reply(alloc, &reply) else {
+        let _ = sink.send(rt);
+        return Err(ServeFault::Memory);
+    };
+    match write_all(rt, sink, &bytes) {
+        Ok(()) => Ok(()),
+        Err(Failed) => Err(ServeFault::Write),
+    }
+}
+
+/// Calls for each request that is there, and writes the replies, and the fault if one is there.
+/// Each reply is written whole before the next request is called.
+fn answer_all<R: Wait, K: Sink, C: Calls>(
+    rt: &R,
+    alloc: Global,
+    reader: &mut FrameReader,
+    sink: &mut K,
+    calls: &mut C,
+) -> Result<Option<Fault>, ServeFault>
+    requires { reader.old.told ≡ None }
+    ensures ok { IfOk result (λ fault. Answered C.steps
+        (between calls.old reader.old (K.written sink.old))
+        (between calls.new reader.new (K.written sink.new)) fault) }
+    ensures err { OnErr result (Broken C.steps
+        (between calls.old reader.old (K.written sink.old)) calls.new (K.written sink.new)) }
+    ensures same { OnOk result (K.failures sink.new ≡ K.failures sink.old) }
+    ensures counted { IfErr result
+        (λ fault. IsCounted fault (K.failures sink.old) (K.failures sink.new)) }
+{
+    loop {
+        match reader.next() {
+            Ok(Some(request)) => {
+                let reply = calls.call(request);
+                reply_with(rt, alloc, sink, reply)?;
+            }
+            Ok(None) => return Ok(None),
+            Err(fault) => {
+                reply_with(rt, alloc, sink, Reply::Fault(fault))?;
+                return Ok(Some(fault));
+            }
+        }
+    }
+}
+
+/// Sends what the sink still buffers, at the end of a session.
+fn conclude<R: Wait, K: Sink>(rt: &R, sink: &mut K, ended: Ended) -> Result<Ended, ServeFault>
+    ensures kept { Keeps (K.written sink.old) (K.written sink.new) }
+    ensures ok { IfOk result (λ e. (e ≡ ended) × (K.sent sink.new ≡ K.written sink.new)) }
+    ensures err { IfErr result (λ fault. (fault ≡ Write)
+        × (K.failures sink.old < K.failures sink.new)) }
+{
+    match sink.send(rt) {
+        Ok(()) => Ok(ended),
+        Err(Failed) => Err(ServeFault::Write),
+    }
+}
+
+/// Serves a session: reads requests from the source, calls for each in its order, and writes the
+/// replies to the sink, until the input ends or a fault comes, which is written last. Each reply is
+/// written whole before the next request is called, and what the sink buffers is sent before each
+/// read, which may wait. Nothing is read after the piece, of at most 4,096 bytes, in which the
+/// first fault stands; a frame counts as cut only where the source is at its end.
+///
+/// # Errors
+///
+/// `Read` or `Write` where that end failed in this call, and `Memory` where a growth was refused.
+/// After `Read` what was read has no fault, and all replies to it were written and sent. After
+/// `Write` or `Memory` a beginning of them was, and at most one request was called whose reply is
+/// not whole. What was called stays so.
+pub fn serve<R: Wait, S: Source, K: Sink, C: Calls>(
+    rt: &R,
+    alloc: Global,
+    source: &mut S,
+    sink: &mut K,
+    calls: &mut C,
+) -> Result<Ended, ServeFault>
+    ensures served { Served C.steps
+        (standing (S.left source.old) (K.written sink.old) calls.old)
+        (standing (S.left source.new) (K.written sink.new) calls.new)
+        (K.sent sink.new) result }
+    ensures counted { Counts result (S.failures source.old) (S.failures source.new)
+        (K.failures sink.old) (K.failures sink.new) }
+{
+    let mut reader = FrameReader::new(alloc);
+    let mut buffer = [0u8; PIECE];
+    for _ in rt.forever() {
+        let Ok(()) = sink.send(rt) else {
+            return Err(ServeFault::Write);
+        };
+        let Ok(len) = source.read(rt, &mut buffer) else {
+            return Err(ServeFault::Read);
+        };
+        if len == 0 {
+            reader.finish();
+            if let Some(last) = answer_all(rt, alloc, &mut reader, sink, calls)? {
+                return conclude(rt, sink, Ended::Frame(last));
+            }
+            return conclude(rt, sink, Ended::Input);
+        }
+        let Ok(()) = reader.feed(&buffer[..len]) else {
+            return Err(ServeFault::Memory);
+        };
+        if let Some(fault) = answer_all(rt, alloc, &mut reader, sink, calls)? {
+            return conclude(rt, sink, Ended::Frame(fault));
+        }
+    }
+    unreachable!()
+}
