@@ -1,9 +1,6 @@
 //! The command line.
 #![tactic(auto)]
 
-#[cfg(test)]
-mod tests;
-
 ghost use Rattle.std.specs.Prelude.{IfOk, IfSome};
 ghost use Rattle.command_line.specs.CommandLine.{IsWithin, IsInRange};
 
@@ -12,7 +9,7 @@ use clap::{Arg, ArgMatches, Command, Error, value_parser};
 use std::alloc::{AllocError, Global};
 
 /// What the words of a command line ask for.
-#[derive(Debug, Drop, PartialEq, Eq)]
+#[derive(Drop, PartialEq, Eq)]
 pub enum Invocation<'a> {
     /// Serve at the address with so many workers, up to so many sessions (0: without end), over a
     /// book that accepts at most `limit` events.

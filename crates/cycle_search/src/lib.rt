@@ -4,7 +4,6 @@
 mod ascending;
 mod components;
 mod costs;
-mod cycle;
 mod lock_numbers;
 mod ranks;
 mod refused;
@@ -13,8 +12,8 @@ mod searched;
 mod takers;
 mod ways;
 
-pub use cycle::Cycle;
 pub use ranks::Ranks;
 pub use refused::SearchRefused;
 pub use search::{cycles_from, cycles_within};
 pub use searched::Searched;
+pub use trace_model::Cycle;

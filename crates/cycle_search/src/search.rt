@@ -10,16 +10,15 @@ ghost use Rattle.cycle_search.specs.Search.{IsPath, Closes, AboveFirst, LinksTo,
 
 use crate::ascending::above;
 use crate::costs::{closing_visits, is_long};
-use crate::cycle::MOST_MEMBERS;
 use crate::ways::ways_back;
-use crate::{Cycle, Ranks, SearchRefused, Searched};
+use crate::{Ranks, SearchRefused, Searched};
 use arrayvec::ArrayVec;
 use guards::compatible;
 use std::alloc::Global;
-use trace_model::{Bound, MAX_CYCLES, NoMemory};
+use trace_model::{Bound, Cycle, MAX_CYCLES, MAX_MEMBERS, NoMemory};
 
 /// The numbers of a path that may grow into a cycle.
-pub(crate) type Path = ArrayVec<u32, MOST_MEMBERS>;
+pub(crate) type Path = ArrayVec<u32, MAX_MEMBERS>;
 
 /// What is searched, with the most members of a cycle, and the most cycles.
 #[derive(Clone, Copy)]

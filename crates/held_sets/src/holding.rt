@@ -11,7 +11,7 @@ use std::marker::Model;
 use trace_model::MAX_HELD;
 
 /// A lock that a thread holds, and how deep: how many acquires of it are not yet released.
-#[derive(Clone, Copy, Debug, Default)]
+#[derive(Clone, Copy, Default)]
 pub(crate) struct LockDepth {
     pub(crate) lock: u32,
     pub(crate) depth: u8,

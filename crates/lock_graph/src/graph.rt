@@ -8,8 +8,8 @@ ghost use Rattle.lock_graph.specs.Graph.{IsGraphOf, HasRoom, holders, holders_be
 
 use crate::lists::{Lists, record, reserve};
 use dependencies::Dependency;
+use indexmap::IndexMap;
 use std::alloc::Global;
-use std::collections::HashMap;
 use std::collections::hash_map::RandomState;
 use trace_model::NoMemory;
 
@@ -32,7 +32,7 @@ impl LockGraph {
         ensures empty { (lock : ℕ) → holders result lock ≡ [] }
     {
         LockGraph {
-            lists: HashMap::with_hasher(alloc, state),
+            lists: IndexMap::with_hasher(alloc, state),
             alloc,
         }
     }

@@ -5,13 +5,12 @@ ghost use Rattle.std.specs.HashMap.{get};
 ghost use Rattle.std.specs.List.Sorted.{IsStrictlyIncreasing};
 ghost use Rattle.lock_graph.specs.Lists.{listed, listed_with, HasRoomAt, HaveRoom};
 
+use slots::NumberTable;
 use std::alloc::Global;
-use std::collections::HashMap;
-use std::collections::hash_map::RandomState;
 use trace_model::NoMemory;
 
 /// The numbers listed for each lock.
-pub(crate) type Lists = HashMap<u32, Vec<u32>, RandomState>;
+pub(crate) type Lists = NumberTable<Vec<u32>>;
 
 /// Makes room for one more number at each of the locks.
 pub(crate) fn reserve(lists: &mut Lists, alloc: Global, locks: &[u32]) -> Result<(), NoMemory>

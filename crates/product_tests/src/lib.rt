@@ -1,11 +1,13 @@
-//! Tests that no worked trace can say: a book by its own calls, files that are not understood,
-//! output that fails, and long traces.
+//! Tests that no worked trace can say: a book by its own calls, command lines, files that are not
+//! understood, output that fails, and long traces.
 #![tactic(auto)]
 
 #[cfg(test)]
 mod batches;
 #[cfg(test)]
 mod books;
+#[cfg(test)]
+mod command_lines;
 #[cfg(test)]
 mod files;
 #[cfg(test)]

@@ -4,7 +4,7 @@ use std::marker::Model;
 
 /// An index, or none, in four bytes: what links between items are made of. Contracts see an
 /// `Option`.
-#[derive(Clone, Copy, Debug)]
+#[derive(Clone, Copy)]
 pub struct MaybeIndex(u32);
 
 impl Model for MaybeIndex {

@@ -5,7 +5,7 @@ const CELLS: usize = 256;
 
 /// The slots at which numbers were last found. Each is a guess: whoever takes it looks whether the
 /// number stands there.
-#[derive(Clone, Copy, Debug)]
+#[derive(Clone, Copy)]
 pub struct Guesses {
     slots: [u32; CELLS],
 }

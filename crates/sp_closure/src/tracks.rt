@@ -7,6 +7,8 @@ ghost use Rattle.sp_closure.specs.Pointers.{AreKnown};
 ghost use Rattle.sp_closure.specs.declared.tracks.Past.{Past};
 ghost use Rattle.sp_closure.specs.Pasts.{ArePasts, AllFrom, IsFront, Moves, StayFrom};
 
+use trace_model::MAX_MEMBERS;
+
 /// A place of a dependency: its number in its thread, and how many places of each thread stand in
 /// the closure of what stands before it; a thread past the list's end is not known of.
 #[derive(Drop)]
@@ -40,9 +42,6 @@ pub(crate) struct Pointer {
     pub(crate) number: u32,
     pub(crate) entry: usize,
 }
-
-/// How many members a cycle has at most that is looked at.
-const MOST_MEMBERS: usize = 8;
 
 /// How often all members of a cycle are moved on at most.
 const MOST_ROUNDS: usize = 4096;
@@ -143,8 +142,8 @@ impl Pasts {
         ensures { IsTrue result → (s : Trace) → ArePasts s self.now → AreKnown s numbers.now →
             IsConfirmed s numbers.now → ⊥ }
     {
-        let mut entries = [0; MOST_MEMBERS];
-        if numbers.len() > MOST_MEMBERS {
+        let mut entries = [0; MAX_MEMBERS];
+        if numbers.len() > MAX_MEMBERS {
             return false;
         }
         for _round in 0..MOST_ROUNDS {

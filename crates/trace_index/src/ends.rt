@@ -5,8 +5,9 @@ ghost use Rattle.std.specs.HashMap.{spare};
 ghost use Rattle.trace_index.specs.Links.{is_place};
 ghost use Rattle.trace_index.specs.Ends.{near_end, end_in, HasEndRoom};
 
+use indexmap::IndexMap;
+use slots::NumberTable;
 use std::alloc::Global;
-use std::collections::HashMap;
 use std::collections::hash_map::RandomState;
 use trace_model::{NoMemory, Place};
 
@@ -16,7 +17,7 @@ use trace_model::{NoMemory, Place};
 pub(crate) struct Ends {
     first: usize,
     near: Vec<Option<Place>>,
-    far: HashMap<u32, Place, RandomState>,
+    far: NumberTable<Place>,
 }
 
 impl Ends {
@@ -27,7 +28,7 @@ impl Ends {
         Ends {
             first,
             near: Vec::new(alloc),
-            far: HashMap::with_hasher(alloc, state),
+            far: IndexMap::with_hasher(alloc, state),
         }
     }
 

@@ -11,8 +11,8 @@ mod refusal;
 mod traces;
 
 pub use limits::{
-    MAX_BOUND, MAX_CYCLES, MAX_DEPTH, MAX_EVENTS, MAX_FORKS, MAX_HELD, MAX_QUESTIONS, MAX_REPORT,
-    MAX_THREADS, MIN_BOUND,
+    MAX_BOUND, MAX_CYCLES, MAX_DEPTH, MAX_EVENTS, MAX_FORKS, MAX_HELD, MAX_MEMBERS, MAX_QUESTIONS,
+    MAX_REPORT, MAX_THREADS, MIN_BOUND,
 };
 pub use messages::batch::{EventBatch, MAX_BATCH};
 pub use messages::report::ReportText;
@@ -21,6 +21,7 @@ pub use messages::status::QuestionStatus;
 pub use messages::step::BoardStep;
 pub use refusal::{NoMemory, Refusal, refusal_name};
 pub use traces::bound::Bound;
+pub use traces::cycle::Cycle;
 pub use traces::event::{Event, Op};
 pub use traces::instance::Instance;
 pub use traces::owner::Owner;

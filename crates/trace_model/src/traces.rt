@@ -1,6 +1,7 @@
-//! Traces: events, places, owners of locks, instances and bounds.
+//! Traces: events, places, owners of locks, cycles, their instances and bounds.
 
 pub(crate) mod bound;
+pub(crate) mod cycle;
 pub(crate) mod event;
 pub(crate) mod instance;
 pub(crate) mod owner;

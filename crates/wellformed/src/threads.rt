@@ -10,7 +10,7 @@ use std::marker::Model;
 use trace_model::NoMemory;
 
 /// What is known of a thread: whether it was forked and joined, and how many locks it holds.
-#[derive(Clone, Copy, Debug, PartialEq, Eq)]
+#[derive(Clone, Copy)]
 pub struct ThreadEntry {
     pub forked: bool,
     pub joined: bool,

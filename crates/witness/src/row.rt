@@ -1,9 +1,8 @@
 //! What a report says of a cycle.
 
-use cycle_search::Cycle;
 use dependencies::Dependency;
 use std::marker::Model;
-use trace_model::{Instance, Place};
+use trace_model::{Cycle, Instance, Place};
 
 /// The reached instance of a confirmed cycle, a place for each member, and the witness: the places
 /// of the least reordering that reaches it, ascending.

@@ -5,7 +5,7 @@ use crate::MaybeIndex;
 /// Where an entry stands among those that pass: how many of them stand before it, the last of
 /// these, and one of them that is further off (the entry itself where there is none), by their
 /// indices.
-#[derive(Clone, Copy, Debug)]
+#[derive(Clone, Copy)]
 pub struct Link {
     pub number: u32,
     pub earlier: MaybeIndex,

@@ -1,5 +1,6 @@
 //! An instance of a cycle: a place for each member.
 
+use crate::limits::MAX_MEMBERS;
 use crate::traces::place::Place;
 use arrayvec::ArrayVec;
 use std::marker::Model;
@@ -7,7 +8,7 @@ use std::marker::Model;
 /// Two to eight places, one for each member of a cycle.
 #[derive(Drop)]
 pub struct Instance {
-    places: ArrayVec<Place, 8>,
+    places: ArrayVec<Place, MAX_MEMBERS>,
 }
 
 impl Model for Instance {

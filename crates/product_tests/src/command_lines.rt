@@ -1,6 +1,6 @@
-//! Tests of command lines.
+//! Command lines, right ones and wrong ones.
 
-use crate::{Invocation, parse};
+use command_line::{Invocation, parse};
 use std::test::*;
 
 #[test]

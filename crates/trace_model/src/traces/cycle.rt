@@ -2,16 +2,14 @@
 
 ghost use Rattle.std.specs.Prelude.{◌≡◌, ◌≤◌, ◌↔◌, List, length, ℕ, IfSome, IsSome, slice_get};
 
+use crate::limits::MAX_MEMBERS;
 use arrayvec::ArrayVec;
 use std::marker::Model;
-
-/// The most members of a cycle.
-pub(crate) const MOST_MEMBERS: usize = 8;
 
 /// The numbers of a cycle's dependencies, the least first: two to eight.
 #[derive(Debug, Drop, Clone, PartialEq, Eq)]
 pub struct Cycle {
-    numbers: ArrayVec<u32, MOST_MEMBERS>,
+    numbers: ArrayVec<u32, MAX_MEMBERS>,
 }
 
 impl Model for Cycle {
