@@ -2,13 +2,13 @@
 
 ghost use Rattle.std.specs.Prelude.{◌≡◌};
 
+use crate::desks::new_desk;
 use crate::eight_threads::{Offers, accepts_all};
 use crate::on_desk::{refuses_in_script, reports_repetitions};
 use crate::on_workers::{reports_left_tasks, two_meet};
 use crate::three_workers::three_meet;
 use board::{BoardReader, Naming, Opened, Shown};
 use desk::Desk;
-use desk_fixtures::new_desk;
 use fixtures::LIMIT;
 use std::alloc::Global;
 use std::hash::RandomState;

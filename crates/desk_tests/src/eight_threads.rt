@@ -1,6 +1,7 @@
 //! A desk that threads share, by single events and by batches.
 
 use crate::at_desk::{Script, at_desk};
+use crate::offers::accepted;
 use board::{BoardReader, Follows, Naming, Receipt, Shown};
 use desk::Desk;
 use std::alloc::{AllocError, Global};
@@ -134,6 +135,19 @@ fn offered_by_all(how: Offers) -> u32 {
     }
 }
 
+/// The places that eight threads are given, which offer at once. Their receipts are learnt.
+fn places_at_once<N: Naming + Send + Sync, R: Threads + Wait + Copy + Send + Sync>(
+    rt: &R,
+    alloc: Global,
+    desk: &Desk<N, R, Shown<N>>,
+    reader: &mut BoardReader<N>,
+    how: Offers,
+) -> Result<Vec<u32>, Fail> {
+    let all = thread::map_indices(rt, alloc, THREADS, &|_| offer_events(alloc, desk, how))?;
+    let places = places_of_all(alloc, reader, all)?;
+    Ok(places)
+}
+
 /// Eight threads offer at once, and each place is given once.
 pub(crate) fn accepts_all<N: Naming + Send + Sync, R: Threads + Wait + Abort + Copy + Send + Sync>(
     rt: &R,
@@ -142,13 +156,9 @@ pub(crate) fn accepts_all<N: Naming + Send + Sync, R: Threads + Wait + Abort + C
     reader: &mut BoardReader<N>,
     how: Offers,
 ) -> Result<(), Fail> {
-    let all = thread::map_indices(rt, alloc, THREADS, &|_| offer_events(alloc, desk, how))?;
-    let places = places_of_all(alloc, reader, all)?;
+    let places = places_at_once(rt, alloc, desk, reader, how)?;
     let expected = expected_places(alloc, how)?;
     assert_eq!(rt; places.as_slice(), expected.as_slice());
-    let Ok(summary) = reader.status() else {
-        return Err(Fail::from("busy"));
-    };
-    assert_eq!(rt; summary.accepted, offered_by_all(how));
+    assert_eq!(rt; accepted(reader), Some(offered_by_all(how)));
     Ok(())
 }

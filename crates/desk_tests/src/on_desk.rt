@@ -3,19 +3,19 @@
 ghost use Rattle.std.specs.Prelude.{◌≡◌};
 
 use crate::at_desk::{Script, at_desk};
-use board::{BoardReader, Naming, Opened, Shown};
+use crate::offers::{accepted, accepts, answer, asked, missing, offer, reports, takes};
+use board::{BoardReader, Naming, Shown};
 use desk::{Desk, DeskRefused};
-use desk_fixtures::{accepts, is_report, offer};
 use findings::Finding;
 use fixtures::{LIMIT, event, opposite_orders, report_of};
-use sequencer::{Answer, AskRefused};
+use sequencer::{Answer, AskRefused, Opened};
 use std::alloc::Global;
 use std::hash::RandomState;
 use std::marker::Brand;
 use std::process::Abort;
 use std::sync::Wait;
 use std::test::*;
-use trace_model::{Bound, Op, Refusal};
+use trace_model::{Bound, Event, Op, Refusal};
 
 #[test]
 fn each_refusal_once(rt: HostRuntime) -> Result<(), Fail> {
@@ -28,42 +28,41 @@ pub(crate) fn refuses_in_script<N: Naming, R: Wait + Abort + Copy>(
     desk: &Desk<N, R, Shown<N>>,
     reader: &mut BoardReader<N>,
 ) -> Result<(), Fail> {
-    offers_script(rt, desk, reader);
-    let Ok(summary) = reader.status() else {
-        return Err(Fail::from("busy"));
-    };
-    assert_eq!(rt; summary.accepted, 6);
+    for (thread, op, reply) in SCRIPT {
+        assert_eq!(rt; placed(desk, reader, event(thread, op)), reply);
+    }
+    assert_eq!(rt; accepted(reader), Some(6));
     Ok(())
 }
 
-/// Each event of a script has its reply.
-fn offers_script<N: Naming, R: Wait + Abort + Copy>(
-    rt: &R,
+/// Each event with the place that it is given, or its refusal.
+const SCRIPT: [(u32, Op, Result<u32, Refusal>); 16] = [
+    (0, Op::Fork(1), Ok(0)),
+    (0, Op::Fork(2), Ok(1)),
+    (1, Op::Release(10), Err(Refusal::NotHeld)),
+    (1, Op::Acquire(10), Ok(2)),
+    (2, Op::Acquire(10), Err(Refusal::HeldByOther)),
+    (1, Op::Acquire(10), Ok(3)),
+    (0, Op::Join(0), Err(Refusal::JoinsItself)),
+    (1, Op::Join(0), Err(Refusal::JoinUnknown)),
+    (3, Op::Acquire(1), Err(Refusal::Unforked)),
+    (0, Op::Fork(1), Err(Refusal::AlreadyForked)),
+    (0, Op::Fork(0), Err(Refusal::AlreadyForked)),
+    (0, Op::Join(2), Ok(4)),
+    (1, Op::Join(2), Err(Refusal::JoinedTwice)),
+    (2, Op::Write(1), Err(Refusal::Ended)),
+    (0, Op::Join(9), Err(Refusal::JoinUnknown)),
+    (1, Op::Release(10), Ok(5)),
+];
+
+/// The number of the place that the event is given.
+fn placed<N: Naming, R: Wait + Copy>(
     desk: &Desk<N, R, Shown<N>>,
     reader: &mut BoardReader<N>,
-) {
-    let script = [
-        (0, Op::Fork(1), Ok(0)),
-        (0, Op::Fork(2), Ok(1)),
-        (1, Op::Release(10), Err(Refusal::NotHeld)),
-        (1, Op::Acquire(10), Ok(2)),
-        (2, Op::Acquire(10), Err(Refusal::HeldByOther)),
-        (1, Op::Acquire(10), Ok(3)),
-        (0, Op::Join(0), Err(Refusal::JoinsItself)),
-        (1, Op::Join(0), Err(Refusal::JoinUnknown)),
-        (3, Op::Acquire(1), Err(Refusal::Unforked)),
-        (0, Op::Fork(1), Err(Refusal::AlreadyForked)),
-        (0, Op::Fork(0), Err(Refusal::AlreadyForked)),
-        (0, Op::Join(2), Ok(4)),
-        (1, Op::Join(2), Err(Refusal::JoinedTwice)),
-        (2, Op::Write(1), Err(Refusal::Ended)),
-        (0, Op::Join(9), Err(Refusal::JoinUnknown)),
-        (1, Op::Release(10), Ok(5)),
-    ];
-    for (thread, op, reply) in script {
-        let answer = offer(desk, reader, event(thread, op));
-        assert_eq!(rt; answer.map(|place| place.get()), reply);
-    }
+    event: Event,
+) -> Result<u32, Refusal> {
+    let place = offer(desk, reader, event)?;
+    Ok(place.get())
 }
 
 #[test]
@@ -77,7 +76,14 @@ fn limits_of_a_desk(rt: HostRuntime) -> Result<(), Fail> {
         (LIMIT, 40, None),
     ];
     for (limit, readers, refused) in cases {
-        let made = refused_by::<Brand, _>(rt, rt.alloc(), state, Opened::new(), limit, readers);
+        let made = refused_by::<Brand, _>(
+            rt,
+            rt.alloc(),
+            state,
+            board::Opened::new(),
+            limit,
+            readers,
+        );
         assert_eq!(rt; made, refused);
     }
     Ok(())
@@ -88,7 +94,7 @@ fn refused_by<N: Naming, R: Wait + Copy>(
     rt: R,
     alloc: Global,
     state: RandomState,
-    opened: Opened,
+    opened: board::Opened,
     limit: u32,
     readers: usize,
 ) -> Option<DeskRefused>
@@ -110,46 +116,49 @@ pub(crate) fn reports_repetitions<N: Naming, R: Wait + Abort + Copy>(
     desk: &Desk<N, R, Shown<N>>,
     reader: &mut BoardReader<N>,
 ) -> Result<(), Fail> {
-    accepts_repetitions(rt, desk, reader)?;
+    assert!(rt; accepts_repetitions(desk, reader));
+    assert_eq!(rt; accepted(reader), Some(1602));
     delivers_both(rt, alloc, desk)?;
-    assert_eq!(rt; desk.missing(0).0.ok(), Some(None));
-    assert!(rt; desk.missing(1).0.is_err());
-    assert!(rt; matches!(desk.snapshot(1).0.err(), Some(Refusal::NoSuchQuestion)));
-    assert!(rt; is_report(desk.answer(0).0, &report_of(alloc, 1602)?));
+    assert_eq!(rt; missing(desk, 0), Some(None));
+    assert_eq!(rt; missing(desk, 1), None);
+    assert_eq!(rt; refusal_of_snapshot(desk, 1), Some(Refusal::NoSuchQuestion));
+    assert!(rt; reports(desk, &report_of(alloc, 1602)?));
     Ok(())
 }
 
-fn accepts_repetitions<N: Naming, R: Wait + Abort + Copy>(
-    rt: &R,
+/// The forks are accepted, and the sections two hundred times.
+fn accepts_repetitions<N: Naming, R: Wait + Copy>(
     desk: &Desk<N, R, Shown<N>>,
     reader: &mut BoardReader<N>,
-) -> Result<(), Fail> {
+) -> bool {
     let events = opposite_orders();
-    assert!(rt; accepts(desk, reader, &events[..2]));
+    let (forks, sections) = events.split_at(2);
+    let mut accepted = accepts(desk, reader, forks);
     for _ in 0..200 {
-        assert!(rt; accepts(desk, reader, &events[2..]));
+        accepted &= accepts(desk, reader, sections);
     }
-    let Ok(summary) = reader.status() else {
-        return Err(Fail::from("busy"));
-    };
-    assert!(rt; summary.accepted >= 1602);
-    Ok(())
+    accepted
+}
+
+fn refusal_of_snapshot<N: Naming, R: Wait + Copy>(
+    desk: &Desk<N, R, Shown<N>>,
+    question: u32,
+) -> Option<Refusal> {
+    let (snapshot, receipt) = desk.snapshot(question);
+    drop(receipt);
+    snapshot.err()
 }
 
 /// Question 0 is opened. It answers how many tasks it has.
-fn opens<N: Naming, R: Wait + Abort + Copy>(
-    rt: &R,
-    desk: &Desk<N, R, Shown<N>>,
-) -> Result<u32, Fail> {
-    assert!(rt; matches!(desk.ask(1).0, Err(AskRefused::BadBound)));
-    let Ok(opened) = desk.ask(2).0 else {
-        return Err(Fail::from("no question"));
+fn opens<N: Naming, R: Wait + Abort + Copy>(rt: &R, desk: &Desk<N, R, Shown<N>>) -> u32 {
+    let wanted = Opened {
+        question: 0,
+        length: 1602,
+        total: 2,
     };
-    assert_eq!(rt;
-        (opened.question, opened.length, opened.total),
-        (0, 1602, 2)
-    );
-    Ok(opened.total)
+    assert_eq!(rt; asked(desk, 1), Err(AskRefused::BadBound));
+    assert_eq!(rt; asked(desk, 2), Ok(wanted));
+    wanted.total
 }
 
 /// The rows of a task of question 0.
@@ -158,10 +167,10 @@ fn finding_of<N: Naming, R: Wait + Copy>(
     desk: &Desk<N, R, Shown<N>>,
     bound: Bound,
     task: u32,
-) -> Result<Finding, Fail> {
-    let snapshot = desk.snapshot(0).0.ok().ok_or("no snapshot")?;
-    let finding = Finding::compute(alloc, snapshot, 0, bound, task)?;
-    Ok(finding)
+) -> Option<Finding> {
+    let (snapshot, receipt) = desk.snapshot(0);
+    drop(receipt);
+    Finding::compute(alloc, snapshot.ok()?, 0, bound, task).ok()
 }
 
 /// The task is the least missing one, the answer is pending, and then the task is delivered.
@@ -172,10 +181,10 @@ fn delivers<N: Naming, R: Wait + Abort + Copy>(
     bound: Bound,
     task: u32,
 ) -> Result<(), Fail> {
-    assert_eq!(rt; desk.missing(0).0.ok(), Some(Some(task)));
-    assert!(rt; matches!(desk.answer(0).0, Ok(Answer::Pending { .. })));
-    let finding = finding_of(alloc, desk, bound, task)?;
-    assert!(rt; desk.deliver(finding).0.ok().is_some());
+    assert_eq!(rt; missing(desk, 0), Some(Some(task)));
+    assert!(rt; matches!(answer(desk), Ok(Answer::Pending { .. })));
+    let finding = finding_of(alloc, desk, bound, task).ok_or("a finding")?;
+    assert!(rt; takes(desk, finding));
     Ok(())
 }
 
@@ -185,9 +194,8 @@ fn delivers_both<N: Naming, R: Wait + Abort + Copy>(
     alloc: Global,
     desk: &Desk<N, R, Shown<N>>,
 ) -> Result<(), Fail> {
-    let total = opens(rt, desk)?;
-    let two = Bound::new(2).expect(rt, "a bound is 2 to 8");
-    for task in 0..total {
+    let two = Bound::new(2).ok_or("a bound")?;
+    for task in 0..opens(rt, desk) {
         delivers(rt, alloc, desk, two, task)?;
     }
     Ok(())

@@ -1,10 +1,11 @@
 //! Workers at a desk.
 
 use crate::at_desk::{Script, at_desk};
+use crate::offers::{asks_about_opposite_orders, reports};
+use crate::workers::{TasksMeet, delivers_two, worker, workers_at};
 use board::{BoardReader, Naming, Shown};
 use claims::{Claimant, claimants};
 use desk::{Desk, Turn, Worker};
-use desk_fixtures::{Free, TasksMeet, asks_about_opposite_orders, is_report, worker, workers_at};
 use findings::Hold;
 use fixtures::{Meeting, REPORT};
 use std::alloc::Global;
@@ -28,6 +29,20 @@ pub(crate) fn two_meet<N: Naming + Send + Sync, R: Threads + Wait + Abort + Copy
     others: &mut Vec<BoardReader<N>>,
 ) -> Result<(), Fail> {
     assert!(rt; asks_about_opposite_orders(desk, reader));
+    let meeting = all_meet(rt, alloc, desk, others)?;
+    assert_eq!(rt; meeting.came(), (1, 1));
+    assert!(rt; !meeting.gave_up());
+    assert!(rt; reports(desk, REPORT));
+    Ok(())
+}
+
+/// The meeting of the two workers, to which the late one does not come.
+fn all_meet<N: Naming + Send + Sync, R: Threads + Wait + Abort + Copy + Send + Sync>(
+    rt: &R,
+    alloc: Global,
+    desk: &Arc<Desk<N, R, Shown<N>>>,
+    others: &mut Vec<BoardReader<N>>,
+) -> Result<Meeting, Fail> {
     let hold = TasksMeet {
         meeting: Meeting::new(),
     };
@@ -35,10 +50,7 @@ pub(crate) fn two_meet<N: Naming + Send + Sync, R: Threads + Wait + Abort + Copy
     all_deliver(rt, workers, &hold)?;
     let late = workers_at(alloc, desk, others, 1).ok_or("a late worker")?;
     all_are_idle(rt, late, &hold);
-    assert_eq!(rt; hold.meeting.came(), (1, 1));
-    assert!(rt; !hold.meeting.gave_up());
-    assert!(rt; is_report(desk.answer(0).0, REPORT));
-    Ok(())
+    Ok(hold.meeting)
 }
 
 /// All of them deliver a task, each on a thread of its own.
@@ -89,7 +101,7 @@ pub(crate) fn reports_left_tasks<N: Naming, R: Wait + Abort + Copy>(
 ) -> Result<(), Fail> {
     assert!(rt; asks_about_opposite_orders(desk, reader));
     works_alone(rt, alloc, desk, others)?;
-    assert!(rt; is_report(desk.answer(0).0, REPORT));
+    assert!(rt; reports(desk, REPORT));
     Ok(())
 }
 
@@ -119,7 +131,5 @@ fn delivers_what_is_drawn<N: Naming, R: Wait + Abort + Copy>(
     for task in 0..2u64 {
         assert_eq!(rt; gone.draw(0).ok(), Some(task));
     }
-    for turn in [Turn::Delivered, Turn::Delivered, Turn::Idle] {
-        assert_eq!(rt; worker.turn(&Free), turn);
-    }
+    delivers_two(rt, worker);
 }

@@ -1,10 +1,11 @@
 //! Three workers, which deliver in an order that the board tells them.
 
 use crate::at_desk::{Script, at_desk};
+use crate::offers::{accepts, asked, reports};
 use crate::on_workers::all_deliver;
+use crate::workers::workers_at;
 use board::{BoardReader, Naming, Shown};
 use desk::Desk;
-use desk_fixtures::{accepts, is_report, workers_at};
 use findings::Hold;
 use fixtures::event;
 use std::alloc::Global;
@@ -124,7 +125,7 @@ pub(crate) fn three_meet<N: Naming + Send + Sync, R: Threads + Wait + Abort + Co
     others: &mut Vec<BoardReader<N>>,
 ) -> Result<(), Fail> {
     assert!(rt; accepts(desk, reader, &ring_of_three()));
-    assert!(rt; desk.ask(3).0.is_ok());
+    assert!(rt; asked(desk, 3).is_ok());
     let order = Order::new(rt, others.pop().ok_or("a reader")?);
     let delivered = three_deliver(&rt, alloc, desk, others, &order);
     drop(order);
@@ -141,6 +142,6 @@ fn three_deliver<N: Naming + Send + Sync, R: Threads + Wait + Abort + Copy + Sen
     let workers = workers_at(alloc, desk, readers, 3).ok_or("workers")?;
     all_deliver(rt, workers, order)?;
     assert!(rt; order.was_kept());
-    assert!(rt; is_report(desk.answer(0).0, REPORT));
+    assert!(rt; reports(desk, REPORT));
     Ok(())
 }

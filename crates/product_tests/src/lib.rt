@@ -1,5 +1,5 @@
-//! Tests that no worked trace can say: a book by its own calls, command lines, files that are not
-//! understood, output that fails, and long traces.
+//! Tests that no worked trace can say, of all below the desk: the parts by their public calls, a book
+//! by its own, command lines, files that are not understood, output that fails, and long traces.
 #![tactic(auto)]
 
 #[cfg(test)]
@@ -17,4 +17,32 @@ mod longest_trace;
 #[cfg(test)]
 mod many_tasks;
 #[cfg(test)]
+mod on_cycle_search;
+#[cfg(test)]
+mod on_dependencies;
+#[cfg(test)]
+mod on_event_frames;
+#[cfg(test)]
+mod on_findings;
+#[cfg(test)]
+mod on_guards;
+#[cfg(test)]
+mod on_held_sets;
+#[cfg(test)]
+mod on_lock_graph;
+#[cfg(test)]
+mod on_lock_tables;
+#[cfg(test)]
+mod on_result_ledger;
+#[cfg(test)]
+mod on_trace_index;
+#[cfg(test)]
+mod on_trace_model;
+#[cfg(test)]
+mod on_wellformed;
+#[cfg(test)]
+mod on_witness;
+#[cfg(test)]
 mod outcomes;
+#[cfg(test)]
+mod traces;
