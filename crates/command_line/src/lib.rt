@@ -1,12 +1,15 @@
 //! The command line.
 #![tactic(auto)]
 
+mod words;
+
 ghost use Rattle.std.specs.Prelude.{IfOk, IfSome};
 ghost use Rattle.command_line.specs.CommandLine.{IsWithin, IsInRange};
 
 use clap::error::ErrorKind;
 use clap::{Arg, ArgMatches, Command, Error, value_parser};
 use std::alloc::{AllocError, Global};
+pub use words::{arguments, tell};
 
 /// What the words of a command line ask for.
 #[derive(Drop, PartialEq, Eq)]
@@ -36,75 +39,81 @@ pub enum Invocation<'a> {
     },
 }
 
-fn limit<'a>(alloc: Global) -> Arg<'a> {
-    Arg::new(alloc, "limit")
-        .long("limit")
-        .value_name("L")
-        .value_parser(value_parser!(u32).range(1..=1_048_576))
-        .default_value("1048576")
-}
-
 /// An argument that must be there, by its place.
 fn given<'a>(alloc: Global, id: &'a str, name: &'a str) -> Arg<'a> {
     Arg::new(alloc, id).value_name(name).required(true)
 }
 
+/// An argument with a number in the range, after its name.
+fn ranged<'a>(alloc: Global, id: &'a str, name: &'a str, least: i64, most: i64) -> Arg<'a> {
+    Arg::new(alloc, id)
+        .long(id)
+        .value_name(name)
+        .value_parser(value_parser!(u32).range(least..=most))
+}
+
+fn limit<'a>(alloc: Global) -> Arg<'a> {
+    ranged(alloc, "limit", "L", 1, 1_048_576).default_value("1048576")
+}
+
 fn workers<'a>(alloc: Global) -> Arg<'a> {
-    Arg::new(alloc, "workers")
-        .long("workers")
-        .value_name("W")
-        .value_parser(value_parser!(u32).range(1..=16))
-        .default_value("1")
+    ranged(alloc, "workers", "W", 1, 16).default_value("1")
 }
 
 fn sessions<'a>(alloc: Global) -> Arg<'a> {
-    Arg::new(alloc, "sessions")
-        .long("sessions")
-        .value_name("S")
-        .value_parser(value_parser!(u32).range(0..=1_000_000))
-        .default_value("0")
+    ranged(alloc, "sessions", "S", 0, 1_000_000).default_value("0")
 }
 
 fn bound<'a>(alloc: Global) -> Arg<'a> {
-    Arg::new(alloc, "bound")
-        .long("bound")
-        .value_name("K")
-        .value_parser(value_parser!(u32).range(2..=8))
-        .required(true)
+    ranged(alloc, "bound", "K", 2, 8).required(true)
+}
+
+/// The command with this argument too.
+fn taking<'a>(
+    command: Result<Command<'a>, AllocError>,
+    argument: Arg<'a>,
+) -> Result<Command<'a>, AllocError> {
+    match command {
+        Ok(command) => command.arg(argument),
+        Err(refused) => {
+            drop(argument);
+            Err(refused)
+        }
+    }
 }
 
 fn serve<'a>(alloc: Global) -> Result<Command<'a>, AllocError> {
-    Command::new(alloc, "serve")
+    let command = Command::new(alloc, "serve")
         .about("Serves agents over TCP: takes their events and answers their questions")
-        .arg(given(alloc, "address", "ADDRESS"))?
-        .arg(workers(alloc))?
-        .arg(sessions(alloc))?
-        .arg(limit(alloc))
+        .arg(given(alloc, "address", "ADDRESS"));
+    let command = taking(command, workers(alloc));
+    let command = taking(command, sessions(alloc));
+    taking(command, limit(alloc))
 }
 
 fn script<'a>(alloc: Global) -> Result<Command<'a>, AllocError> {
-    Command::new(alloc, "script")
+    let command = Command::new(alloc, "script")
         .about("Runs a script of events and prints the replies")
-        .arg(given(alloc, "file", "FILE"))?
-        .arg(limit(alloc))
+        .arg(given(alloc, "file", "FILE"));
+    taking(command, limit(alloc))
 }
 
 fn offline<'a>(alloc: Global) -> Result<Command<'a>, AllocError> {
-    Command::new(alloc, "offline")
+    let command = Command::new(alloc, "offline")
         .about("Reports the cycles of a file of events")
-        .arg(given(alloc, "file", "FILE"))?
-        .arg(bound(alloc))
+        .arg(given(alloc, "file", "FILE"));
+    taking(command, bound(alloc))
 }
 
 fn replay<'a>(alloc: Global) -> Result<Command<'a>, AllocError> {
-    Command::new(alloc, "replay")
+    let command = Command::new(alloc, "replay")
         .about("Checks a witness against a trace")
-        .arg(given(alloc, "trace", "TRACE"))?
-        .arg(given(alloc, "witness", "WITNESS"))
+        .arg(given(alloc, "trace", "TRACE"));
+    taking(command, given(alloc, "witness", "WITNESS"))
 }
 
 /// The program with this command too.
-fn with<'a>(
+fn with_command<'a>(
     program: Command<'a>,
     command: Result<Command<'a>, AllocError>,
 ) -> Result<Command<'a>, AllocError> {
@@ -117,13 +126,27 @@ fn with<'a>(
     }
 }
 
+/// The program, if there is one, with this command too.
+fn with<'a>(
+    program: Result<Command<'a>, AllocError>,
+    command: Result<Command<'a>, AllocError>,
+) -> Result<Command<'a>, AllocError> {
+    match program {
+        Ok(program) => with_command(program, command),
+        Err(refused) => {
+            drop(command);
+            Err(refused)
+        }
+    }
+}
+
 fn program<'a>(alloc: Global) -> Result<Command<'a>, AllocError> {
     let program = Command::new(alloc, "goodlockd")
         .about("Predicts the deadlocks of a traced program from its events")
         .subcommand_required(true);
-    let program = with(program, serve(alloc))?;
-    let program = with(program, script(alloc))?;
-    let program = with(program, offline(alloc))?;
+    let program = with_command(program, serve(alloc));
+    let program = with(program, script(alloc));
+    let program = with(program, offline(alloc));
     with(program, replay(alloc))
 }
 

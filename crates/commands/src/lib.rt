@@ -1,9 +1,10 @@
 //! The commands about files: each reads bytes and writes what it tells, and answers its exit
-//! status.
+//! status; and the same for files by their names.
 #![tactic(auto)]
 
 mod admission;
 mod commands;
+mod named_files;
 mod offline_command;
 mod outcome;
 mod progress;
@@ -13,6 +14,7 @@ mod script;
 mod script_text;
 
 pub use commands::{Command, read_script};
+pub use named_files::{ended, offline_file, replay_files, script_file};
 pub use offline_command::run_offline;
 pub use outcome::{Status, Stopped};
 pub use progress::{Progress, Unshown};

@@ -1,28 +1,35 @@
 -- A run goes on with what the machine takes.
-use Rattle.std.proofs.Common.{◌≡◌, ℕ, zero, suc, ◌≤◌, List, [], ◌∷◌, ◌++◌, length, take, Option, None, refl, sym, ap, subst, ◌∙◌, arith}
-use Rattle.std.proofs.lemmas.List.{length-map, length-take}
+use Rattle.std.proofs.Common.{◌≡◌, ℕ, zero, suc, ◌≤◌, List, [], ◌∷◌, ◌++◌, length, take, get_or, inl, inr, Option, Some, None, refl, sym, ap, subst, ◌∙◌, arith}
+use Rattle.std.proofs.lemmas.List.{append-nil, length-map, length-take}
+use Rattle.std.proofs.lemmas.Option.{none-some, slice_get-get_or}
 use Rattle.trace_model.specs.declared.traces.event.Event.{Event}
 use Rattle.trace_model.specs.declared.limits.TheConstants.{MAX_CYCLES}
 use Rattle.trace_model.specs.declared.refusal.Refusal.{Refusal}
+use Rattle.trace_model.specs.declared.refusal.Refusal.TheVariants.{NoMemory}
 use Rattle.trace_model.specs.declared.messages.step.BoardStep.{BoardStep}
 use Rattle.trace_model.specs.declared.messages.step.BoardStep.TheVariants.{Accept, Open}
-use Rattle.trace_model.specs.declared.messages.session.Request.TheVariants.{Ask}
+use Rattle.trace_model.specs.declared.messages.session.Request.TheVariants.{Offer, Ask}
+use Rattle.trace_model.specs.declared.messages.session.Reply.TheVariants.{Refused}
+use Rattle.trace_model.specs.Theory.Trace.{Trace}
 use Rattle.trace_model.specs.Theory.Lawful.{refusal_of}
 use Rattle.trace_model.specs.Protocol.Batches.{IsBatch}
 use Rattle.trace_model.specs.Theory.Rows.{AreRows}
 use Rattle.trace_model.specs.Theory.Dependencies.{dependencies}
-use Rattle.trace_model.specs.Protocol.Machine.{State, opening, ask_refused, ask_reply, deliver_refused, step, with_event, with_question}
+use Rattle.trace_model.specs.Protocol.Machine.{State, opening, ask_refused, ask_reply, ask_next, deliver_next, deliver_refused, offer_reply, offer_next, step, with_event, with_question}
 use Rattle.trace_model.specs.Protocol.Runs.{IsLegal, TakesStep}
 use Rattle.trace_model.proofs.Protocol.Taking.{machine_steps, one_takes, run_legal, run_push}
 use Rattle.findings.specs.Found.{AreRowsOf, FoundRows}
+use Rattle.sequencer.specs.declared.asking.AskRefused.{AskRefused}
 use Rattle.sequencer.specs.declared.asking.Opened.{Opened}
 use Rattle.sequencer.specs.declared.batching.Batched.{Batched}
-use Rattle.sequencer.specs.Batched.{IsBatched}
-use Rattle.sequencer.specs.Book.{findings_rows, opened_reply}
+use Rattle.sequencer.specs.Batched.{EndsBatch, FirstIsAdmitted, IsBatched}
+use Rattle.sequencer.specs.Book as books
+use Rattle.sequencer.specs.Book.{Refuses, RefusesAsk, RefusesOffer, IsAccepted, ask_refusal, findings_rows, opened_reply}
 use Rattle.sequencer.specs.Printing.{printing}
 use Rattle.sequencer.specs.Sessions.{delivery}
 use Rattle.desk.specs.Batches.{accepting}
-use Rattle.desk.specs.Published.{After, IsKept, delivery_step}
+use Rattle.desk.specs.Published.{After, IsKept, Kept, delivery_step}
+use Rattle.desk.specs.Refused.{RefusesFinding}
 
 -- the machine takes the step
 abbrev pub Takes : State → BoardStep → State → Type 0
@@ -39,6 +46,10 @@ kept_on limit run waiting shown rest s next added kept takes is none = record {
 
 pub legal_kept : (limit : ℕ) (run waiting : List BoardStep) (s : State) → IsKept limit run waiting s → IsLegal run
 legal_kept limit run waiting s kept = run_legal limit s run kept.allowed kept.after
+
+-- so it is of what is shown of both
+pub after_shown : (limit : ℕ) (k shown : Kept) → k ≡ shown → After limit k.published k.state → After limit shown.published shown.state
+after_shown limit k shown is = subst (λ (x : Kept). After limit x.published x.state) is
 
 -- one more step may be published
 pub legal_next : (limit : ℕ) (run waiting shown : List BoardStep) (s next : State) (added : BoardStep) → IsKept limit run waiting s → Takes s added next →
@@ -77,3 +88,48 @@ takes_finding s next f none is exact =
     let rows = findings_rows f in
     subst (Takes s (delivery_step f)) (ap (λ (r : Option Refusal × State). r.1) is)
     ((machine_steps AreRows).delivers s f.question f.bound f.events f.task rows (sym none) exact.exact (subst (λ n. n ≤ MAX_CYCLES) (sym (length-map f.rows (λ p. p.row))) exact.few))
+
+-- the first of a batch, where there is room for it
+pub first_admitted : (book : books.Kept) (s : State) (events : List Event) (d : Event) → 1 ≤ length events → book.state ≡ s → book.reserved ≡ Some (get_or events 0 d) →
+    refusal_of s.limit s.accepted (get_or events 0 d) ≡ None → FirstIsAdmitted book events
+first_admitted book s events d some shown reserved none =
+    let e = get_or events 0 d in
+    (e, slice_get-get_or events 0 d some, reserved, subst (λ (x : State). refusal_of x.limit x.accepted e ≡ None) (sym shown) none)
+
+-- ---- what it refuses
+
+pub refuses_offer : (s : State) (e : Event) (r : Refusal) → RefusesOffer s e r → Refuses s (Offer e) (Refused r)
+refuses_offer s e r (inl is) = inl (ap (λ o. (offer_reply s o, offer_next s e o)) is)
+refuses_offer s e r (inr (is, none)) = inr (ap (λ x. Refused x) is, subst (λ o. IsAccepted (offer_reply s o)) (sym none) tt)
+
+pub refuses_ask : (s : State) (bound : ℕ) (r : AskRefused) → RefusesAsk s bound r → Refuses s (Ask bound) (Refused (ask_refusal r))
+refuses_ask s bound r (inl is) = inl (ap (λ o. (ask_reply s o, ask_next s bound o)) is)
+refuses_ask s bound r (inr (is, none)) = inr (ap (λ x. Refused (ask_refusal x)) is, subst (λ o. IsAccepted (ask_reply s o)) (sym none) tt)
+
+pub refuses_finding : (s : State) (f : FoundRows) (r : Refusal) → Some r ≡ deliver_refused s f.question f.bound f.events f.task → RefusesFinding s f r
+refuses_finding s f r is = inl (ap (λ o. (o, deliver_next s f.question f.task (findings_rows f) o)) (sym is))
+
+-- what it would take is refused for want of memory
+pub no_memory_offer : (s : State) (e : Event) → refusal_of s.limit s.accepted e ≡ None → Refuses s (Offer e) (Refused NoMemory)
+no_memory_offer s e none = inr (refl, subst (λ o. IsAccepted (offer_reply s o)) (sym none) tt)
+
+pub no_memory_ask : (s : State) (bound : ℕ) → ask_refused s bound ≡ None → Refuses s (Ask bound) (Refused NoMemory)
+no_memory_ask s bound none = inr (refl, subst (λ o. IsAccepted (ask_reply s o)) (sym none) tt)
+
+-- none of a batch is accepted, where its first event is refused
+pub none_batched : (s next : State) (events : List Event) (d : Event) (r : Refusal) (out : Batched) → next ≡ s → 1 ≤ length events → RefusesOffer s (get_or events 0 d) r →
+    out.accepted ≡ 0 → out.refusal ≡ Some r → out.length ≡ length next.accepted → IsBatched s events out next
+none_batched s next events d r out shown some refuses none refusal long =
+    let is : out ≡ record { accepted = 0; refusal = Some r; length = length s.accepted } =
+    λ i. record { accepted = none i; refusal = refusal i; length = (long ∙ ap (λ (x : State). length x.accepted) shown) i } in
+    let same : IsBatched s events (record { accepted = 0; refusal = Some r; length = length s.accepted }) s = record {
+      first = refl;
+      within = omega arith;
+      lawful = λ k e at. absurd (none-some e at);
+      appended = ap (λ (a : Trace). record s { accepted = a }) (sym (append-nil s.accepted));
+      ended = subst (λ o. EndsBatch s o (Some r)) (sym (slice_get-get_or events 0 d some)) refuses;
+    } in
+    subst (λ (o : Batched). IsBatched s events o next) (sym is) (subst (IsBatched s events (record { accepted = 0; refusal = Some r; length = length s.accepted })) (sym shown) same)
+
+pub none_accepted : (run shown : List BoardStep) (events : List Event) (n : ℕ) → run ≡ shown → n ≡ 0 → run ≡ shown ++ accepting (take n events)
+none_accepted run shown events n same none = same ∙ (sym (append-nil shown) ∙ ap (λ k. shown ++ accepting (take k events)) (sym none))

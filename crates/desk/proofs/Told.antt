@@ -1,15 +1,19 @@
 -- What a client reads off the board, and is told by the desk.
-use Rattle.std.proofs.Common.{◌≡◌, ℕ, zero, suc, List, ◌++◌, take, inl, refl, sym, ap, subst, ◌∙◌, arith}
+use Rattle.std.proofs.Common.{◌≡◌, ℕ, zero, suc, List, [], ◌∷◌, ◌++◌, take, inl, inr, Result, Ok, Err, IfOk, IfErr, refl, sym, ap, subst, ◌∙◌, arith}
 use Rattle.std.proofs.lemmas.List.{append-nil}
 use mathlib.Core.List.{IsPrefix}
 use Rattle.trace_model.specs.declared.traces.event.Event.{Event}
 use Rattle.trace_model.specs.declared.limits.TheConstants.{MAX_EVENTS}
 use Rattle.trace_model.specs.declared.messages.session.Reply.{Reply}
 use Rattle.trace_model.specs.declared.messages.session.Reply.TheVariants as replies
-use Rattle.trace_model.specs.declared.messages.session.Request.TheVariants.{Batch}
+use Rattle.trace_model.specs.declared.messages.session.Request.{Request}
+use Rattle.trace_model.specs.declared.messages.session.Request.TheVariants.{Offer, Answer as AskAnswer, Batch}
 use Rattle.trace_model.specs.declared.messages.step.BoardStep.{BoardStep}
+use Rattle.trace_model.specs.declared.messages.step.BoardStep.TheVariants.{Accept}
+use Rattle.trace_model.specs.declared.refusal.Refusal.{Refusal}
+use Rattle.trace_model.specs.declared.traces.place.Place.{Place}
 use Rattle.trace_model.specs.Protocol.Batches.{IsBatch}
-use Rattle.trace_model.specs.Protocol.Machine.{State}
+use Rattle.trace_model.specs.Protocol.Machine.{State, step}
 use Rattle.trace_model.specs.Theory.Trace.{Trace}
 use Rattle.trace_model.specs.Theory.Rows.{AreRows}
 use Rattle.trace_model.specs.Protocol.Runs as runs
@@ -18,11 +22,15 @@ use Rattle.trace_model.proofs.Protocol.Summary.{summary_is_state}
 use Rattle.trace_model.proofs.Protocol.Taking.{status_shown}
 use Rattle.board.specs.Totals.{ShowsCounts, Shows}
 use Rattle.board.specs.declared.summary.Summary.{Summary}
+use Rattle.sequencer.specs.declared.answering.Answer.{Answer}
+use Rattle.sequencer.specs.declared.answering.AnswerRefused.{AnswerRefused}
 use Rattle.sequencer.specs.declared.batching.Batched.{Batched}
+use Rattle.sequencer.specs.Book.{Refuses, answer_refusal, answer_reply}
+use Rattle.sequencer.specs.Printing.{printing}
 use Rattle.sequencer.specs.Called.{StepsOrMemory}
 use Rattle.sequencer.proofs.Called.{batch_steps}
 use Rattle.desk.specs.Batches.{EndsByBatch, accepting}
-use Rattle.desk.specs.Published.{After}
+use Rattle.desk.specs.Published.{After, Afterwards, EndsBy}
 use Rattle.desk.proofs.Steps.{accepting_some}
 use Rattle.desk.specs.Clients.{IsStatus, IsTold, RepliesAfter}
 
@@ -64,3 +72,49 @@ told_batch limit run seen events b some learnt h = record {
       is = h.is;
       took = subst (λ k. StepsOrMemory h.state (Batch events) (reply k) h.next) is steps;
     }
+
+-- ---- what the desk told
+
+abbrev WasPlaced : ℕ → List BoardStep → Event → Place → Type 0
+WasPlaced limit run event place = EndsBy limit run (Accept (event ∷ [])) (λ state next. step printing state (Offer event) ≡ (replies.Placed place, next))
+
+abbrev WasRefused : ℕ → List BoardStep → Request → Refusal → Type 0
+WasRefused limit run request refusal = Afterwards limit run (λ state. Refuses state request (replies.Refused refusal))
+
+abbrev WasAnswered : ℕ → List BoardStep → ℕ → Answer → Type 0
+WasAnswered limit run question told = Afterwards limit run (λ state. step printing state (AskAnswer question) ≡ (answer_reply question told, state))
+
+pub told_placed : (limit : ℕ) (run seen : List BoardStep) (event : Event) (result : Result Place Refusal) (place : Place) → IsPrefix run seen → result ≡ Ok place → IfOk result (WasPlaced limit run event) →
+    IsTold limit (Offer event) (replies.Placed place) seen
+told_placed limit run seen event result place learnt is h =
+    let e : WasPlaced limit run event place = subst (λ r. IfOk r (WasPlaced limit run event)) is h in
+    record {
+      run = run;
+      learnt = learnt;
+      replies = record { before = e.before; state = e.state; next = e.next; ends = e.ends; was = e.was; is = e.is; took = inl e.took };
+    }
+
+pub told_unplaced : (limit : ℕ) (run seen : List BoardStep) (event : Event) (result : Result Place Refusal) (refusal : Refusal) → IsPrefix run seen → result ≡ Err refusal → IfErr result (WasRefused limit run (Offer event)) →
+    IsTold limit (Offer event) (replies.Refused refusal) seen
+told_unplaced limit run seen event result refusal learnt is h =
+    let (state, after, refuses) = subst (λ r. IfErr r (WasRefused limit run (Offer event))) is h in record {
+      run = run;
+      learnt = learnt;
+      replies = (state, after, elim refuses [ inl machine ↦ inl machine | inr (memory, accepted) ↦ inr (memory, refl, accepted) ]);
+    }
+
+pub told_answer : (limit : ℕ) (run seen : List BoardStep) (question : ℕ) (result : Result Answer AnswerRefused) (told : Answer) (reply : Reply) → IsPrefix run seen → result ≡ Ok told → reply ≡ answer_reply question told →
+    IfOk result (WasAnswered limit run question) → IsTold limit (AskAnswer question) reply seen
+told_answer limit run seen question result told reply learnt is same h =
+    let (state, after, steps) = subst (λ r. IfOk r (WasAnswered limit run question)) is h in
+    subst (λ (r : Reply). IsTold limit (AskAnswer question) r seen) (sym same) (record { run = run; learnt = learnt; replies = (state, after, inl steps) })
+
+pub told_no_answer : (limit : ℕ) (run seen : List BoardStep) (question : ℕ) (result : Result Answer AnswerRefused) (refused : AnswerRefused) (refusal : Refusal) → IsPrefix run seen → result ≡ Err refused → refusal ≡ answer_refusal refused →
+    IfErr result (λ r. WasRefused limit run (AskAnswer question) (answer_refusal r)) → IsTold limit (AskAnswer question) (replies.Refused refusal) seen
+told_no_answer limit run seen question result refused refusal learnt is same h =
+    let (state, after, refuses) = subst (λ r. IfErr r (λ x. WasRefused limit run (AskAnswer question) (answer_refusal x))) is h in
+    subst (λ (r : Refusal). IsTold limit (AskAnswer question) (replies.Refused r) seen) (sym same) (record {
+      run = run;
+      learnt = learnt;
+      replies = (state, after, elim refuses [ inl machine ↦ inl machine | inr (memory, accepted) ↦ inr (memory, refl, accepted) ]);
+    })

@@ -9,8 +9,6 @@ mod desks;
 #[cfg(test)]
 mod eight_threads;
 #[cfg(test)]
-mod findings_at_desk;
-#[cfg(test)]
 mod many_findings;
 #[cfg(test)]
 mod offers;

@@ -1,6 +1,6 @@
 //! Findings of all sorts, by lists and by many threads.
 
-use crate::findings_at_desk::{Script, at_desk};
+use crate::at_desk::{Script, at_desk};
 use crate::offers::asks_about_opposite_orders;
 use board::{BoardReader, Follows, Naming, Receipt, Shown};
 use desk::Desk;
@@ -206,7 +206,7 @@ fn findings_from_anyone(rt: HostRuntime) -> Result<(), Fail> {
     let stranger = Stranger::new(&rt).ok_or("a stranger")?;
     let taken = at_desk(rt, Script::ListsInTurn(&stranger, Way::OneByOne));
     drop(stranger);
-    taken.ok_or("a desk")?
+    taken
 }
 
 #[test]
@@ -214,7 +214,7 @@ fn lists_of_findings_from_anyone(rt: HostRuntime) -> Result<(), Fail> {
     let stranger = Stranger::new(&rt).ok_or("a stranger")?;
     let taken = at_desk(rt, Script::ListsInTurn(&stranger, Way::Together));
     drop(stranger);
-    taken.ok_or("a desk")?
+    taken
 }
 
 /// Findings, what becomes of each, and what the board then has of question 0.
@@ -317,7 +317,7 @@ fn thirty_two_deliveries(rt: HostRuntime) -> Result<(), Fail> {
     let stranger = Stranger::new(&rt).ok_or("a stranger")?;
     let taken = at_desk(rt, Script::ListsAtOnce(&stranger, Way::OneByOne));
     drop(stranger);
-    taken.ok_or("a desk")?
+    taken
 }
 
 #[test]
@@ -325,7 +325,7 @@ fn thirty_two_deliveries_by_lists_of_four(rt: HostRuntime) -> Result<(), Fail> {
     let stranger = Stranger::new(&rt).ok_or("a stranger")?;
     let taken = at_desk(rt, Script::ListsAtOnce(&stranger, Way::Together));
     drop(stranger);
-    taken.ok_or("a desk")?
+    taken
 }
 
 /// For each thread the findings that it delivers.

@@ -1,7 +1,7 @@
 //! Runs in which one allocation may be refused, whichever: what was refused is done again. The
 //! tests pass where none is refused, as in any run of tests; `bench/refused` refuses each in turn.
 
-use crate::findings_at_desk::{Script, at_desk};
+use crate::at_desk::{Script, try_at_desk};
 use crate::many_findings::{FIRST, SECOND, Stranger};
 use crate::offers::{answer, asked, is_report, missing, offer};
 use crate::workers::{Free, workers_at};
@@ -193,7 +193,7 @@ fn answers<N: Naming, R: Wait + Abort + Copy>(
 #[test]
 fn a_desk_goes_on_after_a_refusal(rt: HostRuntime) -> Result<(), Fail> {
     for _ in 0..2u32 {
-        if let Some(done) = at_desk(rt, Script::GoesOn) {
+        if let Some(done) = try_at_desk(rt, Script::GoesOn) {
             return done;
         }
     }

@@ -156,6 +156,43 @@ pub fn read_events(alloc: Global, file: &[u8]) -> Result<Vec<Event>, FileRefused
     events_of(alloc, &lines, 0)
 }
 
+/// The events, and then these.
+fn followed(events: Vec<Event>, rest: &[Event]) -> Result<Vec<Event>, FileRefused>
+    ensures { IfOk result (λ all. all.items ≡ events.items ++ rest.now) }
+{
+    let mut events = events;
+    match events.extend_from_slice(rest) {
+        Ok(()) => Ok(events),
+        Err(_) => Err(FileRefused::NoMemory),
+    }
+}
+
+/// The events of the lines of a file: each half is read by a thread.
+///
+/// # Errors
+///
+/// As of `read_events`.
+fn events_by<R: Threads>(rt: &R, alloc: Global, lines: &[&[u8]]) -> Result<Vec<Event>, FileRefused>
+    ensures { IfOk result (λ events.
+        AreEventsIn events.items (map (λ line. line.now) lines.now)) }
+{
+    let (front, back) = lines.split_at(lines.len() / 2);
+    let (first, second) = join(
+        rt,
+        || -> Result<Vec<Event>, FileRefused>
+            ensures { IfOk result (λ events.
+                AreEventsIn events.items (map (λ line. line.now) front.entry.now)) }
+        { events_of(alloc, front, 0) },
+        || -> Result<Vec<Event>, FileRefused>
+            ensures { IfOk result (λ events.
+                AreEventsIn events.items (map (λ line. line.now) back.entry.now)) }
+        { events_of(alloc, back, front.len()) },
+    );
+    let events = first?;
+    let rest = second?;
+    followed(events, &rest)
+}
+
 /// The events of a file, in their order, as `read_events` gives them: of its lines each half is
 /// read by a thread.
 ///
@@ -170,22 +207,5 @@ pub fn read_events_by<R: Threads>(
     ensures { IfOk result (λ events. AreEventsOf events.items file.now) }
 {
     let lines = lines_of(alloc, file)?;
-    let (front, back) = lines.split_at(lines.len() / 2);
-    let (first, second) = join(
-        rt,
-        || -> Result<Vec<Event>, FileRefused>
-            ensures { IfOk result (λ events.
-                AreEventsIn events.items (map (λ line. line.now) front.entry.now)) }
-        { events_of(alloc, front, 0) },
-        || -> Result<Vec<Event>, FileRefused>
-            ensures { IfOk result (λ events.
-                AreEventsIn events.items (map (λ line. line.now) back.entry.now)) }
-        { events_of(alloc, back, front.len()) },
-    );
-    let mut events = first?;
-    let rest = second?;
-    match events.extend_from_slice(&rest) {
-        Ok(()) => Ok(events),
-        Err(_) => Err(FileRefused::NoMemory),
-    }
+    events_by(rt, alloc, &lines)
 }

@@ -42,6 +42,56 @@ fn reach(alloc: Global, words: &[&[u8]]) -> Result<Option<Instance>, NoMemory> {
     }
 }
 
+/// Reads the words of the next line, none where it is skipped. It answers whether they are
+/// understood.
+fn read_words(
+    alloc: Global,
+    words: &[&[u8]],
+    instance: &mut Option<Instance>,
+    order: &mut Option<Vec<Place>>,
+) -> Result<bool, NoMemory> {
+    if words.is_empty() {
+        return Ok(true);
+    }
+    if instance.is_none() {
+        *instance = reach(alloc, words)?;
+        return Ok(instance.is_some());
+    }
+    if order.is_none() {
+        *order = places_after(alloc, b"order", words)?;
+        return Ok(order.is_some());
+    }
+    Ok(false)
+}
+
+/// Reads the next line. It answers whether that is understood.
+fn read_line(
+    alloc: Global,
+    line: &[u8],
+    instance: &mut Option<Instance>,
+    order: &mut Option<Vec<Place>>,
+) -> Result<bool, NoMemory> {
+    let words = words_of(alloc, line)?;
+    read_words(alloc, &words, instance, order)
+}
+
+/// Reads the lines of a file, and answers how many pieces it was cut into.
+fn read_lines(
+    alloc: Global,
+    file: &[u8],
+    instance: &mut Option<Instance>,
+    order: &mut Option<Vec<Place>>,
+) -> Result<usize, FileRefused> {
+    let mut lines = 0usize;
+    for line in file.split(|byte| *byte == b'\n') {
+        lines = lines.saturating_add(1);
+        if !read_line(alloc, line, instance, order)? {
+            return Err(FileRefused::Line(lines));
+        }
+    }
+    Ok(lines)
+}
+
 /// Reads a witness file: beside skipped lines a line `reach` with 2 to 8 numbers, and then a line
 /// `order` with any number of them.
 ///
@@ -52,30 +102,10 @@ fn reach(alloc: Global, words: &[&[u8]]) -> Result<Option<Instance>, NoMemory> {
 pub fn read_witness(alloc: Global, file: &[u8]) -> Result<WitnessFile, FileRefused> {
     let mut instance = None;
     let mut order = None;
-    let mut lines = 0usize;
-    for line in file.split(|byte| *byte == b'\n') {
-        let words = words_of(alloc, line)?;
-        lines = lines.saturating_add(1);
-        if words.is_empty() {
-            continue;
-        }
-        if instance.is_none() {
-            instance = reach(alloc, &words)?;
-            if instance.is_none() {
-                return Err(FileRefused::Line(lines));
-            }
-        } else if order.is_none() {
-            order = places_after(alloc, b"order", &words)?;
-            if order.is_none() {
-                return Err(FileRefused::Line(lines));
-            }
-        } else {
-            return Err(FileRefused::Line(lines));
-        }
-    }
+    let pieces = read_lines(alloc, file, &mut instance, &mut order)?;
     match (instance, order) {
         (Some(instance), Some(order)) => Ok(WitnessFile { instance, order }),
-        _ => Err(FileRefused::Line(after_last(file, lines))),
+        _ => Err(FileRefused::Line(after_last(file, pieces))),
     }
 }
 

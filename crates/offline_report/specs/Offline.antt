@@ -1,7 +1,7 @@
 -- The report on a whole list of events.
-use Rattle.std.specs.Prelude.{◌≡◌, ℕ, suc, ◌<◌, List, [], length, map, slice_get, count_by, Option, Some, MatchOption, Result, MatchResult}
+use Rattle.std.specs.Prelude.{◌≡◌, ℕ, suc, ◌<◌, List, [], length, map, slice_get, count_by, Option, Some, MatchOption, Result, Ok, Err, Contains, MatchResult}
 use Rattle.std.specs.Global.{Vec}
-use Rattle.std.specs.List.{AllZip, flat_map}
+use Rattle.std.specs.List.{AllZip, flat_map, range_with_len}
 use Rattle.std.specs.Option.{option_map_or}
 use Rattle.trace_model.specs.declared.limits.TheConstants.{MAX_REPORT, MAX_CYCLES}
 use Rattle.trace_model.specs.Theory.Trace.{Trace}
@@ -80,6 +80,14 @@ pub record AreComputed (s : Trace) (bound n : ℕ) (tasks : List (List Printed))
   pub each : (task : ℕ) (rows : List Printed) → slice_get tasks task ≡ Some rows →
       AreRowsOf s bound task rows
   pub told : AllZip Tells tasks parts
+
+-- what the first n tasks give, in their order, or why one of them gave nothing
+abbrev pub AreGathered : {Given : Type 0} (may_give : ℕ → Result Given OfflineRefused → Type 0)
+    (n : ℕ) → Result (Vec Given) OfflineRefused → Type 0
+AreGathered {Given} may_give n result =
+    (given : List (Result Given OfflineRefused)) × AllZip may_give (range_with_len 0 n) given
+    × MatchResult result (λ all. (ys : List Given) × (given ≡ map Ok ys) × (all.items ≡ ys))
+    (λ refused. Contains given (Err refused))
 
 -- what a report has of all tasks, or rightly none
 abbrev pub AreAllParts : Trace → ℕ → Result (Vec Part) OfflineRefused → Type 0

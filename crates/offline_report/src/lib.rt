@@ -2,6 +2,7 @@
 //! and the rows of the tasks by as many threads as there are processors.
 #![tactic(auto)]
 
+mod gathering;
 mod opening;
 mod parts;
 mod refused;

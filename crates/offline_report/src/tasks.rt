@@ -1,14 +1,14 @@
-//! What the report has of all tasks, by as many threads as there are processors.
+//! What the report has of all tasks.
 ghost use Rattle.std.specs.Prelude.{◌≡◌, ℕ, [], IfOk, MatchResult};
 ghost use Rattle.std.specs.Arc.{arc_value};
 ghost use Rattle.trace_model.specs.Theory.Trace.{Trace};
 ghost use Rattle.findings.specs.Found.{AreRowsOf};
 ghost use Rattle.offline_report.specs.Offline.{AreAllParts, IsNotComputed, IsTask};
 
+use crate::gathering::{Computes, gather};
 use crate::parts::{Part, part_of};
 use crate::refused::OfflineRefused;
 use findings::{ComputeRefused, Hold, Job, Snapshot};
-use rayon::prelude::*;
 use std::alloc::{AllocError, Global};
 use std::marker::{Brand, Model, PhantomData};
 use std::sync::Arc;
@@ -18,10 +18,6 @@ use witness::{Page, Row};
 
 /// The number of the one question that is asked about a file.
 const QUESTION: u32 = 0;
-
-/// With fewer tasks than two such pieces no thread is started: a piece makes anew what its tasks
-/// keep from one to the next.
-const LEAST_PIECE: usize = 16;
 
 /// Names the events and the bound of a question, in proofs alone.
 pub trait About {
@@ -128,8 +124,36 @@ fn part_by<A: About, H: Hold>(
     part
 }
 
+/// The named question, about a snapshot.
+#[derive(Drop)]
+struct Question<'a, A: About, H: Hold> {
+    alloc: Global,
+    snapshot: &'a Arc<Snapshot, Global>,
+    bound: Bound,
+    hold: &'a H,
+    name: PhantomData<A>,
+    ghost events: { arc_value snapshot.now ≡ A.events },
+    ghost bounded: { bound ≡ A.bound },
+}
+
+impl<'a, A: About + Send + Sync, H: Hold + Sync> Computes for Question<'a, A, H> {
+    type Piece = Piece<A>;
+
+    type Given = Part;
+
+    ghost may_give = { IsTask A.events A.bound };
+
+    fn piece(&self) -> Piece<A> {
+        Piece::new(self.alloc, self.snapshot, self.bound)
+    }
+
+    fn compute(&self, piece: &mut Piece<A>, task: u32) -> Result<Part, OfflineRefused> {
+        part_by(piece, self.hold, task)
+    }
+}
+
 /// What the report has of all tasks of the named question, in the order of the tasks.
-fn compute_all<A: About + Send, R: Threads + Sync, H: Hold + Sync>(
+fn compute_all<A: About + Send + Sync, R: Threads + Sync, H: Hold + Sync>(
     rt: &R,
     alloc: Global,
     snapshot: &Arc<Snapshot, Global>,
@@ -140,18 +164,14 @@ fn compute_all<A: About + Send, R: Threads + Sync, H: Hold + Sync>(
     requires bound { bound ≡ A.bound }
     ensures { IfOk result (AreAllParts A.events A.bound) }
 {
-    (0..snapshot.tasks())
-        .into_par_iter()
-        .with_min_len(LEAST_PIECE)
-        .map_init(
-            || -> Piece<A>
-                requires { (arc_value snapshot.now ≡ A.events) × (bound ≡ A.bound) }
-            { Piece::new(alloc, snapshot, bound) },
-            |piece: &mut Piece<A>, task: u32| -> Result<Part, OfflineRefused>
-                ensures { IsTask A.events A.bound task result }
-            { part_by(piece, hold, task) },
-        )
-        .collect(rt, alloc)
+    let question: Question<'_, A, H> = Question {
+        alloc,
+        snapshot,
+        bound,
+        hold,
+        name: PhantomData,
+    };
+    gather(rt, alloc, snapshot.tasks(), &question)
 }
 
 /// What the report has of all tasks of a question with this bound about the snapshot's events, in

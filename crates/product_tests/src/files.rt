@@ -1,6 +1,6 @@
 //! Files that are not understood, and output that fails.
 use crate::outcomes::{offline, replay, script};
-use commands::run_script;
+use commands::{Status, offline_file, replay_files, run_script, script_file};
 use fixtures::LIMIT;
 use std::hash::RandomState;
 use std::io::{self, ErrorKind, Write};
@@ -102,5 +102,16 @@ fn output_that_fails(rt: HostRuntime) -> Result<(), Fail> {
         assert_eq!(rt; status.code(), 1);
         assert!(rt; err.is_empty());
     }
+    Ok(())
+}
+
+#[test]
+fn files_that_cannot_be_read(rt: HostRuntime) -> Result<(), Fail> {
+    assert_eq!(rt; script_file(&rt, "no_such_file", LIMIT)?, Status::Failed);
+    assert_eq!(rt; offline_file(&rt, &rt, "no_such_file", 2)?, Status::Failed);
+    assert_eq!(rt;
+        replay_files(&rt, "no_such_file", "no_such_file")?,
+        Status::Failed
+    );
     Ok(())
 }

@@ -1,12 +1,10 @@
 //! Sessions over sockets.
-use crate::seats::Seats;
-use board::{Naming, Shown};
-use desk::{Client, Desk};
+use sequencer::Calls;
 use sessions::{Ended, ReadSource, WriteSink, serve};
 use std::alloc::Global;
 use std::io::Read;
 use std::net::{Shutdown, TcpStream};
-use std::sync::{Arc, Mutex, Wait};
+use std::sync::Wait;
 
 /// How many bytes are dropped at a time.
 const PIECE: usize = 4096;
@@ -30,35 +28,12 @@ fn linger(stream: &TcpStream) {
 }
 
 /// Answers the requests that come over the stream, until it ends or a fault comes.
-fn converse<N: Naming, R: Wait + Copy>(
-    rt: R,
-    alloc: Global,
-    stream: &TcpStream,
-    client: &mut Client<N, R, Shown<N>>,
-) {
+pub fn converse<R: Wait, C: Calls>(rt: &R, alloc: Global, stream: &TcpStream, calls: &mut C) {
     // Without it replies are late, and still right.
     let _ = stream.set_nodelay(true);
     let mut source = ReadSource::new(stream);
     let mut sink = WriteSink::new(stream);
-    if let Ok(Ended::Frame(_)) = serve(&rt, alloc, &mut source, &mut sink, client) {
+    if let Ok(Ended::Frame(_)) = serve(rt, alloc, &mut source, &mut sink, calls) {
         linger(stream);
     }
-}
-
-/// Holds a session over the stream, on a seat that was taken for it, and gives the seat up.
-pub fn hold_session<N: Naming, R: Wait + Copy>(
-    rt: R,
-    alloc: Global,
-    desk: Arc<Desk<N, R, Shown<N>>>,
-    seats: &Mutex<Seats<N>>,
-    stream: TcpStream,
-) {
-    let reader = seats.lock(&rt).reader();
-    let Some(reader) = reader else {
-        seats.lock(&rt).leave();
-        return;
-    };
-    let mut client = Client::new(desk, reader);
-    converse(rt, alloc, &stream, &mut client);
-    seats.lock(&rt).give_back(client.into_reader());
 }

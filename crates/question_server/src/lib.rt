@@ -2,6 +2,7 @@
 #![tactic(auto)]
 
 mod connections;
+mod duties;
 mod rest;
 mod seats;
 mod service;

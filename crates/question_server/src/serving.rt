@@ -3,10 +3,10 @@ ghost use Rattle.std.specs.Prelude.{◌≡◌};
 ghost use Rattle.sequencer.specs.Book.{IsLimit};
 ghost use Rattle.question_server.specs.Service.{IsWorkers};
 
-use crate::connections::hold_session;
+use crate::duties::{DeskDuties, Duties};
 use crate::seats::{MAX_SEATS, Seats};
 use crate::service::{ServerFault, Service};
-use crate::workers::{make_workers, work};
+use crate::workers::make_workers;
 use board::{Naming, Opened, Shown};
 use desk::{Desk, Worker};
 use findings::Hold;
@@ -14,54 +14,34 @@ use std::alloc::Global;
 use std::hash::RandomState;
 use std::marker::Brand;
 use std::net::TcpListener;
-use std::sync::atomic::{AtomicU64, Ordering};
+use std::sync::atomic::AtomicU64;
 use std::sync::{Arc, Mutex, Wait};
 use std::thread;
 use std::thread::Threads;
 use std::time::Clock;
 
-/// The desk for a session that takes a seat, if one is free and the desk can be shared once more.
-fn take_seat<N: Naming, R: Wait + Copy>(
-    rt: &R,
-    desk: &Arc<Desk<N, R, Shown<N>>>,
-    seats: &Mutex<Seats<N>>,
-) -> Option<Arc<Desk<N, R, Shown<N>>>> {
-    if !seats.lock(rt).take() {
-        return None;
-    }
-    match Arc::try_clone(desk) {
-        Ok(shared) => Some(shared),
-        Err(_) => {
-            seats.lock(rt).leave();
-            None
-        }
-    }
-}
-
 /// Takes sessions, each in a thread of its own, up to so many, and answers how many they were once
 /// they have ended. A connection for which there is no seat or no thread is closed and not counted.
-fn take_sessions<N: Naming + Send + Sync, R: Threads + Wait + Copy + Send + Sync>(
-    rt: R,
-    alloc: Global,
+fn take_sessions<R: Threads + Wait, D: Duties>(
+    rt: &R,
     listener: &TcpListener,
     most: u64,
-    desk: &Arc<Desk<N, R, Shown<N>>>,
-    seats: &Mutex<Seats<N>>,
+    duties: &D,
 ) -> Result<u64, ServerFault> {
-    thread::scope(thread::scope_env(), &rt, |scope| {
+    thread::scope(thread::scope_env(), rt, |scope| {
         let mut taken = 0u64;
         for stream in listener.incoming() {
             let Ok(stream) = stream else {
                 return Err(ServerFault::Listen);
             };
-            let Some(shared) = take_seat(&rt, desk, seats) else {
+            let Some(guest) = duties.take_seat() else {
                 continue;
             };
             if scope
-                .spawn(move || hold_session(rt, alloc, shared, seats, stream))
+                .spawn(move || duties.hold_session(guest, stream))
                 .is_err()
             {
-                seats.lock(&rt).leave();
+                duties.leave_seat();
                 continue;
             }
             taken = taken.saturating_add(1);
@@ -74,6 +54,27 @@ fn take_sessions<N: Naming + Send + Sync, R: Threads + Wait + Copy + Send + Sync
 }
 
 /// Runs the workers and takes sessions, and stops the workers once the sessions have ended.
+fn run_threads<R: Threads + Wait, D: Duties>(
+    rt: &R,
+    listener: &TcpListener,
+    most: u64,
+    workers: Vec<D::Worker>,
+    duties: &D,
+) -> Result<u64, ServerFault> {
+    thread::scope(thread::scope_env(), rt, |scope| {
+        for worker in workers {
+            if scope.spawn(move || duties.work(worker)).is_err() {
+                duties.stop_workers();
+                return Err(ServerFault::NotMade);
+            }
+        }
+        let served = take_sessions(rt, listener, most, duties);
+        duties.stop_workers();
+        served
+    })
+}
+
+/// Serves the desk by these workers and by the sessions that come.
 fn serve_desk<
     N: Naming + Send + Sync,
     R: Threads + Wait + Clock + Copy + Send + Sync,
@@ -89,18 +90,15 @@ fn serve_desk<
     hold: &H,
 ) -> Result<u64, ServerFault> {
     let stop = AtomicU64::new(0);
-    let flag = &stop;
-    thread::scope(thread::scope_env(), &rt, |scope| {
-        for worker in workers {
-            if scope.spawn(move || work(rt, worker, flag, hold)).is_err() {
-                flag.store(1, Ordering::SeqCst);
-                return Err(ServerFault::NotMade);
-            }
-        }
-        let served = take_sessions(rt, alloc, listener, most, desk, seats);
-        flag.store(1, Ordering::SeqCst);
-        served
-    })
+    let duties = DeskDuties {
+        rt,
+        alloc,
+        desk,
+        seats,
+        hold,
+        stop: &stop,
+    };
+    run_threads(&rt, listener, most, workers, &duties)
 }
 
 /// Makes the desk of this history, and serves it.

@@ -71,7 +71,7 @@ pub fn make_workers<N: Naming, R: Wait + Copy>(
 }
 
 /// Takes turns until the flag is set. It rests while they deliver nothing.
-fn take_turns<N: Naming, R: Wait + Clock + Copy>(
+pub fn take_turns<N: Naming, R: Wait + Clock + Copy>(
     rt: R,
     worker: &mut Worker<N, R, Shown<N>>,
     stop: &AtomicU64,
@@ -87,16 +87,4 @@ fn take_turns<N: Naming, R: Wait + Clock + Copy>(
             _ => rest.after_nothing(&rt),
         }
     }
-}
-
-/// Has the worker take turns until the flag is set.
-pub fn work<N: Naming, R: Wait + Clock + Copy>(
-    rt: R,
-    worker: Worker<N, R, Shown<N>>,
-    stop: &AtomicU64,
-    hold: &impl Hold,
-) {
-    let mut worker = worker;
-    take_turns(rt, &mut worker, stop, hold);
-    drop(worker);
 }

@@ -148,6 +148,13 @@ own_question limit events asked f own number h found same =
     let is : own ≡ a.told = found ∙ (ap (λ i. get_or asked i own) same ∙ get_or_from_slice_get asked f.question a.told own a.known) in
     a.known ∙ ap (λ (t : Told). Some t) (sym is)
 
+-- its task is missing
+pub own_missing : (limit : ℕ) (events : Trace) (asked : List Told) (f : FoundRows) (told : Told) → deliver_refused (state_of limit events asked) f.question f.bound f.events f.task ≡ None →
+    slice_get asked f.question ≡ Some told → slice_get told.tasks f.task ≡ Some None
+own_missing limit events asked f told h at =
+    let a = is_admitted limit events asked f h in
+    subst (λ t. slice_get t.tasks f.task ≡ Some None) (same_Some a.told told (sym a.known ∙ at)) a.missing
+
 pub few_cycles : (adm limit : ℕ) (events : Trace) (asked : List Told) (f : FoundRows) (told : Told) → IsKept adm limit events asked → slice_get asked f.question ≡ Some told → AreRowsOf f.events f.bound f.task f.rows →
     cycles_of (question_of told) + length f.rows < 2 ^ 64
 few_cycles adm limit events asked f told kept at exact =
@@ -182,7 +189,7 @@ kept_told adm limit events asked f told h at exact kept =
     let own : a.told ≡ told = same_Some a.told told (sym a.known ∙ at) in
     let takes = (machine_steps AreRows).delivers s f.question f.bound f.events f.task rows h exact.exact (rw length-map exact.few) in
     let fits = step_fits AreRows s (deliver s f.question f.bound f.events f.task rows).1 (Deliver f.question f.task (length rows) (count_by is_confirmed rows)) takes kept.fits in
-    let missing : slice_get told.tasks f.task ≡ Some None = subst (λ t. slice_get t.tasks f.task ≡ Some None) own a.missing in
+    let missing = own_missing limit events asked f told h at in
     let named : AreNamed (take told.length events) f.rows = subst (λ t. AreNamed (take t.length events) f.rows) own (subst (λ r. AreNamed r f.rows) a.same_trace exact.named) in
     record {
       same_limit = kept.same_limit;

@@ -1,5 +1,5 @@
 -- What the loop that answers all that a reader has keeps.
-use Rattle.std.proofs.Common.{◌≡◌, ℕ, ◌<◌, Bool, List, [], ◌∷◌, ◌++◌, length, take, drop, Option, Some, None, Ok, refl, sym, ap, subst, ◌∙◌, append_assoc, arith, length-append}
+use Rattle.std.proofs.Common.{◌≡◌, ℕ, ◌<◌, Bool, List, [], ◌∷◌, ◌++◌, length, take, drop, Option, Some, None, Ok, Err, refl, sym, ap, subst, ◌∙◌, append_assoc, arith, length-append}
 use Rattle.std.specs.Io.KnownBytes.{Appends}
 use Rattle.std.proofs.lemmas.List.{append-nil, take-append-drop, map-append}
 use Rattle.std.proofs.lemmas.List.Concat.{flat_map-append}
@@ -100,6 +100,21 @@ answered_all steps calls reader written failures now left out counted after d a 
       put = subst (λ (x : List ℕ). Appends written out x) (sym (append-nil (frames_of d.fresh))) d.put;
       told = a.same.1;
       ended = a.same.2 ∙ d.ended;
+      read = λ text given h. let k = d.read text given h in let t = w text k.0 k.1 in subst (λ (g : List Request). HasRead text g after) t.0 t.2;
+    }
+
+-- a fault that was written whole
+pub answered_fault : {C : Type 0} (steps : C → Request → Reply → C → Type 0) (calls : C) (reader : Reading) (written : Option (List ℕ)) (failures : ℕ) (now : C) (left : Reading) (out : Option (List ℕ)) (counted : ℕ) (fault : Fault) (after : Reading) (longer : Option (List ℕ)) → IsAnswering steps calls reader written failures now left out counted → TellsFault left fault after → ((text : List ℕ) (given : List Request) → HasRead text given left → Tells text given left.ended (Err fault) after) → Appends out longer (reply_frame (FaultReply fault)) → Answered steps (between calls reader written) (between now after longer) (Some fault)
+answered_fault steps calls reader written failures now left out counted fault after longer d a w p =
+    let s = a.stands d.untold in
+    record {
+      fresh = d.fresh;
+      chain = d.chain;
+      called = sym (append-nil (requests_called d.fresh)) ∙ (ap (λ (x : List Request). requests_called d.fresh ++ x) (sym s.0) ∙ d.called);
+      stands = sym d.fault ∙ s.1;
+      put = put_then written out longer (frames_of d.fresh) (reply_frame (FaultReply fault)) d.put p;
+      told = a.told;
+      ended = a.same ∙ d.ended;
       read = λ text given h. let k = d.read text given h in let t = w text k.0 k.1 in subst (λ (g : List Request). HasRead text g after) t.0 t.2;
     }
 

@@ -13,6 +13,13 @@ pub takes_second : {S E : Type 0} (room : Room S) (a b c : S) (x y : List ℕ) (
 takes_second room a b c x y (Ok _) h k = adds_both room a b c x y h k
 takes_second room a b c x y (Err _) h k = λ told has. subst (λ t. room.least ≤ length t) (append_assoc told x y) (k (told ++ x) (h told has))
 
+-- there is no room for what is no longer than all, so there is none for all
+pub lacks_begun : {S E : Type 0} (room : Room S) (a b : S) (text all : List ℕ) (r : Result (Unit {0}) E) →
+    IsErr r → length text ≤ length all → Lacks room a text → Takes room a all r b
+lacks_begun room a b text all (Ok _) is l k = absurd (cc)
+lacks_begun room a b text all (Err _) is l k = λ told has.
+    omega (arith, k told has, l, length-append told text, length-append told all)
+
 -- one element more
 pub adds_next : {S X : Type 0} (room : Room S) (a b c : S) (f : X → List ℕ) (xs : List X) (i : ℕ) (x : X) → i < length xs → x ≡ get_or xs i x →
     Adds room a (flat_map f (take i xs)) b → Adds room b (f x) c → Adds room a (flat_map f (take (i + 1) xs)) c

@@ -87,8 +87,7 @@ pub(crate) fn write_placed_line<T: Taker>(
 {
     write_member(text, dependency)?;
     text.take_number(b" place ", u64::from(place.get()))?;
-    text.take(b"\n")?;
-    Ok(())
+    text.take(b"\n")
 }
 
 pub(crate) fn write_members<T: Taker>(

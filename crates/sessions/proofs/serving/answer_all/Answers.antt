@@ -2,7 +2,7 @@ use Rattle.std.proofs.Common.{ℕ, List, Ok, ap, ◌∙◌, subst}
 use Rattle.std.proofs.lemmas.Result.{err_from_is_err_and}
 use Rattle.trace_model.specs.declared.messages.session.Request.{Request}
 use Rattle.event_frames.specs.Reader.{Answers, Tells, HasRead}
-use Rattle.sessions.proofs.Answering.{answered_one, broken_reply, answered_all, broken_fault, frame_positive}
+use Rattle.sessions.proofs.Answering.{answered_one, broken_reply, answered_all, answered_fault, broken_fault, frame_positive}
 use Rattle.sessions.proofs.serving.answer_all.Goals as goal
 
 pub loop-request-smaller : goal.loop-request-smaller
@@ -39,3 +39,9 @@ returns-in_err-reply_with-in-Err-clause-err g c =
     let p = err_from_is_err_and c.from_residual-in_err-reply_with-in-Err.result c.from_residual-in_err-reply_with-in-Err.ensures.1 in
     let b = c.in_err-reply_with-in-Err.ensures.err in
     rw p.1 (broken_fault g.C.Calls.steps c.args.calls.now c.args.reader.now (g.K.Sink.written c.args.sink.now) (g.K.Sink.failures c.args.sink.now) c.loop-request.calls c.loop-request.reader (g.K.Sink.written c.loop-request.sink) (g.K.Sink.failures c.loop-request.sink) c.in-Err.fault c.next.new.self (g.K.Sink.written c.reply_with-in-Err.new.sink) b.0 c.loop-request.invariant t b.1)
+
+pub returns-in-Err-clause-ok : goal.returns-in-Err-clause-ok
+returns-in-Err-clause-ok g c =
+    let t = subst (λ x. Answers c.loop-request.reader x c.next.new.self) c.in-Err.is c.next.ensures.answers in
+    let w = subst (λ x. (text : List ℕ) (given : List Request) → HasRead text given c.loop-request.reader → Tells text given c.loop-request.reader.ended x c.next.new.self) c.in-Err.is c.next.ensures.grammar in
+    answered_fault g.C.Calls.steps c.args.calls.now c.args.reader.now (g.K.Sink.written c.args.sink.now) (g.K.Sink.failures c.args.sink.now) c.loop-request.calls c.loop-request.reader (g.K.Sink.written c.loop-request.sink) (g.K.Sink.failures c.loop-request.sink) c.in-Err.fault c.next.new.self (g.K.Sink.written c.reply_with-in-Err.new.sink) c.loop-request.invariant t w c.in_ok-reply_with-in-Err.ensures.ok

@@ -1,8 +1,26 @@
-use Rattle.std.proofs.Common.{◌≡◌, slice_set, None, sym, ap, subst, ◌∙◌}
+use Rattle.std.proofs.Common.{◌≡◌, slice_set, None, sym, ap, subst, ◌∙◌, arith}
+use Rattle.std.proofs.lemmas.Option.{slice_get_within}
 use Rattle.trace_model.specs.Protocol.Machine.{deliver, deliver_refused}
 use Rattle.sequencer.specs.Book.{Kept, IsKept, state_of, findings_rows}
-use Rattle.sequencer.proofs.KeptOn.{few_cycles, own_question, kept_told, told_state, told_with}
+use Rattle.sequencer.proofs.KeptOn.{few_cycles, is_admitted, own_missing, own_question, kept_told, told_state, told_with}
 use Rattle.sequencer.proofs.book.Book.take.Goals as goal
+
+pub index_mut-asked-requires : goal.index_mut-asked-requires
+index_mut-asked-requires c =
+    let b = c.self.inside in
+    let f = c.args.finding in
+    let admits = ap (λ (k : Kept). deliver_refused k.state f.question f.bound f.events f.task) c.self.view_is ∙ c.requires in
+    let a = is_admitted b.limit b.recorder.events b.questions.items f admits in
+    rw c.question-question.ensures (omega (arith, slice_get_within b.questions.items f.question a.told a.known, b.questions.ok))
+
+pub accept-requires-clause-missing : goal.accept-requires-clause-missing
+accept-requires-clause-missing c =
+    let b = c.self.inside in
+    let f = c.args.finding in
+    let now = c.index_mut-asked.result.now in
+    let admits = ap (λ (k : Kept). deliver_refused k.state f.question f.bound f.events f.task) c.self.view_is ∙ c.requires in
+    let known = own_question b.limit b.recorder.events b.questions.items f now c.question-question.result admits c.index_mut-asked.ensures.value c.question-question.ensures in
+    rw c.task-task.ensures (own_missing b.limit b.recorder.events b.questions.items f now admits known)
 
 pub accept-requires-clause-few : goal.accept-requires-clause-few
 accept-requires-clause-few c =
@@ -43,3 +61,6 @@ returns-clause-machine c =
     ap (λ (k : Kept). deliver k.state f.question f.bound f.events f.task (findings_rows f)) (sym c.self.view_is)
     ∙ (told_state b.limit b.recorder.events b.questions.items f now admits known
     ∙ ap (λ questions. (None, state_of b.limit b.recorder.events questions)) (sym (written c)))
+
+pub returns-clause-exact : goal.returns-clause-exact
+returns-clause-exact c = c.into_rows.ensures.exact

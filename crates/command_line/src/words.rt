@@ -1,0 +1,32 @@
+//! The words of a command line, and what is told where they ask for nothing.
+
+use clap::Error;
+use clap::error::ErrorKind;
+use std::alloc::AllocError;
+use std::{env, io};
+
+/// The words of the command line, the first of which names the program.
+///
+/// # Errors
+///
+/// Where a growth was refused, or the system gives no words.
+pub fn arguments(rt: &HostRuntime) -> io::Result<Vec<String>> {
+    let mut arguments = Vec::new(rt.alloc());
+    for argument in env::args(rt)? {
+        arguments.push(argument)?;
+    }
+    Ok(arguments)
+}
+
+/// Tells why the command line asks for nothing, or the help that it asks for: whether it was help.
+///
+/// # Errors
+///
+/// Where a growth was refused, or the stream failed.
+pub fn tell(rt: &HostRuntime, refused: Error) -> io::Result<bool> {
+    if refused.kind() == ErrorKind::OutOfMemory {
+        return Err(AllocError.into());
+    }
+    refused.print(rt)?;
+    Ok(!refused.use_stderr())
+}

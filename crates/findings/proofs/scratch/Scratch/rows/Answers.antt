@@ -1,0 +1,37 @@
+use Rattle.std.proofs.Common.{sym, subst, ◌∙◌}
+use Rattle.std.proofs.lemmas.Option.{none-some, same_Some}
+use Rattle.sp_closure.specs.Closers.{IsCloser}
+use Rattle.findings.proofs.scratch.Scratch.rows.Goals as goal
+
+pub closer_of-requires : goal.closer_of-requires
+closer_of-requires c = λ kept is. c.requires.scratch.closer kept (sym c.take.ensures.value ∙ is)
+
+pub returns-in_err-closer-clause-scratch : goal.returns-in_err-closer-clause-scratch
+returns-in_err-closer-clause-scratch c = record {
+  ranks = c.requires.scratch.ranks;
+  closer = λ kept is. absurd (none-some kept (sym c.take.ensures.after ∙ is));
+  pasts = c.requires.scratch.pasts;
+}
+
+pub pasts_of-requires-clause-pasts : goal.pasts_of-requires-clause-pasts
+pasts_of-requires-clause-pasts c = λ kept is. c.requires.scratch.pasts kept (sym c.take-2.ensures.value ∙ is)
+
+pub returns-in_err-pasts-clause-scratch : goal.returns-in_err-pasts-clause-scratch
+returns-in_err-pasts-clause-scratch c = record {
+  ranks = c.requires.scratch.ranks;
+  closer = λ kept is. absurd (none-some kept (sym c.take.ensures.after ∙ is));
+  pasts = λ kept is. absurd (none-some kept (sym c.take-2.ensures.after ∙ is));
+}
+
+pub rows_by-rows-requires-clause-pasts : goal.rows_by-rows-requires-clause-pasts
+rows_by-rows-requires-clause-pasts c = c.in_ok-pasts.ensures.pasts
+
+pub returns-clause-scratch : goal.returns-clause-scratch
+returns-clause-scratch c = record {
+  ranks = c.requires.scratch.ranks;
+  closer = λ kept is. subst (IsCloser c.args.snapshot.now) (same_Some c.rows_by-rows.new.closer kept is) c.rows_by-rows.ensures.closer;
+  pasts = c.in_ok-pasts.ensures.pasts;
+}
+
+pub returns-clause-rows : goal.returns-clause-rows
+returns-clause-rows c = c.rows_by-rows.ensures.rows
