@@ -27,7 +27,8 @@ fn read(rt: &HostRuntime, file: &str) -> io::Result<Option<Vec<u8>>> {
 }
 
 /// Runs the script in the file of this name, over a book that accepts at most `limit` events, which
-/// is 1 to `MAX_EVENTS`.
+/// is 1 to `MAX_EVENTS`. It answers the exit status, `Failed` where the file cannot be read, which is
+/// then told.
 ///
 /// # Errors
 ///
@@ -44,7 +45,8 @@ pub fn script_file(rt: &HostRuntime, file: &str, limit: u32) -> io::Result<Statu
     Ok(run_script(rt.alloc(), state, file, &bytes, limit, &mut out, &mut err))
 }
 
-/// Reports on the events in the file of this name, with a bound of 2 to 8.
+/// Reports on the events in the file of this name, with a bound of 2 to 8. It answers the exit
+/// status, `Failed` where the file cannot be read, which is then told.
 ///
 /// # Errors
 ///
@@ -81,7 +83,8 @@ pub fn offline_file<T: Threads + Sync>(
     ))
 }
 
-/// Checks the witness in the second file against the trace in the first, by their names.
+/// Checks the witness in the second file against the trace in the first, by their names. It answers
+/// the exit status, `Failed` where one of them cannot be read, which is then told.
 ///
 /// # Errors
 ///
