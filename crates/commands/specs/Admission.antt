@@ -5,7 +5,7 @@ use Rattle.trace_model.specs.Theory.Lawful.{IsWellFormed}
 use Rattle.wellformed.specs.declared.whole_lists.FirstUnlawful.{FirstUnlawful}
 use Rattle.wellformed.specs.FirstUnlawful.{IsFirstUnlawful}
 use Rattle.event_files.specs.EventFile.{AreEventsOf}
-use Rattle.commands.specs.Script.{refusal_words}
+use Rattle.outcomes.specs.Refusals.{refusal_words}
 use Rattle.commands.specs.declared.admission.Admission.{Admission}
 use Rattle.commands.specs.declared.admission.Admission.TheVariants.{Admitted, Refused}
 

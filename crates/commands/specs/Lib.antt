@@ -1,5 +1,3 @@
-pub mod Outcome
-pub mod Script
 pub mod Admission
 pub mod Offline
 pub mod Replay

@@ -7,11 +7,11 @@ use Rattle.trace_model.specs.declared.refusal.Refusal.TheVariants as refusals
 use Rattle.offline_report.specs.declared.refused.OfflineRefused.{OfflineRefused}
 use Rattle.offline_report.specs.declared.refused.OfflineRefused.TheVariants.{Unlawful, TooLong, TooManyCycles, NoMemory}
 use Rattle.offline_report.specs.Offline.{IsReport, IsRefused}
-use Rattle.commands.specs.Script.{refusal_words}
+use Rattle.outcomes.specs.Refusals.{refusal_words}
 use Rattle.commands.specs.Admission.{refused_at_line}
 use Rattle.event_files.specs.EventFile.{AreEventsOf}
-use Rattle.commands.specs.declared.outcome.Status.{Status}
-use Rattle.commands.specs.declared.outcome.Status.TheVariants.{Done, Refused, Failed, NotUnderstood}
+use Rattle.outcomes.specs.declared.outcome.Status.{Status}
+use Rattle.outcomes.specs.declared.outcome.Status.TheVariants.{Done, Refused, Failed, NotUnderstood}
 
 abbrev pub refusal_line : Refusal → List ℕ
 refusal_line refusal = refusal_words refusal ++ codes "\n"

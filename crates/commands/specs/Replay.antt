@@ -3,8 +3,8 @@ use Rattle.std.specs.Prelude.{ℕ, List, ◌++◌, codes, decimal}
 use Rattle.replay.specs.declared.verdict.Verdict.{Verdict}
 use Rattle.replay.specs.declared.verdict.Verdict.TheVariants.{Reaches, Fails}
 use Rattle.replay.specs.Tests.{name_of}
-use Rattle.commands.specs.declared.outcome.Status.{Status}
-use Rattle.commands.specs.declared.outcome.Status.TheVariants.{Done, Refused}
+use Rattle.outcomes.specs.declared.outcome.Status.{Status}
+use Rattle.outcomes.specs.declared.outcome.Status.TheVariants.{Done, Refused}
 
 -- the line of a verdict
 abbrev pub verdict_line : Verdict → List ℕ

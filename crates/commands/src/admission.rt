@@ -2,10 +2,9 @@
 ghost use Rattle.std.specs.Prelude.{◌≡◌, ◌++◌, IfOk, OnOk};
 ghost use Rattle.commands.specs.Admission.{IsAdmissionOf, refused_at_line};
 
-use crate::outcome::Stopped;
-use crate::script_text::push_refusal;
 use event_files::read_events;
 use itoa::Buffer;
+use outcomes::{Stopped, push_refusal};
 use std::alloc::Global;
 use std::hash::RandomState;
 use trace_model::{Event, NoMemory};

@@ -1,16 +1,15 @@
 //! The command that reports on a file of events.
 ghost use Rattle.std.specs.Prelude.{◌≡◌, ◌++◌, IfOk, IfErr, OnOk};
 ghost use Rattle.std.specs.Io.KnownBytes.{Appends};
-ghost use Rattle.commands.specs.declared.outcome.Status.TheVariants.{Done, Refused};
+ghost use Rattle.outcomes.specs.declared.outcome.Status.TheVariants.{Done, Refused};
 ghost use Rattle.commands.specs.Offline.{OfflineTells, refusal_line, refused_line};
 ghost use Rattle.offline_report.specs.Offline.{IsRefused, IsReport, whole};
 
 use crate::admission::push_refused_at;
-use crate::outcome::{Status, Stopped, write_text};
 use crate::progress::Progress;
-use crate::script_text::push_refusal;
 use event_files::read_events_by;
 use offline_report::{Offline, OfflineRefused};
+use outcomes::{Status, Stopped, push_refusal, write_text};
 use std::alloc::Global;
 use std::hash::RandomState;
 use std::io::Write;

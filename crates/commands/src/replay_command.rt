@@ -4,9 +4,9 @@ ghost use Rattle.trace_model.specs.Theory.Lawful.{IsWellFormed};
 ghost use Rattle.commands.specs.Replay.{verdict_line, verdict_status};
 
 use crate::admission::{Admission, admit_file, push_refused_at};
-use crate::outcome::{Status, Stopped, write_text};
 use event_files::read_witness;
 use itoa::Buffer;
+use outcomes::{Status, Stopped, write_text};
 use replay::{Verdict, check};
 use std::alloc::Global;
 use std::hash::RandomState;

@@ -26,7 +26,7 @@ use Rattle.sequencer.specs.Batched.{EndsBatch, FirstIsAdmitted, IsBatched}
 use Rattle.sequencer.specs.Book as books
 use Rattle.sequencer.specs.Book.{Refuses, RefusesAsk, RefusesOffer, IsAccepted, ask_refusal, findings_rows, opened_reply}
 use Rattle.sequencer.specs.Printing.{printing}
-use Rattle.sequencer.specs.Sessions.{delivery}
+use Rattle.sequencer.specs.Deliveries.{delivery}
 use Rattle.desk.specs.Batches.{accepting}
 use Rattle.desk.specs.Published.{After, IsKept, Kept, delivery_step}
 use Rattle.desk.specs.Refused.{RefusesFinding}

@@ -9,7 +9,7 @@ use Rattle.trace_model.specs.Protocol.Machine.{State, opening, is_confirmed}
 use Rattle.trace_model.specs.Protocol.Runs.{IsRun}
 use Rattle.findings.specs.Found.{FoundRows}
 use Rattle.sequencer.specs.Book.{findings_rows}
-use Rattle.sequencer.specs.Sessions.{delivery}
+use Rattle.sequencer.specs.Deliveries.{delivery}
 use mathlib.Core.List.{IsPrefix}
 
 -- the machine with this limit after the run

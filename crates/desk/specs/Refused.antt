@@ -5,7 +5,7 @@ use Rattle.trace_model.specs.declared.refusal.Refusal.TheVariants.{NoMemory, Boa
 use Rattle.trace_model.specs.Protocol.Machine.{State}
 use Rattle.findings.specs.Found.{FoundRows}
 use Rattle.sequencer.specs.Book.{IsLimit}
-use Rattle.sequencer.specs.Sessions.{delivery}
+use Rattle.sequencer.specs.Deliveries.{delivery}
 use Rattle.desk.specs.declared.worker.Failed.{Failed}
 use Rattle.desk.specs.declared.worker.Failed.TheVariants as NoTurn
 use Rattle.desk.specs.declared.locked.DeskRefused.{DeskRefused}

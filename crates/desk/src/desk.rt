@@ -11,7 +11,7 @@ ghost use Rattle.trace_model.specs.declared.messages.session.Reply.TheVariants.{
 ghost use Rattle.findings.specs.Found.{AreRowsOf};
 ghost use Rattle.sequencer.specs.Book.{IsLimit, Refuses, RefusesSnapshot, answer_refusal, answer_reply, ask_refusal, opened_reply};
 ghost use Rattle.sequencer.specs.Printing.{printing};
-ghost use Rattle.sequencer.specs.Sessions.{delivery};
+ghost use Rattle.sequencer.specs.Deliveries.{delivery};
 ghost use Rattle.desk.specs.Batches.{EndsByBatch};
 ghost use Rattle.desk.specs.Published.{Afterwards, EndsBy, delivery_step};
 ghost use Rattle.desk.specs.Questions.{AreEventsOf, IsFirstMissing};

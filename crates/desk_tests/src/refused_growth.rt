@@ -11,7 +11,8 @@ use findings::Finding;
 use fixtures::{
     ANSWER, LIMIT, OPENED, REPORT, REPORT_HEAD, opposite_orders, placed, question_frames,
 };
-use sequencer::{AnswerRefused, AskRefused, Input, PlayRefused, Played, Session, play};
+use sequencer::{AnswerRefused, AskRefused};
+use sessions::{Input, PlayRefused, Played, Session, play};
 use std::alloc::Global;
 use std::hash::RandomState;
 use std::process::Abort;

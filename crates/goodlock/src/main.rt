@@ -1,45 +1,34 @@
-//! The commands of `goodlockd` over files, without its server and what that stands on.
+//! The command of `goodlockd` that runs scripts, without what the other commands stand on.
 #![tactic(auto)]
 
 ghost use Rattle.command_line.specs.CommandLine.{IsInRange};
 
 use command_line::{Invocation, arguments, parse, tell};
-use commands::{Status, ended, offline_file, replay_files, script_file};
+use outcomes::{Status, ended};
+use scripts::script_file;
 use std::io;
 use std::process::ExitCode;
-use std::thread::Threads;
 
-/// Tells that another program serves.
-fn serves_not(rt: &HostRuntime) -> io::Result<Status> {
-    eprintln!(rt; "goodlock has no server: serve is a command of goodlockd alone")?;
+/// Does what is asked for.
+fn carry_out(rt: &HostRuntime, invocation: Invocation) -> io::Result<Status>
+    requires { IsInRange invocation }
+{
+    if let Invocation::Script { file, limit } = invocation {
+        return script_file(rt, file, limit);
+    }
+    eprintln!(rt; "goodlock runs scripts alone: goodlockd has this command")?;
     Ok(Status::NotUnderstood)
 }
 
-/// Does what is asked for.
-fn carry_out<T: Threads + Sync>(
-    rt: &HostRuntime,
-    threads: &T,
-    invocation: Invocation,
-) -> io::Result<Status>
-    requires { IsInRange invocation }
-{
-    match invocation {
-        Invocation::Serve { .. } => serves_not(rt),
-        Invocation::Script { file, limit } => script_file(rt, file, limit),
-        Invocation::Offline { file, bound } => offline_file(rt, threads, file, bound),
-        Invocation::Replay { trace, witness } => replay_files(rt, trace, witness),
-    }
-}
-
 /// Does what the command line asks for.
-fn run<T: Threads + Sync>(rt: &HostRuntime, threads: &T) -> io::Result<Status> {
+fn run(rt: &HostRuntime) -> io::Result<Status> {
     let arguments = arguments(rt)?;
     let mut words = Vec::new(rt.alloc());
     for argument in &arguments {
         words.push(argument.as_str())?;
     }
     match parse(rt.alloc(), &words) {
-        Ok(invocation) => carry_out(rt, threads, invocation),
+        Ok(invocation) => carry_out(rt, invocation),
         Err(refused) => Ok(if tell(rt, refused)? {
             Status::Done
         } else {
@@ -49,5 +38,5 @@ fn run<T: Threads + Sync>(rt: &HostRuntime, threads: &T) -> io::Result<Status> {
 }
 
 fn main(rt: HostRuntime) -> ExitCode {
-    ExitCode::from(ended(&rt, run(&rt, &rt)).code())
+    ExitCode::from(ended(&rt, run(&rt)).code())
 }

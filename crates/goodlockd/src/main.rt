@@ -4,8 +4,10 @@
 ghost use Rattle.command_line.specs.CommandLine.{IsInRange, IsLimit, IsWithin};
 
 use command_line::{Invocation, arguments, parse, tell};
-use commands::{Status, ended, offline_file, replay_files, script_file};
+use commands::{offline_file, replay_files};
+use outcomes::{Status, ended};
 use question_server::{ServerFault, Service, Unheld, run_server};
+use scripts::script_file;
 use std::alloc::AllocError;
 use std::hash::RandomState;
 use std::io;

@@ -3,10 +3,8 @@
 use event_files::read_events;
 use findings::Finding;
 use fixtures::{LIMIT, OPPOSITE_ORDERS, REPORT, event, frame};
-use sequencer::{
-    Answer, AnswerRefused, AskRefused, Book, BookRefused, Input, NoSuchQuestion, PlayRefused,
-    Session, play,
-};
+use sequencer::{Answer, AnswerRefused, AskRefused, Book, BookRefused, NoSuchQuestion};
+use sessions::{Input, PlayRefused, Session, play};
 use std::alloc::{AllocError, Global};
 use std::hash::RandomState;
 use std::process::Abort;

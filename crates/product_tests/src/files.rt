@@ -1,7 +1,9 @@
 //! Files that are not understood, and output that fails.
-use crate::outcomes::{offline, replay, script};
-use commands::{Status, offline_file, replay_files, run_script, script_file};
+use crate::told::{offline, replay, script};
+use commands::{offline_file, replay_files};
 use fixtures::LIMIT;
+use outcomes::Status;
+use scripts::{run_script, script_file};
 use std::hash::RandomState;
 use std::io::{self, ErrorKind, Write};
 use std::test::*;

@@ -43,6 +43,6 @@ mod on_wellformed;
 #[cfg(test)]
 mod on_witness;
 #[cfg(test)]
-mod outcomes;
+mod told;
 #[cfg(test)]
 mod traces;

@@ -1,6 +1,6 @@
 //! Traces that are longer than any worked one: what is promised of memory holds only where there is
 //! memory, so a body that gives up on a long trace is refused here.
-use crate::outcomes::{offline, replay, script};
+use crate::told::{offline, replay, script};
 use fixtures::{FORKS, LIMIT, SECTIONS, report_of};
 use std::alloc::{AllocError, Global};
 use std::io::{self, Write};

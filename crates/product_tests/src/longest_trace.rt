@@ -1,6 +1,6 @@
 //! A trace of as many events as one may have.
 use crate::long_traces::rounds;
-use crate::outcomes::offline;
+use crate::told::offline;
 use fixtures::report_of;
 use std::alloc::{AllocError, Global};
 use std::test::*;

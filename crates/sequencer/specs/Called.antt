@@ -1,5 +1,5 @@
 -- What a book answers to a request.
-use Rattle.std.specs.Prelude.{◌≡◌, ◌⊎◌, ℕ, Bool, true, false, List, length, take, slice_get, Some, None}
+use Rattle.std.specs.Prelude.{◌≡◌, ◌⊎◌, ℕ, Bool, true, false, List, [], ◌∷◌, ◌++◌, length, take, slice_get, Some, None}
 use Rattle.trace_model.specs.declared.traces.event.Event.{Event}
 use Rattle.trace_model.specs.declared.refusal.Refusal.TheVariants.{NoMemory}
 use Rattle.trace_model.specs.declared.messages.session.Request.{Request}
@@ -7,6 +7,7 @@ use Rattle.trace_model.specs.declared.messages.session.Request.TheVariants.{Batc
 use Rattle.trace_model.specs.declared.messages.session.Reply.{Reply}
 use Rattle.trace_model.specs.declared.messages.session.Reply.TheVariants.{Batched, Refused}
 use Rattle.trace_model.specs.Theory.Lawful.{refusal_of}
+use Rattle.trace_model.specs.Protocol.Replies.{reply_frame}
 use Rattle.trace_model.specs.Protocol.Machine.{State, step}
 use Rattle.sequencer.specs.Book.{IsAccepted, TakesMemory}
 use Rattle.sequencer.specs.Printing.{printing}
@@ -48,3 +49,14 @@ abbrev pub lacks_memory : Reply → Bool
 lacks_memory (Refused NoMemory) = true
 lacks_memory (Batched accepted (Some NoMemory) len) = true
 lacks_memory reply = false
+
+-- the machine after these requests
+abbrev pub state_called : State → List Request → State
+state_called state [] = state
+state_called state (request ∷ requests) = state_called (step printing state request).1 requests
+
+-- the frames of the replies to these requests
+abbrev pub answer_to : State → List Request → List ℕ
+answer_to state [] = []
+answer_to state (request ∷ requests) = reply_frame (step printing state request).0 ++
+    answer_to (step printing state request).1 requests

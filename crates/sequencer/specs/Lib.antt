@@ -4,7 +4,4 @@ pub mod Printing
 pub mod Book
 pub mod Batched
 pub mod Called
-pub mod Sessions
-pub mod Exact
-pub mod Drains
-pub mod Played
+pub mod Deliveries

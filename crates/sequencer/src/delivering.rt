@@ -12,13 +12,16 @@ use crate::recorder::Recorder;
 use findings::{Finding, Snapshot};
 use trace_model::{Place, Refusal};
 
+/// What became of a finding: it was taken, or refused and handed back.
+pub type Delivered = Result<(), (Refusal, Finding)>;
+
 impl Book {
     /// Takes the rows of a task of a question. It takes no memory.
     ///
     /// # Errors
     ///
     /// What `admits` answers, with the finding handed back. Nothing has changed.
-    pub fn deliver(&mut self, finding: Finding) -> Result<(), (Refusal, Finding)>
+    pub fn deliver(&mut self, finding: Finding) -> Delivered
         ensures machine { deliver self.old.state finding.question finding.bound finding.events
             finding.task (findings_rows finding) ≡ (outcome result, self.new.state) }
         ensures back { IfErr result (λ refused. refused.1 ≡ finding) }
@@ -35,7 +38,7 @@ impl Book {
     /// # Errors
     ///
     /// As of `deliver`.
-    pub fn deliver_known(&mut self, finding: Finding) -> Result<(), (Refusal, Finding)>
+    pub fn deliver_known(&mut self, finding: Finding) -> Delivered
         requires known { AreKnown self.old.state finding.question finding.events }
         ensures machine { deliver self.old.state finding.question finding.bound finding.events
             finding.task (findings_rows finding) ≡ (outcome result, self.new.state) }
@@ -102,11 +105,7 @@ impl Book {
     }
 
     /// Takes the finding where it is admitted, and hands it back with its refusal where it is not.
-    fn take_if(
-        &mut self,
-        admitted: Result<(), Refusal>,
-        finding: Finding,
-    ) -> Result<(), (Refusal, Finding)>
+    fn take_if(&mut self, admitted: Result<(), Refusal>, finding: Finding) -> Delivered
         requires { result_err admitted ≡ finding_refused self.old.state finding }
         ensures machine { deliver self.old.state finding.question finding.bound finding.events
             finding.task (findings_rows finding) ≡ (outcome result, self.new.state) }

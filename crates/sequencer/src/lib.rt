@@ -1,5 +1,4 @@
-//! The book: one trace that grows by lawful events, the questions about it, and the sessions that
-//! ask them.
+//! The book: one trace that grows by lawful events, and the questions about it.
 #![tactic(auto)]
 
 mod answering;
@@ -9,10 +8,8 @@ mod batching;
 mod book;
 mod calls;
 mod delivering;
-mod input;
 mod recorder;
 mod replies;
-mod session;
 mod sharing;
 mod step;
 
@@ -22,6 +19,5 @@ pub use asking::{AskRefused, Opened};
 pub use batching::Batched;
 pub use book::{Book, BookRefused, NoSuchQuestion};
 pub use calls::Calls;
-pub use input::{Input, MAX_PLAYED, Session};
-pub use session::{Delivered, PlayRefused, Played, play};
+pub use delivering::Delivered;
 pub use step::{Change, Step};

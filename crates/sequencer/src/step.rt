@@ -5,7 +5,7 @@ ghost use Rattle.trace_model.specs.Protocol.Machine as machine;
 ghost use Rattle.trace_model.specs.Protocol.Replies.{IsReply};
 ghost use Rattle.trace_model.specs.declared.messages.session.Request.TheVariants as requests;
 ghost use Rattle.sequencer.specs.Book.{IsPrepared, IsRefusal, Refuses, request_of};
-ghost use Rattle.sequencer.specs.Called.{IsSingle, StepsOrMemory, WantsRightly, lacks_memory};
+ghost use Rattle.sequencer.specs.Called.{IsSingle, StepsOrMemory, WantsRightly};
 ghost use Rattle.sequencer.specs.Printing.{printing};
 
 use crate::asked::Asked;
@@ -166,19 +166,5 @@ impl Book {
             Ok(planned) => self.commit(planned),
             Err(reply) => reply,
         }
-    }
-}
-
-/// Whether the reply tells that a growth was refused.
-pub(crate) fn lacks_memory(reply: &Reply) -> bool
-    ensures { result ≡ lacks_memory reply.now }
-{
-    match reply {
-        Reply::Refused(Refusal::NoMemory) => true,
-        Reply::Batched {
-            refusal: Some(Refusal::NoMemory),
-            ..
-        } => true,
-        _ => false,
     }
 }

@@ -4,3 +4,8 @@ pub mod Answering
 pub mod Faults
 pub mod SessionTurns
 pub mod Machines
+pub mod Drained
+pub mod Sent
+pub mod Taken
+pub mod Runs
+pub mod Exact

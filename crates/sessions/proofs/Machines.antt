@@ -6,7 +6,7 @@ use Rattle.trace_model.specs.declared.messages.session.Reply.{Reply}
 use Rattle.trace_model.specs.Protocol.Replies.{reply_frame}
 use Rattle.trace_model.specs.Protocol.Machine.{State}
 use Rattle.sequencer.specs.Book.{Kept}
-use Rattle.sequencer.specs.Drains.{state_called, answer_to}
+use Rattle.sequencer.specs.Called.{state_called, answer_to}
 use Rattle.sessions.specs.Serving.{standing, Call, Chain, Served, requests_called}
 use Rattle.sequencer.specs.Called.{StepsOrMemory, lacks_memory}
 use Rattle.sequencer.proofs.Called.{steps_exactly}

@@ -3,7 +3,7 @@ use Rattle.std.specs.Prelude.{◌≡◌, ℕ, false, List, Option, Result}
 use Rattle.std.specs.List.{All}
 use Rattle.trace_model.specs.Protocol.Machine.{State}
 use Rattle.sequencer.specs.Called.{StepsOrMemory, lacks_memory}
-use Rattle.sequencer.specs.Drains.{state_called, answer_to}
+use Rattle.sequencer.specs.Called.{state_called, answer_to}
 use Rattle.sessions.specs.Serving.{Call, requests_called, frames_of, Standing, Served}
 use Rattle.sessions.specs.declared.serving.Ended.{Ended}
 use Rattle.sessions.specs.declared.serving.ServeFault.{ServeFault}

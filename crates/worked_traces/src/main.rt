@@ -6,19 +6,19 @@
 ghost use Rattle.command_line.specs.CommandLine.{IsInRange};
 
 mod case;
-mod playing;
 mod replies;
 mod running;
-mod sessions;
+mod script_runs;
+mod session_cases;
 mod witnesses;
 
 use anyhow::Result;
 use case::{Case, names_in};
 use command_line::{Invocation, parse};
-use commands::Status;
-use playing::played;
+use outcomes::Status;
 use running::{Told, run};
-use sessions::run_sessions;
+use script_runs::played;
+use session_cases::run_sessions;
 use std::fs;
 use std::process::ExitCode;
 use std::thread::Threads;

@@ -4,7 +4,9 @@ ghost use Rattle.sequencer.specs.Book.{IsLimit};
 
 use anyhow::{Result, bail};
 use command_line::Invocation;
-use commands::{Files, Names, Status, Unshown, run_offline, run_replay, run_script};
+use commands::{Files, Names, Unshown, run_offline, run_replay};
+use outcomes::Status;
+use scripts::run_script;
 use std::alloc::Global;
 use std::hash::RandomState;
 use std::thread::Threads;

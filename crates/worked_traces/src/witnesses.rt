@@ -1,6 +1,7 @@
 //! The witnesses of a report, handed to the checker.
 use anyhow::{Context, Result};
-use commands::{Files, Names, Status, run_replay};
+use commands::{Files, Names, run_replay};
+use outcomes::Status;
 use std::alloc::Global;
 use std::hash::RandomState;
 use std::str;

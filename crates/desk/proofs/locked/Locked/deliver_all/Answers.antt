@@ -1,7 +1,7 @@
 use Rattle.std.proofs.Common.{List, [], ◌∷◌, ◌++◌, length, sym, ap, subst, ◌∙◌, arith, append_assoc}
 use Rattle.std.proofs.lemmas.List.{append-nil}
 use Rattle.findings.specs.Found.{FoundRows}
-use Rattle.sequencer.specs.Sessions.{Delivered}
+use Rattle.sequencer.specs.Deliveries.{Delivered}
 use Rattle.trace_model.specs.Protocol.Runs.{IsLegal}
 use Rattle.desk.specs.Published.{After, Kept}
 use Rattle.desk.specs.Together.{AreOutcomes, taken_steps}

@@ -3,7 +3,7 @@ use Rattle.std.specs.Result.{result_err}
 use Rattle.trace_model.specs.declared.messages.step.BoardStep.{BoardStep}
 use Rattle.trace_model.specs.Protocol.Runs.{IsLegal}
 use Rattle.sequencer.specs.Book.{finding_refused}
-use Rattle.sequencer.specs.Sessions.{delivery}
+use Rattle.sequencer.specs.Deliveries.{delivery}
 use Rattle.desk.specs.Published.{After, Kept, delivery_step}
 use Rattle.desk.proofs.Steps.{after_shown, kept_on, legal_kept, legal_next, refuses_finding, takes_finding}
 use Rattle.desk.proofs.locked.Locked.take_if.Goals as goal

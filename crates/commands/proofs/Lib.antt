@@ -1,3 +1,0 @@
-pub mod Known
-pub mod RefusalNames
-pub mod Words

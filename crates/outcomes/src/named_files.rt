@@ -1,0 +1,39 @@
+//! Files by their names, and how a program about them ends.
+ghost use Rattle.std.specs.Prelude.{◌≡◌, MatchResult};
+ghost use Rattle.outcomes.specs.declared.outcome.Status.TheVariants.{Failed};
+
+use crate::outcome::Status;
+use std::{fs, io};
+
+/// The bytes of the file of this name, or none where it cannot be read, which is then told.
+///
+/// # Errors
+///
+/// Where a growth was refused, or standard error failed.
+pub fn read_file(rt: &HostRuntime, file: &str) -> io::Result<Option<Vec<u8>>> {
+    match fs::read(rt, file) {
+        Ok(bytes) => Ok(Some(bytes)),
+        Err(error) if error.kind() == io::ErrorKind::OutOfMemory => Err(error),
+        Err(_) => {
+            eprintln!(rt; "cannot read {file}")?;
+            Ok(None)
+        }
+    }
+}
+
+/// How the program ends: as its command did, or else an error ended it, of which want of memory is
+/// told.
+pub fn ended(rt: &HostRuntime, ran: io::Result<Status>) -> Status
+    ensures { MatchResult ran (λ status. result ≡ status) (λ _. result ≡ Failed) }
+{
+    match ran {
+        Ok(status) => status,
+        Err(error) => {
+            if error.kind() == io::ErrorKind::OutOfMemory {
+                // What standard error does not take is lost.
+                let _ = eprintln!(rt; "no memory");
+            }
+            Status::Failed
+        }
+    }
+}

@@ -1,0 +1,18 @@
+-- What becomes of a finding.
+use Rattle.std.specs.Prelude.{Option, Some, None, Result, Ok, Err}
+use Rattle.trace_model.specs.declared.refusal.Refusal.{Refusal}
+use Rattle.trace_model.specs.Protocol.Machine.{State, deliver}
+use Rattle.findings.specs.Found.{FoundRows}
+use Rattle.sequencer.specs.Book.{findings_rows}
+
+-- why the finding is not taken, and the machine after it
+abbrev pub delivery : State → FoundRows → Option Refusal × State
+delivery state f = deliver state f.question f.bound f.events f.task (findings_rows f)
+
+-- it is taken, or refused and handed back
+abbrev pub Delivered : Type 0
+Delivered = Result Unit (Refusal × FoundRows)
+
+abbrev pub handed_back : FoundRows → Option Refusal → Delivered
+handed_back finding None = Ok record {}
+handed_back finding (Some refusal) = Err (refusal, finding)

@@ -1,0 +1,24 @@
+use Rattle.std.proofs.Common.{refl, sym, subst}
+use Rattle.trace_model.specs.Protocol.Machine.{State}
+use Rattle.trace_model.specs.Theory.Rows.{AreRows}
+use Rattle.trace_model.specs.Protocol.Bounds.{StateFits}
+use Rattle.trace_model.proofs.Protocol.Bounds.{opening_fits}
+use Rattle.sessions.specs.Exact.{IsAlwaysExact}
+use Rattle.sessions.specs.Played.{AreSent}
+use Rattle.sessions.specs.Sessions.{actions}
+use Rattle.sessions.proofs.Exact.{opened_tells}
+use Rattle.sessions.proofs.playing.play.Goals as goal
+
+pub returns-in-Ok-play_over-clause-sent : goal.returns-in-Ok-play_over-clause-sent
+returns-in-Ok-play_over-clause-sent c =
+    subst (λ (s : State). AreSent c.in-Ok-play_over.played.sent s c.args.inputs.items) c.in-Ok.ensures.made c.in-Ok-play_over.ensures.sent
+
+pub returns-in-Ok-play_over-clause-exact : goal.returns-in-Ok-play_over-clause-exact
+returns-in-Ok-play_over-clause-exact c =
+    let made = c.in-Ok.ensures.made in
+    let fits = subst (StateFits AreRows) (sym made) (opening_fits AreRows c.args.max_events (c.in-Ok.ensures.limit.0 refl).1) in
+    subst (λ (s : State). IsAlwaysExact s (actions c.args.inputs.items)) made (c.in-Ok-play_over.ensures.exact fits)
+
+pub returns-in-Ok-play_over-clause-deadlocks : goal.returns-in-Ok-play_over-clause-deadlocks
+returns-in-Ok-play_over-clause-deadlocks c =
+    opened_tells c.in-Ok.book.state c.args.max_events (actions c.args.inputs.items) c.in-Ok.ensures.made (c.in-Ok.ensures.limit.0 refl).1 c.in-Ok-play_over.ensures.exact
