@@ -14,25 +14,25 @@ use Rattle.trace_model.proofs.Theory.Stability.{closure_below}
 use Rattle.segments.specs.Linking.{count_below}
 use Rattle.segments.proofs.Counting.{count-agree}
 use Rattle.trace_index.specs.Numbers.{of_thread, number_at}
-use Rattle.sp_closure.specs.declared.demands.Goal.{Goal}
-use Rattle.sp_closure.specs.declared.demands.Item.{Item}
-use Rattle.sp_closure.specs.declared.demands.Section.{Section}
-use Rattle.sp_closure.specs.declared.demands.Demands.{Demands}
-use Rattle.sp_closure.specs.declared.layer.Layer.{Layer}
-use Rattle.sp_closure.specs.declared.work.Work.{Work}
-use Rattle.sp_closure.specs.Sheets.{at}
-use Rattle.sp_closure.specs.declared.fronts.Fronts.{Fronts}
-use Rattle.sp_closure.specs.State.{count_of, places_in}
-use Rattle.sp_closure.specs.Slots.{slots_of, AreSlots, AreStands, HasFirst, among, front_test, in_front}
-use Rattle.sp_closure.specs.Layers.{front_of, done_of, last_of, first_some, IsEmpty}
-use Rattle.sp_closure.specs.Demands.{AreDemands}
-use Rattle.sp_closure.specs.Work.{State, IsFit, IsOnWay, sum_to}
+use Rattle.fronts.specs.declared.demands.Goal.{Goal}
+use Rattle.fronts.specs.declared.demands.Item.{Item}
+use Rattle.fronts.specs.declared.demands.Section.{Section}
+use Rattle.fronts.specs.declared.demands.Demands.{Demands}
+use Rattle.fronts.specs.declared.layer.Layer.{Layer}
+use Rattle.fronts.specs.declared.work.Work.{Work}
+use Rattle.fronts.specs.Sheets.{at}
+use Rattle.fronts.specs.declared.fronts.Fronts.{Fronts}
+use Rattle.fronts.specs.State.{count_of, places_in}
+use Rattle.fronts.specs.Slots.{slots_of, AreSlots, AreStands, HasFirst, among, front_test, in_front}
+use Rattle.fronts.specs.Layers.{front_of, done_of, last_of, first_some, IsEmpty}
+use Rattle.fronts.specs.Demands.{AreDemands}
+use Rattle.fronts.specs.Work.{State, IsFit, IsOnWay, sum_to}
 use Rattle.sp_closure.specs.declared.closer.Closer.{Closer}
 use Rattle.sp_closure.specs.Closers.{leads_to, CountsBut, HasBase, Keeps, KeepsFor, KeepsNothing, kept, goal_at, total_over}
-use Rattle.sp_closure.proofs.Counts.{count_le}
-use Rattle.sp_closure.proofs.FrontLemmas.{of_thread_from, of_thread_so, lt_true}
-use Rattle.sp_closure.proofs.ThreadLemmas.{place_below}
-use Rattle.sp_closure.proofs.SlotLemmas.{number_is}
+use Rattle.fronts.proofs.Counts.{count_le}
+use Rattle.fronts.proofs.FrontLemmas.{of_thread_from, of_thread_so, lt_true}
+use Rattle.fronts.proofs.ThreadLemmas.{place_below}
+use Rattle.fronts.proofs.SlotLemmas.{number_is}
 
 -- an empty layer over an empty one
 pub front_none : (threads locks more less : ℕ) (under layer : Layer) → IsEmpty threads locks under → IsEmpty more less layer → (a : ℕ) → front_of under layer a ≡ 0

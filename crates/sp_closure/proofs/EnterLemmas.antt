@@ -5,15 +5,15 @@ use Rattle.std.proofs.lemmas.Bool.{cases_lt}
 use Rattle.trace_model.specs.Theory.Trace.{Trace}
 use Rattle.trace_model.specs.Theory.Closure.{Places}
 use Rattle.trace_model.proofs.Lists.{get-push}
-use Rattle.sp_closure.specs.declared.demands.Goal.{Goal}
-use Rattle.sp_closure.specs.declared.demands.Item.{Item}
-use Rattle.sp_closure.specs.declared.members.Member.{Member}
-use Rattle.sp_closure.specs.Slots.{AreSlots, HoldsFirst, HasFirst}
-use Rattle.sp_closure.specs.Members.{Each, IsMember, IsAhead, Stops, StopsIn, IsNotPast, lists}
+use Rattle.fronts.specs.declared.demands.Goal.{Goal}
+use Rattle.fronts.specs.declared.demands.Item.{Item}
+use Rattle.fronts.specs.declared.members.Member.{Member}
+use Rattle.fronts.specs.Slots.{AreSlots, HoldsFirst, HasFirst}
+use Rattle.fronts.specs.Members.{Each, IsMember, IsAhead, Stops, StopsIn, IsNotPast, lists}
 use Rattle.sp_closure.specs.Entering.{IsFirstMember}
-use Rattle.sp_closure.specs.Work.{State, IsOnWay, Raises, AreAtFront, AreUpTo, AreSame}
-use Rattle.sp_closure.proofs.MemberLemmas.{holds_upto}
-use Rattle.sp_closure.proofs.SlotLemmas.{has_before}
+use Rattle.fronts.specs.Work.{State, IsOnWay, Raises, AreAtFront, AreUpTo, AreSame}
+use Rattle.fronts.proofs.MemberLemmas.{holds_upto}
+use Rattle.fronts.proofs.SlotLemmas.{has_before}
 
 pub each_push : {X : Type 0} (P : X → Type 0) (xs : List X) (y : X) → Each P xs → P y → Each P (xs ++ y ∷ [])
 each_push P xs y all new i z h = elim (get-push xs y i z h) [

@@ -2,14 +2,14 @@
 use Rattle.std.proofs.Common.{◌≡◌, ℕ, zero, suc, List, [], ◌∷◌, ◌++◌, set, Option, Some, None, inl, inr, ◌⊎◌, slice_get, sym, ap, ◌∙◌}
 use Rattle.std.proofs.lemmas.Option.{same_Some, none-some}
 use Rattle.sp_closure.specs.declared.base.Base.{Base}
-use Rattle.sp_closure.specs.declared.work.Work.{Work}
-use Rattle.sp_closure.specs.declared.demands.Goal.{Goal}
+use Rattle.fronts.specs.declared.work.Work.{Work}
+use Rattle.fronts.specs.declared.demands.Goal.{Goal}
 use Rattle.sp_closure.specs.declared.closer.Closer.{Closer}
 use Rattle.std.specs.Prelude.{unwrap_or}
 use Rattle.trace_model.specs.Theory.Trace.{Trace}
 use Rattle.trace_index.specs.Numbers.{number_at}
-use Rattle.sp_closure.specs.declared.demands.Demands.{Demands}
-use Rattle.sp_closure.specs.Slots.{slots_of}
+use Rattle.fronts.specs.declared.demands.Demands.{Demands}
+use Rattle.fronts.specs.Slots.{slots_of}
 use Rattle.sp_closure.specs.Closers.{HasBase, Keeps, Stays, base_total, kept, total_over}
 
 -- an element of a list with one more at its end is one of the list, or that one

@@ -10,13 +10,13 @@ use Rattle.trace_model.specs.Theory.Closure.{Places, IsClosed}
 use Rattle.trace_model.proofs.Theory.Ascending.{place_of}
 use Rattle.trace_model.proofs.Lists.{at_index, get-set_same, get-set_other}
 use Rattle.trace_model.proofs.Theory.Unique.{increasing_ordered}
-use Rattle.sp_closure.specs.declared.demands.Goal.{Goal}
+use Rattle.fronts.specs.declared.demands.Goal.{Goal}
 use Rattle.sp_closure.specs.declared.tracks.Past.{Past}
 use Rattle.sp_closure.specs.declared.tracks.Track.{Track}
 use Rattle.sp_closure.specs.declared.tracks.Pointer.{Pointer}
-use Rattle.sp_closure.specs.Slots.{AreSlots, Stands, HasFirst, HoldsFirst}
+use Rattle.fronts.specs.Slots.{AreSlots, Stands, HasFirst, HoldsFirst}
 use Rattle.sp_closure.specs.Pasts.{AreTracks, HasGoal, IsTrack, IsWithin, Puts, PutsAt, StandsAt, goal_of_past}
-use Rattle.sp_closure.proofs.SlotLemmas.{has_before, before_stands}
+use Rattle.fronts.proofs.SlotLemmas.{has_before, before_stands}
 use Rattle.sp_closure.proofs.TableLemmas.{ArePlaces}
 
 -- what a look-up lends

@@ -10,13 +10,13 @@ use Rattle.trace_model.specs.Theory.Closure.{Places, IsClosure, ascending}
 use Rattle.segments.specs.Linking.{count_below}
 use Rattle.segments.proofs.Counting.{length_ascending, count-agree}
 use Rattle.trace_index.specs.Numbers.{of_thread}
-use Rattle.sp_closure.specs.declared.classes.Classes.{Classes}
-use Rattle.sp_closure.specs.declared.fronts.Fronts.{Fronts}
-use Rattle.sp_closure.specs.Slots.{slots_of, AreSlots, AreStands, AreThreadSlots, Stands, HasFirst, HasFronts, in_front}
-use Rattle.sp_closure.specs.State.{count_of, places_in, size_in}
-use Rattle.sp_closure.specs.Work.{sum_to}
-use Rattle.sp_closure.proofs.FrontLemmas.{lt_true, lt_false}
-use Rattle.sp_closure.proofs.SlotLemmas.{has_number, number_is, in_front_at, in_front_so}
+use Rattle.fronts.specs.declared.classes.Classes.{Classes}
+use Rattle.fronts.specs.declared.fronts.Fronts.{Fronts}
+use Rattle.fronts.specs.Slots.{slots_of, AreSlots, AreStands, AreThreadSlots, Stands, HasFirst, HasFronts, in_front}
+use Rattle.fronts.specs.State.{count_of, places_in, size_in}
+use Rattle.fronts.specs.Work.{sum_to}
+use Rattle.fronts.proofs.FrontLemmas.{lt_true, lt_false}
+use Rattle.fronts.proofs.SlotLemmas.{has_number, number_is, in_front_at, in_front_so}
 use Rattle.sp_closure.proofs.BaseLemmas.{in_slot, slot_so, slot_from, one_of, bit_off, same_thread, first_counted, count_step, set_of_fronts, sum_none, sum_plus, sum_equal}
 
 -- the place is of the slot, and in

@@ -10,11 +10,11 @@ use Rattle.sp_closure.specs.declared.tracks.Past.{Past}
 use Rattle.sp_closure.specs.declared.tracks.Track.{Track}
 use Rattle.sp_closure.specs.declared.tracks.Pasts.{Pasts}
 use Rattle.sp_closure.specs.declared.tracks.Pointer.{Pointer}
-use Rattle.sp_closure.specs.Slots.{HoldsFirst}
-use Rattle.sp_closure.specs.Members.{StopsAt}
+use Rattle.fronts.specs.Slots.{HoldsFirst}
+use Rattle.fronts.specs.Members.{StopsAt}
 use Rattle.sp_closure.specs.Pointers.{NumberAt}
 use Rattle.sp_closure.specs.Pasts.{AllFrom, ArePasts, AreFrom, IsFront, Moves, NoneStops, StandsAt, StopsFrom, StopsFromAt, StopsNowhere}
-use Rattle.sp_closure.proofs.SlotLemmas.{stands_before}
+use Rattle.fronts.proofs.SlotLemmas.{stands_before}
 
 -- a closed set that stops at none of the pointer's places before its entry holds the past of the
 -- place there

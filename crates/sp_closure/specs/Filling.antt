@@ -3,7 +3,7 @@ use Rattle.std.specs.Prelude.{List}
 use Rattle.trace_model.specs.Theory.Trace.{Trace}
 use Rattle.sp_closure.specs.declared.closer.Closer.{Closer}
 use Rattle.sp_closure.specs.declared.tracks.Track.{Track}
-use Rattle.sp_closure.specs.Slots.{slots_of}
+use Rattle.fronts.specs.Slots.{slots_of}
 use Rattle.sp_closure.specs.Pasts.{AreTracks}
 use Rattle.sp_closure.specs.Closers.{IsCloser}
 

@@ -3,13 +3,13 @@ use Rattle.std.specs.Prelude.{◌≡◌, ℕ, ◌≤◌, ◌⊎◌, Bool, List, 
 use Rattle.std.specs.Global.{Vec}
 use Rattle.trace_model.specs.Theory.Trace.{Trace}
 use Rattle.trace_model.specs.Theory.Closure.{Places, IsClosed}
-use Rattle.sp_closure.specs.declared.demands.Goal.{Goal}
+use Rattle.fronts.specs.declared.demands.Goal.{Goal}
 use Rattle.sp_closure.specs.declared.tracks.Past.{Past}
 use Rattle.sp_closure.specs.declared.tracks.Track.{Track}
 use Rattle.sp_closure.specs.declared.tracks.Pasts.{Pasts}
 use Rattle.sp_closure.specs.declared.tracks.Pointer.{Pointer}
-use Rattle.sp_closure.specs.Slots.{Stands, HoldsFirst, HasFirst, HoldsPlaces, AreSlots}
-use Rattle.sp_closure.specs.Members.{StopsAt}
+use Rattle.fronts.specs.Slots.{Stands, HoldsFirst, HasFirst, HoldsPlaces, AreSlots}
+use Rattle.fronts.specs.Members.{StopsAt}
 use Rattle.sp_closure.specs.Pointers.{NumberAt}
 use Rattle.sp_closure.specs.Reaching.{AllStop}
 

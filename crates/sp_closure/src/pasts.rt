@@ -2,22 +2,19 @@
 
 ghost use Rattle.std.specs.Prelude.{◌≡◌, ℕ, ◌<◌, ◌≤◌, length, slice_get, Some, IfOk, IfSome};
 ghost use Rattle.dependencies.specs.Tables.{known};
-ghost use Rattle.sp_closure.specs.Slots.{slots_of, AreThreadSlots, HasPlaces};
-ghost use Rattle.sp_closure.specs.Layers.{front_of};
-ghost use Rattle.sp_closure.specs.declared.demands.Goal.{Goal};
+ghost use Rattle.fronts.specs.Slots.{slots_of, AreThreadSlots, HasPlaces};
+ghost use Rattle.fronts.specs.Layers.{front_of};
+ghost use Rattle.fronts.specs.declared.demands.Goal.{Goal};
 ghost use Rattle.sp_closure.specs.Pasts.{ArePasts, AreTracks, HasGoal, IsTrack, IsWithin, Puts, PutsAt};
 ghost use Rattle.sp_closure.specs.Pointers.{FollowsWhole};
 ghost use Rattle.sp_closure.specs.Closers.{IsCloser};
 ghost use Rattle.sp_closure.specs.Filling.{IsFilling};
 
-use crate::classes::Classes;
 use crate::closer::{Closer, MOST_BASES};
-use crate::demands::{Goal, goal_before};
 use crate::enter::first_member;
-use crate::layer::Layer;
-use crate::steps::Steps;
 use crate::tracks::{Past, Pasts, Pointer, Track};
 use dependencies::DepTable;
+use fronts::{Classes, Goal, Layer, Steps, goal_before};
 use std::alloc::Global;
 use std::sync::ledger::Ledger;
 use trace_index::TraceIndex;

@@ -4,9 +4,9 @@ ghost use Rattle.std.specs.Prelude.{◌≡◌, List, ℕ, length, IfOk};
 ghost use Rattle.trace_model.specs.Theory.Closure.{IsClosure, ascending};
 ghost use Rattle.trace_model.specs.Theory.Reordering.{Reached};
 ghost use Rattle.trace_model.specs.Theory.Rows.{IsWitness};
-ghost use Rattle.sp_closure.specs.State.{places_in};
+ghost use Rattle.fronts.specs.State.{places_in};
 
-use sp_closure::Fronts;
+use fronts::Fronts;
 use std::alloc::Global;
 use trace_index::TraceIndex;
 use trace_model::{NoMemory, Place};

@@ -1,7 +1,7 @@
 use Rattle.std.proofs.Common.{◌≡◌, ◌<◌, get_or, take, length, inl, inr, sym, subst, arith}
 use Rattle.std.specs.List.{Contains}
 use Rattle.std.proofs.lemmas.List.{take_more, take_all}
-use Rattle.sp_closure.proofs.GrowingLemmas.{push_cases}
+use Rattle.fronts.proofs.GrowingLemmas.{push_cases}
 use Rattle.product_tests.proofs.traces.are_in_trace.Goals as goal
 
 pub loop-place-preserved : goal.loop-place-preserved

@@ -2,7 +2,7 @@ use Rattle.std.proofs.Common.{◌≡◌, ◌<◌, get_or, take, length, inl, inr
 use Rattle.std.specs.List.{Contains}
 use Rattle.std.proofs.lemmas.List.{take_more, take_all}
 use Rattle.dependencies.specs.Tables.{known}
-use Rattle.sp_closure.proofs.GrowingLemmas.{push_cases}
+use Rattle.fronts.proofs.GrowingLemmas.{push_cases}
 use Rattle.product_tests.proofs.traces.are_known.Goals as goal
 
 pub loop-number-preserved : goal.loop-number-preserved

@@ -1,5 +1,5 @@
 use Rattle.std.proofs.Common.{◌≡◌, ◌+◌, ◌∙◌, IfSome, arith}
-use Rattle.sp_closure.specs.State.{size_in}
+use Rattle.fronts.specs.State.{size_in}
 use Rattle.sp_closure.specs.Closers.{upper_total}
 use Rattle.sp_closure.proofs.BaseLemmas.{on_ok_map, if_some_map, counted_all}
 use Rattle.sp_closure.proofs.closer.least_instance.Goals as goal

@@ -1,5 +1,5 @@
 use Rattle.std.proofs.Common.{◌≡◌, ℕ, length, slice_get, Some}
-use Rattle.sp_closure.specs.Layers.{front_of}
+use Rattle.fronts.specs.Layers.{front_of}
 use Rattle.sp_closure.proofs.pasts.fronts_of.Given as goal
 
 abbrev pub invariant-loop-slot : goal.invariant-loop-slot

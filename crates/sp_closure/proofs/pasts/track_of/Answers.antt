@@ -6,7 +6,7 @@ use Rattle.trace_model.proofs.Theory.Ascending.{contains_at}
 use Rattle.trace_model.proofs.Lists.{get-push}
 use Rattle.dependencies.proofs.Follow.{tables_number}
 use Rattle.sp_closure.specs.declared.tracks.Past.{Past}
-use Rattle.sp_closure.specs.Slots.{slots_of}
+use Rattle.fronts.specs.Slots.{slots_of}
 use Rattle.sp_closure.proofs.PastLemmas.{IsMade, track_made}
 use Rattle.sp_closure.proofs.PointerLemmas.{number_in_trace}
 use Rattle.sp_closure.proofs.TableLemmas.{ArePlaces, table_places}

@@ -1,6 +1,6 @@
 use Rattle.std.proofs.Common.{◌≡◌, ℕ, length, slice_get, Some}
 use Rattle.sp_closure.specs.declared.tracks.Past.{Past}
-use Rattle.sp_closure.specs.Slots.{slots_of}
+use Rattle.fronts.specs.Slots.{slots_of}
 use Rattle.sp_closure.proofs.PastLemmas.{IsMade}
 use Rattle.sp_closure.proofs.pasts.track_of.Given as goal
 

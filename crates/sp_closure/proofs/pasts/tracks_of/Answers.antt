@@ -1,7 +1,7 @@
 use Rattle.std.proofs.Common.{inl, inr, [], ◌∷◌, length, slice_get, sym, ap, subst, ◌∙◌, arith}
 use Rattle.std.proofs.lemmas.List.{length-append}
 use Rattle.trace_model.proofs.Lists.{get-push}
-use Rattle.sp_closure.specs.Slots.{slots_of}
+use Rattle.fronts.specs.Slots.{slots_of}
 use Rattle.sp_closure.specs.Pasts.{IsTrack}
 use Rattle.sp_closure.proofs.pasts.tracks_of.Goals as goal
 

@@ -1,5 +1,5 @@
 use Rattle.std.proofs.Common.{◌≡◌, length}
-use Rattle.sp_closure.specs.Slots.{slots_of}
+use Rattle.fronts.specs.Slots.{slots_of}
 use Rattle.sp_closure.specs.Pasts.{AreTracks}
 use Rattle.sp_closure.proofs.pasts.tracks_of.Given as goal
 

@@ -3,7 +3,7 @@ use Rattle.std.proofs.lemmas.Bool.{cases_lt}
 use Rattle.trace_model.specs.Theory.Closure.{Places, ascending}
 use Rattle.trace_model.specs.Theory.Rows.{IsWitness}
 use Rattle.trace_model.proofs.Theory.Unique.{closure_witness}
-use Rattle.sp_closure.specs.State.{places_in}
+use Rattle.fronts.specs.State.{places_in}
 use Rattle.witness.proofs.order.write_witness.Goals as goal
 
 false_from : (b : Bool) → (b ≡ true → ⊥) → b ≡ false

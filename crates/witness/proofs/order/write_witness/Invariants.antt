@@ -1,6 +1,6 @@
 use Rattle.std.proofs.Common.{◌≡◌}
 use Rattle.trace_model.specs.Theory.Closure.{ascending}
-use Rattle.sp_closure.specs.State.{places_in}
+use Rattle.fronts.specs.State.{places_in}
 use Rattle.witness.proofs.order.write_witness.Given as goal
 
 abbrev pub invariant-loop-p : goal.invariant-loop-p

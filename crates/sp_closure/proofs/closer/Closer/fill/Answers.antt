@@ -1,9 +1,9 @@
 use Rattle.std.proofs.Common.{length, sym, ap, subst, ◌∙◌}
 use Rattle.std.proofs.Math.ListN.{length-set}
 use Rattle.sp_closure.proofs.EnterLemmas.{written}
-use Rattle.sp_closure.specs.declared.demands.Demands.{Demands}
-use Rattle.sp_closure.specs.declared.demands.Goal.{Goal}
-use Rattle.sp_closure.specs.Slots.{slots_of, HasFirst}
+use Rattle.fronts.specs.declared.demands.Demands.{Demands}
+use Rattle.fronts.specs.declared.demands.Goal.{Goal}
+use Rattle.fronts.specs.Slots.{slots_of, HasFirst}
 use Rattle.sp_closure.specs.Pasts.{AreTracks, HasGoal, PutsAt}
 use Rattle.sp_closure.proofs.PastLemmas.{tracks_put}
 use Rattle.sp_closure.proofs.closer.Closer.fill.Goals as goal

@@ -1,8 +1,8 @@
 use Rattle.std.proofs.Common.{sym, ap, subst}
 use Rattle.sp_closure.specs.declared.closer.Closer.{Closer}
-use Rattle.sp_closure.specs.declared.demands.Demands.{Demands}
-use Rattle.sp_closure.specs.Layers.{front_of}
-use Rattle.sp_closure.specs.Slots.{slots_of, HasFirst}
+use Rattle.fronts.specs.declared.demands.Demands.{Demands}
+use Rattle.fronts.specs.Layers.{front_of}
+use Rattle.fronts.specs.Slots.{slots_of, HasFirst}
 use Rattle.sp_closure.proofs.PastLemmas.{fronts_within}
 use Rattle.sp_closure.proofs.closer.Closer.past_of.Goals as goal
 

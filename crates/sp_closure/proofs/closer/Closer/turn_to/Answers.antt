@@ -1,7 +1,7 @@
 use Rattle.std.proofs.Common.{◌≡◌, slice_get, Some, inl, inr, ap, subst, sym, ◌∙◌}
 use Rattle.std.proofs.lemmas.Option.{slice_get-get_or}
-use Rattle.sp_closure.specs.declared.work.Work.{Work}
-use Rattle.sp_closure.specs.Work.{IsFit}
+use Rattle.fronts.specs.declared.work.Work.{Work}
+use Rattle.fronts.specs.Work.{IsFit}
 use Rattle.sp_closure.specs.Closers.{IsBase, IsKept, total_over}
 use Rattle.sp_closure.proofs.OtherBases.{set_at}
 use Rattle.sp_closure.proofs.closer.Closer.turn_to.Goals as goal

@@ -1,0 +1,197 @@
+-- The tables as they are built, place after place.
+use Rattle.std.proofs.Common.{◌≡◌, ℕ, zero, suc, ◌<◌, ◌≤◌, ◌⊎◌, inl, inr, Vec, List, [], ◌∷◌, ◌++◌, length, slice_get, slice_set, Option, Some, None, refl, sym, ap, subst, ◌∙◌, arith}
+use Rattle.std.specs.Global.{Global}
+use Rattle.std.specs.List.{Contains}
+use Rattle.std.specs.Option.{option_and_then}
+use Rattle.std.proofs.lemmas.Bool.{cases_lt}
+use Rattle.std.proofs.lemmas.Option.{none-some, same_Some, slice_get_within, slice_get-get_or, get_or_from_slice_get}
+use Rattle.std.proofs.lemmas.List.Elements.{Contains-append_cases}
+use Rattle.trace_model.specs.Theory.Trace.{Trace, OfThread}
+use Rattle.trace_model.specs.Theory.Held.{BeginsOn}
+use Rattle.trace_model.proofs.Lists.{at_index, get-push, get-set_same, get-set_other}
+use Rattle.trace_index.specs.Numbers.{number_at}
+use Rattle.std.specs.Arc.{arc_value}
+use Rattle.fronts.specs.declared.demands.Goal.{Goal}
+use Rattle.fronts.specs.declared.demands.Need.TheVariants.{Reach, Begin}
+use Rattle.fronts.specs.declared.demands.Item.{Item}
+use Rattle.fronts.specs.declared.demands.Demands.{Demands}
+use Rattle.fronts.specs.Slots.{slots_of, AreSlots, AreStands, AreThreadSlots, Stands}
+use Rattle.fronts.specs.Demands.{Needs, AreLockSlots, AreItems, AreDemands, item, item_at}
+use Rattle.fronts.specs.Pushing.{Slotted, with_slots, IsDemand, IsForkLater, IsReached, IsBegun, AddsDemands, AreBuilt, AreAllBuilt}
+use Rattle.fronts.proofs.SlotLemmas.{before_stands, has_upto}
+use Rattle.fronts.proofs.ThreadLemmas.{place_below}
+use Rattle.fronts.proofs.PushLemmas.{reached_left, reached_right, begun_left, begun_right}
+
+found_at : {X : Type 0} (xs : List X) (x : X) → Contains xs x → (k : ℕ) × (slice_get xs k ≡ Some x)
+found_at xs x (k, l, e) = (k, slice_get-get_or xs k x l ∙ ap Some e)
+
+contained : {X : Type 0} (xs : List X) (k : ℕ) (x : X) → slice_get xs k ≡ Some x → Contains xs x
+contained xs k x h = (k, slice_get_within xs k x h, get_or_from_slice_get xs k x x h)
+
+-- an element of two lists is one of the first, or stands behind it
+two_lists : {X : Type 0} (xs ys : List X) (k : ℕ) (x : X) → slice_get (xs ++ ys) k ≡ Some x → (slice_get xs k ≡ Some x) ⊎ ((length xs ≤ k) × Contains ys x)
+two_lists [] ys k x h = inr (omega arith, contained ys k x h)
+two_lists (z ∷ zs) ys zero x h = inl h
+two_lists (z ∷ zs) ys (suc k) x h = elim (two_lists zs ys k x h) [
+  | inl a ↦ inl a
+  | inr b ↦ inr (omega (arith, b.0), b.1)
+]
+
+-- q is below p, or is p
+upto : (p q : ℕ) → q < suc p → (q < p) ⊎ (q ≡ p)
+upto p q l = elim (cases_lt q p) [
+  | inl less ↦ inl less
+  | inr not ↦ inr (omega (arith, l, not))
+]
+
+built_other : (v : Slotted) (p a : ℕ) (xs : List Item) → (v.slots p ≡ Some a → ⊥) → AreBuilt v p a xs → AreBuilt v (suc p) a xs
+built_other v p a xs apart b = record {
+  only = λ i h. let (q, l, st, d) = b.only i h in (q, omega (arith, l), st, d);
+  ascend = b.ascend;
+  needs = λ q r n l st need. elim (upto p q l) [
+    | inl less ↦ b.needs q r n less st need
+    | inr e ↦ absurd (apart (subst (λ z. v.slots z ≡ Some a) e st.slot))
+  ];
+  begins = λ q k n l st on. elim (upto p q l) [
+    | inl less ↦ b.begins q k n less st on
+    | inr e ↦ absurd (apart (subst (λ z. v.slots z ≡ Some a) e st.slot))
+  ];
+}
+
+built_pushed : (v : Slotted) (count p a : ℕ) (xs ys : List Item) → AreSlots v.trace v.slots count → v.slots p ≡ Some a → AreBuilt v p a xs →
+    AddsDemands v p xs ys → AreBuilt v (suc p) a ys
+built_pushed v count p a xs ys k slot b (n, added, num, is, d) = subst (AreBuilt v (suc p) a) (sym is) (record {
+  only = λ i h. elim (Contains-append_cases xs added i h) [
+    | inl old ↦ let (q, l, st, dem) = b.only i old in (q, omega (arith, l), st, dem)
+    | inr new ↦
+        let dem = d.only i new in
+        let e : i.number ≡ n = dem.number in
+        (p, omega arith, subst (Stands v.trace v.slots p a) (sym e) here, subst (λ z. IsDemand v p z i) (sym e) dem)
+  ];
+  ascend = λ i j x y l hx hy. elim (two_lists xs added i x hx) [
+    | inl ox ↦ elim (two_lists xs added j y hy) [
+      | inl oy ↦ b.ascend i j x y l ox oy
+      | inr ny ↦
+          let (q, less, st, dem) = b.only x (contained xs i x ox) in
+          omega (arith, before_stands v.trace v.slots count q p a x.number n k st here less, (d.only y ny.1).number)
+    ]
+    | inr nx ↦ elim (two_lists xs added j y hy) [
+      | inl oy ↦ absurd (omega (arith, l, nx.0, slice_get_within xs j y oy))
+      | inr ny ↦ omega (arith, (d.only x nx.1).number, (d.only y ny.1).number)
+    ]
+  ];
+  needs = λ q r m l st need. elim (upto p q l) [
+    | inl less ↦ elim (b.needs q r m less st need) [
+      | inl later ↦ inl later
+      | inr at ↦ inr (reached_left v.trace v.slots m r xs added at)
+    ]
+    | inr e ↦
+        let same : n ≡ m = same_Some n m (sym num ∙ subst (λ z. number_at v.trace z ≡ Some m) e st.number) in
+        let now : IsForkLater v.trace p m r ⊎ IsReached v.trace v.slots m r added = subst (λ z. IsForkLater v.trace p z r ⊎ IsReached v.trace v.slots z r added) same (d.needs r (subst (λ z. Needs v.trace z r) e need)) in
+        elim now [
+          | inl later ↦ inl (subst (λ z. IsForkLater v.trace z m r) (sym e) later)
+          | inr at ↦ inr (reached_right v.trace v.slots m r xs added at)
+        ]
+  ];
+  begins = λ q j m l st on. elim (upto p q l) [
+    | inl less ↦ begun_left q m xs added (b.begins q j m less st on)
+    | inr e ↦
+        let same : n ≡ m = same_Some n m (sym num ∙ subst (λ z. number_at v.trace z ≡ Some m) e st.number) in
+        let now : IsBegun p m added = subst (λ z. IsBegun p z added) same (d.begins j (subst (λ z. BeginsOn v.trace z j) e on)) in
+        begun_right q m xs added (subst (λ z. IsBegun z m added) (sym e) now)
+  ];
+})
+  where
+    here : Stands v.trace v.slots p a n
+    here = record { slot = slot; number = num }
+
+-- one more place
+pub all_pushed : (v : Slotted) (count p a : ℕ) (lists : List (Vec Item Global)) (old new : Vec Item Global) → AreSlots v.trace v.slots count → v.slots p ≡ Some a →
+    slice_get lists a ≡ Some old → AddsDemands v p old.items new.items → AreAllBuilt v p lists → AreAllBuilt v (suc p) (slice_set lists a new)
+all_pushed v count p a lists old new k slot at adds all b zs h = elim (cases_lt a b) [
+  | inl less ↦ other (λ e. omega (arith, less, e))
+  | inr not ↦ elim (cases_lt b a) [
+    | inl more ↦ other (λ e. omega (arith, more, e))
+    | inr also ↦ same (omega (arith, not, also))
+  ]
+]
+  where
+    other : (a ≡ b → ⊥) → AreBuilt v (suc p) b zs.items
+    other ne = built_other v p b zs.items (λ e. ne (same_Some a b (sym slot ∙ e))) (all b zs (sym (get-set_other lists a b new ne) ∙ h))
+
+    same : a ≡ b → AreBuilt v (suc p) b zs.items
+    same e =
+        let is : new ≡ zs = same_Some new zs (sym (get-set_same lists a old new at) ∙ subst (λ z. slice_get (slice_set lists a new) z ≡ Some zs) (sym e) h) in
+        subst (λ z. AreBuilt v (suc p) b z.items) is
+        (subst (λ z. AreBuilt v (suc p) z new.items) e (built_pushed v count p a old.items new.items k slot (all a old at) adds))
+
+item_so : (d : Demands) (a j : ℕ) (x : Item) → item_at d a j ≡ Some x → (xs : Vec Item Global) × (slice_get d.items.items a ≡ Some xs) × (slice_get xs.items j ≡ Some x)
+item_so d a j x h = go (slice_get d.items.items a) refl h
+  where
+    go : (o : Option (Vec Item Global)) → slice_get d.items.items a ≡ o → option_and_then (λ xs. slice_get xs.items j) o ≡ Some x →
+        (xs : Vec Item Global) × (slice_get d.items.items a ≡ Some xs) × (slice_get xs.items j ≡ Some x)
+    go None e k = absurd (none-some x k)
+    go (Some xs) e k = (xs, e, k)
+
+item_from : (d : Demands) (a : ℕ) (xs : Vec Item Global) (x : Item) → slice_get d.items.items a ≡ Some xs → Contains xs.items x → (j : ℕ) × (item_at d a j ≡ Some x)
+item_from d a xs x h c =
+    let (j, at) = found_at xs.items x c in
+    (j, ap (option_and_then (λ z. slice_get z.items j)) h ∙ at)
+
+pub items_built : (v : Slotted) (d : Demands) (count : ℕ) → AreSlots v.trace v.slots count → length d.items.items ≡ count →
+    AreAllBuilt v (length v.trace) d.items.items → AreItems v.trace v.slots v.locks (item_at d)
+items_built v d count k len all = record {
+  ascend = λ a i j x y l hx hy.
+      let (xs, at, fx) = item_so d a i x hx in
+      let (ys, other, fy) = item_so d a j y hy in
+      let e : ys ≡ xs = same_Some ys xs (sym other ∙ at) in
+      (all a xs at).ascend i j x y l fx (subst (λ z. slice_get z.items j ≡ Some y) e fy);
+  reach = λ a j n goal h.
+      let (xs, at, f) = item_so d a j (item n (Reach goal)) h in
+      let (q, l, st, dem) = (all a xs at).only (item n (Reach goal)) (contained xs.items j (item n (Reach goal)) f) in
+      let (r, need, is) = dem.reach goal refl in
+      (q, r, st, need, is);
+  begin = λ a j n l c h.
+      let (xs, at, f) = item_so d a j (item n (Begin l c)) h in
+      let (q, less, st, dem) = (all a xs at).only (item n (Begin l c)) (contained xs.items j (item n (Begin l c)) f) in
+      let (i, e, on, lock, ends) = dem.begin l c refl in
+      (i, subst (λ z. Stands v.trace v.slots z a n) (sym e) st, subst (λ z. BeginsOn v.trace z i) (sym e) on, subst (λ z. v.locks z ≡ Some l) (sym e) lock, ends);
+  needs = λ q r a n need st.
+      let (t, oq) = k.of_place q a st.slot in
+      let (xs, at) = list_of q a t st.slot oq in
+      elim ((all a xs at).needs q r n (place_below v.trace t q oq) st need) [
+        | inl (z, u, ou, fork) ↦
+            let (p, sp) = has_upto v.trace v.slots count q a n k st 0 (omega arith) in
+            let op = k.apart q p a u st.slot sp.slot ou in
+            elim ((all a xs at).needs p r 0 (place_below v.trace u p op) sp (inl (inl (u, op, fork)))) [
+              | inl later ↦ absurd (later.0 refl)
+              | inr (goal, m, c, sr, less) ↦ let (j, f) = item_from d a xs (item 0 (Reach goal)) at c in inr (j, 0, goal, m, f, omega arith, sr, less)
+            ]
+        | inr (goal, m, c, sr, less) ↦ let (j, f) = item_from d a xs (item n (Reach goal)) at c in inr (j, n, goal, m, f, omega arith, sr, less)
+      ];
+  begins = λ q i a n on st.
+      let (t, oq) = k.of_place q a st.slot in
+      let (xs, at) = list_of q a t st.slot oq in
+      let (l, c, h, e) = (all a xs at).begins q i n (place_below v.trace t q oq) st on in
+      let (j, f) = item_from d a xs (item n (Begin l c)) at h in
+      (j, l, c, f, e);
+}
+  where
+    list_of : (q a t : ℕ) → v.slots q ≡ Some a → OfThread v.trace q t → (xs : Vec Item Global) × (slice_get d.items.items a ≡ Some xs)
+    list_of q a t e o =
+        let (b, f, less) = k.each q t o in
+        at_index d.items.items a (omega (arith, len, less, same_Some a b (sym e ∙ f)))
+
+-- one more place is listed where it stands
+pub stands_pushed : (s : Trace) (slots : ℕ → Option ℕ) (old new : List Goal) (n : ℕ) (g : Goal) → new ≡ old ++ g ∷ [] → length old ≡ n →
+    ((p : ℕ) (to : Goal) → slice_get old p ≡ Some to → Stands s slots p to.slot to.count) → Stands s slots n g.slot g.count →
+    (p : ℕ) (to : Goal) → slice_get new p ≡ Some to → Stands s slots p to.slot to.count
+stands_pushed s slots old new n g is len each last p to at = elim (get-push old g p to (ap (λ z. slice_get z p) (sym is) ∙ at)) [
+  | inl before ↦ each p to before
+  | inr here ↦ subst (λ (z : Goal). Stands s slots p z.slot z.count) here.1 (subst (λ z. Stands s slots z g.slot g.count) (sym (here.0 ∙ len)) last)
+]
+
+pub demands_built : (s : Trace) (d : Demands) → AreThreadSlots s d.threads → AreLockSlots s d.locks → AreStands s (slots_of d.threads) (arc_value d.stands).items → length d.items.items ≡ d.threads.count →
+    AreAllBuilt (with_slots s d.threads d.locks) (length s) d.items.items → AreDemands s d
+demands_built s d slots locks stands len all =
+    record { slots = slots; locks = locks; stands = stands; items = items_built (with_slots s d.threads d.locks) d d.threads.count slots len all }

@@ -1,0 +1,31 @@
+-- Fronts, as sets of places.
+use Rattle.std.proofs.Common.{◌≡◌, ℕ, ◌<◌, ◌≤◌, true, false, ◌==◌, nat_lt, slice_get, Option, Some, None, refl, ap, ◌∙◌, arith}
+use Rattle.std.specs.Option.{option_map_or}
+use Rattle.std.proofs.lemmas.Bool.{eq-eqb, eqb-true, false≢true}
+use Rattle.std.proofs.lemmas.Bool.Decides.{nat_tests}
+use Rattle.trace_model.specs.declared.traces.event.Event.{Event}
+use Rattle.trace_model.specs.Theory.Trace.{Trace, event, OfThread}
+use Rattle.trace_index.specs.Numbers.{of_thread, earlier_events}
+use Rattle.fronts.proofs.Counts.{count_lt}
+
+pub of_thread_from : (s : Trace) (t p : ℕ) → OfThread s p t → of_thread s t p ≡ true
+of_thread_from s t p (o, h) = rw h (eq-eqb t t refl)
+
+pub of_thread_so : (s : Trace) (t p : ℕ) → of_thread s t p ≡ true → OfThread s p t
+of_thread_so s t p h = go (slice_get s p) refl h
+  where
+    go : (o : Option Event) → slice_get s p ≡ o → option_map_or (λ e. e.thread == t) o false ≡ true → OfThread s p t
+    go None e k = absurd (false≢true k)
+    go (Some v) e k = (v.op, e ∙ ap (λ u. Some (event u v.op)) (eqb-true v.thread t k))
+
+pub lt_true : (a b : ℕ) → a < b → nat_lt a b ≡ true
+lt_true a b h = grind (arith, nat_tests)
+
+pub lt_so : (a b : ℕ) → nat_lt a b ≡ true → a < b
+lt_so a b h = grind (arith, nat_tests)
+
+pub lt_false : (a b : ℕ) → b ≤ a → nat_lt a b ≡ false
+lt_false a b h = grind (arith, nat_tests)
+
+pub earlier_lt : (s : Trace) (t p q : ℕ) → OfThread s p t → p < q → earlier_events s t p < earlier_events s t q
+earlier_lt s t p q o l = count_lt (of_thread s t) p q l (of_thread_from s t p o)

@@ -1,0 +1,14 @@
+pub mod Counts
+pub mod FrontLemmas
+pub mod ThreadLemmas
+pub mod GrowingLemmas
+pub mod SlotLemmas
+pub mod MemberLemmas
+pub mod RaiseLemmas
+pub mod StageLemmas
+pub mod WayLemmas
+pub mod RunLemmas
+pub mod ClassLemmas
+pub mod FirstLemmas
+pub mod PushLemmas
+pub mod BuildLemmas

@@ -1,0 +1,257 @@
+-- A member that goes to its next place passes no place at which a set stops.
+use Rattle.std.proofs.Common.{◌≡◌, ℕ, zero, suc, ◌+◌, ◌-◌, ◌<◌, ◌≤◌, max, inl, inr, Bool, true, false, List, [], ◌∷◌, length, slice_get, slice_set, Option, Some, refl, sym, ap, subst, ◌∙◌, arith}
+use Rattle.std.specs.List.{Contains}
+use Rattle.std.proofs.lemmas.Bool.{cases_lt, false≢true}
+use Rattle.std.proofs.lemmas.Bool.Decides.{eqb_tells}
+use Rattle.std.proofs.lemmas.Option.{none-some, same_Some, slice_get_within}
+use Rattle.trace_model.specs.Theory.Trace.{Trace}
+use Rattle.trace_model.specs.Theory.Closure.{Places}
+use Rattle.trace_model.proofs.Theory.Ascending.{place_of}
+use Rattle.trace_model.proofs.Lists.{get-set_same, get-set_other}
+use Rattle.trace_model.proofs.Theory.Unique.{increasing_ordered}
+use Rattle.std.proofs.Math.ListN.{length-set}
+use Rattle.fronts.specs.declared.demands.Goal.{Goal}
+use Rattle.fronts.specs.declared.members.Member.{Member}
+use Rattle.fronts.specs.Slots.{AreSlots, Stands, HoldsFirst, HasFirst, HoldsPlaces}
+use Rattle.fronts.specs.Members.{Each, IsMember, StopsAt, Stops, IsNotPast, IsAhead, IsSameMember, AreMoved, IsWithinCount, Advances, HasMoved, IsSettled, steps_left}
+use Rattle.fronts.proofs.SlotLemmas.{stands_before, has_before}
+
+pub each_set : {X : Type 0} (P : X → Type 0) (xs : List X) (k : ℕ) (x y : X) → slice_get xs k ≡ Some x → Each P xs → P y → Each P (slice_set xs k y)
+each_set P xs k x y at all new i z h = elim (eqb_tells i k) [
+  | inl e ↦ subst P (same_Some y z (sym (get-set_same xs k x y at) ∙ subst (λ j. slice_get (slice_set xs k y) j ≡ Some z) e.1 h)) new
+  | inr e ↦ all i z (sym (get-set_other xs k i y (λ f. e.1 (sym f))) ∙ h)
+]
+
+pub same_refl : (x : Member) → IsSameMember x x
+same_refl x = record { places = refl; slot = refl }
+
+pub moved_none : (slot : ℕ) (xs : List Member) → AreMoved slot xs xs
+moved_none slot xs = record {
+  same_length = refl;
+  same = λ i x y h k. subst (IsSameMember x) (same_Some x y (sym h ∙ k)) (same_refl x);
+  others = λ i x y h k n. same_Some x y (sym h ∙ k);
+}
+
+-- one more member moved
+pub moved_more : (slot : ℕ) (old xs : List Member) (k : ℕ) (x y : Member) → AreMoved slot old xs → slice_get xs k ≡ Some x →
+    x.slot ≡ slot → IsSameMember x y → AreMoved slot old (slice_set xs k y)
+moved_more slot old xs k x y m at here same = record {
+  same_length = length-set xs k y ∙ m.same_length;
+  same = λ i a b h g. elim (eqb_tells i k) [
+    | inl e ↦
+        let is_y : y ≡ b = same_Some y b (sym (get-set_same xs k x y at) ∙ subst (λ j. slice_get (slice_set xs k y) j ≡ Some b) e.1 g) in
+        let ax = m.same i a x h (subst (λ j. slice_get xs j ≡ Some x) (sym e.1) at) in
+        subst (IsSameMember a) is_y (record { places = same.places ∙ ax.places; slot = same.slot ∙ ax.slot })
+    | inr e ↦ m.same i a b h (sym (get-set_other xs k i y (λ f. e.1 (sym f))) ∙ g)
+  ];
+  others = λ i a b h g n. elim (eqb_tells i k) [
+    | inl e ↦
+        let ax = m.same i a x h (subst (λ j. slice_get xs j ≡ Some x) (sym e.1) at) in
+        absurd (n (sym ax.slot ∙ here))
+    | inr e ↦ m.others i a b h (sym (get-set_other xs k i y (λ f. e.1 (sym f))) ∙ g) n
+  ];
+}
+
+-- a place of the list after the one at e is no earlier than the one at e + 1
+pub after_entry : (s : Trace) (slots : ℕ → Option ℕ) (x y : Member) (q : ℕ) → IsMember s slots x → Advances s slots true x y → Contains x.places q → x.place < q → y.place ≤ q
+after_entry s slots x y q mx a c l =
+    let up = increasing_ordered x.places a.ascends in
+    let (j, h) = place_of x.places q c in
+    let at_y : slice_get x.places (x.entry + 1) ≡ Some y.place =
+    subst (λ e. slice_get x.places e ≡ Some y.place) (a.next refl)
+    (subst (λ ps. slice_get ps y.entry ≡ Some y.place) a.same.places a.is_member.at) in
+    elim (cases_lt j (x.entry + 1)) [
+      | inl early ↦ elim (cases_lt j x.entry) [
+        | inl before ↦ absurd (omega (arith, l, up j x.entry q x.place before h mx.at))
+        | inr here ↦
+            let e : j ≡ x.entry = omega (arith, early, here) in
+            let same : q ≡ x.place = same_Some q x.place (sym h ∙ subst (λ i. slice_get x.places i ≡ Some x.place) (sym e) mx.at) in
+            absurd (omega (arith, l, same))
+      ]
+      | inr late ↦ elim (cases_lt (x.entry + 1) j) [
+        | inl more ↦ omega (arith, up (x.entry + 1) j y.place q more at_y h)
+        | inr last ↦
+            let e : j ≡ x.entry + 1 = omega (arith, late, last) in
+            let same : q ≡ y.place = same_Some q y.place (sym h ∙ subst (λ i. slice_get x.places i ≡ Some y.place) (sym e) at_y) in
+            omega (arith, same)
+      ]
+    ]
+
+-- at the last entry there is none after it
+pub after_last : (s : Trace) (slots : ℕ → Option ℕ) (x y : Member) (q : ℕ) → IsMember s slots x → Advances s slots false x y → Contains x.places q → x.place < q → ⊥
+after_last s slots x y q mx a c l =
+    let up = increasing_ordered x.places a.ascends in
+    let (j, h) = place_of x.places q c in
+    let inside = slice_get_within x.places j q h in
+    elim (cases_lt j x.entry) [
+      | inl before ↦ omega (arith, l, up j x.entry q x.place before h mx.at)
+      | inr here ↦
+          let e : j ≡ x.entry = omega (arith, inside, here, (a.last refl).0) in
+          let same : q ≡ x.place = same_Some q x.place (sym h ∙ subst (λ i. slice_get x.places i ≡ Some x.place) (sym e) mx.at) in
+          omega (arith, l, same)
+    ]
+
+-- a set that holds the member's place stops later
+pub stops_later : (s : Trace) (slots : ℕ → Option ℕ) (set : Places) (x : Member) (count q : ℕ) → IsMember s slots x → x.number < count →
+    HoldsFirst s slots set x.slot count → IsNotPast s set x → Contains x.places q → StopsAt s set q → x.place < q
+stops_later s slots set x count q mx l holds not c stop =
+    let below : x.place ≤ q = not q c stop in
+    let in_set : set x.place ≡ true = holds x.place x.number mx.stands l in
+    elim (eqb_tells x.place q) [
+      | inl e ↦ absurd (false≢true (sym stop.out ∙ subst (λ z. set z ≡ true) e.1 in_set))
+      | inr e ↦ omega (arith, below, e.1)
+    ]
+
+-- all that stands before a place at which the set stops, or before an earlier one, is in
+pub holds_upto : (s : Trace) (slots : ℕ → Option ℕ) (count : ℕ) (set : Places) (y : Member) (q : ℕ) → AreSlots s slots count → IsMember s slots y →
+    Contains y.places q → StopsAt s set q → y.place ≤ q → HoldsFirst s slots set y.slot y.number
+holds_upto s slots count set y q k my c stop l p n x less =
+    let before = stands_before s slots count p y.place y.slot n y.number k x my.stands less in
+    let (t, o, u, lt) = before in
+    let uq = k.apart y.place q y.slot t my.stands.slot (my.thread q c) u in
+    stop.before p (t, o, uq, omega (arith, lt, l))
+
+pub ahead_moves : (s : Trace) (slots : ℕ → Option ℕ) (count : ℕ) (set : Places) (xs : List Member) (k : ℕ) (x y : Member) (most : ℕ) → AreSlots s slots count →
+    IsAhead s xs set → slice_get xs k ≡ Some x → IsMember s slots x → x.number < most → HoldsFirst s slots set x.slot most → Advances s slots true x y →
+    IsAhead s (slice_set xs k y) set × HoldsFirst s slots set y.slot y.number
+ahead_moves s slots count set xs k x y most slot a at mx l holds adv =
+    let (q, c, stop) = a.stops k x at in
+    let later : (z : ℕ) → Contains x.places z → StopsAt s set z → y.place ≤ z = λ z cz sz.
+    after_entry s slots x y z mx adv cz (stops_later s slots set x most z mx l holds (a.not_past k x at) cz sz) in
+    let cy : Contains y.places q = subst (λ ps. Contains ps q) (sym adv.same.places) c in (
+      record {
+        closed = a.closed;
+        stops = each_set (Stops s set) xs k x y at a.stops (q, cy, stop);
+        not_past = each_set (IsNotPast s set) xs k x y at a.not_past (λ z cz sz. later z (subst (λ ps. Contains ps z) adv.same.places cz) sz);
+      },
+      holds_upto s slots count set y q slot adv.is_member cy stop (later q c stop),
+    )
+
+pub ahead_ends : (s : Trace) (slots : ℕ → Option ℕ) (set : Places) (xs : List Member) (k : ℕ) (x y : Member) (most : ℕ) →
+    IsAhead s xs set → slice_get xs k ≡ Some x → IsMember s slots x → x.number < most → HoldsFirst s slots set x.slot most → Advances s slots false x y → ⊥
+ahead_ends s slots set xs k x y most a at mx l holds adv =
+    let (q, c, stop) = a.stops k x at in
+    after_last s slots x y q mx adv c (stops_later s slots set x most q mx l holds (a.not_past k x at) c stop)
+
+pub left_less : (xs : List Member) (k : ℕ) (x y : Member) → slice_get xs k ≡ Some x → y.places ≡ x.places → y.entry ≡ x.entry + 1 → x.entry < length x.places →
+    steps_left (slice_set xs k y) < steps_left xs
+left_less [] k x y h p e l = absurd (none-some x h)
+left_less (a ∷ more) zero x y h p e l =
+    let same : a ≡ x = same_Some a x h in
+    let n : length a.places - a.entry ≡ length x.places - x.entry = ap (λ m. length m.places - m.entry) same in
+    let m : length y.places ≡ length x.places = ap length p in
+    omega (arith, n, m, e, l)
+left_less (a ∷ more) (suc k) x y h p e l = omega (arith, left_less more k x y h p e l)
+
+-- the same, of a member that was moved in the list
+members_on : (s : Trace) (slots : ℕ → Option ℕ) (xs ys : List Member) (k : ℕ) (b : Bool) → HasMoved (Advances s slots b) xs k ys →
+    Each (IsMember s slots) xs → Each (IsMember s slots) ys
+members_on s slots xs ys k b m all =
+    subst (Each (IsMember s slots)) (sym m.new_at) (each_set (IsMember s slots) xs k m.x m.y m.at all m.advances.is_member)
+
+moved_on : (s : Trace) (slots : ℕ → Option ℕ) (slot : ℕ) (old xs ys : List Member) (k : ℕ) (b : Bool) (m : HasMoved (Advances s slots b) xs k ys) →
+    AreMoved slot old xs → m.x.slot ≡ slot → AreMoved slot old ys
+moved_on s slots slot old xs ys k b m all here =
+    subst (AreMoved slot old) (sym m.new_at) (moved_more slot old xs k m.x m.y all m.at here m.advances.same)
+
+within_on : (s : Trace) (slots : ℕ → Option ℕ) (slot count n : ℕ) (xs ys : List Member) (k : ℕ) (b : Bool) (m : HasMoved (Advances s slots b) xs k ys) →
+    m.y.number ≡ n → Each (IsWithinCount slot count) xs → Each (IsWithinCount slot (max count n)) ys
+within_on s slots slot count n xs ys k b m is all =
+    subst (Each (IsWithinCount slot (max count n))) (sym m.new_at)
+    (each_set (IsWithinCount slot (max count n)) xs k m.x m.y m.at (λ i z h e. omega (arith, all i z h e)) (λ e. omega (arith, is)))
+
+has_on : (s : Trace) (slots : ℕ → Option ℕ) (few slot count n : ℕ) (xs ys : List Member) (k : ℕ) (b : Bool) (m : HasMoved (Advances s slots b) xs k ys) →
+    AreSlots s slots few → m.x.slot ≡ slot → m.y.number ≡ n → HasFirst s slots slot count → HasFirst s slots slot (max count n)
+has_on s slots few slot count n xs ys k b m known here is has i l = elim (cases_lt i count) [
+  | inl less ↦ has i less
+  | inr more ↦
+      subst (λ a. (p : ℕ) × Stands s slots p a i) (m.advances.same.slot ∙ here)
+      (has_before s slots few m.y.place m.y.slot m.y.number known m.advances.is_member.stands i (omega (arith, l, more, is)))
+]
+
+ahead_on : (s : Trace) (slots : ℕ → Option ℕ) (few slot count n : ℕ) (set : Places) (xs ys : List Member) (k : ℕ) (m : HasMoved (Advances s slots true) xs k ys) →
+    AreSlots s slots few → Each (IsMember s slots) xs → m.x.slot ≡ slot → m.x.number < count → m.y.number ≡ n →
+    IsAhead s xs set → HoldsFirst s slots set slot count → IsAhead s ys set × HoldsFirst s slots set slot (max count n)
+ahead_on s slots few slot count n set xs ys k m known all here less is ahead holds =
+    let held = subst (λ a. HoldsFirst s slots set a count) (sym here) holds in
+    let both = ahead_moves s slots few set xs k m.x m.y count known ahead m.at (all k m.x m.at) less held m.advances in (
+      subst (λ zs. IsAhead s zs set) (sym m.new_at) both.0,
+      λ p i x l. elim (cases_lt i count) [
+        | inl below ↦ holds p i x below
+        | inr above ↦ subst (λ a. HoldsFirst s slots set a m.y.number) (m.advances.same.slot ∙ here) both.1 p i x (omega (arith, l, above, is))
+      ],
+    )
+
+-- a member of the slot that is at fewer places than counted
+pub record IsFound (a count : ℕ) (x : Member) : Type 0 where
+  pub slot : x.slot ≡ a
+  pub less : x.number < count
+
+-- the one at k is such a member
+abbrev pub IsFoundAt : ℕ → ℕ → List Member → ℕ → Type 0
+IsFoundAt slot count xs k = (z : Member) × (slice_get xs k ≡ Some z) × (z.slot ≡ slot) × (z.number < count)
+
+-- the member that was found is the one that moved
+is_found : (s : Trace) (slots : ℕ → Option ℕ) (slot count : ℕ) (xs ys : List Member) (k : ℕ) (b : Bool) (m : HasMoved (Advances s slots b) xs k ys) →
+    IsFoundAt slot count xs k → IsFound slot count m.x
+is_found s slots slot count xs ys k b m (z, at, here, less) =
+    subst (IsFound slot count) (same_Some z m.x (sym at ∙ m.at)) (record { slot = here; less = less })
+
+-- what the loop keeps
+pub record AreSettling (s : Trace) (slots : ℕ → Option ℕ) (goal : Goal) (old new : List Member) (count : ℕ) : Type 0 where
+  pub members : Each (IsMember s slots) new
+  pub moved : AreMoved goal.slot old new
+  pub within : Each (IsWithinCount goal.slot count) new
+  pub more : goal.count ≤ count
+  pub has : HasFirst s slots goal.slot count
+  pub ahead : (set : Places) → IsAhead s old set → HoldsFirst s slots set goal.slot goal.count →
+      IsAhead s new set × HoldsFirst s slots set goal.slot count
+
+pub settling_on : (s : Trace) (slots : ℕ → Option ℕ) (few : ℕ) (goal : Goal) (count n : ℕ) (old xs ys : List Member) (k : ℕ) (m : HasMoved (Advances s slots true) xs k ys) →
+    AreSlots s slots few → IsFoundAt goal.slot count xs k → m.y.number ≡ n → AreSettling s slots goal old xs count → AreSettling s slots goal old ys (max count n)
+settling_on s slots few goal count n old xs ys k m known at is all =
+    let found = is_found s slots goal.slot count xs ys k true m at in
+    record {
+      members = members_on s slots xs ys k true m all.members;
+      moved = moved_on s slots goal.slot old xs ys k true m all.moved found.slot;
+      within = within_on s slots goal.slot count n xs ys k true m is all.within;
+      more = omega (arith, all.more);
+      has = has_on s slots few goal.slot count n xs ys k true m known found.slot is all.has;
+      ahead = λ set a h.
+          let (b, g) = all.ahead set a h in
+          ahead_on s slots few goal.slot count n set xs ys k m known all.members found.slot found.less is b g;
+    }
+
+-- where a member has no further place, no set stops at a place of each
+pub record HaveEnded (s : Trace) (slots : ℕ → Option ℕ) (goal : Goal) (old new : List Member) : Type 0 where
+  pub members : Each (IsMember s slots) new
+  pub moved : AreMoved goal.slot old new
+  pub ahead : (set : Places) → IsAhead s old set → HoldsPlaces s slots goal set → ⊥
+
+pub settling_ends : (s : Trace) (slots : ℕ → Option ℕ) (goal : Goal) (count : ℕ) (old xs ys : List Member) (k : ℕ) → HasMoved (Advances s slots false) xs k ys →
+    IsFoundAt goal.slot count xs k → AreSettling s slots goal old xs count → HaveEnded s slots goal old ys
+settling_ends s slots goal count old xs ys k m at all =
+    let found = is_found s slots goal.slot count xs ys k false m at in
+    record {
+      members = members_on s slots xs ys k false m all.members;
+      moved = moved_on s slots goal.slot old xs ys k false m all.moved found.slot;
+      ahead = λ set a h.
+          let (b, g) = all.ahead set a h in
+          ahead_ends s slots set xs k m.x m.y count b m.at (all.members k m.x m.at) found.less
+          (subst (λ z. HoldsFirst s slots set z count) (sym found.slot) g) m.advances;
+    }
+
+pub settling_less : (s : Trace) (slots : ℕ → Option ℕ) (xs ys : List Member) (k : ℕ) (m : HasMoved (Advances s slots true) xs k ys) →
+    Each (IsMember s slots) xs → steps_left ys < steps_left xs
+settling_less s slots xs ys k m all =
+    subst (λ zs. steps_left zs < steps_left xs) (sym m.new_at)
+    (left_less xs k m.x m.y m.at m.advances.same.places (m.advances.next refl) (slice_get_within m.x.places m.x.entry m.x.place (all k m.x m.at).at))
+
+pub settled : (s : Trace) (slots : ℕ → Option ℕ) (goal : Goal) (old xs : List Member) (count : ℕ) → AreSettling s slots goal old xs count →
+    Each (λ m. m.slot ≡ goal.slot → count ≤ m.number) xs → IsSettled s slots goal xs (record { slot = goal.slot; count = count })
+settled s slots goal old xs count all none = record {
+  slot = refl;
+  more = all.more;
+  has = all.has;
+  at = λ i m h e. omega (arith, all.within i m h e, none i m h e);
+}

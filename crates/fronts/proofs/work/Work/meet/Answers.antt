@@ -1,0 +1,113 @@
+use Rattle.std.proofs.Common.{refl, sym, ap, ◌∙◌, Some, arith}
+use Rattle.std.proofs.lemmas.Option.{same_Some}
+use Rattle.std.proofs.lemmas.Result.{IfOk-weaker}
+use Rattle.fronts.specs.declared.work.Work.{Work}
+use Rattle.fronts.specs.Slots.{slots_of}
+use Rattle.fronts.specs.Demands.{item}
+use Rattle.fronts.specs.Ground.{Any, HoldsEnd, HoldsGoal, fronts, slots, state, items, done}
+use Rattle.fronts.proofs.RaiseLemmas.{front_in, last_in}
+use Rattle.fronts.proofs.StageLemmas.{carries_from}
+use Rattle.fronts.proofs.WayLemmas.{meets_reach, meets_begin, goal_reach, end_reach, same_end, reach_holds, sections_hold}
+use Rattle.fronts.proofs.work.Work.meet.Goals as goal
+
+pub raise-requires-clause-reach : goal.raise-requires-clause-reach
+raise-requires-clause-reach g c =
+    let gr = c.args.ground.now in
+    let known = c.requires.ready.sound in
+    let at = c.requires.next ∙ ap (λ n. Some (item c.args.item.number n)) c.in-Reach.is in
+    let (q, r, x, need, is) = known.items.reach c.args.slot (done gr c.args.self.now c.args.slot) c.args.item.number c.in-Reach.goal at in
+    goal_reach gr.index.now.events (slots gr) gr.demands.now.threads.count c.in-Reach.goal r known.slots is
+
+pub begin-requires-clause-lock : goal.begin-requires-clause-lock
+begin-requires-clause-lock g c =
+    let gr = c.args.ground.now in
+    let known = c.requires.ready.sound in
+    let at = c.requires.next ∙ ap (λ n. Some (item c.args.item.number n)) c.in-Begin.is in
+    let (k, x, begins, is_l, ends) = known.items.begin c.args.slot (done gr c.args.self.now c.args.slot) c.args.item.number c.in-Begin.lock c.in-Begin.section at in
+    let (l, e, less) = known.locks.each c.in-Begin.section.place k begins in
+    omega (arith, less, same_Some l c.in-Begin.lock (sym e ∙ is_l))
+
+pub begin-requires-clause-end : goal.begin-requires-clause-end
+begin-requires-clause-end g c =
+    let gr = c.args.ground.now in
+    let known = c.requires.ready.sound in
+    let at = c.requires.next ∙ ap (λ n. Some (item c.args.item.number n)) c.in-Begin.is in
+    let (k, x, begins, is_l, ends) = known.items.begin c.args.slot (done gr c.args.self.now c.args.slot) c.args.item.number c.in-Begin.lock c.in-Begin.section at in
+    rw c.in-Begin.is
+    (end_reach gr.index.now.events (slots gr) gr.demands.now.threads.count c.in-Begin.section known.slots ends)
+
+pub begin-requires-clause-last_end : goal.begin-requires-clause-last_end
+begin-requires-clause-last_end g c = λ d h.
+    let gr = c.args.ground.now in
+    let known = c.requires.ready.sound in
+    let was = ap (λ sheet. last_in gr.under.now sheet c.in-Begin.lock) (sym c.pass.ensures.last) ∙ h in
+    let (a, j, n, less, at) = c.requires.going.lasts c.in-Begin.lock d was in
+    let (k, x, begins, is_l, ends) = known.items.begin a j n c.in-Begin.lock d at in
+    end_reach gr.index.now.events (slots gr) gr.demands.now.threads.count d known.slots ends
+
+pub returns-in-Reach-clause-meets : goal.returns-in-Reach-clause-meets
+returns-in-Reach-clause-meets g c =
+    let gr = c.args.ground.now in
+    let under = gr.under.now in
+    let old = c.args.self.now in
+    let p = c.pass.ensures in
+    let at = c.requires.next ∙ ap (λ n. Some (item c.args.item.number n)) c.in-Reach.is in
+    IfOk-weaker c.raise.result _ _ (λ goes more is.
+    meets_reach (items gr) gr.demands.now.threads.count c.args.slot c.args.item.number c.in-Reach.goal (state gr old)
+    (state gr (record { layer = c.pass.new.self; pending = old.pending })) (state gr c.raise.new.self) c.requires.going at c.requires.number p.done
+    (λ b. ap (λ sheet. front_in under sheet b) p.fronts) (λ l. ap (λ sheet. last_in under sheet l) p.last) refl (more is)) c.raise.ensures.raises
+
+pub returns-in-Reach-clause-carries : goal.returns-in-Reach-clause-carries
+returns-in-Reach-clause-carries g c =
+    let gr = c.args.ground.now in
+    let old = c.args.self.now in
+    let known = c.requires.ready.sound in
+    let at = c.requires.next ∙ ap (λ n. Some (item c.args.item.number n)) c.in-Reach.is in
+    carries_from gr (HoldsGoal gr c.in-Reach.goal) Any old (record { layer = c.pass.new.self; pending = old.pending }) c.args.members.now c.args.steps.now _ _ c.pass.ensures.fronts
+    (λ set b any. reach_holds gr.index.now.events (slots gr) (slots_of gr.demands.now.locks) gr.demands.now.threads.count (items gr) c.args.slot (done gr old c.args.slot)
+    c.args.item.number c.in-Reach.goal set (fronts gr old) known.slots known.items at c.requires.number b.ahead.closed b.holds) c.raise.ensures.carries
+
+pub returns-in-Begin-clause-meets : goal.returns-in-Begin-clause-meets
+returns-in-Begin-clause-meets g c =
+    let gr = c.args.ground.now in
+    let under = gr.under.now in
+    let old = c.args.self.now in
+    let p = c.pass.ensures in
+    let known = c.requires.ready.sound in
+    let l = c.in-Begin.lock in
+    let e = c.in-Begin.section in
+    let at = c.requires.next ∙ ap (λ n. Some (item c.args.item.number n)) c.in-Begin.is in
+    let (k, x, begins, is_l, ends) = known.items.begin c.args.slot (done gr old c.args.slot) c.args.item.number l e at in
+    let kept = rw c.in-Begin.is at c.begin.ensures.begins in
+    IfOk-weaker c.begin.result _ _ (λ goes more is.
+    meets_begin (items gr) gr.demands.now.threads.count c.args.slot c.args.item.number l e (state gr old)
+    (state gr (record { layer = c.pass.new.self; pending = old.pending })) (state gr c.begin.new.self) c.requires.going at c.requires.number p.done
+    (λ b. ap (λ sheet. front_in under sheet b) p.fronts) (λ m. ap (λ sheet. last_in under sheet m) p.last) refl (more is)
+    (λ d was same.
+    let (a, j, n, less, at_d) = c.requires.going.lasts l d was in
+    let (kd, xd, begins_d, is_d, ends_d) = known.items.begin a j n l d at_d in
+    same_end gr.index.now.events (slots gr) e d ends ends_d same)) kept
+
+pub returns-in-Begin-clause-carries : goal.returns-in-Begin-clause-carries
+returns-in-Begin-clause-carries g c =
+    let gr = c.args.ground.now in
+    let s = gr.index.now.events in
+    let old = c.args.self.now in
+    let known = c.requires.ready.sound in
+    let l = c.in-Begin.lock in
+    let e = c.in-Begin.section in
+    let locks = slots_of gr.demands.now.locks in
+    let passed : Work = record { layer = c.pass.new.self; pending = old.pending } in
+    let at = c.requires.next ∙ ap (λ n. Some (item c.args.item.number n)) c.in-Begin.is in
+    carries_from gr (HoldsEnd gr passed l e) Any old passed c.args.members.now c.args.steps.now _ _ c.pass.ensures.fronts (λ set b any. record {
+      of_last = λ d h before.
+          let was = ap (λ sheet. last_in gr.under.now sheet l) (sym c.pass.ensures.last) ∙ h in
+          let (a, j, n, less, at_d) = c.requires.going.lasts l d was in
+          sections_hold s (slots gr) locks gr.demands.now.threads.count gr.demands.now.locks.count (items gr) a c.args.slot j (done gr old c.args.slot) n c.args.item.number l d e set (fronts gr old)
+          known.slots known.locks known.items at_d at (c.requires.going.inside a j _ at_d less) c.requires.number before b.ahead.closed b.holds;
+      of_new = λ d h before.
+          let was = ap (λ sheet. last_in gr.under.now sheet l) (sym c.pass.ensures.last) ∙ h in
+          let (a, j, n, less, at_d) = c.requires.going.lasts l d was in
+          sections_hold s (slots gr) locks gr.demands.now.threads.count gr.demands.now.locks.count (items gr) c.args.slot a (done gr old c.args.slot) j c.args.item.number n l e d set (fronts gr old)
+          known.slots known.locks known.items at at_d c.requires.number (c.requires.going.inside a j _ at_d less) before b.ahead.closed b.holds;
+    }) (rw c.in-Begin.is at c.begin.ensures.carries)

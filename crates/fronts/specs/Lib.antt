@@ -1,0 +1,12 @@
+pub mod Threads
+pub mod State
+pub mod Sheets
+pub mod Slots
+pub mod Members
+pub mod Layers
+pub mod Demands
+pub mod Work
+pub mod Ground
+pub mod Classes
+pub mod Firsts
+pub mod Pushing

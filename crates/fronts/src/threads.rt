@@ -1,0 +1,22 @@
+//! The last place of a thread.
+
+ghost use Rattle.std.specs.Prelude.{ℕ, MatchOption};
+ghost use Rattle.trace_model.specs.Theory.Trace.{OfThread};
+ghost use Rattle.fronts.specs.Threads.{IsLastOf};
+
+use trace_index::TraceIndex;
+use trace_model::Place;
+
+/// The last place of the thread.
+pub(crate) fn last_place(index: &TraceIndex, thread: u32) -> Option<Place>
+    ensures { MatchOption result ((p : ℕ) → OfThread index.now.events p thread → ⊥)
+        (IsLastOf index.now.events thread) }
+{
+    let places = index.thread_places(thread);
+    let count = places.len();
+    if count == 0 {
+        None
+    } else {
+        Some(places.get(count - 1))
+    }
+}
