@@ -2,7 +2,7 @@
 
 use clap::Error;
 use clap::error::ErrorKind;
-use std::alloc::AllocError;
+use std::alloc::{AllocError, Global};
 use std::{env, io};
 
 /// The words of the command line, the first of which names the program.
@@ -16,6 +16,19 @@ pub fn arguments(rt: &HostRuntime) -> io::Result<Vec<String>> {
         arguments.push(argument)?;
     }
     Ok(arguments)
+}
+
+/// The arguments, to be read as words.
+///
+/// # Errors
+///
+/// Where a growth was refused.
+pub fn words_of<'a>(alloc: Global, arguments: &'a [String]) -> Result<Vec<&'a str>, AllocError> {
+    let mut words = Vec::new(alloc);
+    for argument in arguments {
+        words.push(argument.as_str())?;
+    }
+    Ok(words)
 }
 
 /// Tells why the command line asks for nothing, or the help that it asks for: whether it was help.

@@ -18,7 +18,7 @@ use Rattle.trace_model.specs.Theory.Dependencies.{dependencies}
 use Rattle.trace_model.specs.Protocol.Machine.{State, opening, ask_refused, ask_reply, ask_next, deliver_next, deliver_refused, offer_reply, offer_next, step, with_event, with_question}
 use Rattle.trace_model.specs.Protocol.Runs.{IsLegal, TakesStep}
 use Rattle.trace_model.proofs.Protocol.Taking.{machine_steps, one_takes, run_legal, run_push}
-use Rattle.findings.specs.Found.{AreRowsOf, FoundRows}
+use Rattle.snapshots.specs.Found.{AreRowsOf, FoundRows}
 use Rattle.sequencer.specs.declared.asking.AskRefused.{AskRefused}
 use Rattle.sequencer.specs.declared.asking.Opened.{Opened}
 use Rattle.sequencer.specs.declared.batching.Batched.{Batched}

@@ -4,7 +4,7 @@ use Rattle.std.proofs.lemmas.List.{append-nil, map-append, take-append-le}
 use Rattle.std.proofs.lemmas.Option.{none-some, same_Some, slice_get_within}
 use Rattle.trace_model.specs.declared.messages.step.BoardStep.{BoardStep}
 use Rattle.trace_model.proofs.Lists.{get-append, get-push, get-push_last, length-push, take-push}
-use Rattle.findings.specs.Found.{FoundRows}
+use Rattle.snapshots.specs.Found.{FoundRows}
 use Rattle.sequencer.specs.Deliveries.{Delivered}
 use Rattle.desk.specs.Deliveries.{WentSo}
 use Rattle.desk.specs.Published.{After, Kept, delivery_step}

@@ -1,7 +1,7 @@
 -- What becomes of one finding that is delivered.
 use Rattle.std.specs.Prelude.{◌≡◌, [], ◌∷◌, ◌++◌, None, Ok, Err}
 use Rattle.trace_model.specs.declared.refusal.Refusal.{Refusal}
-use Rattle.findings.specs.Found.{AreRowsOf, FoundRows}
+use Rattle.snapshots.specs.Found.{AreRowsOf, FoundRows}
 use Rattle.sequencer.specs.Deliveries.{Delivered, delivery}
 use Rattle.desk.specs.Published.{Kept, delivery_step}
 use Rattle.desk.specs.Refused.{RefusesFinding}

@@ -7,7 +7,7 @@ use Rattle.trace_model.specs.declared.messages.step.BoardStep.TheVariants.{Deliv
 use Rattle.trace_model.specs.Theory.Rows.{AreRows}
 use Rattle.trace_model.specs.Protocol.Machine.{State, opening, is_confirmed}
 use Rattle.trace_model.specs.Protocol.Runs.{IsRun}
-use Rattle.findings.specs.Found.{FoundRows}
+use Rattle.snapshots.specs.Found.{FoundRows}
 use Rattle.sequencer.specs.Book.{findings_rows}
 use Rattle.sequencer.specs.Deliveries.{delivery}
 use mathlib.Core.List.{IsPrefix}

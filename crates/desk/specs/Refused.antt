@@ -3,7 +3,7 @@ use Rattle.std.specs.Prelude.{◌≡◌, ℕ, ◌≤◌, ◌⊎◌, Some, None}
 use Rattle.trace_model.specs.declared.refusal.Refusal.{Refusal}
 use Rattle.trace_model.specs.declared.refusal.Refusal.TheVariants.{NoMemory, BoardBusy, TooManyCycles}
 use Rattle.trace_model.specs.Protocol.Machine.{State}
-use Rattle.findings.specs.Found.{FoundRows}
+use Rattle.snapshots.specs.Found.{FoundRows}
 use Rattle.sequencer.specs.Book.{IsLimit}
 use Rattle.sequencer.specs.Deliveries.{delivery}
 use Rattle.desk.specs.declared.worker.Failed.{Failed}

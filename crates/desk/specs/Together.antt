@@ -1,7 +1,7 @@
 -- Findings that are delivered one after another, with nothing between them.
 use Rattle.std.specs.Prelude.{◌≡◌, ℕ, List, [], ◌∷◌, ◌++◌, length, map, take, slice_get, Some, None, Ok, Err}
 use Rattle.trace_model.specs.declared.messages.step.BoardStep.{BoardStep}
-use Rattle.findings.specs.Found.{AreRowsOf, FoundRows}
+use Rattle.snapshots.specs.Found.{AreRowsOf, FoundRows}
 use Rattle.sequencer.specs.Deliveries.{Delivered, delivery}
 use Rattle.desk.specs.Published.{Afterwards, delivery_step}
 use Rattle.desk.specs.Refused.{RefusesFinding}

@@ -8,7 +8,7 @@ ghost use Rattle.trace_model.specs.Protocol.Runs.{IsLegal};
 ghost use Rattle.trace_model.specs.declared.messages.step.BoardStep.TheVariants as steps;
 ghost use Rattle.trace_model.specs.declared.messages.session.Request.TheVariants as requests;
 ghost use Rattle.trace_model.specs.declared.messages.session.Reply.TheVariants.{Placed, Refused};
-ghost use Rattle.findings.specs.Found.{AreRowsOf};
+ghost use Rattle.snapshots.specs.Found.{AreRowsOf};
 ghost use Rattle.sequencer.specs.Book.{IsLimit, Refuses, RefusesSnapshot, answer_refusal, answer_reply, ask_refusal, opened_reply};
 ghost use Rattle.sequencer.specs.Printing.{printing};
 ghost use Rattle.sequencer.specs.Deliveries.{delivery};

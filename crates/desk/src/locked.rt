@@ -23,6 +23,7 @@ ghost use Rattle.desk.specs.Together.{AreOutcomes, taken_steps};
 use crate::own::OwnFinding;
 use board::{BoardReader, BoardWriter, Follows, Naming, Receipt, Shown, Summary, new_board};
 use findings::{Finding, Snapshot};
+use reports::confirmed_in;
 use sequencer::{
     Answer, AnswerRefused, AskRefused, Batched, Book, Delivered, NoSuchQuestion, Opened,
 };
@@ -32,7 +33,6 @@ use std::marker::Model;
 use std::sync::{Arc, Wait};
 use thiserror::Error;
 use trace_model::{BoardStep, Event, EventBatch, Place, Refusal};
-use witness::confirmed_in;
 
 /// The most readers of a desk.
 const MAX_READERS: usize = 40;

@@ -78,7 +78,7 @@ pub(crate) struct OwnFinding<N: Naming> {
 }
 
 impl<N: Naming> Model for OwnFinding<N> {
-    ghost use Rattle.findings.specs.Found.{FoundRows};
+    ghost use Rattle.snapshots.specs.Found.{FoundRows};
     ghost use Rattle.desk.specs.Published.{Afterwards};
     ghost use Rattle.desk.specs.Questions.{AreEventsOf};
 

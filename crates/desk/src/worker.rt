@@ -2,7 +2,7 @@
 
 ghost use Rattle.std.specs.Prelude.{◌≡◌, ◌≢◌, IfErr};
 ghost use mathlib.Core.List.{IsPrefix};
-ghost use Rattle.findings.specs.Found.{FoundRows};
+ghost use Rattle.snapshots.specs.Found.{FoundRows};
 ghost use Rattle.desk.specs.Published.{WasTaken};
 
 use crate::desk::Desk;

@@ -101,7 +101,7 @@ impl Stranger {
         };
         let bound = Bound::new(about.bound)?;
         let shared = Arc::try_clone(shared).ok()?;
-        Finding::compute(self.alloc, shared, about.question, bound, about.task).ok()
+        findings::compute(self.alloc, shared, about.question, bound, about.task).ok()
     }
 
     /// The findings about these. None where there is no memory for them.

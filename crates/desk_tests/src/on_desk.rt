@@ -170,7 +170,7 @@ fn finding_of<N: Naming, R: Wait + Copy>(
 ) -> Option<Finding> {
     let (snapshot, receipt) = desk.snapshot(0);
     drop(receipt);
-    Finding::compute(alloc, snapshot.ok()?, 0, bound, task).ok()
+    findings::compute(alloc, snapshot.ok()?, 0, bound, task).ok()
 }
 
 /// The task is the least missing one, the answer is pending, and then the task is delivered.

@@ -6,10 +6,10 @@ ghost use Rattle.trace_model.specs.declared.limits.TheConstants.{MAX_CYCLES};
 ghost use Rattle.trace_model.specs.Theory.Dependencies.{dependencies};
 ghost use Rattle.cycle_search.specs.Search.{CycleFrom, MoreThan};
 
-use crate::finding::{ComputeRefused, Finding};
+use crate::computing::ComputeRefused;
 use crate::rows::rows_of;
 use crate::scratch::Scratch;
-use crate::snapshot::Snapshot;
+use snapshots::{Finding, Snapshot};
 use std::alloc::Global;
 use std::marker::Model;
 use std::sync::Arc;
@@ -98,12 +98,6 @@ impl Job {
             return Err(ComputeRefused::NoMemory);
         };
         let rows = rows_of(self.alloc, &snapshot, &mut self.scratch, self.bound, task)?;
-        Ok(Finding {
-            snapshot,
-            question: self.question,
-            bound: self.bound,
-            task,
-            rows,
-        })
+        Ok(Finding::of(snapshot, self.question, self.bound, task, rows))
     }
 }

@@ -16,14 +16,14 @@ ghost use Rattle.findings.specs.Found.{AreRowsFor};
 ghost use Rattle.findings.specs.Scratches.{IsScratch};
 
 use crate::rows::rows_by;
-use crate::snapshot::Snapshot;
 use cycle_search::{Cycle, Ranks, SearchRefused, Searched, cycles_from};
+use reports::Row;
+use snapshots::Snapshot;
 use sp_closure::{Closer, Pasts, Steps};
 use std::alloc::Global;
 use std::marker::Brand;
 use std::sync::ledger::{Blank, Ledger};
 use trace_model::{Bound, NoMemory};
-use witness::Row;
 
 /// From how many cycles on the pasts of all dependencies are made.
 const MANY_CYCLES: usize = 64;
@@ -71,7 +71,7 @@ impl Scratch {
         let Ok(ranks) = ranks_of(alloc, snapshot, self.ranks.take()) else {
             return Err(SearchRefused::NoMemory);
         };
-        let searched = Searched::new(&snapshot.dependencies, &snapshot.graph, &ranks);
+        let searched = Searched::new(snapshot.table(), snapshot.graph(), &ranks);
         let cycles = cycles_from(alloc, &searched, task, bound);
         self.ranks = Some(ranks);
         cycles
@@ -110,12 +110,7 @@ fn ranks_of(alloc: Global, snapshot: &Snapshot, kept: Option<Ranks>) -> Result<R
 {
     match kept {
         Some(ranks) => Ok(ranks),
-        None => Ranks::new(
-            alloc,
-            snapshot.state,
-            &snapshot.dependencies,
-            &snapshot.graph,
-        ),
+        None => Ranks::new(alloc, snapshot.state(), snapshot.table(), snapshot.graph()),
     }
 }
 
@@ -126,7 +121,7 @@ fn closer_of(alloc: Global, snapshot: &Snapshot, kept: Option<Closer>) -> Result
 {
     match kept {
         Some(closer) => Ok(closer),
-        None => Closer::new(alloc, &snapshot.index),
+        None => Closer::new(alloc, snapshot.index()),
     }
 }
 
@@ -142,7 +137,7 @@ fn pasts_of(
     ensures pasts { IfOk result (λ pasts. ForSome pasts (ArePasts snapshot.now)) }
     ensures closer { IsCloser snapshot.now closer.new }
 {
-    if kept.is_some() || cycles < MANY_CYCLES || !closer.are_pasts_small(&snapshot.dependencies) {
+    if kept.is_some() || cycles < MANY_CYCLES || !closer.are_pasts_small(snapshot.table()) {
         return Ok(kept);
     }
     let pasts = make_pasts::<Brand>(snapshot, closer, Blank::new(1))?;
@@ -163,7 +158,7 @@ fn make_pasts<L: Ledger>(
     ensures closer { IsCloser snapshot.now closer.new }
 {
     let mut steps = Steps::<L>::new(blank);
-    closer.pasts(&snapshot.index, &snapshot.dependencies, &mut steps)
+    closer.pasts(snapshot.index(), snapshot.table(), &mut steps)
 }
 
 /// Whether the pasts rule the cycle out. Where there are none nothing is said.

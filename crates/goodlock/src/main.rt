@@ -3,7 +3,7 @@
 
 ghost use Rattle.command_line.specs.CommandLine.{IsInRange};
 
-use command_line::{Invocation, arguments, parse, tell};
+use command_line::{Invocation, arguments, parse, tell, words_of};
 use outcomes::{Status, ended};
 use scripts::script_file;
 use std::io;
@@ -20,14 +20,9 @@ fn carry_out(rt: &HostRuntime, invocation: Invocation) -> io::Result<Status>
     Ok(Status::NotUnderstood)
 }
 
-/// Does what the command line asks for.
-fn run(rt: &HostRuntime) -> io::Result<Status> {
-    let arguments = arguments(rt)?;
-    let mut words = Vec::new(rt.alloc());
-    for argument in &arguments {
-        words.push(argument.as_str())?;
-    }
-    match parse(rt.alloc(), &words) {
+/// Does what the words ask for.
+fn run_words(rt: &HostRuntime, words: &[&str]) -> io::Result<Status> {
+    match parse(rt.alloc(), words) {
         Ok(invocation) => carry_out(rt, invocation),
         Err(refused) => Ok(if tell(rt, refused)? {
             Status::Done
@@ -35,6 +30,13 @@ fn run(rt: &HostRuntime) -> io::Result<Status> {
             Status::NotUnderstood
         }),
     }
+}
+
+/// Does what the command line asks for.
+fn run(rt: &HostRuntime) -> io::Result<Status> {
+    let arguments = arguments(rt)?;
+    let words = words_of(rt.alloc(), &arguments)?;
+    run_words(rt, &words)
 }
 
 fn main(rt: HostRuntime) -> ExitCode {

@@ -3,7 +3,7 @@
 
 ghost use Rattle.command_line.specs.CommandLine.{IsInRange};
 
-use command_line::{Invocation, arguments, parse, tell};
+use command_line::{Invocation, arguments, parse, tell, words_of};
 use commands::{offline_file, replay_files};
 use outcomes::{Status, ended};
 use std::io;
@@ -32,14 +32,13 @@ fn carry_out<T: Threads + Sync>(
     }
 }
 
-/// Does what the command line asks for.
-fn run<T: Threads + Sync>(rt: &HostRuntime, threads: &T) -> io::Result<Status> {
-    let arguments = arguments(rt)?;
-    let mut words = Vec::new(rt.alloc());
-    for argument in &arguments {
-        words.push(argument.as_str())?;
-    }
-    match parse(rt.alloc(), &words) {
+/// Does what the words ask for.
+fn run_words<T: Threads + Sync>(
+    rt: &HostRuntime,
+    threads: &T,
+    words: &[&str],
+) -> io::Result<Status> {
+    match parse(rt.alloc(), words) {
         Ok(invocation) => carry_out(rt, threads, invocation),
         Err(refused) => Ok(if tell(rt, refused)? {
             Status::Done
@@ -47,6 +46,13 @@ fn run<T: Threads + Sync>(rt: &HostRuntime, threads: &T) -> io::Result<Status> {
             Status::NotUnderstood
         }),
     }
+}
+
+/// Does what the command line asks for.
+fn run<T: Threads + Sync>(rt: &HostRuntime, threads: &T) -> io::Result<Status> {
+    let arguments = arguments(rt)?;
+    let words = words_of(rt.alloc(), &arguments)?;
+    run_words(rt, threads, &words)
 }
 
 fn main(rt: HostRuntime) -> ExitCode {

@@ -3,7 +3,7 @@
 
 ghost use Rattle.command_line.specs.CommandLine.{IsInRange, IsLimit, IsWithin};
 
-use command_line::{Invocation, arguments, parse, tell};
+use command_line::{Invocation, arguments, parse, tell, words_of};
 use commands::{offline_file, replay_files};
 use outcomes::{Status, ended};
 use question_server::{ServerFault, Service, Unheld, run_server};
@@ -103,17 +103,13 @@ fn carry_out<T: Threads + Wait + Clock + Copy + Send + Sync>(
     }
 }
 
-/// Does what the command line asks for.
-fn run<T: Threads + Wait + Clock + Copy + Send + Sync>(
+/// Does what the words ask for.
+fn run_words<T: Threads + Wait + Clock + Copy + Send + Sync>(
     rt: &HostRuntime,
     threads: T,
+    words: &[&str],
 ) -> io::Result<Status> {
-    let arguments = arguments(rt)?;
-    let mut words = Vec::new(rt.alloc());
-    for argument in &arguments {
-        words.push(argument.as_str())?;
-    }
-    match parse(rt.alloc(), &words) {
+    match parse(rt.alloc(), words) {
         Ok(invocation) => carry_out(rt, threads, invocation),
         Err(refused) => Ok(if tell(rt, refused)? {
             Status::Done
@@ -121,6 +117,16 @@ fn run<T: Threads + Wait + Clock + Copy + Send + Sync>(
             Status::NotUnderstood
         }),
     }
+}
+
+/// Does what the command line asks for.
+fn run<T: Threads + Wait + Clock + Copy + Send + Sync>(
+    rt: &HostRuntime,
+    threads: T,
+) -> io::Result<Status> {
+    let arguments = arguments(rt)?;
+    let words = words_of(rt.alloc(), &arguments)?;
+    run_words(rt, threads, &words)
 }
 
 fn main(rt: HostRuntime) -> ExitCode {

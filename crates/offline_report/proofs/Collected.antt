@@ -5,8 +5,8 @@ use Rattle.std.specs.List.{AllZip, range_with_len}
 use Rattle.std.proofs.lemmas.List.FromFn.{get_or-range_with_len, length-range_with_len}
 use Rattle.std.proofs.lemmas.Option.{none-some, same_Some, slice_get_within}
 use Rattle.trace_model.specs.Theory.Trace.{Trace}
-use Rattle.witness.specs.Printed.{Printed}
-use Rattle.findings.specs.Found.{AreRowsOf}
+use Rattle.reports.specs.Printed.{Printed}
+use Rattle.snapshots.specs.Found.{AreRowsOf}
 use Rattle.offline_report.specs.Offline.{AreComputed, IsNotComputed, IsTask, Tells}
 use Rattle.offline_report.specs.declared.parts.Part.{Part}
 use Rattle.offline_report.specs.declared.refused.OfflineRefused.{OfflineRefused}

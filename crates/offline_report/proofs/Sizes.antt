@@ -6,8 +6,8 @@ use Rattle.std.proofs.lemmas.Bool.Decides.{leb_tells}
 use Rattle.std.proofs.lemmas.List.Concat.{flat_map-cons}
 use Rattle.std.proofs.lemmas.List.Sums.{sum_by-cons}
 use Rattle.trace_model.specs.declared.limits.TheConstants.{MAX_REPORT}
-use Rattle.witness.specs.Printed.{Printed}
-use Rattle.witness.specs.Text.{row_text, is_confirmed}
+use Rattle.reports.specs.Printed.{Printed}
+use Rattle.reports.specs.Text.{row_text, is_confirmed}
 use Rattle.offline_report.specs.Offline.{Tells, size_of, tasks_text, text_of}
 use Rattle.offline_report.specs.declared.parts.Part.{Part}
 

@@ -3,9 +3,9 @@ use Rattle.std.proofs.Common.{◌≡◌, ℕ, ◌+◌, ◌<◌, ◌≤◌, List,
 use Rattle.std.specs.List.{AllZip}
 use Rattle.std.proofs.lemmas.List.Concat.{length-flat_map}
 use Rattle.trace_model.specs.declared.limits.TheConstants.{MAX_REPORT}
-use Rattle.witness.specs.Printed.{Printed}
-use Rattle.witness.specs.Text.{about, counts, is_confirmed}
-use Rattle.witness.proofs.Counting.{count_by-flat_map, confirmed_within, report_by_tasks, rows_within}
+use Rattle.reports.specs.Printed.{Printed}
+use Rattle.reports.specs.Text.{about, counts, is_confirmed}
+use Rattle.reports.proofs.Counting.{count_by-flat_map, confirmed_within, report_by_tasks, rows_within}
 use Rattle.offline_report.specs.Offline.{Tells, size_of, tasks_report, tasks_text, text_of}
 use Rattle.offline_report.specs.declared.parts.Part.{Part}
 use Rattle.offline_report.proofs.Sizes.{confirmed_are, cycles_are, sizes_are, sizes_over, texts_are}

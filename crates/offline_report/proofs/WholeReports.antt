@@ -9,8 +9,8 @@ use Rattle.trace_model.specs.Theory.Trace.{Trace}
 use Rattle.trace_model.specs.Theory.Lawful.{IsWellFormed}
 use Rattle.trace_model.specs.Theory.Dependencies.{Dependency, dependencies}
 use Rattle.trace_model.specs.Theory.Rows.{Row, AreRows}
-use Rattle.witness.specs.Printed.{Printed, with_dependencies}
-use Rattle.witness.specs.Text.{report}
+use Rattle.reports.specs.Printed.{Printed, with_dependencies}
+use Rattle.reports.specs.Text.{report}
 use Rattle.offline_report.specs.Offline.{AreComputed, AreTasks, report_of, IsNotComputed, IsRefused, tasks_report}
 use Rattle.offline_report.specs.declared.parts.Part.{Part}
 use Rattle.offline_report.specs.declared.refused.OfflineRefused.{OfflineRefused}

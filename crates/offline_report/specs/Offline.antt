@@ -9,10 +9,10 @@ use Rattle.trace_model.specs.Theory.Lawful.{IsWellFormed}
 use Rattle.trace_model.specs.Theory.Dependencies.{dependencies}
 use Rattle.trace_model.specs.Theory.Rows.{Row, AreRows}
 use Rattle.wellformed.specs.FirstUnlawful.{IsFirstUnlawful}
-use Rattle.witness.specs.Printed.{Printed, with_dependencies}
-use Rattle.witness.specs.Text.{report, row_text, is_confirmed}
+use Rattle.reports.specs.Printed.{Printed, with_dependencies}
+use Rattle.reports.specs.Text.{report, row_text, is_confirmed}
 use Rattle.cycle_search.specs.Search.{CycleFrom, MoreThan}
-use Rattle.findings.specs.Found.{AreRowsOf}
+use Rattle.snapshots.specs.Found.{AreRowsOf}
 use Rattle.offline_report.specs.declared.parts.Part.{Part}
 use Rattle.offline_report.specs.declared.refused.OfflineRefused.{OfflineRefused}
 use Rattle.offline_report.specs.declared.refused.OfflineRefused.TheVariants.{Unlawful, TooLong, TooManyCycles, NoMemory}

@@ -2,13 +2,13 @@
 ghost use Rattle.std.specs.Prelude.{◌≡◌, ◌+◌, ◌<◌, ◌≤◌, ◌^◌, ◌++◌, List, sum_by, IfErr, IfOk, MatchOption};
 ghost use Rattle.std.specs.List.{AllZip, flat_map};
 ghost use Rattle.trace_model.specs.declared.limits.TheConstants.{MAX_REPORT};
-ghost use Rattle.witness.specs.Printed.{Printed};
+ghost use Rattle.reports.specs.Printed.{Printed};
 ghost use Rattle.offline_report.specs.Offline.{IsToldAs, Tells, size_of, tasks_report, text_of, whole};
 
 use crate::refused::OfflineRefused;
+use reports::{Page, Row, TextRefused, confirmed_in, head_text, rows_text};
 use std::alloc::Global;
 use trace_model::{Bound, MAX_REPORT, NoMemory};
-use witness::{Page, Row, TextRefused, confirmed_in, head_text, rows_text};
 
 /// What the report has of a task: the text of its rows, none where that alone is too long for a
 /// report; how many rows there are, and how many confirmed ones.

@@ -2,19 +2,19 @@
 ghost use Rattle.std.specs.Prelude.{◌≡◌, ℕ, [], IfOk, MatchResult};
 ghost use Rattle.std.specs.Arc.{arc_value};
 ghost use Rattle.trace_model.specs.Theory.Trace.{Trace};
-ghost use Rattle.findings.specs.Found.{AreRowsOf};
+ghost use Rattle.snapshots.specs.Found.{AreRowsOf};
 ghost use Rattle.offline_report.specs.Offline.{AreAllParts, IsNotComputed, IsTask};
 
 use crate::gathering::{Computes, gather};
 use crate::parts::{Part, part_of};
 use crate::refused::OfflineRefused;
 use findings::{ComputeRefused, Hold, Job, Snapshot};
+use reports::{Page, Row};
 use std::alloc::{AllocError, Global};
 use std::marker::{Brand, Model, PhantomData};
 use std::sync::Arc;
 use std::thread::Threads;
 use trace_model::Bound;
-use witness::{Page, Row};
 
 /// The number of the one question that is asked about a file.
 const QUESTION: u32 = 0;

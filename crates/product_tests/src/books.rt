@@ -58,7 +58,7 @@ fn finding_of(
 ) -> Result<Finding, Fail> {
     let two = Bound::new(2).expect(rt, "a bound is 2 to 8");
     let snapshot = book.snapshot(question)?;
-    Ok(Finding::compute(rt.alloc(), snapshot, question, two, task)?)
+    Ok(findings::compute(rt.alloc(), snapshot, question, two, task)?)
 }
 
 fn is_pending(answer: &Result<Answer, AnswerRefused>) -> bool {

@@ -3,6 +3,7 @@
 use crate::traces::kept_if;
 use findings::{ComputeRefused, Finding, Job, Snapshot};
 use fixtures::{event, opposite_orders};
+use reports::{Found, Row};
 use std::alloc::Global;
 use std::hash::RandomState;
 use std::process::Abort;
@@ -11,7 +12,6 @@ use std::sync::Arc;
 use std::test::*;
 use std::thread::Threads;
 use trace_model::{Bound, Op, Place};
-use witness::{Found, Row};
 
 fn has_events(snapshot: &Snapshot) -> bool {
     snapshot.len() == 10
@@ -58,7 +58,7 @@ fn finds_first(
     snapshot: &Arc<Snapshot, Global>,
     bound: Bound,
 ) -> Result<(), Fail> {
-    let first = Finding::compute(rt.alloc(), Arc::try_clone(snapshot)?, 7, bound, 0)?;
+    let first = findings::compute(rt.alloc(), Arc::try_clone(snapshot)?, 7, bound, 0)?;
     assert!(rt; is_first(&first));
     let rows = first.into_rows();
     assert!(rt; are_rows(&rows));

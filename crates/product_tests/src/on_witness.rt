@@ -9,11 +9,11 @@ use crate::traces::{
 use cycle_search::Cycle;
 use dependencies::{DepTable, Dependency};
 use fixtures::{OPPOSITE_ORDERS, REPORT};
+use reports::{Found, Row, report_text};
 use std::alloc::Global;
 use std::test::Fail;
 use trace_model::{Bound, Instance, NoMemory, Place};
 use wellformed::Gate;
-use witness::{Found, Row, report_text};
 
 const READ_NEEDS_EARLIER_SECTION: &str = "0f1 0f2 1a10 1a20 1r20 1r10 1w7 2d7 2a20 2a10 ";
 

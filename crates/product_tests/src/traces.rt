@@ -12,6 +12,7 @@ use dependencies::DepTable;
 use event_files::read_events;
 use fixtures::{FORKS, SECTIONS};
 use lock_tables::{LockParts, LockTables};
+use reports::Found;
 use sp_closure::{Fronts, Steps, close, least_instance};
 use std::alloc::Global;
 use std::hash::RandomState;
@@ -21,7 +22,7 @@ use std::test::Fail;
 use trace_index::TraceIndex;
 use trace_model::{Event, Instance, MAX_EVENTS, NoMemory, Op, Place};
 use wellformed::Gate;
-use witness::{Found, write_witness};
+use witness::write_witness;
 
 /// The index of a trace, and its numbered dependencies.
 #[derive(Drop)]

@@ -6,7 +6,7 @@ use Rattle.std.proofs.lemmas.Bool.{cases_lt}
 use Rattle.std.proofs.lemmas.List.{length-replicate}
 use Rattle.std.proofs.Math.ListN.{length-set}
 use Rattle.std.proofs.Math.Nat.{mul-zero}
-use Rattle.witness.specs.Printed.{Printed}
+use Rattle.reports.specs.Printed.{Printed}
 use Rattle.result_ledger.specs.Inside.{task_of, tasks_of, IsInOrder}
 use Rattle.result_ledger.specs.Tasks.{IsMissing, IsLeastMissing}
 

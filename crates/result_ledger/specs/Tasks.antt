@@ -1,6 +1,6 @@
 -- The tasks of a question, and the rows of those that are delivered.
 use Rattle.std.specs.Prelude.{◌≡◌, ℕ, ◌≤◌, List, slice_get, Option, Some, None}
-use Rattle.witness.specs.Printed.{Printed}
+use Rattle.reports.specs.Printed.{Printed}
 use Rattle.result_ledger.specs.declared.ledger.LedgerRefused.{LedgerRefused}
 use Rattle.result_ledger.specs.declared.ledger.LedgerRefused.TheVariants.{NoSuchTask, Double}
 

@@ -2,11 +2,11 @@
 
 ghost use Rattle.std.specs.Prelude.{◌≡◌, ℕ, ◌<◌, ◌≤◌, ◌^◌, Some, None, replicate, length, map, slice_get, slice_set, is_some, count_by, true, false, IfOk, MatchResult, MatchOption};
 
+use reports::Row;
 use std::alloc::Global;
 use std::marker::Model;
 use thiserror::Error;
 use trace_model::NoMemory;
-use witness::Row;
 
 /// Why the rows of a task are not taken.
 #[derive(Clone, Copy, Debug, PartialEq, Eq, Error)]
@@ -46,7 +46,7 @@ impl Drop for Ledger {
 
 impl Model for Ledger {
     ghost use Rattle.std.specs.Prelude.{List, Option, map};
-    ghost use Rattle.witness.specs.Printed.{Printed};
+    ghost use Rattle.reports.specs.Printed.{Printed};
     ghost use Rattle.result_ledger.specs.Inside.{IsInOrder, tasks_of};
 
     ghost Value = { List (Option (List Printed)) };

@@ -9,8 +9,8 @@ use Rattle.trace_model.specs.declared.limits.TheConstants.{MAX_CYCLES}
 use Rattle.trace_model.specs.Theory.Rows.{Row}
 use Rattle.trace_model.specs.Protocol.Machine.{Question, cycles_of, confirmed_of, is_confirmed, rows_of}
 use Rattle.trace_model.proofs.Protocol.Summary.{sum_told}
-use Rattle.witness.specs.Printed.{Printed}
-use Rattle.witness.specs.Text as Text
+use Rattle.reports.specs.Printed.{Printed}
+use Rattle.reports.specs.Text as Text
 use Rattle.result_ledger.specs.Tasks.{Tasks}
 use Rattle.sequencer.specs.Asked.{Told, rows_in, IsCounted}
 

@@ -18,8 +18,8 @@ use Rattle.trace_model.specs.Protocol.Bounds.{StateFits, QuestionFits}
 use Rattle.trace_model.proofs.Protocol.Bounds.{opening_fits, step_fits, dependencies_few}
 use Rattle.trace_model.proofs.Lists.{get-push, get-set_other, get-set_same}
 use Rattle.trace_model.proofs.Protocol.Taking.{admitted, machine_steps, one_takes}
-use Rattle.witness.specs.Printed.{Printed}
-use Rattle.findings.specs.Found.{AreNamed, AreRowsOf, FoundRows}
+use Rattle.reports.specs.Printed.{Printed}
+use Rattle.snapshots.specs.Found.{AreNamed, AreRowsOf, FoundRows}
 use Rattle.sequencer.specs.Asked.{Told, question_of, rows_in, TellsNamed}
 use Rattle.sequencer.specs.Book.{IsKept, state_of, fresh, findings_rows}
 use Rattle.sequencer.proofs.Counted.{cycles_most, row_missing}

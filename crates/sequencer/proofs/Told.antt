@@ -21,11 +21,11 @@ use Rattle.trace_model.specs.Theory.Lawful.{refusal_of}
 use Rattle.trace_model.specs.Theory.Dependencies.{Dependency, dependencies}
 use Rattle.trace_model.specs.Protocol.Machine.{Question, State, answer, answer_of, deliver_refused_by, delivered, offer_next, offer_reply, rows_of, same_event, same_events, step, task_refused, with_event}
 use Rattle.trace_model.proofs.Protocol.Summary.{same_events_so, same_events_itself}
-use Rattle.witness.specs.Printed.{Printed, with_dependencies}
-use Rattle.witness.specs.Text.{report}
-use Rattle.witness.specs.declared.report.TextRefused.{TextRefused}
-use Rattle.witness.specs.declared.report.TextRefused.TheVariants.{TooLong, NoMemory}
-use Rattle.findings.specs.Found.{AreNamed, FoundRows}
+use Rattle.reports.specs.Printed.{Printed, with_dependencies}
+use Rattle.reports.specs.Text.{report}
+use Rattle.reports.specs.declared.report.TextRefused.{TextRefused}
+use Rattle.reports.specs.declared.report.TextRefused.TheVariants.{TooLong, NoMemory}
+use Rattle.snapshots.specs.Found.{AreNamed, FoundRows}
 use Rattle.result_ledger.specs.Tasks.{Tasks, IsMissing}
 use Rattle.result_ledger.specs.Tasks as Ledger
 use Rattle.sequencer.specs.Asked.{Told, question_of, rows_in, TellsNamed}

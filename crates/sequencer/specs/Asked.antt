@@ -3,9 +3,9 @@ use Rattle.std.specs.Prelude.{◌≡◌, ℕ, List, map, length, slice_get, opti
 use Rattle.trace_model.specs.Theory.Trace.{Trace}
 use Rattle.trace_model.specs.Theory.Rows.{Row}
 use Rattle.trace_model.specs.Protocol.Machine.{Question, cycles_of, confirmed_of}
-use Rattle.witness.specs.Printed.{Printed}
+use Rattle.reports.specs.Printed.{Printed}
 use Rattle.result_ledger.specs.Tasks.{Tasks}
-use Rattle.findings.specs.Found.{AreNamed}
+use Rattle.snapshots.specs.Found.{AreNamed}
 
 -- a question about the first events: of each task its rows with their dependencies, once it is
 -- delivered

@@ -14,7 +14,7 @@ use Rattle.trace_model.specs.Theory.Dependencies.{dependencies}
 use Rattle.trace_model.specs.Theory.Rows.{Row, AreRows}
 use Rattle.trace_model.specs.Protocol.Machine.{Question, State, ask_refused, answer, deliver_refused, step}
 use Rattle.trace_model.specs.Protocol.Bounds.{StateFits}
-use Rattle.findings.specs.Found.{FoundRows}
+use Rattle.snapshots.specs.Found.{FoundRows}
 use Rattle.sequencer.specs.Asked.{Told, question_of, rows_in, TellsNamed}
 use Rattle.sequencer.specs.Printing.{printing}
 use Rattle.sequencer.specs.declared.answering.Answer.{Answer}

@@ -2,7 +2,7 @@
 use Rattle.std.specs.Prelude.{Option, Some, None, Result, Ok, Err}
 use Rattle.trace_model.specs.declared.refusal.Refusal.{Refusal}
 use Rattle.trace_model.specs.Protocol.Machine.{State, deliver}
-use Rattle.findings.specs.Found.{FoundRows}
+use Rattle.snapshots.specs.Found.{FoundRows}
 use Rattle.sequencer.specs.Book.{findings_rows}
 
 -- why the finding is not taken, and the machine after it

@@ -3,8 +3,8 @@ use Rattle.std.specs.Prelude.{map}
 use Rattle.std.specs.List.{flat_map}
 use Rattle.trace_model.specs.Theory.Dependencies.{dependencies}
 use Rattle.trace_model.specs.Protocol.Machine.{Printing, rows_of}
-use Rattle.witness.specs.Printed.{with_dependencies}
-use Rattle.witness.specs.Text.{report}
+use Rattle.reports.specs.Printed.{with_dependencies}
+use Rattle.reports.specs.Text.{report}
 
 -- the report on the rows of a question's tasks, each with the dependencies of its events that it
 -- names

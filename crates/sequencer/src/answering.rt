@@ -8,9 +8,9 @@ ghost use Rattle.sequencer.specs.Book.{RefusesAnswer, TakesMemory, answer_refusa
 ghost use Rattle.sequencer.specs.Printing.{printing};
 
 use crate::book::{Book, NoSuchQuestion};
+use reports::{TextRefused, report_text};
 use thiserror::Error;
 use trace_model::{QuestionStatus, Refusal, ReportText};
-use witness::{TextRefused, report_text};
 
 /// What is known of a question: how many of its tasks are delivered, or the report once all are.
 #[derive(Debug, Drop)]

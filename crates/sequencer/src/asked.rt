@@ -7,10 +7,10 @@ ghost use Rattle.trace_model.specs.Protocol.Machine.{cycles_of, confirmed_of, ta
 ghost use Rattle.result_ledger.specs.Tasks.{IsMissing, IsLeastMissing};
 ghost use Rattle.sequencer.specs.Asked.{question_of};
 
+use reports::{Row, confirmed_in};
 use result_ledger::{Ledger, LedgerRefused};
 use std::marker::Model;
 use trace_model::{Bound, Refusal};
-use witness::{Row, confirmed_in};
 
 /// A question about the first events, its bound, and the rows of its tasks as they come in.
 pub struct Asked {

@@ -4,12 +4,12 @@ ghost use Rattle.std.specs.Prelude.{◌≡◌, ◌≤◌, length, take, slice_ge
 ghost use Rattle.std.specs.Result.{result_err};
 ghost use Rattle.std.specs.Option.{option_eq};
 ghost use Rattle.trace_model.specs.Protocol.Machine.{deliver, same_event, same_events};
-ghost use Rattle.findings.specs.Found.{AreRowsOf};
+ghost use Rattle.snapshots.specs.Found.{AreRowsOf};
 ghost use Rattle.sequencer.specs.Book.{AreKnown, finding_refused, findings_rows, outcome};
 
 use crate::book::Book;
 use crate::recorder::Recorder;
-use findings::{Finding, Snapshot};
+use snapshots::{Finding, Snapshot};
 use trace_model::{Place, Refusal};
 
 /// What became of a finding: it was taken, or refused and handed back.

@@ -8,8 +8,8 @@ ghost use Rattle.trace_model.specs.Theory.Dependencies.{dependencies};
 ghost use Rattle.trace_model.specs.Theory.Lawful.{refusal_of, IsWellFormed};
 ghost use Rattle.wellformed.specs.Gate.{with_event};
 
-use findings::Snapshot;
 use lock_tables::LockTables;
+use snapshots::Snapshot;
 use std::alloc::Global;
 use std::collections::hash_map::RandomState;
 use std::marker::{Brand, Model};

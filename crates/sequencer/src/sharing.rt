@@ -6,7 +6,7 @@ ghost use Rattle.trace_model.specs.Protocol.Machine.{Question};
 ghost use Rattle.sequencer.specs.Book.{RefusesSnapshot};
 
 use crate::book::Book;
-use findings::Snapshot;
+use snapshots::Snapshot;
 use std::alloc::Global;
 use std::marker::Brand;
 use std::sync::Arc;

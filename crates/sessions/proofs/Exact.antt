@@ -26,7 +26,7 @@ use Rattle.trace_model.proofs.Theory.Deadlock.{reached_deadlocks}
 use Rattle.trace_model.proofs.Theory.Growing.{well_formed_take}
 use Rattle.trace_model.proofs.Lists.{by_pushes}
 use Rattle.trace_model.proofs.Protocol.Taking.{machine_steps, one_takes}
-use Rattle.findings.specs.Found.{FoundRows, AreRowsOf}
+use Rattle.snapshots.specs.Found.{FoundRows, AreRowsOf}
 use Rattle.sequencer.specs.Book.{outcome, findings_rows}
 use Rattle.sequencer.specs.Printing.{printing}
 use Rattle.sessions.specs.Sessions.{Action, brings, state_after}

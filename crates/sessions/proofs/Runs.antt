@@ -13,7 +13,7 @@ use Rattle.trace_model.specs.Protocol.Machine.{State}
 use Rattle.trace_model.proofs.Lists.{at_index}
 use Rattle.event_frames.specs.Reader.{HasRead}
 use Rattle.event_frames.proofs.Wholes.{nothing_read}
-use Rattle.findings.specs.Found.{FoundRows, AreRowsOf}
+use Rattle.snapshots.specs.Found.{FoundRows, AreRowsOf}
 use Rattle.sessions.specs.declared.input.Input.{Input}
 use Rattle.sessions.specs.declared.input.Input.TheVariants.{Finding}
 use Rattle.sessions.specs.declared.playing.Slot.{Slot}

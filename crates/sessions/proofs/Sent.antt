@@ -7,7 +7,7 @@ use Rattle.std.proofs.lemmas.Bool.Decides.{nat_tests}
 use Rattle.trace_model.specs.declared.messages.session.Request.{Request}
 use Rattle.trace_model.specs.Protocol.Replies.{reply_frame}
 use Rattle.trace_model.specs.Protocol.Machine.{State, step}
-use Rattle.findings.specs.Found.{FoundRows}
+use Rattle.snapshots.specs.Found.{FoundRows}
 use Rattle.sessions.specs.declared.input.Input.{Input}
 use Rattle.sessions.specs.declared.input.Input.TheVariants.{Piece, End, Finding}
 use Rattle.sequencer.specs.Printing.{printing}

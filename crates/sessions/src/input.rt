@@ -1,6 +1,6 @@
 //! What a book is given: a request, or a finding.
 
-use findings::Finding;
+use snapshots::Finding;
 use std::marker::Model;
 
 /// How many sessions a run may have.

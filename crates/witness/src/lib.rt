@@ -1,19 +1,6 @@
-//! Rows of a report: the cycle, its members' dependencies, and for a confirmed one the instance
-//! with its witness; and the report's text.
+//! The witness of an instance: the places of the fronts of its closure, in ascending order.
 #![tactic(auto)]
 
-mod measure;
-mod numerals;
 mod order;
-mod page;
-mod report;
-mod row;
-mod ruler;
-mod taker;
-mod write;
 
-pub use measure::confirmed_in;
 pub use order::write_witness;
-pub use page::Page;
-pub use report::{TextRefused, head_text, report_text, rows_text};
-pub use row::{Found, Row};

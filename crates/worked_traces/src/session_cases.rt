@@ -67,7 +67,7 @@ fn finding_of(rt: &HostRuntime, about: [u32; 3], words: &[&[u8]]) -> Result<Find
     let [question, bound, task] = about;
     let bound = Bound::new(u8::try_from(bound)?).context("a bound")?;
     let snapshot = snapshot_of(rt, words)?;
-    let finding = Finding::compute(rt.alloc(), snapshot, question, bound, task)?;
+    let finding = findings::compute(rt.alloc(), snapshot, question, bound, task)?;
     Ok(finding)
 }
 

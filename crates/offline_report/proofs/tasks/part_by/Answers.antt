@@ -1,7 +1,7 @@
 use Rattle.std.proofs.Common.{◌≡◌, ℕ, List, Result, Ok, Err, IfOk, IfErr, sym, subst}
 use Rattle.trace_model.specs.Theory.Trace.{Trace}
-use Rattle.witness.specs.Printed.{Printed}
-use Rattle.findings.specs.Found.{AreRowsOf}
+use Rattle.reports.specs.Printed.{Printed}
+use Rattle.snapshots.specs.Found.{AreRowsOf}
 use Rattle.offline_report.specs.Offline.{IsNotComputed, IsTask, Tells}
 use Rattle.offline_report.specs.declared.parts.Part.{Part}
 use Rattle.offline_report.specs.declared.refused.OfflineRefused.{OfflineRefused}

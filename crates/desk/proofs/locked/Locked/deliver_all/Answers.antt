@@ -1,6 +1,6 @@
 use Rattle.std.proofs.Common.{List, [], ◌∷◌, ◌++◌, length, sym, ap, subst, ◌∙◌, arith, append_assoc}
 use Rattle.std.proofs.lemmas.List.{append-nil}
-use Rattle.findings.specs.Found.{FoundRows}
+use Rattle.snapshots.specs.Found.{FoundRows}
 use Rattle.sequencer.specs.Deliveries.{Delivered}
 use Rattle.trace_model.specs.Protocol.Runs.{IsLegal}
 use Rattle.desk.specs.Published.{After, Kept}

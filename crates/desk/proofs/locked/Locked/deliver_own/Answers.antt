@@ -1,5 +1,5 @@
 use Rattle.std.proofs.Common.{sym, subst}
-use Rattle.findings.specs.Found.{FoundRows}
+use Rattle.snapshots.specs.Found.{FoundRows}
 use Rattle.sequencer.specs.Book.{AreKnown}
 use Rattle.desk.specs.Published.{After}
 use Rattle.desk.proofs.Known.{known_of}

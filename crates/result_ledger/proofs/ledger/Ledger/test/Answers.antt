@@ -1,5 +1,5 @@
 use Rattle.std.proofs.Common.{◌≡◌, List, Some, None, true, false, map, slice_get, sym, ap, subst, ◌∙◌}
-use Rattle.witness.specs.Printed.{Printed}
+use Rattle.reports.specs.Printed.{Printed}
 use Rattle.result_ledger.specs.Tasks.{IsMissing}
 use Rattle.result_ledger.proofs.TaskList.{told, beyond}
 use Rattle.result_ledger.proofs.ledger.Ledger.test.Goals as goal

@@ -1,7 +1,7 @@
 use Rattle.std.proofs.Common.{◌≡◌, ap, ◌∙◌, arith, length, vec_len}
 use Rattle.std.specs.List.{count_by}
 use Rattle.std.proofs.lemmas.List.Sums.{count_by-le-length}
-use Rattle.witness.specs.Text.{is_confirmed}
+use Rattle.reports.specs.Text.{is_confirmed}
 use Rattle.trace_model.specs.Protocol.Machine.{cycles_of}
 use Rattle.sequencer.specs.Asked.{Told, question_of}
 use Rattle.sequencer.proofs.Counted.{confirmed_fewer, told_counts}

@@ -2,12 +2,12 @@ use Rattle.std.proofs.Common.{◌≡◌, ◌<◌, ℕ, List, length, inl, inr, E
 use Rattle.std.specs.List.{flat_map}
 use Rattle.trace_model.specs.declared.limits.TheConstants.{MAX_REPORT}
 use Rattle.trace_model.specs.declared.messages.session.Reply.TheVariants.{Report}
-use Rattle.witness.specs.Text.{report}
+use Rattle.reports.specs.Text.{report}
 use Rattle.sequencer.specs.Book.{IsAccepted, TakesMemory}
 use Rattle.sequencer.specs.Printing.{printing}
 use Rattle.trace_model.specs.Protocol.Machine.{answer}
-use Rattle.witness.specs.declared.report.TextRefused.{TextRefused}
-use Rattle.witness.specs.declared.report.TextRefused.TheVariants as refusals
+use Rattle.reports.specs.declared.report.TextRefused.{TextRefused}
+use Rattle.reports.specs.declared.report.TextRefused.TheVariants as refusals
 use Rattle.sequencer.proofs.Told.{pending, reported, short_report, long_report, not_long, not_too_long, text_not_refused}
 use Rattle.sequencer.proofs.book.Book.answer.Goals as goal
 

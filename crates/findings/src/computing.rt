@@ -1,0 +1,46 @@
+//! The finding of one task.
+
+ghost use Rattle.std.specs.Prelude.{◌≡◌, IfOk, Err};
+ghost use Rattle.std.specs.Arc.{arc_value};
+ghost use Rattle.trace_model.specs.declared.limits.TheConstants.{MAX_CYCLES};
+ghost use Rattle.trace_model.specs.Theory.Dependencies.{dependencies};
+ghost use Rattle.cycle_search.specs.Search.{CycleFrom, MoreThan};
+
+use crate::job::Job;
+use snapshots::{Finding, Snapshot};
+use std::alloc::Global;
+use std::sync::Arc;
+use thiserror::Error;
+use trace_model::Bound;
+
+/// Why a task is not computed.
+#[derive(Debug, Drop, PartialEq, Eq, Error)]
+pub enum ComputeRefused {
+    /// The task has more than `MAX_CYCLES` cycles.
+    #[error("too many cycles")]
+    TooManyCycles,
+    /// A growth was refused.
+    #[error("no memory")]
+    NoMemory,
+}
+
+/// Computes the rows of a task, by a job of its own: see `Job::compute`.
+///
+/// # Errors
+///
+/// `TooManyCycles` only where the task has more than `MAX_CYCLES` cycles, `NoMemory` where a
+/// growth was refused.
+pub fn compute(
+    alloc: Global,
+    snapshot: Arc<Snapshot, Global>,
+    question: u32,
+    bound: Bound,
+    task: u32,
+) -> Result<Finding, ComputeRefused>
+    ensures asked { IfOk result (λ f. (f.question ≡ question) × (f.bound ≡ bound)
+        × (f.task ≡ task) × (f.events ≡ arc_value snapshot)) }
+    ensures too_many { result ≡ Err ComputeRefused.TooManyCycles →
+        MoreThan (CycleFrom (dependencies (arc_value snapshot)) bound task) MAX_CYCLES }
+{
+    Job::new(alloc, snapshot, question, bound).compute(task)
+}

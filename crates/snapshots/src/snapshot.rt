@@ -1,0 +1,177 @@
+//! A snapshot of a trace, as a question has it.
+
+ghost use Rattle.std.specs.Prelude.{◌≡◌, ◌≤◌, length, slice_get, IfOk, MatchResult};
+ghost use Rattle.std.specs.Result.{IsErr};
+ghost use Rattle.trace_model.specs.declared.limits.TheConstants.{MAX_EVENTS};
+ghost use Rattle.trace_model.specs.Theory.Dependencies.{dependencies};
+ghost use Rattle.trace_model.specs.Theory.Lawful.{IsWellFormed};
+ghost use Rattle.dependencies.specs.Tables.{FollowsTrace};
+ghost use Rattle.lock_graph.specs.Graph.{HasGraphOf};
+ghost use Rattle.lock_tables.specs.Tables.{ArePartsOf};
+
+use dependencies::DepTable;
+use lock_graph::LockGraph;
+use lock_tables::{LockParts, LockTables};
+use std::alloc::Global;
+use std::collections::hash_map::RandomState;
+use std::marker::Model;
+use std::sync::Arc;
+use std::thread::{Threads, join};
+use trace_index::TraceIndex;
+use trace_model::{Event, NoMemory, Place};
+
+/// The snapshot of the index's trace, whose tables are given, unless either was refused.
+fn assembled(
+    state: RandomState,
+    parts: Result<LockParts, NoMemory>,
+    index: Result<TraceIndex, NoMemory>,
+) -> Result<Snapshot, NoMemory>
+    requires { IfOk parts (λ parts. IfOk index (λ index. ArePartsOf parts index.events)) }
+    ensures { MatchResult index (λ index. IfOk result (λ snapshot. snapshot ≡ index.events))
+        (λ _. IsErr result) }
+{
+    match (parts, index) {
+        (Ok(parts), Ok(index)) => Ok(Snapshot::of(state, index, parts)),
+        (Ok(parts), Err(refused)) => {
+            drop(parts);
+            Err(refused)
+        }
+        (Err(refused), Ok(index)) => {
+            drop(index);
+            Err(refused)
+        }
+        (Err(refused), Err(_)) => Err(refused),
+    }
+}
+
+/// A well-formed trace with its index, its dependencies and their graph, which agree by its type.
+/// Contracts see it as the trace.
+pub struct Snapshot {
+    state: RandomState,
+    index: TraceIndex,
+    dependencies: DepTable,
+    graph: Arc<LockGraph, Global>,
+}
+
+impl Drop for Snapshot {
+    fn drop(self) {
+        let Snapshot {
+            state: _,
+            index: _,
+            dependencies: _,
+            graph: _,
+        } = self;
+    }
+}
+
+impl Model for Snapshot {
+    ghost use Rattle.trace_model.specs.Theory.Trace.{Trace};
+    ghost use Rattle.std.specs.Arc.{arc_value};
+    ghost use Rattle.snapshots.specs.Parts.{AreOf};
+
+    ghost Value = { Trace };
+
+    ghost view = { λ s. s.index.events };
+
+    ghost invariant = { λ s. AreOf s.index.events s.dependencies (arc_value s.graph) };
+}
+
+impl Snapshot {
+    /// The snapshot of a well-formed trace, made in one pass over its events for the index and one
+    /// for the tables, side by side.
+    ///
+    /// # Errors
+    ///
+    /// `NoMemory` where a growth was refused.
+    pub fn build<R: Threads>(
+        rt: &R,
+        alloc: Global,
+        state: RandomState,
+        events: &[Event],
+    ) -> Result<Snapshot, NoMemory>
+        requires { IsWellFormed events.now }
+        ensures { IfOk result (λ snapshot. snapshot ≡ events.now) }
+    {
+        let (parts, index) = join(
+            rt,
+            || -> Result<LockParts, NoMemory>
+                requires { IsWellFormed events.now }
+                ensures { IfOk result (λ parts. ArePartsOf parts events.entry.now) }
+            { LockTables::of(alloc, state, events)?.into_parts() },
+            || -> Result<TraceIndex, NoMemory>
+                requires { IsWellFormed events.now }
+                ensures { IfOk result (λ index. index.events ≡ events.entry.now) }
+            { TraceIndex::build(alloc, state, events) },
+        );
+        assembled(state, parts, index)
+    }
+
+    /// The snapshot of the index's trace, whose dependencies and graph are given. It takes no
+    /// memory.
+    pub fn of(state: RandomState, index: TraceIndex, parts: LockParts) -> Snapshot
+        requires { ArePartsOf parts index.events }
+        ensures { result ≡ index.events }
+    {
+        let LockParts {
+            dependencies,
+            graph,
+        } = parts;
+        Snapshot {
+            state,
+            index,
+            dependencies,
+            graph,
+        }
+    }
+
+    /// How many dependencies its events have: the tasks of a question about them. It takes no
+    /// memory.
+    pub fn tasks(&self) -> u32
+        ensures { result ≡ length (dependencies self.now) }
+    {
+        let _events = self.index.len();
+        self.dependencies.len() as u32
+    }
+
+    /// How many events it has, at most `MAX_EVENTS`. It takes no memory.
+    pub fn len(&self) -> usize
+        ensures length { result ≡ length self.now }
+        ensures well_formed { IsWellFormed self.now }
+        ensures short { length self.now ≤ MAX_EVENTS }
+    {
+        self.index.len()
+    }
+
+    /// The event at the place, none past the end. It takes no memory.
+    pub fn event(&self, place: Place) -> Option<Event>
+        ensures { result ≡ slice_get self.now place }
+    {
+        self.index.event(place)
+    }
+
+    /// The index of its trace. It takes no memory, and neither do the others.
+    pub fn index(&self) -> &TraceIndex
+        ensures { result.now.events ≡ self.now }
+    {
+        &self.index
+    }
+
+    /// The dependencies of its trace, with their places.
+    pub fn table(&self) -> &DepTable
+        ensures { FollowsTrace result.now self.now (length self.now) }
+    {
+        &self.dependencies
+    }
+
+    /// Which of its dependencies hold a lock.
+    pub fn graph(&self) -> &LockGraph
+        ensures { HasGraphOf (dependencies self.now) result.now }
+    {
+        &self.graph
+    }
+
+    /// What tables about it hash with.
+    pub fn state(&self) -> RandomState {
+        self.state
+    }
+}

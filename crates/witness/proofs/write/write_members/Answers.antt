@@ -1,9 +1,0 @@
-use Rattle.std.proofs.Common.{ap}
-use Rattle.witness.specs.Text.{member_line}
-use Rattle.witness.proofs.Taking.{lacks_one}
-use Rattle.witness.proofs.write.write_members.Goals as goal
-
-pub returns-in_err-write_member_line : goal.returns-in_err-write_member_line
-returns-in_err-write_member_line g c =
-    lacks_one g.T.Taker.room _ _ _ member_line c.args.dependencies.now c.loop-dependency.dependency-index c.dependency-item.result _ c.from_residual.result c.from_residual.ensures.0
-    c.loop-dependency-test.true (ap member_line c.dependency-item.is) c.loop-dependency.invariant c.in_err-write_member_line.ensures

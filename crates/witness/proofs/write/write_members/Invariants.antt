@@ -1,7 +1,0 @@
-use Rattle.std.proofs.Common.{take, flat_map}
-use Rattle.witness.specs.Text.{member_line}
-use Rattle.witness.specs.Taking.{Adds}
-use Rattle.witness.proofs.write.write_members.Given as goal
-
-abbrev pub invariant-loop-dependency : goal.invariant-loop-dependency
-invariant-loop-dependency g l = Adds g.T.Taker.room l.initial.text (flat_map member_line (take l.dependency-index l.dependencies)) l.text

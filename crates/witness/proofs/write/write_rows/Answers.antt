@@ -1,9 +1,0 @@
-use Rattle.std.proofs.Common.{ap}
-use Rattle.witness.specs.Text.{row_text}
-use Rattle.witness.proofs.Taking.{lacks_one}
-use Rattle.witness.proofs.write.write_rows.Goals as goal
-
-pub returns-in_err-write_row : goal.returns-in_err-write_row
-returns-in_err-write_row g c =
-    lacks_one g.T.Taker.room _ _ _ row_text c.args.rows.now c.loop-row.row-index c.row-item.result _ c.from_residual.result c.from_residual.ensures.0
-    c.loop-row-test.true (ap row_text c.row-item.is) c.loop-row.invariant c.in_err-write_row.ensures

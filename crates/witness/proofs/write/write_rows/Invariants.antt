@@ -1,7 +1,0 @@
-use Rattle.std.proofs.Common.{take, flat_map}
-use Rattle.witness.specs.Text.{row_text}
-use Rattle.witness.specs.Taking.{Adds}
-use Rattle.witness.proofs.write.write_rows.Given as goal
-
-abbrev pub invariant-loop-row : goal.invariant-loop-row
-invariant-loop-row g l = Adds g.T.Taker.room l.initial.text (flat_map row_text (take l.row-index l.rows)) l.text
