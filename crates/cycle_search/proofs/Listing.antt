@@ -1,6 +1,7 @@
 -- One list of cycles after another.
-use Rattle.std.proofs.Common.{◌≡◌, ℕ, zero, suc, ◌+◌, ◌<◌, ◌⊎◌, inl, inr, List, [], ◌∷◌, ◌++◌, length, slice_get, Some, refl, ap, subst, arith}
+use Rattle.std.proofs.Common.{◌≡◌, ℕ, zero, suc, ◌+◌, ◌-◌, ◌<◌, ◌⊎◌, inl, inr, List, [], ◌∷◌, ◌++◌, length, take, slice_get, Some, refl, ap, ◌∙◌, subst, arith}
 use Rattle.std.proofs.lemmas.Option.{none-some, same_Some, slice_get_within}
+use Rattle.trace_model.proofs.Lists.{length-push, take-push}
 use Rattle.trace_model.specs.Theory.Cycles.{ListBelow}
 use Rattle.trace_model.proofs.Theory.Unique.{Has, has_contained, contains_had}
 use Rattle.cycle_search.specs.Search.{AreSome, AreAll}
@@ -92,3 +93,9 @@ all-one P c p one = record {
 pub append-nil : (xs : List (List ℕ)) → xs ++ [] ≡ xs
 append-nil [] = refl
 append-nil (x ∷ xs) = ap (λ z. x ∷ z) (append-nil xs)
+
+-- without its last number a path is as it was
+pub popped : (path longer : List ℕ) (m : ℕ) → longer ≡ path ++ m ∷ [] → take (length longer - 1) longer ≡ path
+popped path longer m e =
+    let before : length (path ++ m ∷ []) - 1 ≡ length path = omega (arith, length-push path m) in
+    ap (λ xs. take (length xs - 1) xs) e ∙ ap (λ n. take n (path ++ m ∷ [])) before ∙ take-push path m

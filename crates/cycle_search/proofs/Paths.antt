@@ -1,6 +1,6 @@
 -- How the beginning of a cycle grows, and when it is one.
 use Rattle.std.proofs.Common.{◌≡◌, ◌≢◌, ℕ, zero, suc, ◌+◌, ◌-◌, ◌<◌, ◌≤◌, ◌⊎◌, ◌↔◌, Bool, IsTrue, inl, inr, List, [], ◌∷◌, ◌++◌, length, slice_get, get_or, drop, leb, true, false, Some, refl, sym, ap, ◌∙◌, subst, arith}
-use Rattle.std.proofs.lemmas.Option.{same_Some, slice_get_within, slice_get-get_or, get_or_from_slice_get}
+use Rattle.std.proofs.lemmas.Option.{none-some, same_Some, slice_get_within, slice_get-get_or, get_or_from_slice_get}
 use Rattle.std.proofs.lemmas.List.{length-append, length-drop, get_or-drop}
 use Rattle.std.proofs.lemmas.Bool.{cases_lt, cases_eq, leb-true, leb-false}
 use Rattle.std.proofs.lemmas.List.Kept.{AllPairs-from_increasing}
@@ -87,6 +87,21 @@ module _ (ds : List Dependency) (path : List ℕ) (m : ℕ) where
       ]
     ];
   }
+
+-- one number is the beginning of a path
+only : (root k m : ℕ) → slice_get (root ∷ []) k ≡ Some m → root ≡ m
+only root zero m h = same_Some root m h
+only root (suc k) m h = absurd (none-some m h)
+
+pub path-one : (ds : List Dependency) (root : ℕ) → root < length ds → IsPath ds (root ∷ [])
+path-one ds root inside = record {
+  begun = omega arith;
+  known = all-from (λ m. m < length ds) (root ∷ []) (λ k m h. subst (λ n. n < length ds) (only root k m h) inside);
+  least_first = λ first m x h. let k = has_contained (root ∷ []) m h in omega (arith, only root 0 first x, only root k.0 m k.1);
+  threads_distinct = λ i j a b l x y. absurd (omega (arith, l, slice_get_within (root ∷ []) j y.0 y.1));
+  held_disjoint = λ i j a b l x y. absurd (omega (arith, l, slice_get_within (root ∷ []) j y.0 y.1));
+  linked = λ i a b x y. absurd (omega (arith, slice_get_within (root ∷ []) (suc i) y.0 y.1));
+}
 
 pub at-end : (path : List ℕ) (m : ℕ) (rest : List ℕ) → slice_get (path ++ m ∷ rest) (length path) ≡ Some m
 at-end [] m rest = refl
@@ -212,16 +227,6 @@ module _ (ds : List Dependency) (path : List ℕ) (p : IsPath ds path) (last : D
     (λ links. decides.1 (links (length path - 1) last next (omega (arith, p.begun)) last-member here)),
   )
 
-  pub closes-decided : (first : Dependency) → slice_get ds (get_or path 0 0) ≡ Some first → (b : Bool) →
-      IsTrue b ↔ Contains first.held last.lock → IsTrue b ↔ Closes ds path
-  closes-decided first head b decides = (
-    (λ t k f l e x y.
-        let one : first ≡ f = same_Some first f (sym head ∙ ap (slice_get ds) (get_or_from_slice_get path 0 x.0 0 x.1) ∙ x.2) in
-        subst (λ z. Contains z.held l.lock) one (subst (λ z. Contains first.held z.lock) (is-last k l e y) (decides.0 t))),
-    (λ closes. decides.1 (closes (length path - 1) first last (omega (arith, p.begun))
-        (get_or path 0 0, slice_get-get_or path 0 0 p.begun, head) last-member)),
-  )
-
   pub nexts-known : (graph : ℕ → List ℕ) → IsGraphOf ds graph → (first : ℕ) → get_or path 0 0 ≡ first → (all nexts : List ℕ) → all ≡ graph last.lock →
       ((m : ℕ) → Contains nexts m ↔ ((first < m) × Contains all m)) → IsStrictlyIncreasing nexts → AreNexts ds path nexts
   nexts-known graph g first head all nexts e exact ascends = record {
@@ -249,6 +254,20 @@ closed-back ds path m first last begun head at closes =
     closes (length path) first last (sym (length-push path m))
     (get_or path 0 0, get-push_kept path m 0 (get_or path 0 0) (slice_get-get_or path 0 0 begun), head)
     (m, at-end path m [], at)
+
+-- and a number whose dependency takes one closes the path
+pub closes-decided : (ds : List Dependency) (path : List ℕ) (m : ℕ) (first last : Dependency) → 0 < length path →
+    slice_get ds (get_or path 0 0) ≡ Some first → slice_get ds m ≡ Some last → (b : Bool) →
+    IsTrue b ↔ Contains first.held last.lock → IsTrue b ↔ Closes ds (path ++ m ∷ [])
+closes-decided ds path m first last begun head at b decides = (
+  (λ t k f l e x y.
+      let start = get-push_kept path m 0 (get_or path 0 0) (slice_get-get_or path 0 0 begun) in
+      let one : first ≡ f = same_Some first f (sym head ∙ ap (slice_get ds) (same_Some _ x.0 (sym start ∙ x.1)) ∙ x.2) in
+      let end : k ≡ length path = omega (arith, e, length-push path m) in
+      let other : last ≡ l = same_Some last l (sym at ∙ ap (slice_get ds) (same_Some m y.0 (sym (at-end path m []) ∙ ap (slice_get (path ++ m ∷ [])) (sym end) ∙ y.1)) ∙ y.2) in
+      subst (λ z. Contains z.held l.lock) one (subst (λ z. Contains first.held z.lock) other (decides.0 t))),
+  (λ closes. decides.1 (closed-back ds path m first last begun head at closes)),
+)
 
 -- the last member of a cycle takes such a lock
 pub last-takes_back : (ds : List Dependency) (bound : ℕ) (path : List ℕ) (m : ℕ) (rest : List ℕ) → IsPath ds path → bound ≤ length path + 1 →

@@ -3,17 +3,17 @@ use Rattle.std.proofs.Common.{◌≡◌, ℕ, zero, suc, ◌<◌, ◌≤◌, Lis
 use Rattle.std.proofs.lemmas.Option.{none-some, slice_get_within, same_Some, slice_get-map, slice_get-get_or, get_or_from_slice_get}
 use Rattle.std.proofs.lemmas.List.{length-append, length-map}
 use Rattle.std.proofs.lemmas.Bool.{cases_eq}
-use Rattle.std.specs.List.{Contains}
+use Rattle.std.specs.List.{Contains, All}
 use Rattle.trace_model.specs.Theory.Dependencies.{Dependency}
 use Rattle.trace_model.specs.Theory.Cycles.{Member, next, IsCycle}
-use Rattle.trace_model.proofs.Theory.Unique.{contains_had}
+use Rattle.trace_model.proofs.Theory.Unique.{has_contained, contains_had}
 use Rattle.cycle_search.specs.Search.{CycleThrough, AreAll}
 use Rattle.lock_graph.specs.Graph.{IsGraphOf}
 use Rattle.cycle_search.specs.declared.ranks.Ranks.{Ranks}
 use Rattle.cycle_search.specs.Ranked.{AreRanks, Rises}
 use Rattle.cycle_search.specs.Takers.{takers_of, AreTakers}
 use Rattle.cycle_search.proofs.Listing.{all-none, get-left}
-use Rattle.cycle_search.proofs.Paths.{found, next-inside, next-last, at-end}
+use Rattle.cycle_search.proofs.Paths.{all-had, found, next-inside, next-last, at-end}
 
 module _ (ds : List Dependency) (bound : ℕ) (numbers : List ℕ) (c : IsCycle ds bound numbers) (ranks : Ranks) (are : AreRanks ds ranks) where
   at : (i : ℕ) → i < length numbers → (d : Dependency) × Member ds numbers i d
@@ -86,3 +86,9 @@ pub listed-known : (ds : List Dependency) (graph : ℕ → List ℕ) → IsGraph
 listed-known ds graph g lock n listed e h =
     let held = (g.exact lock n).0 (subst (λ (xs : List ℕ). Contains xs n) e h) in
     slice_get_within ds n held.0 held.1
+
+-- what holds of all locks of a list holds of each lock that a dependency holds, whose list it is
+pub each-held : (P : ℕ → Type 0) (locks : List ℕ) (d e : Dependency) (lock : ℕ) → locks ≡ d.held → d ≡ e → All P locks → Contains e.held lock → P lock
+each-held P locks d e lock same is all holds =
+    let k = has_contained locks lock (subst (λ xs. Contains xs lock) (sym (same ∙ ap (λ (x : Dependency). x.held) is)) holds) in
+    all-had P locks all k.0 lock k.1

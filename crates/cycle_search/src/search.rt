@@ -183,8 +183,9 @@ fn visit(
     if !fits(searched, path, next) {
         return Ok(());
     }
+    let is_cycle = closes(searched, path, next);
     path.push(next);
-    if closes(searched, path) {
+    if is_cycle {
         if found.len() >= search.cycles {
             return Err(SearchRefused::TooMany);
         }
@@ -226,12 +227,7 @@ fn ends_open(searched: &Searched<'_>, members: usize, path: &Path, next: u32) ->
     ensures last { IsTrue result → members ≤ length path.now.items + 1 }
     ensures is_open { IsTrue result → ¬ Closes searched.now (path.now.items ++ next ∷ []) }
 {
-    if path.len() + 1 < members {
-        return false;
-    }
-    let first = searched.table.get(path[0]);
-    let last = searched.table.get(next);
-    !first.held.contains(last.lock)
+    path.len() + 1 >= members && !closes(searched, path, next)
 }
 
 /// Whether the number may stand in one cycle with all members of the path.
@@ -254,13 +250,16 @@ fn cycle_of(path: &Path) -> Cycle
     cycle
 }
 
-/// Whether the lock of the last member is in the held set of the first.
-fn closes(searched: &Searched<'_>, path: &Path) -> bool
-    requires { IsPath searched.now path.now.items }
-    ensures { IsTrue result ↔ Closes searched.now path.now.items }
+/// Whether the number's dependency takes a lock that the path's first member holds, so that the
+/// number closes the path.
+#[inline(always)]
+fn closes(searched: &Searched<'_>, path: &Path, next: u32) -> bool
+    requires path { IsPath searched.now path.now.items }
+    requires next { next < length searched.now }
+    ensures { IsTrue result ↔ Closes searched.now (path.now.items ++ next ∷ []) }
 {
     let first = searched.table.get(path[0]);
-    let last = searched.table.get(path[path.len() - 1]);
+    let last = searched.table.get(next);
     first.held.contains(last.lock)
 }
 

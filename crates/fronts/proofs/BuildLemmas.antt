@@ -1,5 +1,5 @@
 -- The tables as they are built, place after place.
-use Rattle.std.proofs.Common.{◌≡◌, ℕ, zero, suc, ◌<◌, ◌≤◌, ◌⊎◌, inl, inr, Vec, List, [], ◌∷◌, ◌++◌, length, slice_get, slice_set, Option, Some, None, refl, sym, ap, subst, ◌∙◌, arith}
+use Rattle.std.proofs.Common.{◌≡◌, ℕ, zero, suc, ◌+◌, ◌<◌, ◌≤◌, ◌⊎◌, inl, inr, Vec, List, [], ◌∷◌, ◌++◌, length, slice_get, slice_set, Option, Some, None, refl, sym, ap, subst, ◌∙◌, arith}
 use Rattle.std.specs.Global.{Global}
 use Rattle.std.specs.List.{Contains}
 use Rattle.std.specs.Option.{option_and_then}
@@ -8,10 +8,10 @@ use Rattle.std.proofs.lemmas.Option.{none-some, same_Some, slice_get_within, sli
 use Rattle.std.proofs.lemmas.List.Elements.{Contains-append_cases}
 use Rattle.trace_model.specs.Theory.Trace.{Trace, OfThread}
 use Rattle.trace_model.specs.Theory.Held.{BeginsOn}
-use Rattle.trace_model.proofs.Lists.{at_index, get-push, get-set_same, get-set_other}
+use Rattle.trace_model.proofs.Lists.{at_index, length-push, get-push, get-set_same, get-set_other}
 use Rattle.trace_index.specs.Numbers.{number_at}
 use Rattle.std.specs.Arc.{arc_value}
-use Rattle.fronts.specs.declared.demands.Goal.{Goal}
+use Rattle.fronts.specs.declared.classes.Classes.{Classes}
 use Rattle.fronts.specs.declared.demands.Need.TheVariants.{Reach, Begin}
 use Rattle.fronts.specs.declared.demands.Item.{Item}
 use Rattle.fronts.specs.declared.demands.Demands.{Demands}
@@ -105,6 +105,22 @@ built_pushed v count p a xs ys k slot b (n, added, num, is, d) = subst (AreBuilt
     here : Stands v.trace v.slots p a n
     here = record { slot = slot; number = num }
 
+-- before the first place nothing is demanded
+pub none_built : (v : Slotted) (lists : List (Vec Item Global)) → ((a : ℕ) (xs : Vec Item Global) → slice_get lists a ≡ Some xs → xs.items ≡ []) → AreAllBuilt v 0 lists
+none_built v lists empty a xs at = subst (AreBuilt v 0 a) (sym (empty a xs at)) (record {
+  only = λ i h. let (k, less, is) = h in absurd (omega (arith, less));
+  ascend = λ j k x y l hx hy. absurd (none-some x hx);
+  needs = λ q r n l st need. absurd (omega (arith, l));
+  begins = λ q k n l st on. absurd (omega (arith, l));
+})
+
+-- the slot of a place's thread is one of the slots
+pub slot_within : (s : Trace) (threads : Classes) (p a : ℕ) → AreThreadSlots s threads → slots_of threads p ≡ Some a → a < threads.count
+slot_within s threads p a k slot =
+    let (t, of) = k.of_place p a slot in
+    let (b, e, less) = k.each p t of in
+    omega (arith, less, same_Some b a (sym e ∙ slot))
+
 -- one more place
 pub all_pushed : (v : Slotted) (count p a : ℕ) (lists : List (Vec Item Global)) (old new : Vec Item Global) → AreSlots v.trace v.slots count → v.slots p ≡ Some a →
     slice_get lists a ≡ Some old → AddsDemands v p old.items new.items → AreAllBuilt v p lists → AreAllBuilt v (suc p) (slice_set lists a new)
@@ -182,14 +198,16 @@ items_built v d count k len all = record {
         let (b, f, less) = k.each q t o in
         at_index d.items.items a (omega (arith, len, less, same_Some a b (sym e ∙ f)))
 
--- one more place is listed where it stands
-pub stands_pushed : (s : Trace) (slots : ℕ → Option ℕ) (old new : List Goal) (n : ℕ) (g : Goal) → new ≡ old ++ g ∷ [] → length old ≡ n →
-    ((p : ℕ) (to : Goal) → slice_get old p ≡ Some to → Stands s slots p to.slot to.count) → Stands s slots n g.slot g.count →
-    (p : ℕ) (to : Goal) → slice_get new p ≡ Some to → Stands s slots p to.slot to.count
-stands_pushed s slots old new n g is len each last p to at = elim (get-push old g p to (ap (λ z. slice_get z p) (sym is) ∙ at)) [
-  | inl before ↦ each p to before
-  | inr here ↦ subst (λ (z : Goal). Stands s slots p z.slot z.count) here.1 (subst (λ z. Stands s slots z g.slot g.count) (sym (here.0 ∙ len)) last)
+-- what holds of each element holds with one more
+pub each_pushed : {X : Type 0} (P : ℕ → X → Type 0) (old new : List X) (n : ℕ) (x : X) → new ≡ old ++ x ∷ [] → length old ≡ n →
+    ((k : ℕ) (y : X) → slice_get old k ≡ Some y → P k y) → P n x → (k : ℕ) (y : X) → slice_get new k ≡ Some y → P k y
+each_pushed P old new n x is len each last k y at = elim (get-push old x k y (ap (λ z. slice_get z k) (sym is) ∙ at)) [
+  | inl before ↦ each k y before
+  | inr here ↦ subst (P k) here.1 (subst (λ z. P z x) (sym (here.0 ∙ len)) last)
 ]
+
+pub length_pushed : {X : Type 0} (old new : List X) (n : ℕ) (x : X) → new ≡ old ++ x ∷ [] → length old ≡ n → length new ≡ n + 1
+length_pushed old new n x is len = ap length is ∙ (length-push old x ∙ omega (arith, len))
 
 pub demands_built : (s : Trace) (d : Demands) → AreThreadSlots s d.threads → AreLockSlots s d.locks → AreStands s (slots_of d.threads) (arc_value d.stands).items → length d.items.items ≡ d.threads.count →
     AreAllBuilt (with_slots s d.threads d.locks) (length s) d.items.items → AreDemands s d

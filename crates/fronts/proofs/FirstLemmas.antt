@@ -19,7 +19,7 @@ use Rattle.trace_model.proofs.Theory.Begun.{begun_so, begun_from}
 use Rattle.fronts.specs.declared.classes.Classes.{Classes}
 use Rattle.fronts.specs.declared.demands.Shared.{Shared}
 use Rattle.fronts.specs.declared.demands.Shared.TheVariants.{Thread, Lock}
-use Rattle.fronts.specs.Slots.{class_of, slots_of, AreSlots}
+use Rattle.fronts.specs.Slots.{slots_of, AreSlots}
 use Rattle.fronts.specs.Demands.{AreLocks}
 use Rattle.fronts.specs.Classes.{AreFirsts, AreClasses, next_class}
 use Rattle.fronts.specs.Firsts.{first_of_thread, first_of_lock, first_of, AreSlotsOf}

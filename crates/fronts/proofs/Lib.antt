@@ -1,5 +1,6 @@
 pub mod Counts
 pub mod FrontLemmas
+pub mod SheetLemmas
 pub mod ThreadLemmas
 pub mod GrowingLemmas
 pub mod SlotLemmas

@@ -220,6 +220,33 @@ grows_from k x m y front pending r done = record {
   more = omega (arith, r.more, ap length pending);
 }
 
+grows_self : (k : ℕ) (x : State) → Grows k x x
+grows_self k x = record {
+  grows = λ a. omega arith;
+  pended = λ a. inl refl;
+  kept = λ a p. p;
+  known = λ p. p;
+  done = λ a. refl;
+  more = omega arith;
+}
+
+-- the lock's first section
+pub begins_first : (k l : ℕ) (c : Section) (x y : State) → x.last l ≡ None → Changes x.last l (Some c) y.last →
+    ((a : ℕ) → y.front a ≡ x.front a) → ((a : ℕ) → y.done a ≡ x.done a) → y.pending ≡ x.pending → Begins k l c x y
+begins_first k l c x y was last front done pending = record {
+  begun = subst (λ o. IsBegun o c y l) (sym was) last.here;
+  others = last.others;
+  growth = grows_from k x y y front pending (grows_self k y) done;
+}
+
+-- the section at the place of the lock's last one
+pub begins_same : (k l : ℕ) (c d : Section) (x : State) → x.last l ≡ Some d → c.place ≡ d.place → Begins k l c x x
+begins_same k l c d x was same = record {
+  begun = subst (λ o. IsBegun o c x l) (sym was) (inr (inr (same, was)));
+  others = λ j ne. refl;
+  growth = grows_self k x;
+}
+
 pub raises_followed : (k l : ℕ) (c d : Section) (x m y : State) → x.last l ≡ Some d → d.place < c.place → Changes x.last l (Some c) m.last →
     ((a : ℕ) → m.front a ≡ x.front a) → ((a : ℕ) → m.done a ≡ x.done a) → m.pending ≡ x.pending → Raises k d.end m y → Begins k l c x y
 raises_followed k l c d x m y was less last front done pending r = record {

@@ -1,10 +1,11 @@
 //! What each place of a trace demands, in dense tables.
 
 ghost use Rattle.std.specs.Prelude.{◌≡◌, ℕ, ◌+◌, ◌<◌, ◌^◌, length, ◌++◌, slice_get, Some, IfSome, OnOk, IfOk};
+ghost use Rattle.std.specs.Arc.{arc_value};
 ghost use Rattle.trace_index.specs.Numbers.{number_at};
-ghost use Rattle.fronts.specs.Slots.{class_of, slots_of, AreThreadSlots, Stands};
+ghost use Rattle.fronts.specs.Slots.{class_of, slots_of, AreStands, AreThreadSlots, Stands};
 ghost use Rattle.fronts.specs.Demands.{AreLockSlots, IsGoal, EndsSection};
-ghost use Rattle.fronts.specs.Pushing.{reaching, adding, with_slots, IsStart, IsFirstNeed, IsLastNeed, IsBegin, AddsDemands};
+ghost use Rattle.fronts.specs.Pushing.{Slotted, reaching, adding, with_slots, IsStart, IsFirstNeed, IsLastNeed, IsBegin, AddsDemands, AreAllBuilt};
 ghost use Rattle.fronts.specs.Classes.{AreClasses, next_class};
 ghost use Rattle.fronts.specs.Firsts.{first_of_thread, first_of_lock, first_of, AreSlotsOf};
 
@@ -307,6 +308,53 @@ fn listed(items: &[Item], j: usize) -> Option<Item>
     items.get(j).copied()
 }
 
+/// A list for each of so many threads, with what is demanded of it before the first place: nothing.
+fn no_items(alloc: Global, count: u32) -> Result<Vec<Vec<Item>>, NoMemory>
+    ensures length { IfOk result (λ lists. length lists.items ≡ count) }
+    ensures built { IfOk result (λ lists. (v : Slotted) → AreAllBuilt v 0 lists.items) }
+{
+    let mut lists = Vec::with_capacity(alloc, count as usize)?;
+    for _slot in 0..count {
+        lists.push(Vec::new(alloc))?;
+    }
+    Ok(lists)
+}
+
+/// Puts the demands of all places into the lists, and answers where each stands in its thread.
+fn fill(
+    alloc: Global,
+    index: &TraceIndex,
+    threads: &Classes,
+    locks: &Classes,
+    lists: &mut Vec<Vec<Item>>,
+) -> Result<Arc<Vec<Goal>, Global>, NoMemory>
+    requires slots { AreThreadSlots index.now.events threads.now }
+    requires locks { AreLockSlots index.now.events locks.now }
+    requires length { length lists.old.items ≡ threads.now.count }
+    requires built { AreAllBuilt (with_slots index.now.events threads.now locks.now)
+        0 lists.old.items }
+    ensures stands { IfOk result (λ stands.
+        AreStands index.now.events (slots_of threads.now) (arc_value stands).items) }
+    ensures length { length lists.new.items ≡ threads.now.count }
+    ensures built { OnOk result (AreAllBuilt (with_slots index.now.events threads.now locks.now)
+        (length index.now.events) lists.new.items) }
+{
+    let mut stands = Vec::with_capacity(alloc, index.len())?;
+    for place in 0..index.len() {
+        let place = Place::new(place as u32);
+        let stand = goal_before(index, threads, place);
+        push_demands(
+            index,
+            threads,
+            locks,
+            &mut lists[stand.slot as usize],
+            place,
+        )?;
+        stands.push(stand)?;
+    }
+    Ok(Arc::new(alloc, stands)?)
+}
+
 impl Demands {
     ghost use Rattle.fronts.specs.Demands.{item_at, AreDemands};
 
@@ -331,27 +379,12 @@ impl Demands {
     {
         let threads = classes_by(alloc, index, Shared::Thread)?;
         let locks = classes_by(alloc, index, Shared::Lock)?;
-        let mut stands = Vec::with_capacity(alloc, index.len())?;
-        let mut items = Vec::with_capacity(alloc, threads.count as usize)?;
-        for _slot in 0..threads.count {
-            items.push(Vec::new(alloc))?;
-        }
-        for place in 0..index.len() {
-            let place = Place::new(place as u32);
-            let stand = goal_before(index, &threads, place);
-            push_demands(
-                index,
-                &threads,
-                &locks,
-                &mut items[stand.slot as usize],
-                place,
-            )?;
-            stands.push(stand)?;
-        }
+        let mut items = no_items(alloc, threads.count)?;
+        let stands = fill(alloc, index, &threads, &locks, &mut items)?;
         Ok(Demands {
             threads,
             locks,
-            stands: Arc::new(alloc, stands)?,
+            stands,
             items,
         })
     }

@@ -193,6 +193,10 @@ leads_so (Some old) goal h =
     let (a, b) = and_parts (old.slot == goal.slot) (nat_le old.count goal.count) h in
     (old, refl, eqb-true old.slot goal.slot a, le_so old.count goal.count b)
 
+pub by_ok : {X E : Type 0} (r : Result X E) (P : X → Type 0) → ((x : X) → r ≡ Ok x → P x) → IfOk r P
+by_ok (Ok x) P f = f x refl
+by_ok (Err e) P f = tt
+
 pub on_ok : {X E P : Type 0} (r : Result X E) → P → OnOk r P
 on_ok (Ok x) p = p
 on_ok (Err e) p = tt

@@ -16,11 +16,20 @@ use trace_model::{NoMemory, Op};
 /// How deep each lock is held after the first rows, as many as noted: by one thread at most, since
 /// the trace is well formed. It lags behind where the rows are another index's, since making room
 /// for their locks may be refused.
-#[derive(Drop)]
 pub(crate) struct Depths {
     pub(crate) table: NumberTable<u8>,
     guesses: Guesses,
     pub(crate) noted: usize,
+}
+
+impl Drop for Depths {
+    fn drop(self) {
+        let Depths {
+            table: _,
+            guesses: _,
+            noted: _,
+        } = self;
+    }
 }
 
 impl Depths {

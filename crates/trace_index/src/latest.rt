@@ -17,10 +17,18 @@ use trace_model::NoMemory;
 
 /// The last place of each key in the first full segments, as many as noted. It lags behind, since
 /// only the next row asks for it, and making room for that may be refused.
-#[derive(Drop)]
 pub(crate) struct Latest {
     pub(crate) places: Places,
     pub(crate) noted: usize,
+}
+
+impl Drop for Latest {
+    fn drop(self) {
+        let Latest {
+            places: _,
+            noted: _,
+        } = self;
+    }
 }
 
 impl Latest {

@@ -5,17 +5,17 @@ use Rattle.std.proofs.lemmas.Result.{err_from_is_err_and}
 use Rattle.std.specs.List.{Contains}
 use Rattle.trace_model.specs.Theory.Dependencies.{Dependency}
 use Rattle.dependencies.specs.Tables.{known}
-use Rattle.cycle_search.specs.Search.{IsPath, Closes, AboveFirst, LinksTo, TakesBack, AreSome, AreAll, Adds, Exceeds, CycleBeyond, CycleThrough, HasWays}
+use Rattle.cycle_search.specs.Search.{IsPath, AboveFirst, LinksTo, TakesBack, CycleOver, IsAmong, AreSome, AreAll, Adds, Exceeds, CycleBeyond, CycleThrough, HasWays}
 use Rattle.cycle_search.specs.Takers.{IsNext}
 use Rattle.cycle_search.specs.Ways.{AreWaysBack}
 use Rattle.trace_model.proofs.Lists.{length-push, get-push_kept}
-use Rattle.cycle_search.proofs.Listing.{append-nil}
+use Rattle.cycle_search.proofs.Listing.{append-nil, all-none, popped}
 use Rattle.cycle_search.proofs.Turns.{adds-more, adds-end, exceeds-more, closers-begin, closers-more, closers-exceed, closers-end, rejected, closed, one-closed, deeper, deeper-some, full}
 use Rattle.cycle_search.proofs.Paths.{path-tested}
 use Rattle.cycle_search.proofs.Ranked.{other-rank}
 use Rattle.cycle_search.proofs.WaysBack.{too-far}
 use Rattle.cycle_search.proofs.search.+search.Goals as goal
-use Rattle.cycle_search.proofs.search.+search.Goals.{visit-then-closes+else-len-search+in_ok-push, visit-else-closes+then-len-search-2+in_ok-extend, visit-else-closes+else-len-search-2}
+use Rattle.cycle_search.proofs.search.+search.Goals.{visit-then-is_cycle+else-len-search+in_ok-push, visit-else-is_cycle+then-len-search-2+in_ok-extend, visit-else-is_cycle+else-len-search-2}
 
 pub extend-visit-requires : goal.extend-visit-requires
 extend-visit-requires t c =
@@ -38,6 +38,33 @@ extend-returns-in_err-visit-clause-too_many t c e =
     (slice_get-get_or items i 0 c.loop-next-test.true) c.args.search.now.cycles _ _ c.loop-next.invariant.added
     (subst (λ p. Exceeds (CycleThrough c.args.search.now.searched.now c.args.search.now.members p (get_or items i 0)) c.args.search.now.cycles c.loop-next.found.items) c.loop-next.invariant.same q)
 
+pub extend-close-requires : goal.extend-close-requires
+extend-close-requires t c =
+    let d = c.decreases in
+    let room = c.requires.room in
+    let len = c.len.ensures.value in
+    let full = c.if-len-search.true in
+    (omega arith, (c.requires.path, (omega arith, (c.requires.limits, c.requires.ways))))
+
+pub extend-returns-then-search-nexts : goal.extend-returns-then-search-nexts
+extend-returns-then-search-nexts t c = record {
+  path = c.close.ensures.path;
+  all = c.close.ensures.all;
+  few = c.close.ensures.few;
+  too_many = c.close.ensures.too_many;
+}
+
+pub extend-loop-next-init : goal.extend-loop-next-init
+extend-loop-next-init t c = record {
+  same = refl;
+  few = c.requires.limits.cycles;
+  added = (
+    [],
+    sym (append-nil c.args.found.now.items),
+    all-none (CycleOver c.args.search.now.searched.now c.args.search.now.members c.args.path.now.items (IsAmong c.successors-nexts.result.now 0)) (λ n h. omega (arith, h.1.1)),
+  );
+}
+
 pub extend-loop-next-preserved : goal.extend-loop-next-preserved
 extend-loop-next-preserved t c = let e = c.in_ok-visit.ensures in
     let i = c.loop-next.next-index in
@@ -50,10 +77,14 @@ extend-loop-next-preserved t c = let e = c.in_ok-visit.ensures in
           (subst (λ p. Adds (CycleThrough c.args.search.now.searched.now c.args.search.now.members p (get_or items i 0)) c.loop-next.found.items c.visit.new.found.items) c.loop-next.invariant.same e.all);
     }
 
-pub extend-returns-clause-all : goal.extend-returns-clause-all
-extend-returns-clause-all t c =
-    adds-end c.args.search.now.searched.now c.args.search.now.members c.args.path.now.items c.successors-nexts.result.now c.loop-next.next-index _ _ c.requires.path.begun
-    c.successors-nexts.ensures c.loop-next-test.false c.loop-next.invariant.added
+pub extend-returns : goal.extend-returns
+extend-returns t c = record {
+  path = c.loop-next.invariant.same;
+  all = adds-end c.args.search.now.searched.now c.args.search.now.members c.args.path.now.items c.successors-nexts.result.now c.loop-next.next-index _ _ c.requires.path.begun
+      c.successors-nexts.ensures c.loop-next-test.false c.loop-next.invariant.added;
+  few = c.loop-next.invariant.few;
+  too_many = λ e. cc;
+}
 
 -- what the search for the next closer answers, of the path as it was
 closer-of : (ds : List Dependency) (path path' : List ℕ) (last : ℕ) (found answer : Option ℕ) → path' ≡ path → found ≡ answer →
@@ -72,10 +103,16 @@ close-loop-next-init t c =
           (slice_get-get_or c.args.path.now.items 0 0 c.requires.path.begun ∙ ap Some head);
     }
 
-pub close-links-requires-clause-next : goal.close-links-requires-clause-next
-close-links-requires-clause-next t c =
+pub close-next_closer-requires : goal.close-next_closer-requires
+close-next_closer-requires t c = subst (λ p. IsPath c.args.search.now.searched.now p) (sym c.loop-next.invariant.same) c.requires.path
+
+pub close-links-requires : goal.close-links-requires
+close-links-requires t c =
     let back = (c.next_closer.ensures.sound c.in-Some.next c.in-Some.is).1 in
-    slice_get_within c.args.search.now.searched.now c.in-Some.next back.1 back.3
+    record {
+      path = subst (λ p. IsPath c.args.search.now.searched.now p) (sym c.loop-next.invariant.same) c.requires.path;
+      next = slice_get_within c.args.search.now.searched.now c.in-Some.next back.1 back.3;
+    }
 
 pub close-visit-requires : goal.close-visit-requires
 close-visit-requires t c =
@@ -131,50 +168,79 @@ close-loop-next-preserved t c = record {
       );
 }
 
-pub close-returns-clause-all : goal.close-returns-clause-all
-close-returns-clause-all t c =
-    closers-end c.args.search.now.searched.now c.args.search.now.members c.args.path.now.items c.requires.path c.requires.room c.loop-next.last
-    (closer-of c.args.search.now.searched.now c.args.path.now.items _ c.loop-next.last _ _ c.loop-next.invariant.same c.in_default.is c.next_closer.ensures)
-    _ _ c.loop-next.invariant.added
+pub close-returns : goal.close-returns
+close-returns t c = record {
+  path = c.loop-next.invariant.same;
+  all = closers-end c.args.search.now.searched.now c.args.search.now.members c.args.path.now.items c.requires.path c.requires.room c.loop-next.last
+      (closer-of c.args.search.now.searched.now c.args.path.now.items _ c.loop-next.last _ _ c.loop-next.invariant.same c.in_default.is c.next_closer.ensures)
+      _ _ c.loop-next.invariant.added;
+  few = c.loop-next.invariant.few;
+  too_many = λ e. cc;
+}
 
-pub visit-returns-then-not-fits-clause-all : goal.visit-returns-then-not-fits-clause-all
-visit-returns-then-not-fits-clause-all t c = (
-  [],
-  sym (append-nil c.args.found.now.items),
-  rejected c.args.search.now.searched.now c.args.search.now.members c.args.path.now.items c.args.next c.requires.path.begun
-      (λ f. true≢false (sym (c.fits.ensures.1 f.compatible) ∙ c.if-not-fits.true)),
-)
+pub visit-same_rank-requires : goal.visit-same_rank-requires
+visit-same_rank-requires t c =
+    let path = c.requires.path in
+    let first = path.known 0 0 path.begun in
+    let next = c.requires.known in
+    let each = c.searched.invariant.ranks.each in
+    let same = ap length c.searched.view_is in
+    record { begun = path.begun; first = omega arith; next = omega arith }
 
-pub visit-returns-then-ends_open-clause-all : goal.visit-returns-then-ends_open-clause-all
-visit-returns-then-ends_open-clause-all t c =
+pub visit-returns-then-not-fits : goal.visit-returns-then-not-fits
+visit-returns-then-not-fits t c = record {
+  path = refl;
+  all = (
+    [],
+    sym (append-nil c.args.found.now.items),
+    rejected c.args.search.now.searched.now c.args.search.now.members c.args.path.now.items c.args.next c.requires.path.begun
+        (λ f. true≢false (sym (c.fits.ensures.1 f.compatible) ∙ c.if-not-fits.true)),
+  );
+  few = c.requires.limits.cycles;
+  too_many = λ e. cc;
+}
+
+pub visit-returns-then-ends_open : goal.visit-returns-then-ends_open
+visit-returns-then-ends_open t c =
     let ends = c.ends_open.ensures in
-    let test = c.if-ends_open.true in (
-      [],
-      sym (append-nil c.args.found.now.items),
-      full c.args.search.now.searched.now c.args.search.now.members c.args.path.now.items c.args.next (ends.is_open test)
-          (omega (arith, ends.last test, length-push c.args.path.now.items c.args.next)),
-    )
+    let test = c.if-ends_open.true in record {
+      path = refl;
+      all = (
+        [],
+        sym (append-nil c.args.found.now.items),
+        full c.args.search.now.searched.now c.args.search.now.members c.args.path.now.items c.args.next (ends.is_open test)
+            (omega (arith, ends.last test, length-push c.args.path.now.items c.args.next)),
+      );
+      few = c.requires.limits.cycles;
+      too_many = λ e. cc;
+    }
 
-pub visit-returns-then-is_too_far-clause-all : goal.visit-returns-then-is_too_far-clause-all
-visit-returns-then-is_too_far-clause-all t c = (
-  [],
-  sym (append-nil c.args.found.now.items),
-  too-far c.args.search.now.searched.now c.args.search.now.members c.args.path.now.items c.args.next c.args.search.now.ways.now
-      c.requires.path.begun c.requires.ways c.requires.known (c.is_too_far.ensures c.if-is_too_far.true),
-)
+pub visit-returns-then-is_too_far : goal.visit-returns-then-is_too_far
+visit-returns-then-is_too_far t c = record {
+  path = refl;
+  all = (
+    [],
+    sym (append-nil c.args.found.now.items),
+    too-far c.args.search.now.searched.now c.args.search.now.members c.args.path.now.items c.args.next c.args.search.now.ways.now
+        c.requires.path.begun c.requires.ways c.requires.known (c.is_too_far.ensures c.if-is_too_far.true),
+  );
+  few = c.requires.limits.cycles;
+  too_many = λ e. cc;
+}
 
-pub visit-returns-then-not-same_rank-clause-all : goal.visit-returns-then-not-same_rank-clause-all
-visit-returns-then-not-same_rank-clause-all t c = (
-  [],
-  sym (append-nil c.args.found.now.items),
-  subst (λ ds. AreAll (CycleThrough ds c.args.search.now.members c.args.path.now.items c.args.next) []) c.searched.view_is
-      (other-rank (known c.searched.inside.table.now) c.args.search.now.members c.args.path.now.items c.args.next c.searched.inside.ranks.now
-      c.searched.invariant.ranks c.requires.path.begun (λ e. true≢false (sym (c.same_rank.ensures.1 e) ∙ c.if-not-same_rank.true))),
-)
-
-pub visit-closes-requires : goal.visit-closes-requires
-visit-closes-requires t c = subst (λ p. IsPath c.args.search.now.searched.now p) (sym c.push.ensures.items)
-    (path-tested c.args.search.now.searched.now c.args.path.now.items c.args.next c.requires.path c.requires.known c.requires.above c.requires.linked (c.fits.ensures.0 c.if-not-fits.false))
+pub visit-returns-then-not-same_rank : goal.visit-returns-then-not-same_rank
+visit-returns-then-not-same_rank t c = record {
+  path = refl;
+  all = (
+    [],
+    sym (append-nil c.args.found.now.items),
+    subst (λ ds. AreAll (CycleThrough ds c.args.search.now.members c.args.path.now.items c.args.next) []) c.searched.view_is
+        (other-rank (known c.searched.inside.table.now) c.args.search.now.members c.args.path.now.items c.args.next c.searched.inside.ranks.now
+        c.searched.invariant.ranks c.requires.path.begun (λ e. true≢false (sym (c.same_rank.ensures.1 e) ∙ c.if-not-same_rank.true))),
+  );
+  few = c.requires.limits.cycles;
+  too_many = λ e. cc;
+}
 
 pub visit-returns-then-len-search-clause-too_many :
     goal.visit-returns-then-len-search-clause-too_many
@@ -182,7 +248,7 @@ visit-returns-then-len-search-clause-too_many t c e = (
   (c.args.path.now.items ++ c.args.next ∷ []) ∷ [],
   one-closed c.args.search.now.searched.now c.args.search.now.members c.args.path.now.items c.args.next
       (path-tested c.args.search.now.searched.now c.args.path.now.items c.args.next c.requires.path c.requires.known c.requires.above c.requires.linked (c.fits.ensures.0 c.if-not-fits.false))
-      (subst (λ p. Closes c.args.search.now.searched.now p) c.push.ensures.items (c.closes.ensures.0 c.if-closes.true)) c.requires.path.begun c.requires.room,
+      (c.closes-is_cycle.ensures.0 c.if-is_cycle.true) c.requires.path.begun c.requires.room,
   omega (arith, c.len.ensures, c.if-len-search.true),
 )
 
@@ -220,29 +286,47 @@ visit-returns-in_err-extend-clause-too_many t c e =
       q.2,
     )
 
-pub visit-returns-clause-all : goal.visit-returns-clause-all
-visit-returns-clause-all t c = elim c.if-closes.branch [
-  | visit-then-closes+else-len-search+in_ok-push w ↦ let f = w.found-is in (
-    (c.args.path.now.items ++ c.args.next ∷ []) ∷ [],
-    rw f (w.in_ok-push.ensures.items ∙ ap (λ (z : List ℕ). c.args.found.now.items ++ z ∷ []) (w.cycle_of.ensures ∙ c.push.ensures.items)),
-    closed c.args.search.now.searched.now c.args.search.now.members c.args.path.now.items c.args.next
-        (path-tested c.args.search.now.searched.now c.args.path.now.items c.args.next c.requires.path c.requires.known c.requires.above c.requires.linked (c.fits.ensures.0 c.if-not-fits.false))
-        (subst (λ p. Closes c.args.search.now.searched.now p) c.push.ensures.items (c.closes.ensures.0 w.if-closes.true)) c.requires.path.begun c.requires.room,
-  )
-  | visit-else-closes+then-len-search-2+in_ok-extend w ↦
-      let f = w.found-is in let a = w.in_ok-extend.ensures.all in (
-        a.0,
-        rw f a.1,
-        deeper c.args.search.now.searched.now c.args.search.now.members c.args.path.now.items c.args.next a.0
-            (λ k. true≢false (sym (c.closes.ensures.1 (subst (λ p. Closes c.args.search.now.searched.now p) (sym c.push.ensures.items) k)) ∙ w.if-closes.false))
-            (subst (λ z. AreAll (CycleBeyond c.args.search.now.searched.now c.args.search.now.members z) a.0) c.push.ensures.items a.2),
-      )
-  | visit-else-closes+else-len-search-2 w ↦
-      let f = w.found-is in (
-        [],
-        rw f (sym (append-nil c.args.found.now.items)),
-        full c.args.search.now.searched.now c.args.search.now.members c.args.path.now.items c.args.next
-            (λ k. true≢false (sym (c.closes.ensures.1 (subst (λ p. Closes c.args.search.now.searched.now p) (sym c.push.ensures.items) k)) ∙ w.if-closes.false))
-            (omega (arith, w.if-len-search-2.false, w.len-else-closes.ensures.value, ap (λ (xs : List ℕ). length xs) c.push.ensures.items)),
-      )
-]
+pub visit-returns : goal.visit-returns
+visit-returns t c =
+    let pushed = c.push.ensures.items in
+    record {
+      path = c.pop.ensures.rest ∙ popped c.args.path.now.items c.if-is_cycle.path.items c.args.next (elim c.if-is_cycle.branch [
+        | visit-then-is_cycle+else-len-search+in_ok-push w ↦ ap (λ p. p.items) w.path-is ∙ pushed
+        | visit-else-is_cycle+then-len-search-2+in_ok-extend w ↦ ap (λ p. p.items) w.path-is ∙ w.in_ok-extend.ensures.path ∙ pushed
+        | visit-else-is_cycle+else-len-search-2 w ↦ ap (λ p. p.items) w.path-is ∙ pushed
+      ]);
+      all = elim c.if-is_cycle.branch [
+        | visit-then-is_cycle+else-len-search+in_ok-push w ↦ let f = w.found-is in (
+          (c.args.path.now.items ++ c.args.next ∷ []) ∷ [],
+          rw f (w.in_ok-push.ensures.items ∙ ap (λ (z : List ℕ). c.args.found.now.items ++ z ∷ []) (w.cycle_of.ensures ∙ c.push.ensures.items)),
+          closed c.args.search.now.searched.now c.args.search.now.members c.args.path.now.items c.args.next
+              (path-tested c.args.search.now.searched.now c.args.path.now.items c.args.next c.requires.path c.requires.known c.requires.above c.requires.linked (c.fits.ensures.0 c.if-not-fits.false))
+              (c.closes-is_cycle.ensures.0 w.if-is_cycle.true) c.requires.path.begun c.requires.room,
+        )
+        | visit-else-is_cycle+then-len-search-2+in_ok-extend w ↦
+            let f = w.found-is in let a = w.in_ok-extend.ensures.all in (
+              a.0,
+              rw f a.1,
+              deeper c.args.search.now.searched.now c.args.search.now.members c.args.path.now.items c.args.next a.0
+                  (λ k. true≢false (sym (c.closes-is_cycle.ensures.1 k) ∙ w.if-is_cycle.false))
+                  (subst (λ z. AreAll (CycleBeyond c.args.search.now.searched.now c.args.search.now.members z) a.0) c.push.ensures.items a.2),
+            )
+        | visit-else-is_cycle+else-len-search-2 w ↦
+            let f = w.found-is in (
+              [],
+              rw f (sym (append-nil c.args.found.now.items)),
+              full c.args.search.now.searched.now c.args.search.now.members c.args.path.now.items c.args.next
+                  (λ k. true≢false (sym (c.closes-is_cycle.ensures.1 k) ∙ w.if-is_cycle.false))
+                  (omega (arith, w.if-len-search-2.false, w.len-else-is_cycle.ensures.value, ap (λ (xs : List ℕ). length xs) c.push.ensures.items)),
+            )
+      ];
+      few = elim c.if-is_cycle.branch [
+        | visit-then-is_cycle+else-len-search+in_ok-push w ↦
+            let f = w.found-is in
+            let more = ap length w.in_ok-push.ensures.items in
+            rw f (omega (arith, more, length-push c.args.found.now.items w.cycle_of.result, w.len.ensures, w.if-len-search.false))
+        | visit-else-is_cycle+then-len-search-2+in_ok-extend w ↦ let f = w.found-is in rw f w.in_ok-extend.ensures.few
+        | visit-else-is_cycle+else-len-search-2 w ↦ let f = w.found-is in rw f c.requires.limits.cycles
+      ];
+      too_many = λ e. cc;
+    }

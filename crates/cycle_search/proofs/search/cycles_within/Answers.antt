@@ -1,18 +1,52 @@
-use Rattle.std.proofs.Common.{◌≡◌, ◌∙◌, [], ◌∷◌, ◌++◌, List, ℕ, Err, sym, ap}
+use Rattle.std.proofs.Common.{◌≡◌, ◌∙◌, [], ◌∷◌, ◌++◌, List, ℕ, Err, length, slice_index, sym, ap, subst, arith}
 use Rattle.std.proofs.lemmas.Result.{err_from_is_err_and}
 use Rattle.cycle_search.specs.declared.refused.SearchRefused.TheVariants.{TooMany}
+use Rattle.cycle_search.specs.Search.{IsPath}
+use Rattle.cycle_search.specs.Ways.{AreWaysBack}
+use Rattle.cycle_search.proofs.Paths.{path-one}
 use Rattle.cycle_search.proofs.Turns.{cycles-made, too-many-made}
 use Rattle.cycle_search.proofs.search.cycles_within.Goals as goal
+
+-- the path is the root alone
+begins : (root : ℕ) (new pushed : List ℕ) → new ≡ [] → pushed ≡ new ++ root ∷ [] → pushed ≡ root ∷ []
+begins root new pushed none more = more ∙ ap (λ xs. xs ++ root ∷ []) none
+
+pub ways_of-requires : goal.ways_of-requires
+ways_of-requires c =
+    let one = begins c.args.root _ _ c.new-path.ensures c.push.ensures.items in
+    subst (IsPath c.args.searched.now) (sym one) (path-one c.args.searched.now c.args.root c.requires.root)
+
+pub returns-in_err-ways-clause-too_many : goal.returns-in_err-ways-clause-too_many
+returns-in_err-ways-clause-too_many c e =
+    let p = err_from_is_err_and c.from_residual.result c.from_residual.ensures.1 in
+    let q = sym e ∙ p.1 ∙ ap Err p.2 in cc
+
+pub extend-requires : goal.extend-requires
+extend-requires c =
+    let one = begins c.args.root _ _ c.new-path.ensures c.push.ensures.items in
+    let len = ap length one in
+    let none = ap length c.new-found.ensures.items in
+    record {
+      path = subst (IsPath c.args.searched.now) (sym one) (path-one c.args.searched.now c.args.root c.requires.root);
+      room = omega (arith, len, c.get.ensures.low);
+      limits = record { members = c.get.ensures.high; cycles = omega (arith, none) };
+      ways = subst (AreWaysBack c.args.searched.now (slice_index c.push.new.self.items 0)) (sym c.deref.ensures.value) c.in_ok-ways.ensures;
+    }
 
 pub returns-in_err-extend-clause-too_many : goal.returns-in_err-extend-clause-too_many
 returns-in_err-extend-clause-too_many c e =
     let p = err_from_is_err_and c.from_residual-in_err-extend.result c.from_residual-in_err-extend.ensures.1 in
     let both = sym p.1 ∙ e in
     let same : p.0 ≡ TooMany = cc in
-    too-many-made c.args.searched.now c.args.bound c.args.root c.args.most _ _ _ c.get.ensures.value
-    (c.push.ensures.items ∙ ap (λ (xs : List ℕ). xs ++ c.args.root ∷ []) c.new-path.ensures) c.new-found.ensures.items
+    let one = begins c.args.root _ _ c.new-path.ensures c.push.ensures.items in
+    too-many-made c.args.searched.now c.args.bound c.args.root c.args.most _ _ _ c.get.ensures.value one c.new-found.ensures.items
     (c.extend.ensures.too_many (c.in_err-extend.was ∙ ap Err (sym p.2 ∙ same)))
 
-pub returns-clause-ok : goal.returns-clause-ok
-returns-clause-ok c = cycles-made c.args.searched.now c.args.bound c.args.root _ _ _ _ c.get.ensures.value
-    (c.push.ensures.items ∙ ap (λ (xs : List ℕ). xs ++ c.args.root ∷ []) c.new-path.ensures) c.new-found.ensures.items c.in_ok-extend.ensures.all
+pub returns : goal.returns
+returns c =
+    let one = begins c.args.root _ _ c.new-path.ensures c.push.ensures.items in
+    record {
+      ok = cycles-made c.args.searched.now c.args.bound c.args.root _ _ _ _ c.get.ensures.value one c.new-found.ensures.items c.in_ok-extend.ensures.all;
+      few = c.in_ok-extend.ensures.few;
+      too_many = λ e. cc;
+    }

@@ -1,19 +1,11 @@
-use Rattle.std.proofs.Common.{◌≡◌, ◌≤◌, ◌∙◌, ℕ, List, inl, inr, sym, ap, subst, slice_get, arith}
+use Rattle.std.proofs.Common.{◌≡◌, ◌≤◌, ◌∙◌, inl, inr, sym, ap, slice_get, arith}
 use Rattle.std.proofs.lemmas.Option.{same_Some, slice_get_within}
 use Rattle.std.proofs.lemmas.Bool.{cases_lt}
-use Rattle.std.specs.List.{Contains, All}
 use Rattle.trace_model.specs.Theory.Dependencies.{Dependency}
-use Rattle.trace_model.proofs.Theory.Unique.{has_contained}
 use Rattle.dependencies.specs.Tables.{known}
 use Rattle.cycle_search.specs.LockNumbers.{number_in}
-use Rattle.cycle_search.proofs.Paths.{all-had}
+use Rattle.cycle_search.proofs.Ranked.{each-held}
 use Rattle.cycle_search.proofs.ways.lead_back.Goals as goal
-
--- what holds of all locks of a list holds of each lock that a dependency holds, whose list it is
-each : (P : ℕ → Type 0) (locks : List ℕ) (d e : Dependency) (lock : ℕ) → locks ≡ d.held → d ≡ e → All P locks → Contains e.held lock → P lock
-each P locks d e lock same is all holds =
-    let k = has_contained locks lock (subst (λ xs. Contains xs lock) (sym (same ∙ ap (λ (x : Dependency). x.held) is)) holds) in
-    all-had P locks all k.0 lock k.1
 
 pub loop-number-preserved : goal.loop-number-preserved
 loop-number-preserved c n lock d above below at holds = elim (cases_lt n c.loop-number.number) [
@@ -22,7 +14,7 @@ loop-number-preserved c n lock d above below at holds = elim (cases_lt n c.loop-
       let same : n ≡ c.loop-number.number = omega arith in
       let is : c.get-dependency.result.now ≡ d = same_Some _ d (sym c.get-dependency.ensures ∙ ap (slice_get (known c.args.table.now)) (sym same) ∙ at) in
       let way = ap (λ (x : Dependency). number_in c.args.ways.now x.lock) (c.dependency.view_is ∙ is) in
-      let within = each (λ other. number_in c.args.ways.now other ≤ c.saturating_add-most.result) c.locks-in-loop-number.result.now c.get-dependency.result.now d lock
+      let within = each-held (λ other. number_in c.args.ways.now other ≤ c.saturating_add-most.result) c.locks-in-loop-number.result.now c.get-dependency.result.now d lock
       (c.locks-in-loop-number.ensures.value ∙ ap (λ (x : Dependency). x.held) c.dependency.view_is) is
       (c.are_within-in-loop-number.ensures c.if-not-are_within-2.false) holds in
       omega (arith, within, way, c.of.ensures, c.saturating_add-most.ensures)
@@ -32,7 +24,7 @@ pub returns : goal.returns
 returns c t = record {
   home = λ lock d at holds.
       let is : c.get.result.now ≡ d = same_Some _ d (sym c.get.ensures ∙ at) in
-      let within = each (λ other. number_in c.args.ways.now other ≤ 0) c.locks.result.now c.get.result.now d lock
+      let within = each-held (λ other. number_in c.args.ways.now other ≤ 0) c.locks.result.now c.get.result.now d lock
       (c.locks.ensures.value ∙ ap (λ (x : Dependency). x.held) c.behind-table.view_is) is
       (c.are_within.ensures c.if-not-are_within.false) holds in
       omega (arith, within);

@@ -1,5 +1,5 @@
 use Rattle.std.proofs.Common.{◌≡◌, rules, length, Some, sym, ◌∙◌}
-use Rattle.std.proofs.lemmas.Result.{on_ok_weaker}
+use Rattle.std.proofs.lemmas.Result.{IfOk-from_err, on_ok_weaker}
 use Rattle.trace_index.specs.Numbers.{number_at}
 use Rattle.fronts.specs.Slots.{slots_of}
 use Rattle.fronts.specs.Pushing.{reaching, adding, with_slots}
@@ -21,6 +21,15 @@ pub push_reach-requires-3-clause-in_trace : goal.push_reach-requires-3-clause-in
 push_reach-requires-3-clause-in_trace c =
     let s = c.args.index.now.events in
     some_within c.last_need-last.result (length s) (λ r h. need_within s c.args.place r c.requires.in_trace (c.last_need-last.ensures.true_need r h))
+
+pub returns-in_err-push_reach : goal.returns-in_err-push_reach
+returns-in_err-push_reach c = IfOk-from_err c.from_residual.result _ c.from_residual.ensures.0
+
+pub returns-in_err-push_reach-2 : goal.returns-in_err-push_reach-2
+returns-in_err-push_reach-2 c = IfOk-from_err c.from_residual-in_err-push_reach-2.result _ c.from_residual-in_err-push_reach-2.ensures.0
+
+pub returns-in_err-push_reach-3 : goal.returns-in_err-push_reach-3
+returns-in_err-push_reach-3 c = IfOk-from_err c.from_residual-in_err-push_reach-3.result _ c.from_residual-in_err-push_reach-3.ensures.0
 
 pub returns : goal.returns
 returns c =

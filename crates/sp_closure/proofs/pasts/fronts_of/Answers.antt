@@ -1,6 +1,16 @@
-use Rattle.std.proofs.lemmas.Grind.{elements}
-use Rattle.std.proofs.Common.{arith}
+use Rattle.std.proofs.Common.{◌≡◌, ◌∙◌}
+use Rattle.fronts.specs.Layers.{front_of}
+use Rattle.fronts.proofs.BuildLemmas.{each_pushed, length_pushed}
 use Rattle.sp_closure.proofs.pasts.fronts_of.Goals as goal
 
 pub loop-slot-preserved : goal.loop-slot-preserved
-loop-slot-preserved c = grind (arith, elements)
+loop-slot-preserved c =
+    let fronts = c.loop-slot.fronts.items in
+    let more = c.push.new.self.items in
+    let slot = c.loop-slot.slot in
+    let pushed = c.in_ok-push.ensures.items in
+    let inv = c.loop-slot.invariant in
+    record {
+      length = length_pushed fronts more slot c.count.result pushed inv.length;
+      exact = each_pushed (λ a n. n ≡ front_of c.args.none.now c.args.layer.now a) fronts more slot c.count.result pushed inv.length inv.exact (c.count.ensures ∙ c.front.ensures);
+    }

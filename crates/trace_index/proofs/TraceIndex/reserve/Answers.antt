@@ -1,5 +1,5 @@
 use Rattle.std.proofs.lemmas.Option.{same_Some}
-use Rattle.std.proofs.Common.{◌≡◌, ◌*◌, length, refl, sym, ap, subst, ◌∙◌, w32, arith, ℕ, None}
+use Rattle.std.proofs.Common.{◌≡◌, ◌*◌, length, refl, sym, ap, subst, ◌∙◌, w32, arith, ℕ, List, None, Some}
 use Rattle.std.proofs.Math.Facts.{Fits-below}
 use Rattle.trace_model.specs.Theory.Trace.{Trace}
 use Rattle.trace_index.specs.Depths.{depth_in, op_depth, HasOpEntry}
@@ -8,7 +8,8 @@ use Rattle.trace_index.specs.Marks.{AreAllMarks}
 use Rattle.trace_index.proofs.Deep.{owned_in, op_depth-agree}
 use Rattle.trace_index.proofs.Marking.{last_of_all}
 use Rattle.trace_index.specs.Slots.{AreSlots}
-use Rattle.trace_index.specs.Room.{IsIndex}
+use Rattle.trace_index.specs.declared.row.Row.{Row}
+use Rattle.trace_index.specs.Room.{Indexed, IsIndex}
 use Rattle.trace_index.proofs.OneFurther.{rows_short, still_none, followed, ready_next, deep_still, deep_entered, depths_of_all}
 use Rattle.trace_index.proofs.TraceIndex.reserve.Goals as goal
 
@@ -182,3 +183,28 @@ invariant_of-self-2 c =
             ∙ ap (λ e. op_depth (owned_in (trace_of rows)) e.op) (sym c.ready_for-ready.ensures.event));
       };
     }
+
+-- the events are as they were
+same_events : (rows rows' : List Row) (shown : Indexed) → rows' ≡ rows → trace_of rows ≡ shown.events → trace_of rows' ≡ shown.events
+same_events rows rows' shown same are = ap trace_of same ∙ are
+
+pub returns-in_err-reserve-clause-events : goal.returns-in_err-reserve-clause-events
+returns-in_err-reserve-clause-events c = same_events c.self.inside.rows.0 c.reserve.new.self.0 c.args.self.now c.in_err-reserve.ensures.shown (ap (λ v. v.events) c.self.view_is)
+
+pub returns-in_err-reserve-2-clause-events : goal.returns-in_err-reserve-2-clause-events
+returns-in_err-reserve-2-clause-events c = same_events c.self.inside.rows.0 c.reserve.new.self.0 c.args.self.now c.in_ok-reserve.ensures.shown (ap (λ v. v.events) c.self.view_is)
+
+pub returns-in_err-follow-clause-events : goal.returns-in_err-follow-clause-events
+returns-in_err-follow-clause-events c = same_events c.self.inside.rows.0 c.reserve.new.self.0 c.args.self.now c.in_ok-reserve.ensures.shown (ap (λ v. v.events) c.self.view_is)
+
+pub returns-in_err-follow-2-clause-events : goal.returns-in_err-follow-2-clause-events
+returns-in_err-follow-2-clause-events c = same_events c.self.inside.rows.0 c.reserve.new.self.0 c.args.self.now c.in_ok-reserve.ensures.shown (ap (λ v. v.events) c.self.view_is)
+
+pub returns-in_err-reserve-3-clause-events : goal.returns-in_err-reserve-3-clause-events
+returns-in_err-reserve-3-clause-events c = same_events c.self.inside.rows.0 c.reserve.new.self.0 c.args.self.now c.in_ok-reserve.ensures.shown (ap (λ v. v.events) c.self.view_is)
+
+pub returns : goal.returns
+returns c = record {
+  events = same_events c.self.inside.rows.0 c.reserve.new.self.0 c.args.self.now c.in_ok-reserve.ensures.shown (ap (λ v. v.events) c.self.view_is);
+  ok = ap Some c.ready_for-ready.ensures.event;
+}

@@ -1,37 +1,14 @@
-use Rattle.std.proofs.Common.{◌≡◌, ℕ, ◌<◌, inl, inr, List, Some, refl, sym, ap, subst, ◌∙◌, arith}
+use Rattle.std.proofs.Common.{◌≡◌, ℕ, ◌<◌, inl, inr, Some, refl, sym, ap, subst, ◌∙◌, arith}
 use Rattle.std.proofs.lemmas.Result.{IfOk-weaker}
 use Rattle.fronts.specs.declared.demands.Section.{Section}
-use Rattle.fronts.specs.declared.layer.Layer.{Layer}
-use Rattle.fronts.specs.declared.members.Member.{Member}
-use Rattle.fronts.specs.declared.work.Ground.{Ground}
 use Rattle.fronts.specs.declared.work.Work.{Work}
 use Rattle.fronts.specs.Sheets.{size}
-use Rattle.fronts.specs.Slots.{HasFronts}
-use Rattle.fronts.specs.Ground.{HoldsEnd, HoldsGoal, IsReady, slots, state}
-use Rattle.fronts.specs.Work.{AreAtFront, Begins, IsBegun, Raises, State}
+use Rattle.fronts.specs.Ground.{HoldsEnd, HoldsGoal, state}
+use Rattle.fronts.specs.Work.{Begins, IsBegun, Raises, State}
 use Rattle.fronts.proofs.RaiseLemmas.{front_in, done_in}
-use Rattle.fronts.proofs.StageLemmas.{carries_here, carries_from}
-use Rattle.fronts.proofs.WayLemmas.{raises_followed}
+use Rattle.fronts.proofs.StageLemmas.{carries_here, carries_from, ready_same}
+use Rattle.fronts.proofs.WayLemmas.{begins_first, begins_same, raises_followed}
 use Rattle.fronts.proofs.work.Work.begin.Goals as goal
-
--- with another last section of a lock the work is as ready
-ready_followed : (gr : Ground) (w : Work) (members : List Member) (layer : Layer) → IsReady gr w members → layer.fronts ≡ w.layer.fronts → layer.done ≡ w.layer.done →
-    size layer.last ≡ size w.layer.last → IsReady gr (record { layer = layer; pending = w.pending }) members
-ready_followed gr w members layer ready fronts done last =
-    let s = gr.index.now.events in
-    let under = gr.under.now in
-    record {
-      sound = ready.sound;
-      fits = record {
-        room = record {
-          fronts = ap size fronts ∙ ready.fits.room.fronts;
-          done = ap size done ∙ ready.fits.room.done;
-          last = last ∙ ready.fits.room.last;
-        };
-        fronts = subst (λ sheet. HasFronts s (slots gr) (front_in under sheet)) (sym fronts) ready.fits.fronts;
-      };
-      behind = subst (λ sheet. AreAtFront s (slots gr) (front_in under sheet) members) (sym fronts) ready.behind;
-    }
 
 -- the lock's last section stays, and the earlier one's end is in
 raises_kept : (k l : ℕ) (c d : Section) (x y : State) → x.last l ≡ Some d → c.place < d.place → Raises k c.end x y → Begins k l c x y
@@ -41,20 +18,29 @@ raises_kept k l c d x y was less r = record {
   growth = r.growth;
 }
 
+pub returns-in-None-clause-begins : goal.returns-in-None-clause-begins
+returns-in-None-clause-begins g c = λ is.
+    let gr = c.args.ground.now in
+    let under = gr.under.now in
+    let f = c.follow.ensures in
+    begins_first gr.demands.now.threads.count c.args.lock c.args.section (state gr c.args.self.now)
+    (state gr (record { layer = c.follow.new.self; pending = c.args.self.now.pending })) (sym c.last.ensures ∙ c.in-None.is) f.last
+    (λ a. ap (λ sheet. front_in under sheet a) f.fronts) (λ a. ap (λ sheet. done_in under sheet a) f.done) refl
+
 pub returns-in-None-clause-carries : goal.returns-in-None-clause-carries
 returns-in-None-clause-carries g c =
     let gr = c.args.ground.now in
     let f = c.follow.ensures in
     let needed = HoldsEnd gr c.args.self.now c.args.lock c.args.section in
     let mid : Work = record { layer = c.follow.new.self; pending = c.args.self.now.pending } in
-    let ready = ready_followed gr c.args.self.now c.args.members.now c.follow.new.self c.requires.ready f.fronts f.done f.size in
+    let ready = ready_same gr c.args.self.now c.args.members.now c.follow.new.self c.requires.ready f.fronts (ap size f.done) f.size in
     carries_from gr needed needed c.args.self.now mid c.args.members.now c.args.steps.now _ _ f.fronts (λ set b need. need)
     (carries_here gr needed mid c.args.members.now c.args.steps.now ready.fits ready.behind)
 
 pub raise-requires-clause-ready : goal.raise-requires-clause-ready
 raise-requires-clause-ready g c =
     let f = c.follow-then-get.ensures in
-    ready_followed c.args.ground.now c.args.self.now c.args.members.now c.follow-then-get.new.self c.requires.ready f.fronts f.done f.size
+    ready_same c.args.ground.now c.args.self.now c.args.members.now c.follow-then-get.new.self c.requires.ready f.fronts (ap size f.done) f.size
 
 pub returns-then-get-clause-begins : goal.returns-then-get-clause-begins
 returns-then-get-clause-begins g c =
@@ -93,7 +79,19 @@ returns-then-get-2-clause-carries g c =
     c.args.members.now c.args.steps.now _ _ refl
     (λ set b ends. ends.of_new c.in-Some.last was (omega (arith, c.if-get-2.true, c.get-else-get.ensures, c.get-else-get-2.ensures))) c.raise-then-get-2.ensures.carries
 
+pub returns-else-get-2-clause-begins : goal.returns-else-get-2-clause-begins
+returns-else-get-2-clause-begins g c = λ is.
+    let gr = c.args.ground.now in
+    begins_same gr.demands.now.threads.count c.args.lock c.args.section c.in-Some.last (state gr c.args.self.now) (sym c.last.ensures ∙ c.in-Some.is)
+    (omega (arith, c.if-get.false, c.get.ensures, c.get-in-Some.ensures, c.if-get-2.false, c.get-else-get.ensures, c.get-else-get-2.ensures))
+
 pub returns-else-get-2-clause-carries : goal.returns-else-get-2-clause-carries
 returns-else-get-2-clause-carries g c =
     let gr = c.args.ground.now in
     carries_here gr (HoldsEnd gr c.args.self.now c.args.lock c.args.section) c.args.self.now c.args.members.now c.args.steps.now c.requires.ready.fits c.requires.ready.behind
+
+pub raise-requires-then-get-2-clause-ready : goal.raise-requires-then-get-2-clause-ready
+raise-requires-then-get-2-clause-ready g c = c.requires.ready
+
+pub raise-requires-then-get-2-clause-reach : goal.raise-requires-then-get-2-clause-reach
+raise-requires-then-get-2-clause-reach g c = c.requires.end

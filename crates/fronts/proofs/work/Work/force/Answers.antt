@@ -1,4 +1,5 @@
 use Rattle.std.proofs.Common.{◌≡◌, refl, ap, subst, ◌∙◌, ◌+◌, arith}
+use Rattle.std.proofs.lemmas.Bool.{false≢true}
 use Rattle.std.proofs.lemmas.Result.{IfOk-from_err}
 use Rattle.fronts.specs.Sheets.{size}
 use Rattle.fronts.specs.Slots.{HasFirst}
@@ -52,14 +53,20 @@ counted g c =
     (lifted g c) c.requires.slot
     (subst (λ a. c.lift.new.steps + old a ≡ c.args.steps.now + new a) c.in-Some.ensures.settled.slot c.lift.ensures.steps)
 
-pub returns-in_err-push-in-Some-clause-carries : goal.returns-in_err-push-in-Some-clause-carries
-returns-in_err-push-in-Some-clause-carries g c = record {
-  fits = fits_after g c.before.before.before;
-  steps = counted g c.before.before.before;
-  same = moved_same c.args.goal.slot c.args.members.now c.settle.new.members c.in-Some.ensures.moved;
-  behind = IfOk-from_err c.from_residual.result _ c.from_residual.ensures.0;
-  bound = IfOk-from_err c.from_residual.result _ c.from_residual.ensures.0;
-}
+pub returns-in_err-push-in-Some : goal.returns-in_err-push-in-Some
+returns-in_err-push-in-Some g c =
+    let result = c.from_residual.result in
+    let is_err = c.from_residual.ensures.0 in
+    record {
+      raises = IfOk-from_err result _ is_err;
+      carries = record {
+        fits = fits_after g c.before.before.before;
+        steps = counted g c.before.before.before;
+        same = moved_same c.args.goal.slot c.args.members.now c.settle.new.members c.in-Some.ensures.moved;
+        behind = IfOk-from_err result _ is_err;
+        bound = IfOk-from_err result _ is_err;
+      };
+    }
 
 pub returns-in_ok-push-in-Some-clause-raises : goal.returns-in_ok-push-in-Some-clause-raises
 returns-in_ok-push-in-Some-clause-raises g c is =
@@ -93,3 +100,15 @@ returns-in_ok-push-in-Some-clause-carries g c =
             (c.in-Some.ensures.ahead set bound.ahead holds),
       );
     }
+
+pub returns-in-None : goal.returns-in-None
+returns-in-None g c = record {
+  raises = λ is. absurd (false≢true is);
+  carries = record {
+    fits = c.requires.fits;
+    steps = refl;
+    same = moved_same c.args.goal.slot c.args.members.now c.settle.new.members c.settle.ensures.moved;
+    behind = λ is. absurd (false≢true is);
+    bound = λ set b holds. absurd (c.in-None.ensures.ahead set b.ahead holds);
+  };
+}

@@ -2,13 +2,27 @@ use Rattle.std.proofs.Common.{refl, sym, ap, ◌∙◌, Some, arith}
 use Rattle.std.proofs.lemmas.Option.{same_Some}
 use Rattle.std.proofs.lemmas.Result.{IfOk-weaker}
 use Rattle.fronts.specs.declared.work.Work.{Work}
+use Rattle.fronts.specs.Sheets.{size}
 use Rattle.fronts.specs.Slots.{slots_of}
 use Rattle.fronts.specs.Demands.{item}
 use Rattle.fronts.specs.Ground.{Any, HoldsEnd, HoldsGoal, fronts, slots, state, items, done}
 use Rattle.fronts.proofs.RaiseLemmas.{front_in, last_in}
-use Rattle.fronts.proofs.StageLemmas.{carries_from}
+use Rattle.fronts.proofs.StageLemmas.{carries_from, ready_same}
 use Rattle.fronts.proofs.WayLemmas.{meets_reach, meets_begin, goal_reach, end_reach, same_end, reach_holds, sections_hold}
 use Rattle.fronts.proofs.work.Work.meet.Goals as goal
+
+pub pass-requires : goal.pass-requires
+pass-requires g c = record { room = omega (arith, c.requires.slot, c.requires.ready.fits.room.done); fits = c.requires.few }
+
+pub raise-requires-clause-ready : goal.raise-requires-clause-ready
+raise-requires-clause-ready g c =
+    let p = c.pass.ensures in
+    ready_same c.args.ground.now c.args.self.now c.args.members.now c.pass.new.self c.requires.ready p.fronts p.size (ap size p.last)
+
+pub begin-requires-clause-ready : goal.begin-requires-clause-ready
+begin-requires-clause-ready g c =
+    let p = c.pass.ensures in
+    ready_same c.args.ground.now c.args.self.now c.args.members.now c.pass.new.self c.requires.ready p.fronts p.size (ap size p.last)
 
 pub raise-requires-clause-reach : goal.raise-requires-clause-reach
 raise-requires-clause-reach g c =

@@ -4,6 +4,7 @@ use Rattle.std.proofs.lemmas.Result.{IfOk-from_err}
 use Rattle.trace_model.proofs.Theory.Ascending.{contains_at}
 use Rattle.fronts.specs.Ground.{state, items, done}
 use Rattle.fronts.proofs.RunLemmas.{undone, less_undone, meet_less, popped, pop_known, pop_on_way, same_more}
+use Rattle.fronts.proofs.StageLemmas.{same_members}
 use Rattle.fronts.proofs.work.Work.run.Goals as goal
 
 pub next_item-requires-clause-slot : goal.next_item-requires-clause-slot
@@ -18,30 +19,62 @@ meet-requires-clause-slot g c =
     let e = subst (λ zs. slice_get zs (length zs - 1) ≡ Some c.in-Some.slot) c.deref.ensures.value (sym c.last.ensures.value ∙ sym c.copied.ensures ∙ c.in-Some.is) in
     c.loop-slot.invariant.known c.in-Some.slot (contains_at xs c.in-Some.slot (length xs - 1) e)
 
-pub returns-in_err-meet-in-Some-next_item-clause-carries :
-    goal.returns-in_err-meet-in-Some-next_item-clause-carries
-returns-in_err-meet-in-Some-next_item-clause-carries g c =
+pub meet-requires-clause-ready : goal.meet-requires-clause-ready
+meet-requires-clause-ready g c = record { sound = c.requires.ready.sound; fits = c.loop-slot.invariant.fits; behind = c.loop-slot.invariant.behind }
+
+pub meet-requires-clause-going : goal.meet-requires-clause-going
+meet-requires-clause-going g c = c.loop-slot.invariant.going
+
+pub meet-requires-clause-next : goal.meet-requires-clause-next
+meet-requires-clause-next g c = let (at, less, few) = c.in-Some-next_item.ensures.next in at
+
+pub meet-requires-clause-number : goal.meet-requires-clause-number
+meet-requires-clause-number g c = let (at, less, few) = c.in-Some-next_item.ensures.next in less
+
+pub meet-requires-clause-few : goal.meet-requires-clause-few
+meet-requires-clause-few g c = let (at, less, few) = c.in-Some-next_item.ensures.next in few
+
+pub returns-in_err-meet-in-Some-next_item : goal.returns-in_err-meet-in-Some-next_item
+returns-in_err-meet-in-Some-next_item g c =
     let inv = c.loop-slot.invariant in
     let met = c.meet.ensures.carries in
+    let result = c.from_residual.result in
+    let is_err = c.from_residual.ensures.0 in
     record {
-      fits = met.fits;
-      steps = omega (arith, inv.steps, met.steps);
-      same = same_more c.args.members.now c.loop-slot.members c.meet.new.members inv.same met.same;
-      behind = IfOk-from_err c.from_residual.result _ c.from_residual.ensures.0;
-      bound = IfOk-from_err c.from_residual.result _ c.from_residual.ensures.0;
+      going = IfOk-from_err result _ is_err;
+      nothing = IfOk-from_err result _ is_err;
+      grows = IfOk-from_err result _ is_err;
+      carries = record {
+        fits = met.fits;
+        steps = omega (arith, inv.steps, met.steps);
+        same = same_more c.args.members.now c.loop-slot.members c.meet.new.members inv.same met.same;
+        behind = IfOk-from_err result _ is_err;
+        bound = IfOk-from_err result _ is_err;
+      };
     }
 
-pub returns-then-not-branch-clause-carries : goal.returns-then-not-branch-clause-carries
-returns-then-not-branch-clause-carries g c =
+pub returns-then-not-branch : goal.returns-then-not-branch
+returns-then-not-branch g c =
     let inv = c.loop-slot.invariant in
     let met = c.in_ok-meet-in-Some-next_item.ensures.carries in
     record {
-      fits = met.fits;
-      steps = omega (arith, inv.steps, met.steps);
-      same = same_more c.args.members.now c.loop-slot.members c.meet.new.members inv.same met.same;
-      behind = λ is. absurd (false≢true is);
-      bound = λ set b any. absurd (false≢true (sym c.if-not-branch.true ∙ (met.bound set (inv.bound set b) any).0));
+      going = λ is. absurd (false≢true is);
+      nothing = λ is. absurd (false≢true is);
+      grows = λ is. absurd (false≢true is);
+      carries = record {
+        fits = met.fits;
+        steps = omega (arith, inv.steps, met.steps);
+        same = same_more c.args.members.now c.loop-slot.members c.meet.new.members inv.same met.same;
+        behind = λ is. absurd (false≢true is);
+        bound = λ set b any. absurd (false≢true (sym c.if-not-branch.true ∙ (met.bound set (inv.bound set b) any).0));
+      };
     }
+
+pub returns-clause-going : goal.returns-clause-going
+returns-clause-going g c = λ is. c.loop-slot.invariant.going
+
+pub returns-clause-grows : goal.returns-clause-grows
+returns-clause-grows g c = λ is. c.loop-slot.invariant.grows
 
 pub returns-clause-carries : goal.returns-clause-carries
 returns-clause-carries g c =
@@ -53,6 +86,18 @@ returns-clause-carries g c =
       behind = λ is. inv.behind;
       bound = λ set b any. (refl, inv.bound set b);
     }
+
+pub loop-slot-init : goal.loop-slot-init
+loop-slot-init g c = record {
+  fits = c.requires.ready.fits;
+  going = c.requires.going;
+  known = c.requires.known;
+  behind = c.requires.ready.behind;
+  same = same_members c.args.members.now;
+  steps = refl;
+  grows = λ a. omega arith;
+  bound = λ set b. b;
+}
 
 pub loop-slot-smaller-else-not-branch : goal.loop-slot-smaller-else-not-branch
 loop-slot-smaller-else-not-branch g c =

@@ -1,4 +1,4 @@
-use Rattle.std.proofs.Common.{length, sym, ap, subst, ◌∙◌}
+use Rattle.std.proofs.Common.{length, refl, sym, ap, subst, ◌∙◌}
 use Rattle.std.proofs.Math.ListN.{length-set}
 use Rattle.sp_closure.proofs.EnterLemmas.{written}
 use Rattle.fronts.specs.declared.demands.Demands.{Demands}
@@ -16,8 +16,20 @@ past_of-requires-clause-reach g c =
     subst (λ (z : Goal). HasFirst s slots z.slot z.count) (sym has.is)
     ((c.requires.filling.tracks c.args.at.number has.track has.track_at).reach c.args.at.entry has.past has.past_at)
 
-pub returns-clause-filling : goal.returns-clause-filling
-returns-clause-filling g c =
+pub returns-in_default : goal.returns-in_default
+returns-in_default g c = record { filling = c.requires.filling; slots = refl }
+
+pub returns-in_err-fronts : goal.returns-in_err-fronts
+returns-in_err-fronts g c = record {
+  filling = record {
+    closer = c.past_of.ensures.closer;
+    tracks = subst (λ (e : Demands). AreTracks c.args.index.now.events (slots_of e.threads) c.args.tracks.now.items) (sym c.past_of.ensures.slots) c.requires.filling.tracks;
+  };
+  slots = c.past_of.ensures.slots;
+}
+
+pub returns : goal.returns
+returns g c =
     let s = c.args.index.now.events in
     let tracks = c.args.tracks.now.items in
     let d = c.past_of.new.self.demands in
@@ -28,7 +40,10 @@ returns-clause-filling g c =
     let same = ap length puts.put ∙ length-set tracks c.args.at.number puts.other in
     let back = written c.args.tracks.now.len c.put_at.new.tracks _ (c.args.tracks.now.ok.0 ∙ sym same) in
     record {
-      closer = c.past_of.ensures.closer;
-      tracks = subst (AreTracks s slots) (sym back)
-          (tracks_put s slots tracks c.put_at.new.tracks c.args.at c.in-Some.goal c.in_ok-fronts.fronts are has c.in_ok-fronts.ensures.past puts);
+      filling = record {
+        closer = c.past_of.ensures.closer;
+        tracks = subst (AreTracks s slots) (sym back)
+            (tracks_put s slots tracks c.put_at.new.tracks c.args.at c.in-Some.goal c.in_ok-fronts.fronts are has c.in_ok-fronts.ensures.past puts);
+      };
+      slots = c.past_of.ensures.slots;
     }

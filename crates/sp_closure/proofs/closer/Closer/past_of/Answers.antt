@@ -1,4 +1,5 @@
-use Rattle.std.proofs.Common.{sym, ap, subst}
+use Rattle.std.proofs.Common.{sym, ap, subst, ◌∙◌}
+use Rattle.std.proofs.lemmas.Result.{IfOk-from_err}
 use Rattle.sp_closure.specs.declared.closer.Closer.{Closer}
 use Rattle.fronts.specs.declared.demands.Demands.{Demands}
 use Rattle.fronts.specs.Layers.{front_of}
@@ -11,8 +12,26 @@ base_on-requires-clause-reach g c =
     subst (λ (d : Demands). HasFirst c.args.index.now.events (slots_of d.threads) c.args.goal.slot c.args.goal.count)
     (sym (ap (λ (z : Closer). z.demands) c.turn_to.ensures.same)) c.requires.reach
 
-pub returns-clause-past : goal.returns-clause-past
-returns-clause-past g c =
+pub returns-in_err-turn_to : goal.returns-in_err-turn_to
+returns-in_err-turn_to g c = record {
+  closer = c.turn_to.ensures.closer;
+  slots = ap (λ (z : Closer). z.demands) c.turn_to.ensures.same;
+  past = IfOk-from_err c.from_residual.result _ c.from_residual.ensures.0;
+}
+
+pub returns-in_err-base_on : goal.returns-in_err-base_on
+returns-in_err-base_on g c = record {
+  closer = c.base_on.ensures.closer;
+  slots = c.base_on.ensures.tables.0 ∙ ap (λ (z : Closer). z.demands) c.turn_to.ensures.same;
+  past = IfOk-from_err c.from_residual-in_err-base_on.result _ c.from_residual-in_err-base_on.ensures.0;
+}
+
+pub returns : goal.returns
+returns g c =
     let z = c.base_on.new.self in
-    fronts_within c.args.index.now.events (slots_of z.demands.threads) c.args.goal c.fronts_of.result (front_of z.none z.base.layer) c.fronts_of.ensures
-    c.in_ok-base_on.ensures.base.least
+    record {
+      closer = c.base_on.ensures.closer;
+      slots = c.base_on.ensures.tables.0 ∙ ap (λ (z : Closer). z.demands) c.turn_to.ensures.same;
+      past = fronts_within c.args.index.now.events (slots_of z.demands.threads) c.args.goal c.fronts_of.result (front_of z.none z.base.layer) c.fronts_of.ensures
+          c.in_ok-base_on.ensures.base.least;
+    }

@@ -26,7 +26,7 @@ returns-clause-closer c =
     let k = d.threads.count in
     let l = d.locks.count in
     let none = c.args.self.now.none in
-    let empty = c.in_ok-new.ensures in
+    let empty = c.in_ok-work.ensures.layer in
     record {
       demands = old.demands;
       stands = old.stands;
@@ -38,7 +38,7 @@ returns-clause-closer c =
         | inr e ↦ subst (IsKept s d none) (sym e) (record {
           fits = record {
             room = record { fronts = empty.fronts.size; done = empty.done.size; last = empty.last.size };
-            fronts = λ a n less. absurd (omega (arith, less, front_none k l k l none c.in_ok-new.field-0 old.none empty a));
+            fronts = λ a n less. absurd (omega (arith, less, front_none k l k l none c.in_ok-work.work.layer old.none empty a));
           };
           base = λ to q. absurd (none-some to q);
         })

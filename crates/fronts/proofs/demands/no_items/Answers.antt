@@ -1,0 +1,18 @@
+use Rattle.std.proofs.Common.{[], ◌≡◌, Vec}
+use Rattle.std.specs.Global.{Global}
+use Rattle.fronts.specs.declared.demands.Item.{Item}
+use Rattle.fronts.proofs.BuildLemmas.{none_built, each_pushed, length_pushed}
+use Rattle.fronts.proofs.demands.no_items.Goals as goal
+
+pub loop-slot-preserved : goal.loop-slot-preserved
+loop-slot-preserved c =
+    let lists = c.loop-slot.lists.items in
+    let pushed = c.in_ok-push.ensures.items in
+    let inv = c.loop-slot.invariant in
+    record {
+      length = length_pushed lists c.push.new.self.items c.loop-slot._slot c.new.result pushed inv.length;
+      empty = each_pushed (λ a (xs : Vec Item Global). xs.items ≡ []) lists c.push.new.self.items c.loop-slot._slot c.new.result pushed inv.length inv.empty c.new.ensures.items;
+    }
+
+pub returns-clause-built : goal.returns-clause-built
+returns-clause-built c = λ v. none_built v c.loop-slot.lists.items c.loop-slot.invariant.empty
