@@ -9,7 +9,7 @@ ghost use Rattle.command_line.specs.CommandLine.{IsWithin, IsInRange};
 use clap::error::ErrorKind;
 use clap::{Arg, ArgMatches, Command, Error, value_parser};
 use std::alloc::{AllocError, Global};
-pub use words::{arguments, tell, words_of};
+pub use words::{tell, words_of};
 
 /// What the words of a command line ask for.
 #[derive(Drop, PartialEq, Eq)]

@@ -3,20 +3,7 @@
 use clap::Error;
 use clap::error::ErrorKind;
 use std::alloc::{AllocError, Global};
-use std::{env, io};
-
-/// The words of the command line, the first of which names the program.
-///
-/// # Errors
-///
-/// Where a growth was refused, or the system gives no words.
-pub fn arguments(rt: &HostRuntime) -> io::Result<Vec<String>> {
-    let mut arguments = Vec::new(rt.alloc());
-    for argument in env::args(rt)? {
-        arguments.push(argument)?;
-    }
-    Ok(arguments)
-}
+use std::io;
 
 /// The arguments, to be read as words.
 ///

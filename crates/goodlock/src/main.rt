@@ -1,42 +1,42 @@
-//! The command of `goodlockd` that runs scripts, without what the other commands stand on.
+//! The command of `goodlockd` that runs a script, in its plain form alone: without what the other
+//! commands stand on, and without what reads any command line.
 #![tactic(auto)]
 
-ghost use Rattle.command_line.specs.CommandLine.{IsInRange};
-
-use command_line::{Invocation, arguments, parse, tell, words_of};
-use outcomes::{Status, ended};
+use outcomes::{Status, arguments, ended};
 use scripts::script_file;
 use std::io;
 use std::process::ExitCode;
+use trace_model::MAX_EVENTS;
 
-/// Does what is asked for.
-fn carry_out(rt: &HostRuntime, invocation: Invocation) -> io::Result<Status>
-    requires { IsInRange invocation }
-{
-    if let Invocation::Script { file, limit } = invocation {
-        return script_file(rt, file, limit);
+/// How many events the words after a script's name let its book accept, if they are understood.
+fn limit_of(words: &[String]) -> Option<u32> {
+    match words {
+        [] => Some(MAX_EVENTS as u32),
+        [name, number] if name.as_str() == "--limit" => number.as_str().parse().ok(),
+        _ => None,
     }
-    eprintln!(rt; "goodlock runs scripts alone: goodlockd has this command")?;
-    Ok(Status::NotUnderstood)
 }
 
-/// Does what the words ask for.
-fn run_words(rt: &HostRuntime, words: &[&str]) -> io::Result<Status> {
-    match parse(rt.alloc(), words) {
-        Ok(invocation) => carry_out(rt, invocation),
-        Err(refused) => Ok(if tell(rt, refused)? {
-            Status::Done
-        } else {
-            Status::NotUnderstood
-        }),
+/// Runs the script that the words name, the first of which names the program.
+fn run_words(rt: &HostRuntime, words: &[String]) -> io::Result<Status> {
+    if let [_, command, file, rest @ ..] = words
+        && command.as_str() == "script"
+        && let Some(limit) = limit_of(rest)
+        && 1 <= limit
+        && limit <= MAX_EVENTS as u32
+    {
+        return script_file(rt, file.as_str(), limit);
     }
+    eprintln!(rt; "goodlock takes `script FILE [--limit L]` alone: goodlockd has the rest")?;
+    Ok(Status::NotUnderstood)
 }
 
 /// Does what the command line asks for.
 fn run(rt: &HostRuntime) -> io::Result<Status> {
     let arguments = arguments(rt)?;
-    let words = words_of(rt.alloc(), &arguments)?;
-    run_words(rt, &words)
+    let ran = run_words(rt, &arguments);
+    drop(arguments);
+    ran
 }
 
 fn main(rt: HostRuntime) -> ExitCode {

@@ -3,9 +3,9 @@
 
 ghost use Rattle.command_line.specs.CommandLine.{IsInRange};
 
-use command_line::{Invocation, arguments, parse, tell, words_of};
+use command_line::{Invocation, parse, tell, words_of};
 use commands::{offline_file, replay_files};
-use outcomes::{Status, ended};
+use outcomes::{Status, arguments, ended};
 use std::io;
 use std::process::ExitCode;
 use std::thread::Threads;

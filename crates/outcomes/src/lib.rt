@@ -5,6 +5,6 @@ mod named_files;
 mod outcome;
 mod refusals;
 
-pub use named_files::{ended, read_file};
+pub use named_files::{arguments, ended, read_file};
 pub use outcome::{Status, Stopped, write_text};
 pub use refusals::push_refusal;

@@ -1,9 +1,22 @@
-//! Files by their names, and how a program about them ends.
+//! What a program is given, the words of its command line and files by their names, and how it ends.
 ghost use Rattle.std.specs.Prelude.{◌≡◌, MatchResult};
 ghost use Rattle.outcomes.specs.declared.outcome.Status.TheVariants.{Failed};
 
 use crate::outcome::Status;
-use std::{fs, io};
+use std::{env, fs, io};
+
+/// The words of the command line, the first of which names the program.
+///
+/// # Errors
+///
+/// Where a growth was refused, or the system gives no words.
+pub fn arguments(rt: &HostRuntime) -> io::Result<Vec<String>> {
+    let mut arguments = Vec::new(rt.alloc());
+    for argument in env::args(rt)? {
+        arguments.push(argument)?;
+    }
+    Ok(arguments)
+}
 
 /// The bytes of the file of this name, or none where it cannot be read, which is then told.
 ///
