@@ -214,7 +214,9 @@ pub fn new_board<N: Naming, R: Wait + Copy>(
 {
     let (head, beginning) = opened.named::<N>();
     let (first, second) = (Shown::opening(&beginning), Shown::opening(&beginning));
-    let handle = WriteHandle::new(alloc, rt, first, second, readers).map_err(|_| NotMade)?;
+    let Ok(handle) = WriteHandle::new(alloc, rt, first, second, readers) else {
+        return Err(NotMade);
+    };
     let all = make_readers(alloc, &handle, &beginning, readers)?;
     let writer = BoardWriter {
         handle,
@@ -236,9 +238,12 @@ fn make_readers<N: Naming, R: Wait + Copy>(
 {
     let mut all = Vec::new(alloc);
     for _ in 0..readers {
-        let reader = handle.handle().map_err(|_| NotMade)?;
-        all.push(BoardReader::new(reader, beginning))
-            .map_err(|_| NotMade)?;
+        let Ok(reader) = handle.handle() else {
+            return Err(NotMade);
+        };
+        let Ok(()) = all.push(BoardReader::new(reader, beginning)) else {
+            return Err(NotMade);
+        };
     }
     Ok(all)
 }

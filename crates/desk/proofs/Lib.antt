@@ -1,4 +1,5 @@
 pub mod Known
+pub mod Outcome
 pub mod Steps
 pub mod Together
 pub mod Told

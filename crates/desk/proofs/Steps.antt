@@ -9,7 +9,7 @@ use Rattle.trace_model.specs.declared.refusal.Refusal.TheVariants.{NoMemory}
 use Rattle.trace_model.specs.declared.messages.step.BoardStep.{BoardStep}
 use Rattle.trace_model.specs.declared.messages.step.BoardStep.TheVariants.{Accept, Open}
 use Rattle.trace_model.specs.declared.messages.session.Request.TheVariants.{Offer, Ask}
-use Rattle.trace_model.specs.declared.messages.session.Reply.TheVariants.{Refused}
+use Rattle.trace_model.specs.declared.messages.session.Reply.TheVariants.{Placed, Refused}
 use Rattle.trace_model.specs.Theory.Trace.{Trace}
 use Rattle.trace_model.specs.Theory.Lawful.{refusal_of}
 use Rattle.trace_model.specs.Protocol.Batches.{IsBatch}
@@ -81,6 +81,20 @@ takes_ask s now next bound asked opened shown same none replies is =
     let told : ask_reply s None ≡ opened_reply opened = ap (ask_reply s) (sym none) ∙ ((λ i. (step printing (before i) (Ask (given i))).0) ∙ replies) in
     let total : length (dependencies s.accepted) ≡ opened.total = cc told in
     (none, sym total, is ∙ (λ i. with_question (shown i) (same i)))
+
+-- ---- what it answers
+
+pub steps_offer : (s now next : State) (e : Event) (place : ℕ) → now ≡ s → refusal_of s.limit s.accepted e ≡ None → place ≡ length now.accepted → next ≡ with_event now e →
+    step printing s (Offer e) ≡ (Placed place, next)
+steps_offer s now next e place shown none at is =
+    ap (λ o. (offer_reply s o, offer_next s e o)) none
+    ∙ (λ i. (Placed ((ap (λ (x : State). length x.accepted) (sym shown) ∙ sym at) i), (ap (λ (x : State). with_event x e) (sym shown) ∙ sym is) i))
+
+pub steps_ask : (s now next : State) (bound asked : ℕ) (opened : Opened) → now ≡ s → asked ≡ bound → ask_refused s bound ≡ None →
+    (step printing now (Ask asked)).0 ≡ opened_reply opened → next ≡ with_question now asked → step printing s (Ask bound) ≡ (opened_reply opened, next)
+steps_ask s now next bound asked opened shown same none replies is =
+    let told : ask_reply s None ≡ opened_reply opened = ap (ask_reply s) (sym none) ∙ ((λ i. (step printing (sym shown i) (Ask (sym same i))).0) ∙ replies) in
+    ap (λ o. (ask_reply s o, ask_next s bound o)) none ∙ (λ i. (told i, ((λ j. with_question (sym shown j) (sym same j)) ∙ sym is) i))
 
 pub takes_finding : (s next : State) (f : FoundRows) → None ≡ deliver_refused s f.question f.bound f.events f.task → delivery s f ≡ (None, next) →
     AreRowsOf f.events f.bound f.task f.rows → Takes s (delivery_step f) next

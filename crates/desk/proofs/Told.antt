@@ -1,31 +1,37 @@
 -- What a client reads off the board, and is told by the desk.
-use Rattle.std.proofs.Common.{◌≡◌, ℕ, zero, suc, List, [], ◌∷◌, ◌++◌, take, inl, inr, Result, Ok, Err, IfOk, IfErr, refl, sym, ap, subst, ◌∙◌, arith}
+use Rattle.std.proofs.Common.{◌≡◌, ℕ, zero, suc, List, [], ◌∷◌, ◌++◌, ◌<◌, length, take, slice_get, ltb, cond, inl, inr, Option, Some, None, Result, Ok, Err, IfOk, IfErr, refl, sym, ap, subst, ◌∙◌, arith}
+use Rattle.std.proofs.lemmas.Bool.{cond_above, cond_below}
 use Rattle.std.proofs.lemmas.List.{append-nil}
+use Rattle.std.proofs.lemmas.Option.{none-some, same_Some, slice_get_cases}
 use mathlib.Core.List.{IsPrefix}
 use Rattle.trace_model.specs.declared.traces.event.Event.{Event}
 use Rattle.trace_model.specs.declared.limits.TheConstants.{MAX_EVENTS}
 use Rattle.trace_model.specs.declared.messages.session.Reply.{Reply}
 use Rattle.trace_model.specs.declared.messages.session.Reply.TheVariants as replies
 use Rattle.trace_model.specs.declared.messages.session.Request.{Request}
-use Rattle.trace_model.specs.declared.messages.session.Request.TheVariants.{Offer, Answer as AskAnswer, Batch}
+use Rattle.trace_model.specs.declared.messages.session.Request.TheVariants.{Offer, Ask, Answer as AskAnswer, Batch}
 use Rattle.trace_model.specs.declared.messages.step.BoardStep.{BoardStep}
-use Rattle.trace_model.specs.declared.messages.step.BoardStep.TheVariants.{Accept}
+use Rattle.trace_model.specs.declared.messages.step.BoardStep.TheVariants.{Accept, Open}
 use Rattle.trace_model.specs.declared.refusal.Refusal.{Refusal}
+use Rattle.trace_model.specs.declared.refusal.Refusal.TheVariants.{NoSuchQuestion}
 use Rattle.trace_model.specs.declared.traces.place.Place.{Place}
 use Rattle.trace_model.specs.Protocol.Batches.{IsBatch}
 use Rattle.trace_model.specs.Protocol.Machine.{State, step}
 use Rattle.trace_model.specs.Theory.Trace.{Trace}
 use Rattle.trace_model.specs.Theory.Rows.{AreRows}
 use Rattle.trace_model.specs.Protocol.Runs as runs
-use Rattle.trace_model.specs.Protocol.Runs.{IsLegal, summary, shown_status}
+use Rattle.trace_model.specs.Protocol.Runs.{IsLegal, Shown, summary, shown_status, shown_status_of}
 use Rattle.trace_model.proofs.Protocol.Summary.{summary_is_state}
 use Rattle.trace_model.proofs.Protocol.Taking.{status_shown}
-use Rattle.board.specs.Totals.{ShowsCounts, Shows}
+use Rattle.board.specs.Totals.{ShowsCounts, Shows, shown_as}
+use Rattle.board.specs.declared.summary.QuestionSummary.{QuestionSummary}
 use Rattle.board.specs.declared.summary.Summary.{Summary}
 use Rattle.sequencer.specs.declared.answering.Answer.{Answer}
 use Rattle.sequencer.specs.declared.answering.AnswerRefused.{AnswerRefused}
+use Rattle.sequencer.specs.declared.asking.AskRefused.{AskRefused}
+use Rattle.sequencer.specs.declared.asking.Opened.{Opened}
 use Rattle.sequencer.specs.declared.batching.Batched.{Batched}
-use Rattle.sequencer.specs.Book.{Refuses, answer_refusal, answer_reply}
+use Rattle.sequencer.specs.Book.{Refuses, answer_refusal, answer_reply, ask_refusal, opened_reply}
 use Rattle.sequencer.specs.Printing.{printing}
 use Rattle.sequencer.specs.Called.{StepsOrMemory}
 use Rattle.sequencer.proofs.Called.{batch_steps}
@@ -33,6 +39,55 @@ use Rattle.desk.specs.Batches.{EndsByBatch, accepting}
 use Rattle.desk.specs.Published.{After, Afterwards, EndsBy}
 use Rattle.desk.proofs.Steps.{accepting_some}
 use Rattle.desk.specs.Clients.{IsStatus, IsTold, RepliesAfter}
+
+-- what the board shows of a question, by its number
+abbrev Finds : Summary → ℕ → Option QuestionSummary → Type 0
+Finds s question found = found ≡ cond (ltb question s.opened) (slice_get s.questions question) None
+
+-- of a question that is counted it shows what is counted
+shown_there : (s : Summary) (counts : runs.Summary) (question : ℕ) (q : Shown) (found : Option QuestionSummary) → ShowsCounts s counts → Finds s question found → slice_get counts.questions question ≡ Some q →
+    question < length counts.questions → found ≡ Some (shown_as q)
+shown_there s counts question q found shows finds there within =
+    finds ∙ (sym (cond_below question s.opened _ None (omega (arith, within, shows.opened))) ∙ shows.each question q there)
+
+-- the reply to a status where the board shows the question
+pub status_some : (s : Summary) (counts : runs.Summary) (question : ℕ) (asked : QuestionSummary) (found : Option QuestionSummary) → Finds s question found → found ≡ Some asked → ShowsCounts s counts →
+    replies.Status (record {
+      question = question;
+      accepted = s.accepted;
+      opened = s.opened;
+      length = asked.length;
+      bound = asked.bound;
+      total = asked.total;
+      delivered = asked.delivered;
+      cycles = asked.cycles;
+      confirmed = asked.confirmed;
+    }) ≡ shown_status counts question
+status_some s counts question asked found finds is shows = elim (slice_get_cases counts.questions question).1 [
+  | inl (q, within, there, _) ↦
+      let same : asked ≡ shown_as q = same_Some asked (shown_as q) (sym is ∙ shown_there s counts question q found shows finds there within) in
+      (λ i. replies.Status (record {
+        question = question;
+        accepted = shows.accepted i;
+        opened = shows.opened i;
+        length = ap (λ (a : QuestionSummary). a.length) same i;
+        bound = ap (λ (a : QuestionSummary). a.bound) same i;
+        total = ap (λ (a : QuestionSummary). a.total) same i;
+        delivered = ap (λ (a : QuestionSummary). a.delivered) same i;
+        cycles = ap (λ (a : QuestionSummary). a.cycles) same i;
+        confirmed = ap (λ (a : QuestionSummary). a.confirmed) same i;
+      })) ∙ ap (shown_status_of counts question) (sym there)
+  | inr (past, none) ↦
+      absurd (none-some asked (cond_above question s.opened (slice_get s.questions question) None None (omega (arith, past, shows.opened)) refl ∙ (sym finds ∙ is)))
+]
+
+-- and where it shows none
+pub status_none : (s : Summary) (counts : runs.Summary) (question : ℕ) (found : Option QuestionSummary) → Finds s question found → found ≡ None → ShowsCounts s counts →
+    replies.Refused NoSuchQuestion ≡ shown_status counts question
+status_none s counts question found finds is shows = elim (slice_get_cases counts.questions question).1 [
+  | inl (q, within, there, _) ↦ absurd (none-some (shown_as q) (sym is ∙ shown_there s counts question q found shows finds there within))
+  | inr (past, none) ↦ ap (shown_status_of counts question) (sym none)
+]
 
 -- the status that is shown is the machine's
 pub told_status : (s : Summary) (question : ℕ) (reply : Reply) (old new : List BoardStep) → IsLegal new → Shows s new → ((counts : runs.Summary) → ShowsCounts s counts → reply ≡ shown_status counts question) → IsStatus old question reply new
@@ -78,6 +133,9 @@ told_batch limit run seen events b some learnt h = record {
 abbrev WasPlaced : ℕ → List BoardStep → Event → Place → Type 0
 WasPlaced limit run event place = EndsBy limit run (Accept (event ∷ [])) (λ state next. step printing state (Offer event) ≡ (replies.Placed place, next))
 
+abbrev WasOpened : ℕ → List BoardStep → ℕ → Opened → Type 0
+WasOpened limit run bound opened = EndsBy limit run (Open bound opened.total) (λ state next. step printing state (Ask bound) ≡ (opened_reply opened, next))
+
 abbrev WasRefused : ℕ → List BoardStep → Request → Refusal → Type 0
 WasRefused limit run request refusal = Afterwards limit run (λ state. Refuses state request (replies.Refused refusal))
 
@@ -114,6 +172,26 @@ pub told_no_answer : (limit : ℕ) (run seen : List BoardStep) (question : ℕ) 
 told_no_answer limit run seen question result refused refusal learnt is same h =
     let (state, after, refuses) = subst (λ r. IfErr r (λ x. WasRefused limit run (AskAnswer question) (answer_refusal x))) is h in
     subst (λ (r : Refusal). IsTold limit (AskAnswer question) (replies.Refused r) seen) (sym same) (record {
+      run = run;
+      learnt = learnt;
+      replies = (state, after, elim refuses [ inl machine ↦ inl machine | inr (memory, accepted) ↦ inr (memory, refl, accepted) ]);
+    })
+
+pub told_opened : (limit : ℕ) (run seen : List BoardStep) (bound : ℕ) (result : Result Opened AskRefused) (opened : Opened) (reply : Reply) → IsPrefix run seen → result ≡ Ok opened → reply ≡ opened_reply opened →
+    IfOk result (WasOpened limit run bound) → IsTold limit (Ask bound) reply seen
+told_opened limit run seen bound result opened reply learnt is same h =
+    let e : WasOpened limit run bound opened = subst (λ r. IfOk r (WasOpened limit run bound)) is h in
+    subst (λ (r : Reply). IsTold limit (Ask bound) r seen) (sym same) (record {
+      run = run;
+      learnt = learnt;
+      replies = record { before = e.before; state = e.state; next = e.next; ends = e.ends; was = e.was; is = e.is; took = inl e.took };
+    })
+
+pub told_unopened : (limit : ℕ) (run seen : List BoardStep) (bound : ℕ) (result : Result Opened AskRefused) (refused : AskRefused) (refusal : Refusal) → IsPrefix run seen → result ≡ Err refused → refusal ≡ ask_refusal refused →
+    IfErr result (λ r. WasRefused limit run (Ask bound) (ask_refusal r)) → IsTold limit (Ask bound) (replies.Refused refusal) seen
+told_unopened limit run seen bound result refused refusal learnt is same h =
+    let (state, after, refuses) = subst (λ r. IfErr r (λ x. WasRefused limit run (Ask bound) (ask_refusal x))) is h in
+    subst (λ (r : Refusal). IsTold limit (Ask bound) (replies.Refused r) seen) (sym same) (record {
       run = run;
       learnt = learnt;
       replies = (state, after, elim refuses [ inl machine ↦ inl machine | inr (memory, accepted) ↦ inr (memory, refl, accepted) ]);

@@ -165,30 +165,17 @@ impl<N: Naming, R: Wait + Copy, T: Follows<N>> Locked<N, R, T> {
         ensures legal { IsLegal self.new.published }
     {
         if let Err(refusal) = self.book.admit(&events[0]) {
-            return (self.none_of(refusal), self.board.receipt());
+            return (none_of(&self.book, refusal), self.board.receipt());
         }
         let Some(batch) = EventBatch::new(events) else {
             unreachable!();
         };
         let Ok(()) = self.board.grow(BoardStep::Accept(batch)) else {
-            return (self.none_of(Refusal::NoMemory), self.board.receipt());
+            return (none_of(&self.book, Refusal::NoMemory), self.board.receipt());
         };
         let batched = self.book.accept_batch(events);
         self.board.keep(usize::from(batched.accepted));
         (batched, publish(&mut self.board))
-    }
-
-    /// What became of a batch of which this refuses the first event.
-    fn none_of(&self, refusal: Refusal) -> Batched
-        ensures accepted { result.accepted ≡ 0 }
-        ensures refusal { result.refusal ≡ Some refusal }
-        ensures length { result.length ≡ length self.now.state.accepted }
-    {
-        Batched {
-            accepted: 0,
-            refusal: Some(refusal),
-            length: self.book.len() as u32,
-        }
     }
 
     /// Asks about the present events. An opened question is published. The receipt names all that
@@ -384,6 +371,19 @@ impl<N: Naming, R: Wait + Copy, T: Follows<N>> Locked<N, R, T> {
         ensures refused { IfErr result (λ _. slice_get self.now.state.questions question ≡ None) }
     {
         self.book.missing(question)
+    }
+}
+
+/// What became of a batch of which this refuses the first event.
+fn none_of(book: &Book, refusal: Refusal) -> Batched
+    ensures accepted { result.accepted ≡ 0 }
+    ensures refusal { result.refusal ≡ Some refusal }
+    ensures length { result.length ≡ length book.now.state.accepted }
+{
+    Batched {
+        accepted: 0,
+        refusal: Some(refusal),
+        length: book.len() as u32,
     }
 }
 

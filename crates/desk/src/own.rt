@@ -15,10 +15,15 @@ use trace_model::Bound;
 
 /// The job of a question of the desk, with a receipt after which the question was open. Contracts
 /// see it as the job.
-#[derive(Drop)]
 pub(crate) struct OwnJob<N: Naming> {
     job: Job,
     receipt: Receipt<N>,
+}
+
+impl<N: Naming> Drop for OwnJob<N> {
+    fn drop(self) {
+        let OwnJob { job: _, receipt: _ } = self;
+    }
 }
 
 impl<N: Naming> Model for OwnJob<N> {
@@ -71,10 +76,18 @@ impl<N: Naming> OwnJob<N> {
 
 /// The rows of a task of a question of the desk, with a receipt after which the question was open.
 /// Contracts see it as the finding.
-#[derive(Drop)]
 pub(crate) struct OwnFinding<N: Naming> {
     finding: Finding,
     receipt: Receipt<N>,
+}
+
+impl<N: Naming> Drop for OwnFinding<N> {
+    fn drop(self) {
+        let OwnFinding {
+            finding: _,
+            receipt: _,
+        } = self;
+    }
 }
 
 impl<N: Naming> Model for OwnFinding<N> {

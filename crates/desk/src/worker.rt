@@ -123,11 +123,17 @@ impl<N: Naming, R: Wait + Copy, T: Follows<N>> Worker<N, R, T> {
             drop(self.job.take());
             return Turn::Idle;
         };
-        let Some(picked) = self.pick(number, shown.total) else {
+        let Some(picked) = pick(&self.desk, &mut self.claimant, number, shown.total) else {
             return Turn::Idle;
         };
         let question = u32::from(number);
-        match self.compute(question, shown.bound, picked.task) {
+        match compute(
+            &self.desk,
+            &mut self.job,
+            question,
+            shown.bound,
+            picked.task,
+        ) {
             Ok(own) => {
                 hold.hold(question, picked.task);
                 self.deliver(own)
@@ -138,51 +144,6 @@ impl<N: Naming, R: Wait + Copy, T: Follows<N>> Worker<N, R, T> {
                 }
                 turn
             }
-        }
-    }
-
-    /// A task of the question that no other worker drew, or the least missing one.
-    fn pick(&mut self, question: u8, total: u32) -> Option<Picked>
-        ensures { self.new ≡ self.old }
-    {
-        if let Ok(number) = self.claimant.draw(question)
-            && number < u64::from(total)
-        {
-            return Some(Picked {
-                task: number as u32,
-                left: false,
-            });
-        }
-        let task = self.desk.missing(u32::from(question)).0.ok().flatten()?;
-        Some(Picked { task, left: true })
-    }
-
-    /// The job of the question: the one that it has, or a new one in its place.
-    fn job_of(&mut self, question: u32, bound: Bound) -> Result<OwnJob<N>, Turn>
-        ensures same { self.new ≡ self.old }
-        ensures refused { IfErr result (λ turn. turn ≢ Turn.Delivered) }
-    {
-        match self.job.take() {
-            Some(job) if job.question() == question => Ok(job),
-            other => {
-                drop(other);
-                self.desk.own_job(question, bound).map_err(refused)
-            }
-        }
-    }
-
-    /// Computes the rows of the task, with the lock free.
-    fn compute(&mut self, question: u32, bound: Bound, task: u32) -> Result<OwnFinding<N>, Turn>
-        ensures same { self.new ≡ self.old }
-        ensures refused { IfErr result (λ turn. turn ≢ Turn.Delivered) }
-    {
-        let mut job = self.job_of(question, bound)?;
-        let found = job.compute(task);
-        drop(self.job.replace(job));
-        match found {
-            Ok(own) => Ok(own),
-            Err(ComputeRefused::TooManyCycles) => Err(Turn::Failed(Failed::TooManyCycles)),
-            Err(ComputeRefused::NoMemory) => Err(Turn::Failed(Failed::NoMemory)),
         }
     }
 
@@ -200,6 +161,63 @@ impl<N: Naming, R: Wait + Copy, T: Follows<N>> Worker<N, R, T> {
                 refused(refusal)
             }
         }
+    }
+}
+
+/// A task of the question that no other worker drew, or the least missing one.
+fn pick<N: Naming, R: Wait + Copy, T: Follows<N>>(
+    desk: &Desk<N, R, T>,
+    claimant: &mut Claimant,
+    question: u8,
+    total: u32,
+) -> Option<Picked> {
+    if let Ok(number) = claimant.draw(question)
+        && number < u64::from(total)
+    {
+        return Some(Picked {
+            task: number as u32,
+            left: false,
+        });
+    }
+    let task = desk.missing(u32::from(question)).0.ok().flatten()?;
+    Some(Picked { task, left: true })
+}
+
+/// The job of the question: the one that was kept, or a new one in its place.
+fn job_of<N: Naming, R: Wait + Copy, T: Follows<N>>(
+    desk: &Desk<N, R, T>,
+    kept: &mut Option<OwnJob<N>>,
+    question: u32,
+    bound: Bound,
+) -> Result<OwnJob<N>, Turn>
+    ensures { IfErr result (λ turn. turn ≢ Turn.Delivered) }
+{
+    match kept.take() {
+        Some(job) if job.question() == question => Ok(job),
+        other => {
+            drop(other);
+            desk.own_job(question, bound).map_err(refused)
+        }
+    }
+}
+
+/// Computes the rows of the task, with the lock free, and keeps the job.
+fn compute<N: Naming, R: Wait + Copy, T: Follows<N>>(
+    desk: &Desk<N, R, T>,
+    kept: &mut Option<OwnJob<N>>,
+    question: u32,
+    bound: Bound,
+    task: u32,
+) -> Result<OwnFinding<N>, Turn>
+    ensures { IfErr result (λ turn. turn ≢ Turn.Delivered) }
+{
+    let mut job = job_of(desk, kept, question, bound)?;
+    let found = job.compute(task);
+    drop(kept.replace(job));
+    match found {
+        Ok(own) => Ok(own),
+        Err(ComputeRefused::TooManyCycles) => Err(Turn::Failed(Failed::TooManyCycles)),
+        Err(ComputeRefused::NoMemory) => Err(Turn::Failed(Failed::NoMemory)),
     }
 }
 

@@ -5,6 +5,7 @@ use Rattle.std.specs.Char.{is_ascii_digit}
 use Rattle.std.specs.Str.Parse.{AllDigits}
 use Rattle.std.proofs.lemmas.Bool.{lt-ltb}
 use Rattle.std.proofs.lemmas.Bool.Decides.{nat_tests}
+use Rattle.std.proofs.lemmas.List.{take-append-drop, drop_more}
 use Rattle.std.proofs.lemmas.Str.Parse.{digit_from_value}
 use Rattle.std.proofs.lemmas.Fmt.{decimal_is_IsNumeral}
 use Rattle.trace_model.specs.declared.traces.event.Event.{Event}
@@ -65,3 +66,9 @@ taken_apart word e small is =
       letter = p.letter;
       object = ap (λ k. drop k (event_word e)) next ∙ p.after;
     })
+
+-- a word is an event's whose thread stands before a place, its letter there and its object after
+pub word_is : (word : List ℕ) (e : Event) (place : ℕ) → place < length word → take place word ≡ decimal e.thread → get_or word place 0 ≡ letter_of e.op →
+    drop (place + 1) word ≡ decimal (object_of e.op) → word ≡ event_word e
+word_is word e place within thread letter object =
+    sym (take-append-drop place word) ∙ ap (λ back. take place word ++ back) (drop_more word place 0 within) ∙ (λ i. thread i ++ letter i ∷ object i)

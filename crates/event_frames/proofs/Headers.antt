@@ -1,10 +1,11 @@
 -- A frame by the places of its bytes.
-use Rattle.std.proofs.Common.{◌≡◌, ℕ, ◌+◌, ◌-◌, ◌≤◌, Bool, true, false, cond, eqb, ltb, List, [], ◌∷◌, length, get_or, drop, Option, Some, None, Ok, ap, ◌∙◌, arith}
+use Rattle.std.proofs.Common.{◌≡◌, ℕ, ◌+◌, ◌-◌, ◌≤◌, Bool, true, false, cond, not, eqb, ltb, List, [], ◌∷◌, length, get_or, drop, Option, Some, None, Ok, sym, ap, ◌∙◌, arith}
 use Rattle.std.specs.Int.{w16, from_be_bytes}
-use Rattle.std.proofs.lemmas.Bool.{le-ltb}
+use Rattle.std.proofs.lemmas.Bool.{le-ltb, ne_eqb}
 use Rattle.std.proofs.lemmas.Bool.Decides.{nat_tests}
 use Rattle.std.proofs.lemmas.List.{drop-drop}
 use Rattle.trace_model.specs.declared.messages.session.Fault.{Fault}
+use Rattle.trace_model.specs.declared.messages.session.Fault.TheVariants.{BadKind, BadLength}
 use Rattle.trace_model.proofs.Protocol.Leading.{no_header_fault}
 use Rattle.trace_model.specs.Protocol.Frames.{ok_unless, is_kind, is_length_of, fields_fault, header_fault, whole_frame, leading_of, request_of}
 
@@ -26,6 +27,18 @@ header_is (high ∷ low ∷ kind ∷ fields) long h =
     let len = from_be_bytes w16 (high ∷ low ∷ []) in
     let p = no_header_fault (eqb len 0) (is_kind kind) (is_length_of kind len) (fields_fault kind len fields) h in
     record { known = p.0; right = p.1; sound = p.2 }
+
+-- an unknown kind shows where the length is there and not 0
+pub unknown_kind : (bytes : List ℕ) (len : ℕ) → 3 ≤ length bytes → len ≡ len_at bytes → (len ≡ 0 → ⊥) → is_kind (get_or bytes 2 0) ≡ false → Some BadKind ≡ header_fault bytes
+unfolding header_fault
+unknown_kind [] len long is some unknown = absurd (omega arith)
+unknown_kind (a ∷ []) len long is some unknown = absurd (omega arith)
+unknown_kind (a ∷ b ∷ []) len long is some unknown = absurd (omega arith)
+unknown_kind (high ∷ low ∷ kind ∷ fields) len long is some unknown =
+    let n = from_be_bytes w16 (high ∷ low ∷ []) in
+    let after : Bool → Option Fault = λ b. cond (not b) (Some BadKind) (cond (not (is_length_of kind n)) (Some BadLength) (fields_fault kind n fields)) in
+    let there : eqb n 0 ≡ false = ap (λ m. eqb m 0) (sym is) ∙ ne_eqb len 0 some in
+    sym (ap (λ (b : Bool). cond b (Some BadLength) (after (is_kind kind))) there ∙ ap after unknown)
 
 length_positive : (kind len : ℕ) → is_length_of kind len ≡ true → 2 ≤ len
 length_positive kind len right = grind (arith, nat_tests)

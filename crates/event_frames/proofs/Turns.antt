@@ -1,7 +1,9 @@
 -- What a call of next answers and leaves, by what stands first in the rest.
-use Rattle.std.proofs.Common.{◌≡◌, ℕ, ◌+◌, ◌-◌, ◌<◌, Bool, true, false, List, [], ◌∷◌, ◌++◌, length, take, drop, Option, Some, None, Ok, Err, refl, ap, subst, ◌∙◌, arith}
+use Rattle.std.proofs.Common.{◌≡◌, ℕ, ◌+◌, ◌-◌, ◌<◌, ◌≤◌, Bool, true, false, List, [], ◌∷◌, ◌++◌, length, take, drop, Option, Some, None, Ok, Err, refl, ap, subst, ◌∙◌, arith}
 use Rattle.std.specs.Prelude.{IsSome}
+use Rattle.std.specs.List.{copy_within}
 use Rattle.std.proofs.lemmas.List.{drop-drop, take_all, length-drop}
+use Rattle.std.proofs.lemmas.List.Edits.{take-paste}
 use Rattle.trace_model.specs.declared.messages.session.Request.{Request}
 use Rattle.trace_model.specs.declared.messages.session.Fault.{Fault}
 use Rattle.trace_model.specs.declared.messages.session.Fault.TheVariants.{Truncated}
@@ -15,6 +17,17 @@ rest_is bytes start = take_all (length bytes - start) (drop start bytes) (omega 
 
 pub rest_at : (slice bytes : List ℕ) (start : ℕ) → slice ≡ bytes → take (length slice - start) (drop start slice) ≡ drop start bytes
 rest_at slice bytes start e = subst (λ (b : List ℕ). take (length slice - start) (drop start slice) ≡ drop start b) e (rest_is slice start)
+
+-- the bytes from a place on, once they were moved to the front and what follows them was cut off
+pub moved_rest : (bytes moved cut : List ℕ) (start end : ℕ) → start ≤ end → end ≡ length bytes → moved ≡ copy_within bytes start end 0 → cut ≡ take (end - start) moved → cut ≡ drop start bytes
+moved_rest bytes moved cut start end within all moves cuts =
+    let long = length-drop start bytes in
+    let front : end - start ≡ 0 + (end - start) = omega arith in
+    cuts
+    ∙ ap (take (end - start)) moves
+    ∙ ap (λ n. take n (copy_within bytes start end 0)) front
+    ∙ take-paste bytes 0 (drop start bytes) (end - start) (omega arith) (omega (arith, all, long))
+    ∙ take_all (end - start) (drop start bytes) (omega (arith, all, long))
 
 abbrev pub reading : List ℕ → Bool → Option Fault → ℕ → ℕ → Reading
 reading rest ended told buffered capacity = record { rest = rest; ended = ended; told = told; buffered = buffered; capacity = capacity }

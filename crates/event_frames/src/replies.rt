@@ -1,5 +1,5 @@
 //! Replies as bytes.
-ghost use Rattle.std.specs.Prelude.{◌≡◌, ◌+◌, ◌++◌, ◌≤◌, ◌<◌, ◌∷◌, length, OnOk, OnErr, IfOk, IsOk, vec_len, vec_capacity};
+ghost use Rattle.std.specs.Prelude.{◌≡◌, ◌+◌, ◌++◌, ◌≤◌, ◌<◌, ◌∷◌, length, slice_index, OnOk, OnErr, IfOk, IsOk, vec_len, vec_capacity};
 ghost use Rattle.std.specs.Int.{w32, w64, to_be_bytes};
 ghost use Rattle.trace_model.specs.Protocol.Replies.{reply_body, reply_frame, fault_number, refusal_number, three_words, status_fields, IsReply};
 
@@ -43,8 +43,7 @@ fn put_words(out: &mut Vec<u8>, first: u32, second: u32, third: u32) -> Result<(
 {
     out.extend_from_slice(&first.to_be_bytes())?;
     out.extend_from_slice(&second.to_be_bytes())?;
-    out.extend_from_slice(&third.to_be_bytes())?;
-    Ok(())
+    out.extend_from_slice(&third.to_be_bytes())
 }
 
 /// Adds what was counted of a question at the end.
@@ -57,12 +56,10 @@ fn put_counts(out: &mut Vec<u8>, status: &QuestionStatus) -> Result<(), AllocErr
     out.extend_from_slice(&status.total.to_be_bytes())?;
     out.extend_from_slice(&status.delivered.to_be_bytes())?;
     out.extend_from_slice(&status.cycles.to_be_bytes())?;
-    out.extend_from_slice(&status.confirmed.to_be_bytes())?;
-    Ok(())
+    out.extend_from_slice(&status.confirmed.to_be_bytes())
 }
 
 /// Adds the fields of a status at the end.
-#[tactic(auto, unfolding(trace_model::specs::Protocol::Replies::status_fields))]
 fn put_status(out: &mut Vec<u8>, status: &QuestionStatus) -> Result<(), AllocError>
     ensures ok { OnOk result (out.new.items ≡ out.old.items ++ status_fields status.now) }
     ensures room { vec_len out.old + 41 ≤ vec_capacity out.old → IsOk result }
@@ -70,8 +67,7 @@ fn put_status(out: &mut Vec<u8>, status: &QuestionStatus) -> Result<(), AllocErr
     put_words(out, status.question, status.accepted, status.opened)?;
     out.extend_from_slice(&status.length.to_be_bytes())?;
     out.push(status.bound.get())?;
-    put_counts(out, status)?;
-    Ok(())
+    put_counts(out, status)
 }
 
 /// The number of what refuses an event, 0 for none.
@@ -95,70 +91,58 @@ fn put_batched(
         (accepted ∷ refusal_number refusal ∷ to_be_bytes w32 length)) }
     ensures room { vec_len out.old + 6 ≤ vec_capacity out.old → IsOk result }
 {
-    out.push(accepted)?;
-    out.push(refusal_number(refusal))?;
-    out.extend_from_slice(&length.to_be_bytes())?;
-    Ok(())
+    out.extend_from_slice(&[accepted, refusal_number(refusal)])?;
+    out.extend_from_slice(&length.to_be_bytes())
+}
+
+/// The number of the reply's kind, which its body begins with.
+fn kind_number(reply: &Reply) -> u8
+    ensures { result ≡ slice_index (reply_body reply.now) 0 }
+{
+    match reply {
+        Reply::Placed(_) => 65,
+        Reply::Refused(_) => 66,
+        Reply::Opened { .. } => 67,
+        Reply::Pending { .. } => 68,
+        Reply::Report { .. } => 69,
+        Reply::Status(_) => 70,
+        Reply::Fault(_) => 71,
+        Reply::Batched { .. } => 72,
+    }
 }
 
 /// Adds the body of a reply's frame at the end.
-#[tactic(auto, unfolding(trace_model::specs::Protocol::Replies::three_words, trace_model::specs::Protocol::Replies::status_fields))]
 fn put_body(out: &mut Vec<u8>, reply: &Reply) -> Result<(), AllocError>
     requires { IsReply reply.now }
     ensures ok { OnOk result (out.new.items ≡ out.old.items ++ reply_body reply.now) }
     ensures room { vec_len out.old + length (reply_body reply.now) ≤ vec_capacity out.old →
         IsOk result }
 {
+    out.extend_from_slice(&[kind_number(reply)])?;
     match reply {
-        Reply::Placed(place) => {
-            out.push(65)?;
-            out.extend_from_slice(&place.get().to_be_bytes())?;
-            Ok(())
-        }
-        Reply::Refused(refusal) => {
-            out.push(66)?;
-            out.push(refusal.number())?;
-            Ok(())
-        }
+        Reply::Placed(place) => out.extend_from_slice(&place.get().to_be_bytes()),
+        Reply::Refused(refusal) => out.extend_from_slice(&[refusal.number()]),
         Reply::Opened {
             question,
             length,
             total,
-        } => {
-            out.push(67)?;
-            put_words(out, *question, *length, *total)
-        }
+        } => put_words(out, *question, *length, *total),
         Reply::Pending {
             question,
             delivered,
             total,
-        } => {
-            out.push(68)?;
-            put_words(out, *question, *delivered, *total)
-        }
+        } => put_words(out, *question, *delivered, *total),
         Reply::Report { question, text } => {
-            out.push(69)?;
             out.extend_from_slice(&question.to_be_bytes())?;
-            out.extend_from_slice(text.as_slice())?;
-            Ok(())
+            out.extend_from_slice(text.as_slice())
         }
-        Reply::Status(status) => {
-            out.push(70)?;
-            put_status(out, status)
-        }
-        Reply::Fault(fault) => {
-            out.push(71)?;
-            out.push(fault_number(*fault))?;
-            Ok(())
-        }
+        Reply::Status(status) => put_status(out, status),
+        Reply::Fault(fault) => out.extend_from_slice(&[fault_number(*fault)]),
         Reply::Batched {
             accepted,
             refusal,
             length,
-        } => {
-            out.push(72)?;
-            put_batched(out, *accepted, *refusal, *length)
-        }
+        } => put_batched(out, *accepted, *refusal, *length),
     }
 }
 

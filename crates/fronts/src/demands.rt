@@ -143,7 +143,7 @@ fn classes_by(alloc: Global, index: &TraceIndex, shared: Shared) -> Result<Class
     let mut count = 0;
     for place in 0..index.len() {
         let slot = slot_by(index, of.as_slice(), place, count, shared);
-        of.push(slot)?;
+        of.push_reserved(slot);
         count = next_count(slot, count);
     }
     Ok(Classes { of, count })
@@ -315,7 +315,7 @@ fn no_items(alloc: Global, count: u32) -> Result<Vec<Vec<Item>>, NoMemory>
 {
     let mut lists = Vec::with_capacity(alloc, count as usize)?;
     for _slot in 0..count {
-        lists.push(Vec::new(alloc))?;
+        lists.push_reserved(Vec::new(alloc));
     }
     Ok(lists)
 }
@@ -350,7 +350,7 @@ fn fill(
             &mut lists[stand.slot as usize],
             place,
         )?;
-        stands.push(stand)?;
+        stands.push_reserved(stand);
     }
     Ok(Arc::new(alloc, stands)?)
 }

@@ -24,12 +24,8 @@ impl<T: Copy + Drop> Sheet<T> {
     pub(crate) fn new(alloc: Global, count: usize, blank: T) -> Result<Sheet<T>, NoMemory>
         ensures { IfOk result (IsBlank count) }
     {
-        let mut values = Vec::new(alloc);
-        let mut stamps = Vec::new(alloc);
-        for _entry in 0..count {
-            values.push(blank)?;
-            stamps.push(0)?;
-        }
+        let stamps = vec![in alloc; 0; count]?;
+        let values = vec![in alloc; blank; count]?;
         Ok(Sheet {
             values,
             stamps,

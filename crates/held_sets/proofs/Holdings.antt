@@ -5,7 +5,7 @@ use Rattle.std.proofs.lemmas.List.Kept.{IsStrictlyIncreasing-filter}
 use Rattle.std.proofs.lemmas.Option.{none-some, same_Some}
 use Rattle.std.specs.List.{AllByRecursion, refill, remove}
 use Rattle.std.specs.List.Sorted.{IsStrictlyIncreasing}
-use Rattle.trace_model.specs.declared.traces.event.Op.TheVariants.{Release}
+use Rattle.trace_model.specs.declared.traces.event.Op.TheVariants.{Acquire, Release}
 use Rattle.trace_model.specs.Theory.Held.{has, with_lock, without_lock}
 use Rattle.trace_model.proofs.Theory.HeldAscends.{Above, Ascends, above_lower}
 use Rattle.trace_model.proofs.Theory.Depths.{above_lacks, with-known}
@@ -287,6 +287,17 @@ changed_nothing l n ds is none lacks = subst (λ k. HasDepth ds l k ds) (sym non
 
 pub seen : (ds base new : List LockDepth) (l n : ℕ) → ds ≡ base → HasDepth ds l n new → HasDepth base l n new
 seen ds base new l n same h = subst (λ old. HasDepth old l n new) same h
+
+-- an acquire puts 1 on
+pub acquired : (ds new : List LockDepth) (l n : ℕ) → n ≡ suc (depth_of ds l) → HasDepth ds l n new → IsHeldAfter ds (Acquire l) new
+acquired ds new l n more h = record {
+  locks = h.locks ∙ ap (λ c. cond c (without_lock l (locks_of ds)) (with_lock l (locks_of ds))) (ne_eqb n 0 (λ none. omega (arith, none, more)));
+  depths = λ m. h.depths m ∙ one m (l == m) refl;
+}
+  where
+    one : (m : ℕ) (b : Bool) → (l == m) ≡ b → cond b n (depth_of ds m) ≡ cond b (suc (depth_of ds m)) (depth_of ds m)
+    one m true e = more ∙ ap (λ k. suc (depth_of ds k)) (eqb-true l m e)
+    one m false e = refl
 
 -- a release takes 1 off
 pub released : (ds new : List LockDepth) (l n : ℕ) → n ≡ depth_of ds l - 1 → HasDepth ds l n new → IsHeldAfter ds (Release l) new

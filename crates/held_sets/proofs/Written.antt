@@ -1,5 +1,5 @@
 -- What a thread holds, written anew.
-use Rattle.std.proofs.Common.{◌≡◌, ℕ, Bool, true, false, cond, nat_eq, ◌==◌, ◌-◌, List, [], Option, Some, unwrap_or, refl, sym, ap, subst, ◌∙◌}
+use Rattle.std.proofs.Common.{◌≡◌, ℕ, Bool, true, false, cond, nat_eq, ◌==◌, ◌-◌, List, [], Option, Some, None, unwrap_or, refl, sym, ap, subst, ◌∙◌}
 use Rattle.std.proofs.lemmas.Bool.{eqb-true}
 use Rattle.trace_model.specs.declared.traces.event.Op.{Op}
 use Rattle.trace_model.specs.declared.traces.event.Op.TheVariants.{Release}
@@ -9,6 +9,15 @@ use Rattle.held_sets.specs.Tables.{Table, locks_of, depth_of, IsHeldAfter, holdi
 
 pub written : (t u : ℕ) (o : Option (List LockDepth)) (x : List LockDepth) → unwrap_or (cond (nat_eq t u) (Some x) o) [] ≡ cond (nat_eq t u) x (unwrap_or o [])
 written t u o x = elim (nat_eq t u) as (λ b. unwrap_or (cond b (Some x) o) [] ≡ cond b x (unwrap_or o [])) [ true ↦ refl | false ↦ refl ]
+
+-- an entry with no lock shows as none does
+pub still_empty : (t u : ℕ) (before after : Option (List LockDepth)) (x : List LockDepth) → x ≡ [] → (nat_eq t u ≡ true → before ≡ None) → after ≡ cond (nat_eq t u) (Some x) before →
+    unwrap_or after [] ≡ unwrap_or before []
+still_empty t u before after x empty none is = ap (λ o. unwrap_or o []) is ∙ shows (nat_eq t u) refl
+  where
+    shows : (b : Bool) → nat_eq t u ≡ b → unwrap_or (cond b (Some x) before) [] ≡ unwrap_or before []
+    shows true e = empty ∙ ap (λ o. unwrap_or o []) (sym (none e))
+    shows false e = refl
 
 -- a table in which one thread's holding is the old one after the thread did this
 pub after_from : (old base new : Table) (t : ℕ) (o : Op) (x : List LockDepth) → old ≡ base → ((u : ℕ) → holding_in new u ≡ cond (nat_eq t u) x (holding_in old u)) →

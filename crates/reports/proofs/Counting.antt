@@ -1,7 +1,8 @@
 -- What a report counts, task by task.
-use Rattle.std.proofs.Common.{◌≡◌, ℕ, ◌+◌, ◌≤◌, ◌<◌, Bool, List, [], ◌∷◌, ◌++◌, length, flat_map, count_by, sum_by, refl, sym, ap, ◌∙◌, ◌-◌, arith, length-append, cond}
+use Rattle.std.proofs.Common.{◌≡◌, ℕ, ◌+◌, ◌≤◌, ◌<◌, Bool, List, [], ◌∷◌, ◌++◌, length, get_or, take, flat_map, count_by, sum_by, refl, sym, ap, ◌∙◌, ◌-◌, arith, length-append, cond}
 use Rattle.std.proofs.lemmas.List.Concat.{flat_map-append, flat_map-cons}
-use Rattle.std.proofs.lemmas.List.Sums.{sum_by-append, sum_by-cons, count_by-le-length}
+use Rattle.std.proofs.lemmas.List.{take_all}
+use Rattle.std.proofs.lemmas.List.Sums.{sum_by-append, sum_by-cons, sum_by_more, sum_by-take-le, count_by-le-length}
 use Rattle.std.proofs.lemmas.List.Concat.{length-flat_map}
 use Rattle.reports.specs.Printed.{Printed}
 use Rattle.reports.specs.Text.{row_text, about, counts, report, is_confirmed, IsPlan}
@@ -32,6 +33,17 @@ rows_within g xs = omega (arith, rows-le (flat_map g xs), length-flat_map g xs, 
 
 pub confirmed_within : {X : Type 0} (p : Printed → Bool) (g : X → List Printed) (xs : List X) → sum_by (λ x. count_by p (g x)) xs ≤ length (flat_map (λ x. flat_map row_text (g x)) xs)
 confirmed_within p g xs = omega (arith, rows-le (flat_map g xs), count_by-le-length p (flat_map g xs), count_by-flat_map p g xs, ap length (flat_map-flat_map row_text g xs))
+
+-- a count that grows piece by piece: with one piece more, with no more than all, and with all
+module _ {X : Type 0} (f : X → ℕ) (xs : List X) (i n : ℕ) where
+  pub counted_more : (x : X) (m : ℕ) → i < length xs → x ≡ get_or xs i x → n ≡ sum_by f (take i xs) → m ≡ f x → n + m ≡ sum_by f (take (i + 1) xs)
+  counted_more x m l is so e = (λ j. so j + (e ∙ ap f is) j) ∙ sym (sum_by_more f xs i x l)
+
+  pub counted_within : (x : X) (m : ℕ) → i < length xs → x ≡ get_or xs i x → n ≡ sum_by f (take i xs) → m ≡ f x → n + m ≤ sum_by f xs
+  counted_within x m l is so e = omega (arith, counted_more x m l is so e, sum_by-take-le f xs (i + 1))
+
+  pub counted_all : length xs ≤ i → n ≡ sum_by f (take i xs) → n ≡ sum_by f xs
+  counted_all l so = so ∙ ap (sum_by f) (take_all i xs l)
 
 -- the report, task by task
 pub report_by_tasks : {X : Type 0} (question events bound : ℕ) (g : X → List Printed) (xs : List X) →

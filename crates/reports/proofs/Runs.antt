@@ -1,5 +1,5 @@
 -- Numbers that follow one another, in decimal.
-use Rattle.std.proofs.Common.{◌≡◌, ℕ, zero, suc, ◌+◌, ◌*◌, ◌-◌, ◌<◌, ◌≤◌, List, [], ◌∷◌, ◌++◌, length, codes, decimal, take, drop, get_or, refl, ap, sym, ◌∙◌, arith, append-nil, append_assoc, length-append, length-drop}
+use Rattle.std.proofs.Common.{◌≡◌, ℕ, zero, suc, ◌+◌, ◌*◌, ◌-◌, ◌<◌, ◌≤◌, List, [], ◌∷◌, ◌++◌, length, codes, decimal, take, drop, get_or, max, refl, ap, sym, ◌∙◌, arith, append-nil, append_assoc, length-append, length-drop}
 use Rattle.std.proofs.lemmas.List.{ext_get_or, get_or-take, get_or-drop, length-take, take-append-drop}
 use Rattle.std.proofs.lemmas.List.Concat.{flat_map-append, flat_map-cons}
 use Rattle.std.proofs.lemmas.List.FromFn.{length-range_with_len, get_or-range_with_len}
@@ -48,12 +48,18 @@ run_longer first next past w bytes l m are each =
     omega (arith, are, level, ap length split, length-append (run_text first n) (run_text next k))
 
 -- a text of numbers, and one more
-pub run_pushed : (before text spaced_text all digits : List ℕ) (a n number : ℕ) → a + n ≡ number → text ≡ before ++ run_text a n → spaced_text ≡ text ++ codes " " →
-    digits ≡ decimal number → all ≡ spaced_text ++ digits → all ≡ before ++ run_text a (n + 1)
-run_pushed before text spaced_text all digits a n number e is s d whole =
-    whole ∙ (λ i. s i ++ d i) ∙ (λ i. is i ++ codes " " ++ decimal (sym e i))
-    ∙ append_assoc (before ++ run_text a n) (codes " ") (decimal (a + n)) ∙ append_assoc before (run_text a n) (codes " " ++ decimal (a + n))
+pub run_pushed : (before text all : List ℕ) (a n number : ℕ) → a + n ≡ number → text ≡ before ++ run_text a n → all ≡ text ++ (codes " " ++ decimal number) → all ≡ before ++ run_text a (n + 1)
+run_pushed before text all a n number e is whole =
+    whole ∙ (λ i. is i ++ (codes " " ++ decimal (sym e i))) ∙ append_assoc before (run_text a n) (codes " " ++ decimal (a + n))
     ∙ ap (λ t. before ++ t) (sym (run_more a n))
+
+-- the first numbers, as many as are known or as are wanted
+pub run_up_to : (text all : List ℕ) (known count : ℕ) → text ≡ run_text 0 known → all ≡ text ++ run_text known (count - known) → all ≡ run_text 0 (max known count)
+run_up_to text all known count is whole =
+    let e : known + (count - known) ≡ max known count = omega arith in
+    let f : 0 + known ≡ known = omega arith in
+    whole ∙ ap (λ t. t ++ run_text known (count - known)) is ∙ ap (λ n. run_text 0 known ++ run_text n (count - known)) (sym f)
+    ∙ sym (run_split 0 known (count - known)) ∙ ap (run_text 0) e
 
 -- a part of the first numbers
 module _ (all first count : ℕ) (within : first + count ≤ all) where

@@ -75,19 +75,31 @@ impl Taker for Counter {
 pub fn confirmed_in(rows: &[Row]) -> usize
     ensures { result ≡ count_by is_confirmed rows.now }
 {
-    rows.iter().filter(|row| row.found.is_some()).count()
+    let mut count = 0;
+    for row in rows {
+        count += usize::from(row.found.is_some());
+    }
+    count
 }
 
 pub(crate) fn count_rows(tasks: &[Vec<Row>]) -> usize
     requires { sum_by (λ task. length task.items) tasks.now < 2 ^ 64 }
     ensures { result ≡ sum_by (λ task. length task.items) tasks.now }
 {
-    tasks.iter().map(|task| task.len()).sum()
+    let mut count = 0;
+    for task in tasks {
+        count += task.len();
+    }
+    count
 }
 
 pub(crate) fn count_confirmed(tasks: &[Vec<Row>]) -> usize
     requires { sum_by (λ task. count_by is_confirmed task.items) tasks.now < 2 ^ 64 }
     ensures { result ≡ sum_by (λ task. count_by is_confirmed task.items) tasks.now }
 {
-    tasks.iter().map(|task| confirmed_in(task.as_slice())).sum()
+    let mut count = 0;
+    for task in tasks {
+        count += confirmed_in(task.as_slice());
+    }
+    count
 }

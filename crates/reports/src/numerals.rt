@@ -1,12 +1,50 @@
 //! Numbers in decimal that are kept, so that many of them are written by one copy.
 
-ghost use Rattle.std.specs.Prelude.{◌≡◌, ◌+◌, ◌≤◌, ◌^◌, IfOk};
+ghost use Rattle.std.specs.Prelude.{◌≡◌, ◌+◌, ◌-◌, ◌++◌, ◌≤◌, ◌^◌, decimal, IfOk, OnOk};
 ghost use Rattle.reports.specs.Text.{run_text};
 
 use crate::ruler::Ruler;
 use itoa::Buffer;
 use std::alloc::Global;
 use trace_model::NoMemory;
+
+/// Puts these bytes behind the text, and then the number in decimal.
+///
+/// # Errors
+///
+/// `NoMemory` where a growth was refused; a part may be there.
+pub(crate) fn push_number(
+    text: &mut Vec<u8>,
+    digits: &mut Buffer,
+    before: &[u8],
+    number: u64,
+) -> Result<(), NoMemory>
+    ensures { OnOk result (text.new.items ≡ text.old.items ++ (before.now ++ decimal number)) }
+{
+    text.extend_from_slice(before)?;
+    text.extend_from_slice(digits.format(number).as_bytes())?;
+    Ok(())
+}
+
+/// Puts the numbers from the first one on and below the end behind the text, each in decimal after
+/// a space.
+///
+/// # Errors
+///
+/// `NoMemory` where a growth was refused; a part may be there.
+pub(crate) fn push_run(
+    text: &mut Vec<u8>,
+    digits: &mut Buffer,
+    first: usize,
+    end: usize,
+) -> Result<(), NoMemory>
+    ensures { OnOk result (text.new.items ≡ text.old.items ++ run_text first (end - first)) }
+{
+    for number in first..end {
+        push_number(text, digits, b" ", number as u64)?;
+    }
+    Ok(())
+}
 
 /// The first numbers, from 0 on, each in decimal after a space.
 #[derive(Drop)]
@@ -36,11 +74,7 @@ impl Numerals {
     {
         let Numerals { text, count: known } = self;
         let mut text = text;
-        let mut digits = Buffer::new();
-        for number in known..count {
-            text.push(b' ')?;
-            text.extend_from_slice(digits.format(number).as_bytes())?;
-        }
+        push_run(&mut text, &mut Buffer::new(), known, count)?;
         Ok(Numerals {
             text,
             count: known.max(count),

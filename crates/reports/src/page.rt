@@ -3,7 +3,7 @@
 ghost use Rattle.std.specs.Prelude.{◌≡◌, ◌+◌, ◌<◌, ◌≤◌, ◌^◌, ◌++◌, [], OnOk};
 ghost use Rattle.reports.specs.Text.{run_text};
 
-use crate::numerals::Numerals;
+use crate::numerals::{Numerals, push_number, push_run};
 use crate::taker::Taker;
 use itoa::Buffer;
 use std::alloc::Global;
@@ -74,12 +74,7 @@ impl Page {
             (self.new.text.items ≡ self.old.text.items ++ run_text first count) }
     {
         let first = first as usize;
-        for number in first..first + count {
-            self.text.push(b' ')?;
-            self.text
-                .extend_from_slice(self.digits.format(number).as_bytes())?;
-        }
-        Ok(())
+        push_run(&mut self.text, &mut self.digits, first, first + count)
     }
 
     /// Takes them by one copy of numbers that are kept, and keeps those that are not yet.
@@ -109,10 +104,7 @@ impl Taker for Page {
     }
 
     fn take_number(&mut self, before: &[u8], number: u64) -> Result<(), NoMemory> {
-        self.text.extend_from_slice(before)?;
-        self.text
-            .extend_from_slice(self.digits.format(number).as_bytes())?;
-        Ok(())
+        push_number(&mut self.text, &mut self.digits, before, number)
     }
 
     /// What is kept grows by at most twice as many numbers as it takes.

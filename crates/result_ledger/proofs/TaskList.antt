@@ -1,8 +1,13 @@
 -- What the marks say of the tasks.
-use Rattle.std.proofs.Common.{◌≡◌, ℕ, zero, suc, ◌+◌, ◌^◌, inl, inr, replicate, ◌<◌, ◌≤◌, Bool, true, false, List, [], ◌∷◌, length, map, slice_get, slice_set, Option, Some, None, is_some, count_by, refl, sym, ap, ◌∙◌, subst, cond, arith}
+use Rattle.std.proofs.Common.{◌≡◌, ℕ, zero, suc, ◌+◌, ◌^◌, inl, inr, replicate, ◌<◌, ◌≤◌, Bool, true, false, List, [], ◌∷◌, ◌++◌, length, get_or, map, nat_lt, slice_get, slice_set, Option, Some, None, is_some, count_by, refl, sym, ap, ◌∙◌, subst, cond, arith, add-one}
 use Rattle.std.proofs.lemmas.List.Sums.{sum_by-cons}
 use Rattle.std.proofs.lemmas.List.Folds.{sum_by-replicate}
 use Rattle.std.proofs.lemmas.Bool.{cases_lt}
+use Rattle.std.proofs.lemmas.Bool.Decides.{nat_tests}
+use Rattle.std.proofs.lemmas.Option.{slice_get-get_or, slice_get_past, slice_get_read}
+use Rattle.std.specs.Prelude.{option_copied}
+use Rattle.std.specs.Slice.{IsItemAt}
+use denote.Ref.{Bor}
 use Rattle.std.proofs.lemmas.List.{length-replicate}
 use Rattle.std.proofs.Math.ListN.{length-set}
 use Rattle.std.proofs.Math.Nat.{mul-zero}
@@ -138,3 +143,31 @@ marked_at g ms rs n m i last r now order h e w b f = marked_more g ms rs n m i l
     (subst (λ xs. last ≤ length xs) e w.1)
     (λ k x y. subst (λ xs. slice_get xs k ≡ Some true) e (b k x y))
     (λ l. subst (λ xs. slice_get xs last ≡ Some false) e (f (subst (λ xs. last < length xs) (sym e) l)))
+
+-- ---- marks
+
+-- one more that is not set
+pub marks_more : (n : ℕ) (ms : List Bool) → ms ≡ replicate n false → ms ++ false ∷ [] ≡ replicate (n + 1) false
+marks_more n ms is = rw add-one (ap (λ xs. xs ++ false ∷ []) is ∙ go n)
+  where
+    go : (k : ℕ) → replicate k false ++ false ∷ [] ≡ replicate (suc k) false
+    go zero = refl
+    go (suc k) = ap (λ xs. false ∷ xs) (go k)
+
+-- one more that is set
+pub set_more : (ms : List Bool) (from place : ℕ) → place < length ms → get_or ms place false ≡ true → ((k : ℕ) → from ≤ k → k < place → slice_get ms k ≡ Some true) →
+    (k : ℕ) → from ≤ k → k < place + 1 → slice_get ms k ≡ Some true
+set_more ms from place within at before k low high = elim (cases_lt k place) [
+  | inl less ↦ before k low less
+  | inr more ↦
+      let same : place ≡ k = omega arith in
+      subst (λ n. slice_get ms n ≡ Some true) same (slice_get-get_or ms place false within ∙ ap (λ (b : Bool). Some b) at)
+]
+
+-- the mark that a look-up lends
+pub copied_of : (ms : List Bool) (k : ℕ) (lent : Option (Bor Bool)) → IsItemAt ms k lent → option_copied lent ≡ slice_get ms k
+copied_of ms k None h = sym (slice_get_past ms k (not_below k (length ms) h.0))
+  where
+    not_below : (a b : ℕ) → false ≡ nat_lt a b → b ≤ a
+    not_below a b e = grind (arith, nat_tests)
+copied_of ms k (Some mark) h = sym (slice_get_read ms (length ms) k mark.now refl h.3.0 h.1)

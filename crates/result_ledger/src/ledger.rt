@@ -71,8 +71,8 @@ impl Ledger {
         let mut rows = Vec::with_capacity(alloc, total as usize)?;
         let mut marks = Vec::with_capacity(alloc, total as usize)?;
         for _task in 0..total {
-            rows.push(Vec::new(alloc))?;
-            marks.push(false)?;
+            rows.push_reserved(Vec::new(alloc));
+            marks.push_reserved(false);
         }
         Ok(Ledger {
             rows,

@@ -25,8 +25,8 @@ pub enum Command {
 }
 
 /// The command of a keyword and one number.
-fn command_about(keyword: &str, number: u32) -> Option<Command> {
-    match keyword {
+fn command_about(keyword: &[u8], number: u32) -> Option<Command> {
+    match str::from_utf8(keyword).ok()? {
         "ask" => Some(Command::Ask(u8::try_from(number).ok()?)),
         "work" => Some(Command::Work(number)),
         "answer" => Some(Command::Answer(number)),
@@ -45,11 +45,9 @@ fn delivery(question: &[u8], task: &[u8]) -> Option<Command> {
 
 /// The command of a line of these words, which is no event line.
 fn parse_command(words: &[&[u8]]) -> Option<Command> {
-    let (keyword, numbers) = words.split_first()?;
-    let keyword = str::from_utf8(keyword).ok()?;
-    match numbers {
-        [about] => command_about(keyword, number(about)?),
-        [question, task] if keyword == "deliver" => delivery(question, task),
+    match words {
+        [keyword, about] => command_about(keyword, number(about)?),
+        [keyword, question, task] if *keyword == b"deliver".as_slice() => delivery(question, task),
         _ => None,
     }
 }

@@ -33,8 +33,7 @@ fn push_opened(text: &mut Vec<u8>, question: u32, length: u32, total: u32) -> Re
 {
     push_number(text, b"opened ", question as u64)?;
     push_number(text, b" length ", length as u64)?;
-    push_last(text, b" total ", total as u64)?;
-    Ok(())
+    push_last(text, b" total ", total as u64)
 }
 
 fn push_pending(
@@ -48,8 +47,7 @@ fn push_pending(
 {
     push_number(text, b"pending ", question as u64)?;
     push_number(text, b" delivered ", delivered as u64)?;
-    push_last(text, b" total ", total as u64)?;
-    Ok(())
+    push_last(text, b" total ", total as u64)
 }
 
 /// Adds what a status tells of the book, and of the question before its tasks.
@@ -60,8 +58,7 @@ fn push_book(text: &mut Vec<u8>, status: &QuestionStatus) -> Result<(), NoMemory
     push_number(text, b" accepted ", status.accepted as u64)?;
     push_number(text, b" opened ", status.opened as u64)?;
     push_number(text, b" length ", status.length as u64)?;
-    push_number(text, b" bound ", status.bound.get() as u64)?;
-    Ok(())
+    push_number(text, b" bound ", status.bound.get() as u64)
 }
 
 /// Adds what a status tells of the question's tasks.
@@ -69,8 +66,7 @@ fn push_tasks(text: &mut Vec<u8>, status: &QuestionStatus) -> Result<(), NoMemor
     ensures { OnOk result (text.new.items ≡ text.old.items ++ task_words status.now) }
 {
     push_number(text, b" total ", status.total as u64)?;
-    push_number(text, b" delivered ", status.delivered as u64)?;
-    Ok(())
+    push_number(text, b" delivered ", status.delivered as u64)
 }
 
 /// Adds what a status tells of the rows of these tasks.
@@ -82,7 +78,7 @@ fn push_rows(text: &mut Vec<u8>, status: &QuestionStatus) -> Result<(), NoMemory
     Ok(())
 }
 
-/// Adds the line that tells what refuses an event, if anything does.
+/// Adds the line that tells of a refusal, if there is one.
 fn push_refused(text: &mut Vec<u8>, refusal: Option<Refusal>) -> Result<(), NoMemory>
     ensures { OnOk result (text.new.items ≡ text.old.items ++ refused_line refusal) }
 {
@@ -117,11 +113,7 @@ pub fn push_reply(text: &mut Vec<u8>, reply: &Reply) -> Result<(), NoMemory>
 {
     match reply {
         Reply::Placed(place) => push_last(text, b"placed ", place.get() as u64),
-        Reply::Refused(refusal) => {
-            push_refusal(text, *refusal)?;
-            text.push(b'\n')?;
-            Ok(())
-        }
+        Reply::Refused(refusal) => push_refused(text, Some(*refusal)),
         Reply::Opened {
             question,
             length,

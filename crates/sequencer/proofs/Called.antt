@@ -1,18 +1,22 @@
 -- What a book answers to a request is the machine's reply, or tells a want of memory.
-use Rattle.std.proofs.Common.{◌≡◌, ◌⊎◌, ℕ, ◌≤◌, true, false, List, length, take, slice_get, Option, Some, None, inl, inr, refl, sym, ap, subst, ◌∙◌, arith}
+use Rattle.std.proofs.Common.{◌≡◌, ◌⊎◌, ℕ, ◌≤◌, nat_le, if◌then◌else◌, Bool, true, false, List, length, take, slice_get, is_some, Option, Some, None, inl, inr, refl, sym, ap, subst, ◌∙◌, arith}
 use Rattle.std.proofs.lemmas.Bool.{false≢true}
+use Rattle.std.proofs.lemmas.Bool.Decides.{nat_tests}
+use Rattle.std.specs.List.{list_all}
 use Rattle.std.proofs.lemmas.List.{length-take, take_all}
 use Rattle.std.proofs.lemmas.Option.{none-some, slice_get_cases}
 use Rattle.trace_model.specs.declared.traces.event.Event.{Event}
 use Rattle.trace_model.specs.declared.refusal.Refusal.{Refusal}
-use Rattle.trace_model.specs.declared.refusal.Refusal.TheVariants.{NoMemory}
+use Rattle.trace_model.specs.declared.refusal.Refusal.TheVariants.{NoMemory, ReportTooLong}
+use Rattle.trace_model.specs.declared.limits.TheConstants.{MAX_REPORT}
 use Rattle.trace_model.specs.declared.messages.session.Request.{Request}
 use Rattle.trace_model.specs.declared.messages.session.Request.TheVariants.{Offer, Ask, Answer, Status, Batch}
 use Rattle.trace_model.specs.declared.messages.session.Reply.{Reply}
 use Rattle.trace_model.specs.declared.messages.session.Reply.TheVariants as replies
 use Rattle.trace_model.specs.Theory.Lawful.{refusal_of}
 use Rattle.trace_model.specs.Protocol.Batches.{AreLawful, IsLongest}
-use Rattle.trace_model.specs.Protocol.Machine.{State, step, with_events}
+use Rattle.trace_model.specs.Protocol.Machine.{Question, State, answer_of, ask_refused, ask_reply, delivered, offer_reply, status_of, step, with_events}
+use Rattle.trace_model.specs.Protocol.Replies.{IsReply}
 use Rattle.trace_model.proofs.Protocol.Batches.{longest_is}
 use Rattle.sequencer.specs.Book.{IsAccepted, IsRefusal, Refuses}
 use Rattle.sequencer.specs.Batched.{EndsBatch, IsBatched}
@@ -105,6 +109,48 @@ refused_steps s (Batch events) reply one refused = absurd one
 pub refused_rightly : (s : State) (request : Request) (reply : Reply) → IsRefusal s request reply → WantsRightly s request reply
 refused_rightly s request reply (r, is, inl same) lacks = inl same
 refused_rightly s request reply (r, is, inr (none, takes)) lacks = inr takes
+
+-- ---- the machine's reply fits a frame
+
+not_long : (n : ℕ) → nat_le n MAX_REPORT ≡ true → n ≤ MAX_REPORT
+not_long n h = grind (arith, nat_tests)
+
+text_fits : (number : ℕ) (text : List ℕ) (b : Bool) → nat_le (length text) MAX_REPORT ≡ b → IsReply (if b then replies.Report number text else replies.Refused ReportTooLong)
+text_fits number text true h = not_long (length text) h
+text_fits number text false h = tt
+
+answer_fits : (s : State) (number : ℕ) (o : Option Question) → IsReply (answer_of printing s number o)
+answer_fits s number None = tt
+answer_fits s number (Some q) = go (list_all is_some q.tasks)
+  where
+    text : List ℕ
+    text = printing (take q.length s.accepted) number q
+
+    go : (b : Bool) →
+        IsReply (if b then (if nat_le (length text) MAX_REPORT then replies.Report number text else replies.Refused ReportTooLong) else replies.Pending number (delivered q) (length q.tasks))
+    go true = text_fits number text (nat_le (length text) MAX_REPORT) refl
+    go false = tt
+
+status_fits : (s : State) (number : ℕ) (o : Option Question) → IsReply (status_of s number o)
+status_fits s number None = tt
+status_fits s number (Some q) = tt
+
+offer_fits : (s : State) (o : Option Refusal) → IsReply (offer_reply s o)
+offer_fits s None = tt
+offer_fits s (Some r) = tt
+
+ask_fits : (s : State) (o : Option Refusal) → IsReply (ask_reply s o)
+ask_fits s None = tt
+ask_fits s (Some r) = tt
+
+pub step_fits : (s : State) (request : Request) → IsReply (step printing s request).0
+step_fits s (Offer e) = offer_fits s (refusal_of s.limit s.accepted e)
+step_fits s (Ask bound) = ask_fits s (ask_refused s bound)
+step_fits s (Answer number) = answer_fits s number (slice_get s.questions number)
+step_fits s (Status number) = status_fits s number (slice_get s.questions number)
+step_fits s (Batch events) = tt
+
+-- ---- where no want of memory is told
 
 told_lack : (A : Type 0) (reply lacking : Reply) → lacks_memory lacking ≡ true → lacks_memory reply ≡ false → reply ≡ lacking → A
 told_lack A reply lacking lacks none is = absurd (false≢true (sym none ∙ (ap lacks_memory is ∙ lacks)))

@@ -23,8 +23,11 @@ confirmed_rows (p ∷ rows) =
 
 -- ---- a task that is missing
 
+pub row_at : (tasks : Tasks) (task : ℕ) (o : Option (Option (List Printed))) → slice_get tasks task ≡ o → slice_get (map (option_map rows_in) tasks) task ≡ option_map (option_map rows_in) o
+row_at tasks task o h = slice_get-map (option_map rows_in) tasks task ∙ ap (option_map (option_map rows_in)) h
+
 pub missing_row : (tasks : Tasks) (task : ℕ) → slice_get tasks task ≡ Some None → slice_get (map (option_map rows_in) tasks) task ≡ Some None
-missing_row tasks task h = slice_get-map (option_map rows_in) tasks task ∙ ap (option_map (option_map rows_in)) h
+missing_row tasks task h = row_at tasks task (Some None) h
 
 pub row_missing : (tasks : Tasks) (task : ℕ) → slice_get (map (option_map rows_in) tasks) task ≡ Some None → slice_get tasks task ≡ Some None
 row_missing tasks task h = go (slice_get tasks task) refl

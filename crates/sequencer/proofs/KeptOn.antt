@@ -1,8 +1,9 @@
 -- What a book keeps stays so.
-use Rattle.std.proofs.Common.{◌≡◌, ℕ, zero, suc, ◌+◌, ◌<◌, ◌≤◌, ◌^◌, inl, inr, List, [], ◌∷◌, ◌++◌, length, map, take, get_or, replicate, slice_get, slice_set, option_map, IfSome, Option, Some, None, refl, sym, ap, subst, ◌∙◌, arith}
+use Rattle.std.proofs.Common.{◌≡◌, ℕ, zero, suc, ◌+◌, ◌<◌, ◌≤◌, ◌^◌, inl, inr, false, nat_lt, List, [], ◌∷◌, ◌++◌, length, map, take, get_or, replicate, slice_get, slice_set, option_map, IfSome, Option, Some, None, refl, sym, ap, subst, ◌∙◌, arith}
 use Rattle.std.proofs.lemmas.Bool.{cases_eq}
+use Rattle.std.proofs.lemmas.Bool.Decides.{nat_tests}
 use Rattle.std.proofs.lemmas.List.{length-map, length-take, map-append, map-set, take-append-le}
-use Rattle.std.proofs.lemmas.Option.{none-some, same_Some, get_or_from_slice_get, slice_get-map, slice_get_read}
+use Rattle.std.proofs.lemmas.Option.{none-some, same_Some, get_or_from_slice_get, slice_get-map, slice_get_past, slice_get_read}
 use Rattle.std.specs.List.{count_by}
 use Rattle.std.specs.Slice.{IsItemAt}
 use denote.Ref.{Bor}
@@ -10,6 +11,7 @@ use Rattle.trace_model.specs.declared.traces.event.Event.{Event}
 use Rattle.trace_model.specs.declared.limits.TheConstants.{MAX_EVENTS}
 use Rattle.trace_model.specs.declared.messages.step.BoardStep.TheVariants.{Accept, Open, Deliver}
 use Rattle.trace_model.specs.Theory.Trace.{Trace}
+use Rattle.trace_model.specs.declared.refusal.Refusal.{Refusal}
 use Rattle.trace_model.specs.Theory.Lawful.{refusal_of}
 use Rattle.trace_model.specs.Theory.Dependencies.{dependencies}
 use Rattle.trace_model.specs.Theory.Rows.{AreRows}
@@ -26,6 +28,21 @@ use Rattle.sequencer.proofs.Counted.{cycles_most, row_missing}
 
 pub kept_opening : (limit : ℕ) → limit ≤ MAX_EVENTS → IsKept limit limit [] []
 kept_opening limit le = record { same_limit = refl; fits = opening_fits AreRows limit le; named = λ k told h. absurd (none-some told h) }
+
+-- the same events and questions are kept again
+pub kept_again : (admitted again limit : ℕ) (events more : Trace) (asked told : List Told) → again ≡ admitted → more ≡ events → told ≡ asked → IsKept admitted limit events asked →
+    IsKept again limit more told
+kept_again admitted again limit events more asked told same_limit same_events same_asked kept = record {
+  same_limit = same_limit ∙ kept.same_limit;
+  fits = subst (StateFits AreRows) (λ i. state_of limit (sym same_events i) (sym same_asked i)) kept.fits;
+  named = λ k t h. subst (λ (s : Trace). TellsNamed (take t.length s) t) (sym same_events) (kept.named k t (ap (λ ts. slice_get ts k) (sym same_asked) ∙ h));
+}
+
+-- what a check answers is what the machine refuses of an event
+pub checked : (o : Option Refusal) (admitted limit : ℕ) (events : Trace) (asked : List Told) (s : State) (e : Event) → o ≡ refusal_of admitted events e → admitted ≡ limit →
+    state_of limit events asked ≡ s → refusal_of s.limit s.accepted e ≡ o
+checked o admitted limit events asked s e is same shown =
+    sym (is ∙ (ap (λ n. refusal_of n events e) same ∙ ap (λ (m : State). refusal_of m.limit m.accepted e) shown))
 
 -- ---- a question
 
@@ -46,6 +63,13 @@ fits_at admitted limit events asked k told kept h = kept.fits.each k (question_o
 pub lent_at : (asked : List Told) (k : ℕ) (lent : Option (Bor Told)) → IsItemAt asked k lent → IfSome lent (λ told. slice_get asked k ≡ Some told.now)
 lent_at asked k None h = tt
 lent_at asked k (Some told) h = slice_get_read asked (length asked) k told.now refl h.3.0 h.1
+
+not_below : (a b : ℕ) → false ≡ nat_lt a b → b ≤ a
+not_below a b h = grind (arith, nat_tests)
+
+pub lent_value : (asked : List Told) (k : ℕ) (lent : Option (Bor Told)) → IsItemAt asked k lent → option_map (λ told. question_of told.now) lent ≡ slice_get (map question_of asked) k
+lent_value asked k None h = sym (slice_get-map question_of asked k ∙ ap (option_map question_of) (slice_get_past asked k (not_below k (length asked) h.0)))
+lent_value asked k (Some told) h = sym (question_at asked k told.now (lent_at asked k (Some told) h))
 
 pub lent_within : (admitted limit : ℕ) (events : Trace) (asked : List Told) (k : ℕ) (lent : Option (Bor Told)) → IsKept admitted limit events asked → IsItemAt asked k lent →
     IfSome lent (λ told. told.now.length ≤ length events)
@@ -84,6 +108,13 @@ fresh_question s bound = ap (λ tasks. record { length = length s.accepted; boun
     none_each : (n : ℕ) → map (option_map rows_in) (replicate n None) ≡ replicate n None
     none_each zero = refl
     none_each (suc n) = ap (λ tasks. None ∷ tasks) (none_each n)
+
+-- a question without rows, for the dependencies of the events, and room for it
+pub opened_room : (s : State) (room : ℕ) (told : Told) (n bound total : ℕ) → 0 < room → told ≡ record { length = n; bound = bound; tasks = replicate total None } → n ≡ length s.accepted →
+    total ≡ length (dependencies s.accepted) → (told.bound ≡ bound) × ((0 < room) × (told ≡ fresh s told.bound))
+opened_room s room told n bound total some is counted all =
+    let same : told.bound ≡ bound = ap (λ (t : Told). t.bound) is in
+    (same, (some, is ∙ (λ i. record { length = counted i; bound = sym same i; tasks = replicate (all i) None })))
 
 pub with_fresh : (limit : ℕ) (events : Trace) (asked : List Told) (bound : ℕ) →
     state_of limit events (asked ++ fresh (state_of limit events asked) bound ∷ []) ≡ with_question (state_of limit events asked) bound

@@ -14,12 +14,12 @@ use Rattle.trace_model.specs.declared.limits.TheConstants.{MAX_REPORT}
 use Rattle.trace_model.specs.declared.refusal.Refusal.{Refusal}
 use Rattle.trace_model.specs.declared.refusal.Refusal.TheVariants.{OtherBound, OtherTrace, ReportTooLong}
 use Rattle.trace_model.specs.declared.messages.session.Reply.{Reply}
-use Rattle.trace_model.specs.declared.messages.session.Reply.TheVariants.{Refused, Report, Pending}
-use Rattle.trace_model.specs.declared.messages.session.Request.TheVariants.{Offer}
+use Rattle.trace_model.specs.declared.messages.session.Reply.TheVariants.{Placed, Refused, Report, Pending}
+use Rattle.trace_model.specs.declared.messages.session.Request.TheVariants.{Offer, Ask, Answer}
 use Rattle.trace_model.specs.Theory.Trace.{Trace}
 use Rattle.trace_model.specs.Theory.Lawful.{refusal_of}
 use Rattle.trace_model.specs.Theory.Dependencies.{Dependency, dependencies}
-use Rattle.trace_model.specs.Protocol.Machine.{Question, State, answer, answer_of, deliver_refused_by, delivered, offer_next, offer_reply, rows_of, same_event, same_events, step, task_refused, with_event}
+use Rattle.trace_model.specs.Protocol.Machine.{Question, State, answer, answer_of, ask_next, ask_refused, ask_reply, deliver_refused_by, delivered, offer_next, offer_reply, rows_of, same_event, same_events, step, task_refused, with_event, with_question}
 use Rattle.trace_model.proofs.Protocol.Summary.{same_events_so, same_events_itself}
 use Rattle.reports.specs.Printed.{Printed, with_dependencies}
 use Rattle.reports.specs.Text.{report}
@@ -29,7 +29,12 @@ use Rattle.snapshots.specs.Found.{AreNamed, FoundRows}
 use Rattle.result_ledger.specs.Tasks.{Tasks, IsMissing}
 use Rattle.result_ledger.specs.Tasks as Ledger
 use Rattle.sequencer.specs.Asked.{Told, question_of, rows_in, TellsNamed}
-use Rattle.sequencer.specs.Book.{AreKnown, IsAccepted, IsLeastMissing, finding_refused}
+use Rattle.sequencer.specs.declared.answering.Answer.{Answer as Answered}
+use Rattle.sequencer.specs.declared.answering.Answer.TheVariants.{Pending as AnswerPending, Settled}
+use Rattle.sequencer.specs.declared.answering.AnswerRefused.{AnswerRefused}
+use Rattle.sequencer.specs.declared.answering.AnswerRefused.TheVariants as NoAnswer
+use Rattle.sequencer.specs.declared.asking.AskRefused.{AskRefused}
+use Rattle.sequencer.specs.Book.{AreKnown, IsAccepted, IsLeastMissing, IsRefusal, Refuses, RefusesAnswer, RefusesAsk, RefusesOffer, TakesMemory, answer_refusal, answer_reply, ask_refusal, finding_refused}
 use Rattle.sequencer.specs.Printing.{printing}
 use Rattle.sequencer.proofs.Counted.{missing_row, row_missing}
 
@@ -46,6 +51,47 @@ pub taken_offer : (s next : State) (e : Event) (reply : Reply) → (step printin
 taken_offer s next e reply is ok n =
     let after : offer_next s e (refusal_of s.limit s.accepted e) ≡ next = ap (offer_next s e) (accepted_offer s e reply is ok) ∙ sym n in
     λ i. (is i, after i)
+
+-- the same of a question that is opened
+pub accepted_ask : (s : State) (bound : ℕ) (reply : Reply) → (step printing s (Ask bound)).0 ≡ reply → IsAccepted reply → ask_refused s bound ≡ None
+accepted_ask s bound reply is ok = go (ask_refused s bound) is
+  where
+    go : (o : Option Refusal) → ask_reply s o ≡ reply → o ≡ None
+    go None f = refl
+    go (Some r) f = absurd (subst IsAccepted (sym f) ok)
+
+pub taken_ask : (s next : State) (bound : ℕ) (reply : Reply) → (step printing s (Ask bound)).0 ≡ reply → IsAccepted reply → next ≡ with_question s bound → step printing s (Ask bound) ≡ (reply, next)
+taken_ask s next bound reply is ok n =
+    let after : ask_next s bound (ask_refused s bound) ≡ next = ap (ask_next s bound) (accepted_ask s bound reply is ok) ∙ sym n in
+    λ i. (is i, after i)
+
+-- an event that is admitted is placed after the others
+pub placed_offer : (s : State) (e : Event) → refusal_of s.limit s.accepted e ≡ None → (step printing s (Offer e)).0 ≡ Placed (length s.accepted)
+placed_offer s e lawful = ap (offer_reply s) lawful
+
+-- ---- requests that are refused
+
+pub refused_offer : (s : State) (e : Event) (r : Refusal) → RefusesOffer s e r → Refuses s (Offer e) (Refused r) × IsRefusal s (Offer e) (Refused r)
+refused_offer s e r (inl why) = (inl (λ i. (offer_reply s (why i), offer_next s e (why i))), (r, refl, inl (ap (offer_reply s) why)))
+refused_offer s e r (inr (lacks, lawful)) =
+    (inr (ap Refused lacks, subst (λ o. IsAccepted (offer_reply s o)) (sym lawful) tt), (r, refl, inr (lacks, subst (λ o. TakesMemory (offer_reply s o)) (sym lawful) tt)))
+
+pub refused_ask : (s : State) (bound : ℕ) (r : AskRefused) → RefusesAsk s bound r → Refuses s (Ask bound) (Refused (ask_refusal r)) × IsRefusal s (Ask bound) (Refused (ask_refusal r))
+refused_ask s bound r (inl why) = (inl (λ i. (ask_reply s (why i), ask_next s bound (why i))), (ask_refusal r, refl, inl (ap (ask_reply s) why)))
+refused_ask s bound r (inr (lacks, none)) = (
+  inr (ap (λ x. Refused (ask_refusal x)) lacks, subst (λ o. IsAccepted (ask_reply s o)) (sym none) tt),
+  (ask_refusal r, refl, inr (ap ask_refusal lacks, subst (λ o. TakesMemory (ask_reply s o)) (sym none) tt)),
+)
+
+pub refused_answer : (s : State) (number : ℕ) (r : AnswerRefused) → RefusesAnswer s number r → (r ≡ NoAnswer.NoMemory → TakesMemory (answer printing s number)) →
+    Refuses s (Answer number) (Refused (answer_refusal r)) × IsRefusal s (Answer number) (Refused (answer_refusal r))
+refused_answer s number r (inl why) takes = (inl (λ i. (why i, s)), (answer_refusal r, refl, inl why))
+refused_answer s number r (inr (lacks, accepted)) takes =
+    (inr (ap (λ x. Refused (answer_refusal x)) lacks, accepted), (answer_refusal r, refl, inr (ap answer_refusal lacks, takes lacks)))
+
+pub accepted_answer : (number : ℕ) (told : Answered) → IsAccepted (answer_reply number told)
+accepted_answer number (AnswerPending delivered total) = tt
+accepted_answer number (Settled text) = tt
 
 -- ---- which snapshots are of the events
 
@@ -83,14 +129,31 @@ other_at s r i l h = other_events s r (λ e.
 pub same_all : (s r : Trace) → s ≡ r → true ≡ same_events s r
 same_all s r e = sym (ap (same_events s) (sym e) ∙ same_events_itself s)
 
+-- a finding for another bound, or about other events
+pub other_bound : (s : State) (f : FoundRows) (q : Question) → Some q ≡ slice_get s.questions f.question → true ≡ not (f.bound == q.bound) → Some OtherBound ≡ finding_refused s f
+other_bound s f q found bound =
+    let told : Some OtherBound ≡ deliver_refused_by s (Some q) f.bound f.events f.task =
+    λ i. if bound i then Some OtherBound else (if not (same_events f.events (take q.length s.accepted)) then Some OtherTrace else task_refused (slice_get q.tasks f.task)) in
+    told ∙ ap (λ o. deliver_refused_by s o f.bound f.events f.task) found
+
+pub other_trace : (s : State) (f : FoundRows) (q : Question) → Some q ≡ slice_get s.questions f.question → false ≡ not (f.bound == q.bound) → false ≡ same_events f.events (take q.length s.accepted) →
+    Some OtherTrace ≡ finding_refused s f
+other_trace s f q found bound same =
+    let told : Some OtherTrace ≡ deliver_refused_by s (Some q) f.bound f.events f.task =
+    λ i. if bound i then Some OtherBound else (if not (same i) then Some OtherTrace else task_refused (slice_get q.tasks f.task)) in
+    told ∙ ap (λ o. deliver_refused_by s o f.bound f.events f.task) found
+
 -- a finding about the events of its question is refused for its task alone
-pub known_test : (s : State) (f : FoundRows) (q : Question) → Some q ≡ slice_get s.questions f.question → false ≡ not (f.bound == q.bound) → AreKnown s f.question f.events →
+pub same_test : (s : State) (f : FoundRows) (q : Question) → Some q ≡ slice_get s.questions f.question → false ≡ not (f.bound == q.bound) → true ≡ same_events f.events (take q.length s.accepted) →
     task_refused (slice_get q.tasks f.task) ≡ finding_refused s f
-known_test s f q found bound known =
-    let same : true ≡ same_events f.events (take q.length s.accepted) = same_all f.events (take q.length s.accepted) (known q (sym found)) in
+same_test s f q found bound same =
     let told : task_refused (slice_get q.tasks f.task) ≡ deliver_refused_by s (Some q) f.bound f.events f.task =
     λ i. if bound i then Some OtherBound else (if not (same i) then Some OtherTrace else task_refused (slice_get q.tasks f.task)) in
     told ∙ ap (λ o. deliver_refused_by s o f.bound f.events f.task) found
+
+pub known_test : (s : State) (f : FoundRows) (q : Question) → Some q ≡ slice_get s.questions f.question → false ≡ not (f.bound == q.bound) → AreKnown s f.question f.events →
+    task_refused (slice_get q.tasks f.task) ≡ finding_refused s f
+known_test s f q found bound known = same_test s f q found bound (same_all f.events (take q.length s.accepted) (known q (sym found)))
 
 -- ---- the report
 
@@ -164,6 +227,15 @@ not_long n h = elim (cases_lt MAX_REPORT n) [ inl l ↦ absurd (h l) | inr g ↦
 
 pub text_not_refused : {A : Type 0} (text : A) (refused : TextRefused) → ◌≡◌ {A = Result A TextRefused} (Ok text) (Err refused) → ⊥
 text_not_refused text refused h = absurd cc
+
+pub told_not_refused : {A : Type 0} (told : A) (refused : AnswerRefused) → ◌≡◌ {A = Result A AnswerRefused} (Ok told) (Err refused) → ⊥
+told_not_refused told refused h = absurd cc
+
+pub unknown_not_lacking : {A : Type 0} → ◌≡◌ {A = Result A AnswerRefused} (Err NoAnswer.NoSuchQuestion) (Err NoAnswer.NoMemory) → ⊥
+unknown_not_lacking h = absurd cc
+
+pub long_not_lacking : {A : Type 0} → ◌≡◌ {A = Result A AnswerRefused} (Err NoAnswer.ReportTooLong) (Err NoAnswer.NoMemory) → ⊥
+long_not_lacking h = absurd cc
 
 pub not_too_long : {A : Type 0} → ◌≡◌ {A = Result A TextRefused} (Err NoMemory) (Err TooLong) → ⊥
 not_too_long h = absurd cc

@@ -1,6 +1,6 @@
 //! A question with its tasks.
 
-ghost use Rattle.std.specs.Prelude.{◌≡◌, ℕ, ◌+◌, ◌<◌, ◌≤◌, ◌^◌, length, map, replicate, slice_get, slice_set, None, Some, MatchOption};
+ghost use Rattle.std.specs.Prelude.{◌≡◌, ℕ, ◌+◌, ◌<◌, ◌≤◌, ◌^◌, length, map, replicate, slice_get, slice_set, None, Some, IfOk, MatchOption};
 ghost use Rattle.std.specs.Result.{result_err};
 ghost use Rattle.trace_model.specs.declared.limits.TheConstants.{MIN_BOUND, MAX_BOUND};
 ghost use Rattle.trace_model.specs.Protocol.Machine.{cycles_of, confirmed_of, task_refused};
@@ -9,8 +9,9 @@ ghost use Rattle.sequencer.specs.Asked.{question_of};
 
 use reports::{Row, confirmed_in};
 use result_ledger::{Ledger, LedgerRefused};
+use std::alloc::Global;
 use std::marker::Model;
-use trace_model::{Bound, Refusal};
+use trace_model::{Bound, NoMemory, Refusal};
 
 /// A question about the first events, its bound, and the rows of its tasks as they come in.
 pub struct Asked {
@@ -54,18 +55,28 @@ impl Asked {
     ghost use Rattle.trace_model.specs.Protocol.Machine.{delivered};
 
     /// The question about the first `length` events, none of whose `total` tasks is delivered.
-    pub(crate) fn open(length: u32, bound: Bound, total: u32, ledger: Ledger) -> Asked
-        requires { ledger ≡ replicate total None }
-        ensures { result ≡ record { length = length; bound = bound; tasks = ledger } }
+    ///
+    /// # Errors
+    ///
+    /// `NoMemory` where a growth was refused.
+    pub(crate) fn open(
+        alloc: Global,
+        length: u32,
+        bound: Bound,
+        total: u32,
+    ) -> Result<Asked, NoMemory>
+        ensures { IfOk result (λ asked. asked ≡
+            record { length = length; bound = bound; tasks = replicate total None }) }
     {
-        Asked {
+        let ledger = Ledger::open(alloc, total)?;
+        Ok(Asked {
             length,
             bound,
             total,
             cycles: 0,
             confirmed: 0,
             ledger,
-        }
+        })
     }
 
     /// How many events it is about.

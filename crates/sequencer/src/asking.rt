@@ -9,7 +9,6 @@ ghost use Rattle.sequencer.specs.Printing.{printing};
 
 use crate::asked::Asked;
 use crate::book::{Book, NoSuchQuestion};
-use result_ledger::Ledger;
 use thiserror::Error;
 use trace_model::{Bound, MAX_QUESTIONS, NoMemory, Refusal};
 
@@ -96,11 +95,10 @@ impl Book {
         ensures ok { IfOk result (λ asked. (asked.bound ≡ bound) × HasRoom self.new (Open asked)) }
     {
         self.recorder.catch_up()?;
-        let total = self.recorder.dependencies() as u32;
-        let ledger = Ledger::open(self.alloc, total)?;
-        let length = self.recorder.len() as u32;
         self.questions.reserve(1)?;
-        Ok(Asked::open(length, bound, total, ledger))
+        let length = self.recorder.len() as u32;
+        let total = self.recorder.dependencies() as u32;
+        Asked::open(self.alloc, length, bound, total)
     }
 
     /// What is answered where this question, which `open` must have made for this book as it is, is

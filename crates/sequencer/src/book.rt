@@ -150,10 +150,10 @@ impl Book {
         ensures refused { IfErr result (RefusesOffer self.old.state event.now) }
     {
         self.recorder.check(event)?;
-        if self.recorder.reserve(event).is_err() {
-            return Err(Refusal::NoMemory);
+        match self.recorder.reserve(event) {
+            Ok(()) => Ok(()),
+            Err(_) => Err(Refusal::NoMemory),
         }
-        Ok(())
     }
 
     /// How many events there are.

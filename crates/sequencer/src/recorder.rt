@@ -1,6 +1,6 @@
 //! What a book records of its trace.
 
-ghost use Rattle.std.specs.Prelude.{◌≡◌, ◌+◌, ◌≤◌, ◌<◌, [], ◌∷◌, ◌++◌, length, take, nat_eq, slice_get, Some, None, IfOk, OnOk};
+ghost use Rattle.std.specs.Prelude.{◌≡◌, ◌+◌, ◌≤◌, ◌<◌, [], ◌∷◌, ◌++◌, length, take, slice_get, Some, None, IfOk, OnOk};
 ghost use Rattle.std.specs.Arc.{arc_value};
 ghost use Rattle.std.specs.Result.{result_err};
 ghost use Rattle.trace_model.specs.declared.limits.TheConstants.{MAX_EVENTS};
@@ -21,6 +21,7 @@ use wellformed::GateTables;
 
 /// The accepted events, each lawful after those before it, with their index and their lock tables,
 /// and the event that there is room for. Contracts see what a gate shows.
+#[derive(Drop)]
 pub struct Recorder {
     alloc: Global,
     state: RandomState,
@@ -29,20 +30,6 @@ pub struct Recorder {
     index: TraceIndex,
     tables: LockTables,
     ready: Option<Event>,
-}
-
-impl Drop for Recorder {
-    fn drop(self) {
-        let Recorder {
-            alloc: _,
-            state: _,
-            limit: _,
-            gate: _,
-            index: _,
-            tables: _,
-            ready: _,
-        } = self;
-    }
 }
 
 impl Model for Recorder {
@@ -107,13 +94,6 @@ impl Recorder {
         self.index.len()
     }
 
-    /// Whether no event is recorded. It takes no memory.
-    pub fn is_empty(&self) -> bool
-        ensures { result ≡ nat_eq (length self.now.events) 0 }
-    {
-        self.len() == 0
-    }
-
     /// The event at a place, or none. It takes no memory.
     pub fn event(&self, place: Place) -> Option<Event>
         ensures { result ≡ slice_get self.now.events place }
@@ -167,7 +147,6 @@ impl Recorder {
         requires lawful { refusal_of self.old.limit self.old.events event.now ≡ None }
         ensures { self.new ≡ with_event self.old event.now }
     {
-        let _len = self.index.len();
         self.ready = None;
         record_in::<Brand>(&mut self.index, event, Blank::new(1));
         self.tables.record(event);

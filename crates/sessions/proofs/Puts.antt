@@ -1,6 +1,6 @@
 -- Bytes that are written or read one part after another.
 use Rattle.std.proofs.Common.{◌≡◌, ℕ, ◌+◌, ◌-◌, ◌≤◌, List, [], ◌++◌, length, take, drop, Option, None, Some, refl, sym, ap, subst, ◌∙◌, append_assoc, arith}
-use Rattle.std.specs.Io.KnownBytes.{Consumes, Appends, Keeps}
+use Rattle.std.specs.Io.KnownBytes.{Consumes, Appends, Keeps, append_known}
 use Rattle.std.proofs.lemmas.List.{append-nil, take_all, length-drop, drop-take, take-append-drop}
 use Rattle.std.proofs.lemmas.Grind.{common_steps}
 
@@ -35,6 +35,38 @@ took_kept None mid new x p k = tt
 took_kept (Some whole) None new x p k = absurd p
 took_kept (Some whole) (Some middle) None x p k = absurd k
 took_kept (Some whole) (Some middle) (Some rest) x p k = p ∙ ap (λ (r : List ℕ). x ++ r) (sym k)
+
+pub kept_none : (old : Option (List ℕ)) → Keeps old old
+kept_none None = tt
+kept_none (Some front) = refl
+
+pub kept_then : (old mid new : Option (List ℕ)) → Keeps old mid → Keeps mid new → Keeps old new
+kept_then None mid new j k = tt
+kept_then (Some front) None new j k = absurd j
+kept_then (Some front) (Some middle) None j k = absurd k
+kept_then (Some front) (Some middle) (Some back) j k = k ∙ j
+
+pub kept_put : (old mid new : Option (List ℕ)) (x : List ℕ) → Keeps old mid → Appends mid new x → Appends old new x
+kept_put None mid new x k p = tt
+kept_put (Some front) None new x k p = absurd k
+kept_put (Some front) (Some middle) None x k p = absurd p
+kept_put (Some front) (Some middle) (Some back) x k p = p ∙ ap (λ (f : List ℕ). f ++ x) k
+
+pub kept_took : (old mid new : Option (List ℕ)) (x : List ℕ) → Keeps old mid → Consumes mid new x → Consumes old new x
+kept_took None mid new x k p = tt
+kept_took (Some whole) None new x k p = absurd k
+kept_took (Some whole) (Some middle) None x k p = absurd p
+kept_took (Some whole) (Some middle) (Some rest) x k p = sym k ∙ p
+
+pub kept_beside : (old new : Option (List ℕ)) (x : List ℕ) → Keeps old new → Keeps (append_known old x) (append_known new x)
+kept_beside None new x k = tt
+kept_beside (Some front) None x k = absurd k
+kept_beside (Some front) (Some back) x k = ap (λ (f : List ℕ). f ++ x) k
+
+pub nothing_put : (old new : Option (List ℕ)) → Appends old new [] → Keeps old new
+nothing_put None new p = tt
+nothing_put (Some front) None p = absurd p
+nothing_put (Some front) (Some back) p = p ∙ append-nil front
 
 -- so many of the bytes are written
 pub record IsPut (old now : Option (List ℕ)) (failures failures' : ℕ) (bytes : List ℕ) (n : ℕ) : Type 0 where

@@ -11,7 +11,7 @@ use Rattle.trace_model.specs.Protocol.Frames.{requests_in, fault_in}
 use Rattle.trace_model.specs.Protocol.Replies.{reply_frame}
 use Rattle.event_frames.specs.Reader.{Reading, HasRead, IsFed}
 use Rattle.event_frames.proofs.Wholes.{leaves, feeds, nothing_read}
-use Rattle.sessions.specs.Serving.{standing, between, IsBeginning, Call, Chain, requests_called, frames_of, fault_frames, owed_fault, AreBegun, Begins, CallsAll, EndsOnlyAt, EndsAs, WentOut, Served, Answered, Broken, IsCounted}
+use Rattle.sessions.specs.Serving.{standing, between, IsBeginning, Call, Chain, requests_called, frames_of, fault_frames, owed_fault, AreBegun, Begins, CallsAll, EndsOnlyAt, EndsAs, WentOut, Served, Answered, Broken, Counts, IsCounted}
 use Rattle.sessions.specs.declared.serving.Ended.{Ended}
 use Rattle.sessions.specs.declared.serving.Ended.TheVariants.{Input, Frame}
 use Rattle.sessions.specs.declared.serving.ServeFault.{ServeFault}
@@ -32,6 +32,22 @@ called_then done fresh = map-append (λ (c : Call). c.0) done fresh
 
 pub not_ended_at : (left : Option (List ℕ)) (ended : Bool) → ended ≡ false → EndsOnlyAt ended left
 not_ended_at left ended n e = let both : true ≡ false = sym e ∙ n in absurd cc
+
+-- ---- faults are counted
+
+-- what came of sending the last bytes, where none failed before
+pub counted_end : (result : Result Ended ServeFault) (reads reads' writes before writes' : ℕ) → before ≡ writes → IfErr result (λ fault. (fault ≡ Write) × (before < writes')) → Counts result reads reads' writes writes'
+counted_end (Ok ended) reads reads' writes before writes' same h = tt
+counted_end (Err fault) reads reads' writes before writes' same h =
+    subst (λ (f : ServeFault). Counts (Err f) reads reads' writes writes') (sym h.0) (subst (λ n. n < writes') same h.1)
+
+-- what broke an answer off, where none failed before
+pub counted_broken : (fault : ServeFault) (reads reads' writes before writes' : ℕ) → before ≡ writes → IsCounted fault before writes' → Counts (Err fault) reads reads' writes writes'
+counted_broken Read reads reads' writes before writes' same h = absurd h
+counted_broken Write reads reads' writes before writes' same h = subst (λ n. n < writes') same h
+counted_broken Memory reads reads' writes before writes' same h = tt
+
+-- ---- between two reads
 
 -- all that was read is answered so far, and has no fault
 pub record IsServing {C : Type 0} (steps : C → Request → Reply → C → Type 0) (left written : Option (List ℕ)) (calls : C) (reads writes : ℕ) (reader : Reading) (left' written' : Option (List ℕ)) (calls' : C) (reads' writes' : ℕ) : Type 0 where

@@ -30,7 +30,7 @@ fn fronts_of(alloc: Global, none: &Layer, layer: &Layer, count: u32) -> Result<V
 {
     let mut fronts = Vec::with_capacity(alloc, count as usize)?;
     for slot in 0..count {
-        fronts.push(layer.front(none, slot).count())?;
+        fronts.push_reserved(layer.front(none, slot).count());
     }
     Ok(fronts)
 }
@@ -54,10 +54,10 @@ fn track_of(
     for entry in 0..count {
         let place = first.places.get(entry);
         let goal = goal_before(index, threads, place);
-        pasts.push(Past {
+        pasts.push_reserved(Past {
             number: goal.count,
             fronts: Vec::new(alloc),
-        })?;
+        });
     }
     Ok(Track {
         slot: first.slot,
@@ -80,7 +80,7 @@ fn tracks_of(
     let mut tracks = Vec::with_capacity(alloc, table.len())?;
     for number in 0..table.len() {
         let track = track_of(alloc, index, threads, table, number as u32)?;
-        tracks.push(track)?;
+        tracks.push_reserved(track);
     }
     Ok(tracks)
 }
@@ -92,10 +92,7 @@ fn in_order(
     index: &TraceIndex,
     table: &DepTable,
 ) -> Result<Vec<Option<Pointer>>, NoMemory> {
-    let mut order = Vec::with_capacity(alloc, index.len())?;
-    for _place in 0..index.len() {
-        order.push(None)?;
-    }
+    let mut order = vec![in alloc; None; index.len()]?;
     for number in 0..table.len() {
         let places = table.places(number as u32);
         for entry in 0..places.len() {

@@ -1,5 +1,6 @@
-use Rattle.std.proofs.Common.{◌≡◌, ◌<◌, ℕ, List, [], Ok, length, map, Bor, get_or, sym, ap, ◌∙◌, subst}
+use Rattle.std.proofs.Common.{◌<◌, ℕ, List, [], Ok, length, map, Bor, get_or, sym, ap, ◌∙◌, subst}
 use Rattle.std.proofs.lemmas.List.{get_or-map, length-map}
+use Rattle.std.proofs.lemmas.Result.{IfOk-from_err}
 use Rattle.event_files.specs.EventFile.{line_words}
 use Rattle.event_files.proofs.Lines.{one_more_line}
 use Rattle.event_files.proofs.event_file.events_of.Goals as goal
@@ -14,3 +15,9 @@ loop-line-preserved c =
     let pushed = c.push_events.ensures (c.in_ok-push_events.was ∙ ap Ok c.if-not-branch.false) in
     one_more_line (map shown lines) i _ _ _ within c.loop-line.invariant
     (ap (map shown) c.deref.ensures.value ∙ (c.in_ok-words.ensures ∙ sym (ap line_words here))) pushed
+
+pub returns-in_err-words : goal.returns-in_err-words
+returns-in_err-words c = IfOk-from_err c.from_residual.result _ c.from_residual.ensures.0
+
+pub returns-in_err-push_events : goal.returns-in_err-push_events
+returns-in_err-push_events c = IfOk-from_err c.from_residual-in_err-push_events.result _ c.from_residual-in_err-push_events.ensures.0

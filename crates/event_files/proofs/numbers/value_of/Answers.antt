@@ -1,8 +1,8 @@
-use Rattle.std.proofs.Common.{◌≡◌, ◌<◌, IfNone, get_or, sym, subst, ◌∙◌, arith}
+use Rattle.std.proofs.Common.{◌≡◌, ◌<◌, IfNone, get_or, sym, subst, ◌∙◌, arith, IfSome}
 use Rattle.std.specs.Char.{digit_value}
 use Rattle.std.proofs.lemmas.Bool.Decides.{nat_tests}
 use Rattle.std.proofs.lemmas.Int.Digits.{digits_more, digits_value_more}
-use Rattle.event_files.specs.Numbers.{IsTooLarge}
+use Rattle.event_files.specs.Numbers.{IsTooLarge, IsValueOf}
 use Rattle.event_files.proofs.Numerals.{no_other_byte, beginning_is_no_more}
 use Rattle.event_files.proofs.numbers.value_of.Goals as goal
 
@@ -35,3 +35,9 @@ loop-digit-preserved c =
       ),
       omega (arith, c.in_ok-value.ensures.0, c.in_ok-value.ensures.1),
     )
+
+pub returns-in_err-checked_mul-clause-some : goal.returns-in_err-checked_mul-clause-some
+returns-in_err-checked_mul-clause-some c = subst (λ told. IfSome told (IsValueOf c.args.digits.now)) (sym c.from_residual.ensures) tt
+
+pub returns-in_err-value-clause-some : goal.returns-in_err-value-clause-some
+returns-in_err-value-clause-some c = subst (λ told. IfSome told (IsValueOf c.args.digits.now)) (sym c.from_residual-in_err-value.ensures) tt

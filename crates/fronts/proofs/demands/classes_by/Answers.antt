@@ -1,4 +1,4 @@
-use Rattle.std.proofs.Common.{◌≡◌, ◌+◌, ◌++◌, ◌∷◌, [], length, refl, ap, sym, subst, ◌∙◌, arith}
+use Rattle.std.proofs.Common.{◌≡◌, ◌≤◌, ◌+◌, ◌++◌, ◌∷◌, [], length, refl, ap, sym, subst, ◌∙◌, arith}
 use Rattle.trace_model.proofs.Lists.{length-push}
 use Rattle.fronts.specs.Slots.{class_of}
 use Rattle.fronts.specs.Classes.{AreClasses, next_class, count_after}
@@ -23,8 +23,9 @@ loop-place-preserved c =
     c.slot_by-slot.ensures ∙ ap (λ z. next_class (class_of z) (firsts n) n count) c.as_slice.ensures.value in
     let is_more : more ≡ count_after (firsts n) n count = c.next_count-count.ensures ∙ count_by_class firsts (class_of of) count n slot are old is_slot in
     record {
-      length = ap length c.in_ok-push.ensures.items ∙ (length-push of slot ∙ omega (arith, len));
-      classes = subst (λ z. AreClasses firsts (class_of z) more (n + 1)) (sym c.in_ok-push.ensures.items)
+      length = ap length c.push_reserved.ensures.items ∙ (length-push of slot ∙ omega (arith, len));
+      room = subst (λ z. c.len-place-end.result ≤ z) (sym c.push_reserved.ensures.capacity) c.loop-place.invariant.room;
+      classes = subst (λ z. AreClasses firsts (class_of z) more (n + 1)) (sym c.push_reserved.ensures.items)
           (subst (λ z. AreClasses firsts (class_of (of ++ slot ∷ [])) more (z + 1)) len
           (classes_push firsts of count more slot are (subst (AreClasses firsts (class_of of) count) (sym len) old)
           (is_slot ∙ ap (λ z. next_class (class_of of) (firsts z) z count) (sym len)) (is_more ∙ ap (λ z. count_after (firsts z) z count) (sym len))));

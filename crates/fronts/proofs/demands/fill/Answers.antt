@@ -1,4 +1,4 @@
-use Rattle.std.proofs.Common.{◌≡◌, ◌<◌, Vec, slice_get, add-one, length-set, Some, length, subst, sym, ◌∙◌, arith}
+use Rattle.std.proofs.Common.{◌≡◌, ◌<◌, ◌≤◌, Vec, slice_get, add-one, length-set, Some, length, subst, sym, ◌∙◌, arith}
 use Rattle.std.proofs.lemmas.Option.{slice_get_read}
 use Rattle.std.proofs.lemmas.Result.{IfOk-from_err}
 use Rattle.std.specs.Global.{Global}
@@ -26,14 +26,16 @@ loop-place-preserved c =
     let stand = c.goal_before-stand.result in
     let a = stand.slot in
     let inv = c.loop-place.invariant in
+    let to = c.push_reserved.new.self in
     let stands : Stands s slots place a stand.count = subst (λ p. Stands s slots p a stand.count) c.new-place.ensures c.goal_before-stand.ensures in
     let few : a < threads.count = slot_within s threads place a c.requires.slots stands.slot in
     let at : slice_get lists a ≡ Some old = slice_get_read lists threads.count a old (sym inv.length) few c.index_mut.ensures.value in
     let adds : AddsDemands all place old.items new.items = subst (λ p. AddsDemands all p old.items new.items) c.new-place.ensures c.in_ok-push_demands.ensures in
     record {
       length = length-set lists a new ∙ inv.length;
-      count = length_pushed c.loop-place.stands.items c.push.new.self.items place stand c.in_ok-push.ensures.items inv.count;
-      each = each_pushed (λ p to. Stands s slots p to.slot to.count) c.loop-place.stands.items c.push.new.self.items place stand c.in_ok-push.ensures.items inv.count inv.each stands;
+      count = length_pushed c.loop-place.stands.items to.items place stand c.push_reserved.ensures.items inv.count;
+      room = subst (λ z. length s ≤ z) (sym c.push_reserved.ensures.capacity) inv.room;
+      each = each_pushed (λ p to. Stands s slots p to.slot to.count) c.loop-place.stands.items to.items place stand c.push_reserved.ensures.items inv.count inv.each stands;
       built = rw add-one (all_pushed all threads.count place a lists old new c.requires.slots stands.slot at adds inv.built);
     }
 
@@ -49,13 +51,6 @@ returns-in_err-push_demands c = record {
   stands = IfOk-from_err c.from_residual-in_err-push_demands.result _ c.from_residual-in_err-push_demands.ensures.0;
   length = length-set c.loop-place.lists.items c.goal_before-stand.result.slot c.push_demands.new.items ∙ c.loop-place.invariant.length;
   built = IfOk-from_err c.from_residual-in_err-push_demands.result _ c.from_residual-in_err-push_demands.ensures.0;
-}
-
-pub returns-in_err-push : goal.returns-in_err-push
-returns-in_err-push c = record {
-  stands = IfOk-from_err c.from_residual-in_err-push.result _ c.from_residual-in_err-push.ensures.0;
-  length = length-set c.loop-place.lists.items c.goal_before-stand.result.slot c.push_demands.new.items ∙ c.loop-place.invariant.length;
-  built = IfOk-from_err c.from_residual-in_err-push.result _ c.from_residual-in_err-push.ensures.0;
 }
 
 pub returns-in_err-new : goal.returns-in_err-new

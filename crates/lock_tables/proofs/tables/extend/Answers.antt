@@ -1,6 +1,7 @@
 use Rattle.std.proofs.Common.{◌≡◌, take, refl, subst, arith}
 use Rattle.dependencies.specs.Tables.{known}
 use Rattle.lock_graph.specs.Graph.{IsGraphOf, holders}
+use Rattle.std.proofs.lemmas.Result.{IfOk-from_err}
 use Rattle.lock_tables.proofs.OneFurther.{graph_next}
 use Rattle.lock_tables.proofs.tables.extend.Goals as goal
 
@@ -16,3 +17,6 @@ returns c =
     let end = c.loop-number.auto.number-end in
     let last : c.loop-number.number ≡ c.args.to = omega (arith, c.requires.order) in
     subst (λ n. IsGraphOf (take n (known c.args.table.now)) (holders c.loop-number.graph)) last c.loop-number.invariant
+
+pub returns-in_err-add : goal.returns-in_err-add
+returns-in_err-add c = IfOk-from_err c.from_residual.result _ c.from_residual.ensures.0

@@ -2,6 +2,7 @@ use Rattle.std.proofs.Common.{take, sym, subst, arith}
 use Rattle.std.specs.Arc.{arc_value}
 use Rattle.dependencies.specs.Tables.{known}
 use Rattle.lock_graph.specs.Graph.{HasGraphOf, IsGraphOf}
+use Rattle.std.proofs.lemmas.Result.{IfOk-from_err}
 use Rattle.lock_tables.specs.Tables.{shared_holders}
 use Rattle.lock_tables.proofs.OneFurther.{graph_same, graph_part}
 use Rattle.lock_tables.proofs.tables.graph_of.Goals as goal
@@ -29,3 +30,15 @@ returns-2 c =
           subst (HasGraphOf (take c.args.total all)) (sym w.copy-is)
           (graph_part all c.args.total c.args.graphed _ (graph_same _ _ _ c.in_ok-copy.ensures c.requires.graph) (omega arith) c.requires.graphed)
     ])
+
+pub returns-in_err-try_clone : goal.returns-in_err-try_clone
+returns-in_err-try_clone c = IfOk-from_err c.from_residual.result _ c.from_residual.ensures.0
+
+pub returns-in_err-copy : goal.returns-in_err-copy
+returns-in_err-copy c = IfOk-from_err c.from_residual-in_err-copy.result _ c.from_residual-in_err-copy.ensures.0
+
+pub returns-in_err-extend : goal.returns-in_err-extend
+returns-in_err-extend c = IfOk-from_err c.from_residual-in_err-extend.result _ c.from_residual-in_err-extend.ensures.0
+
+pub returns-in_err-new : goal.returns-in_err-new
+returns-in_err-new c = IfOk-from_err c.from_residual-in_err-new.result _ c.from_residual-in_err-new.ensures.0

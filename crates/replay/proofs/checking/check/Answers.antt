@@ -2,6 +2,7 @@ use Rattle.std.proofs.Common.{◌≡◌, List, ℕ, subst}
 use Rattle.std.specs.Prelude.{IfOk, Ok, Err, Result, ◌↔◌}
 use Rattle.trace_model.specs.Theory.Lawful.{IsWellFormed}
 use Rattle.trace_model.specs.Theory.Trace.{Trace}
+use Rattle.std.proofs.lemmas.Result.{IfOk-from_err}
 use Rattle.replay.specs.declared.verdict.Verdict.{Verdict}
 use Rattle.replay.specs.declared.verdict.Verdict.TheVariants.{Reaches}
 use Rattle.replay.specs.Laws.{IsWitnessFor}
@@ -24,3 +25,15 @@ walk-requires-clause-begins c =
 pub returns-clause-exact : goal.returns-clause-exact
 returns-clause-exact c =
     exact_of c.args.trace.now c.requires c.args.order.now c.args.instance.now c.walk.result c.walk.ensures
+
+pub returns-in_err-facts-clause-verdict : goal.returns-in_err-facts-clause-verdict
+returns-in_err-facts-clause-verdict c = IfOk-from_err c.from_residual.result _ c.from_residual.ensures.0
+
+pub returns-in_err-facts-clause-exact : goal.returns-in_err-facts-clause-exact
+returns-in_err-facts-clause-exact c = IfOk-from_err c.from_residual.result _ c.from_residual.ensures.0
+
+pub returns-in_err-walked-clause-verdict : goal.returns-in_err-walked-clause-verdict
+returns-in_err-walked-clause-verdict c = IfOk-from_err c.from_residual-in_err-walked.result _ c.from_residual-in_err-walked.ensures.0
+
+pub returns-in_err-walked-clause-exact : goal.returns-in_err-walked-clause-exact
+returns-in_err-walked-clause-exact c = IfOk-from_err c.from_residual-in_err-walked.result _ c.from_residual-in_err-walked.ensures.0

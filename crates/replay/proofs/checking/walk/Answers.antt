@@ -3,6 +3,7 @@ use Rattle.std.proofs.lemmas.Option.{slice_get-get_or}
 use Rattle.trace_model.specs.declared.traces.event.Event.{Event}
 use Rattle.trace_model.specs.declared.traces.event.Op.TheVariants.{Fork}
 use Rattle.trace_model.specs.Theory.Trace.{Does}
+use Rattle.std.proofs.lemmas.Result.{IfOk-from_err}
 use Rattle.replay.specs.Verdict.{order_tests}
 use Rattle.replay.proofs.Verdicts.{follows_so, passes_more}
 use Rattle.replay.proofs.LastPlaces.{walked_next}
@@ -50,3 +51,6 @@ loop-k-preserved c =
 
 pub check_instance-requires-clause-passes : goal.check_instance-requires-clause-passes
 check_instance-requires-clause-passes c k q l e = c.loop-k.invariant.passes k q (omega arith) e
+
+pub returns-in_err-push : goal.returns-in_err-push
+returns-in_err-push c = IfOk-from_err c.from_residual.result _ c.from_residual.ensures.0

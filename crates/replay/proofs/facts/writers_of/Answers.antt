@@ -1,9 +1,11 @@
-use Rattle.std.proofs.Common.{get_or, nat_eq, ◌∙◌}
+use Rattle.std.proofs.Common.{get_or, nat_eq, ◌∙◌, ◌≡◌, length, ap, arith}
 use Rattle.std.specs.HashMap.{get}
 use Rattle.std.proofs.lemmas.Option.{slice_get-get_or}
 use Rattle.trace_model.specs.declared.traces.event.Event.{Event}
 use Rattle.trace_model.specs.declared.traces.event.Op.TheVariants.{Fork, Write}
 use Rattle.trace_model.specs.Theory.Lookups.{writer}
+use Rattle.std.proofs.lemmas.Result.{IfOk-from_err}
+use Rattle.replay.specs.Facts.{each}
 use Rattle.replay.proofs.FactLists.{each_more, does_more, writer_seen}
 use Rattle.replay.proofs.facts.writers_of.Goals as goal
 
@@ -22,3 +24,17 @@ loop-index-preserved c =
       writers = c.in_ok-push.ensures.items ∙ each_more (writer s) n c.loop-index.writers.items c.last_of_read-writer.result h.writers seen;
       writes = λ v. does_more s Write n v e _ _ at (h.writes v) (rw c.new.ensures at c.in_ok-note_write.ensures v);
     }
+
+pub returns-in_err-writers : goal.returns-in_err-writers
+returns-in_err-writers c = IfOk-from_err c.from_residual.result _ c.from_residual.ensures.0
+
+pub returns-in_err-push : goal.returns-in_err-push
+returns-in_err-push c = IfOk-from_err c.from_residual-in_err-push.result _ c.from_residual-in_err-push.ensures.0
+
+pub returns-in_err-note_write : goal.returns-in_err-note_write
+returns-in_err-note_write c = IfOk-from_err c.from_residual-in_err-note_write.result _ c.from_residual-in_err-note_write.ensures.0
+
+pub returns : goal.returns
+returns c =
+    let whole : c.loop-index.index ≡ length c.args.trace.now = omega (arith, c.loop-index-test.false, c.loop-index.auto.index-end) in
+    c.loop-index.invariant.writers ∙ ap (each (writer c.args.trace.now)) whole

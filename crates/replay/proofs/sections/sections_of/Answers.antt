@@ -8,6 +8,8 @@ use Rattle.trace_model.specs.declared.traces.event.Op.TheVariants.{Fork}
 use Rattle.trace_model.specs.Theory.Lookups.{release}
 use Rattle.trace_model.proofs.Theory.OneMore.{length_well_formed}
 use Rattle.trace_model.specs.Theory.Held.{begun}
+use Rattle.std.proofs.lemmas.Result.{IfOk-from_err}
+use Rattle.replay.specs.Facts.{each}
 use Rattle.replay.specs.OpenSections.{open_after, ended_by, with_end}
 use Rattle.replay.proofs.FactLists.{each_more}
 use Rattle.replay.proofs.OpenSections.{blank_is, IsOpen, so_far, so_far_all, none_so_far, none_open, open_more, has_room, begun_seen, ended_so, ended_from, releases_more, length-with_end}
@@ -66,3 +68,38 @@ returns-clause-releases c q l =
     let s = c.args.trace.now in
     let whole : c.loop-index.index ≡ length s = omega (arith, c.loop-index-test.false, c.loop-index.auto.index-end) in
     c.loop-index.invariant.releases q l ∙ ap (λ k. Some (so_far k (release s q))) whole ∙ ap Some (so_far_all s q)
+
+pub returns-in_err-begins-clause-begins : goal.returns-in_err-begins-clause-begins
+returns-in_err-begins-clause-begins c = IfOk-from_err c.from_residual.result _ c.from_residual.ensures.0
+
+pub returns-in_err-begins-clause-releases : goal.returns-in_err-begins-clause-releases
+returns-in_err-begins-clause-releases c = IfOk-from_err c.from_residual.result _ c.from_residual.ensures.0
+
+pub returns-in_err-releases-clause-begins : goal.returns-in_err-releases-clause-begins
+returns-in_err-releases-clause-begins c = IfOk-from_err c.from_residual-in_err-releases.result _ c.from_residual-in_err-releases.ensures.0
+
+pub returns-in_err-releases-clause-releases : goal.returns-in_err-releases-clause-releases
+returns-in_err-releases-clause-releases c = IfOk-from_err c.from_residual-in_err-releases.result _ c.from_residual-in_err-releases.ensures.0
+
+pub returns-in_err-resize-clause-begins : goal.returns-in_err-resize-clause-begins
+returns-in_err-resize-clause-begins c = IfOk-from_err c.from_residual-in_err-resize.result _ c.from_residual-in_err-resize.ensures.0
+
+pub returns-in_err-resize-clause-releases : goal.returns-in_err-resize-clause-releases
+returns-in_err-resize-clause-releases c = IfOk-from_err c.from_residual-in_err-resize.result _ c.from_residual-in_err-resize.ensures.0
+
+pub returns-in_err-push-clause-begins : goal.returns-in_err-push-clause-begins
+returns-in_err-push-clause-begins c = IfOk-from_err c.from_residual-in_err-push.result _ c.from_residual-in_err-push.ensures.0
+
+pub returns-in_err-push-clause-releases : goal.returns-in_err-push-clause-releases
+returns-in_err-push-clause-releases c = IfOk-from_err c.from_residual-in_err-push.result _ c.from_residual-in_err-push.ensures.0
+
+pub returns-in_err-note-clause-begins : goal.returns-in_err-note-clause-begins
+returns-in_err-note-clause-begins c = IfOk-from_err c.from_residual-in_err-note.result _ c.from_residual-in_err-note.ensures.0
+
+pub returns-in_err-note-clause-releases : goal.returns-in_err-note-clause-releases
+returns-in_err-note-clause-releases c = IfOk-from_err c.from_residual-in_err-note.result _ c.from_residual-in_err-note.ensures.0
+
+pub returns-clause-begins : goal.returns-clause-begins
+returns-clause-begins c =
+    let whole : c.loop-index.index ≡ length c.args.trace.now = omega (arith, c.loop-index-test.false, c.loop-index.auto.index-end) in
+    c.loop-index.invariant.begins ∙ ap (each (begun c.args.trace.now)) whole

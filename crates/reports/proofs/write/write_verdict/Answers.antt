@@ -1,7 +1,7 @@
-use Rattle.std.proofs.Common.{codes, flat_map, arith}
+use Rattle.std.proofs.Common.{◌++◌, codes, flat_map, arith}
 use Rattle.std.proofs.lemmas.Grind.{common_steps}
 use Rattle.reports.specs.Text.{member_line}
-use Rattle.reports.proofs.Taking.{takes_second}
+use Rattle.reports.proofs.Taking.{takes_second, lacks_begun}
 use Rattle.reports.proofs.write.write_verdict.Goals as goal
 
 pub returns-in_ok-take-in-None : goal.returns-in_ok-take-in-None
@@ -9,7 +9,9 @@ returns-in_ok-take-in-None g c =
     rw c.in-None.is (takes_second g.T.Taker.room _ _ _ (codes " potential\n") (flat_map member_line c.args.dependencies.now) c.write_members.result c.in_ok-take-in-None.ensures c.write_members.ensures)
 
 pub returns-in_err-take-in-None : goal.returns-in_err-take-in-None
-returns-in_err-take-in-None g c = grind (arith, common_steps)
+returns-in_err-take-in-None g c =
+    rw c.in-None.is (lacks_begun g.T.Taker.room _ _ (codes " potential\n") (codes " potential\n" ++ flat_map member_line c.args.dependencies.now) _ c.from_residual.ensures.0
+    (omega arith) c.in_err-take-in-None.ensures)
 
 pub returns-in_err-take-in-Some : goal.returns-in_err-take-in-Some
 returns-in_err-take-in-Some g c = grind (arith, common_steps)

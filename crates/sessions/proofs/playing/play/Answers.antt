@@ -1,4 +1,5 @@
 use Rattle.std.proofs.Common.{refl, sym, subst}
+use Rattle.std.proofs.lemmas.Bool.{false≢true}
 use Rattle.trace_model.specs.Protocol.Machine.{State}
 use Rattle.trace_model.specs.Theory.Rows.{AreRows}
 use Rattle.trace_model.specs.Protocol.Bounds.{StateFits}
@@ -22,3 +23,25 @@ returns-in-Ok-play_over-clause-exact c =
 pub returns-in-Ok-play_over-clause-deadlocks : goal.returns-in-Ok-play_over-clause-deadlocks
 returns-in-Ok-play_over-clause-deadlocks c =
     opened_tells c.in-Ok.book.state c.args.max_events (actions c.args.inputs.items) c.in-Ok.ensures.made (c.in-Ok.ensures.limit.0 refl).1 c.in-Ok-play_over.ensures.exact
+
+pub returns-in_default : goal.returns-in_default
+returns-in_default c = record {
+  sent = tt;
+  deliveries = tt;
+  book = tt;
+  exact = tt;
+  deadlocks = tt;
+  limit = tt;
+  refused = λ allowed. absurd (false≢true (c.in_default.ensures.limit.1 allowed));
+}
+
+pub returns-in-Err : goal.returns-in-Err
+returns-in-Err c = record {
+  sent = tt;
+  deliveries = tt;
+  book = tt;
+  exact = tt;
+  deadlocks = tt;
+  limit = tt;
+  refused = c.in-Ok.ensures.limit.0 refl;
+}

@@ -1,4 +1,4 @@
-use Rattle.std.proofs.Common.{◌≡◌, ◌∙◌}
+use Rattle.std.proofs.Common.{◌≡◌, ◌≤◌, sym, subst, ◌∙◌}
 use Rattle.fronts.specs.Layers.{front_of}
 use Rattle.fronts.proofs.BuildLemmas.{each_pushed, length_pushed}
 use Rattle.sp_closure.proofs.pasts.fronts_of.Goals as goal
@@ -6,11 +6,12 @@ use Rattle.sp_closure.proofs.pasts.fronts_of.Goals as goal
 pub loop-slot-preserved : goal.loop-slot-preserved
 loop-slot-preserved c =
     let fronts = c.loop-slot.fronts.items in
-    let more = c.push.new.self.items in
+    let more = c.push_reserved.new.self.items in
     let slot = c.loop-slot.slot in
-    let pushed = c.in_ok-push.ensures.items in
+    let pushed = c.push_reserved.ensures.items in
     let inv = c.loop-slot.invariant in
     record {
       length = length_pushed fronts more slot c.count.result pushed inv.length;
+      room = subst (λ z. c.args.count ≤ z) (sym c.push_reserved.ensures.capacity) inv.room;
       exact = each_pushed (λ a n. n ≡ front_of c.args.none.now c.args.layer.now a) fronts more slot c.count.result pushed inv.length inv.exact (c.count.ensures ∙ c.front.ensures);
     }

@@ -1,4 +1,4 @@
-use Rattle.std.proofs.Common.{inl, inr, [], ◌∷◌, length, slice_get, sym, ap, subst, ◌∙◌, arith}
+use Rattle.std.proofs.Common.{◌≤◌, inl, inr, [], ◌∷◌, length, slice_get, sym, ap, subst, ◌∙◌, arith}
 use Rattle.std.proofs.lemmas.List.{length-append}
 use Rattle.std.specs.List.{Contains}
 use Rattle.std.specs.List.Sorted.{IsStrictlyIncreasing}
@@ -30,8 +30,9 @@ loop-entry-preserved c =
     let place = c.get-place.result in
     let fresh : Past = record { number = c.goal_before-goal.result.count; fronts = c.new.result } in
     record {
-      count = omega (arith, ap length c.in_ok-push.ensures.items, length-append c.loop-entry.pasts.items (fresh ∷ []), was.count);
-      made = λ k x at. elim (get-push c.loop-entry.pasts.items fresh k x (ap (λ xs. slice_get xs k) (sym c.in_ok-push.ensures.items) ∙ at)) [
+      count = omega (arith, ap length c.push_reserved.ensures.items, length-append c.loop-entry.pasts.items (fresh ∷ []), was.count);
+      room = subst (λ z. c.len-count.result ≤ z) (sym c.push_reserved.ensures.capacity) was.room;
+      made = λ k x at. elim (get-push c.loop-entry.pasts.items fresh k x (ap (λ xs. slice_get xs k) (sym c.push_reserved.ensures.items) ∙ at)) [
         | inl old ↦ was.made k x old
         | inr new ↦
             let here : IsMade s slots first.places first.slot c.loop-entry.entry fresh = record {

@@ -1,4 +1,4 @@
-use Rattle.std.proofs.Common.{inl, inr, [], ◌∷◌, length, slice_get, sym, ap, subst, ◌∙◌, arith}
+use Rattle.std.proofs.Common.{◌≤◌, inl, inr, [], ◌∷◌, length, slice_get, sym, ap, subst, ◌∙◌, arith}
 use Rattle.std.proofs.lemmas.List.{length-append}
 use Rattle.trace_model.proofs.Lists.{get-push}
 use Rattle.fronts.specs.Slots.{slots_of}
@@ -12,8 +12,9 @@ loop-number-preserved c =
     let fresh = c.in_ok-track.track in
     let slots = slots_of c.args.threads.now in
     record {
-      count = omega (arith, ap length c.in_ok-push.ensures.items, length-append c.loop-number.tracks.items (fresh ∷ []), was.count);
-      each = λ m track at. elim (get-push c.loop-number.tracks.items fresh m track (ap (λ xs. slice_get xs m) (sym c.in_ok-push.ensures.items) ∙ at)) [
+      count = omega (arith, ap length c.push_reserved.ensures.items, length-append c.loop-number.tracks.items (fresh ∷ []), was.count);
+      room = subst (λ z. c.len-number-end.result ≤ z) (sym c.push_reserved.ensures.capacity) was.room;
+      each = λ m track at. elim (get-push c.loop-number.tracks.items fresh m track (ap (λ xs. slice_get xs m) (sym c.push_reserved.ensures.items) ∙ at)) [
         | inl old ↦ was.each m track old
         | inr new ↦ subst (λ z. IsTrack s slots z track) (sym (new.0 ∙ was.count)) (subst (IsTrack s slots c.loop-number.number) new.1 c.in_ok-track.ensures)
       ];

@@ -4,6 +4,7 @@ use Rattle.std.proofs.lemmas.Option.{slice_get-get_or}
 use Rattle.trace_model.specs.declared.traces.event.Op.TheVariants.{Fork}
 use Rattle.trace_model.specs.Theory.Lawful.{IsWellFormed}
 use Rattle.trace_model.proofs.Lists.{take_next}
+use Rattle.std.proofs.lemmas.Result.{IfOk-from_err}
 use Rattle.wellformed.specs.Tables.{FollowEvents}
 use Rattle.wellformed.proofs.whole_lists.first_unlawful.Goals as goal
 
@@ -29,3 +30,6 @@ returns c =
     let s = c.args.events.now in
     let past = c.loop-index-test.false in
     subst IsWellFormed (take_all c.loop-index.index s (omega arith)) (c.loop-index.invariant).well_formed
+
+pub returns-in_err-reserve : goal.returns-in_err-reserve
+returns-in_err-reserve c = IfOk-from_err c.from_residual.result _ c.from_residual.ensures.0

@@ -1,4 +1,5 @@
 use Rattle.std.proofs.Common.{sym, subst, arith}
+use Rattle.std.proofs.lemmas.Result.{IfOk-from_err}
 use Rattle.dependencies.specs.Entries.{IsKeptOf}
 use Rattle.dependencies.proofs.Shown.{length_from}
 use Rattle.dependencies.proofs.Parts.{part_is, part_rows, part_kept}
@@ -36,3 +37,21 @@ returns-clause-kept c =
     subst (IsKeptOf c.in_ok-share.field-0.keys c.in_ok-share-2.field-0.notes) (sym c.in_ok-share-2.ensures.numbers)
     (part_kept e.keys.keys c.in_ok-share.field-0.keys e.places.notes c.in_ok-share-2.field-0.notes e.places.numbers c.args.total c.args.bound
     c.requires.kept c.requires.rows c.requires.total c.in_ok-share.ensures c.in_ok-share-2.ensures.notes)
+
+pub returns-in_err-share-clause-part : goal.returns-in_err-share-clause-part
+returns-in_err-share-clause-part c = IfOk-from_err c.from_residual.result _ c.from_residual.ensures.0
+
+pub returns-in_err-share-clause-rows : goal.returns-in_err-share-clause-rows
+returns-in_err-share-clause-rows c = IfOk-from_err c.from_residual.result _ c.from_residual.ensures.0
+
+pub returns-in_err-share-clause-kept : goal.returns-in_err-share-clause-kept
+returns-in_err-share-clause-kept c = IfOk-from_err c.from_residual.result _ c.from_residual.ensures.0
+
+pub returns-in_err-share-2-clause-part : goal.returns-in_err-share-2-clause-part
+returns-in_err-share-2-clause-part c = IfOk-from_err c.from_residual-in_err-share-2.result _ c.from_residual-in_err-share-2.ensures.0
+
+pub returns-in_err-share-2-clause-rows : goal.returns-in_err-share-2-clause-rows
+returns-in_err-share-2-clause-rows c = IfOk-from_err c.from_residual-in_err-share-2.result _ c.from_residual-in_err-share-2.ensures.0
+
+pub returns-in_err-share-2-clause-kept : goal.returns-in_err-share-2-clause-kept
+returns-in_err-share-2-clause-kept c = IfOk-from_err c.from_residual-in_err-share-2.result _ c.from_residual-in_err-share-2.ensures.0

@@ -1,6 +1,7 @@
 use Rattle.std.proofs.Common.{◌≡◌, suc, length, take, slice_get, Some, sym, ap, ◌∙◌, arith}
 use Rattle.std.proofs.lemmas.List.{length-take-le}
 use Rattle.std.specs.Map.{keys_of}
+use Rattle.std.proofs.lemmas.Result.{IfOk-from_err}
 use Rattle.dependencies.proofs.Shown.{next_key}
 use Rattle.dependencies.proofs.keys.Keys.number_next.Goals as goal
 
@@ -27,3 +28,6 @@ returns-clause-ok c =
     let len = ap length (next_is c) ∙ length-take-le (suc c.args.number) c.self.inside.list.0 (let w = c.requires.within in omega arith) in
     let next = c.requires.next in
     omega arith
+
+pub returns-in_err-insert-clause-ok : goal.returns-in_err-insert-clause-ok
+returns-in_err-insert-clause-ok c = IfOk-from_err c.from_residual.result _ c.from_residual.ensures.0

@@ -4,6 +4,7 @@ use Rattle.std.specs.Map.{keys_of}
 use Rattle.indexmap.proofs.MapLemmas.{distinct-take}
 use Rattle.trace_model.specs.Theory.Dependencies.{same_dependency}
 use Rattle.trace_model.proofs.Lists.{take_next}
+use Rattle.std.proofs.lemmas.Result.{IfOk-from_err}
 use Rattle.dependencies.proofs.Shown.{dependencies_are}
 use Rattle.dependencies.proofs.keys.Keys.share.Goals as goal
 
@@ -23,3 +24,9 @@ invariant_of-result c =
           (distinct-take dependencies_are c.loop-number.number c.self.inside.list.0 c.self.invariant.once);
       first = subst (λ ks. ks ≡ take (length ks) c.loop-number.list.0) (sym none) refl;
     }
+
+pub returns-in_err-list : goal.returns-in_err-list
+returns-in_err-list c = IfOk-from_err c.from_residual.result _ c.from_residual.ensures.0
+
+pub returns-in_err-reserve : goal.returns-in_err-reserve
+returns-in_err-reserve c = IfOk-from_err c.from_residual-in_err-reserve.result _ c.from_residual-in_err-reserve.ensures.0

@@ -1,13 +1,14 @@
-use Rattle.std.proofs.Common.{rules, ◌≡◌, [], ◌∷◌, ◌++◌, sym, ap, subst, ◌∙◌}
+use Rattle.std.proofs.Common.{◌≡◌, [], ◌∷◌, ◌++◌, sym, ap, subst, ◌∙◌}
 use Rattle.trace_model.specs.declared.messages.step.BoardStep.TheVariants.{Open}
 use Rattle.trace_model.specs.declared.messages.session.Request.TheVariants.{Ask}
 use Rattle.trace_model.specs.declared.messages.session.Reply.TheVariants.{Refused}
 use Rattle.trace_model.specs.declared.refusal.Refusal.TheVariants.{NoMemory}
-use Rattle.trace_model.specs.Protocol.Machine.{State}
+use Rattle.trace_model.specs.Protocol.Machine.{State, step}
 use Rattle.trace_model.specs.Protocol.Runs.{IsLegal}
-use Rattle.sequencer.specs.Book.{Refuses, ask_refusal}
+use Rattle.sequencer.specs.Book.{Refuses, ask_refusal, opened_reply}
+use Rattle.sequencer.specs.Printing.{printing}
 use Rattle.desk.specs.Published.{After, Kept}
-use Rattle.desk.proofs.Steps.{after_shown, kept_on, legal_kept, legal_next, no_memory_ask, refuses_ask, takes_ask}
+use Rattle.desk.proofs.Steps.{after_shown, kept_on, legal_kept, legal_next, no_memory_ask, refuses_ask, steps_ask, takes_ask}
 use Rattle.desk.proofs.locked.Locked.ask.Goals as goal
 
 pub publish-requires-clause-legal : goal.publish-requires-clause-legal
@@ -74,11 +75,18 @@ pub returns : goal.returns
 returns g c =
     let limit = g.N.Naming.limit in
     let k = invariant_of-self-2 g c in
+    let s = c.self.inside.book.state in
+    let next = c.add.new.self.state in
+    let bound = c.args.bound in
+    let opened = c.opens-opened.result in
+    let same = c.bound.ensures ∙ c.in-Ok.ensures.ok.0 in
     record {
       before = after_shown limit _ _ c.self.view_is c.self.invariant.after;
       after = k.after;
-      opened = search rules;
-      published = search rules;
+      opened = subst (λ (x : Kept). step printing x.state (Ask bound) ≡ (opened_reply opened, next)) c.self.view_is
+          (steps_ask s c.open.new.self.state next bound c.in-Ok.asked.bound opened c.in-Ok.ensures.shown c.in-Ok.ensures.ok.0 c.in-Ok.ensures.allowed c.opens-opened.ensures c.add.ensures);
+      published = c.publish.ensures.published ∙ ((λ i. c.in-Ok-grow.ensures.published i ++ (c.in-Ok-grow.ensures.waiting ∙ ap (λ n. Open n opened.total ∷ []) same) i)
+          ∙ ap (λ (x : Kept). x.published ++ Open bound opened.total ∷ []) c.self.view_is);
       refused = tt;
       same = tt;
       receipt = c.publish.ensures.receipt;

@@ -1,11 +1,11 @@
-use Rattle.std.proofs.Common.{List, [], ◌∷◌, ◌++◌, length, sym, ap, subst, ◌∙◌, arith, append_assoc}
-use Rattle.std.proofs.lemmas.List.{append-nil}
+use Rattle.std.proofs.Common.{◌≡◌, List, [], ◌∷◌, ◌++◌, length, refl, sym, ap, subst, ◌∙◌, arith, append_assoc}
+use Rattle.std.proofs.lemmas.List.{append-nil, nil_from_length}
 use Rattle.snapshots.specs.Found.{FoundRows}
 use Rattle.sequencer.specs.Deliveries.{Delivered}
 use Rattle.trace_model.specs.Protocol.Runs.{IsLegal}
 use Rattle.desk.specs.Published.{After, Kept}
 use Rattle.desk.specs.Together.{AreOutcomes, taken_steps}
-use Rattle.desk.proofs.Steps.{legal_kept}
+use Rattle.desk.proofs.Steps.{after_shown, legal_kept}
 use Rattle.desk.proofs.Together.{none_yet, outcome_of, outcomes_more, steps_more, steps_of}
 use Rattle.desk.proofs.locked.Locked.deliver_all.Goals as goal
 
@@ -42,7 +42,38 @@ loop-finding-preserved g c =
       room = omega (arith, i.room, c.push_reserved.ensures.len, c.push_reserved.ensures.capacity, ap length c.in-Some.ensures.steps.0);
     }
 
-pub returns-in_default-clause-legal : goal.returns-in_default-clause-legal
-returns-in_default-clause-legal g c =
+pub returns-in_default : goal.returns-in_default
+returns-in_default g c =
+    let limit = g.N.Naming.limit in
     let b = c.self.inside.board in
-    subst (λ (k : Kept). IsLegal k.published) c.self.view_is (legal_kept g.N.Naming.limit b.published b.waiting c.self.inside.book.state c.self.invariant)
+    let k = c.self.invariant in
+    record {
+      after = after_shown limit _ _ c.self.view_is k.after;
+      outcomes = tt;
+      published = tt;
+      receipt = tt;
+      back = refl;
+      same = refl;
+      some = grind (arith, c.in_default.ensures.succeeds, c.new-outcomes.ensures.len, c.len.ensures);
+      legal = subst (λ (x : Kept). IsLegal x.published) c.self.view_is (legal_kept limit b.published b.waiting c.self.inside.book.state k);
+    }
+
+pub returns : goal.returns
+returns g c =
+    let i = c.loop-finding.invariant in
+    let rest = c.loop-finding.finding-iterator.rest in
+    let outcomes = c.loop-finding.outcomes.items in
+    let run = c.args.self.now.published in
+    let none : rest.items ≡ [] = nil_from_length rest.items (omega (arith, rest.ok.0, c.in-None.ensures.steps.0)) in
+    let all : c.loop-finding.yielded ≡ c.args.findings.items =
+    sym (append-nil c.loop-finding.yielded) ∙ (ap (λ (xs : List FoundRows). c.loop-finding.yielded ++ xs) (sym none) ∙ i.rest) in
+    record {
+      after = i.after;
+      outcomes = subst (λ (fs : List FoundRows). AreOutcomes g.N.Naming.limit run fs outcomes) all i.are;
+      published = i.run ∙ ap (λ (fs : List FoundRows). run ++ taken_steps fs outcomes) all;
+      receipt = c.receipt.ensures.published;
+      back = tt;
+      same = tt;
+      some = tt;
+      legal = c.receipt.ensures.legal;
+    }

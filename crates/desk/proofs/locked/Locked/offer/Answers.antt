@@ -1,13 +1,14 @@
-use Rattle.std.proofs.Common.{rules, ◌≡◌, [], ◌∷◌, ◌++◌, sym, ap, subst, ◌∙◌}
+use Rattle.std.proofs.Common.{◌≡◌, [], ◌∷◌, ◌++◌, sym, ap, subst, ◌∙◌}
 use Rattle.trace_model.specs.declared.messages.step.BoardStep.TheVariants.{Accept}
 use Rattle.trace_model.specs.declared.messages.session.Request.TheVariants.{Offer}
-use Rattle.trace_model.specs.declared.messages.session.Reply.TheVariants.{Refused}
+use Rattle.trace_model.specs.declared.messages.session.Reply.TheVariants.{Placed, Refused}
 use Rattle.trace_model.specs.declared.refusal.Refusal.TheVariants.{NoMemory}
-use Rattle.trace_model.specs.Protocol.Machine.{State}
+use Rattle.trace_model.specs.Protocol.Machine.{State, step}
 use Rattle.trace_model.specs.Protocol.Runs.{IsLegal}
 use Rattle.sequencer.specs.Book.{Refuses}
+use Rattle.sequencer.specs.Printing.{printing}
 use Rattle.desk.specs.Published.{After, Kept}
-use Rattle.desk.proofs.Steps.{after_shown, kept_on, legal_kept, legal_next, no_memory_offer, refuses_offer, takes_offer}
+use Rattle.desk.proofs.Steps.{after_shown, kept_on, legal_kept, legal_next, no_memory_offer, refuses_offer, steps_offer, takes_offer}
 use Rattle.desk.proofs.locked.Locked.offer.Goals as goal
 
 pub publish-requires-clause-legal : goal.publish-requires-clause-legal
@@ -70,11 +71,17 @@ pub returns : goal.returns
 returns g c =
     let limit = g.N.Naming.limit in
     let k = invariant_of-self-2 g c in
+    let s = c.self.inside.book.state in
+    let next = c.accept.new.self.state in
+    let event = c.args.event in
+    let place = c.new-place.result in
     record {
       before = after_shown limit _ _ c.self.view_is c.self.invariant.after;
       after = k.after;
-      placed = search rules;
-      published = search rules;
+      placed = subst (λ (x : Kept). step printing x.state (Offer event) ≡ (Placed place, next)) c.self.view_is
+          (steps_offer s c.admit.new.self.state next event place c.in_default.ensures.shown c.in_default.ensures.ok.1 (c.new-place.ensures ∙ c.len.ensures.value) c.accept.ensures);
+      published = c.publish.ensures.published ∙ ((λ i. c.in-Ok.ensures.published i ++ (c.in-Ok.ensures.waiting ∙ ap (λ es. Accept es ∷ []) c.of.ensures) i)
+          ∙ ap (λ (x : Kept). x.published ++ Accept (event ∷ []) ∷ []) c.self.view_is);
       refused = tt;
       same = tt;
       receipt = c.publish.ensures.receipt;

@@ -1,4 +1,4 @@
-use Rattle.std.proofs.Common.{rules, ◌≡◌, [], ◌∷◌, ◌++◌, map, take, inr, refl, sym, ap, subst, ◌∙◌}
+use Rattle.std.proofs.Common.{◌≡◌, [], ◌∷◌, ◌++◌, map, take, inr, refl, sym, ap, subst, ◌∙◌}
 use Rattle.trace_model.specs.declared.messages.step.BoardStep.TheVariants.{Accept}
 use Rattle.trace_model.specs.Protocol.Machine.{State}
 use Rattle.trace_model.specs.declared.refusal.Refusal.TheVariants.{NoMemory}
@@ -6,7 +6,7 @@ use Rattle.trace_model.specs.Protocol.Runs.{IsLegal}
 use Rattle.sequencer.specs.Batched.{IsBatched}
 use Rattle.board.specs.Fits.{kept}
 use Rattle.desk.specs.Published.{After, Kept}
-use Rattle.desk.proofs.Steps.{after_shown, first_admitted, kept_on, legal_kept, legal_next, none_accepted, none_batched, takes_batch}
+use Rattle.desk.proofs.Steps.{accepting_some, after_shown, first_admitted, kept_on, legal_kept, legal_next, none_accepted, none_batched, takes_batch}
 use Rattle.desk.proofs.locked.Locked.offer_batch.Goals as goal
 
 pub accept_batch-batched-requires-clause-admitted : goal.accept_batch-batched-requires-clause-admitted
@@ -95,11 +95,14 @@ returns g c =
     let es = c.args.events.now in
     let out = c.accept_batch-batched.result in
     let came = subst (λ (m : State). IsBatched m es out next) c.admit.ensures.shown c.accept_batch-batched.ensures.batched in
+    let waits : c.keep.new.self.waiting ≡ Accept (take out.accepted es) ∷ [] =
+    c.keep.ensures.waiting ∙ (ap (map (kept c.from.result)) c.in-Ok.ensures.waiting ∙ (λ i. Accept (take (c.from.ensures i) (c.in-Some.ensures.value i)) ∷ [])) in
     record {
       before = after_shown limit _ _ c.self.view_is c.self.invariant.after;
       after = k.after;
       batched = subst (λ (x : Kept). IsBatched x.state es out next) c.self.view_is came;
-      published = search rules;
+      published = c.publish.ensures.published ∙ ((λ i. (c.keep.ensures.published ∙ c.in-Ok.ensures.published) i ++ waits i)
+          ∙ (λ i. (c.self.view_is i).published ++ sym (accepting_some es out.accepted c.accept_batch-batched.ensures.some c.requires.0) i));
       receipt = c.publish.ensures.receipt;
       legal = legal_kept limit _ _ _ k;
     }

@@ -1,6 +1,8 @@
-use Rattle.std.proofs.Common.{sym, subst, ◌∙◌}
+use Rattle.std.proofs.Common.{sym, subst, ◌∙◌, arith}
+use Rattle.std.proofs.lemmas.Result.{IfOk-from_err}
 use Rattle.std.proofs.lemmas.Option.{none-some, same_Some}
 use Rattle.sp_closure.specs.Closers.{IsCloser}
+use Rattle.findings.proofs.Members.{empty_so, rows_of_none}
 use Rattle.findings.proofs.scratch.Scratch.rows.Goals as goal
 
 pub closer_of-requires : goal.closer_of-requires
@@ -35,3 +37,23 @@ returns-clause-scratch c = record {
 
 pub returns-clause-rows : goal.returns-clause-rows
 returns-clause-rows c = c.rows_by-rows.ensures.rows
+
+pub returns-then-is_empty : goal.returns-then-is_empty
+returns-then-is_empty c =
+    let none = empty_so _ c.if-is_empty.ensures in
+    record { scratch = c.requires.scratch; rows = rows_of_none c.args.snapshot.now c.args.cycles.items c.new.result.items (omega (arith, none, c.args.cycles.ok)) c.new.ensures.items }
+
+pub returns-in_err-closer-clause-rows : goal.returns-in_err-closer-clause-rows
+returns-in_err-closer-clause-rows c = IfOk-from_err c.from_residual.result _ c.from_residual.ensures.0
+
+pub pasts_of-requires-clause-closer : goal.pasts_of-requires-clause-closer
+pasts_of-requires-clause-closer c = c.in_ok-closer.ensures
+
+pub returns-in_err-pasts-clause-rows : goal.returns-in_err-pasts-clause-rows
+returns-in_err-pasts-clause-rows c = IfOk-from_err c.from_residual-in_err-pasts.result _ c.from_residual-in_err-pasts.ensures.0
+
+pub rows_by-rows-requires-clause-known : goal.rows_by-rows-requires-clause-known
+rows_by-rows-requires-clause-known c = c.requires.known
+
+pub rows_by-rows-requires-clause-closer : goal.rows_by-rows-requires-clause-closer
+rows_by-rows-requires-clause-closer c = c.pasts_of.ensures.closer

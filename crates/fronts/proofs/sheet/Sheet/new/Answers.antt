@@ -1,26 +1,28 @@
-use Rattle.std.proofs.Common.{◌≡◌, refl, sym, ◌∙◌, arith}
-use Rattle.fronts.proofs.BuildLemmas.{each_pushed, length_pushed}
-use Rattle.fronts.proofs.SheetLemmas.{none_stamped}
+use Rattle.std.proofs.Common.{◌≡◌, replicate, slice_get, Some, subst, arith}
+use Rattle.std.proofs.lemmas.Result.{IfOk-from_err}
+use Rattle.fronts.proofs.SheetLemmas.{all_zero, none_stamped}
 use Rattle.fronts.proofs.sheet.Sheet.new.Goals as goal
 
-pub loop-entry-preserved : goal.loop-entry-preserved
-loop-entry-preserved g c =
-    let entries = c.loop-entry in
-    let inv = entries.invariant in
+pub returns : goal.returns
+returns g c =
+    let stamps = c.in_ok-stamps.stamps.items in
+    let zeros : stamps ≡ replicate c.args.count 0 = c.in_ok-stamps.ensures.items_if_clones_equal (λ y h. h) in
     record {
-      values = length_pushed entries.values.items c.push.new.self.items entries._entry c.args.blank c.in_ok-push.ensures.items inv.values;
-      stamps = length_pushed entries.stamps.items c.push-in-loop-entry.new.self.items entries._entry 0 c.in_ok-push-2.ensures.items inv.stamps;
-      zero = each_pushed (λ e x. x ≡ 0) entries.stamps.items c.push-in-loop-entry.new.self.items entries._entry 0 c.in_ok-push-2.ensures.items inv.stamps inv.zero refl;
+      none = none_stamped c.in_ok-values.values.items stamps (λ e x at. all_zero c.args.count e x (subst (λ z. slice_get z e ≡ Some x) zeros at));
+      size = omega (arith, c.in_ok-stamps.stamps.ok, c.in_ok-stamps.ensures.len);
     }
 
-pub returns : goal.returns
-returns g c = record {
-  none = none_stamped c.loop-entry.values.items c.loop-entry.stamps.items c.loop-entry.invariant.zero;
-  size = omega (arith, c.loop-entry.invariant.stamps, c.loop-entry-test.false, c.loop-entry.auto._entry-end);
-}
-
 pub invariant_of-result : goal.invariant_of-result
-invariant_of-result g c = record {
-  same_length = c.loop-entry.invariant.stamps ∙ sym c.loop-entry.invariant.values;
-  past = λ e x at. omega (arith, c.loop-entry.invariant.zero e x at);
-}
+invariant_of-result g c =
+    let stamps = c.in_ok-stamps.stamps.items in
+    let zeros : stamps ≡ replicate c.args.count 0 = c.in_ok-stamps.ensures.items_if_clones_equal (λ y h. h) in
+    record {
+      same_length = omega (arith, c.in_ok-stamps.stamps.ok, c.in_ok-values.values.ok, c.in_ok-stamps.ensures.len, c.in_ok-values.ensures.len);
+      past = λ e x at. omega (arith, all_zero c.args.count e x (subst (λ z. slice_get z e ≡ Some x) zeros at));
+    }
+
+pub returns-in_err-stamps : goal.returns-in_err-stamps
+returns-in_err-stamps g c = IfOk-from_err c.from_residual.result _ c.from_residual.ensures.0
+
+pub returns-in_err-values : goal.returns-in_err-values
+returns-in_err-values g c = IfOk-from_err c.from_residual-in_err-values.result _ c.from_residual-in_err-values.ensures.0

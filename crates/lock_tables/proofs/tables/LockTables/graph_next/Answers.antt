@@ -1,5 +1,6 @@
 use Rattle.std.proofs.Common.{refl, arith}
 use Rattle.dependencies.specs.Tables.{known}
+use Rattle.std.proofs.lemmas.Result.{IfOk-from_err}
 use Rattle.lock_tables.proofs.OneFurther.{graph_same, graph_next}
 use Rattle.lock_tables.proofs.tables.LockTables.graph_next.Goals as goal
 
@@ -21,3 +22,6 @@ returns-clause-follow c s f = record {
   graph = graph_next (known c.args.self.now.dependencies) c.args.self.now.graphed c.args.self.now.graphed c.get-dependency.result.now _ _ refl c.get-dependency.ensures c.requires
       c.in_ok-add_to.ensures.ok f.graph;
 }
+
+pub returns-in_err-add_to-clause-ok : goal.returns-in_err-add_to-clause-ok
+returns-in_err-add_to-clause-ok c = IfOk-from_err c.from_residual.result _ c.from_residual.ensures.0

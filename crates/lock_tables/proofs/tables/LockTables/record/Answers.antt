@@ -1,10 +1,12 @@
-use Rattle.std.proofs.Common.{◌≡◌, ◌≤◌, Option, length, take, sym, subst, ap, ◌∙◌, arith}
+use Rattle.std.proofs.Common.{◌≡◌, ◌≤◌, Option, length, take, sym, subst, ap, ◌∙◌, arith, None}
 use Rattle.trace_model.specs.Theory.Dependencies.{Dependency, dependency_of, with_new}
 use Rattle.trace_model.specs.Theory.Held.{held}
 use Rattle.trace_model.proofs.Lists.{length-push}
-use Rattle.trace_model.proofs.Theory.OneMore.{dependencies-push}
+use Rattle.trace_model.proofs.Theory.OneMore.{dependencies-push, lawful_room}
 use Rattle.dependencies.specs.Tables.{AllBelow, known}
 use Rattle.lock_graph.specs.Graph.{IsGraphOf}
+use Rattle.trace_model.specs.declared.limits.TheConstants.{MAX_EVENTS}
+use Rattle.trace_model.specs.Theory.Lawful.{refusal_of}
 use Rattle.lock_tables.specs.Tables.{shared_holders}
 use Rattle.lock_tables.proofs.OneFurther.{grown}
 use Rattle.lock_tables.proofs.tables.LockTables.record.Goals as goal
@@ -32,3 +34,21 @@ returns c s f =
       graphed = subst (λ ds. old.graphed ≤ length ds) (sym is) more.0;
       graph = subst (λ ds. IsGraphOf ds (shared_holders old.graph)) (sym (ap (take old.graphed) is ∙ more.1)) f.graph;
     }
+
+pub note_place-requires-clause-room : goal.note_place-requires-clause-room
+note_place-requires-clause-room c = c.requires.room.place
+
+pub follow_locks-requires-clause-entry : goal.follow_locks-requires-clause-entry
+follow_locks-requires-clause-entry c = c.requires.room.entry
+
+pub follow_locks-requires-clause-fits : goal.follow_locks-requires-clause-fits
+follow_locks-requires-clause-fits c lock acquires =
+    let (s, f, lawful) = c.requires.lawful in
+    let e = c.args.event.now in
+    c.acquires_fit.ensures.next c.args.self.now.held MAX_EVENTS s e.thread lock f.held
+    (subst (λ o. refusal_of MAX_EVENTS s (record { thread = e.thread; op = o }) ≡ None) acquires lawful)
+
+pub overflow_add-self : goal.overflow_add-self
+overflow_add-self c =
+    let (s, f, lawful) = c.requires.lawful in
+    omega (arith, f.counted, lawful_room MAX_EVENTS s c.args.event.now lawful)

@@ -3,6 +3,7 @@ use Rattle.std.proofs.lemmas.List.{take_all}
 use Rattle.std.proofs.lemmas.Option.{slice_get-get_or}
 use Rattle.trace_model.specs.declared.traces.event.Op.TheVariants.{Fork}
 use Rattle.trace_model.proofs.Lists.{take_next}
+use Rattle.std.proofs.lemmas.Result.{IfOk-from_err}
 use Rattle.lock_tables.specs.Tables.{FollowTrace}
 use Rattle.lock_tables.proofs.tables.LockTables.record_all.Goals as goal
 
@@ -25,3 +26,9 @@ returns c =
     let s = c.args.events.now in
     let past = c.loop-event-test.false in
     subst (FollowTrace c.catch_up.new.self) (take_all c.loop-event.event-index s (omega arith)) (c.in_ok-catch_up.ensures.follow (take c.loop-event.event-index s) c.loop-event.invariant)
+
+pub returns-in_err-reserve : goal.returns-in_err-reserve
+returns-in_err-reserve c = IfOk-from_err c.from_residual.result _ c.from_residual.ensures.0
+
+pub returns-in_err-catch_up : goal.returns-in_err-catch_up
+returns-in_err-catch_up c = IfOk-from_err c.from_residual-in_err-catch_up.result _ c.from_residual-in_err-catch_up.ensures.0

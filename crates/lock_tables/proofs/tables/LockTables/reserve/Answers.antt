@@ -2,6 +2,7 @@ use Rattle.std.proofs.Common.{◌≤◌, length, take, sym, subst}
 use Rattle.held_sets.proofs.Follow.{follows_shown}
 use Rattle.dependencies.specs.Tables.{Rows, named}
 use Rattle.lock_graph.specs.Graph.{IsGraphOf}
+use Rattle.std.proofs.lemmas.Result.{IfOk-from_err}
 use Rattle.lock_tables.specs.Tables.{shared_holders}
 use Rattle.lock_tables.proofs.tables.LockTables.reserve.Goals as goal
 
@@ -28,3 +29,9 @@ returns-clause-follow c s before =
       graphed = subst (λ (rows : Rows). tables.graphed ≤ length (named rows)) (sym same) f.graphed;
       graph = subst (λ (rows : Rows). IsGraphOf (take tables.graphed (named rows)) (shared_holders tables.graph)) (sym same) f.graph;
     }
+
+pub returns-in_err-catch_up-clause-ok : goal.returns-in_err-catch_up-clause-ok
+returns-in_err-catch_up-clause-ok c = IfOk-from_err c.from_residual.result _ c.from_residual.ensures.0
+
+pub returns-in_err-reserve_locks-clause-ok : goal.returns-in_err-reserve_locks-clause-ok
+returns-in_err-reserve_locks-clause-ok c = IfOk-from_err c.from_residual-in_err-reserve_locks.result _ c.from_residual-in_err-reserve_locks.ensures.0

@@ -3,6 +3,7 @@ use Rattle.std.proofs.lemmas.List.{length-take-le}
 use Rattle.std.specs.Arc.{arc_value}
 use Rattle.dependencies.specs.Tables.{FollowsTrace}
 use Rattle.lock_graph.specs.Graph.{HasGraphOf}
+use Rattle.std.proofs.lemmas.Result.{IfOk-from_err}
 use Rattle.lock_tables.proofs.OneFurther.{named_length}
 use Rattle.lock_tables.proofs.tables.LockTables.share.Goals as goal
 
@@ -29,3 +30,9 @@ returns c s f counts =
           ((c.tables_follow.ensures.part c.args.self.now.dependencies c.in_ok-dependencies.dependencies s c.args.total n f.dependencies counts.within counts.counted).1 part);
       graph = subst (λ ds. HasGraphOf ds (arc_value c.in_ok-graph.graph)) (sym part.dependencies) c.in_ok-graph.ensures;
     }
+
+pub returns-in_err-dependencies : goal.returns-in_err-dependencies
+returns-in_err-dependencies c = IfOk-from_err c.from_residual.result _ c.from_residual.ensures.0
+
+pub returns-in_err-graph : goal.returns-in_err-graph
+returns-in_err-graph c = IfOk-from_err c.from_residual-in_err-graph.result _ c.from_residual-in_err-graph.ensures.0

@@ -1,12 +1,14 @@
-use Rattle.std.proofs.Common.{[], ◌∙◌, arith}
-use Rattle.reports.proofs.Runs.{run_pushed}
+use Rattle.std.proofs.Common.{sym, ap, ◌∙◌, arith}
+use Rattle.std.proofs.lemmas.Result.{IfOk-from_err}
+use Rattle.reports.specs.Text.{run_text}
+use Rattle.reports.proofs.Runs.{run_up_to}
 use Rattle.reports.proofs.numerals.Numerals.up_to.Goals as goal
 
-pub loop-number-preserved : goal.loop-number-preserved
-loop-number-preserved c = record {
-  least = omega arith;
-  most = omega arith;
-  text =
-      run_pushed [] _ _ _ _ 0 c.loop-number.number c.loop-number.number (omega arith) c.loop-number.invariant.text c.in_ok-push.ensures.items
-      (c.as_bytes.ensures.value ∙ c.format.ensures.text) c.in_ok-extend_from_slice.ensures.items;
-}
+pub returns-in_err-push_run : goal.returns-in_err-push_run
+returns-in_err-push_run c = IfOk-from_err c.from_residual.result _ c.from_residual.ensures.0
+
+pub invariant_of-result : goal.invariant_of-result
+invariant_of-result c = record { whole = run_up_to _ _ c.args.self.count c.args.count c.args.self.whole c.in_ok-push_run.ensures ∙ ap (run_text 0) (sym c.max.ensures) }
+
+pub returns : goal.returns
+returns c = omega (arith, c.max.ensures)

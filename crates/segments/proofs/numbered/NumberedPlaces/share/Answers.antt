@@ -1,5 +1,6 @@
 use Rattle.std.proofs.Common.{◌≡◌, ◌<◌, ℕ, Some, List, Option, length, slice_get, ap, subst, ◌∙◌, arith}
 use Rattle.trace_model.specs.Theory.Trace.{last_place}
+use Rattle.std.proofs.lemmas.Result.{IfOk-from_err}
 use Rattle.segments.specs.Notes.{is_of, pairs_of, notes_below}
 use Rattle.segments.proofs.Noted.{numbered_take, length_pairs, pairs_take}
 use Rattle.segments.proofs.numbered.NumberedPlaces.share.Goals as goal
@@ -19,3 +20,15 @@ pub returns-clause-notes : goal.returns-clause-notes
 returns-clause-notes c =
     let i = c.self.inside in
     ap pairs_of c.in_ok-notes.ensures ∙ pairs_take c.count_below-count.result i.notes.0 ∙ c.count_below-count.ensures.first ∙ ap (λ v. notes_below c.args.bound v.notes) c.self.view_is
+
+pub returns-in_err-notes-clause-notes : goal.returns-in_err-notes-clause-notes
+returns-in_err-notes-clause-notes c = IfOk-from_err c.from_residual.result _ c.from_residual.ensures.0
+
+pub returns-in_err-notes-clause-numbers : goal.returns-in_err-notes-clause-numbers
+returns-in_err-notes-clause-numbers c = IfOk-from_err c.from_residual.result _ c.from_residual.ensures.0
+
+pub returns-in_err-heads-clause-notes : goal.returns-in_err-heads-clause-notes
+returns-in_err-heads-clause-notes c = IfOk-from_err c.from_residual-in_err-heads.result _ c.from_residual-in_err-heads.ensures.0
+
+pub returns-in_err-heads-clause-numbers : goal.returns-in_err-heads-clause-numbers
+returns-in_err-heads-clause-numbers c = IfOk-from_err c.from_residual-in_err-heads.result _ c.from_residual-in_err-heads.ensures.0

@@ -80,3 +80,34 @@ returns-in-Err-clause-batched c =
       ended = subst (λ o. EndsBatch after o (Some c.in-Err.refusal)) (sym at)
           (subst (λ (m : State). RefusesOffer m (get_or es i any) c.in-Err.refusal) (sym shown) c.in-Err.ensures.refused);
     }
+
+pub accept-requires : goal.accept-requires
+accept-requires c =
+    let s = c.args.self.now.state in
+    let (e, at, reserved, lawful) = c.requires.admitted in
+    let first : e ≡ get_or c.args.events.now 0 any = sym (get_or_from_slice_get c.args.events.now 0 e any at) in
+    record {
+      reserved = reserved ∙ ap (λ (x : Event). Some x) first;
+      lawful = subst (λ x. refusal_of s.limit s.accepted x ≡ None) first lawful;
+    }
+
+pub accept-requires-in-loop-accepted : goal.accept-requires-in-loop-accepted
+accept-requires-in-loop-accepted c =
+    let e = get_or c.args.events.now c.loop-accepted.accepted any in
+    let admitted = c.in_default.ensures.ok in
+    record {
+      reserved = admitted.0;
+      lawful = subst (λ (m : State). refusal_of m.limit m.accepted e ≡ None) (sym c.in_default.ensures.shown) admitted.1;
+    }
+
+pub overflow_cast-result : goal.overflow_cast-result
+overflow_cast-result c = omega (arith, c.requires.batch.1, c.loop-accepted-test.true)
+
+pub overflow_cast-result-2 : goal.overflow_cast-result-2
+overflow_cast-result-2 c = omega (arith, c.requires.batch.1, c.loop-accepted.invariant.within)
+
+pub overflow_add-accepted : goal.overflow_add-accepted
+overflow_add-accepted c = omega (arith, c.requires.batch.1, c.loop-accepted-test.true)
+
+pub returns-in-Err-clause-some : goal.returns-in-Err-clause-some
+returns-in-Err-clause-some c = c.loop-accepted.invariant.some

@@ -5,10 +5,10 @@ use Rattle.trace_model.specs.declared.messages.session.Reply.TheVariants.{Report
 use Rattle.reports.specs.Text.{report}
 use Rattle.sequencer.specs.Book.{IsAccepted, TakesMemory}
 use Rattle.sequencer.specs.Printing.{printing}
-use Rattle.trace_model.specs.Protocol.Machine.{answer}
+use Rattle.trace_model.specs.Protocol.Machine.{answer, answer_of}
 use Rattle.reports.specs.declared.report.TextRefused.{TextRefused}
 use Rattle.reports.specs.declared.report.TextRefused.TheVariants as refusals
-use Rattle.sequencer.proofs.Told.{pending, reported, short_report, long_report, not_long, not_too_long, text_not_refused}
+use Rattle.sequencer.proofs.Told.{pending, reported, short_report, long_report, long_not_lacking, not_long, not_too_long, text_not_refused, told_not_refused, unknown_not_lacking}
 use Rattle.sequencer.proofs.book.Book.answer.Goals as goal
 
 pub returns-in_default-settled-clause-ok : goal.returns-in_default-settled-clause-ok
@@ -58,3 +58,19 @@ returns-in-Err-NoMemory-clause-refused c = inr (refl, subst IsAccepted (sym (pri
 
 pub returns-in-Err-NoMemory-clause-wanting : goal.returns-in-Err-NoMemory-clause-wanting
 returns-in-Err-NoMemory-clause-wanting c e = subst TakesMemory (sym (printed c).1) tt
+
+pub returns-in_default : goal.returns-in_default
+returns-in_default c = record {
+  ok = tt;
+  refused = inl (ap (answer_of printing c.args.self.now.state c.args.question) (sym c.in_default.ensures.value));
+  wanting = λ e. absurd (unknown_not_lacking e);
+}
+
+pub returns-in_default-settled-clause-wanting : goal.returns-in_default-settled-clause-wanting
+returns-in_default-settled-clause-wanting c e = absurd (told_not_refused _ _ e)
+
+pub returns-in-Ok-clause-wanting : goal.returns-in-Ok-clause-wanting
+returns-in-Ok-clause-wanting c e = absurd (told_not_refused _ _ e)
+
+pub returns-in-Err-TooLong-clause-wanting : goal.returns-in-Err-TooLong-clause-wanting
+returns-in-Err-TooLong-clause-wanting c e = absurd (long_not_lacking e)

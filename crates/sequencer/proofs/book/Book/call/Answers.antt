@@ -3,9 +3,11 @@ use Rattle.trace_model.specs.declared.messages.session.Reply.{Reply}
 use Rattle.trace_model.specs.declared.messages.session.Request.{Request}
 use Rattle.trace_model.specs.declared.messages.session.Request.TheVariants.{Batch}
 use Rattle.trace_model.specs.Protocol.Machine.{State, step}
+use Rattle.trace_model.specs.Protocol.Replies.{IsReply}
+use Rattle.sequencer.specs.Book.{IsAccepted, request_of}
 use Rattle.sequencer.specs.Called.{StepsOrMemory}
 use Rattle.sequencer.specs.Printing.{printing}
-use Rattle.sequencer.proofs.Called.{batch_steps, exact_steps, is_single, refused_rightly, refused_steps}
+use Rattle.sequencer.proofs.Called.{batch_steps, exact_steps, is_single, refused_rightly, refused_steps, step_fits}
 use Rattle.sequencer.proofs.book.Book.call.Goals as goal
 
 pub returns-in-Batch-clause-steps : goal.returns-in-Batch-clause-steps
@@ -30,7 +32,7 @@ returns-in-Err-clause-steps c =
     (refused_steps s c.args.request.now reply (is_single c.args.request.now c.in_default.not-Batch) c.in-Err.ensures.refused)
 
 pub returns-in-Batch-clause-wanting : goal.returns-in-Batch-clause-wanting
-returns-in-Batch-clause-wanting c = λ lacks. let other = sym c.reply.ensures ∙ lacks in absurd cc
+returns-in-Batch-clause-wanting c = λ lacks. absurd (subst IsAccepted (sym c.reply.ensures ∙ lacks) tt)
 
 pub returns-in-Ok-clause-wanting : goal.returns-in-Ok-clause-wanting
 returns-in-Ok-clause-wanting c = λ lacks.
@@ -38,3 +40,20 @@ returns-in-Ok-clause-wanting c = λ lacks.
 
 pub returns-in-Err-clause-wanting : goal.returns-in-Err-clause-wanting
 returns-in-Err-clause-wanting c = refused_rightly c.args.self.now.state c.args.request.now c.in-Err.reply c.in-Err.ensures.refusal
+
+pub prepare-requires : goal.prepare-requires
+prepare-requires c = is_single c.args.request.now c.in_default.not-Batch
+
+pub commit-requires : goal.commit-requires
+commit-requires c = c.in-Ok.ensures.ok.1
+
+pub returns-in-Batch-clause-fits : goal.returns-in-Batch-clause-fits
+returns-in-Batch-clause-fits c = subst IsReply (sym c.reply.ensures) tt
+
+pub returns-in-Ok-clause-fits : goal.returns-in-Ok-clause-fits
+returns-in-Ok-clause-fits c =
+    let reply = ap (λ (p : Reply × State). p.0) c.commit.ensures in
+    subst IsReply reply (step_fits c.prepare.new.self.state (request_of c.in-Ok.planned.change))
+
+pub returns-in-Err-clause-fits : goal.returns-in-Err-clause-fits
+returns-in-Err-clause-fits c = subst IsReply (sym c.in-Err.ensures.refusal.1) tt

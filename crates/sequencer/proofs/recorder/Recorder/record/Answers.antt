@@ -1,4 +1,4 @@
-use Rattle.std.proofs.Common.{◌≡◌, ℕ, ◌<◌, ◌≤◌, List, ◌∷◌, [], ◌++◌, length, None, sym, ap, subst, ◌∙◌, arith}
+use Rattle.std.proofs.Common.{◌≡◌, ℕ, ◌<◌, ◌≤◌, List, ◌∷◌, [], ◌++◌, length, None, refl, sym, ap, subst, ◌∙◌, arith}
 use Rattle.std.proofs.lemmas.List.{length-append}
 use Rattle.std.proofs.lemmas.Option.{none-some}
 use Rattle.trace_model.specs.declared.limits.TheConstants.{MAX_EVENTS}
@@ -10,12 +10,41 @@ use Rattle.wellformed.specs.Gate.{Admitted, with_event}
 use Rattle.wellformed.specs.Tables.{FollowEvents}
 use Rattle.sequencer.proofs.recorder.Recorder.record.Goals as goal
 
-pub record_in-requires-clause-lawful : goal.record_in-requires-clause-lawful
-record_in-requires-clause-lawful c =
+pub record_in-requires : goal.record_in-requires
+record_in-requires c =
     let b = c.self.inside in
     let e = c.args.event.now in
+    let ready = ap (λ (g : Admitted). g.reserved) c.self.view_is ∙ c.requires.reserved in
     let lawful : refusal_of b.limit b.index.events e ≡ None = ap (λ (g : Admitted). refusal_of g.limit g.events e) c.self.view_is ∙ c.requires.lawful in
-    lawful_higher b.limit MAX_EVENTS b.index.events e c.self.invariant.small lawful
+    record {
+      name = refl;
+      parts = refl;
+      some = omega (arith, c.new.ensures);
+      reserved = (c.self.invariant.room e ready).in_index;
+      lawful = lawful_higher b.limit MAX_EVENTS b.index.events e c.self.invariant.small lawful;
+    }
+
+pub record-requires : goal.record-requires
+record-requires c =
+    let b = c.self.inside in
+    let e = c.args.event.now in
+    let ready = ap (λ (g : Admitted). g.reserved) c.self.view_is ∙ c.requires.reserved in
+    let lawful : refusal_of b.limit b.index.events e ≡ None = ap (λ (g : Admitted). refusal_of g.limit g.events e) c.self.view_is ∙ c.requires.lawful in
+    record {
+      room = (c.self.invariant.room e ready).in_tables;
+      lawful = (b.index.events, c.self.invariant.tables_are, lawful_higher b.limit MAX_EVENTS b.index.events e c.self.invariant.small lawful);
+    }
+
+pub record-requires-2 : goal.record-requires-2
+record-requires-2 c =
+    let b = c.self.inside in
+    let e = c.args.event.now in
+    let ready = ap (λ (g : Admitted). g.reserved) c.self.view_is ∙ c.requires.reserved in
+    let lawful : refusal_of b.limit b.index.events e ≡ None = ap (λ (g : Admitted). refusal_of g.limit g.events e) c.self.view_is ∙ c.requires.lawful in
+    record {
+      room = (c.self.invariant.room e ready).in_gate;
+      lawful = (b.index.events, c.self.invariant.gate_is, lawful_higher b.limit MAX_EVENTS b.index.events e c.self.invariant.small lawful);
+    }
 
 longer : {X : Type 0} (xs : List X) (x : X) (most : ℕ) → length xs < most → length (xs ++ x ∷ []) ≤ most
 longer xs x most h = omega (arith, length-append xs (x ∷ []))

@@ -1,4 +1,5 @@
-use Rattle.std.proofs.Common.{◌≡◌, ◌≤◌, length, take, sym, ap, subst, ◌∙◌}
+use Rattle.std.proofs.Common.{◌≡◌, ◌≤◌, length, take, sym, ap, subst, ◌∙◌, arith}
+use Rattle.std.proofs.lemmas.Result.{IfOk-from_err}
 use Rattle.trace_model.specs.Theory.Trace.{Trace}
 use Rattle.trace_model.specs.Theory.Dependencies.{dependencies}
 use Rattle.wellformed.specs.Gate.{Admitted}
@@ -26,3 +27,18 @@ of-snapshot-requires g c =
     let counts : CountsBelow s c.args.total n = record { within = within; counted = total ∙ ap length (dependencies_first s n within) } in
     subst (ArePartsOf c.in_ok-parts.parts) (sym c.in-Ok.ensures.index)
     (c.in_ok-parts.ensures s c.self.invariant.tables_are counts)
+
+pub returns-in_err-parts : goal.returns-in_err-parts
+returns-in_err-parts g c = record { events = IfOk-from_err c.from_residual.result _ c.from_residual.ensures.0; copies = omega arith }
+
+pub returns-in-Err : goal.returns-in-Err
+returns-in-Err g c = record { events = tt; copies = c.share-2.ensures.copies }
+
+pub returns-in_err-new-in-Ok : goal.returns-in_err-new-in-Ok
+returns-in_err-new-in-Ok g c = record { events = IfOk-from_err c.from_residual-in_err-new-in-Ok.result _ c.from_residual-in_err-new-in-Ok.ensures.0; copies = c.share-2.ensures.copies }
+
+pub returns-in_ok-new-in-Ok : goal.returns-in_ok-new-in-Ok
+returns-in_ok-new-in-Ok g c = record {
+  events = c.in_ok-new-in-Ok.ensures.ok ∙ (c.of-snapshot.ensures ∙ (c.in-Ok.ensures.index ∙ ap (λ (a : Admitted). take c.args.count a.events) c.self.view_is));
+  copies = c.share-2.ensures.copies;
+}

@@ -1,4 +1,5 @@
-use Rattle.std.proofs.Common.{arith}
+use Rattle.std.proofs.Common.{arith, refl}
+use Rattle.std.proofs.lemmas.Result.{IfOk-from_err}
 use Rattle.wellformed.proofs.gate.Gate.reserve.Goals as goal
 
 pub invariant_of-self-in_err-reserve-2 : goal.invariant_of-self-in_err-reserve-2
@@ -11,3 +12,12 @@ invariant_of-self-in_err-reserve-2 c =
       entries = λ e h. c.reserve-2.ensures.kept e (i.entries e h);
       room = λ e h. omega (arith, i.room e h, c.reserve.ensures.len, c.reserve.ensures.capacity);
     })
+
+pub returns-in_err-reserve-clause-ok : goal.returns-in_err-reserve-clause-ok
+returns-in_err-reserve-clause-ok c = IfOk-from_err c.from_residual.result _ c.from_residual.ensures.0
+
+pub returns-in_err-reserve-2-clause-ok : goal.returns-in_err-reserve-2-clause-ok
+returns-in_err-reserve-2-clause-ok c = IfOk-from_err c.from_residual-in_err-reserve-2.result _ c.from_residual-in_err-reserve-2.ensures.0
+
+pub returns-clause-ok : goal.returns-clause-ok
+returns-clause-ok c = refl
