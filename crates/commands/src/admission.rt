@@ -1,5 +1,5 @@
 //! Event files through the gate.
-ghost use Rattle.std.specs.Prelude.{◌≡◌, ◌++◌, IfOk, OnOk};
+ghost use Rattle.std.specs.Prelude.{◌≡◌, ◌++◌, IfOk, OnOk, codes, decimal};
 ghost use Rattle.commands.specs.Admission.{IsAdmissionOf, refused_at_line};
 
 use event_files::read_events;
@@ -44,7 +44,18 @@ pub fn push_refused_at(text: &mut Vec<u8>, first: FirstUnlawful) -> Result<(), N
 {
     push_refusal(text, first.refusal)?;
     text.extend_from_slice(b" at ")?;
-    text.extend_from_slice(Buffer::new().format(first.index as u64).as_bytes())?;
+    push_last(text, first.index as u64)
+}
+
+/// Adds the number that ends a line.
+///
+/// # Errors
+///
+/// `NoMemory` where a growth was refused.
+pub fn push_last(text: &mut Vec<u8>, number: u64) -> Result<(), NoMemory>
+    ensures { OnOk result (text.new.items ≡ text.old.items ++ decimal number ++ codes "\n") }
+{
+    text.extend_from_slice(Buffer::new().format(number).as_bytes())?;
     text.push(b'\n')?;
     Ok(())
 }

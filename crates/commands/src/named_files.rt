@@ -29,6 +29,23 @@ pub fn offline_file<T: Threads + Sync>(
     let Some(bytes) = read_file(rt, file)? else {
         return Ok(Status::Failed);
     };
+    let reported = offline_bytes(rt, threads, file, &bytes, bound, &progress);
+    drop(bytes);
+    reported
+}
+
+/// Reports on the events in these bytes of the file.
+fn offline_bytes<T: Threads + Sync>(
+    rt: &HostRuntime,
+    threads: &T,
+    file: &str,
+    bytes: &[u8],
+    bound: u32,
+    progress: &ProgressLine<'_, HostRuntime>,
+) -> io::Result<Status>
+    requires least { 2 ≤ bound }
+    requires most { bound ≤ 8 }
+{
     let Some(bound) = Bound::new(bound as u8) else {
         unreachable!()
     };
@@ -40,9 +57,9 @@ pub fn offline_file<T: Threads + Sync>(
         rt.alloc(),
         state,
         file,
-        &bytes,
+        bytes,
         bound,
-        &progress,
+        progress,
         &mut out,
         &mut err,
     ))

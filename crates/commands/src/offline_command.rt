@@ -56,19 +56,20 @@ fn report_on<R: Threads + Sync, P: Progress + Sync>(
     pieces
 }
 
-/// Writes the pieces of a text, one after another.
-fn write_pieces<O: Write>(out: &mut O, pieces: &[Vec<u8>]) -> Result<(), Stopped>
-    ensures { OnOk result (Appends (O.contents out.old) (O.contents out.new) (whole pieces.now)) }
+/// Writes the pieces of a report, one after another.
+fn write_pieces<O: Write>(out: &mut O, pieces: &[Vec<u8>]) -> Result<Status, Stopped>
+    ensures { IfOk result (λ status. (status ≡ Done)
+        × Appends (O.contents out.old) (O.contents out.new) (whole pieces.now)) }
 {
     for piece in pieces {
         out.write_all(piece)?;
     }
     out.flush()?;
-    Ok(())
+    Ok(Status::Done)
 }
 
 /// Writes why there is no report.
-fn write_refused<O: Write>(
+pub(crate) fn write_refused<O: Write>(
     alloc: Global,
     refused: OfflineRefused,
     out: &mut O,
@@ -100,8 +101,7 @@ fn report<R: Threads + Sync, P: Progress + Sync, O: Write>(
         Ok(pieces) => {
             let written = write_pieces(out, &pieces);
             drop(pieces);
-            written?;
-            Ok(Status::Done)
+            written
         }
         Err(OfflineRefused::NoMemory) => Err(Stopped::Memory),
         Err(refused) => write_refused(alloc, refused, out),

@@ -3,16 +3,16 @@ ghost use Rattle.std.specs.Prelude.{◌≡◌, ◌++◌, OnOk};
 ghost use Rattle.trace_model.specs.Theory.Lawful.{IsWellFormed};
 ghost use Rattle.commands.specs.Replay.{verdict_line, verdict_status};
 
-use crate::admission::{Admission, admit_file, push_refused_at};
+use crate::admission::{Admission, admit_file, push_last};
+use crate::offline_command::write_refused;
 use event_files::read_witness;
-use itoa::Buffer;
+use offline_report::OfflineRefused;
 use outcomes::{Status, Stopped, write_text};
 use replay::{Verdict, check};
 use std::alloc::Global;
 use std::hash::RandomState;
 use std::io::Write;
 use trace_model::{Event, NoMemory};
-use wellformed::FirstUnlawful;
 
 /// The files of a replay: a trace, and a witness.
 #[derive(Clone, Copy)]
@@ -41,9 +41,7 @@ fn push_verdict(text: &mut Vec<u8>, verdict: &Verdict) -> Result<(), NoMemory>
             text.extend_from_slice(b"fault ")?;
             text.extend_from_slice(fault.name().as_bytes())?;
             text.push(b' ')?;
-            text.extend_from_slice(Buffer::new().format(place.get()).as_bytes())?;
-            text.push(b'\n')?;
-            Ok(())
+            push_last(text, u64::from(place.get()))
         }
     }
 }
@@ -58,44 +56,7 @@ fn status_of(verdict: &Verdict) -> Status
     }
 }
 
-/// What ended the command before a verdict, with the file that it is about.
-enum Part {
-    Trace,
-    Witness,
-}
-
-/// Tells the first event of the trace that is not lawful.
-fn tell_refused<O: Write>(
-    alloc: Global,
-    first: FirstUnlawful,
-    out: &mut O,
-) -> Result<Status, Stopped> {
-    let mut text = Vec::new(alloc);
-    push_refused_at(&mut text, first)?;
-    write_text(out, &text)?;
-    Ok(Status::Refused)
-}
-
-fn checked<O: Write>(
-    alloc: Global,
-    state: RandomState,
-    files: Files<'_>,
-    out: &mut O,
-) -> Result<Status, (Part, Stopped)> {
-    match admit_file(alloc, state, files.trace) {
-        Ok(Admission::Admitted(events)) => {
-            let verdict = verdict_of(alloc, state, &events, files.witness, out);
-            drop(events);
-            verdict.map_err(|stopped| (Part::Witness, stopped))
-        }
-        Ok(Admission::Refused(first)) => {
-            let told = tell_refused(alloc, first, out);
-            told.map_err(|stopped| (Part::Trace, stopped))
-        }
-        Err(stopped) => Err((Part::Trace, stopped)),
-    }
-}
-
+/// Checks the witness against these events, and writes what came of it.
 fn verdict_of<O: Write>(
     alloc: Global,
     state: RandomState,
@@ -113,6 +74,15 @@ fn verdict_of<O: Write>(
     Ok(status_of(&verdict))
 }
 
+/// The exit status of what ended so, which is told where that was early, with the name of the file
+/// that it is about.
+fn status_told<E: Write>(ended: Result<Status, Stopped>, name: &str, err: &mut E) -> Status {
+    match ended {
+        Ok(status) => status,
+        Err(stopped) => stopped.tell(name, err),
+    }
+}
+
 /// Checks the witness in the second file against the trace in the first: prints `reaches`, or the
 /// test that fails with its place, or the event of the trace that is not lawful. What ended the
 /// command early is told to `err`, with the name of the file.
@@ -124,9 +94,16 @@ pub fn run_replay<O: Write, E: Write>(
     out: &mut O,
     err: &mut E,
 ) -> Status {
-    match checked(alloc, state, files, out) {
-        Ok(status) => status,
-        Err((Part::Trace, stopped)) => stopped.tell(names.trace, err),
-        Err((Part::Witness, stopped)) => stopped.tell(names.witness, err),
+    match admit_file(alloc, state, files.trace) {
+        Ok(Admission::Admitted(events)) => {
+            let ended = verdict_of(alloc, state, &events, files.witness, out);
+            drop(events);
+            status_told(ended, names.witness, err)
+        }
+        Ok(Admission::Refused(first)) => {
+            let ended = write_refused(alloc, OfflineRefused::Unlawful(first), out);
+            status_told(ended, names.trace, err)
+        }
+        Err(stopped) => stopped.tell(names.trace, err),
     }
 }

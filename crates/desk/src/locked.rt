@@ -305,8 +305,7 @@ impl<N: Naming, R: Wait + Copy, T: Follows<N>> Locked<N, R, T> {
         ensures legal { IsLegal self.new.published }
     {
         let _ = &self.book;
-        let mut outcomes = Vec::new(*findings.allocator());
-        let Ok(()) = outcomes.reserve(findings.len()) else {
+        let Ok(mut outcomes) = Vec::with_capacity(*findings.allocator(), findings.len()) else {
             return Err(findings);
         };
         for finding in findings {

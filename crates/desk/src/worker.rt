@@ -1,6 +1,6 @@
 //! Workers, which compute the rows of tasks with the lock free.
 
-ghost use Rattle.std.specs.Prelude.{◌≡◌, ◌≢◌, IfErr};
+ghost use Rattle.std.specs.Prelude.{◌≡◌, ◌≢◌, IfErr, IsSome, OnOk};
 ghost use mathlib.Core.List.{IsPrefix};
 ghost use Rattle.snapshots.specs.Found.{FoundRows};
 ghost use Rattle.desk.specs.Published.{WasTaken};
@@ -119,10 +119,22 @@ impl<N: Naming, R: Wait + Copy, T: Follows<N>> Worker<N, R, T> {
         let Ok(found) = self.reader.least_unsettled(&self.given_up) else {
             return Turn::Failed(Failed::BoardBusy);
         };
-        let Some(Unsettled { number, shown }) = found else {
-            drop(self.job.take());
-            return Turn::Idle;
-        };
+        match found {
+            Some(unsettled) => self.work_on(unsettled, hold),
+            None => {
+                drop(self.job.take());
+                Turn::Idle
+            }
+        }
+    }
+
+    /// Does what is told of a turn with a question that is not settled.
+    fn work_on(&mut self, unsettled: Unsettled, hold: &impl Hold) -> Turn
+        ensures later { IsPrefix self.old self.new }
+        ensures delivered { result ≡ Turn.Delivered → (finding : FoundRows)
+            × WasTaken N.limit finding self.new }
+    {
+        let Unsettled { number, shown } = unsettled;
         let Some(picked) = pick(&self.desk, &mut self.claimant, number, shown.total) else {
             return Turn::Idle;
         };
@@ -136,29 +148,13 @@ impl<N: Naming, R: Wait + Copy, T: Follows<N>> Worker<N, R, T> {
         ) {
             Ok(own) => {
                 hold.hold(question, picked.task);
-                self.deliver(own)
+                deliver(&self.desk, &mut self.reader, own)
             }
             Err(turn) => {
                 if picked.left && turn == Turn::Failed(Failed::TooManyCycles) {
                     self.given_up[usize::from(number)] = true;
                 }
                 turn
-            }
-        }
-    }
-
-    /// Delivers, and learns the receipt.
-    fn deliver(&mut self, own: OwnFinding<N>) -> Turn
-        ensures later { IsPrefix self.old self.new }
-        ensures delivered { result ≡ Turn.Delivered → WasTaken N.limit own self.new }
-    {
-        let (delivered, receipt) = self.desk.deliver_own(own);
-        self.reader.learn(&receipt);
-        match delivered {
-            Ok(()) => Turn::Delivered,
-            Err((refusal, finding)) => {
-                drop(finding);
-                refused(refusal)
             }
         }
     }
@@ -183,21 +179,28 @@ fn pick<N: Naming, R: Wait + Copy, T: Follows<N>>(
     Some(Picked { task, left: true })
 }
 
-/// The job of the question: the one that was kept, or a new one in its place.
-fn job_of<N: Naming, R: Wait + Copy, T: Follows<N>>(
+/// Keeps the job of the question: the one that is kept already, or a new one in its place.
+fn keep_job<N: Naming, R: Wait + Copy, T: Follows<N>>(
     desk: &Desk<N, R, T>,
     kept: &mut Option<OwnJob<N>>,
     question: u32,
     bound: Bound,
-) -> Result<OwnJob<N>, Turn>
-    ensures { IfErr result (λ turn. turn ≢ Turn.Delivered) }
+) -> Result<(), Turn>
+    ensures kept { OnOk result (IsSome kept.new) }
+    ensures err { IfErr result (λ turn. turn ≢ Turn.Delivered) }
 {
-    match kept.take() {
-        Some(job) if job.question() == question => Ok(job),
-        other => {
-            drop(other);
-            desk.own_job(question, bound).map_err(refused)
+    if let Some(job) = kept
+        && job.question() == question
+    {
+        return Ok(());
+    }
+    drop(kept.take());
+    match desk.own_job(question, bound) {
+        Ok(job) => {
+            *kept = Some(job);
+            Ok(())
         }
+        Err(refusal) => Err(refused(refusal)),
     }
 }
 
@@ -211,13 +214,34 @@ fn compute<N: Naming, R: Wait + Copy, T: Follows<N>>(
 ) -> Result<OwnFinding<N>, Turn>
     ensures { IfErr result (λ turn. turn ≢ Turn.Delivered) }
 {
-    let mut job = job_of(desk, kept, question, bound)?;
-    let found = job.compute(task);
-    drop(kept.replace(job));
-    match found {
+    keep_job(desk, kept, question, bound)?;
+    let Some(job) = kept else {
+        unreachable!();
+    };
+    match job.compute(task) {
         Ok(own) => Ok(own),
         Err(ComputeRefused::TooManyCycles) => Err(Turn::Failed(Failed::TooManyCycles)),
         Err(ComputeRefused::NoMemory) => Err(Turn::Failed(Failed::NoMemory)),
+    }
+}
+
+/// Delivers, and learns the receipt.
+fn deliver<N: Naming, R: Wait + Copy, T: Follows<N>>(
+    desk: &Desk<N, R, T>,
+    reader: &mut BoardReader<N>,
+    own: OwnFinding<N>,
+) -> Turn
+    ensures later { IsPrefix reader.old reader.new }
+    ensures delivered { result ≡ Turn.Delivered → WasTaken N.limit own reader.new }
+{
+    let (delivered, receipt) = desk.deliver_own(own);
+    reader.learn(&receipt);
+    match delivered {
+        Ok(()) => Turn::Delivered,
+        Err((refusal, finding)) => {
+            drop(finding);
+            refused(refusal)
+        }
     }
 }
 

@@ -1,12 +1,10 @@
 //! A desk that threads share, by single events and by batches.
 
 use crate::at_desk::{Script, at_desk};
+use crate::desks::TestDesk;
 use crate::offers::accepted;
-use board::{BoardReader, Follows, Naming, Receipt, Shown};
-use desk::Desk;
 use std::alloc::{AllocError, Global};
 use std::process::Abort;
-use std::sync::Wait;
 use std::test::*;
 use std::thread;
 use std::thread::Threads;
@@ -14,7 +12,7 @@ use trace_model::{Event, MAX_BATCH, Op};
 
 const THREADS: usize = 8;
 
-type Offered<N> = (Vec<u32>, Vec<Receipt<N>>);
+type Offered<D> = (Vec<u32>, Vec<<D as TestDesk>::Receipt>);
 
 /// How each thread offers its events.
 #[derive(Clone, Copy)]
@@ -31,10 +29,7 @@ const WRITE: Event = Event {
 };
 
 /// The places that one thread is given for single events, and its receipts.
-fn offers_single<N: Naming, R: Wait + Copy, T: Follows<N>>(
-    alloc: Global,
-    desk: &Desk<N, R, T>,
-) -> Result<Offered<N>, AllocError> {
+fn offers_single<D: TestDesk>(alloc: Global, desk: &D) -> Result<Offered<D>, AllocError> {
     let mut places = Vec::new(alloc);
     let mut receipts = Vec::new(alloc);
     for _ in 0..100 {
@@ -48,10 +43,7 @@ fn offers_single<N: Naming, R: Wait + Copy, T: Follows<N>>(
 }
 
 /// The first places of the batches of one thread that came in whole, and its receipts.
-fn offers_batches<N: Naming, R: Wait + Copy, T: Follows<N>>(
-    alloc: Global,
-    desk: &Desk<N, R, T>,
-) -> Result<Offered<N>, AllocError> {
+fn offers_batches<D: TestDesk>(alloc: Global, desk: &D) -> Result<Offered<D>, AllocError> {
     let mut places = Vec::new(alloc);
     let mut receipts = Vec::new(alloc);
     for _ in 0..10 {
@@ -65,11 +57,11 @@ fn offers_batches<N: Naming, R: Wait + Copy, T: Follows<N>>(
 }
 
 /// The places that one thread is given, and its receipts.
-fn offer_events<N: Naming, R: Wait + Copy, T: Follows<N>>(
+fn offer_events<D: TestDesk>(
     alloc: Global,
-    desk: &Desk<N, R, T>,
+    desk: &D,
     how: Offers,
-) -> Result<Offered<N>, AllocError> {
+) -> Result<Offered<D>, AllocError> {
     match how {
         Offers::Single => offers_single(alloc, desk),
         Offers::Batches => offers_batches(alloc, desk),
@@ -87,44 +79,48 @@ fn batches_from_eight_threads(rt: HostRuntime) -> Result<(), Fail> {
 }
 
 /// The places that all were given, in order. Their receipts are learnt.
-fn places_of_all<N: Naming>(
+fn places_of_all<D: TestDesk>(
     alloc: Global,
-    reader: &mut BoardReader<N>,
-    all: Vec<Result<Offered<N>, AllocError>>,
+    reader: &mut D::Reader,
+    all: Vec<Result<Offered<D>, AllocError>>,
 ) -> Result<Vec<u32>, AllocError> {
     let mut places = Vec::new(alloc);
     for one in all {
-        learn_offered(reader, one?, &mut places)?;
+        learn_offered::<D>(reader, one?, &mut places)?;
     }
     places.sort()?;
     Ok(places)
 }
 
 /// Learns the receipts, and adds the places to those before.
-fn learn_offered<N: Naming>(
-    reader: &mut BoardReader<N>,
-    offered: Offered<N>,
+fn learn_offered<D: TestDesk>(
+    reader: &mut D::Reader,
+    offered: Offered<D>,
     before: &mut Vec<u32>,
 ) -> Result<(), AllocError> {
     let (given, receipts) = offered;
     for receipt in &receipts {
-        reader.learn(receipt);
+        D::learn(reader, receipt);
     }
     drop(receipts);
     before.extend_from_slice(&given)
 }
 
-/// The places that all are given: each of the first 800, or the first ones of 80 batches.
-fn expected_places(alloc: Global, how: Offers) -> Result<Vec<u32>, AllocError> {
+/// Whether these are the places that all are given, in order: each of the first 800, or the first
+/// ones of 80 batches.
+fn are_all_given(places: &[u32], how: Offers) -> bool {
     let (count, size) = match how {
-        Offers::Single => (800u32, 1u32),
+        Offers::Single => (800, 1),
         Offers::Batches => (80, 64),
     };
-    let mut expected = Vec::new(alloc);
-    for index in 0..count {
-        expected.push(index.wrapping_mul(size))?;
+    let mut expected = 0u32;
+    for place in places {
+        if *place != expected {
+            return false;
+        }
+        expected = expected.wrapping_add(size);
     }
-    Ok(expected)
+    places.len() == count
 }
 
 /// How many events all offer.
@@ -136,29 +132,28 @@ fn offered_by_all(how: Offers) -> u32 {
 }
 
 /// The places that eight threads are given, which offer at once. Their receipts are learnt.
-fn places_at_once<N: Naming + Send + Sync, R: Threads + Wait + Copy + Send + Sync>(
+fn places_at_once<D: TestDesk, R: Threads + Sync>(
     rt: &R,
     alloc: Global,
-    desk: &Desk<N, R, Shown<N>>,
-    reader: &mut BoardReader<N>,
+    desk: &D,
+    reader: &mut D::Reader,
     how: Offers,
 ) -> Result<Vec<u32>, Fail> {
     let all = thread::map_indices(rt, alloc, THREADS, &|_| offer_events(alloc, desk, how))?;
-    let places = places_of_all(alloc, reader, all)?;
+    let places = places_of_all::<D>(alloc, reader, all)?;
     Ok(places)
 }
 
 /// Eight threads offer at once, and each place is given once.
-pub(crate) fn accepts_all<N: Naming + Send + Sync, R: Threads + Wait + Abort + Copy + Send + Sync>(
+pub(crate) fn accepts_all<D: TestDesk, R: Threads + Abort + Sync>(
     rt: &R,
     alloc: Global,
-    desk: &Desk<N, R, Shown<N>>,
-    reader: &mut BoardReader<N>,
+    desk: &D,
+    reader: &mut D::Reader,
     how: Offers,
 ) -> Result<(), Fail> {
     let places = places_at_once(rt, alloc, desk, reader, how)?;
-    let expected = expected_places(alloc, how)?;
-    assert_eq!(rt; places.as_slice(), expected.as_slice());
-    assert_eq!(rt; accepted(reader), Some(offered_by_all(how)));
+    assert!(rt; are_all_given(&places, how));
+    assert!(rt; accepted(reader) == Some(offered_by_all(how)));
     Ok(())
 }

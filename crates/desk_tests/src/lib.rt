@@ -1,15 +1,26 @@
 //! Tests of what threads share, and of what stands on it: claims, the board, the desk, findings that
-//! are delivered to it, sessions over a source and a sink, and the server over sockets.
+//! are delivered to it, sessions over a source and a sink, and the server over sockets. And of whole
+//! commands: command lines, files that are not understood, output that fails, and long traces.
 #![tactic(auto)]
 
 #[cfg(test)]
 mod at_desk;
 #[cfg(test)]
+mod command_lines;
+#[cfg(test)]
 mod desks;
 #[cfg(test)]
 mod eight_threads;
 #[cfg(test)]
+mod files;
+#[cfg(test)]
+mod long_traces;
+#[cfg(test)]
+mod longest_trace;
+#[cfg(test)]
 mod many_findings;
+#[cfg(test)]
+mod many_tasks;
 #[cfg(test)]
 mod offers;
 #[cfg(test)]
@@ -40,6 +51,8 @@ mod sending;
 mod served;
 #[cfg(test)]
 mod three_workers;
+#[cfg(test)]
+mod told;
 #[cfg(test)]
 mod told_faults;
 #[cfg(test)]

@@ -1,9 +1,8 @@
 //! Findings of all sorts, by lists and by many threads.
 
 use crate::at_desk::{Script, at_desk};
+use crate::desks::{TestDesk, TestReader};
 use crate::offers::asks_about_opposite_orders;
-use board::{BoardReader, Follows, Naming, Receipt, Shown};
-use desk::Desk;
 use findings::{Finding, Snapshot};
 use fixtures::{LIMIT, event, opposite_orders};
 use sequencer::{Book, Delivered};
@@ -11,7 +10,7 @@ use std::alloc::{AllocError, Global};
 use std::hash::RandomState;
 use std::process::Abort;
 use std::random::RandomSource;
-use std::sync::{Arc, Wait};
+use std::sync::Arc;
 use std::test::*;
 use std::thread;
 use std::thread::Threads;
@@ -147,7 +146,7 @@ pub(crate) enum Way {
 }
 
 /// What became of findings, and the receipts.
-type Outcomes<N> = (Vec<Option<Refusal>>, Vec<Receipt<N>>);
+type Outcomes<D> = (Vec<Option<Refusal>>, Vec<<D as TestDesk>::Receipt>);
 
 fn refusal_in(outcome: Delivered) -> Option<Refusal> {
     match outcome {
@@ -159,12 +158,12 @@ fn refusal_in(outcome: Delivered) -> Option<Refusal> {
     }
 }
 
-fn delivered<N: Naming, R: Wait + Copy, T: Follows<N>>(
+fn delivered<D: TestDesk>(
     alloc: Global,
-    desk: &Desk<N, R, T>,
+    desk: &D,
     findings: Vec<Finding>,
     way: Way,
-) -> Result<Outcomes<N>, AllocError> {
+) -> Result<Outcomes<D>, AllocError> {
     let mut outcomes = (Vec::new(alloc), Vec::new(alloc));
     let delivered = match way {
         Way::OneByOne => deliver_one_by_one(desk, findings, &mut outcomes),
@@ -173,10 +172,10 @@ fn delivered<N: Naming, R: Wait + Copy, T: Follows<N>>(
     delivered.and(Ok(outcomes))
 }
 
-fn deliver_one_by_one<N: Naming, R: Wait + Copy, T: Follows<N>>(
-    desk: &Desk<N, R, T>,
+fn deliver_one_by_one<D: TestDesk>(
+    desk: &D,
     findings: Vec<Finding>,
-    outcomes: &mut Outcomes<N>,
+    outcomes: &mut Outcomes<D>,
 ) -> Result<(), AllocError> {
     for finding in findings {
         let (outcome, receipt) = desk.deliver(finding);
@@ -186,12 +185,12 @@ fn deliver_one_by_one<N: Naming, R: Wait + Copy, T: Follows<N>>(
     Ok(())
 }
 
-fn deliver_together<N: Naming, R: Wait + Copy, T: Follows<N>>(
-    desk: &Desk<N, R, T>,
+fn deliver_together<D: TestDesk>(
+    desk: &D,
     findings: Vec<Finding>,
-    outcomes: &mut Outcomes<N>,
+    outcomes: &mut Outcomes<D>,
 ) -> Result<(), AllocError> {
-    let Some((delivered, receipt)) = desk.deliver_all(findings).ok() else {
+    let Some((delivered, receipt)) = desk.deliver_all(findings) else {
         return Ok(());
     };
     for outcome in delivered {
@@ -203,18 +202,12 @@ fn deliver_together<N: Naming, R: Wait + Copy, T: Follows<N>>(
 
 #[test]
 fn findings_from_anyone(rt: HostRuntime) -> Result<(), Fail> {
-    let stranger = Stranger::new(&rt).ok_or("a stranger")?;
-    let taken = at_desk(rt, Script::ListsInTurn(&stranger, Way::OneByOne));
-    drop(stranger);
-    taken
+    at_desk(rt, Script::ListsInTurn(Way::OneByOne))
 }
 
 #[test]
 fn lists_of_findings_from_anyone(rt: HostRuntime) -> Result<(), Fail> {
-    let stranger = Stranger::new(&rt).ok_or("a stranger")?;
-    let taken = at_desk(rt, Script::ListsInTurn(&stranger, Way::Together));
-    drop(stranger);
-    taken
+    at_desk(rt, Script::ListsInTurn(Way::Together))
 }
 
 /// Findings, what becomes of each, and what the board then has of question 0.
@@ -250,25 +243,38 @@ const LISTS: [Wanted; 4] = [
     ),
 ];
 
-/// Delivers each list in turn, and reads the board after it.
-pub(crate) fn takes_in_turn<N: Naming, R: Wait + Abort + Copy>(
+/// A stranger delivers each list in turn.
+pub(crate) fn takes_in_turn<D: TestDesk, R: RandomSource + AllocGlobal + Abort>(
     rt: &R,
-    desk: &Desk<N, R, Shown<N>>,
-    reader: &mut BoardReader<N>,
-    stranger: &Stranger,
+    desk: &D,
+    reader: &mut D::Reader,
     way: Way,
 ) -> Result<(), Fail> {
     assert!(rt; asks_about_opposite_orders(desk, reader));
+    let stranger = Stranger::new(rt).ok_or("a stranger")?;
+    let taken = takes_lists(rt, desk, reader, &stranger, way);
+    drop(stranger);
+    taken
+}
+
+/// Delivers each list in turn, and reads the board after it.
+fn takes_lists<D: TestDesk, R: Abort>(
+    rt: &R,
+    desk: &D,
+    reader: &mut D::Reader,
+    stranger: &Stranger,
+    way: Way,
+) -> Result<(), Fail> {
     for wanted in LISTS {
         takes_list(rt, desk, reader, stranger, way, wanted)?;
     }
     Ok(())
 }
 
-fn takes_list<N: Naming, R: Wait + Abort + Copy>(
+fn takes_list<D: TestDesk, R: Abort>(
     rt: &R,
-    desk: &Desk<N, R, Shown<N>>,
-    reader: &mut BoardReader<N>,
+    desk: &D,
+    reader: &mut D::Reader,
     stranger: &Stranger,
     way: Way,
     wanted: Wanted,
@@ -276,15 +282,15 @@ fn takes_list<N: Naming, R: Wait + Abort + Copy>(
     let (list, refusals, counts) = wanted;
     let findings = stranger.findings(list).ok_or("findings")?;
     let (outcomes, receipts) = delivered(stranger.alloc, desk, findings, way)?;
-    assert_eq!(rt; outcomes.as_slice(), refusals);
-    learn_all(reader, &receipts);
+    assert!(rt; outcomes.as_slice() == refusals);
+    learn_all::<D>(reader, &receipts);
     drop(receipts);
     reads(rt, reader, counts)
 }
 
-fn learn_all<N: Naming>(reader: &mut BoardReader<N>, receipts: &[Receipt<N>]) {
+fn learn_all<D: TestDesk>(reader: &mut D::Reader, receipts: &[D::Receipt]) {
     for receipt in receipts {
-        reader.learn(receipt);
+        D::learn(reader, receipt);
     }
 }
 
@@ -292,46 +298,31 @@ fn learn_all<N: Naming>(reader: &mut BoardReader<N>, receipts: &[Receipt<N>]) {
 type Counts = (u32, u64, u64);
 
 /// Question 0 has so many of each.
-fn reads<N: Naming, R: Abort>(
-    rt: &R,
-    reader: &mut BoardReader<N>,
-    counts: Counts,
-) -> Result<(), Fail> {
-    let Ok(summary) = reader.status() else {
-        return Err(Fail::from("busy"));
-    };
+fn reads(rt: &impl Abort, reader: &mut impl TestReader, counts: Counts) -> Result<(), Fail> {
+    let summary = reader.status().ok_or("busy")?;
     let question = summary.question(0).ok_or("a question")?;
-    assert_eq!(rt;
-        (question.length, question.bound.get(), question.total),
-        (10, 2, 2)
-    );
-    assert_eq!(rt;
-        (question.delivered, question.cycles, question.confirmed),
-        counts
-    );
+    assert!(rt; (question.length, question.bound.get(), question.total) == (10, 2, 2));
+    assert!(rt; (question.delivered, question.cycles, question.confirmed) == counts);
     Ok(())
 }
 
 #[test]
 fn thirty_two_deliveries(rt: HostRuntime) -> Result<(), Fail> {
-    let stranger = Stranger::new(&rt).ok_or("a stranger")?;
-    let taken = at_desk(rt, Script::ListsAtOnce(&stranger, Way::OneByOne));
-    drop(stranger);
-    taken
+    at_desk(rt, Script::ListsAtOnce(Way::OneByOne))
 }
 
 #[test]
 fn thirty_two_deliveries_by_lists_of_four(rt: HostRuntime) -> Result<(), Fail> {
-    let stranger = Stranger::new(&rt).ok_or("a stranger")?;
-    let taken = at_desk(rt, Script::ListsAtOnce(&stranger, Way::Together));
-    drop(stranger);
-    taken
+    at_desk(rt, Script::ListsAtOnce(Way::Together))
 }
 
 /// For each thread the findings that it delivers.
-fn lists_of_four(stranger: &Stranger) -> Option<Vec<Vec<Finding>>> {
-    let mut lists = Vec::new(stranger.alloc);
-    push_lists(stranger, &mut lists).and(Some(lists))
+fn lists_of_four(rt: &(impl RandomSource + AllocGlobal)) -> Option<Vec<Vec<Finding>>> {
+    let stranger = Stranger::new(rt)?;
+    let mut lists = Vec::new(rt.alloc());
+    let pushed = push_lists(&stranger, &mut lists);
+    drop(stranger);
+    pushed.and(Some(lists))
 }
 
 fn push_lists(stranger: &Stranger, lists: &mut Vec<Vec<Finding>>) -> Option<()> {
@@ -344,61 +335,61 @@ fn push_lists(stranger: &Stranger, lists: &mut Vec<Vec<Finding>>) -> Option<()> 
 
 /// Each of eight threads delivers both tasks, a finding with another bound, and one of other
 /// events. Two findings are taken; of the others each is refused for its own reason.
-pub(crate) fn takes_at_once<
-    N: Naming + Send + Sync,
-    R: Threads + Wait + Abort + Copy + Send + Sync,
->(
+pub(crate) fn takes_at_once<D: TestDesk, R: RandomSource + AllocGlobal + Threads + Abort + Sync>(
     rt: &R,
-    desk: &Desk<N, R, Shown<N>>,
-    reader: &mut BoardReader<N>,
-    stranger: &Stranger,
+    alloc: Global,
+    desk: &D,
+    reader: &mut D::Reader,
     way: Way,
 ) -> Result<(), Fail> {
     assert!(rt; asks_about_opposite_orders(desk, reader));
-    let lists = lists_of_four(stranger).ok_or("findings")?;
-    let outcomes = delivered_at_once(rt, stranger.alloc, desk, reader, lists, way)?;
+    let lists = lists_of_four(rt).ok_or("findings")?;
+    let outcomes = delivered_at_once(rt, alloc, desk, reader, lists, way)?;
     are_refused(rt, &outcomes);
     reads(rt, reader, (2, 1, 1))
 }
 
 /// Each list is delivered by a thread of its own: what became of the findings.
-fn delivered_at_once<N: Naming + Send + Sync, R: Threads + Wait + Abort + Copy + Send + Sync>(
+fn delivered_at_once<D: TestDesk, R: Threads + Abort + Sync>(
     rt: &R,
     alloc: Global,
-    desk: &Desk<N, R, Shown<N>>,
-    reader: &mut BoardReader<N>,
+    desk: &D,
+    reader: &mut D::Reader,
     lists: Vec<Vec<Finding>>,
     way: Way,
 ) -> Result<Vec<Option<Refusal>>, Fail> {
     let done = thread::map_vec(rt, lists, &|findings| delivered(alloc, desk, findings, way))?;
     let mut refusals = Vec::new(alloc);
     for one in done {
-        learn_outcomes(reader, one?, &mut refusals)?;
+        learn_outcomes::<D>(reader, one?, &mut refusals)?;
     }
     Ok(refusals)
 }
 
 /// Learns the receipts, and adds the refusals to those before.
-fn learn_outcomes<N: Naming>(
-    reader: &mut BoardReader<N>,
-    outcomes: Outcomes<N>,
+fn learn_outcomes<D: TestDesk>(
+    reader: &mut D::Reader,
+    outcomes: Outcomes<D>,
     before: &mut Vec<Option<Refusal>>,
 ) -> Result<(), AllocError> {
     let (refusals, receipts) = outcomes;
-    learn_all(reader, &receipts);
+    learn_all::<D>(reader, &receipts);
     drop(receipts);
     before.extend_from_slice(&refusals)
 }
 
+/// How many of the findings that all deliver are taken, and refused for each reason.
+const OUTCOMES: [(Option<Refusal>, u32); 4] = [
+    (None, 2),
+    (Some(Refusal::Double), 14),
+    (Some(Refusal::OtherBound), 8),
+    (Some(Refusal::OtherTrace), 8),
+];
+
 fn are_refused(rt: &impl Abort, outcomes: &[Option<Refusal>]) {
-    assert_eq!(rt; outcomes.len(), 32);
-    for (outcome, count) in [
-        (None, 2),
-        (Some(Refusal::Double), 14),
-        (Some(Refusal::OtherBound), 8),
-        (Some(Refusal::OtherTrace), 8),
-    ] {
-        assert_eq!(rt; count_of(outcomes, outcome), count);
+    assert!(rt; outcomes.len() == 32);
+    for (outcome, count) in OUTCOMES {
+        assert!(rt; count_of(outcomes, outcome) == count);
     }
 }
 

@@ -3,22 +3,11 @@
 ghost use Rattle.std.specs.Prelude.{◌≡◌, ℕ, ◌+◌, ◌*◌, ◌^◌, ◌<◌, ◌≤◌, All, length, slice_index, slice_index_or, IfOk};
 ghost use Rattle.claims.specs.Draws.{draws_of};
 
-use claims::{Claimant, NotGathered, NotMade, QUESTIONS, claimants, gather};
+use claims::{Claimant, QUESTIONS, claimants, gather};
 use std::alloc::{AllocError, Global};
 use std::test::Fail;
 use std::thread;
 use std::thread::Threads;
-use thiserror::Error;
-
-#[derive(Debug, Drop, Error)]
-enum RaceFailed {
-    #[error(transparent)]
-    NotMade(#[from] NotMade),
-    #[error(transparent)]
-    NotGathered(#[from] NotGathered),
-    #[error(transparent)]
-    Memory(#[from(alloc)] AllocError),
-}
 
 fn draw_often(mut claimant: Claimant, question: u8, draws: u64) -> Claimant
     requires { length claimant.draws + draws ≤ 2 ^ 40 }
@@ -58,7 +47,7 @@ fn race<R: Threads + Sync>(
     n: usize,
     question: u8,
     draws: u64,
-) -> Result<[u64; QUESTIONS], RaceFailed>
+) -> Result<[u64; QUESTIONS], Fail>
     requires { (1 ≤ n) × (n ≤ 64) × (draws ≤ 2 ^ 40) }
     ensures { IfOk result (λ totals. slice_index totals question ≡ n * draws) }
 {

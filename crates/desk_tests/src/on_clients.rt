@@ -1,61 +1,35 @@
 //! Sessions over a client of a desk.
 
-ghost use Rattle.std.specs.Prelude.{◌≡◌};
-
-use crate::desks::new_desk;
+use crate::at_desk::{Script, at_desk};
+use crate::desks::TestDesk;
 use crate::on_sessions::{questions, replies};
 use crate::workers::{delivers_two, one_worker};
-use board::{BoardReader, Naming, Opened, Shown};
-use desk::{Client, Desk, Worker};
-use fixtures::{ANSWER, LIMIT, REPORT, REPORT_HEAD, SETTLED, STATUS};
-use sessions::{Ended, MemorySink, MemorySource, serve};
+use fixtures::{ANSWER, REPORT, REPORT_HEAD, SETTLED, STATUS};
+use sessions::{Ended, MemorySink, MemorySource};
 use std::alloc::{AllocError, Global};
-use std::hash::RandomState;
-use std::marker::Brand;
 use std::process::Abort;
-use std::sync::{Arc, Wait};
+use std::sync::Wait;
 use std::test::{Fail, *};
-
-/// A session of these bytes over the client is answered so.
-fn is_answered<N: Naming, R: Wait + Abort + Copy>(
-    rt: &R,
-    alloc: Global,
-    client: &mut Client<N, R, Shown<N>>,
-    bytes: Vec<u8>,
-    wanted: &[u8],
-) {
-    let mut source = MemorySource::new(bytes);
-    let mut sink = MemorySink::new(alloc);
-    let ended = serve(rt, alloc, &mut source, &mut sink, client);
-    assert!(rt; ended == Ok(Ended::Input));
-    assert!(rt; sink.bytes() == wanted);
-}
-
-/// A client of the desk, with the last of the readers.
-fn client_of<N: Naming, R: Wait + Copy>(
-    desk: &Arc<Desk<N, R, Shown<N>>>,
-    readers: &mut Vec<BoardReader<N>>,
-) -> Option<Client<N, R, Shown<N>>> {
-    let reader = readers.pop()?;
-    let desk = Arc::try_clone(desk).ok()?;
-    Some(Client::new(desk, reader))
-}
 
 /// What a session sends, and what it is answered.
 type Exchange = (Vec<u8>, Vec<u8>);
 
 /// A session at the desk is answered so. It has the last of the readers, which it gives back.
-fn answered<N: Naming, R: Wait + Abort + Copy>(
+fn answered<D: TestDesk, R: Wait + Abort>(
     rt: &R,
     alloc: Global,
-    desk: &Arc<Desk<N, R, Shown<N>>>,
-    readers: &mut Vec<BoardReader<N>>,
+    desk: &D,
+    readers: &mut Vec<D::Reader>,
     exchange: Exchange,
 ) -> Result<(), Fail> {
     let (bytes, wanted) = exchange;
-    let mut client = client_of(desk, readers).ok_or("a client")?;
-    is_answered(rt, alloc, &mut client, bytes, &wanted);
-    readers.push(client.into_reader())?;
+    let mut source = MemorySource::new(bytes);
+    let mut sink = MemorySink::new(alloc);
+    let (desk, reader) = desk.shared().zip(readers.pop()).ok_or("a client")?;
+    let (ended, reader) = desk.hold_session(rt, alloc, &mut source, &mut sink, reader);
+    assert!(rt; ended == Ok(Ended::Input));
+    assert!(rt; sink.bytes() == wanted.as_slice());
+    readers.push(reader)?;
     Ok(())
 }
 
@@ -107,12 +81,12 @@ fn batches(alloc: Global) -> Result<Exchange, AllocError> {
 
 /// A session asks, the worker works, a later session reads what came of it, and another one sends
 /// batches.
-fn serves_around<N: Naming, R: Wait + Abort + Copy>(
+fn serves_around<D: TestDesk, R: Wait + Abort>(
     rt: &R,
     alloc: Global,
-    desk: &Arc<Desk<N, R, Shown<N>>>,
-    readers: &mut Vec<BoardReader<N>>,
-    worker: &mut Worker<N, R, Shown<N>>,
+    desk: &D,
+    readers: &mut Vec<D::Reader>,
+    worker: &mut D::Worker,
 ) -> Result<(), Fail> {
     answered(rt, alloc, desk, readers, beginning(alloc)?)?;
     delivers_two(rt, worker);
@@ -120,39 +94,18 @@ fn serves_around<N: Naming, R: Wait + Abort + Copy>(
     answered(rt, alloc, desk, readers, batches(alloc)?)
 }
 
-/// Two sessions, and a worker between them.
-fn serves_and_works<N: Naming, R: Wait + Abort + Copy>(
+/// The same, with a worker that is made for it.
+pub(crate) fn serves_and_works<D: TestDesk, R: Wait + Abort>(
     rt: &R,
     alloc: Global,
-    desk: &Arc<Desk<N, R, Shown<N>>>,
-    readers: &mut Vec<BoardReader<N>>,
+    desk: &D,
+    readers: &mut Vec<D::Reader>,
 ) -> Result<(), Fail> {
     let mut worker = one_worker(alloc, desk, readers).ok_or("a worker")?;
-    let served = serves_around(rt, alloc, desk, readers, &mut worker);
-    drop(worker);
-    served
+    serves_around(rt, alloc, desk, readers, &mut worker)
 }
 
 #[test]
 fn a_client_of_a_desk(rt: HostRuntime) -> Result<(), Fail> {
-    asks_at_a_desk::<Brand, _>(rt, rt.alloc(), RandomState::new(&rt)?, Opened::new(), LIMIT)
-}
-
-fn asks_at_a_desk<N: Naming, R: Wait + Abort + Copy>(
-    rt: R,
-    alloc: Global,
-    state: RandomState,
-    opened: Opened,
-    limit: u32,
-) -> Result<(), Fail>
-    requires book { opened.seen.book ≡ N.book }
-    requires limit { limit ≡ N.limit }
-{
-    let made = new_desk::<N, R>(rt, alloc, state, opened, limit, 3);
-    let (desk, spare, mut readers) = made.ok_or("a desk")?;
-    drop(spare);
-    let served = serves_and_works(&rt, alloc, &desk, &mut readers);
-    drop(desk);
-    drop(readers);
-    served
+    at_desk(rt, Script::Sessions)
 }

@@ -23,7 +23,7 @@ pub(crate) fn one_closes_early<R: Net<Stream = TcpStream>>(
     write_and_close(rt, address)?;
     let stream = TcpStream::connect(rt, address)?;
     for earlier in 0..LIMIT {
-        if placed(&asked(alloc, &stream, &frame(6, 0, 7))?)? > earlier {
+        if place_of_a_write(alloc, &stream)? > earlier {
             return Ok(true);
         }
     }
@@ -33,6 +33,11 @@ pub(crate) fn one_closes_early<R: Net<Stream = TcpStream>>(
 fn write_and_close<R: Net<Stream = TcpStream>>(rt: &R, address: SocketAddr) -> io::Result<()> {
     let stream = TcpStream::connect(rt, address)?;
     (&mut &stream).write_all(&frame(6, 0, 7))
+}
+
+/// Offers a write, and answers its place.
+fn place_of_a_write(alloc: Global, stream: &TcpStream) -> io::Result<u32> {
+    placed(&asked(alloc, stream, &frame(6, 0, 7))?)
 }
 
 /// The place in the body of a reply that gives one.

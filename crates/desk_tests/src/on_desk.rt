@@ -3,13 +3,14 @@
 ghost use Rattle.std.specs.Prelude.{◌≡◌};
 
 use crate::at_desk::{Script, at_desk};
+use crate::desks::TestDesk;
 use crate::offers::{accepted, accepts, answer, asked, missing, offer, reports, takes};
-use board::{BoardReader, Naming, Shown};
+use board::{Naming, Shown};
 use desk::{Desk, DeskRefused};
 use findings::Finding;
 use fixtures::{LIMIT, event, opposite_orders, report_of};
 use sequencer::{Answer, AskRefused, Opened};
-use std::alloc::Global;
+use std::alloc::{AllocError, Global};
 use std::hash::RandomState;
 use std::marker::Brand;
 use std::process::Abort;
@@ -23,15 +24,15 @@ fn each_refusal_once(rt: HostRuntime) -> Result<(), Fail> {
 }
 
 /// The events of a script are placed or refused, and the board shows those that were placed.
-pub(crate) fn refuses_in_script<N: Naming, R: Wait + Abort + Copy>(
+pub(crate) fn refuses_in_script<D: TestDesk, R: Abort>(
     rt: &R,
-    desk: &Desk<N, R, Shown<N>>,
-    reader: &mut BoardReader<N>,
+    desk: &D,
+    reader: &mut D::Reader,
 ) -> Result<(), Fail> {
     for (thread, op, reply) in SCRIPT {
-        assert_eq!(rt; placed(desk, reader, event(thread, op)), reply);
+        assert!(rt; placed(desk, reader, event(thread, op)) == reply);
     }
-    assert_eq!(rt; accepted(reader), Some(6));
+    assert!(rt; accepted(reader) == Some(6));
     Ok(())
 }
 
@@ -56,26 +57,24 @@ const SCRIPT: [(u32, Op, Result<u32, Refusal>); 16] = [
 ];
 
 /// The number of the place that the event is given.
-fn placed<N: Naming, R: Wait + Copy>(
-    desk: &Desk<N, R, Shown<N>>,
-    reader: &mut BoardReader<N>,
-    event: Event,
-) -> Result<u32, Refusal> {
+fn placed<D: TestDesk>(desk: &D, reader: &mut D::Reader, event: Event) -> Result<u32, Refusal> {
     let place = offer(desk, reader, event)?;
     Ok(place.get())
 }
 
+/// A limit and a number of readers, and why there is no such desk.
+const LIMITS: [(u32, usize, Option<DeskRefused>); 5] = [
+    (0, 0, Some(DeskRefused::BadLimit)),
+    (LIMIT + 1, 41, Some(DeskRefused::BadLimit)),
+    (1, 0, Some(DeskRefused::BadCount)),
+    (LIMIT, 41, Some(DeskRefused::BadCount)),
+    (LIMIT, 40, None),
+];
+
 #[test]
 fn limits_of_a_desk(rt: HostRuntime) -> Result<(), Fail> {
     let state = RandomState::new(&rt)?;
-    let cases = [
-        (0, 0, Some(DeskRefused::BadLimit)),
-        (LIMIT + 1, 41, Some(DeskRefused::BadLimit)),
-        (1, 0, Some(DeskRefused::BadCount)),
-        (LIMIT, 41, Some(DeskRefused::BadCount)),
-        (LIMIT, 40, None),
-    ];
-    for (limit, readers, refused) in cases {
+    for (limit, readers, refused) in LIMITS {
         let made = refused_by::<Brand, _>(
             rt,
             rt.alloc(),
@@ -84,7 +83,7 @@ fn limits_of_a_desk(rt: HostRuntime) -> Result<(), Fail> {
             limit,
             readers,
         );
-        assert_eq!(rt; made, refused);
+        assert!(rt; made == refused);
     }
     Ok(())
 }
@@ -110,27 +109,29 @@ fn two_hundred_repetitions(rt: HostRuntime) -> Result<(), Fail> {
 }
 
 /// Question 0, about sections that come two hundred times, is reported.
-pub(crate) fn reports_repetitions<N: Naming, R: Wait + Abort + Copy>(
+pub(crate) fn reports_repetitions<D: TestDesk, R: Abort>(
     rt: &R,
     alloc: Global,
-    desk: &Desk<N, R, Shown<N>>,
-    reader: &mut BoardReader<N>,
+    desk: &D,
+    reader: &mut D::Reader,
 ) -> Result<(), Fail> {
     assert!(rt; accepts_repetitions(desk, reader));
-    assert_eq!(rt; accepted(reader), Some(1602));
+    assert!(rt; accepted(reader) == Some(1602));
     delivers_both(rt, alloc, desk)?;
-    assert_eq!(rt; missing(desk, 0), Some(None));
-    assert_eq!(rt; missing(desk, 1), None);
-    assert_eq!(rt; refusal_of_snapshot(desk, 1), Some(Refusal::NoSuchQuestion));
-    assert!(rt; reports(desk, &report_of(alloc, 1602)?));
+    assert!(rt; missing(desk, 0) == Some(None));
+    assert!(rt; missing(desk, 1) == None);
+    assert!(rt; refusal_of_snapshot(desk, 1) == Some(Refusal::NoSuchQuestion));
+    assert!(rt; reports_all(alloc, desk)?);
     Ok(())
 }
 
+/// Whether the answer is the report on all events.
+fn reports_all<D: TestDesk>(alloc: Global, desk: &D) -> Result<bool, AllocError> {
+    Ok(reports(desk, &report_of(alloc, 1602)?))
+}
+
 /// The forks are accepted, and the sections two hundred times.
-fn accepts_repetitions<N: Naming, R: Wait + Copy>(
-    desk: &Desk<N, R, Shown<N>>,
-    reader: &mut BoardReader<N>,
-) -> bool {
+fn accepts_repetitions<D: TestDesk>(desk: &D, reader: &mut D::Reader) -> bool {
     let events = opposite_orders();
     let (forks, sections) = events.split_at(2);
     let mut accepted = accepts(desk, reader, forks);
@@ -140,48 +141,42 @@ fn accepts_repetitions<N: Naming, R: Wait + Copy>(
     accepted
 }
 
-fn refusal_of_snapshot<N: Naming, R: Wait + Copy>(
-    desk: &Desk<N, R, Shown<N>>,
-    question: u32,
-) -> Option<Refusal> {
+fn refusal_of_snapshot<D: TestDesk>(desk: &D, question: u32) -> Option<Refusal> {
     let (snapshot, receipt) = desk.snapshot(question);
     drop(receipt);
     snapshot.err()
 }
 
+/// Question 0, about all events.
+const OPENED: Opened = Opened {
+    question: 0,
+    length: 1602,
+    total: 2,
+};
+
 /// Question 0 is opened. It answers how many tasks it has.
-fn opens<N: Naming, R: Wait + Abort + Copy>(rt: &R, desk: &Desk<N, R, Shown<N>>) -> u32 {
-    let wanted = Opened {
-        question: 0,
-        length: 1602,
-        total: 2,
-    };
-    assert_eq!(rt; asked(desk, 1), Err(AskRefused::BadBound));
-    assert_eq!(rt; asked(desk, 2), Ok(wanted));
-    wanted.total
+fn opens<D: TestDesk, R: Abort>(rt: &R, desk: &D) -> u32 {
+    assert!(rt; asked(desk, 1) == Err(AskRefused::BadBound));
+    assert!(rt; asked(desk, 2) == Ok(OPENED));
+    OPENED.total
 }
 
 /// The rows of a task of question 0.
-fn finding_of<N: Naming, R: Wait + Copy>(
-    alloc: Global,
-    desk: &Desk<N, R, Shown<N>>,
-    bound: Bound,
-    task: u32,
-) -> Option<Finding> {
+fn finding_of<D: TestDesk>(alloc: Global, desk: &D, bound: Bound, task: u32) -> Option<Finding> {
     let (snapshot, receipt) = desk.snapshot(0);
     drop(receipt);
     findings::compute(alloc, snapshot.ok()?, 0, bound, task).ok()
 }
 
 /// The task is the least missing one, the answer is pending, and then the task is delivered.
-fn delivers<N: Naming, R: Wait + Abort + Copy>(
+fn delivers<D: TestDesk, R: Abort>(
     rt: &R,
     alloc: Global,
-    desk: &Desk<N, R, Shown<N>>,
+    desk: &D,
     bound: Bound,
     task: u32,
 ) -> Result<(), Fail> {
-    assert_eq!(rt; missing(desk, 0), Some(Some(task)));
+    assert!(rt; missing(desk, 0) == Some(Some(task)));
     assert!(rt; matches!(answer(desk), Ok(Answer::Pending { .. })));
     let finding = finding_of(alloc, desk, bound, task).ok_or("a finding")?;
     assert!(rt; takes(desk, finding));
@@ -189,11 +184,7 @@ fn delivers<N: Naming, R: Wait + Abort + Copy>(
 }
 
 /// Question 0 is opened, and its two tasks are delivered one after another.
-fn delivers_both<N: Naming, R: Wait + Abort + Copy>(
-    rt: &R,
-    alloc: Global,
-    desk: &Desk<N, R, Shown<N>>,
-) -> Result<(), Fail> {
+fn delivers_both<D: TestDesk, R: Abort>(rt: &R, alloc: Global, desk: &D) -> Result<(), Fail> {
     let two = Bound::new(2).ok_or("a bound")?;
     for task in 0..opens(rt, desk) {
         delivers(rt, alloc, desk, two, task)?;

@@ -189,9 +189,15 @@ fn answered<R: Net<Stream = TcpStream>>(
     Ok(stream)
 }
 
-/// Sixteen sessions are open, and a further connection reads the end. They close, and then another
-/// is answered.
-fn seventeen<R: Net<Stream = TcpStream>>(
+/// Whether a connection reads the end at once.
+fn reads_the_end<R: Net<Stream = TcpStream>>(rt: &R, address: SocketAddr) -> io::Result<bool> {
+    let further = TcpStream::connect(rt, address)?;
+    let mut buffer = [0u8; 8];
+    Ok((&mut &further).read(&mut buffer)? == 0)
+}
+
+/// Sixteen sessions are open, and a further connection reads the end. They close.
+fn none_beside_sixteen<R: Net<Stream = TcpStream>>(
     rt: &R,
     alloc: Global,
     address: SocketAddr,
@@ -200,10 +206,16 @@ fn seventeen<R: Net<Stream = TcpStream>>(
     for _ in 0..16u32 {
         open.push(answered(rt, alloc, address)?)?;
     }
-    let further = TcpStream::connect(rt, address)?;
-    let mut buffer = [0u8; 8];
-    let none = (&mut &further).read(&mut buffer)? == 0;
-    open.clear();
+    reads_the_end(rt, address)
+}
+
+/// Once sixteen sessions are closed, another connection is answered.
+fn seventeen<R: Net<Stream = TcpStream>>(
+    rt: &R,
+    alloc: Global,
+    address: SocketAddr,
+) -> io::Result<bool> {
+    let none = none_beside_sixteen(rt, alloc, address)?;
     for _ in 0..100_000u32 {
         if answered(rt, alloc, address).is_ok() {
             return Ok(none);

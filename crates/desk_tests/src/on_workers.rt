@@ -1,16 +1,15 @@
 //! Workers at a desk.
 
 use crate::at_desk::{Script, at_desk};
+use crate::desks::{TestDesk, TestWorker};
 use crate::offers::{asks_about_opposite_orders, reports};
 use crate::workers::{TasksMeet, delivers_two, worker, workers_at};
-use board::{BoardReader, Naming, Shown};
 use claims::{Claimant, claimants};
-use desk::{Desk, Turn, Worker};
+use desk::Turn;
 use findings::Hold;
 use fixtures::{Meeting, REPORT};
 use std::alloc::Global;
 use std::process::Abort;
-use std::sync::{Arc, Wait};
 use std::test::*;
 use std::thread;
 use std::thread::Threads;
@@ -21,27 +20,27 @@ fn two_workers_meet(rt: HostRuntime) -> Result<(), Fail> {
 }
 
 /// Two workers deliver a task each, and a late one finds nothing to do.
-pub(crate) fn two_meet<N: Naming + Send + Sync, R: Threads + Wait + Abort + Copy + Send + Sync>(
+pub(crate) fn two_meet<D: TestDesk, R: Threads + Abort + Sync>(
     rt: &R,
     alloc: Global,
-    desk: &Arc<Desk<N, R, Shown<N>>>,
-    reader: &mut BoardReader<N>,
-    others: &mut Vec<BoardReader<N>>,
+    desk: &D,
+    reader: &mut D::Reader,
+    others: &mut Vec<D::Reader>,
 ) -> Result<(), Fail> {
     assert!(rt; asks_about_opposite_orders(desk, reader));
     let meeting = all_meet(rt, alloc, desk, others)?;
-    assert_eq!(rt; meeting.came(), (1, 1));
+    assert!(rt; meeting.came() == (1, 1));
     assert!(rt; !meeting.gave_up());
     assert!(rt; reports(desk, REPORT));
     Ok(())
 }
 
 /// The meeting of the two workers, to which the late one does not come.
-fn all_meet<N: Naming + Send + Sync, R: Threads + Wait + Abort + Copy + Send + Sync>(
+fn all_meet<D: TestDesk, R: Threads + Abort + Sync>(
     rt: &R,
     alloc: Global,
-    desk: &Arc<Desk<N, R, Shown<N>>>,
-    others: &mut Vec<BoardReader<N>>,
+    desk: &D,
+    others: &mut Vec<D::Reader>,
 ) -> Result<Meeting, Fail> {
     let hold = TasksMeet {
         meeting: Meeting::new(),
@@ -54,36 +53,27 @@ fn all_meet<N: Naming + Send + Sync, R: Threads + Wait + Abort + Copy + Send + S
 }
 
 /// All of them deliver a task, each on a thread of its own.
-pub(crate) fn all_deliver<N: Naming + Send + Sync, R: Threads + Wait + Abort + Copy + Send + Sync>(
+pub(crate) fn all_deliver<W: TestWorker + Send, R: Threads + Abort + Sync>(
     rt: &R,
-    workers: Vec<Worker<N, R, Shown<N>>>,
+    workers: Vec<W>,
     hold: &(impl Hold + Sync),
 ) -> Result<(), Fail> {
     let turns = thread::map_vec(rt, workers, &|worker| turn_of(worker, hold))?;
     for turn in &turns {
-        assert_eq!(rt; *turn, Turn::Delivered);
+        assert!(rt; *turn == Turn::Delivered);
     }
     Ok(())
 }
 
 /// Each of them finds nothing to do.
-fn all_are_idle<N: Naming, R: Wait + Abort + Copy>(
-    rt: &R,
-    workers: Vec<Worker<N, R, Shown<N>>>,
-    hold: &impl Hold,
-) {
+fn all_are_idle<W: TestWorker>(rt: &impl Abort, workers: Vec<W>, hold: &impl Hold) {
     for worker in workers {
-        assert_eq!(rt; turn_of(worker, hold), Turn::Idle);
+        assert!(rt; turn_of(worker, hold) == Turn::Idle);
     }
 }
 
-fn turn_of<N: Naming, R: Wait + Copy>(
-    mut worker: Worker<N, R, Shown<N>>,
-    hold: &impl Hold,
-) -> Turn {
-    let turn = worker.turn(hold);
-    drop(worker);
-    turn
+fn turn_of<W: TestWorker>(mut worker: W, hold: &impl Hold) -> Turn {
+    worker.turn(hold)
 }
 
 #[test]
@@ -92,12 +82,12 @@ fn tasks_that_others_left(rt: HostRuntime) -> Result<(), Fail> {
 }
 
 /// Somebody draws both tasks and delivers none.
-pub(crate) fn reports_left_tasks<N: Naming, R: Wait + Abort + Copy>(
+pub(crate) fn reports_left_tasks<D: TestDesk, R: Abort>(
     rt: &R,
     alloc: Global,
-    desk: &Arc<Desk<N, R, Shown<N>>>,
-    reader: &mut BoardReader<N>,
-    others: &mut Vec<BoardReader<N>>,
+    desk: &D,
+    reader: &mut D::Reader,
+    others: &mut Vec<D::Reader>,
 ) -> Result<(), Fail> {
     assert!(rt; asks_about_opposite_orders(desk, reader));
     works_alone(rt, alloc, desk, others)?;
@@ -106,11 +96,11 @@ pub(crate) fn reports_left_tasks<N: Naming, R: Wait + Abort + Copy>(
 }
 
 /// A worker delivers both tasks, which another one has drawn.
-fn works_alone<N: Naming, R: Wait + Abort + Copy>(
+fn works_alone<D: TestDesk, R: Abort>(
     rt: &R,
     alloc: Global,
-    desk: &Arc<Desk<N, R, Shown<N>>>,
-    readers: &mut Vec<BoardReader<N>>,
+    desk: &D,
+    readers: &mut Vec<D::Reader>,
 ) -> Result<(), Fail> {
     let mut claims = claimants(alloc, 2)?;
     let gone = claims.pop();
@@ -123,13 +113,9 @@ fn works_alone<N: Naming, R: Wait + Abort + Copy>(
     Ok(())
 }
 
-fn delivers_what_is_drawn<N: Naming, R: Wait + Abort + Copy>(
-    rt: &R,
-    gone: &mut Claimant,
-    worker: &mut Worker<N, R, Shown<N>>,
-) {
+fn delivers_what_is_drawn(rt: &impl Abort, gone: &mut Claimant, worker: &mut impl TestWorker) {
     for task in 0..2u64 {
-        assert_eq!(rt; gone.draw(0).ok(), Some(task));
+        assert!(rt; gone.draw(0).ok() == Some(task));
     }
     delivers_two(rt, worker);
 }

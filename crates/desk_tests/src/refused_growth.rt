@@ -2,11 +2,12 @@
 //! tests pass where none is refused, as in any run of tests; `bench/refused` refuses each in turn.
 
 use crate::at_desk::{Script, try_at_desk};
+use crate::desks::{TestDesk, TestReader, TestWorker};
 use crate::many_findings::{FIRST, SECOND, Stranger};
 use crate::offers::{answer, asked, is_report, missing, offer};
 use crate::workers::{Free, workers_at};
-use board::{BoardReader, Naming, QuestionSummary, Shown};
-use desk::{Desk, Failed, Turn, Worker};
+use board::QuestionSummary;
+use desk::{Failed, Turn};
 use findings::Finding;
 use fixtures::{
     ANSWER, LIMIT, OPENED, REPORT, REPORT_HEAD, opposite_orders, placed, question_frames,
@@ -17,7 +18,6 @@ use std::alloc::Global;
 use std::hash::RandomState;
 use std::process::Abort;
 use std::random::RandomSource;
-use std::sync::{Arc, Wait};
 use std::test::*;
 use trace_model::{Event, Refusal};
 
@@ -41,11 +41,14 @@ fn push_inputs(
     session: Session,
     inputs: &mut Vec<Input>,
 ) -> Option<()> {
-    let frames = question_frames(rt.alloc()).ok()?;
-    inputs.push(Input::Piece(session, frames)).ok()?;
+    push_piece(inputs, session, question_frames(rt.alloc()).ok())?;
     push_findings(rt, inputs)?;
-    let answer = Vec::from_slice(rt.alloc(), &ANSWER).ok()?;
-    inputs.push(Input::Piece(session, answer)).ok()
+    push_piece(inputs, session, Vec::from_slice(rt.alloc(), &ANSWER).ok())
+}
+
+/// None where there were no bytes, or there is no memory for the piece.
+fn push_piece(inputs: &mut Vec<Input>, session: Session, bytes: Option<Vec<u8>>) -> Option<()> {
+    inputs.push(Input::Piece(session, bytes?)).ok()
 }
 
 /// One session: the frames of the events and of a question; then the findings of both tasks, and
@@ -85,7 +88,7 @@ fn play_answers_all_or_no_memory(rt: HostRuntime) -> Result<(), Fail> {
                 drop(run);
                 return Ok(());
             }
-            Err(refused) => assert_eq!(rt; refused, PlayRefused::NoMemory),
+            Err(refused) => assert!(rt; refused == PlayRefused::NoMemory),
         }
     }
     Err(Fail::from("refused again"))
@@ -94,54 +97,45 @@ fn play_answers_all_or_no_memory(rt: HostRuntime) -> Result<(), Fail> {
 /// What the board shows: events, questions, and of question 0.
 type Shows = (u32, u32, Option<QuestionSummary>);
 
-fn shown<N: Naming>(reader: &mut BoardReader<N>) -> Option<Shows> {
-    let summary = reader.status().ok()?;
+fn shown(reader: &mut impl TestReader) -> Option<Shows> {
+    let summary = reader.status()?;
     Some((summary.accepted, summary.opened, summary.question(0)))
 }
 
 /// Offers the event, again where it was answered `NoMemory`. The board then shows what it showed
 /// before.
-fn offers<N: Naming, R: Wait + Abort + Copy>(
-    rt: &R,
-    desk: &Desk<N, R, Shown<N>>,
-    reader: &mut BoardReader<N>,
-    event: Event,
-) {
+fn offers<D: TestDesk, R: Abort>(rt: &R, desk: &D, reader: &mut D::Reader, event: Event) {
     let before = shown(reader);
     let first = offer(desk, reader, event);
     if first.is_ok() {
         return;
     }
-    assert_eq!(rt; first.err(), Some(Refusal::NoMemory));
-    assert_eq!(rt; shown(reader), before);
+    assert!(rt; first.err() == Some(Refusal::NoMemory));
+    assert!(rt; shown(reader) == before);
     assert!(rt; offer(desk, reader, event).is_ok());
 }
 
 /// Opens question 0, again where that was answered `NoMemory`. The board then shows what it showed
 /// before.
-fn asks<N: Naming, R: Wait + Abort + Copy>(
-    rt: &R,
-    desk: &Desk<N, R, Shown<N>>,
-    reader: &mut BoardReader<N>,
-) {
+fn asks<D: TestDesk, R: Abort>(rt: &R, desk: &D, reader: &mut D::Reader) {
     let before = shown(reader);
     let (first, receipt) = desk.ask(2);
-    reader.learn(&receipt);
+    D::learn(reader, &receipt);
     drop(receipt);
     if first.is_ok() {
         return;
     }
-    assert_eq!(rt; first.err(), Some(AskRefused::NoMemory));
-    assert_eq!(rt; shown(reader), before);
+    assert!(rt; first.err() == Some(AskRefused::NoMemory));
+    assert!(rt; shown(reader) == before);
     assert!(rt; asked(desk, 2).is_ok());
 }
 
 /// Whether a turn of the worker delivers. One that failed for want of memory left its task missing.
-fn delivers<N: Naming, R: Wait + Abort + Copy>(
+fn delivers<D: TestDesk, R: Abort>(
     rt: &R,
-    desk: &Desk<N, R, Shown<N>>,
-    reader: &mut BoardReader<N>,
-    worker: &mut Worker<N, R, Shown<N>>,
+    desk: &D,
+    reader: &mut D::Reader,
+    worker: &mut D::Worker,
     done: u32,
 ) -> bool {
     let before = shown(reader);
@@ -149,19 +143,14 @@ fn delivers<N: Naming, R: Wait + Abort + Copy>(
     if turn == Turn::Delivered {
         return true;
     }
-    assert_eq!(rt; turn, Turn::Failed(Failed::NoMemory));
-    assert_eq!(rt; shown(reader), before);
-    assert_eq!(rt; missing(desk, 0), Some(Some(done)));
+    assert!(rt; turn == Turn::Failed(Failed::NoMemory));
+    assert!(rt; shown(reader) == before);
+    assert!(rt; missing(desk, 0) == Some(Some(done)));
     false
 }
 
 /// The worker does both tasks: where a turn failed, a later one does its task.
-fn works<N: Naming, R: Wait + Abort + Copy>(
-    rt: &R,
-    desk: &Desk<N, R, Shown<N>>,
-    reader: &mut BoardReader<N>,
-    worker: &mut Worker<N, R, Shown<N>>,
-) {
+fn works<D: TestDesk, R: Abort>(rt: &R, desk: &D, reader: &mut D::Reader, worker: &mut D::Worker) {
     let mut done = 0u32;
     for _ in 0..3u32 {
         if done == 2 {
@@ -171,24 +160,20 @@ fn works<N: Naming, R: Wait + Abort + Copy>(
             done = done.saturating_add(1);
         }
     }
-    assert_eq!(rt; done, 2);
-    assert_eq!(rt; worker.turn(&Free), Turn::Idle);
+    assert!(rt; done == 2);
+    assert!(rt; worker.turn(&Free) == Turn::Idle);
 }
 
 /// Gets the report, again where that was answered `NoMemory`. The board then shows what it showed
 /// before.
-fn answers<N: Naming, R: Wait + Abort + Copy>(
-    rt: &R,
-    desk: &Desk<N, R, Shown<N>>,
-    reader: &mut BoardReader<N>,
-) {
+fn answers<D: TestDesk, R: Abort>(rt: &R, desk: &D, reader: &mut D::Reader) {
     let before = shown(reader);
     let mut first = answer(desk);
     if matches!(first, Err(AnswerRefused::NoMemory)) {
-        assert_eq!(rt; shown(reader), before);
+        assert!(rt; shown(reader) == before);
         first = answer(desk);
     }
-    assert!(rt; is_report(first, REPORT));
+    assert!(rt; is_report(&first, REPORT));
 }
 
 #[test]
@@ -202,12 +187,12 @@ fn a_desk_goes_on_after_a_refusal(rt: HostRuntime) -> Result<(), Fail> {
 }
 
 /// One worker, from the first event to the report. None where it was not made.
-pub(crate) fn goes_on<N: Naming, R: Wait + Abort + Copy>(
+pub(crate) fn goes_on<D: TestDesk, R: Abort>(
     rt: &R,
     alloc: Global,
-    desk: &Arc<Desk<N, R, Shown<N>>>,
-    reader: &mut BoardReader<N>,
-    others: &mut Vec<BoardReader<N>>,
+    desk: &D,
+    reader: &mut D::Reader,
+    others: &mut Vec<D::Reader>,
 ) -> Option<()> {
     let mut workers = workers_at(alloc, desk, others, 1)?;
     let worker = workers.pop();
@@ -219,11 +204,11 @@ pub(crate) fn goes_on<N: Naming, R: Wait + Abort + Copy>(
 }
 
 /// From the first event to the report.
-fn goes_to_report<N: Naming, R: Wait + Abort + Copy>(
+fn goes_to_report<D: TestDesk, R: Abort>(
     rt: &R,
-    desk: &Desk<N, R, Shown<N>>,
-    reader: &mut BoardReader<N>,
-    worker: &mut Worker<N, R, Shown<N>>,
+    desk: &D,
+    reader: &mut D::Reader,
+    worker: &mut D::Worker,
 ) {
     for event in opposite_orders() {
         offers(rt, desk, reader, event);

@@ -1,17 +1,16 @@
 //! Three workers, which deliver in an order that the board tells them.
 
 use crate::at_desk::{Script, at_desk};
+use crate::desks::{TestDesk, TestReader};
 use crate::offers::{accepts, asked, reports};
 use crate::on_workers::all_deliver;
 use crate::workers::workers_at;
-use board::{BoardReader, Naming, Shown};
-use desk::Desk;
 use findings::Hold;
 use fixtures::event;
 use std::alloc::Global;
 use std::process::Abort;
 use std::sync::atomic::{AtomicU64, Ordering};
-use std::sync::{Arc, Mutex, Wait};
+use std::sync::{Mutex, Wait};
 use std::test::*;
 use std::thread;
 use std::thread::Threads;
@@ -51,15 +50,15 @@ fn ring_of_three() -> [Event; 15] {
 /// Keeps each task until it was called for all three; then task 0 until the board shows two
 /// delivered ones, and task 1 until it shows one.
 #[derive(Drop)]
-struct Order<N: Naming, R: Wait + Copy> {
+struct Order<B: TestReader, R: Wait + Copy> {
     rt: R,
-    reader: Mutex<BoardReader<N>>,
+    reader: Mutex<B>,
     called: [AtomicU64; 3],
     gave_up: AtomicU64,
 }
 
-impl<N: Naming, R: Wait + Copy> Order<N, R> {
-    fn new(rt: R, reader: BoardReader<N>) -> Order<N, R> {
+impl<B: TestReader, R: Wait + Copy> Order<B, R> {
+    fn new(rt: R, reader: B) -> Order<B, R> {
         Order {
             rt,
             reader: Mutex::new(reader),
@@ -84,7 +83,7 @@ impl<N: Naming, R: Wait + Copy> Order<N, R> {
 
     /// How many tasks of the question the board shows as delivered.
     fn delivered(&self, question: u32) -> u32 {
-        let Ok(summary) = self.reader.lock(&self.rt).status() else {
+        let Some(summary) = self.reader.lock(&self.rt).status() else {
             return 0;
         };
         match summary.question(question) {
@@ -94,7 +93,7 @@ impl<N: Naming, R: Wait + Copy> Order<N, R> {
     }
 }
 
-impl<N: Naming, R: Wait + Copy> Hold for Order<N, R> {
+impl<B: TestReader, R: Wait + Copy> Hold for Order<B, R> {
     fn hold(&self, question: u32, task: u32) {
         let Some(called) = self.called.get(task as usize) else {
             return;
@@ -117,12 +116,12 @@ fn three_workers_meet(rt: HostRuntime) -> Result<(), Fail> {
 }
 
 /// Question 0 is opened, and its three tasks are delivered in the order.
-pub(crate) fn three_meet<N: Naming + Send + Sync, R: Threads + Wait + Abort + Copy + Send + Sync>(
+pub(crate) fn three_meet<D: TestDesk, R: Threads + Wait + Abort + Copy + Send + Sync>(
     rt: R,
     alloc: Global,
-    desk: &Arc<Desk<N, R, Shown<N>>>,
-    reader: &mut BoardReader<N>,
-    others: &mut Vec<BoardReader<N>>,
+    desk: &D,
+    reader: &mut D::Reader,
+    others: &mut Vec<D::Reader>,
 ) -> Result<(), Fail> {
     assert!(rt; accepts(desk, reader, &ring_of_three()));
     assert!(rt; asked(desk, 3).is_ok());
@@ -132,12 +131,12 @@ pub(crate) fn three_meet<N: Naming + Send + Sync, R: Threads + Wait + Abort + Co
     delivered
 }
 
-fn three_deliver<N: Naming + Send + Sync, R: Threads + Wait + Abort + Copy + Send + Sync>(
+fn three_deliver<D: TestDesk, R: Threads + Wait + Abort + Copy + Send + Sync>(
     rt: &R,
     alloc: Global,
-    desk: &Arc<Desk<N, R, Shown<N>>>,
-    readers: &mut Vec<BoardReader<N>>,
-    order: &Order<N, R>,
+    desk: &D,
+    readers: &mut Vec<D::Reader>,
+    order: &Order<D::Reader, R>,
 ) -> Result<(), Fail> {
     let workers = workers_at(alloc, desk, readers, 3).ok_or("workers")?;
     all_deliver(rt, workers, order)?;

@@ -2,34 +2,32 @@
 
 ghost use Rattle.std.specs.Prelude.{◌≤◌};
 
-use board::{BoardReader, Naming, Shown};
+use crate::desks::{TestDesk, TestWorker};
 use claims::{Claimant, claimants};
-use desk::{Desk, Turn, Worker};
+use desk::Turn;
 use findings::Hold;
 use fixtures::Meeting;
 use std::alloc::Global;
 use std::process::Abort;
-use std::sync::{Arc, Wait};
 
 /// The next worker, where there is memory for it.
-pub(crate) fn worker<N: Naming, R: Wait + Copy>(
-    desk: &Arc<Desk<N, R, Shown<N>>>,
+pub(crate) fn worker<D: TestDesk>(
+    desk: &D,
     claims: &mut Vec<Claimant>,
-    readers: &mut Vec<BoardReader<N>>,
-) -> Option<Worker<N, R, Shown<N>>> {
-    let desk = Arc::try_clone(desk).ok();
-    let ((desk, claimant), reader) = desk.zip(claims.pop()).zip(readers.pop())?;
-    Some(Worker::new(desk, claimant, reader))
+    readers: &mut Vec<D::Reader>,
+) -> Option<D::Worker> {
+    let ((desk, claimant), reader) = desk.shared().zip(claims.pop()).zip(readers.pop())?;
+    Some(desk.worker(claimant, reader))
 }
 
 /// So many workers at the desk, with the last of the readers. None where there are not so many
 /// readers, or there is no memory for it.
-pub(crate) fn workers_at<N: Naming, R: Wait + Copy>(
+pub(crate) fn workers_at<D: TestDesk>(
     alloc: Global,
-    desk: &Arc<Desk<N, R, Shown<N>>>,
-    readers: &mut Vec<BoardReader<N>>,
+    desk: &D,
+    readers: &mut Vec<D::Reader>,
     count: usize,
-) -> Option<Vec<Worker<N, R, Shown<N>>>>
+) -> Option<Vec<D::Worker>>
     requires some { 1 ≤ count }
     requires few { count ≤ 64 }
 {
@@ -41,11 +39,11 @@ pub(crate) fn workers_at<N: Naming, R: Wait + Copy>(
 }
 
 /// A worker for each claimant.
-fn push_workers<N: Naming, R: Wait + Copy>(
-    desk: &Arc<Desk<N, R, Shown<N>>>,
+fn push_workers<D: TestDesk>(
+    desk: &D,
     claims: &mut Vec<Claimant>,
-    readers: &mut Vec<BoardReader<N>>,
-    workers: &mut Vec<Worker<N, R, Shown<N>>>,
+    readers: &mut Vec<D::Reader>,
+    workers: &mut Vec<D::Worker>,
 ) -> Option<()> {
     for _ in 0..claims.len() {
         let worker = worker(desk, claims, readers)?;
@@ -55,11 +53,11 @@ fn push_workers<N: Naming, R: Wait + Copy>(
 }
 
 /// A worker with the last of the readers.
-pub(crate) fn one_worker<N: Naming, R: Wait + Copy>(
+pub(crate) fn one_worker<D: TestDesk>(
     alloc: Global,
-    desk: &Arc<Desk<N, R, Shown<N>>>,
-    readers: &mut Vec<BoardReader<N>>,
-) -> Option<Worker<N, R, Shown<N>>> {
+    desk: &D,
+    readers: &mut Vec<D::Reader>,
+) -> Option<D::Worker> {
     let mut claims = claimants(alloc, 1).ok()?;
     let worker = worker(desk, &mut claims, readers);
     drop(claims);
@@ -67,12 +65,9 @@ pub(crate) fn one_worker<N: Naming, R: Wait + Copy>(
 }
 
 /// The worker does two tasks, and then finds nothing to do.
-pub(crate) fn delivers_two<N: Naming, R: Wait + Abort + Copy>(
-    rt: &R,
-    worker: &mut Worker<N, R, Shown<N>>,
-) {
+pub(crate) fn delivers_two(rt: &impl Abort, worker: &mut impl TestWorker) {
     for turn in [Turn::Delivered, Turn::Delivered, Turn::Idle] {
-        assert_eq!(rt; worker.turn(&Free), turn);
+        assert!(rt; worker.turn(&Free) == turn);
     }
 }
 

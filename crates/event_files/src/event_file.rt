@@ -123,6 +123,19 @@ pub fn push_events(events: &mut Vec<Event>, words: &[&[u8]]) -> Result<bool, NoM
     Ok(true)
 }
 
+/// Adds the events of a line. It answers whether the line is understood.
+///
+/// # Errors
+///
+/// As of `push_events`.
+fn push_line(alloc: Global, events: &mut Vec<Event>, line: &[u8]) -> Result<bool, NoMemory>
+    ensures { result ≡ Ok true →
+        map event_word events.new.items ≡ map event_word events.old.items ++ line_words line.now }
+{
+    let words = words_of(alloc, line)?;
+    push_events(events, &words)
+}
+
 /// The events of these lines, of which so many stand before them in their file.
 ///
 /// # Errors
@@ -136,8 +149,7 @@ fn events_of(alloc: Global, lines: &[&[u8]], before: usize) -> Result<Vec<Event>
     let mut number = before;
     for line in lines {
         number = number.saturating_add(1);
-        let words = words_of(alloc, line)?;
-        if !push_events(&mut events, &words)? {
+        if !push_line(alloc, &mut events, line)? {
             return Err(FileRefused::Line(number));
         }
     }

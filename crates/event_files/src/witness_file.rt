@@ -1,5 +1,5 @@
 //! Witness files: the places of an instance, and a list of places.
-use crate::event_file::words_of;
+use crate::event_file::{lines_of, words_of};
 use crate::numbers::number;
 use crate::refused::FileRefused;
 use std::alloc::Global;
@@ -29,7 +29,7 @@ fn places_after(
         let Some(index) = number(word) else {
             return Ok(None);
         };
-        places.push(Place::new(index))?;
+        places.push_reserved(Place::new(index));
     }
     Ok(Some(places))
 }
@@ -75,21 +75,21 @@ fn read_line(
     read_words(alloc, &words, instance, order)
 }
 
-/// Reads the lines of a file, and answers how many pieces it was cut into.
+/// Reads the lines of a file.
 fn read_lines(
     alloc: Global,
-    file: &[u8],
+    lines: &[&[u8]],
     instance: &mut Option<Instance>,
     order: &mut Option<Vec<Place>>,
-) -> Result<usize, FileRefused> {
-    let mut lines = 0usize;
-    for line in file.split(|byte| *byte == b'\n') {
-        lines = lines.saturating_add(1);
+) -> Result<(), FileRefused> {
+    let mut number = 0usize;
+    for line in lines {
+        number = number.saturating_add(1);
         if !read_line(alloc, line, instance, order)? {
-            return Err(FileRefused::Line(lines));
+            return Err(FileRefused::Line(number));
         }
     }
-    Ok(lines)
+    Ok(())
 }
 
 /// Reads a witness file: beside skipped lines a line `reach` with 2 to 8 numbers, and then a line
@@ -100,12 +100,13 @@ fn read_lines(
 /// The first line that is not understood, which is one more than the number of lines where a line
 /// is missing, or `NoMemory`.
 pub fn read_witness(alloc: Global, file: &[u8]) -> Result<WitnessFile, FileRefused> {
+    let lines = lines_of(alloc, file)?;
     let mut instance = None;
     let mut order = None;
-    let pieces = read_lines(alloc, file, &mut instance, &mut order)?;
+    read_lines(alloc, &lines, &mut instance, &mut order)?;
     match (instance, order) {
         (Some(instance), Some(order)) => Ok(WitnessFile { instance, order }),
-        _ => Err(FileRefused::Line(after_last(file, pieces))),
+        _ => Err(FileRefused::Line(after_last(file, lines.len()))),
     }
 }
 

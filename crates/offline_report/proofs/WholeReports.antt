@@ -11,7 +11,7 @@ use Rattle.trace_model.specs.Theory.Dependencies.{Dependency, dependencies}
 use Rattle.trace_model.specs.Theory.Rows.{Row, AreRows}
 use Rattle.reports.specs.Printed.{Printed, with_dependencies}
 use Rattle.reports.specs.Text.{report}
-use Rattle.offline_report.specs.Offline.{AreComputed, AreTasks, report_of, IsNotComputed, IsRefused, tasks_report}
+use Rattle.offline_report.specs.Offline.{AreComputed, AreTasks, report_of, IsNotAdmitted, IsNotComputed, IsRefused, tasks_report}
 use Rattle.offline_report.specs.declared.parts.Part.{Part}
 use Rattle.offline_report.specs.declared.refused.OfflineRefused.{OfflineRefused}
 use Rattle.offline_report.specs.declared.refused.OfflineRefused.TheVariants.{Unlawful, TooLong, TooManyCycles, NoMemory}
@@ -66,3 +66,9 @@ not_computed s bound (Unlawful first) w h = absurd h
 not_computed s bound TooLong w h = absurd h
 not_computed s bound TooManyCycles w h = (w, h)
 not_computed s bound NoMemory w h = tt
+
+pub not_admitted : (s : Trace) (bound : ℕ) (refused : OfflineRefused) → IsNotAdmitted s refused → IsRefused s bound refused
+not_admitted s bound (Unlawful first) h = h
+not_admitted s bound TooLong h = absurd h
+not_admitted s bound TooManyCycles h = absurd h
+not_admitted s bound NoMemory h = tt

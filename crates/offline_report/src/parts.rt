@@ -81,11 +81,11 @@ fn in_pieces(alloc: Global, head: Vec<u8>, parts: Vec<Part>) -> Result<Vec<Vec<u
     ensures { IfOk result (λ pieces. whole pieces.items ≡ head.items ++
         flat_map text_of parts.items) }
 {
-    let mut pieces = Vec::new(alloc);
-    pieces.push(head)?;
+    let mut pieces = Vec::with_capacity(alloc, parts.len() + 1)?;
+    pieces.push_reserved(head);
     for part in parts {
         if let Some(text) = part.text {
-            pieces.push(text)?;
+            pieces.push_reserved(text);
         }
     }
     Ok(pieces)

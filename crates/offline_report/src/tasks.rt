@@ -1,6 +1,7 @@
 //! What the report has of all tasks.
-ghost use Rattle.std.specs.Prelude.{◌≡◌, ℕ, [], IfOk, MatchResult};
+ghost use Rattle.std.specs.Prelude.{◌≡◌, ℕ, [], IfOk, IfSome, MatchResult};
 ghost use Rattle.std.specs.Arc.{arc_value};
+ghost use Rattle.std.proofs.Props.{props};
 ghost use Rattle.trace_model.specs.Theory.Trace.{Trace};
 ghost use Rattle.snapshots.specs.Found.{AreRowsOf};
 ghost use Rattle.offline_report.specs.Offline.{AreAllParts, IsNotComputed, IsTask};
@@ -11,7 +12,7 @@ use crate::refused::OfflineRefused;
 use findings::{ComputeRefused, Hold, Job, Snapshot};
 use reports::{Page, Row};
 use std::alloc::{AllocError, Global};
-use std::marker::{Brand, Model, PhantomData};
+use std::marker::{Brand, PhantomData};
 use std::sync::Arc;
 use std::thread::Threads;
 use trace_model::Bound;
@@ -32,36 +33,33 @@ impl About for Brand {
     ghost bound = { 0 };
 }
 
-/// A job that by its type is about the named question, whichever thread has it.
+/// What the tasks of one piece keep from one to the next: their job, if there is one, which by this
+/// type is about the named question, whichever thread has it, and a page for their texts.
 #[derive(Drop)]
-struct NamedJob<A: About> {
-    job: Job,
+struct Piece<A: About> {
+    job: Option<Job>,
+    page: Page,
     name: PhantomData<A>,
+    ghost about: { IfSome job (λ job. (job.events ≡ A.events)
+        × (job.bound ≡ A.bound)) } by { Prim.hlevel props },
 }
 
-impl<A: About> Model for NamedJob<A> {
-    ghost use Rattle.std.specs.Prelude.{◌≡◌};
-    ghost use Rattle.findings.specs.Found.{Asked};
-
-    ghost Value = { Asked };
-
-    ghost view = { λ p. p.job };
-
-    ghost invariant = { λ p. (p.job.events ≡ A.events) × (p.job.bound ≡ A.bound) };
-}
-
-impl<A: About> NamedJob<A> {
-    /// A job of which nothing is computed, none where the snapshot is not shared once more.
-    fn new(alloc: Global, snapshot: &Arc<Snapshot, Global>, bound: Bound) -> Option<NamedJob<A>>
+impl<A: About> Piece<A> {
+    /// A piece of which nothing is computed, without a job where the snapshot is not shared once
+    /// more.
+    fn new(alloc: Global, snapshot: &Arc<Snapshot, Global>, bound: Bound) -> Piece<A>
         requires events { arc_value snapshot.now ≡ A.events }
         requires bound { bound ≡ A.bound }
     {
-        let snapshot = Arc::try_clone(snapshot).ok()?;
-        let job = Job::new(alloc, snapshot, QUESTION, bound);
-        Some(NamedJob {
+        let job = match Arc::try_clone(snapshot) {
+            Ok(snapshot) => Some(Job::new(alloc, snapshot, QUESTION, bound)),
+            Err(_) => None,
+        };
+        Piece {
             job,
+            page: Page::new(alloc),
             name: PhantomData,
-        })
+        }
     }
 
     /// The rows of a task.
@@ -69,43 +67,14 @@ impl<A: About> NamedJob<A> {
         ensures { MatchResult result (λ rows. AreRowsOf A.events A.bound task rows.items)
             (IsNotComputed A.events A.bound) }
     {
-        match self.job.compute(task) {
+        let Some(job) = &mut self.job else {
+            return Err(OfflineRefused::NoMemory);
+        };
+        match job.compute(task) {
             Ok(finding) => Ok(finding.into_rows()),
             Err(ComputeRefused::TooManyCycles) => Err(OfflineRefused::TooManyCycles),
             Err(ComputeRefused::NoMemory) => Err(OfflineRefused::NoMemory),
         }
-    }
-}
-
-/// What the tasks of one piece keep from one to the next: their job, if there is one, and a page for
-/// their texts.
-#[derive(Drop)]
-struct Piece<A: About> {
-    job: Option<NamedJob<A>>,
-    page: Page,
-}
-
-impl<A: About> Piece<A> {
-    /// A piece of which nothing is computed.
-    fn new(alloc: Global, snapshot: &Arc<Snapshot, Global>, bound: Bound) -> Piece<A>
-        requires events { arc_value snapshot.now ≡ A.events }
-        requires bound { bound ≡ A.bound }
-    {
-        Piece {
-            job: NamedJob::new(alloc, snapshot, bound),
-            page: Page::new(alloc),
-        }
-    }
-}
-
-/// The rows of a task, by the job of its piece.
-fn rows_by<A: About>(job: &mut Option<NamedJob<A>>, task: u32) -> Result<Vec<Row>, OfflineRefused>
-    ensures { MatchResult result (λ rows. AreRowsOf A.events A.bound task rows.items)
-        (IsNotComputed A.events A.bound) }
-{
-    match job {
-        Some(job) => job.rows(task),
-        None => Err(OfflineRefused::NoMemory),
     }
 }
 
@@ -117,7 +86,7 @@ fn part_by<A: About, H: Hold>(
 ) -> Result<Part, OfflineRefused>
     ensures { IsTask A.events A.bound task result }
 {
-    let rows = rows_by(&mut piece.job, task)?;
+    let rows = piece.rows(task)?;
     hold.hold(QUESTION, task);
     let part = part_of(&mut piece.page, &rows);
     drop(rows);

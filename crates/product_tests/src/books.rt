@@ -1,15 +1,11 @@
 //! A book by its own calls.
 
-use event_files::read_events;
 use findings::Finding;
-use fixtures::{LIMIT, OPPOSITE_ORDERS, REPORT, event, frame};
-use sequencer::{Answer, AnswerRefused, AskRefused, Book, BookRefused, NoSuchQuestion};
-use sessions::{Input, PlayRefused, Session, play};
+use fixtures::{LIMIT, REPORT, event, frame, opposite_orders};
+use sequencer::{Answer, AnswerRefused, AskRefused, Book, BookRefused, NoSuchQuestion, Opened};
+use sessions::{Input, PlayRefused, Played, Session, play};
 use std::alloc::{AllocError, Global};
 use std::hash::RandomState;
-use std::process::Abort;
-use std::random::RandomSource;
-use std::test::*;
 use trace_model::{Bound, Event, Op, QuestionStatus, Refusal};
 
 fn is_settled(answer: Result<Answer, AnswerRefused>, report: &[u8]) -> bool {
@@ -19,49 +15,68 @@ fn is_settled(answer: Result<Answer, AnswerRefused>, report: &[u8]) -> bool {
     }
 }
 
-/// The book accepts these events.
-fn offer_all(rt: &impl Abort, book: &mut Book, events: &[Event]) {
+/// Whether the book accepts these events.
+fn accepts_all(book: &mut Book, events: &[Event]) -> bool {
     for event in events {
-        assert!(rt; book.offer(*event).is_ok());
-    }
-}
-
-/// The trace, question 0 about it, and one event more.
-fn ask_about_trace(rt: &impl Abort, book: &mut Book, trace: &[Event]) -> Result<(), Fail> {
-    offer_all(rt, book, trace);
-    let opened = book.ask(2)?;
-    assert_eq!(rt; (opened.question, opened.length, opened.total), (0, 10, 2));
-    assert!(rt; book.offer(event(0, Op::Write(7))).is_ok());
-    Ok(())
-}
-
-/// A book with question 0 about the trace. What is big is dropped by a call: to drop it in place is
-/// long to prove.
-fn asked_book(rt: &(impl RandomSource + AllocGlobal + Abort)) -> Result<Book, Fail> {
-    let trace = read_events(rt.alloc(), OPPOSITE_ORDERS.as_bytes())?;
-    let mut book = Book::new(rt.alloc(), RandomState::new(rt)?, 100)?;
-    match ask_about_trace(rt, &mut book, &trace) {
-        Ok(()) => Ok(book),
-        Err(fail) => {
-            drop(book);
-            Err(fail)
+        if book.offer(*event).is_err() {
+            return false;
         }
+    }
+    true
+}
+
+/// Whether the book opens question 0 about the trace.
+fn opens_first(book: &mut Book) -> bool {
+    matches!(
+        book.ask(2),
+        Ok(Opened {
+            question: 0,
+            length: 10,
+            total: 2
+        })
+    )
+}
+
+/// Whether the book accepts the trace, question 0 about it, and one event more.
+fn asks_about_trace(book: &mut Book) -> bool {
+    accepts_all(book, &opposite_orders())
+        && opens_first(book)
+        && book.offer(event(0, Op::Write(7))).is_ok()
+}
+
+/// A book that accepts so many events.
+pub(crate) fn book_of(rt: &HostRuntime, limit: u32) -> Option<Book> {
+    let state = RandomState::new(rt).ok()?;
+    Book::new(rt.alloc(), state, limit).ok()
+}
+
+/// A book with question 0 about the trace.
+fn asked_book(rt: &HostRuntime) -> Option<Book> {
+    let mut book = book_of(rt, 100)?;
+    if asks_about_trace(&mut book) {
+        Some(book)
+    } else {
+        drop(book);
+        None
     }
 }
 
 /// The rows of a task of a question with the bound 2.
-fn finding_of(
-    rt: &(impl AllocGlobal + Abort),
-    book: &Book,
-    question: u32,
-    task: u32,
-) -> Result<Finding, Fail> {
-    let two = Bound::new(2).expect(rt, "a bound is 2 to 8");
-    let snapshot = book.snapshot(question)?;
-    Ok(findings::compute(rt.alloc(), snapshot, question, two, task)?)
+fn finding_of(alloc: Global, book: &Book, question: u32, task: u32) -> Option<Finding> {
+    let two = Bound::new(2)?;
+    let snapshot = book.snapshot(question).ok()?;
+    findings::compute(alloc, snapshot, question, two, task).ok()
 }
 
-fn is_pending(answer: &Result<Answer, AnswerRefused>) -> bool {
+/// Whether this is the least missing task of the question, or none is missing.
+fn is_missing(book: &Book, question: u32, task: Option<u32>) -> bool {
+    match book.missing(question) {
+        Ok(missing) => missing == task,
+        Err(NoSuchQuestion) => false,
+    }
+}
+
+fn is_pending(answer: Result<Answer, AnswerRefused>) -> bool {
     matches!(
         answer,
         Ok(Answer::Pending {
@@ -71,77 +86,96 @@ fn is_pending(answer: &Result<Answer, AnswerRefused>) -> bool {
     )
 }
 
-/// Delivers the least missing task.
-fn deliver_next(
-    rt: &(impl AllocGlobal + Abort),
-    book: &mut Book,
-    question: u32,
-    task: u32,
-) -> Result<(), Fail> {
-    assert_eq!(rt; book.missing(question)?, Some(task));
-    let finding = finding_of(rt, book, question, task)?;
-    assert!(rt; book.deliver(finding).is_ok());
-    Ok(())
+/// Whether the book takes the rows of a task.
+fn takes(alloc: Global, book: &mut Book, question: u32, task: u32) -> bool {
+    match finding_of(alloc, book, question, task) {
+        Some(finding) => book.deliver(finding).is_ok(),
+        None => false,
+    }
 }
 
-fn refuses_questions(rt: &impl Abort, book: &mut Book) {
-    assert_eq!(rt; book.ask(1).err(), Some(AskRefused::BadBound));
-    assert!(rt; matches!(book.answer(1), Err(AnswerRefused::NoSuchQuestion)));
-    assert_eq!(rt; book.status(1).err(), Some(NoSuchQuestion));
-    assert!(rt; is_pending(&book.answer(0)));
+/// Whether the book takes the least missing task, which is this one.
+fn takes_next(alloc: Global, book: &mut Book, question: u32, task: u32) -> bool {
+    is_missing(book, question, Some(task)) && takes(alloc, book, question, task)
 }
 
-#[test]
-fn questions_are_refused(rt: HostRuntime) -> Result<(), Fail> {
-    let mut book = asked_book(&rt)?;
-    refuses_questions(&rt, &mut book);
-    drop(book);
-    Ok(())
+fn is_no_question(answer: Result<Answer, AnswerRefused>) -> bool {
+    matches!(answer, Err(AnswerRefused::NoSuchQuestion))
 }
 
-fn reports(rt: &(impl AllocGlobal + Abort), book: &mut Book) -> Result<(), Fail> {
-    deliver_next(rt, book, 0, 0)?;
-    deliver_next(rt, book, 0, 1)?;
-    assert_eq!(rt; book.missing(0)?, None);
-    assert!(rt; is_settled(book.answer(0), REPORT));
-    let bound = Bound::new(2).expect(rt, "a bound is 2 to 8");
-    let status = QuestionStatus {
-        question: 0,
-        accepted: 11,
-        opened: 1,
-        length: 10,
-        bound,
-        total: 2,
-        delivered: 2,
-        cycles: 1,
-        confirmed: 1,
-    };
-    assert_eq!(rt; book.status(0)?, status);
-    Ok(())
+fn refuses_questions(book: &mut Book) -> bool {
+    matches!(book.ask(1), Err(AskRefused::BadBound))
+        && is_no_question(book.answer(1))
+        && matches!(book.status(1), Err(NoSuchQuestion))
+        && is_pending(book.answer(0))
 }
 
 #[test]
-fn opposite_orders_are_reported(rt: HostRuntime) -> Result<(), Fail> {
-    let mut book = asked_book(&rt)?;
-    let told = reports(&rt, &mut book);
+fn questions_are_refused(rt: HostRuntime) {
+    let mut book = asked_book(&rt).expect(&rt, "a book");
+    assert!(rt; refuses_questions(&mut book));
     drop(book);
-    told
 }
 
-fn takes_a_task_once(rt: &(impl AllocGlobal + Abort), book: &mut Book) -> Result<(), Fail> {
-    deliver_next(rt, book, 0, 0)?;
-    let again = finding_of(rt, book, 0, 0)?;
-    assert_eq!(rt; book.admits(&again).err(), Some(Refusal::Double));
-    assert!(rt; matches!(book.deliver(again), Err((Refusal::Double, _))));
-    Ok(())
+/// Whether this is the status of question 0 once both its tasks are delivered.
+fn is_settled_status(status: QuestionStatus, bound: Bound) -> bool {
+    status
+        == QuestionStatus {
+            question: 0,
+            accepted: 11,
+            opened: 1,
+            length: 10,
+            bound,
+            total: 2,
+            delivered: 2,
+            cycles: 1,
+            confirmed: 1,
+        }
+}
+
+fn has_settled_status(book: &Book) -> bool {
+    match (book.status(0), Bound::new(2)) {
+        (Ok(status), Some(bound)) => is_settled_status(status, bound),
+        _ => false,
+    }
+}
+
+fn reports(alloc: Global, book: &mut Book) -> bool {
+    takes_next(alloc, book, 0, 0)
+        && takes_next(alloc, book, 0, 1)
+        && is_missing(book, 0, None)
+        && is_settled(book.answer(0), REPORT)
+        && has_settled_status(book)
 }
 
 #[test]
-fn a_task_comes_once(rt: HostRuntime) -> Result<(), Fail> {
-    let mut book = asked_book(&rt)?;
-    let taken = takes_a_task_once(&rt, &mut book);
+fn opposite_orders_are_reported(rt: HostRuntime) {
+    let mut book = asked_book(&rt).expect(&rt, "a book");
+    assert!(rt; reports(rt.alloc(), &mut book));
     drop(book);
-    taken
+}
+
+fn is_double(delivered: Result<(), (Refusal, Finding)>) -> bool {
+    matches!(delivered, Err((Refusal::Double, _)))
+}
+
+/// Whether the book neither admits nor takes task 0 of question 0, since it has it.
+fn refuses_again(alloc: Global, book: &mut Book) -> bool {
+    match finding_of(alloc, book, 0, 0) {
+        Some(again) => {
+            let admitted = book.admits(&again);
+            is_double(book.deliver(again)) && admitted == Err(Refusal::Double)
+        }
+        None => false,
+    }
+}
+
+#[test]
+fn a_task_comes_once(rt: HostRuntime) {
+    let mut book = asked_book(&rt).expect(&rt, "a book");
+    assert!(rt; takes_next(rt.alloc(), &mut book, 0, 0));
+    assert!(rt; refuses_again(rt.alloc(), &mut book));
+    drop(book);
 }
 
 /// Why there is no book of this limit.
@@ -154,84 +188,101 @@ fn refused_run(alloc: Global, state: RandomState, limit: u32) -> Option<PlayRefu
     play(alloc, state, limit, Vec::new(alloc)).err()
 }
 
+/// Whether there is no book of this limit, and no run over one, for that reason.
+fn is_bad_limit(alloc: Global, state: RandomState, limit: u32) -> bool {
+    matches!(
+        refused_book(alloc, state, limit),
+        Some(BookRefused::BadLimit)
+    ) && matches!(
+        refused_run(alloc, state, limit),
+        Some(PlayRefused::BadLimit)
+    )
+}
+
 #[test]
-fn limits_of_a_book(rt: HostRuntime) -> Result<(), Fail> {
-    let state = RandomState::new(&rt)?;
-    for limit in [0, LIMIT + 1] {
-        assert_eq!(rt;
-            refused_book(rt.alloc(), state, limit),
-            Some(BookRefused::BadLimit)
-        );
-        assert_eq!(rt;
-            refused_run(rt.alloc(), state, limit),
-            Some(PlayRefused::BadLimit)
-        );
-    }
+fn limits_of_a_book(rt: HostRuntime) {
+    let state = RandomState::new(&rt).expect(&rt, "random keys");
+    assert!(rt; is_bad_limit(rt.alloc(), state, 0) && is_bad_limit(rt.alloc(), state, LIMIT + 1));
     assert!(rt; Session::new(64).is_none());
-    Ok(())
 }
 
-/// So many frames of `0w7`, and their replies.
-fn writes_and_replies(alloc: Global, count: u32) -> Result<(Vec<u8>, Vec<u8>), AllocError> {
+/// So many frames of `0w7`.
+fn writes(alloc: Global, count: u32) -> Result<Vec<u8>, AllocError> {
     let mut piece = Vec::new(alloc);
-    let mut placed = Vec::new(alloc);
-    for place in 0..count {
+    for _ in 0..count {
         piece.extend_from_slice(&frame(6, 0, 7))?;
-        placed.extend_from_slice(&[0, 0, 0, 5, 65])?;
-        placed.extend_from_slice(&place.to_be_bytes())?;
     }
-    Ok((piece, placed))
+    Ok(piece)
 }
 
-#[test]
-fn seventy_thousand_frames_in_one_piece(rt: HostRuntime) -> Result<(), Fail> {
-    let session = Session::new(63).ok_or("a session")?;
-    let (piece, placed) = writes_and_replies(rt.alloc(), 70_000)?;
-    let inputs = vec![in rt.alloc(); Input::Piece(session, piece)]?;
-    let run = play(rt.alloc(), RandomState::new(&rt)?, LIMIT, inputs)?;
-    assert_eq!(rt; run.sent(session), placed.as_slice());
-    drop(run);
-    Ok(())
+/// The reply to an event that stands at this place.
+fn placed(place: u32) -> [u8; 9] {
+    let [first, second, third, fourth] = place.to_be_bytes();
+    [0, 0, 0, 5, 65, first, second, third, fourth]
 }
 
-/// 4,092 writes and then the trace, with a question right before and one right after its fourth
-/// event: of a segment's events but one, and of all.
-fn ask_round_a_segment(rt: &impl Abort, book: &mut Book, trace: &[Event]) -> Result<(), Fail> {
-    for _ in 0..4_092u32 {
-        assert!(rt; book.offer(event(0, Op::Write(1))).is_ok());
-    }
-    for (index, event) in trace.iter().enumerate() {
-        if index == 3 || index == 4 {
-            book.ask(2)?;
+/// Whether these are the replies to so many events, each at its place.
+fn are_placed(replies: &[u8], count: u32) -> bool {
+    let mut place = 0u32;
+    for reply in replies.chunks(9) {
+        if reply != placed(place).as_slice() {
+            return false;
         }
-        assert!(rt; book.offer(*event).is_ok());
+        place = place.wrapping_add(1);
     }
-    Ok(())
+    place == count
 }
 
-fn answers_of_both_lengths(rt: &(impl AllocGlobal + Abort), book: &mut Book) -> Result<(), Fail> {
-    let before = b"question 0 length 4095 bound 2 cycles 0 confirmed 0\n";
-    assert!(rt; is_settled(book.answer(0), before));
-    deliver_next(rt, book, 1, 0)?;
-    let after = b"question 1 length 4096 bound 2 cycles 0 confirmed 0\n";
-    assert!(rt; is_settled(book.answer(1), after));
-    Ok(())
-}
-
-fn asks_round_a_segment(
-    rt: &(impl AllocGlobal + Abort),
-    book: &mut Book,
-    trace: &[Event],
-) -> Result<(), Fail> {
-    ask_round_a_segment(rt, book, trace)?;
-    answers_of_both_lengths(rt, book)
+/// The run of a session that sends so many frames in one piece.
+fn run_of(rt: &HostRuntime, session: Session, count: u32) -> Option<Played> {
+    let state = RandomState::new(rt).ok()?;
+    let piece = writes(rt.alloc(), count).ok()?;
+    let inputs = vec![in rt.alloc(); Input::Piece(session, piece)].ok()?;
+    play(rt.alloc(), state, LIMIT, inputs).ok()
 }
 
 #[test]
-fn questions_at_a_segment_border(rt: HostRuntime) -> Result<(), Fail> {
-    let trace = read_events(rt.alloc(), OPPOSITE_ORDERS.as_bytes())?;
-    let mut book = Book::new(rt.alloc(), RandomState::new(&rt)?, 5_000)?;
-    let answered = asks_round_a_segment(&rt, &mut book, &trace);
+fn seventy_thousand_frames_in_one_piece(rt: HostRuntime) {
+    let session = Session::new(63).expect(&rt, "a session");
+    let run = run_of(&rt, session, 70_000).expect(&rt, "a run");
+    assert!(rt; are_placed(run.sent(session), 70_000));
+    drop(run);
+}
+
+/// Whether the book accepts so many writes.
+fn accepts_writes(book: &mut Book, count: u32) -> bool {
+    for _ in 0..count {
+        if book.offer(event(0, Op::Write(1))).is_err() {
+            return false;
+        }
+    }
+    true
+}
+
+/// Whether the book accepts 4,092 writes and then the trace, with a question right before and one
+/// right after its fourth event: of a segment's events but one, and of all.
+fn asks_round_a_segment(book: &mut Book) -> bool {
+    let trace = opposite_orders();
+    accepts_writes(book, 4_092)
+        && accepts_all(book, &trace[..3])
+        && book.ask(2).is_ok()
+        && accepts_all(book, &trace[3..4])
+        && book.ask(2).is_ok()
+        && accepts_all(book, &trace[4..])
+}
+
+fn answers_both_lengths(alloc: Global, book: &mut Book) -> bool {
+    let before = b"question 0 length 4095 bound 2 cycles 0 confirmed 0\n";
+    let after = b"question 1 length 4096 bound 2 cycles 0 confirmed 0\n";
+    is_settled(book.answer(0), before)
+        && takes_next(alloc, book, 1, 0)
+        && is_settled(book.answer(1), after)
+}
+
+#[test]
+fn questions_at_a_segment_border(rt: HostRuntime) {
+    let mut book = book_of(&rt, 5_000).expect(&rt, "a book");
+    assert!(rt; asks_round_a_segment(&mut book));
+    assert!(rt; answers_both_lengths(rt.alloc(), &mut book));
     drop(book);
-    answered
 }

@@ -1,21 +1,11 @@
-//! Tests that no worked trace can say, of all below the desk: the parts by their public calls, a book
-//! by its own, command lines, files that are not understood, output that fails, and long traces.
+//! Tests that no worked trace can say, of what stands below the desk and the commands: the parts by
+//! their public calls, a book and a run of sessions by theirs.
 #![tactic(auto)]
 
 #[cfg(test)]
 mod batches;
 #[cfg(test)]
 mod books;
-#[cfg(test)]
-mod command_lines;
-#[cfg(test)]
-mod files;
-#[cfg(test)]
-mod long_traces;
-#[cfg(test)]
-mod longest_trace;
-#[cfg(test)]
-mod many_tasks;
 #[cfg(test)]
 mod on_cycle_search;
 #[cfg(test)]
@@ -42,7 +32,5 @@ mod on_trace_model;
 mod on_wellformed;
 #[cfg(test)]
 mod on_witness;
-#[cfg(test)]
-mod told;
 #[cfg(test)]
 mod traces;

@@ -1,122 +1,39 @@
 //! Tests of the search for cycles.
 
-ghost use Rattle.std.specs.Prelude.{IfOk};
+ghost use Rattle.std.specs.Prelude.{◌<◌, length, IfOk, IfSome};
 ghost use Rattle.std.specs.Arc.{arc_value};
 ghost use Rattle.dependencies.specs.Tables.{known};
 ghost use Rattle.lock_graph.specs.Graph.{HasGraphOf};
 ghost use Rattle.cycle_search.specs.Ranked.{AreRanks};
 
-use crate::traces::{gate_after_forks, kept_if};
+use crate::traces::{accepts, accepts_all, gate_of, some_if};
 use cycle_search::{Cycle, Ranks, SearchRefused, Searched, cycles_from, cycles_within};
 use lock_tables::{LockParts, LockTables};
 use std::alloc::Global;
 use std::hash::RandomState;
-use std::io::{self, Write};
-use std::test::Fail;
-use trace_model::{Bound, Event, NoMemory, Op};
+use trace_model::{Bound, Event, Op};
 use wellformed::Gate;
 
-/// The dependencies of what passed the gate, and their graph.
-fn tables_at(rt: &HostRuntime, gate: &Gate) -> Result<LockParts, Fail>
-    ensures { IfOk result (λ parts. HasGraphOf (known parts.dependencies) (arc_value parts.graph)) }
-{
-    let state = RandomState::new(rt)?;
-    let tables = LockTables::of(rt.alloc(), state, gate.events())?;
-    Ok(tables.into_parts()?)
-}
-
-/// The dependencies of a trace that forks the threads 1 to 8 first, and their graph.
-fn tables_of(rt: &HostRuntime, events: &[Event]) -> Result<LockParts, Fail>
-    ensures { IfOk result (λ parts. HasGraphOf (known parts.dependencies) (arc_value parts.graph)) }
-{
-    let gate = gate_after_forks(rt, events)?;
-    let parts = tables_at(rt, &gate);
-    drop(gate);
-    parts
-}
-
-fn push_cycle(text: &mut Vec<u8>, cycle: &Cycle) -> io::Result<()> {
-    for number in cycle.numbers() {
-        write!(text, "{number} ")?;
-    }
-    write!(text, ";")
-}
-
-/// Adds the numbers of these cycles as a line.
-fn push_cycles(text: &mut Vec<u8>, cycles: &[Cycle]) -> io::Result<()> {
-    for cycle in cycles {
-        push_cycle(text, cycle)?;
-    }
-    writeln!(text)
-}
-
-/// Adds a line for each root.
-fn push_roots(
-    text: &mut Vec<u8>,
-    alloc: Global,
-    parts: &LockParts,
-    ranks: &Ranks,
-    bound: Bound,
-) -> Result<(), Fail>
-    requires graph { HasGraphOf (known parts.now.dependencies) (arc_value parts.now.graph) }
-    requires ranks { AreRanks (known parts.now.dependencies) ranks.now }
-{
-    let searched = Searched::new(&parts.dependencies, &parts.graph, ranks);
-    for root in 0..parts.dependencies.len() {
-        let found = cycles_from(alloc, &searched, root as u32, bound)?;
-        let pushed = push_cycles(text, &found);
-        drop(found);
-        pushed?;
-    }
-    Ok(())
-}
-
-/// The ranks of the dependencies.
-fn ranks_of(alloc: Global, state: RandomState, parts: &LockParts) -> Result<Ranks, NoMemory>
-    requires { HasGraphOf (known parts.now.dependencies) (arc_value parts.now.graph) }
-    ensures { IfOk result (AreRanks (known parts.now.dependencies)) }
-{
-    Ranks::new(alloc, state, &parts.dependencies, &parts.graph)
-}
-
-fn text_with(alloc: Global, parts: &LockParts, ranks: &Ranks, bound: Bound) -> Result<Vec<u8>, Fail>
-    requires graph { HasGraphOf (known parts.now.dependencies) (arc_value parts.now.graph) }
-    requires ranks { AreRanks (known parts.now.dependencies) ranks.now }
-{
-    let mut text = Vec::new(alloc);
-    let pushed = push_roots(&mut text, alloc, parts, ranks, bound);
-    kept_if(pushed, text)
-}
-
-fn text_of(rt: &HostRuntime, parts: &LockParts, bound: Bound) -> Result<Vec<u8>, Fail>
-    requires { HasGraphOf (known parts.now.dependencies) (arc_value parts.now.graph) }
-{
-    let ranks = ranks_of(rt.alloc(), RandomState::new(rt)?, parts)?;
-    let text = text_with(rt.alloc(), parts, &ranks, bound);
-    drop(ranks);
-    text
-}
-
-/// The cycles of a trace as text, those of each root on a line.
-fn cycles(rt: &HostRuntime, events: &[Event], bound: u8) -> Result<Vec<u8>, Fail> {
-    let bound = Bound::new(bound).ok_or("no bound")?;
-    let parts = tables_of(rt, events)?;
-    let text = text_of(rt, &parts, bound);
-    drop(parts);
-    text
-}
-
 /// A section of the thread on the outer lock with one on the inner lock in it.
-fn nested(events: &mut Vec<Event>, thread: u32, outer: u32, inner: u32) -> Result<(), NoMemory> {
-    for op in [
-        Op::Acquire(outer),
-        Op::Acquire(inner),
-        Op::Release(inner),
-        Op::Release(outer),
-    ] {
-        events.push(Event { thread, op })?;
-    }
-    Ok(())
+fn nested(thread: u32, outer: u32, inner: u32) -> [Event; 4] {
+    [
+        Event {
+            thread,
+            op: Op::Acquire(outer),
+        },
+        Event {
+            thread,
+            op: Op::Acquire(inner),
+        },
+        Event {
+            thread,
+            op: Op::Release(inner),
+        },
+        Event {
+            thread,
+            op: Op::Release(outer),
+        },
+    ]
 }
 
 /// Some sections of a thread.
@@ -136,160 +53,255 @@ enum Sections {
 
 use Sections::{Gated, Many, Nested, OneOrder};
 
-fn gated(
-    events: &mut Vec<Event>,
-    thread: u32,
-    gate: u32,
-    (outer, inner): (u32, u32),
-) -> Result<(), NoMemory> {
-    let op = Op::Acquire(gate);
-    events.push(Event { thread, op })?;
-    nested(events, thread, outer, inner)?;
-    let op = Op::Release(gate);
-    Ok(events.push(Event { thread, op })?)
+fn accepts_gated(gate: &mut Gate, thread: u32, lock: u32, inner: &[Event]) -> bool {
+    let taken = Event {
+        thread,
+        op: Op::Acquire(lock),
+    };
+    let given_back = Event {
+        thread,
+        op: Op::Release(lock),
+    };
+    accepts(gate, &taken) && accepts_all(gate, inner) && accepts(gate, &given_back)
 }
 
-fn many_nested(
-    events: &mut Vec<Event>,
-    thread: u32,
-    outer: u32,
-    (first, many): (u32, u32),
-) -> Result<(), NoMemory> {
+fn accepts_many(gate: &mut Gate, thread: u32, outer: u32, first: u32, many: u32) -> bool {
     for number in 0..many {
-        nested(events, thread, outer, first.wrapping_add(number))?;
-    }
-    Ok(())
-}
-
-fn one_order(events: &mut Vec<Event>, first: u32) -> Result<(), NoMemory> {
-    for thread in 1..9u32 {
-        for number in 0..12u32 {
-            let outer = first.wrapping_add(number);
-            many_nested(events, thread, outer, (outer.wrapping_add(1), 11 - number))?;
-        }
-    }
-    Ok(())
-}
-
-fn push_sections(events: &mut Vec<Event>, all: &[Sections]) -> Result<(), NoMemory> {
-    for sections in all {
-        match *sections {
-            Nested(thread, outer, inner) => nested(events, thread, outer, inner)?,
-            Gated(thread, gate, outer, inner) => gated(events, thread, gate, (outer, inner))?,
-            Many(thread, outer, first, many) => many_nested(events, thread, outer, (first, many))?,
-            OneOrder(first) => one_order(events, first)?,
-        }
-    }
-    Ok(())
-}
-
-/// The trace of these sections.
-fn trace_of(alloc: Global, all: &[Sections]) -> Result<Vec<Event>, NoMemory> {
-    let mut events = Vec::new(alloc);
-    let pushed = push_sections(&mut events, all);
-    kept_if(pushed, events)
-}
-
-/// The cycles of the trace of these sections as text.
-fn cycles_of(rt: &HostRuntime, all: &[Sections], bound: u8) -> Result<Vec<u8>, Fail> {
-    let events = trace_of(rt.alloc(), all)?;
-    let text = cycles(rt, &events, bound);
-    drop(events);
-    text
-}
-
-/// Whether the cycles of the trace of these sections are told by this text.
-fn tells(rt: &HostRuntime, all: &[Sections], bound: u8, wanted: &[u8]) -> Result<bool, Fail> {
-    let text = cycles_of(rt, all, bound)?;
-    let told = text.as_slice() == wanted;
-    drop(text);
-    Ok(told)
-}
-
-#[test]
-fn one_root_two_cycles(rt: HostRuntime) -> Result<(), Fail> {
-    let all = [Nested(1, 10, 20), Nested(2, 20, 10), Nested(3, 20, 10)];
-    assert!(rt; tells(&rt, &all, 3, b"0 1 ;0 2 ;\n\n\n")?);
-    Ok(())
-}
-
-#[test]
-fn opposite_orders(rt: HostRuntime) -> Result<(), Fail> {
-    let all = [Nested(1, 10, 20), Nested(2, 20, 10)];
-    assert!(rt; tells(&rt, &all, 2, b"0 1 ;\n\n")?);
-    Ok(())
-}
-
-#[test]
-fn gate_lock(rt: HostRuntime) -> Result<(), Fail> {
-    let all = [Gated(1, 5, 10, 20), Gated(2, 5, 20, 10)];
-    assert!(rt; tells(&rt, &all, 2, b"\n\n\n\n")?);
-    Ok(())
-}
-
-#[test]
-fn three_locks(rt: HostRuntime) -> Result<(), Fail> {
-    let all = [Nested(1, 10, 20), Nested(2, 20, 30), Nested(3, 30, 10)];
-    assert!(rt; tells(&rt, &all, 2, b"\n\n\n")?);
-    assert!(rt; tells(&rt, &all, 3, b"0 1 2 ;\n\n\n")?);
-    Ok(())
-}
-
-#[test]
-fn one_thread_no_cycle(rt: HostRuntime) -> Result<(), Fail> {
-    let all = [Nested(0, 10, 20), Nested(0, 20, 10)];
-    assert!(rt; tells(&rt, &all, 2, b"\n\n")?);
-    Ok(())
-}
-
-/// Whether the cycles of the trace of these sections are told by so many bytes, which begin and end
-/// with these.
-fn tells_from_to(
-    rt: &HostRuntime,
-    all: &[Sections],
-    bound: u8,
-    (length, first, last): (usize, &[u8], &[u8]),
-) -> Result<bool, Fail> {
-    let text = cycles_of(rt, all, bound)?;
-    let told = text.len() == length && text.starts_with(first) && text.ends_with(last);
-    drop(text);
-    Ok(told)
-}
-
-fn are_newlines(text: &[u8]) -> bool {
-    for byte in text {
-        if *byte != b'\n' {
+        if !accepts_all(gate, &nested(thread, outer, first.wrapping_add(number))) {
             return false;
         }
     }
     true
 }
 
-#[test]
-fn one_consistent_order(rt: HostRuntime) -> Result<(), Fail> {
-    let text = cycles_of(&rt, &[OneOrder(10)], 8)?;
-    let has_no_cycle = text.len() == 528 && are_newlines(&text);
-    drop(text);
-    assert!(rt; has_no_cycle);
-    Ok(())
+fn accepts_one_order(gate: &mut Gate, first: u32) -> bool {
+    for thread in 1..9u32 {
+        for number in 0..12u32 {
+            let outer = first.wrapping_add(number);
+            if !accepts_many(gate, thread, outer, outer.wrapping_add(1), 11 - number) {
+                return false;
+            }
+        }
+    }
+    true
 }
 
-const TWO_CYCLES: [Sections; 7] = [
-    Nested(1, 1, 2),
-    Nested(2, 2, 1),
-    Nested(1, 2, 10),
-    Nested(1, 21, 30),
-    OneOrder(10),
-    Nested(1, 30, 31),
-    Nested(2, 31, 30),
-];
+/// Whether the gate accepts these sections.
+fn accepts_sections(gate: &mut Gate, sections: Sections) -> bool {
+    match sections {
+        Nested(thread, outer, inner) => accepts_all(gate, &nested(thread, outer, inner)),
+        Gated(thread, lock, outer, inner) => {
+            accepts_gated(gate, thread, lock, &nested(thread, outer, inner))
+        }
+        Many(thread, outer, first, many) => accepts_many(gate, thread, outer, first, many),
+        OneOrder(first) => accepts_one_order(gate, first),
+    }
+}
+
+fn accepts_each(gate: &mut Gate, all: &[Sections]) -> bool {
+    for sections in all {
+        if !accepts_sections(gate, *sections) {
+            return false;
+        }
+    }
+    true
+}
+
+/// A gate that the forks of the threads 1 to 8 passed, and then these sections.
+fn gate_of_sections(rt: &HostRuntime, all: &[Sections]) -> Option<Gate> {
+    let mut gate = gate_of(rt, "0f1 0f2 0f3 0f4 0f5 0f6 0f7 0f8")?;
+    some_if(accepts_each(&mut gate, all), gate)
+}
+
+/// The dependencies of what passed the gate, and their graph.
+fn parts_at(rt: &HostRuntime, gate: &Gate) -> Option<LockParts>
+    ensures { IfSome result
+        (λ parts. HasGraphOf (known parts.dependencies) (arc_value parts.graph)) }
+{
+    let state = RandomState::new(rt).ok()?;
+    match LockTables::of(rt.alloc(), state, gate.events()) {
+        Ok(tables) => tables.into_parts().ok(),
+        Err(_) => None,
+    }
+}
+
+/// The same of the trace of these sections.
+fn parts_of(rt: &HostRuntime, all: &[Sections]) -> Option<LockParts>
+    ensures { IfSome result
+        (λ parts. HasGraphOf (known parts.dependencies) (arc_value parts.graph)) }
+{
+    let gate = gate_of_sections(rt, all)?;
+    let parts = parts_at(rt, &gate);
+    drop(gate);
+    parts
+}
+
+/// What is searched for cycles: the dependencies of a trace with their graph, and their ranks.
+#[derive(Drop)]
+struct Tables {
+    parts: LockParts,
+    ranks: Ranks,
+}
+
+/// What is searched of the trace of these sections.
+fn tables_of(rt: &HostRuntime, all: &[Sections]) -> Option<Tables>
+    ensures graph { IfSome result
+        (λ t. HasGraphOf (known t.parts.dependencies) (arc_value t.parts.graph)) }
+    ensures ranks { IfSome result (λ t. AreRanks (known t.parts.dependencies) t.ranks) }
+{
+    let state = RandomState::new(rt).ok()?;
+    let parts = parts_of(rt, all)?;
+    match Ranks::new(rt.alloc(), state, &parts.dependencies, &parts.graph) {
+        Ok(ranks) => Some(Tables { parts, ranks }),
+        Err(_) => {
+            drop(parts);
+            None
+        }
+    }
+}
+
+/// Whether exactly those of the wanted cycles were found that begin with the root, in their order.
+fn are_of_root(found: &[Cycle], root: u32, wanted: &[&[u32]]) -> bool {
+    let mut next = 0usize;
+    for numbers in wanted {
+        if numbers.first() == Some(&root) {
+            if next >= found.len() || found[next].numbers() != *numbers {
+                return false;
+            }
+            next += 1;
+        }
+    }
+    next == found.len()
+}
+
+/// Whether the cycles of the root are those that are wanted of it.
+fn finds_from(
+    alloc: Global,
+    searched: &Searched<'_>,
+    root: u32,
+    bound: Bound,
+    wanted: &[&[u32]],
+) -> bool
+    requires { root < length searched.now }
+{
+    match cycles_from(alloc, searched, root, bound) {
+        Ok(found) => {
+            let same = are_of_root(&found, root, wanted);
+            drop(found);
+            same
+        }
+        Err(_) => false,
+    }
+}
+
+/// The same of each root.
+fn finds_from_each(alloc: Global, tables: &Tables, bound: Bound, wanted: &[&[u32]]) -> bool
+    requires graph { HasGraphOf (known tables.now.parts.dependencies)
+        (arc_value tables.now.parts.graph) }
+    requires ranks { AreRanks (known tables.now.parts.dependencies) tables.now.ranks }
+{
+    let parts = &tables.parts;
+    let searched = Searched::new(&parts.dependencies, &parts.graph, &tables.ranks);
+    for root in 0..parts.dependencies.len() {
+        if !finds_from(alloc, &searched, root as u32, bound, wanted) {
+            return false;
+        }
+    }
+    true
+}
+
+/// The sections of a trace that forks the threads 1 to 8 first, the most members of a cycle, how
+/// many dependencies the trace has, and its cycles: each begins with its root, the dependency that
+/// it is found from.
+type Wanted = (&'static [Sections], u8, usize, &'static [&'static [u32]]);
+
+/// Whether the search finds what is wanted.
+fn finds(rt: &HostRuntime, wanted: &Wanted) -> bool {
+    let (all, bound, dependencies, cycles) = *wanted;
+    let Some(bound) = Bound::new(bound) else {
+        return false;
+    };
+    match tables_of(rt, all) {
+        Some(tables) => {
+            let finds = tables.parts.dependencies.len() == dependencies
+                && finds_from_each(rt.alloc(), &tables, bound, cycles);
+            drop(tables);
+            finds
+        }
+        None => false,
+    }
+}
+
+const ONE_ROOT: Wanted = (
+    &[Nested(1, 10, 20), Nested(2, 20, 10), Nested(3, 20, 10)],
+    3,
+    3,
+    &[&[0, 1], &[0, 2]],
+);
+
+#[test]
+fn one_root_two_cycles(rt: HostRuntime) {
+    assert!(rt; finds(&rt, &ONE_ROOT));
+}
+
+const OPPOSITE: Wanted = (&[Nested(1, 10, 20), Nested(2, 20, 10)], 2, 2, &[&[0, 1]]);
+
+#[test]
+fn opposite_orders(rt: HostRuntime) {
+    assert!(rt; finds(&rt, &OPPOSITE));
+}
+
+const UNDER_A_GATE: Wanted = (&[Gated(1, 5, 10, 20), Gated(2, 5, 20, 10)], 2, 4, &[]);
+
+#[test]
+fn gate_lock(rt: HostRuntime) {
+    assert!(rt; finds(&rt, &UNDER_A_GATE));
+}
+
+const THREE: [Sections; 3] = [Nested(1, 10, 20), Nested(2, 20, 30), Nested(3, 30, 10)];
+
+const OF_TWO: Wanted = (&THREE, 2, 3, &[]);
+
+const OF_THREE: Wanted = (&THREE, 3, 3, &[&[0, 1, 2]]);
+
+#[test]
+fn three_locks(rt: HostRuntime) {
+    assert!(rt; finds(&rt, &OF_TWO) && finds(&rt, &OF_THREE));
+}
+
+const ONE_THREAD: Wanted = (&[Nested(0, 10, 20), Nested(0, 20, 10)], 2, 2, &[]);
+
+#[test]
+fn one_thread_no_cycle(rt: HostRuntime) {
+    assert!(rt; finds(&rt, &ONE_THREAD));
+}
+
+const CONSISTENT: Wanted = (&[OneOrder(10)], 8, 528, &[]);
+
+#[test]
+fn one_consistent_order(rt: HostRuntime) {
+    assert!(rt; finds(&rt, &CONSISTENT));
+}
+
+const TWO_CYCLES: Wanted = (
+    &[
+        Nested(1, 1, 2),
+        Nested(2, 2, 1),
+        Nested(1, 2, 10),
+        Nested(1, 21, 30),
+        OneOrder(10),
+        Nested(1, 30, 31),
+        Nested(2, 31, 30),
+    ],
+    8,
+    534,
+    &[&[0, 1], &[532, 533]],
+);
 
 /// Between two cycles stands a part without one.
 #[test]
-fn one_order_between_two_cycles(rt: HostRuntime) -> Result<(), Fail> {
-    let text: (usize, &[u8], &[u8]) = (534 + 14, b"0 1 ;\n", b"532 533 ;\n\n");
-    assert!(rt; tells_from_to(&rt, &TWO_CYCLES, 8, text)?);
-    Ok(())
+fn one_order_between_two_cycles(rt: HostRuntime) {
+    assert!(rt; finds(&rt, &TWO_CYCLES));
 }
 
 fn is_cycle(numbers: &[u32]) -> bool {
@@ -302,54 +314,34 @@ fn is_cycle(numbers: &[u32]) -> bool {
     }
 }
 
+const NUMBERS: [u32; 9] = [0, 1, 2, 3, 4, 5, 6, 7, 8];
+
 #[test]
 fn a_cycle_has_two_to_eight_members(rt: HostRuntime) {
-    let numbers = [0, 1, 2, 3, 4, 5, 6, 7, 8];
-    for (members, wanted) in [(1, false), (2, true), (8, true), (9, false)] {
-        assert_eq!(rt; is_cycle(&numbers[..members]), wanted);
-    }
+    assert!(rt; !is_cycle(&NUMBERS[..1]) && is_cycle(&NUMBERS[..2]));
+    assert!(rt; is_cycle(&NUMBERS[..8]) && !is_cycle(&NUMBERS));
 }
 
-/// How a search from the first dependency is refused that may find so many cycles.
-fn refusal(
-    alloc: Global,
-    parts: &LockParts,
-    ranks: &Ranks,
-    bound: Bound,
-    most: usize,
-) -> Option<SearchRefused>
-    requires graph { HasGraphOf (known parts.now.dependencies) (arc_value parts.now.graph) }
-    requires ranks { AreRanks (known parts.now.dependencies) ranks.now }
+/// Whether a search from the first dependency is refused that may find so many cycles, for there
+/// are more; none where it cannot be tried.
+fn is_refused(alloc: Global, tables: &Tables, bound: Bound, most: usize) -> Option<bool>
+    requires graph { HasGraphOf (known tables.now.parts.dependencies)
+        (arc_value tables.now.parts.graph) }
+    requires ranks { AreRanks (known tables.now.parts.dependencies) tables.now.ranks }
 {
+    let parts = &tables.parts;
     if parts.dependencies.is_empty() {
         return None;
     }
-    let searched = Searched::new(&parts.dependencies, &parts.graph, ranks);
-    cycles_within(alloc, &searched, 0, bound, most).err()
-}
-
-fn refusal_in(
-    rt: &HostRuntime,
-    parts: &LockParts,
-    bound: Bound,
-    most: usize,
-) -> Result<Option<SearchRefused>, Fail>
-    requires { HasGraphOf (known parts.now.dependencies) (arc_value parts.now.graph) }
-{
-    let ranks = ranks_of(rt.alloc(), RandomState::new(rt)?, parts)?;
-    let refused = refusal(rt.alloc(), parts, &ranks, bound, most);
-    drop(ranks);
-    Ok(refused)
-}
-
-/// The dependencies of the trace of these sections, and their graph.
-fn tables_of_sections(rt: &HostRuntime, all: &[Sections]) -> Result<LockParts, Fail>
-    ensures { IfOk result (λ parts. HasGraphOf (known parts.dependencies) (arc_value parts.graph)) }
-{
-    let events = trace_of(rt.alloc(), all)?;
-    let parts = tables_of(rt, &events);
-    drop(events);
-    parts
+    let searched = Searched::new(&parts.dependencies, &parts.graph, &tables.ranks);
+    match cycles_within(alloc, &searched, 0, bound, most) {
+        Ok(found) => {
+            drop(found);
+            Some(false)
+        }
+        Err(SearchRefused::TooMany) => Some(true),
+        Err(SearchRefused::NoMemory) => None,
+    }
 }
 
 const THREE_CYCLES: [Sections; 4] = [
@@ -360,48 +352,38 @@ const THREE_CYCLES: [Sections; 4] = [
 ];
 
 /// The same, where there are three.
-fn refused_within(rt: &HostRuntime, most: usize) -> Result<Option<SearchRefused>, Fail> {
-    let bound = Bound::new(2).ok_or("no bound")?;
-    let parts = tables_of_sections(rt, &THREE_CYCLES)?;
-    let refused = refusal_in(rt, &parts, bound, most);
-    drop(parts);
+fn is_refused_within(rt: &HostRuntime, most: usize) -> Option<bool> {
+    let bound = Bound::new(2)?;
+    let tables = tables_of(rt, &THREE_CYCLES)?;
+    let refused = is_refused(rt.alloc(), &tables, bound, most);
+    drop(tables);
     refused
 }
 
 #[test]
-fn too_many_cycles_are_refused(rt: HostRuntime) -> Result<(), Fail> {
-    assert!(rt; refused_within(&rt, 2)? == Some(SearchRefused::TooMany));
-    assert!(rt; refused_within(&rt, 3)?.is_none());
-    Ok(())
+fn too_many_cycles_are_refused(rt: HostRuntime) {
+    assert!(rt; is_refused_within(&rt, 2) == Some(true));
+    assert!(rt; is_refused_within(&rt, 3) == Some(false));
 }
 
-/// Whether the first two dependencies have one rank; none where there are not two.
-fn are_equal(rt: &HostRuntime, parts: &LockParts) -> Result<Option<bool>, Fail>
-    requires { HasGraphOf (known parts.now.dependencies) (arc_value parts.now.graph) }
-{
-    if parts.dependencies.len() < 2 {
-        return Ok(None);
-    }
-    let ranks = ranks_of(rt.alloc(), RandomState::new(rt)?, parts)?;
-    let equal = ranks.are_equal(0, 1);
-    drop(ranks);
-    Ok(Some(equal))
+/// Whether the first two dependencies of the trace of these sections have one rank; none where
+/// there are not two.
+fn have_one_rank(rt: &HostRuntime, all: &[Sections]) -> Option<bool> {
+    let tables = tables_of(rt, all)?;
+    let are_two = tables.parts.dependencies.len() >= 2;
+    let equal = are_two && tables.ranks.are_equal(0, 1);
+    drop(tables);
+    are_two.then_some(equal)
 }
 
-/// The same, of the trace of these sections.
-fn have_one_rank(rt: &HostRuntime, all: &[Sections]) -> Result<Option<bool>, Fail> {
-    let parts = tables_of_sections(rt, all)?;
-    let equal = are_equal(rt, &parts);
-    drop(parts);
-    equal
-}
+const IN_ONE_ORDER: [Sections; 2] = [Nested(1, 10, 20), Nested(2, 20, 30)];
+
+const IN_OPPOSITE_ORDERS: [Sections; 2] = [Nested(1, 10, 20), Nested(2, 20, 10)];
 
 #[test]
-fn ranks_part_locks_of_one_order(rt: HostRuntime) -> Result<(), Fail> {
-    let one_order = have_one_rank(&rt, &[Nested(1, 10, 20), Nested(2, 20, 30)])?;
-    let opposite = have_one_rank(&rt, &[Nested(1, 10, 20), Nested(2, 20, 10)])?;
-    assert!(rt; one_order == Some(false) && opposite == Some(true));
-    Ok(())
+fn ranks_part_locks_of_one_order(rt: HostRuntime) {
+    assert!(rt; have_one_rank(&rt, &IN_ONE_ORDER) == Some(false));
+    assert!(rt; have_one_rank(&rt, &IN_OPPOSITE_ORDERS) == Some(true));
 }
 
 // Thread 1 first takes the locks 1, 2 and 10, each in the one before.
@@ -416,13 +398,25 @@ const FEW_SECOND: [Sections; 8] = [
     Nested(3, 10, 1),
 ];
 
+const OF_FEW_SECOND: [Wanted; 2] = [
+    (
+        &FEW_SECOND,
+        2,
+        66,
+        &[&[1, 22], &[1, 43], &[1, 44], &[1, 65]],
+    ),
+    (
+        &FEW_SECOND,
+        3,
+        66,
+        &[&[1, 22], &[1, 43], &[1, 44], &[1, 65]],
+    ),
+];
+
 /// Many hold the lock 10 that the root takes, and few take one of the two that it holds.
 #[test]
-fn few_second_members_among_many(rt: HostRuntime) -> Result<(), Fail> {
-    let text: (usize, &[u8], &[u8]) = (66 + 24, b"\n1 22 ;1 43 ;1 44 ;1 65 ;\n\n", b"");
-    assert!(rt; tells_from_to(&rt, &FEW_SECOND, 2, text)?);
-    assert!(rt; tells_from_to(&rt, &FEW_SECOND, 3, text)?);
-    Ok(())
+fn few_second_members_among_many(rt: HostRuntime) {
+    assert!(rt; finds(&rt, &OF_FEW_SECOND[0]) && finds(&rt, &OF_FEW_SECOND[1]));
 }
 
 const FEW_THIRD: [Sections; 9] = [
@@ -437,12 +431,14 @@ const FEW_THIRD: [Sections; 9] = [
     Nested(4, 11, 2),
 ];
 
+const OF_FEW_THIRD: [Wanted; 2] = [
+    (&FEW_THIRD, 3, 68, &[&[1, 2, 33], &[1, 2, 34], &[1, 2, 67]]),
+    (&FEW_THIRD, 2, 68, &[]),
+];
+
 /// Many hold the lock 11 that the second member takes; two that take a lock of the root make no
 /// cycle.
 #[test]
-fn few_third_members_among_many(rt: HostRuntime) -> Result<(), Fail> {
-    let text: (usize, &[u8], &[u8]) = (68 + 24, b"\n1 2 33 ;1 2 34 ;1 2 67 ;\n\n", b"");
-    assert!(rt; tells_from_to(&rt, &FEW_THIRD, 3, text)?);
-    assert!(rt; tells_from_to(&rt, &FEW_THIRD, 2, (68, b"", b""))?);
-    Ok(())
+fn few_third_members_among_many(rt: HostRuntime) {
+    assert!(rt; finds(&rt, &OF_FEW_THIRD[0]) && finds(&rt, &OF_FEW_THIRD[1]));
 }

@@ -2,7 +2,6 @@
 
 use crate::traces::{gate_of, gate_of_rounds, table_at};
 use dependencies::{DepTable, PlacesOf};
-use std::test::Fail;
 
 /// The dependency with the number is this one.
 fn is_at(table: &DepTable, number: u32, thread: u32, lock: u32, held: &[u32]) -> bool {
@@ -15,7 +14,7 @@ fn is_at(table: &DepTable, number: u32, thread: u32, lock: u32, held: &[u32]) ->
 }
 
 /// Two threads that nest two locks in opposite orders while they hold a third.
-fn under_a_gate_lock(rt: &HostRuntime) -> Result<DepTable, Fail> {
+fn under_a_gate_lock(rt: &HostRuntime) -> Option<DepTable> {
     let gate = gate_of(
         rt,
         "0f1 0f2 1a5 1a10 1a20 1r20 1r10 1r5 2a5 2a20 2a10 2r10 2r20 2r5",
@@ -32,16 +31,14 @@ fn hold_a_gate_lock(table: &DepTable) -> bool {
 }
 
 #[test]
-fn gate_lock(rt: HostRuntime) -> Result<(), Fail> {
-    let table = under_a_gate_lock(&rt)?;
-    let hold = hold_a_gate_lock(&table);
+fn gate_lock(rt: HostRuntime) {
+    let table = under_a_gate_lock(&rt).expect(&rt, "a table");
+    assert!(rt; hold_a_gate_lock(&table));
     drop(table);
-    assert!(rt; hold);
-    Ok(())
 }
 
 /// The trace of opposite orders, its sections repeated.
-fn opposite_orders(rt: &HostRuntime, times: u32) -> Result<DepTable, Fail> {
+fn opposite_orders(rt: &HostRuntime, times: u32) -> Option<DepTable> {
     table_at(rt, gate_of_rounds(rt, times)?)
 }
 
@@ -69,16 +66,24 @@ fn repeats(table: &DepTable, times: u32) -> bool {
         && are_every_eighth(table.places(1), 7, times)
 }
 
+/// Whether a trace with so many repetitions has them.
+fn are_repeated(rt: &HostRuntime, times: u32) -> bool {
+    match opposite_orders(rt, times) {
+        Some(table) => {
+            let repeats = repeats(&table, times);
+            drop(table);
+            repeats
+        }
+        None => false,
+    }
+}
+
 /// With 4,200 repetitions the places of each number go over the end of a segment.
 #[test]
-fn places_of_repetitions(rt: HostRuntime) -> Result<(), Fail> {
-    for times in [1, 200, 4200] {
-        let table = opposite_orders(&rt, times)?;
-        let repeats = repeats(&table, times);
-        drop(table);
-        assert!(rt; repeats, "{times} times");
-    }
-    Ok(())
+fn places_of_repetitions(rt: HostRuntime) {
+    assert!(rt; are_repeated(&rt, 1));
+    assert!(rt; are_repeated(&rt, 200));
+    assert!(rt; are_repeated(&rt, 4200));
 }
 
 fn are_copied(table: &DepTable) -> bool {
@@ -92,10 +97,8 @@ fn are_copied(table: &DepTable) -> bool {
 }
 
 #[test]
-fn copies_are_the_same(rt: HostRuntime) -> Result<(), Fail> {
-    let table = opposite_orders(&rt, 1)?;
-    let copied = are_copied(&table);
+fn copies_are_the_same(rt: HostRuntime) {
+    let table = opposite_orders(&rt, 1).expect(&rt, "a table");
+    assert!(rt; are_copied(&table));
     drop(table);
-    assert!(rt; copied);
-    Ok(())
 }

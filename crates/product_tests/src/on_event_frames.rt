@@ -3,11 +3,10 @@
 ghost use Rattle.std.specs.Prelude.{◌≡◌, false};
 ghost use Rattle.trace_model.specs.Protocol.Replies.{IsReply};
 
-use crate::traces::kept_if;
+use crate::traces::some_if;
 use event_frames::{FrameReader, encode_reply};
 use fixtures::event;
 use std::alloc::Global;
-use std::test::*;
 use trace_model::{
     Bound, Event, Fault, NoMemory, Op, Place, QuestionStatus, Refusal, Reply, ReportText, Request,
 };
@@ -49,36 +48,54 @@ fn waits(reader: &mut FrameReader) -> bool
     matches!(reader.next(), Ok(None))
 }
 
-fn reads_cut_frames(reader: &mut FrameReader) -> Result<bool, NoMemory>
+/// Whether the reader takes these bytes.
+fn takes(reader: &mut FrameReader, bytes: &[u8]) -> bool
     requires { reader.old.ended ≡ false }
+    ensures { reader.new.ended ≡ false }
 {
-    reader.feed(&FORK[..1])?;
+    match reader.feed(bytes) {
+        Ok(()) => true,
+        Err(_) => false,
+    }
+}
+
+/// Whether it reads the first frame, cut after a byte, once it has all of it, and nothing of the
+/// second one, whose last byte is lacking.
+fn reads_the_first(reader: &mut FrameReader) -> bool
+    requires { reader.old.ended ≡ false }
+    ensures { reader.new.ended ≡ false }
+{
+    let is_begun = takes(reader, &FORK[..1]);
     let waits_first = waits(reader);
-    reader.feed(&FORK[1..])?;
-    reader.feed(&ACQUIRE[..10])?;
+    let is_whole = takes(reader, &FORK[1..]);
+    let is_begun_again = takes(reader, &ACQUIRE[..10]);
     let offers_fork = offers(reader, event(0, Op::Fork(1)));
     let waits_again = waits(reader);
-    reader.feed(&ACQUIRE[10..])?;
+    is_begun && waits_first && is_whole && is_begun_again && offers_fork && waits_again
+}
+
+/// Whether it reads the second frame once its last byte is there, and then the end.
+fn reads_the_second(reader: &mut FrameReader) -> bool
+    requires { reader.old.ended ≡ false }
+{
+    let is_taken = takes(reader, &ACQUIRE[10..]);
     reader.finish();
-    let offers_acquire = offers(reader, event(1, Op::Acquire(10)));
-    let ends = waits(reader) && reader.is_closed();
-    Ok(waits_first && offers_fork && waits_again && offers_acquire && ends)
+    is_taken && offers(reader, event(1, Op::Acquire(10))) && waits(reader) && reader.is_closed()
 }
 
 #[test]
-fn requests_of_cut_frames(rt: HostRuntime) -> Result<(), Fail> {
+fn requests_of_cut_frames(rt: HostRuntime) {
     let mut reader = FrameReader::new(rt.alloc());
-    let read = reads_cut_frames(&mut reader);
+    assert!(rt; reads_the_first(&mut reader));
+    assert!(rt; reads_the_second(&mut reader));
     drop(reader);
-    assert!(rt; read?);
-    Ok(())
 }
 
 /// A reader that was fed these bytes.
-fn reader_of(alloc: Global, bytes: &[u8]) -> Result<FrameReader, NoMemory> {
+fn reader_of(alloc: Global, bytes: &[u8]) -> Option<FrameReader> {
     let mut reader = FrameReader::new(alloc);
-    let fed = reader.feed(bytes);
-    kept_if(fed, reader)
+    let fed = reader.feed(bytes).is_ok();
+    some_if(fed, reader)
 }
 
 fn reads_questions(reader: &mut FrameReader) -> bool {
@@ -88,36 +105,43 @@ fn reads_questions(reader: &mut FrameReader) -> bool {
         && waits(reader)
 }
 
+// An ask with the bound 2, and requests for an answer and for a status.
+const QUESTIONS: [u8; 18] = [0, 2, 7, 2, 0, 5, 8, 0, 0, 0, 0, 0, 5, 9, 0, 0, 1, 0];
+
 #[test]
-fn requests_about_questions(rt: HostRuntime) -> Result<(), Fail> {
-    let bytes = [0, 2, 7, 2, 0, 5, 8, 0, 0, 0, 0, 0, 5, 9, 0, 0, 1, 0];
-    let mut reader = reader_of(rt.alloc(), &bytes)?;
-    let read = reads_questions(&mut reader);
+fn requests_about_questions(rt: HostRuntime) {
+    let mut reader = reader_of(rt.alloc(), &QUESTIONS).expect(&rt, "a reader");
+    assert!(rt; reads_questions(&mut reader));
     drop(reader);
-    assert!(rt; read);
-    Ok(())
+}
+
+/// Bytes, whether they end there, and their fault.
+type Faulty = (&'static [u8], bool, Option<Fault>);
+
+const FAULTY: [Faulty; 9] = [
+    (&[0], true, Some(Fault::Truncated)),
+    (&[0, 0], false, Some(Fault::BadLength)),
+    (&[0, 1, 200], false, Some(Fault::BadKind)),
+    (&[0, 9, 7], false, Some(Fault::BadLength)),
+    (&[0, 2, 7], false, None),
+    (&[0xff, 0xff], false, None),
+    (&[0xff, 0xff, 1], false, Some(Fault::BadLength)),
+    (&[0xff, 0xff], true, Some(Fault::Truncated)),
+    (&[], true, None),
+];
+
+fn has_fault(alloc: Global, (bytes, ended, fault): Faulty) -> bool {
+    match fault_of(alloc, bytes, ended) {
+        Ok(found) => found == fault,
+        Err(_) => false,
+    }
 }
 
 #[test]
-fn faults_of_frames(rt: HostRuntime) -> Result<(), Fail> {
-    let table: [(&[u8], bool, Option<Fault>); 9] = [
-        (&[0], true, Some(Fault::Truncated)),
-        (&[0, 0], false, Some(Fault::BadLength)),
-        (&[0, 1, 200], false, Some(Fault::BadKind)),
-        (&[0, 9, 7], false, Some(Fault::BadLength)),
-        (&[0, 2, 7], false, None),
-        (&[0xff, 0xff], false, None),
-        (&[0xff, 0xff, 1], false, Some(Fault::BadLength)),
-        (&[0xff, 0xff], true, Some(Fault::Truncated)),
-        (&[], true, None),
-    ];
-    for (bytes, ended, fault) in table {
-        assert!(rt;
-            fault_of(rt.alloc(), bytes, ended)? == fault,
-            "of {bytes:?}"
-        );
+fn faults_of_frames(rt: HostRuntime) {
+    for faulty in &FAULTY {
+        assert!(rt; has_fault(rt.alloc(), *faulty));
     }
-    Ok(())
 }
 
 /// The reader tells that there is no such kind.
@@ -126,63 +150,82 @@ fn tells_bad_kind(reader: &mut FrameReader) -> bool {
 }
 
 #[test]
-fn a_fault_stays(rt: HostRuntime) -> Result<(), Fail> {
-    let mut reader = reader_of(rt.alloc(), &[0, 1, 200])?;
-    let told = tells_bad_kind(&mut reader) && reader.is_closed() && tells_bad_kind(&mut reader);
+fn a_fault_stays(rt: HostRuntime) {
+    let mut reader = reader_of(rt.alloc(), &[0, 1, 200]).expect(&rt, "a reader");
+    assert!(rt; tells_bad_kind(&mut reader) && reader.is_closed() && tells_bad_kind(&mut reader));
     drop(reader);
-    assert!(rt; told);
-    Ok(())
 }
 
 /// Whether the reply has this frame.
-fn has_frame(alloc: Global, reply: Reply, frame: &[u8]) -> Result<bool, NoMemory>
+fn has_frame(alloc: Global, reply: Reply, frame: &[u8]) -> bool
     requires { IsReply reply }
 {
     let bytes = encode_reply(alloc, &reply);
     drop(reply);
-    let bytes = bytes?;
-    let same = bytes.as_slice() == frame;
-    drop(bytes);
-    Ok(same)
+    match bytes {
+        Ok(bytes) => {
+            let same = bytes.as_slice() == frame;
+            drop(bytes);
+            same
+        }
+        Err(_) => false,
+    }
+}
+
+const PLACED: [u8; 9] = [0, 0, 0, 5, 0x41, 0, 0, 0, 0];
+
+const REFUSED: [u8; 6] = [0, 0, 0, 2, 0x42, 0x0c];
+
+const FAULT: [u8; 6] = [0, 0, 0, 2, 0x47, 3];
+
+#[test]
+fn frames_of_replies(rt: HostRuntime) {
+    assert!(rt; has_frame(rt.alloc(), Reply::Placed(Place::new(0)), &PLACED));
+    assert!(rt; has_frame(rt.alloc(), Reply::Refused(Refusal::NotHeld), &REFUSED));
+    assert!(rt; has_frame(rt.alloc(), Reply::Fault(Fault::Truncated), &FAULT));
+}
+
+const OPENED: [u8; 17] = [0, 0, 0, 13, 0x43, 0, 0, 0, 0, 0, 0, 0, 0, 0, 0, 0, 0];
+
+const PENDING: [u8; 17] = [0, 0, 0, 13, 0x44, 0, 0, 0, 0, 0, 0, 0, 0, 0, 0, 0, 1];
+
+const REPORT: &[u8] = b"\x00\x00\x00\x09E\x00\x00\x00\x00text";
+
+/// Whether the reply with the report `text` has its frame.
+fn has_report_frame(alloc: Global) -> bool {
+    match Vec::from_slice(alloc, b"text") {
+        Ok(text) => {
+            let text = ReportText::from_vec(text);
+            has_frame(alloc, Reply::Report { question: 0, text }, REPORT)
+        }
+        Err(_) => false,
+    }
 }
 
 #[test]
-fn frames_of_replies(rt: HostRuntime) -> Result<(), Fail> {
-    let placed = [0, 0, 0, 5, 0x41, 0, 0, 0, 0];
-    assert!(rt; has_frame(rt.alloc(), Reply::Placed(Place::new(0)), &placed)?);
-    let refused = [0, 0, 0, 2, 0x42, 0x0c];
-    assert!(rt; has_frame(rt.alloc(), Reply::Refused(Refusal::NotHeld), &refused)?);
-    let fault = [0, 0, 0, 2, 0x47, 3];
-    assert!(rt; has_frame(rt.alloc(), Reply::Fault(Fault::Truncated), &fault)?);
-    Ok(())
-}
-
-#[test]
-fn frames_of_replies_about_questions(rt: HostRuntime) -> Result<(), Fail> {
+fn frames_of_replies_about_questions(rt: HostRuntime) {
     let opened = Reply::Opened {
         question: 0,
         length: 0,
         total: 0,
     };
-    let frame = [0, 0, 0, 13, 0x43, 0, 0, 0, 0, 0, 0, 0, 0, 0, 0, 0, 0];
-    assert!(rt; has_frame(rt.alloc(), opened, &frame)?);
+    assert!(rt; has_frame(rt.alloc(), opened, &OPENED));
     let pending = Reply::Pending {
         question: 0,
         delivered: 0,
         total: 1,
     };
-    let frame = [0, 0, 0, 13, 0x44, 0, 0, 0, 0, 0, 0, 0, 0, 0, 0, 0, 1];
-    assert!(rt; has_frame(rt.alloc(), pending, &frame)?);
-    let report = Reply::Report {
-        question: 0,
-        text: ReportText::from_vec(Vec::from_slice(rt.alloc(), b"text")?),
-    };
-    assert!(rt; has_frame(rt.alloc(), report, b"\x00\x00\x00\x09E\x00\x00\x00\x00text")?);
-    Ok(())
+    assert!(rt; has_frame(rt.alloc(), pending, &PENDING));
+    assert!(rt; has_report_frame(rt.alloc()));
 }
 
+const STATUS: [u8; 46] = [
+    0, 0, 0, 0x2a, 0x46, 0, 0, 0, 0, 0, 0, 0, 10, 0, 0, 0, 1, 0, 0, 0, 10, 2, 0, 0, 0, 2, 0, 0, 0,
+    2, 0, 0, 0, 0, 0, 0, 0, 1, 0, 0, 0, 0, 0, 0, 0, 1,
+];
+
 #[test]
-fn frame_of_a_status(rt: HostRuntime) -> Result<(), Fail> {
+fn frame_of_a_status(rt: HostRuntime) {
     let bound = Bound::new(2).expect(&rt, "a bound is 2 to 8");
     let status = Reply::Status(QuestionStatus {
         question: 0,
@@ -195,10 +238,5 @@ fn frame_of_a_status(rt: HostRuntime) -> Result<(), Fail> {
         cycles: 1,
         confirmed: 1,
     });
-    let frame = [
-        0, 0, 0, 0x2a, 0x46, 0, 0, 0, 0, 0, 0, 0, 10, 0, 0, 0, 1, 0, 0, 0, 10, 2, 0, 0, 0, 2, 0, 0,
-        0, 2, 0, 0, 0, 0, 0, 0, 0, 1, 0, 0, 0, 0, 0, 0, 0, 1,
-    ];
-    assert!(rt; has_frame(rt.alloc(), status, &frame)?);
-    Ok(())
+    assert!(rt; has_frame(rt.alloc(), status, &STATUS));
 }

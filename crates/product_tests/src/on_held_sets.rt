@@ -2,18 +2,19 @@
 
 use held_sets::{HeldSet, HeldTable};
 use std::hash::RandomState;
-use std::test::Fail;
-use trace_model::{MAX_DEPTH, MAX_HELD, NoMemory};
+use trace_model::{MAX_DEPTH, MAX_HELD};
 
-/// Thread 1 takes the lock, if it may.
-fn acquire(table: &mut HeldTable, lock: u32) -> Result<(), NoMemory> {
+fn empty_table(rt: &HostRuntime) -> Option<HeldTable> {
+    let state = RandomState::new(rt).ok()?;
+    Some(HeldTable::new(rt.alloc(), state))
+}
+
+/// Whether thread 1 may take the lock, and takes it.
+fn acquires(table: &mut HeldTable, lock: u32) -> bool {
     let held = table.held(1);
     let may_acquire = (table.depth(1, lock) as usize) < MAX_DEPTH && held.locks().len() < MAX_HELD;
     drop(held);
-    if may_acquire {
-        table.acquire(1, lock)?;
-    }
-    Ok(())
+    may_acquire && table.acquire(1, lock).is_ok()
 }
 
 /// The thread holds these locks.
@@ -24,50 +25,56 @@ fn holds(table: &HeldTable, thread: u32, locks: &[u32]) -> bool {
     same
 }
 
-fn ascend_and_are_given_back(table: &mut HeldTable) -> Result<bool, NoMemory> {
+fn ascend_and_are_given_back(table: &mut HeldTable) -> bool {
     let empty = holds(table, 1, &[]);
-    acquire(table, 20)?;
-    acquire(table, 10)?;
+    let taken = acquires(table, 20) && acquires(table, 10);
     let ascend = holds(table, 1, &[10, 20]) && holds(table, 2, &[]);
     table.release(1, 20);
-    Ok(empty && ascend && holds(table, 1, &[10]))
+    empty && taken && ascend && holds(table, 1, &[10])
 }
 
 #[test]
-fn locks_ascend_and_are_given_back(rt: HostRuntime) -> Result<(), Fail> {
-    let mut table = HeldTable::new(rt.alloc(), RandomState::new(&rt)?);
-    let told = ascend_and_are_given_back(&mut table);
+fn locks_ascend_and_are_given_back(rt: HostRuntime) {
+    let mut table = empty_table(&rt).expect(&rt, "a table");
+    assert!(rt; ascend_and_are_given_back(&mut table));
     drop(table);
-    assert!(rt; told?);
-    Ok(())
 }
 
-fn depths_are_counted(table: &mut HeldTable) -> Result<bool, NoMemory> {
-    acquire(table, 7)?;
-    acquire(table, 7)?;
-    let twice = table.depth(1, 7) == 2 && holds(table, 1, &[7]);
+/// Whether thread 1 holds lock 7 so deep, and these locks.
+fn has_depth(table: &HeldTable, depth: u8, locks: &[u32]) -> bool {
+    table.depth(1, 7) == depth && holds(table, 1, locks)
+}
+
+fn depths_are_counted(table: &mut HeldTable) -> bool {
+    let taken = acquires(table, 7) && acquires(table, 7);
+    let twice = has_depth(table, 2, &[7]);
     table.release(1, 7);
-    let once = table.depth(1, 7) == 1 && holds(table, 1, &[7]);
+    let once = has_depth(table, 1, &[7]);
     table.release(1, 7);
-    Ok(twice && once && table.depth(1, 7) == 0 && holds(table, 1, &[]))
+    taken && twice && once && has_depth(table, 0, &[])
 }
 
 #[test]
-fn a_lock_is_held_until_its_last_release(rt: HostRuntime) -> Result<(), Fail> {
-    let mut table = HeldTable::new(rt.alloc(), RandomState::new(&rt)?);
-    let told = depths_are_counted(&mut table);
+fn a_lock_is_held_until_its_last_release(rt: HostRuntime) {
+    let mut table = empty_table(&rt).expect(&rt, "a table");
+    assert!(rt; depths_are_counted(&mut table));
     drop(table);
-    assert!(rt; told?);
-    Ok(())
+}
+
+fn set_of(lock: u32) -> HeldSet {
+    let mut set = HeldSet::new();
+    set.insert(lock);
+    set
 }
 
 #[test]
 fn sets_are_compared_by_their_locks(rt: HostRuntime) {
-    let mut one = HeldSet::new();
-    one.insert(7);
+    let one = set_of(7);
     let same = one.copied();
     assert!(rt; one == same && !one.is_disjoint(&same));
-    let mut other = HeldSet::new();
-    other.insert(8);
+    drop(same);
+    let other = set_of(8);
     assert!(rt; one != other && one.is_disjoint(&other));
+    drop(other);
+    drop(one);
 }

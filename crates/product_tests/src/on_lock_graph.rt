@@ -1,11 +1,10 @@
 //! Tests of the graph of locks.
 
-use crate::traces::kept_if;
+use crate::traces::some_if;
 use dependencies::Dependency;
 use held_sets::HeldSet;
 use lock_graph::LockGraph;
 use std::hash::RandomState;
-use std::test::Fail;
 use trace_model::NoMemory;
 
 /// A dependency whose thread holds one lock, or two.
@@ -36,12 +35,15 @@ fn lists_holders(graph: &LockGraph) -> bool {
         && graph.successors(7).is_empty()
 }
 
+fn graph_of_four(rt: &HostRuntime) -> Option<LockGraph> {
+    let state = RandomState::new(rt).ok()?;
+    let mut graph = LockGraph::new(rt.alloc(), state);
+    some_if(add_four(&mut graph).is_ok(), graph)
+}
+
 #[test]
-fn lists_who_holds_a_lock(rt: HostRuntime) -> Result<(), Fail> {
-    let mut graph = LockGraph::new(rt.alloc(), RandomState::new(&rt)?);
-    let graph = kept_if(add_four(&mut graph), graph)?;
-    let lists = lists_holders(&graph);
+fn lists_who_holds_a_lock(rt: HostRuntime) {
+    let graph = graph_of_four(&rt).expect(&rt, "a graph");
+    assert!(rt; lists_holders(&graph));
     drop(graph);
-    assert!(rt; lists);
-    Ok(())
 }

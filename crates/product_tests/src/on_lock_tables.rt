@@ -10,10 +10,8 @@ ghost use Rattle.lock_tables.specs.Tables.{FollowTrace, CountsBelow};
 
 use crate::traces::{gate_of_rounds, kept_if};
 use lock_tables::{LockParts, LockTables};
+use std::alloc::Global;
 use std::hash::RandomState;
-use std::process::Abort;
-use std::random::RandomSource;
-use std::test::*;
 use trace_model::{Event, NoMemory};
 
 /// Goes on with the events in a range.
@@ -76,25 +74,26 @@ fn part_early(tables: &mut LockTables, all: &[Event], events: usize) -> Result<L
 
 /// The part of the first events, shared when all events have come, or as soon as these have.
 fn part_of(
-    rt: &(impl RandomSource + AllocGlobal),
+    alloc: Global,
+    state: RandomState,
     all: &[Event],
     events: usize,
     late: bool,
-) -> Result<LockParts, Fail>
+) -> Result<LockParts, NoMemory>
     requires well_formed { IsWellFormed all.now }
     requires short { length all.now ≤ MAX_EVENTS }
     requires within { events ≤ length all.now }
     ensures { IfOk result (λ parts. (lock : ℕ) →
         IsStrictlyIncreasing (holders (arc_value parts.graph) lock)) }
 {
-    let mut tables = LockTables::new(rt.alloc(), RandomState::new(rt)?);
+    let mut tables = LockTables::new(alloc, state);
     let parts = if late {
         part_late(&mut tables, all, events)
     } else {
         part_early(&mut tables, all, events)
     };
     drop(tables);
-    Ok(parts?)
+    parts
 }
 
 /// Whether the part shows so many places of the dependency, every eighth up to the last one.
@@ -143,49 +142,51 @@ const PARTS: [Wanted; 9] = [
     (16_482, 2, 2060, 2060),
 ];
 
-fn shows(rt: &impl Abort, parts: &LockParts, wanted: Wanted)
+fn shows(parts: &LockParts, wanted: Wanted) -> bool
     requires { (lock : ℕ) → IsStrictlyIncreasing (holders (arc_value parts.now.graph) lock) }
 {
     let (_, total, first, second) = wanted;
-    assert!(rt; parts.dependencies.len() == total && shows_places(parts, first, second));
-    assert!(rt; holders_in(parts) == (first.min(1), second.min(1)));
+    parts.dependencies.len() == total
+        && shows_places(parts, first, second)
+        && holders_in(parts) == (first.min(1), second.min(1))
 }
 
-fn shares(
-    rt: &(impl RandomSource + AllocGlobal + Abort),
-    all: &[Event],
-    wanted: Wanted,
-    late: bool,
-) -> Result<(), Fail>
+fn shares(alloc: Global, state: RandomState, all: &[Event], wanted: Wanted, late: bool) -> bool
     requires well_formed { IsWellFormed all.now }
     requires short { length all.now ≤ MAX_EVENTS }
 {
     if wanted.0 > all.len() {
-        return Err("too short".into());
+        return false;
     }
-    let parts = part_of(rt, all, wanted.0, late)?;
-    shows(rt, &parts, wanted);
-    drop(parts);
-    Ok(())
+    match part_of(alloc, state, all, wanted.0, late) {
+        Ok(parts) => {
+            let shows = shows(&parts, wanted);
+            drop(parts);
+            shows
+        }
+        Err(_) => false,
+    }
 }
 
-fn shares_all(rt: &(impl RandomSource + AllocGlobal + Abort), all: &[Event]) -> Result<(), Fail>
+fn shares_all(alloc: Global, state: RandomState, all: &[Event]) -> bool
     requires well_formed { IsWellFormed all.now }
     requires short { length all.now ≤ MAX_EVENTS }
 {
-    for wanted in PARTS {
-        shares(rt, all, wanted, false)?;
-        shares(rt, all, wanted, true)?;
+    for wanted in &PARTS {
+        let early = shares(alloc, state, all, *wanted, false);
+        if !early || !shares(alloc, state, all, *wanted, true) {
+            return false;
+        }
     }
-    Ok(())
+    true
 }
 
 /// Of opposite orders again and again: places 3, 11, 19 and on have the first dependency, and
 /// places 7, 15, 23 and on the second one.
 #[test]
-fn parts_of_the_first_events(rt: HostRuntime) -> Result<(), Fail> {
-    let gate = gate_of_rounds(&rt, 2060)?;
-    let shared = shares_all(&rt, gate.events());
+fn parts_of_the_first_events(rt: HostRuntime) {
+    let state = RandomState::new(&rt).expect(&rt, "random keys");
+    let gate = gate_of_rounds(&rt, 2060).expect(&rt, "a gate");
+    assert!(rt; shares_all(rt.alloc(), state, gate.events()));
     drop(gate);
-    shared
 }

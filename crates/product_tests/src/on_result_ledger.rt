@@ -2,7 +2,6 @@
 
 use result_ledger::{Ledger, LedgerRefused};
 use std::alloc::Global;
-use std::test::Fail;
 
 /// How the ledger refuses that the task has no rows; none where it takes it.
 fn refused(alloc: Global, ledger: &mut Ledger, task: u32) -> Option<LedgerRefused> {
@@ -44,21 +43,22 @@ fn takes_the_first(alloc: Global, ledger: &mut Ledger) -> bool {
     refused(alloc, ledger, 0).is_none() && state(ledger) == (None, 2, Some(2))
 }
 
-#[test]
-fn each_task_once(rt: HostRuntime) -> Result<(), Fail> {
-    let mut ledger = Ledger::open(rt.alloc(), 2)?;
-    assert!(rt; takes_the_second(rt.alloc(), &mut ledger));
-    assert!(rt; refuses_others(rt.alloc(), &mut ledger));
-    assert!(rt; takes_the_first(rt.alloc(), &mut ledger));
-    drop(ledger);
-    Ok(())
+fn takes_each(alloc: Global, ledger: &mut Ledger) -> bool {
+    takes_the_second(alloc, ledger)
+        && refuses_others(alloc, ledger)
+        && takes_the_first(alloc, ledger)
 }
 
 #[test]
-fn no_task_is_settled_at_once(rt: HostRuntime) -> Result<(), Fail> {
-    let ledger = Ledger::open(rt.alloc(), 0)?;
-    let settled = state(&ledger) == (None, 0, Some(0));
+fn each_task_once(rt: HostRuntime) {
+    let mut ledger = Ledger::open(rt.alloc(), 2).expect(&rt, "a ledger");
+    assert!(rt; takes_each(rt.alloc(), &mut ledger));
     drop(ledger);
-    assert!(rt; settled);
-    Ok(())
+}
+
+#[test]
+fn no_task_is_settled_at_once(rt: HostRuntime) {
+    let ledger = Ledger::open(rt.alloc(), 0).expect(&rt, "a ledger");
+    assert!(rt; state(&ledger) == (None, 0, Some(0)));
+    drop(ledger);
 }

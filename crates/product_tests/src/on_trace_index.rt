@@ -1,16 +1,14 @@
 //! Look-ups in a small trace, in one that is longer than two segments, and in its first events,
 //! shared.
 
-ghost use Rattle.std.specs.Prelude.{◌≡◌, ◌≤◌, ◌<◌, length, take, IfOk};
+ghost use Rattle.std.specs.Prelude.{◌≡◌, ◌≤◌, ◌<◌, length, take, IfSome};
 ghost use Rattle.trace_model.specs.Theory.Lawful.{IsWellFormed};
 
-use crate::traces::{empty_gate, gate_of, kept_if, offer};
+use crate::traces::{accepts, empty_gate, gate_of, some_if};
 use fixtures::event;
 use std::collections::hash_map::RandomState;
 use std::marker::Brand;
-use std::process::Abort;
 use std::sync::ledger::{Blank, Ledger};
-use std::test::Fail;
 use trace_index::{Copies, PlacesOf, TraceIndex};
 use trace_model::{Event, NoMemory, Op, Place};
 use wellformed::Gate;
@@ -20,18 +18,21 @@ use wellformed::Gate;
 const LATER_INSTANCE: &str = "0f1 0f2 1a10 1a20 1r20 1r10 1w7 2d7 2a20 2a10 2r10 2r20 1a10 1a20";
 
 /// An index of what passed the gate.
-fn index_at(rt: &HostRuntime, gate: &Gate) -> Result<TraceIndex, Fail>
-    ensures { IfOk result (λ index. index.events ≡ gate.now.events) }
+fn index_at(rt: &HostRuntime, gate: &Gate) -> Option<TraceIndex>
+    ensures { IfSome result (λ index. index.events ≡ gate.now.events) }
 {
-    let state = RandomState::new(rt)?;
-    Ok(TraceIndex::build(rt.alloc(), state, gate.events())?)
+    let state = RandomState::new(rt).ok()?;
+    match TraceIndex::build(rt.alloc(), state, gate.events()) {
+        Ok(index) => Some(index),
+        Err(_) => None,
+    }
 }
 
 /// A thread acquires a lock twice more while it holds it, gives it back, and takes it once more.
 const NESTED: &str = "0a5 0a5 0w1 0a5 0r5 0a8 0r5 0r5 0r8 0a5 0r5";
 
 /// An index of a trace.
-fn index_of(rt: &HostRuntime, events: &str) -> Result<TraceIndex, Fail> {
+fn index_of(rt: &HostRuntime, events: &str) -> Option<TraceIndex> {
     let gate = gate_of(rt, events)?;
     let index = index_at(rt, &gate);
     drop(gate);
@@ -39,7 +40,7 @@ fn index_of(rt: &HostRuntime, events: &str) -> Result<TraceIndex, Fail> {
 }
 
 /// What is looked up of a place, or of a thread.
-#[derive(Clone, Copy, Debug)]
+#[derive(Clone, Copy)]
 enum Look {
     Writer,
     Release,
@@ -120,11 +121,14 @@ const OF_NESTED_PLACES: [Wanted; 13] = [
     (Look::Begun, 99, None),
 ];
 
-fn answers(rt: &impl Abort, index: &TraceIndex, wanted: &[Wanted]) {
+/// Whether each answer is the wanted one.
+fn answers(index: &TraceIndex, wanted: &[Wanted]) -> bool {
     for (look, number, answer) in wanted {
-        let found = looked_up(index, *look, *number);
-        assert_eq!(rt; found, *answer, "{look:?} of {number}");
+        if looked_up(index, *look, *number) != *answer {
+            return false;
+        }
     }
+    true
 }
 
 /// Exactly these places, in order.
@@ -141,22 +145,18 @@ fn are_places(places: PlacesOf<'_>, wanted: &[u32]) -> bool {
 }
 
 #[test]
-fn places_of_a_small_trace(rt: HostRuntime) -> Result<(), Fail> {
-    let index = index_of(&rt, LATER_INSTANCE)?;
-    answers(&rt, &index, &OF_PLACES);
-    answers(&rt, &index, &OF_EARLIER_PLACES);
+fn places_of_a_small_trace(rt: HostRuntime) {
+    let index = index_of(&rt, LATER_INSTANCE).expect(&rt, "an index");
+    assert!(rt; answers(&index, &OF_PLACES) && answers(&index, &OF_EARLIER_PLACES));
     drop(index);
-    Ok(())
 }
 
 #[test]
-fn places_of_nested_acquires(rt: HostRuntime) -> Result<(), Fail> {
-    let index = index_of(&rt, NESTED)?;
-    answers(&rt, &index, &OF_NESTED_PLACES);
-    let outermost = are_places(index.acquires(5), &[0, 9]);
+fn places_of_nested_acquires(rt: HostRuntime) {
+    let index = index_of(&rt, NESTED).expect(&rt, "an index");
+    assert!(rt; answers(&index, &OF_NESTED_PLACES));
+    assert!(rt; are_places(index.acquires(5), &[0, 9]));
     drop(index);
-    assert!(rt; outermost);
-    Ok(())
 }
 
 fn has_events(index: &TraceIndex) -> bool {
@@ -166,12 +166,10 @@ fn has_events(index: &TraceIndex) -> bool {
 }
 
 #[test]
-fn events_of_a_small_trace(rt: HostRuntime) -> Result<(), Fail> {
-    let index = index_of(&rt, LATER_INSTANCE)?;
-    let has_events = has_events(&index);
+fn events_of_a_small_trace(rt: HostRuntime) {
+    let index = index_of(&rt, LATER_INSTANCE).expect(&rt, "an index");
+    assert!(rt; has_events(&index));
     drop(index);
-    assert!(rt; has_events);
-    Ok(())
 }
 
 fn has_lists(index: &TraceIndex) -> bool {
@@ -182,12 +180,10 @@ fn has_lists(index: &TraceIndex) -> bool {
 }
 
 #[test]
-fn lists_of_a_small_trace(rt: HostRuntime) -> Result<(), Fail> {
-    let index = index_of(&rt, LATER_INSTANCE)?;
-    let has_lists = has_lists(&index);
+fn lists_of_a_small_trace(rt: HostRuntime) {
+    let index = index_of(&rt, LATER_INSTANCE).expect(&rt, "an index");
+    assert!(rt; has_lists(&index));
     drop(index);
-    assert!(rt; has_lists);
-    Ok(())
 }
 
 // ---- a trace that is longer than two segments
@@ -210,18 +206,18 @@ fn long_event(place: u32) -> Event {
     Event { thread, op }
 }
 
-fn offer_long(gate: &mut Gate) -> Result<(), Fail> {
+fn accepts_long(gate: &mut Gate) -> bool {
     for place in 0..LENGTH {
-        if !offer(gate, &long_event(place))? {
-            return Err("an event is not lawful".into());
+        if !accepts(gate, &long_event(place)) {
+            return false;
         }
     }
-    Ok(())
+    true
 }
 
-fn long_gate(rt: &HostRuntime) -> Result<Gate, Fail> {
+fn long_gate(rt: &HostRuntime) -> Option<Gate> {
     let mut gate = empty_gate(rt)?;
-    kept_if(offer_long(&mut gate), gate)
+    some_if(accepts_long(&mut gate), gate)
 }
 
 /// A place of the long trace, its writer, its release, and how many places of its thread stand
@@ -340,7 +336,7 @@ fn shared_and_grown<L: Ledger>(
     events: &[Event],
     len: usize,
     blank: Blank,
-) -> Result<TraceIndex, NoMemory>
+) -> Option<TraceIndex>
     requires name { blank.name ≡ L.name }
     requires parts { blank.parts ≡ L.parts }
     requires some { 0 < L.parts }
@@ -349,10 +345,10 @@ fn shared_and_grown<L: Ledger>(
     requires within { len ≤ length events.now }
 {
     let mut copies = Copies::<L>::new(blank);
-    let mut part = index.share(len, &mut copies)?;
+    let mut part = index.share(len, &mut copies).ok()?;
     let grown = grow(&mut part, events, len, &mut copies);
     drop(copies);
-    kept_if(grown, part)
+    some_if(grown.is_ok(), part)
 }
 
 /// The lengths that are shared, with how many places of thread 1 and acquires of lock 7 they have.
@@ -364,7 +360,7 @@ const SHARED: [(u32, usize, usize); 5] = [
     (LENGTH, 2250, 2250),
 ];
 
-fn long_index(rt: &HostRuntime) -> Result<TraceIndex, Fail> {
+fn long_index(rt: &HostRuntime) -> Option<TraceIndex> {
     let gate = long_gate(rt)?;
     let index = index_at(rt, &gate);
     drop(gate);
@@ -373,54 +369,65 @@ fn long_index(rt: &HostRuntime) -> Result<TraceIndex, Fail> {
 
 /// Whether the first events are shared: so many, with so many places of thread 1 and acquires of
 /// lock 7.
-fn is_shared(index: &TraceIndex, lengths: (u32, usize, usize)) -> Result<bool, NoMemory> {
+fn is_shared(index: &TraceIndex, lengths: (u32, usize, usize)) -> bool {
     let (len, writes, sections) = lengths;
     let within = (len as usize).min(index.len());
-    let part = shared::<Brand>(index, within, Blank::new(1))?;
-    let is_index = is_index_of_first(&part, len, writes, sections);
-    drop(part);
-    Ok(is_index)
+    match shared::<Brand>(index, within, Blank::new(1)) {
+        Ok(part) => {
+            let is_index = is_index_of_first(&part, len, writes, sections);
+            drop(part);
+            is_index
+        }
+        Err(_) => false,
+    }
 }
 
-fn are_shared(rt: &impl Abort, index: &TraceIndex) -> Result<(), NoMemory> {
-    for lengths in SHARED {
-        assert!(rt; is_shared(index, lengths)?, "the first {}", lengths.0);
+fn are_shared(index: &TraceIndex) -> bool {
+    for lengths in &SHARED {
+        if !is_shared(index, *lengths) {
+            return false;
+        }
     }
-    Ok(())
+    true
 }
 
 #[test]
-fn first_events_are_shared(rt: HostRuntime) -> Result<(), Fail> {
-    let index = long_index(&rt)?;
-    let shared = are_shared(&rt, &index);
+fn first_events_are_shared(rt: HostRuntime) {
+    let index = long_index(&rt).expect(&rt, "an index");
+    assert!(rt; are_shared(&index));
     drop(index);
-    Ok(shared?)
 }
 
 /// Whether the first 4,095 events are shared, and then grow to all of these.
-fn shares_and_grows(index: &TraceIndex, events: &[Event]) -> Result<bool, NoMemory>
+fn shares_and_grows(index: &TraceIndex, events: &[Event]) -> bool
     requires trace { IsWellFormed events.now }
     requires same { index.now.events ≡ events.now }
 {
     let within = 4095.min(events.len());
-    let grown = shared_and_grown::<Brand>(index, events, within, Blank::new(1))?;
-    let is_index = is_index_of_first(&grown, LENGTH, 2250, 2250);
-    drop(grown);
-    Ok(is_index)
+    match shared_and_grown::<Brand>(index, events, within, Blank::new(1)) {
+        Some(grown) => {
+            let is_index = is_index_of_first(&grown, LENGTH, 2250, 2250);
+            drop(grown);
+            is_index
+        }
+        None => false,
+    }
 }
 
-fn grows(rt: &HostRuntime, gate: &Gate) -> Result<bool, Fail> {
-    let index = index_at(rt, gate)?;
-    let grown = shares_and_grows(&index, gate.events());
-    drop(index);
-    Ok(grown?)
+fn grows(rt: &HostRuntime, gate: &Gate) -> bool {
+    match index_at(rt, gate) {
+        Some(index) => {
+            let grown = shares_and_grows(&index, gate.events());
+            drop(index);
+            grown
+        }
+        None => false,
+    }
 }
 
 #[test]
-fn a_shared_index_grows(rt: HostRuntime) -> Result<(), Fail> {
-    let gate = long_gate(&rt)?;
-    let grown = grows(&rt, &gate);
+fn a_shared_index_grows(rt: HostRuntime) {
+    let gate = long_gate(&rt).expect(&rt, "a gate");
+    assert!(rt; grows(&rt, &gate));
     drop(gate);
-    assert!(rt; grown?);
-    Ok(())
 }

@@ -39,32 +39,63 @@ fn listed_name(number: u8) -> Option<&'static str> {
     None
 }
 
+/// Whether the number has the name that the table has for it.
+fn has_listed_name(number: u8) -> bool {
+    refusal_name(number) == listed_name(number)
+}
+
 #[test]
 fn each_number_has_its_name(rt: HostRuntime) {
     for number in 0..=u8::MAX {
-        assert!(rt;
-            refusal_name(number) == listed_name(number),
-            "number {number}"
-        );
+        assert!(rt; has_listed_name(number));
     }
+}
+
+fn are_numbered() -> bool {
+    Refusal::Full.number() == 1
+        && Refusal::NoMemory.number() == 13
+        && Refusal::BadBound.number() == 20
+        && Refusal::TooManyCycles.number() == 41
 }
 
 #[test]
 fn numbers_of_the_first_and_the_last(rt: HostRuntime) {
-    assert!(rt; Refusal::Full.number() == 1 && Refusal::NoMemory.number() == 13);
-    assert!(rt; Refusal::BadBound.number() == 20 && Refusal::TooManyCycles.number() == 41);
+    assert!(rt; are_numbered());
+}
+
+/// Whether there is a bound of so many members just where these are 2 to 8.
+fn is_rightly_bounded(most: u8) -> bool {
+    match Bound::new(most) {
+        Some(bound) => bound.get() == most && most >= 2 && most <= 8,
+        None => most < 2 || most > 8,
+    }
 }
 
 #[test]
 fn bounds_are_two_to_eight(rt: HostRuntime) {
     for most in 0..=u8::MAX {
-        let bound = Bound::new(most).map(|bound| bound.get());
-        let wanted = if most < 2 || most > 8 {
-            None
-        } else {
-            Some(most)
-        };
-        assert!(rt; bound == wanted, "bound {most}");
+        assert!(rt; is_rightly_bounded(most));
+    }
+}
+
+/// Whether the instance has so many places, 2 to 8, and the last of them is place 7.
+fn has_places(instance: &Instance, count: usize) -> bool {
+    count >= 2
+        && count <= 8
+        && instance.len() == count
+        && instance.get(count - 1) == Some(Place::new(7))
+        && instance.get(count).is_none()
+}
+
+/// Whether there is an instance of these places just where they are 2 to 8.
+fn is_rightly_made(places: &[Place]) -> bool {
+    match Instance::new(places) {
+        Some(instance) => {
+            let has_places = has_places(&instance, places.len());
+            drop(instance);
+            has_places
+        }
+        None => places.len() < 2 || places.len() > 8,
     }
 }
 
@@ -72,24 +103,17 @@ fn bounds_are_two_to_eight(rt: HostRuntime) {
 fn instances_have_two_to_eight_places(rt: HostRuntime) {
     let places = [Place::new(7); 9];
     for count in 0..10_usize {
-        let made = Instance::new(&places[..count]);
-        assert!(rt;
-            made.is_some() == (count >= 2 && count <= 8),
-            "{count} places"
-        );
-        if let Some(instance) = made {
-            assert!(rt; instance.len() == count);
-            assert!(rt; instance.get(count - 1) == Some(Place::new(7)));
-            assert!(rt; instance.get(count) == None);
-        }
+        assert!(rt; is_rightly_made(&places[..count]));
     }
+}
+
+fn has_two_places(list: PlaceList<'_>) -> bool {
+    list.len() == 2 && list.get(0) == Place::new(2) && list.get(1) == Place::new(9)
 }
 
 #[test]
 fn a_list_of_places_is_read_by_index(rt: HostRuntime) {
     let places = [Place::new(2), Place::new(9)];
-    let list = PlaceList::new(&places);
-    assert!(rt; list.len() == 2);
-    assert!(rt; list.get(0) == Place::new(2) && list.get(1) == Place::new(9));
+    assert!(rt; has_two_places(PlaceList::new(&places)));
     assert!(rt; PlaceList::none().is_empty());
 }

@@ -1,17 +1,16 @@
 //! Instances and witnesses of small traces, and the texts that are reported of them.
 
-ghost use Rattle.std.specs.Prelude.{length, IfOk};
+ghost use Rattle.std.specs.Prelude.{length, IfSome};
 ghost use Rattle.dependencies.specs.Tables.{FollowsTrace};
 
 use crate::traces::{
-    Case, case_in, case_of, closure_of, empty_gate, found_of, kept_if, offer_words,
+    Case, Unmade, accepts_words, case_in, case_of, closure_of, empty_gate, found_of, some_if,
 };
 use cycle_search::Cycle;
 use dependencies::{DepTable, Dependency};
 use fixtures::{OPPOSITE_ORDERS, REPORT};
 use reports::{Found, Row, report_text};
 use std::alloc::Global;
-use std::test::Fail;
 use trace_model::{Bound, Instance, NoMemory, Place};
 use wellformed::Gate;
 
@@ -93,76 +92,89 @@ const NOT_FOUND: [Wanted; 4] = [
 ];
 
 /// What a trace has of the cycle with these numbers.
-fn found_by(alloc: Global, case: &Case, numbers: &[u32]) -> Result<Option<Found>, Fail>
+fn found_by(alloc: Global, case: &Case, numbers: &[u32]) -> Result<Option<Found>, Unmade>
     requires { FollowsTrace case.now.table case.now.index.events (length case.now.index.events) }
 {
-    let cycle = Cycle::new(numbers).ok_or("no cycle")?;
-    let found = found_of(alloc, case, &cycle);
-    drop(cycle);
-    found
+    match Cycle::new(numbers) {
+        Some(cycle) => {
+            let found = found_of(alloc, case, &cycle);
+            drop(cycle);
+            found
+        }
+        None => Err(Unmade),
+    }
 }
 
 /// What the trace of the words has of the cycle.
-fn found_in(rt: &HostRuntime, words: &str, numbers: &[u32]) -> Result<Option<Found>, Fail> {
-    let case = case_in(rt, words)?;
-    let found = found_by(rt.alloc(), &case, numbers);
-    drop(case);
-    found
+fn found_in(rt: &HostRuntime, words: &str, numbers: &[u32]) -> Result<Option<Found>, Unmade> {
+    match case_in(rt, words) {
+        Some(case) => {
+            let found = found_by(rt.alloc(), &case, numbers);
+            drop(case);
+            found
+        }
+        None => Err(Unmade),
+    }
 }
 
 /// Whether what is wanted is found.
-fn finds(rt: &HostRuntime, wanted: &Wanted) -> Result<bool, Fail> {
-    let (words, numbers, places, witness) = wanted;
-    let found = found_in(rt, words, numbers)?;
-    let finds = is_found(&found, places, witness);
-    drop(found);
-    Ok(finds)
+fn finds(rt: &HostRuntime, wanted: &Wanted) -> bool {
+    let (words, numbers, places, witness) = *wanted;
+    match found_in(rt, words, numbers) {
+        Ok(found) => {
+            let finds = is_found(&found, places, witness);
+            drop(found);
+            finds
+        }
+        Err(Unmade) => false,
+    }
 }
 
-/// The words of the first trace of which something else is found.
-fn first_missed(rt: &HostRuntime, wanted: &[Wanted]) -> Result<Option<&'static str>, Fail> {
+fn finds_each(rt: &HostRuntime, wanted: &[Wanted]) -> bool {
     for one in wanted {
-        if !finds(rt, one)? {
-            return Ok(Some(one.0));
+        if !finds(rt, one) {
+            return false;
         }
     }
-    Ok(None)
+    true
 }
 
 #[test]
-fn instances_and_witnesses(rt: HostRuntime) -> Result<(), Fail> {
-    assert!(rt; first_missed(&rt, &FOUND)?.is_none());
-    Ok(())
+fn instances_and_witnesses(rt: HostRuntime) {
+    assert!(rt; finds_each(&rt, &FOUND));
 }
 
 #[test]
-fn cycles_that_no_reordering_reaches(rt: HostRuntime) -> Result<(), Fail> {
-    assert!(rt; first_missed(&rt, &NOT_FOUND)?.is_none());
-    Ok(())
+fn cycles_that_no_reordering_reaches(rt: HostRuntime) {
+    assert!(rt; finds_each(&rt, &NOT_FOUND));
 }
 
 /// The closure of two places of the trace of the words.
-fn closure_in(rt: &HostRuntime, words: &str, places: &[u32; 2]) -> Result<Vec<Place>, Fail> {
+fn closure_in(rt: &HostRuntime, words: &str, places: &[Place]) -> Option<Vec<Place>> {
     let case = case_in(rt, words)?;
-    let closure = closure_of(rt.alloc(), &case.index, &places.map(Place::new));
+    let closure = closure_of(rt.alloc(), &case.index, places);
     drop(case);
     closure
 }
 
-/// Whether that closure is these places.
-fn closes(rt: &HostRuntime, words: &str, places: &[u32; 2], closure: &[u32]) -> Result<bool, Fail> {
-    let held = closure_in(rt, words, places)?;
-    let closes = are_places(held.as_slice(), closure);
-    drop(held);
-    Ok(closes)
+/// Whether the closure of two places of that trace is these places.
+fn closes(rt: &HostRuntime, words: &str, (first, second): (u32, u32), closure: &[u32]) -> bool {
+    match closure_in(rt, words, &[Place::new(first), Place::new(second)]) {
+        Some(held) => {
+            let closes = are_places(held.as_slice(), closure);
+            drop(held);
+            closes
+        }
+        None => false,
+    }
 }
 
+const EARLIER_SECTION: [u32; 9] = [0, 1, 2, 3, 4, 5, 6, 7, 8];
+
 #[test]
-fn closures_of_places(rt: HostRuntime) -> Result<(), Fail> {
-    assert!(rt; closes(&rt, OPPOSITE_ORDERS, &[3, 7], &[0, 1, 2, 6])?);
-    let earlier_section = [0, 1, 2, 3, 4, 5, 6, 7, 8];
-    assert!(rt; closes(&rt, READ_NEEDS_EARLIER_SECTION, &[3, 9], &earlier_section)?);
-    Ok(())
+fn closures_of_places(rt: HostRuntime) {
+    assert!(rt; closes(&rt, OPPOSITE_ORDERS, (3, 7), &[0, 1, 2, 6]));
+    assert!(rt; closes(&rt, READ_NEEDS_EARLIER_SECTION, (3, 9), &EARLIER_SECTION));
 }
 
 /// Two threads that nest two locks in opposite orders three hundred times each, with a write and a
@@ -175,20 +187,25 @@ const THREE_HUNDRED: [(&str, u32); 5] = [
     ("1a10 1a20 ", 1),
 ];
 
-fn offer_three_hundred(alloc: Global, gate: &mut Gate) -> Result<(), Fail> {
-    for (words, times) in THREE_HUNDRED {
-        offer_words(alloc, gate, words, times)?;
+fn accepts_three_hundred(alloc: Global, gate: &mut Gate) -> bool {
+    for (words, times) in &THREE_HUNDRED {
+        if !accepts_words(alloc, gate, words, *times) {
+            return false;
+        }
     }
-    Ok(())
+    true
 }
 
-fn three_hundred(rt: &HostRuntime) -> Result<Case, Fail>
-    ensures { IfOk result (λ case. FollowsTrace case.table case.index.events
+fn three_hundred_gate(rt: &HostRuntime) -> Option<Gate> {
+    let mut gate = empty_gate(rt)?;
+    some_if(accepts_three_hundred(rt.alloc(), &mut gate), gate)
+}
+
+fn three_hundred(rt: &HostRuntime) -> Option<Case>
+    ensures { IfSome result (λ case. FollowsTrace case.table case.index.events
         (length case.index.events)) }
 {
-    let mut gate = empty_gate(rt)?;
-    let offered = offer_three_hundred(rt.alloc(), &mut gate);
-    let gate = kept_if(offered, gate)?;
+    let gate = three_hundred_gate(rt)?;
     let case = case_of(rt, &gate);
     drop(gate);
     case
@@ -210,17 +227,26 @@ fn is_three_hundredth(found: &Found) -> bool {
     true
 }
 
+/// Whether this is found of the two cycles' members.
+fn finds_three_hundredth(alloc: Global, case: &Case) -> bool
+    requires { FollowsTrace case.now.table case.now.index.events (length case.now.index.events) }
+{
+    match found_by(alloc, case, &[0, 1]) {
+        Ok(Some(found)) => {
+            let finds = is_three_hundredth(&found);
+            drop(found);
+            finds
+        }
+        _ => false,
+    }
+}
+
 #[test]
-fn three_hundred_sections(rt: HostRuntime) -> Result<(), Fail> {
-    let case = three_hundred(&rt)?;
-    assert_eq!(rt; case.index.len(), 2406);
-    let found = found_by(rt.alloc(), &case, &[0, 1]);
+fn three_hundred_sections(rt: HostRuntime) {
+    let case = three_hundred(&rt).expect(&rt, "a case");
+    assert!(rt; case.index.len() == 2406);
+    assert!(rt; finds_three_hundredth(rt.alloc(), &case));
     drop(case);
-    let found = found?.ok_or("nothing is found")?;
-    let is_three_hundredth = is_three_hundredth(&found);
-    drop(found);
-    assert!(rt; is_three_hundredth);
-    Ok(())
 }
 
 /// Adds the dependencies with these numbers.
@@ -238,73 +264,75 @@ fn push_dependencies(
     Ok(())
 }
 
-/// The cycle with these numbers, and its dependencies.
-fn dependencies_of(
-    alloc: Global,
-    table: &DepTable,
-    numbers: &[u32],
-) -> Result<(Cycle, Vec<Dependency>), Fail> {
-    let cycle = Cycle::new(numbers).ok_or("no cycle")?;
+/// The dependencies with these numbers.
+fn dependencies_of(alloc: Global, table: &DepTable, numbers: &[u32]) -> Option<Vec<Dependency>> {
     let mut dependencies = Vec::new(alloc);
     let pushed = push_dependencies(&mut dependencies, table, numbers);
-    Ok(kept_if(pushed, (cycle, dependencies))?)
+    some_if(pushed.is_ok(), dependencies)
 }
 
 /// What the report has of a cycle.
-fn row_of(alloc: Global, case: &Case, numbers: &[u32]) -> Result<Row, Fail>
+fn row_of(alloc: Global, case: &Case, numbers: &[u32]) -> Option<Row>
     requires { FollowsTrace case.now.table case.now.index.events (length case.now.index.events) }
 {
-    let found = found_by(alloc, case, numbers)?;
+    let cycle = Cycle::new(numbers)?;
+    let found = found_by(alloc, case, numbers).ok()?;
     match dependencies_of(alloc, &case.table, numbers) {
-        Ok((cycle, dependencies)) => Ok(Row {
+        Some(dependencies) => Some(Row {
             cycle,
             dependencies,
             found,
         }),
-        Err(fail) => {
+        None => {
             drop(found);
-            Err(fail)
+            None
         }
     }
 }
 
-fn push_rows(
-    rows: &mut Vec<Row>,
-    alloc: Global,
-    case: &Case,
-    cycles: &[[u32; 2]],
-) -> Result<(), Fail>
+fn push_rows(rows: &mut Vec<Row>, alloc: Global, case: &Case, cycles: &[[u32; 2]]) -> bool
     requires { FollowsTrace case.now.table case.now.index.events (length case.now.index.events) }
 {
     for numbers in cycles {
-        let row = row_of(alloc, case, numbers.as_slice())?;
-        rows.push(row)?;
+        match row_of(alloc, case, numbers.as_slice()) {
+            Some(row) => {
+                if !is_pushed(rows, row) {
+                    return false;
+                }
+            }
+            None => return false,
+        }
     }
-    Ok(())
+    true
 }
 
-/// The report of these rows, by task.
-fn report_of(alloc: Global, length: u32, bound: u8, tasks: &[Vec<Row>]) -> Result<Vec<u8>, Fail> {
-    let bound = Bound::new(bound).ok_or("no bound")?;
-    Ok(report_text(alloc, 0, length, bound, tasks)?)
+fn is_pushed(rows: &mut Vec<Row>, row: Row) -> bool {
+    rows.push(row).is_ok()
 }
 
-/// The report of these cycles of the trace, all of task 0 of two.
-fn text_by(alloc: Global, case: &Case, bound: u8, cycles: &[[u32; 2]]) -> Result<Vec<u8>, Fail>
+fn rows_of(alloc: Global, case: &Case, cycles: &[[u32; 2]]) -> Option<Vec<Row>>
     requires { FollowsTrace case.now.table case.now.index.events (length case.now.index.events) }
 {
     let mut rows = Vec::new(alloc);
     let pushed = push_rows(&mut rows, alloc, case, cycles);
-    let tasks = [kept_if(pushed, rows)?, Vec::new(alloc)];
-    let text = report_of(alloc, case.index.len() as u32, bound, &tasks);
+    some_if(pushed, rows)
+}
+
+/// The report of these cycles of the trace, all of task 0 of two.
+fn text_by(alloc: Global, case: &Case, bound: u8, cycles: &[[u32; 2]]) -> Option<Vec<u8>>
+    requires { FollowsTrace case.now.table case.now.index.events (length case.now.index.events) }
+{
+    let bound = Bound::new(bound)?;
+    let tasks = [rows_of(alloc, case, cycles)?, Vec::new(alloc)];
+    let text = report_text(alloc, 0, case.index.len() as u32, bound, &tasks);
     let [rows, others] = tasks;
     drop(rows);
     drop(others);
-    text
+    text.ok()
 }
 
 /// The report of these cycles of the trace of the words.
-fn text_of(rt: &HostRuntime, words: &str, bound: u8, cycles: &[[u32; 2]]) -> Result<Vec<u8>, Fail> {
+fn text_of(rt: &HostRuntime, words: &str, bound: u8, cycles: &[[u32; 2]]) -> Option<Vec<u8>> {
     let case = case_in(rt, words)?;
     let text = text_by(rt.alloc(), &case, bound, cycles);
     drop(case);
@@ -315,12 +343,16 @@ fn text_of(rt: &HostRuntime, words: &str, bound: u8, cycles: &[[u32; 2]]) -> Res
 type Reported = (&'static str, u8, &'static [[u32; 2]], &'static [u8], usize);
 
 /// Whether this is reported.
-fn is_reported(rt: &HostRuntime, reported: &Reported) -> Result<bool, Fail> {
-    let (words, bound, cycles, wanted, length) = reported;
-    let text = text_of(rt, words, *bound, cycles)?;
-    let same = text.as_slice() == *wanted && text.len() == *length;
-    drop(text);
-    Ok(same)
+fn is_reported(rt: &HostRuntime, reported: &Reported) -> bool {
+    let (words, bound, cycles, wanted, length) = *reported;
+    match text_of(rt, words, bound, cycles) {
+        Some(text) => {
+            let same = text.as_slice() == wanted && text.len() == length;
+            drop(text);
+            same
+        }
+        None => false,
+    }
 }
 
 const ONE_POTENTIAL: &[u8] =
@@ -345,9 +377,8 @@ const REPORTED: [Reported; 4] = [
 ];
 
 #[test]
-fn reported_texts(rt: HostRuntime) -> Result<(), Fail> {
+fn reported_texts(rt: HostRuntime) {
     for reported in &REPORTED {
-        assert!(rt; is_reported(&rt, reported)?, "{}", reported.0);
+        assert!(rt; is_reported(&rt, reported));
     }
-    Ok(())
 }

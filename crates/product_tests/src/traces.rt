@@ -1,6 +1,6 @@
 //! Traces for the tests: read from words, passed through the gate, with index and table.
 
-ghost use Rattle.std.specs.Prelude.{◌≡◌, ℕ, ◌<◌, length, IfOk};
+ghost use Rattle.std.specs.Prelude.{◌≡◌, ℕ, ◌<◌, length, IfOk, IfSome};
 ghost use Rattle.std.specs.Prelude.{IsTrue};
 ghost use Rattle.std.specs.List.{Contains};
 ghost use Rattle.trace_model.specs.Theory.Dependencies.{dependencies};
@@ -18,9 +18,8 @@ use std::alloc::Global;
 use std::hash::RandomState;
 use std::marker::Brand;
 use std::sync::ledger::{Blank, Ledger};
-use std::test::Fail;
 use trace_index::TraceIndex;
-use trace_model::{Event, Instance, MAX_EVENTS, NoMemory, Op, Place};
+use trace_model::{Event, Instance, MAX_EVENTS, NoMemory, Place};
 use wellformed::Gate;
 use witness::write_witness;
 
@@ -31,14 +30,45 @@ pub(crate) struct Case {
     pub(crate) table: DepTable,
 }
 
-/// Passes the event through the gate, if it is lawful.
-pub(crate) fn offer(gate: &mut Gate, event: &Event) -> Result<bool, NoMemory> {
-    if gate.check(event).is_err() {
-        return Ok(false);
+/// Whether the gate lets the event pass.
+pub(crate) fn accepts(gate: &mut Gate, event: &Event) -> bool {
+    if gate.check(event).is_err() || gate.reserve(event).is_err() {
+        return false;
     }
-    gate.reserve(event)?;
     gate.record(event);
-    Ok(true)
+    true
+}
+
+/// Whether it lets these events pass, one after another.
+pub(crate) fn accepts_all(gate: &mut Gate, events: &[Event]) -> bool {
+    for event in events {
+        if !accepts(gate, event) {
+            return false;
+        }
+    }
+    true
+}
+
+/// The same, so many times.
+fn accepts_times(gate: &mut Gate, events: &[Event], times: u32) -> bool {
+    for _ in 0..times {
+        if !accepts_all(gate, events) {
+            return false;
+        }
+    }
+    true
+}
+
+/// Whether it lets the events of the words pass, so many times.
+pub(crate) fn accepts_words(alloc: Global, gate: &mut Gate, words: &str, times: u32) -> bool {
+    match read_events(alloc, words.as_bytes()) {
+        Ok(events) => {
+            let accepts = accepts_times(gate, &events, times);
+            drop(events);
+            accepts
+        }
+        Err(_) => false,
+    }
 }
 
 // What is big is dropped by a call: to drop it in place, on each way out, is long to prove.
@@ -52,6 +82,18 @@ pub(crate) fn kept_if<T: Drop, E>(told: Result<(), E>, value: T) -> Result<T, E>
             drop(value);
             Err(error)
         }
+    }
+}
+
+/// The value, where it is to be kept.
+pub(crate) fn some_if<T: Drop>(keep: bool, value: T) -> Option<T>
+    ensures { IfSome result (λ kept. kept ≡ value) }
+{
+    if keep {
+        Some(value)
+    } else {
+        drop(value);
+        None
     }
 }
 
@@ -86,26 +128,33 @@ fn case_of_events(alloc: Global, state: RandomState, events: &[Event]) -> Result
 }
 
 /// What is known of the events that passed the gate.
-pub(crate) fn case_of(rt: &HostRuntime, gate: &Gate) -> Result<Case, Fail>
-    ensures { IfOk result (λ case. FollowsTrace case.table case.index.events
+pub(crate) fn case_of(rt: &HostRuntime, gate: &Gate) -> Option<Case>
+    ensures { IfSome result (λ case. FollowsTrace case.table case.index.events
         (length case.index.events)) }
 {
-    let state = RandomState::new(rt)?;
-    Ok(case_of_events(rt.alloc(), state, gate.events())?)
+    let state = RandomState::new(rt).ok()?;
+    match case_of_events(rt.alloc(), state, gate.events()) {
+        Ok(case) => Some(case),
+        Err(_) => None,
+    }
 }
 
 /// The numbered dependencies of the events that passed the gate.
-pub(crate) fn table_at(rt: &HostRuntime, gate: Gate) -> Result<DepTable, Fail> {
-    let case = case_of(rt, &gate);
+fn table_in(rt: &HostRuntime, gate: &Gate) -> Option<DepTable> {
+    let state = RandomState::new(rt).ok()?;
+    table_of(rt.alloc(), state, gate.events()).ok()
+}
+
+/// The same, of a gate that is done with.
+pub(crate) fn table_at(rt: &HostRuntime, gate: Gate) -> Option<DepTable> {
+    let table = table_in(rt, &gate);
     drop(gate);
-    let Case { index, table } = case?;
-    drop(index);
-    Ok(table)
+    table
 }
 
 /// What is known of the events of the words.
-pub(crate) fn case_in(rt: &HostRuntime, words: &str) -> Result<Case, Fail>
-    ensures { IfOk result (λ case. FollowsTrace case.table case.index.events
+pub(crate) fn case_in(rt: &HostRuntime, words: &str) -> Option<Case>
+    ensures { IfSome result (λ case. FollowsTrace case.table case.index.events
         (length case.index.events)) }
 {
     let gate = gate_of(rt, words)?;
@@ -114,58 +163,26 @@ pub(crate) fn case_in(rt: &HostRuntime, words: &str) -> Result<Case, Fail>
     case
 }
 
-/// Passes the events through the gate, one after another.
-fn offer_all(gate: &mut Gate, events: &[Event]) -> Result<(), Fail> {
-    for event in events {
-        if !offer(gate, event)? {
-            return Err("an event is not lawful".into());
-        }
-    }
-    Ok(())
-}
-
-/// The same, so many times.
-fn offer_times(gate: &mut Gate, events: &[Event], times: u32) -> Result<(), Fail> {
-    for _ in 0..times {
-        offer_all(gate, events)?;
-    }
-    Ok(())
-}
-
-/// Passes the events of the words through the gate, so many times.
-pub(crate) fn offer_words(
-    alloc: Global,
-    gate: &mut Gate,
-    words: &str,
-    times: u32,
-) -> Result<(), Fail> {
-    let events = read_events(alloc, words.as_bytes())?;
-    let offered = offer_times(gate, &events, times);
-    drop(events);
-    offered
-}
-
-pub(crate) fn empty_gate(rt: &HostRuntime) -> Result<Gate, Fail> {
-    Ok(Gate::new(rt.alloc(), RandomState::new(rt)?, MAX_EVENTS))
+pub(crate) fn empty_gate(rt: &HostRuntime) -> Option<Gate> {
+    let state = RandomState::new(rt).ok()?;
+    Some(Gate::new(rt.alloc(), state, MAX_EVENTS))
 }
 
 /// A gate that the events of the words passed.
-pub(crate) fn gate_of(rt: &HostRuntime, words: &str) -> Result<Gate, Fail> {
+pub(crate) fn gate_of(rt: &HostRuntime, words: &str) -> Option<Gate> {
     let mut gate = empty_gate(rt)?;
-    kept_if(offer_words(rt.alloc(), &mut gate, words, 1), gate)
+    some_if(accepts_words(rt.alloc(), &mut gate, words, 1), gate)
 }
 
 /// A gate that the trace of opposite orders passed, its sections so many times.
-pub(crate) fn gate_of_rounds(rt: &HostRuntime, times: u32) -> Result<Gate, Fail> {
+pub(crate) fn gate_of_rounds(rt: &HostRuntime, times: u32) -> Option<Gate> {
     let mut gate = gate_of(rt, FORKS)?;
-    kept_if(offer_words(rt.alloc(), &mut gate, SECTIONS, times), gate)
+    some_if(accepts_words(rt.alloc(), &mut gate, SECTIONS, times), gate)
 }
 
-/// A gate that these events passed, after the forks of the threads 1 to 8.
-pub(crate) fn gate_after_forks(rt: &HostRuntime, events: &[Event]) -> Result<Gate, Fail> {
-    let mut gate = gate_of(rt, "0f1 0f2 0f3 0f4 0f5 0f6 0f7 0f8")?;
-    kept_if(offer_all(&mut gate, events), gate)
-}
+/// What a test needs cannot be made: memory is lacking, or a number is none of the trace.
+#[derive(Drop)]
+pub(crate) struct Unmade;
 
 /// The instance, and the witness of what its fronts hold.
 fn witnessed(
@@ -210,13 +227,16 @@ fn found_from<L: Ledger>(
 }
 
 /// The same, where each number is that of a dependency.
-pub(crate) fn found_of(alloc: Global, case: &Case, cycle: &Cycle) -> Result<Option<Found>, Fail>
+pub(crate) fn found_of(alloc: Global, case: &Case, cycle: &Cycle) -> Result<Option<Found>, Unmade>
     requires { FollowsTrace case.now.table case.now.index.events (length case.now.index.events) }
 {
     if are_known(&case.table, cycle.numbers()) {
-        Ok(found_from::<Brand>(alloc, case, cycle, Blank::new(1))?)
+        match found_from::<Brand>(alloc, case, cycle, Blank::new(1)) {
+            Ok(found) => Ok(found),
+            Err(_) => Err(Unmade),
+        }
     } else {
-        Err("an unknown number".into())
+        Err(Unmade)
     }
 }
 
@@ -257,11 +277,11 @@ pub(crate) fn closure_of(
     alloc: Global,
     index: &TraceIndex,
     places: &[Place],
-) -> Result<Vec<Place>, Fail> {
+) -> Option<Vec<Place>> {
     if are_in_trace(index, places) {
-        Ok(closure_from::<Brand>(alloc, index, places, Blank::new(1))?)
+        closure_from::<Brand>(alloc, index, places, Blank::new(1)).ok()
     } else {
-        Err("a place beyond the trace".into())
+        None
     }
 }
 

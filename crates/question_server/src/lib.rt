@@ -4,10 +4,9 @@
 mod connections;
 mod duties;
 mod rest;
-mod seats;
 mod service;
 mod serving;
-mod workers;
+mod spares;
 
 pub use service::{ServerFault, Service, Unheld};
 pub use serving::run_server;

@@ -4,21 +4,23 @@ ghost use Rattle.sequencer.specs.Book.{IsLimit};
 ghost use Rattle.question_server.specs.Service.{IsWorkers};
 
 use crate::duties::{DeskDuties, Duties};
-use crate::seats::{MAX_SEATS, Seats};
 use crate::service::{ServerFault, Service};
-use crate::workers::make_workers;
+use crate::spares::Spares;
 use board::{Naming, Opened, Shown};
-use desk::{Desk, Worker};
+use desk::Desk;
 use findings::Hold;
 use std::alloc::Global;
 use std::hash::RandomState;
 use std::marker::Brand;
 use std::net::TcpListener;
-use std::sync::atomic::AtomicU64;
+use std::sync::atomic::{AtomicU64, Ordering};
 use std::sync::{Arc, Mutex, Wait};
 use std::thread;
 use std::thread::Threads;
 use std::time::Clock;
+
+/// The most sessions at a time.
+const MAX_SEATS: u64 = 16;
 
 /// Takes sessions, each in a thread of its own, up to so many, and answers how many they were once
 /// they have ended. A connection for which there is no seat or no thread is closed and not counted.
@@ -28,20 +30,24 @@ fn take_sessions<R: Threads + Wait, D: Duties>(
     most: u64,
     duties: &D,
 ) -> Result<u64, ServerFault> {
+    let seated = AtomicU64::new(0);
+    let seated = &seated;
     thread::scope(thread::scope_env(), rt, |scope| {
         let mut taken = 0u64;
         for stream in listener.incoming() {
             let Ok(stream) = stream else {
                 return Err(ServerFault::Listen);
             };
-            let Some(guest) = duties.take_seat() else {
+            if seated.load(Ordering::SeqCst) >= MAX_SEATS {
                 continue;
+            }
+            seated.fetch_add(1, Ordering::SeqCst);
+            let session = move || {
+                duties.hold_session(stream);
+                seated.fetch_sub(1, Ordering::SeqCst);
             };
-            if scope
-                .spawn(move || duties.hold_session(guest, stream))
-                .is_err()
-            {
-                duties.leave_seat();
+            if scope.spawn(session).is_err() {
+                seated.fetch_sub(1, Ordering::SeqCst);
                 continue;
             }
             taken = taken.saturating_add(1);
@@ -53,28 +59,29 @@ fn take_sessions<R: Threads + Wait, D: Duties>(
     })
 }
 
-/// Runs the workers and takes sessions, and stops the workers once the sessions have ended.
+/// Runs the workers and takes sessions, and sets the flag that stops the workers once the sessions
+/// have ended.
 fn run_threads<R: Threads + Wait, D: Duties>(
     rt: &R,
     listener: &TcpListener,
-    most: u64,
-    workers: Vec<D::Worker>,
+    service: Service,
+    stop: &AtomicU64,
     duties: &D,
 ) -> Result<u64, ServerFault> {
     thread::scope(thread::scope_env(), rt, |scope| {
-        for worker in workers {
-            if scope.spawn(move || duties.work(worker)).is_err() {
-                duties.stop_workers();
+        for _ in 0..service.workers {
+            if scope.spawn(move || duties.work()).is_err() {
+                stop.store(1, Ordering::SeqCst);
                 return Err(ServerFault::NotMade);
             }
         }
-        let served = take_sessions(rt, listener, most, duties);
-        duties.stop_workers();
+        let served = take_sessions(rt, listener, u64::from(service.sessions), duties);
+        stop.store(1, Ordering::SeqCst);
         served
     })
 }
 
-/// Serves the desk by these workers and by the sessions that come.
+/// Serves the desk by its workers and by the sessions that come.
 fn serve_desk<
     N: Naming + Send + Sync,
     R: Threads + Wait + Clock + Copy + Send + Sync,
@@ -83,10 +90,9 @@ fn serve_desk<
     rt: R,
     alloc: Global,
     listener: &TcpListener,
-    most: u64,
+    service: Service,
     desk: &Arc<Desk<N, R, Shown<N>>>,
-    workers: Vec<Worker<N, R, Shown<N>>>,
-    seats: &Mutex<Seats<N>>,
+    spares: &Mutex<Spares<N>>,
     hold: &H,
 ) -> Result<u64, ServerFault> {
     let stop = AtomicU64::new(0);
@@ -94,11 +100,11 @@ fn serve_desk<
         rt,
         alloc,
         desk,
-        seats,
+        spares,
         hold,
         stop: &stop,
     };
-    run_threads(&rt, listener, most, workers, &duties)
+    run_threads(&rt, listener, service, &stop, &duties)
 }
 
 /// Makes the desk of this history, and serves it.
@@ -119,8 +125,8 @@ fn serve_named<
     requires limit { service.limit ≡ N.limit }
     requires workers { IsWorkers service.workers }
 {
-    let count = MAX_SEATS + service.workers as usize;
-    let Ok((desk, mut readers)) = Desk::<N, R, Shown<N>>::new(
+    let count = MAX_SEATS as usize + service.workers as usize;
+    let Ok((desk, readers)) = Desk::<N, R, Shown<N>>::new(
         alloc,
         state,
         rt,
@@ -134,18 +140,14 @@ fn serve_named<
         drop(readers);
         return Err(ServerFault::NotMade);
     };
-    let served = match make_workers(alloc, &desk, &mut readers, service.workers) {
-        Ok(workers) => {
-            let seats = Mutex::new(Seats::new(readers));
-            let most = u64::from(service.sessions);
-            let served = serve_desk(rt, alloc, listener, most, &desk, workers, &seats, hold);
-            drop(seats);
+    let served = match Spares::new(alloc, service.workers, readers) {
+        Ok(spares) => {
+            let spares = Mutex::new(spares);
+            let served = serve_desk(rt, alloc, listener, service, &desk, &spares, hold);
+            drop(spares);
             served
         }
-        Err(fault) => {
-            drop(readers);
-            Err(fault)
-        }
+        Err(fault) => Err(fault),
     };
     drop(desk);
     served

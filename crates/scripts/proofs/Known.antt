@@ -28,3 +28,7 @@ still_known s new number bound events task rows refused is known =
 
 pub known_as : (s : State) (n m : ℕ) (e f : Trace) → n ≡ m → e ≡ f → AreKnown s n e → AreKnown s m f
 known_as s n m e f p q known = subst (AreKnown s m) q (subst (λ k. AreKnown s k e) p known)
+
+-- the events that a question is found to be about
+pub known_of : (s : State) (number : ℕ) (events : Trace) (q : Question) → slice_get s.questions number ≡ Some q → events ≡ take q.length s.accepted → AreKnown s number events
+known_of s number events q at is = λ other found. is ∙ ap (λ (t : Question). take t.length s.accepted) (same_Some q other (sym at ∙ found))

@@ -15,11 +15,11 @@ push_reserved-requires g c =
 
 pub loop-finding-init : goal.loop-finding-init
 loop-finding-init g c = record {
-  are = none_yet g.N.Naming.limit _ _ (c.in-Ok.ensures.items ∙ c.new-outcomes.ensures.items);
+  are = none_yet g.N.Naming.limit _ _ c.in-Ok.ensures.items;
   run = sym (append-nil c.args.self.now.published);
   after = subst (λ (k : Kept). After g.N.Naming.limit k.published k.state) c.self.view_is c.self.invariant.after;
   rest = c.into_iter-finding-iterator.ensures.into_iter_gives.0;
-  room = omega (arith, c.in-Ok.ensures.ok, c.in-Ok.ensures.len, c.new-outcomes.ensures.len, c.len.ensures, ap length c.into_iter-finding-iterator.ensures.into_iter_gives.0);
+  room = omega (arith, c.in-Ok.ensures.capacity, c.in-Ok.ensures.len, c.len.ensures, ap length c.into_iter-finding-iterator.ensures.into_iter_gives.0);
 }
 
 pub loop-finding-preserved : goal.loop-finding-preserved
@@ -54,7 +54,7 @@ returns-in_default g c =
       receipt = tt;
       back = refl;
       same = refl;
-      some = grind (arith, c.in_default.ensures.succeeds, c.new-outcomes.ensures.len, c.len.ensures);
+      some = grind (arith, c.in_default.ensures.succeeds, c.len.ensures);
       legal = subst (λ (x : Kept). IsLegal x.published) c.self.view_is (legal_kept limit b.published b.waiting c.self.inside.book.state k);
     }
 
