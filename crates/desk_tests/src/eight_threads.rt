@@ -154,6 +154,6 @@ pub(crate) fn accepts_all<D: TestDesk, R: Threads + Abort + Sync>(
 ) -> Result<(), Fail> {
     let places = places_at_once(rt, alloc, desk, reader, how)?;
     assert!(rt; are_all_given(&places, how));
-    assert!(rt; accepted(reader) == Some(offered_by_all(how)));
+    assert_eq!(rt; accepted(reader), Some(offered_by_all(how)));
     Ok(())
 }

@@ -114,7 +114,7 @@ fn output_that_fails(rt: HostRuntime) -> Result<(), Fail> {
         let mut err = Vec::new(rt.alloc());
         let file = b"0f1 0f2\n";
         let status = run_script(rt.alloc(), state, "FILE", file, LIMIT, &mut out, &mut err);
-        assert!(rt; status.code() == 1);
+        assert_eq!(rt; status.code(), 1);
         assert!(rt; err.is_empty());
     }
     Ok(())

@@ -25,7 +25,7 @@ fn one_event_more(rt: HostRuntime) -> Result<(), Fail> {
     let mut file = longest(rt.alloc())?;
     file.extend_from_slice(b"1w7\n")?;
     let outcome = offline(&rt, &file)?;
-    assert!(rt; outcome.status == 1);
+    assert_eq!(rt; outcome.status, 1);
     assert!(rt; outcome.out.as_slice() == b"refused 1 Full at 1048576\n".as_slice());
     Ok(())
 }

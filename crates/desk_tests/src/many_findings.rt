@@ -282,7 +282,7 @@ fn takes_list<D: TestDesk, R: Abort>(
     let (list, refusals, counts) = wanted;
     let findings = stranger.findings(list).ok_or("findings")?;
     let (outcomes, receipts) = delivered(stranger.alloc, desk, findings, way)?;
-    assert!(rt; outcomes.as_slice() == refusals);
+    assert_eq!(rt; outcomes.as_slice(), refusals);
     learn_all::<D>(reader, &receipts);
     drop(receipts);
     reads(rt, reader, counts)
@@ -301,8 +301,14 @@ type Counts = (u32, u64, u64);
 fn reads(rt: &impl Abort, reader: &mut impl TestReader, counts: Counts) -> Result<(), Fail> {
     let summary = reader.status().ok_or("busy")?;
     let question = summary.question(0).ok_or("a question")?;
-    assert!(rt; (question.length, question.bound.get(), question.total) == (10, 2, 2));
-    assert!(rt; (question.delivered, question.cycles, question.confirmed) == counts);
+    assert_eq!(rt;
+        (question.length, question.bound.get(), question.total),
+        (10, 2, 2)
+    );
+    assert_eq!(rt;
+        (question.delivered, question.cycles, question.confirmed),
+        counts
+    );
     Ok(())
 }
 
@@ -387,9 +393,9 @@ const OUTCOMES: [(Option<Refusal>, u32); 4] = [
 ];
 
 fn are_refused(rt: &impl Abort, outcomes: &[Option<Refusal>]) {
-    assert!(rt; outcomes.len() == 32);
+    assert_eq!(rt; outcomes.len(), 32);
     for (outcome, count) in OUTCOMES {
-        assert!(rt; count_of(outcomes, outcome) == count);
+        assert_eq!(rt; count_of(outcomes, outcome), count);
     }
 }
 

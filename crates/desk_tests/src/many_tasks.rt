@@ -86,7 +86,7 @@ fn tasks_on_two_threads(rt: HostRuntime) -> Result<(), Fail> {
         meeting: Meeting::new(),
     };
     assert!(rt; report_held(&rt, &hold)?.starts_with(FIRST));
-    assert!(rt; hold.meeting.came().0 == 1);
+    assert_eq!(rt; hold.meeting.came().0, 1);
     assert!(rt; !hold.meeting.gave_up());
     Ok(())
 }
@@ -101,8 +101,8 @@ fn tells_as_pieces(
     for piece in &pieces {
         text.extend_from_slice(piece)?;
     }
-    assert!(rt; text.as_slice() == REPORT);
-    assert!(rt; offline.report(rt, &Unshown)?.as_slice() == REPORT);
+    assert_eq!(rt; text.as_slice(), REPORT);
+    assert_eq!(rt; offline.report(rt, &Unshown)?.as_slice(), REPORT);
     Ok(())
 }
 
@@ -111,7 +111,7 @@ fn a_report_in_pieces(rt: HostRuntime) -> Result<(), Fail> {
     let events = read_events(rt.alloc(), OPPOSITE_ORDERS.as_bytes())?;
     let two = Bound::new(2).expect(&rt, "a bound is 2 to 8");
     let offline = Offline::open(&rt, rt.alloc(), RandomState::new(&rt)?, events, two)?;
-    assert!(rt; offline.tasks() == 2);
+    assert_eq!(rt; offline.tasks(), 2);
     let told = tells_as_pieces(&rt, &offline);
     drop(offline);
     told

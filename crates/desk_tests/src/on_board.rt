@@ -95,9 +95,9 @@ fn reads_one<N: Naming, R: Wait + Abort + Copy>(
     let Ok(summary) = reader.status() else {
         return Err(Fail::from("busy"));
     };
-    assert!(rt; summary.accepted == 1);
-    assert!(rt; summary.opened == 0);
+    assert_eq!(rt; summary.accepted, 1);
+    assert_eq!(rt; summary.opened, 0);
     assert!(rt; summary.question(0).is_none());
-    assert!(rt; writer.summary().accepted == 1);
+    assert_eq!(rt; writer.summary().accepted, 1);
     Ok(())
 }

@@ -27,8 +27,8 @@ fn answered<D: TestDesk, R: Wait + Abort>(
     let mut sink = MemorySink::new(alloc);
     let (desk, reader) = desk.shared().zip(readers.pop()).ok_or("a client")?;
     let (ended, reader) = desk.hold_session(rt, alloc, &mut source, &mut sink, reader);
-    assert!(rt; ended == Ok(Ended::Input));
-    assert!(rt; sink.bytes() == wanted.as_slice());
+    assert_eq!(rt; ended, Ok(Ended::Input));
+    assert_eq!(rt; sink.bytes(), wanted.as_slice());
     readers.push(reader)?;
     Ok(())
 }

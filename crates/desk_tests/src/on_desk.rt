@@ -30,9 +30,9 @@ pub(crate) fn refuses_in_script<D: TestDesk, R: Abort>(
     reader: &mut D::Reader,
 ) -> Result<(), Fail> {
     for (thread, op, reply) in SCRIPT {
-        assert!(rt; placed(desk, reader, event(thread, op)) == reply);
+        assert_eq!(rt; placed(desk, reader, event(thread, op)), reply);
     }
-    assert!(rt; accepted(reader) == Some(6));
+    assert_eq!(rt; accepted(reader), Some(6));
     Ok(())
 }
 
@@ -83,7 +83,7 @@ fn limits_of_a_desk(rt: HostRuntime) -> Result<(), Fail> {
             limit,
             readers,
         );
-        assert!(rt; made == refused);
+        assert_eq!(rt; made, refused);
     }
     Ok(())
 }
@@ -116,11 +116,11 @@ pub(crate) fn reports_repetitions<D: TestDesk, R: Abort>(
     reader: &mut D::Reader,
 ) -> Result<(), Fail> {
     assert!(rt; accepts_repetitions(desk, reader));
-    assert!(rt; accepted(reader) == Some(1602));
+    assert_eq!(rt; accepted(reader), Some(1602));
     delivers_both(rt, alloc, desk)?;
-    assert!(rt; missing(desk, 0) == Some(None));
-    assert!(rt; missing(desk, 1) == None);
-    assert!(rt; refusal_of_snapshot(desk, 1) == Some(Refusal::NoSuchQuestion));
+    assert_eq!(rt; missing(desk, 0), Some(None));
+    assert_eq!(rt; missing(desk, 1), None);
+    assert_eq!(rt; refusal_of_snapshot(desk, 1), Some(Refusal::NoSuchQuestion));
     assert!(rt; reports_all(alloc, desk)?);
     Ok(())
 }
@@ -156,8 +156,8 @@ const OPENED: Opened = Opened {
 
 /// Question 0 is opened. It answers how many tasks it has.
 fn opens<D: TestDesk, R: Abort>(rt: &R, desk: &D) -> u32 {
-    assert!(rt; asked(desk, 1) == Err(AskRefused::BadBound));
-    assert!(rt; asked(desk, 2) == Ok(OPENED));
+    assert_eq!(rt; asked(desk, 1), Err(AskRefused::BadBound));
+    assert_eq!(rt; asked(desk, 2), Ok(OPENED));
     OPENED.total
 }
 
@@ -176,7 +176,7 @@ fn delivers<D: TestDesk, R: Abort>(
     bound: Bound,
     task: u32,
 ) -> Result<(), Fail> {
-    assert!(rt; missing(desk, 0) == Some(Some(task)));
+    assert_eq!(rt; missing(desk, 0), Some(Some(task)));
     assert!(rt; matches!(answer(desk), Ok(Answer::Pending { .. })));
     let finding = finding_of(alloc, desk, bound, task).ok_or("a finding")?;
     assert!(rt; takes(desk, finding));

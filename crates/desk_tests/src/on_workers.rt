@@ -29,7 +29,7 @@ pub(crate) fn two_meet<D: TestDesk, R: Threads + Abort + Sync>(
 ) -> Result<(), Fail> {
     assert!(rt; asks_about_opposite_orders(desk, reader));
     let meeting = all_meet(rt, alloc, desk, others)?;
-    assert!(rt; meeting.came() == (1, 1));
+    assert_eq!(rt; meeting.came(), (1, 1));
     assert!(rt; !meeting.gave_up());
     assert!(rt; reports(desk, REPORT));
     Ok(())
@@ -60,7 +60,7 @@ pub(crate) fn all_deliver<W: TestWorker + Send, R: Threads + Abort + Sync>(
 ) -> Result<(), Fail> {
     let turns = thread::map_vec(rt, workers, &|worker| turn_of(worker, hold))?;
     for turn in &turns {
-        assert!(rt; *turn == Turn::Delivered);
+        assert_eq!(rt; *turn, Turn::Delivered);
     }
     Ok(())
 }
@@ -68,7 +68,7 @@ pub(crate) fn all_deliver<W: TestWorker + Send, R: Threads + Abort + Sync>(
 /// Each of them finds nothing to do.
 fn all_are_idle<W: TestWorker>(rt: &impl Abort, workers: Vec<W>, hold: &impl Hold) {
     for worker in workers {
-        assert!(rt; turn_of(worker, hold) == Turn::Idle);
+        assert_eq!(rt; turn_of(worker, hold), Turn::Idle);
     }
 }
 
@@ -115,7 +115,7 @@ fn works_alone<D: TestDesk, R: Abort>(
 
 fn delivers_what_is_drawn(rt: &impl Abort, gone: &mut Claimant, worker: &mut impl TestWorker) {
     for task in 0..2u64 {
-        assert!(rt; gone.draw(0).ok() == Some(task));
+        assert_eq!(rt; gone.draw(0).ok(), Some(task));
     }
     delivers_two(rt, worker);
 }

@@ -110,8 +110,8 @@ fn offers<D: TestDesk, R: Abort>(rt: &R, desk: &D, reader: &mut D::Reader, event
     if first.is_ok() {
         return;
     }
-    assert!(rt; first.err() == Some(Refusal::NoMemory));
-    assert!(rt; shown(reader) == before);
+    assert_eq!(rt; first.err(), Some(Refusal::NoMemory));
+    assert_eq!(rt; shown(reader), before);
     assert!(rt; offer(desk, reader, event).is_ok());
 }
 
@@ -125,8 +125,8 @@ fn asks<D: TestDesk, R: Abort>(rt: &R, desk: &D, reader: &mut D::Reader) {
     if first.is_ok() {
         return;
     }
-    assert!(rt; first.err() == Some(AskRefused::NoMemory));
-    assert!(rt; shown(reader) == before);
+    assert_eq!(rt; first.err(), Some(AskRefused::NoMemory));
+    assert_eq!(rt; shown(reader), before);
     assert!(rt; asked(desk, 2).is_ok());
 }
 
@@ -143,9 +143,9 @@ fn delivers<D: TestDesk, R: Abort>(
     if turn == Turn::Delivered {
         return true;
     }
-    assert!(rt; turn == Turn::Failed(Failed::NoMemory));
-    assert!(rt; shown(reader) == before);
-    assert!(rt; missing(desk, 0) == Some(Some(done)));
+    assert_eq!(rt; turn, Turn::Failed(Failed::NoMemory));
+    assert_eq!(rt; shown(reader), before);
+    assert_eq!(rt; missing(desk, 0), Some(Some(done)));
     false
 }
 
@@ -160,8 +160,8 @@ fn works<D: TestDesk, R: Abort>(rt: &R, desk: &D, reader: &mut D::Reader, worker
             done = done.saturating_add(1);
         }
     }
-    assert!(rt; done == 2);
-    assert!(rt; worker.turn(&Free) == Turn::Idle);
+    assert_eq!(rt; done, 2);
+    assert_eq!(rt; worker.turn(&Free), Turn::Idle);
 }
 
 /// Gets the report, again where that was answered `NoMemory`. The board then shows what it showed
@@ -170,7 +170,7 @@ fn answers<D: TestDesk, R: Abort>(rt: &R, desk: &D, reader: &mut D::Reader) {
     let before = shown(reader);
     let mut first = answer(desk);
     if matches!(first, Err(AnswerRefused::NoMemory)) {
-        assert!(rt; shown(reader) == before);
+        assert_eq!(rt; shown(reader), before);
         first = answer(desk);
     }
     assert!(rt; is_report(&first, REPORT));

@@ -29,8 +29,8 @@ fn offers(rt: &impl Abort, book: &mut Book, thread: u32, op: Op) {
     let Err(refused) = book.offer(event(thread, op)) else {
         return;
     };
-    assert!(rt; refused == Refusal::NoMemory);
-    assert!(rt; book.len() == before);
+    assert_eq!(rt; refused, Refusal::NoMemory);
+    assert_eq!(rt; book.len(), before);
     assert!(rt; book.offer(event(thread, op)).is_ok());
 }
 
@@ -98,10 +98,10 @@ fn shares_events(book: &Book) -> Option<bool> {
 /// Fills the book, asks, and looks at what the question is about.
 fn grows(rt: &impl Abort, book: &mut Book) -> Result<(), Fail> {
     fills(rt, book);
-    assert!(rt; book.len() == EVENTS as usize);
+    assert_eq!(rt; book.len(), EVENTS as usize);
     let opened = asked(book).ok_or("a question")?;
-    assert!(rt; (opened.length, opened.total) == (EVENTS, DEPENDENCIES));
-    assert!(rt; shares_events(book) == Some(true));
+    assert_eq!(rt; (opened.length, opened.total), (EVENTS, DEPENDENCIES));
+    assert_eq!(rt; shares_events(book), Some(true));
     Ok(())
 }
 

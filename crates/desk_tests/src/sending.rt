@@ -62,8 +62,8 @@ fn replies_are_sent_before_the_next_read(rt: HostRuntime) -> Result<(), Fail> {
     let mut sink = WriteSink::new(Counted { written });
     let session = serve_anew(&rt, &mut source, &mut sink)?;
     drop(source);
-    assert!(rt; session.ended == Ok(Ended::Input));
+    assert_eq!(rt; session.ended, Ok(Ended::Input));
     // each reply has 9 bytes; the fourth read finds the end
-    assert!(rt; noted.as_slice() == [0, 9, 18, 27].as_slice());
+    assert_eq!(rt; noted.as_slice(), [0, 9, 18, 27].as_slice());
     Ok(())
 }

@@ -79,7 +79,7 @@ fn nothing_is_read_after_a_fault(rt: HostRuntime) -> Result<(), Fail> {
         for goes_on in [true, false] {
             let (session, sink, reads) = session_of(&rt, bytes, goes_on)?;
             assert!(rt; session.ended == Ok(Ended::Frame(fault)) && reads == 1);
-            assert!(rt; sink.bytes() == [0, 0, 0, 2, 71, number].as_slice());
+            assert_eq!(rt; sink.bytes(), [0, 0, 0, 2, 71, number].as_slice());
         }
     }
     Ok(())
@@ -101,6 +101,6 @@ fn a_full_piece_cuts_no_frame(rt: HostRuntime) -> Result<(), Fail> {
     let mut sink = MemorySink::new(rt.alloc());
     let session = serve_anew(&rt, &mut source, &mut sink)?;
     assert!(rt; session.ended == Ok(Ended::Input) && session.events == 400);
-    assert!(rt; sink.bytes().len() == 3_600);
+    assert_eq!(rt; sink.bytes().len(), 3_600);
     Ok(())
 }

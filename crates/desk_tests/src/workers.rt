@@ -67,7 +67,7 @@ pub(crate) fn one_worker<D: TestDesk>(
 /// The worker does two tasks, and then finds nothing to do.
 pub(crate) fn delivers_two(rt: &impl Abort, worker: &mut impl TestWorker) {
     for turn in [Turn::Delivered, Turn::Delivered, Turn::Idle] {
-        assert!(rt; worker.turn(&Free) == turn);
+        assert_eq!(rt; worker.turn(&Free), turn);
     }
 }
 

@@ -1,6 +1,6 @@
 //! Tests of the search for cycles.
 
-ghost use Rattle.std.specs.Prelude.{◌<◌, length, IfOk, IfSome};
+ghost use Rattle.std.specs.Prelude.{◌<◌, length, IfSome};
 ghost use Rattle.std.specs.Arc.{arc_value};
 ghost use Rattle.dependencies.specs.Tables.{known};
 ghost use Rattle.lock_graph.specs.Graph.{HasGraphOf};
@@ -362,8 +362,8 @@ fn is_refused_within(rt: &HostRuntime, most: usize) -> Option<bool> {
 
 #[test]
 fn too_many_cycles_are_refused(rt: HostRuntime) {
-    assert!(rt; is_refused_within(&rt, 2) == Some(true));
-    assert!(rt; is_refused_within(&rt, 3) == Some(false));
+    assert_eq!(rt; is_refused_within(&rt, 2), Some(true));
+    assert_eq!(rt; is_refused_within(&rt, 3), Some(false));
 }
 
 /// Whether the first two dependencies of the trace of these sections have one rank; none where
@@ -382,8 +382,8 @@ const IN_OPPOSITE_ORDERS: [Sections; 2] = [Nested(1, 10, 20), Nested(2, 20, 10)]
 
 #[test]
 fn ranks_part_locks_of_one_order(rt: HostRuntime) {
-    assert!(rt; have_one_rank(&rt, &IN_ONE_ORDER) == Some(false));
-    assert!(rt; have_one_rank(&rt, &IN_OPPOSITE_ORDERS) == Some(true));
+    assert_eq!(rt; have_one_rank(&rt, &IN_ONE_ORDER), Some(false));
+    assert_eq!(rt; have_one_rank(&rt, &IN_OPPOSITE_ORDERS), Some(true));
 }
 
 // Thread 1 first takes the locks 1, 2 and 10, each in the one before.

@@ -59,6 +59,6 @@ fn each_task_once(rt: HostRuntime) {
 #[test]
 fn no_task_is_settled_at_once(rt: HostRuntime) {
     let ledger = Ledger::open(rt.alloc(), 0).expect(&rt, "a ledger");
-    assert!(rt; state(&ledger) == (None, 0, Some(0)));
+    assert_eq!(rt; state(&ledger), (None, 0, Some(0)));
     drop(ledger);
 }

@@ -74,7 +74,7 @@ fn is_rightly_bounded(most: u8) -> bool {
 #[test]
 fn bounds_are_two_to_eight(rt: HostRuntime) {
     for most in 0..=u8::MAX {
-        assert!(rt; is_rightly_bounded(most));
+        assert!(rt; is_rightly_bounded(most), "bound {most}");
     }
 }
 

@@ -23,6 +23,6 @@ fn is_flat(rt: &HostRuntime, events: &str) -> Option<bool> {
 #[test]
 fn flat_traces_have_no_inner_acquire(rt: HostRuntime) {
     for (events, wanted) in &TRACES {
-        assert!(rt; is_flat(&rt, events) == Some(*wanted));
+        assert_eq!(rt; is_flat(&rt, events), Some(*wanted), "{events}");
     }
 }

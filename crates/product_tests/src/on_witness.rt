@@ -244,7 +244,7 @@ fn finds_three_hundredth(alloc: Global, case: &Case) -> bool
 #[test]
 fn three_hundred_sections(rt: HostRuntime) {
     let case = three_hundred(&rt).expect(&rt, "a case");
-    assert!(rt; case.index.len() == 2406);
+    assert_eq!(rt; case.index.len(), 2406);
     assert!(rt; finds_three_hundredth(rt.alloc(), &case));
     drop(case);
 }
@@ -379,6 +379,6 @@ const REPORTED: [Reported; 4] = [
 #[test]
 fn reported_texts(rt: HostRuntime) {
     for reported in &REPORTED {
-        assert!(rt; is_reported(&rt, reported));
+        assert!(rt; is_reported(&rt, reported), "{}", reported.0);
     }
 }
