@@ -57,6 +57,45 @@ pub legal_next : (limit : ℕ) (run waiting shown : List BoardStep) (s next : St
 legal_next limit run waiting shown s next added kept takes is =
     legal_kept limit shown [] next (kept_on limit run waiting shown [] s next added kept takes is refl)
 
+-- a call changed nothing of what lies under the lock, and this is so of the machine before it
+pub record Stays (limit : ℕ) (now next : Kept) (so : State → Type 0) : Type 0 where
+  pub before : After limit now.published now.state
+  pub after : After limit next.published next.state
+  pub is : so now.state
+  pub same : next ≡ now
+  pub legal : IsLegal next.published
+
+pub stays : (limit : ℕ) (run waiting shown : List BoardStep) (s next : State) (now : Kept) (so : State → Type 0) → IsKept limit run waiting s → record { published = run; state = s } ≡ now →
+    shown ≡ run → next ≡ s → so s → Stays limit now (record { published = shown; state = next }) so
+stays limit run waiting shown s next now so kept view same_run same_state is =
+    let before = after_shown limit _ now view kept.after in
+    let same = (λ i. record { published = same_run i; state = same_state i }) ∙ view in
+    record {
+      before = before;
+      after = after_shown limit now _ (sym same) before;
+      is = subst (λ (x : Kept). so x.state) view is;
+      same = same;
+      legal = subst IsLegal (sym same_run) (legal_kept limit run waiting s kept);
+    }
+
+-- a call published one more step, and this is so of the machine before it
+pub record Goes (limit : ℕ) (now next : Kept) (added : BoardStep) (so : State → Type 0) : Type 0 where
+  pub before : After limit now.published now.state
+  pub after : After limit next.published next.state
+  pub is : so now.state
+  pub published : next.published ≡ now.published ++ added ∷ []
+  pub legal : IsLegal next.published
+
+pub goes : (limit : ℕ) (run waiting shown rest : List BoardStep) (s next : State) (now : Kept) (added : BoardStep) (so : State → Type 0) → IsKept limit run waiting s → record { published = run; state = s } ≡ now →
+    IsKept limit shown rest next → shown ≡ run ++ added ∷ [] → so s → Goes limit now (record { published = shown; state = next }) added so
+goes limit run waiting shown rest s next now added so kept view went published is = record {
+  before = after_shown limit _ now view kept.after;
+  after = went.after;
+  is = subst (λ (x : Kept). so x.state) view is;
+  published = published ∙ ap (λ (x : Kept). x.published ++ added ∷ []) view;
+  legal = legal_kept limit shown rest next went;
+}
+
 -- ---- what the machine takes
 
 pub takes_offer : (s now next : State) (e : Event) → now ≡ s → refusal_of s.limit s.accepted e ≡ None → next ≡ with_event now e → Takes s (Accept (e ∷ [])) next

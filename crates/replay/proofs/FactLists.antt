@@ -21,6 +21,10 @@ pub length-each : {X : Type 0} (f : ℕ → X) (n : ℕ) → length (each f n) �
 length-each f zero = refl
 length-each f (suc n) = length-push (each f n) (f n) ∙ ap suc (length-each f n)
 
+-- so a list that is made so far is as long
+pub has_each : {X : Type 0} (f : ℕ → X) (n : ℕ) (xs : List X) → xs ≡ each f n → length xs ≡ n
+has_each f n xs is = ap length is ∙ length-each f n
+
 pub get-each : {X : Type 0} (f : ℕ → X) (n q : ℕ) → q < n → slice_get (each f n) q ≡ Some (f q)
 get-each f zero q l = absurd (omega arith)
 get-each f (suc n) q l =

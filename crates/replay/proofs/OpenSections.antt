@@ -1,10 +1,9 @@
 -- The pass over the trace keeps the sections that are open.
-use Rattle.std.proofs.Common.{◌≡◌, ◌≢◌, ℕ, zero, suc, ◌-◌, ◌<◌, inl, inr, Bool, true, false, cond, ◌==◌, ltb, leb, List, [], ◌++◌, replicate, length, take, slice_get, Option, Some, None, refl, sym, ap, subst, ◌∙◌, arith}
+use Rattle.std.proofs.Common.{◌≡◌, ◌≢◌, ℕ, zero, suc, ◌-◌, ◌<◌, inl, inr, Bool, true, false, cond, ◌==◌, ltb, leb, List, replicate, length, take, slice_get, Option, Some, None, refl, sym, ap, subst, ◌∙◌, arith}
 use Rattle.std.specs.Prelude.{IfSome}
 use Rattle.std.specs.Option.{option_and_then}
 use Rattle.std.proofs.lemmas.Bool.{cases_lt, cases_eq, eqb-true, eqb-false, leb-true, leb-false, lt-ltb, ltb-true, ltb-false}
 use Rattle.std.proofs.lemmas.List.{length-set}
-use Rattle.std.proofs.Math.Seq.{take-nil}
 use Rattle.std.proofs.lemmas.Option.{none-some, same_Some, slice_get_within}
 use Rattle.trace_model.specs.declared.traces.event.Event.{Event}
 use Rattle.trace_model.specs.declared.traces.event.Op.{Op}
@@ -345,12 +344,6 @@ releases_more s n rs (Some a) sized so from h q below = elim (cases_eq a q) [
 pub length-with_end : (rs : List (Option ℕ)) (ended : Option ℕ) (n : ℕ) → length (with_end rs ended n) ≡ length rs
 length-with_end rs None n = refl
 length-with_end rs (Some a) n = length-set rs a (Some n)
-
--- a list that grows from an empty one to n times the same
-pub blank_is : {X : Type 0} (x : X) (n k : ℕ) (old new : List X) → old ≡ [] → k ≡ 0 → new ≡ take n old ++ replicate (n - k) x → new ≡ replicate n x
-blank_is x n k old new e f g =
-    let all : n - k ≡ n = omega (arith, f) in
-    g ∙ rw (e, all) (ap (λ xs. xs ++ replicate n x) (take-nil n))
 
 pub none_so_far : (s : Trace) (q : ℕ) → q < length s → slice_get (replicate (length s) None) q ≡ Some (so_far 0 (release s q))
 none_so_far s q below = get-replicate None (length s) q below ∙ ap Some (sym (so_far_none (release s q)))

@@ -69,7 +69,7 @@ fn previous_places(
     for index in 0..trace.len() {
         let thread = trace[index].thread;
         let before = last(&lasts, thread);
-        previous.push(before)?;
+        previous.push_reserved(before);
         note_thread(&mut lasts, thread, Place::new(index as u32))?;
     }
     Ok((previous, lasts))
@@ -99,7 +99,7 @@ fn writers_of(
     for index in 0..trace.len() {
         let op = trace[index].op;
         let writer = last_of_read(&writes, op);
-        writers.push(writer)?;
+        writers.push_reserved(writer);
         note_write(&mut writes, op, Place::new(index as u32))?;
     }
     Ok(writers)

@@ -159,13 +159,12 @@ pub(crate) fn sections_of(
 {
     let mut opened: OpenSections = HashMap::with_hasher(alloc, state);
     let mut begins = Vec::with_capacity(alloc, trace.len())?;
-    let mut releases: Vec<Option<Place>> = Vec::with_capacity(alloc, trace.len())?;
-    releases.resize(trace.len(), None)?;
+    let mut releases = vec![in alloc; None; trace.len()]?;
     for index in 0..trace.len() {
         let op = trace[index].op;
         let place = Place::new(index as u32);
         let begun = begun_by(&opened, op);
-        begins.push(begun)?;
+        begins.push_reserved(begun);
         let ended = ended_by(&opened, op);
         end(&mut releases, ended, place);
         note(&mut opened, op, place)?;

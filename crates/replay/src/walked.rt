@@ -34,10 +34,8 @@ impl Walked {
         ensures writes { IfOk result (λ w. (key : ℕ) → get nat_eq w.writes key ≡ Option.None) }
         ensures acquires { IfOk result (λ w. (key : ℕ) → get nat_eq w.acquires key ≡ Option.None) }
     {
-        let mut inside = Vec::new(alloc);
-        inside.resize(places, false)?;
         Ok(Walked {
-            inside,
+            inside: vec![in alloc; false; places]?,
             forks: HashMap::with_hasher(alloc, state),
             writes: HashMap::with_hasher(alloc, state),
             acquires: HashMap::with_hasher(alloc, state),

@@ -1,4 +1,4 @@
-use Rattle.std.proofs.Common.{◌≡◌, ℕ, nat_eq}
+use Rattle.std.proofs.Common.{◌≡◌, ◌≤◌, ℕ, length, nat_eq, vec_capacity}
 use Rattle.std.specs.HashMap.{get}
 use Rattle.trace_model.specs.Theory.Trace.{last_place}
 use Rattle.replay.specs.Facts.{previous, is_of, each}
@@ -8,5 +8,6 @@ use Rattle.replay.proofs.facts.previous_places.Given as goal
 abbrev pub invariant-loop-index : goal.invariant-loop-index
 invariant-loop-index l = record {
   previous : l.previous.items ≡ each (previous l.trace) l.index;
+  room : length l.trace ≤ vec_capacity l.previous;
   lasts : (t : ℕ) → get nat_eq l.lasts t ≡ last_place (is_of l.trace t) l.index;
 }

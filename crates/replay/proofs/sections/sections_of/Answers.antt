@@ -1,4 +1,4 @@
-use Rattle.std.proofs.Common.{◌≡◌, suc, ◌+◌, get_or, length, slice_get, nat_eq, replicate, Some, None, ap, sym, subst, ◌∙◌, arith}
+use Rattle.std.proofs.Common.{◌≡◌, ℕ, ◌≤◌, ◌⊎◌, inl, inr, Option, suc, ◌+◌, get_or, length, slice_get, nat_eq, replicate, Some, None, refl, ap, sym, subst, ◌∙◌, arith}
 use Rattle.std.specs.HashMap.{get}
 use Rattle.std.specs.Map.{lookup}
 use Rattle.std.proofs.lemmas.Option.{slice_get-get_or}
@@ -11,24 +11,31 @@ use Rattle.trace_model.specs.Theory.Held.{begun}
 use Rattle.std.proofs.lemmas.Result.{IfOk-from_err}
 use Rattle.replay.specs.Facts.{each}
 use Rattle.replay.specs.OpenSections.{open_after, ended_by, with_end}
-use Rattle.replay.proofs.FactLists.{each_more}
-use Rattle.replay.proofs.OpenSections.{blank_is, IsOpen, so_far, so_far_all, none_so_far, none_open, open_more, has_room, begun_seen, ended_so, ended_from, releases_more, length-with_end}
+use Rattle.replay.proofs.FactLists.{each_more, has_each}
+use Rattle.replay.proofs.OpenSections.{IsOpen, so_far, so_far_all, none_so_far, none_open, open_more, has_room, begun_seen, ended_so, ended_from, releases_more, length-with_end}
 use Rattle.replay.proofs.sections.sections_of.Goals as goal
 
 abbrev nothing : Event
 nothing = record { thread = 0; op = Fork 0 }
 
+none_or_some : (o : Option ℕ) → (o ≡ None) ⊎ ((x : ℕ) × (o ≡ Some x))
+none_or_some None = inl refl
+none_or_some (Some x) = inr (x, refl)
+
 pub loop-index-init : goal.loop-index-init
 loop-index-init c =
     let s = c.args.trace.now in
-    let blank : c.resize.new.self.items ≡ replicate (length s) None
-    = blank_is None (length s) _ _ c.resize.new.self.items c.in_ok-releases.ensures.items c.in_ok-releases.ensures.len c.in_ok-resize.ensures.items in
+    let blank : c.in_ok-releases.releases.items ≡ replicate (length s) None = c.in_ok-releases.ensures.items_if_clones_equal (λ y h. elim (none_or_some y) [ inl is ↦ is | inr (x, is) ↦ absurd (rw is at h) ]) in
     record {
       begins = c.in_ok-begins.ensures.items;
+      room = c.in_ok-begins.ensures.capacity;
       sized = ap length blank ∙ length-replicate (length s) None;
       releases = λ q l. ap (λ xs. slice_get xs q) blank ∙ none_so_far s q l;
       sections = λ l. subst (λ es. IsOpen s 0 l (lookup (nat_eq l) es)) (sym c.with_hasher-opened.ensures.empty) (none_open s l);
     }
+
+pub push_reserved-requires : goal.push_reserved-requires
+push_reserved-requires c = omega (arith, has_each (begun c.args.trace.now) c.loop-index.index c.loop-index.begins.items c.loop-index.invariant.begins, c.loop-index.invariant.room, c.loop-index-test.true)
 
 pub overflow_cast-index : goal.overflow_cast-index
 overflow_cast-index c = omega (arith, length_well_formed c.args.trace.now c.requires, c.loop-index-test.true)
@@ -54,52 +61,36 @@ loop-index-preserved c =
     let more = releases_more s n c.loop-index.releases.items (ended_by table e.op) h.sized
     (ended_so s c.requires n e at table h.sections) (ended_from s c.requires n e at table h.sections) h.releases in
     record {
-      begins = c.in_ok-push.ensures.items
+      begins = c.push_reserved.ensures.items
           ∙ each_more (begun s) n c.loop-index.begins.items c.begun_by-begun.result h.begins
           (c.begun_by-begun.ensures ∙ begun_seen s c.requires n e at table h.sections);
+      room = subst (λ z. length s ≤ z) (sym c.push_reserved.ensures.capacity) h.room;
       sized = ap length made ∙ length-with_end c.loop-index.releases.items (ended_by table e.op) n ∙ h.sized;
       releases = λ q l. ap (λ xs. slice_get xs q) made ∙ more q l ∙ ap (λ k. Some (so_far k (release s q))) up;
       sections = λ l. subst (λ k. IsOpen s k l (get nat_eq c.note.new.opened l)) up
           (subst (IsOpen s (suc n) l) (sym (c.in_ok-note.ensures l ∙ ap (λ p. open_after e.op p table l) c.new-place.ensures)) (open_more s c.requires n e at table h.sections l));
     }
 
-pub returns-clause-releases : goal.returns-clause-releases
-returns-clause-releases c q l =
+pub returns-in_err-begins : goal.returns-in_err-begins
+returns-in_err-begins c =
+    let is = c.from_residual.ensures.0 in
+    record { begins = IfOk-from_err c.from_residual.result _ is; releases = IfOk-from_err c.from_residual.result _ is }
+
+pub returns-in_err-releases : goal.returns-in_err-releases
+returns-in_err-releases c =
+    let is = c.from_residual-in_err-releases.ensures.0 in
+    record { begins = IfOk-from_err c.from_residual-in_err-releases.result _ is; releases = IfOk-from_err c.from_residual-in_err-releases.result _ is }
+
+pub returns-in_err-note : goal.returns-in_err-note
+returns-in_err-note c =
+    let is = c.from_residual-in_err-note.ensures.0 in
+    record { begins = IfOk-from_err c.from_residual-in_err-note.result _ is; releases = IfOk-from_err c.from_residual-in_err-note.result _ is }
+
+pub returns : goal.returns
+returns c =
     let s = c.args.trace.now in
     let whole : c.loop-index.index ≡ length s = omega (arith, c.loop-index-test.false, c.loop-index.auto.index-end) in
-    c.loop-index.invariant.releases q l ∙ ap (λ k. Some (so_far k (release s q))) whole ∙ ap Some (so_far_all s q)
-
-pub returns-in_err-begins-clause-begins : goal.returns-in_err-begins-clause-begins
-returns-in_err-begins-clause-begins c = IfOk-from_err c.from_residual.result _ c.from_residual.ensures.0
-
-pub returns-in_err-begins-clause-releases : goal.returns-in_err-begins-clause-releases
-returns-in_err-begins-clause-releases c = IfOk-from_err c.from_residual.result _ c.from_residual.ensures.0
-
-pub returns-in_err-releases-clause-begins : goal.returns-in_err-releases-clause-begins
-returns-in_err-releases-clause-begins c = IfOk-from_err c.from_residual-in_err-releases.result _ c.from_residual-in_err-releases.ensures.0
-
-pub returns-in_err-releases-clause-releases : goal.returns-in_err-releases-clause-releases
-returns-in_err-releases-clause-releases c = IfOk-from_err c.from_residual-in_err-releases.result _ c.from_residual-in_err-releases.ensures.0
-
-pub returns-in_err-resize-clause-begins : goal.returns-in_err-resize-clause-begins
-returns-in_err-resize-clause-begins c = IfOk-from_err c.from_residual-in_err-resize.result _ c.from_residual-in_err-resize.ensures.0
-
-pub returns-in_err-resize-clause-releases : goal.returns-in_err-resize-clause-releases
-returns-in_err-resize-clause-releases c = IfOk-from_err c.from_residual-in_err-resize.result _ c.from_residual-in_err-resize.ensures.0
-
-pub returns-in_err-push-clause-begins : goal.returns-in_err-push-clause-begins
-returns-in_err-push-clause-begins c = IfOk-from_err c.from_residual-in_err-push.result _ c.from_residual-in_err-push.ensures.0
-
-pub returns-in_err-push-clause-releases : goal.returns-in_err-push-clause-releases
-returns-in_err-push-clause-releases c = IfOk-from_err c.from_residual-in_err-push.result _ c.from_residual-in_err-push.ensures.0
-
-pub returns-in_err-note-clause-begins : goal.returns-in_err-note-clause-begins
-returns-in_err-note-clause-begins c = IfOk-from_err c.from_residual-in_err-note.result _ c.from_residual-in_err-note.ensures.0
-
-pub returns-in_err-note-clause-releases : goal.returns-in_err-note-clause-releases
-returns-in_err-note-clause-releases c = IfOk-from_err c.from_residual-in_err-note.result _ c.from_residual-in_err-note.ensures.0
-
-pub returns-clause-begins : goal.returns-clause-begins
-returns-clause-begins c =
-    let whole : c.loop-index.index ≡ length c.args.trace.now = omega (arith, c.loop-index-test.false, c.loop-index.auto.index-end) in
-    c.loop-index.invariant.begins ∙ ap (each (begun c.args.trace.now)) whole
+    record {
+      begins = c.loop-index.invariant.begins ∙ ap (each (begun s)) whole;
+      releases = λ q l. c.loop-index.invariant.releases q l ∙ ap (λ k. Some (so_far k (release s q))) whole ∙ ap Some (so_far_all s q);
+    }

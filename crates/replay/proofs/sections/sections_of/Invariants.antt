@@ -1,4 +1,4 @@
-use Rattle.std.proofs.Common.{◌≡◌, ℕ, ◌<◌, length, slice_get, nat_eq, Some}
+use Rattle.std.proofs.Common.{◌≡◌, ℕ, ◌<◌, ◌≤◌, length, slice_get, nat_eq, Some, vec_capacity}
 use Rattle.std.specs.HashMap.{get}
 use Rattle.trace_model.specs.Theory.Lookups.{release}
 use Rattle.trace_model.specs.Theory.Held.{begun}
@@ -10,6 +10,7 @@ use Rattle.replay.proofs.sections.sections_of.Given as goal
 abbrev pub invariant-loop-index : goal.invariant-loop-index
 invariant-loop-index l = record {
   begins : l.begins.items ≡ each (begun l.trace) l.index;
+  room : length l.trace ≤ vec_capacity l.begins;
   sized : length l.releases.items ≡ length l.trace;
   releases : (q : ℕ) → q < length l.trace → slice_get l.releases.items q ≡ Some (so_far l.index (release l.trace q));
   sections : AreOpen l.trace l.index (get nat_eq l.opened);
