@@ -1,11 +1,16 @@
 #!/usr/bin/env python3
-"""Compares the offline report on small random traces, and the refusals of random events, with a plain program.
+"""Compares goodlockd with an independent program: the offline report on small random traces, and the refusals of random events.
 
-  compare.py PROGRAM [TRACES] [EVENTS] [FIRST]
+usage: bench/compare.py [TRACES] [EVENTS] [FIRST]
 
-The plain program lists the cycles by trying all tuples of dependencies, makes a closure by repeating its rules until
-nothing is added, tries the instances of a cycle one after another in lexicographic order, and tells whether an event is
-lawful by looking through all events before it. It is slow, and shares nothing with the program but what is printed.
+  TRACES    the number of traces, 1 or more; default 200
+  EVENTS    the events of each trace, 4 or more; default 60
+  FIRST     the seed of the first trace, 0 or more; default 0
+
+The independent program is in this file. It lists the cycles by trying all tuples of dependencies. It computes a closure by
+repeating the rules until nothing is added. It tries the instances of a cycle in lexicographic order. It decides whether an event is
+lawful by scanning all earlier events. It is slow, and shares no code with goodlockd.
+GOODLOCKD_PROGRAM names another program than ./goodlockd.
 """
 import collections
 import itertools
@@ -28,19 +33,19 @@ def parse(words):
 
 
 def depth(events, thread, lock):
-    """The thread's acquires of the lock, less its releases of it."""
+    """Returns the number of the thread's acquires of the lock minus its releases."""
     kinds = [kind for other, kind, target in events if other == thread and target == lock]
     return kinds.count("a") - kinds.count("r")
 
 
 def is_outermost(events, place):
-    """Whether the acquire at the place begins a section, or the release there ends one."""
+    """Returns whether the acquire at the place begins a critical section, or the release there ends one."""
     thread, kind, lock = events[place]
     return depth(events[:place], thread, lock) == (0 if kind == "a" else 1)
 
 
 def dependencies(events):
-    """Each dependency with its places, in the order of first appearance."""
+    """Returns each dependency with its places, in order of first appearance."""
     depths = {}
     places = {}
     for place, (thread, kind, target) in enumerate(events):
@@ -68,7 +73,7 @@ def is_cycle(members):
 
 
 def cycles(known, bound):
-    """By first number, and then in lexicographic order."""
+    """Returns the cycles in lexicographic order."""
     found = []
     for size in range(2, bound + 1):
         for numbers in itertools.permutations(range(len(known)), size):
@@ -78,7 +83,7 @@ def cycles(known, bound):
 
 
 def needs(events, place):
-    """The places that have to be in as soon as the place is."""
+    """Yields the places that a closed set with this place also contains, except for the rule of critical sections."""
     thread, kind, target = events[place]
     for other, (other_thread, other_kind, other_target) in enumerate(events):
         if other < place and other_thread == thread:
@@ -93,7 +98,7 @@ def needs(events, place):
 
 
 def release(events, place):
-    """Of an outermost acquire the next outermost release of its lock by its thread."""
+    """Returns the release of an outermost acquire, or None."""
     thread, _, lock = events[place]
     later = [other for other in range(place + 1, len(events)) if events[other] == (thread, "r", lock)]
     return next((other for other in later if is_outermost(events, other)), None)
@@ -149,19 +154,19 @@ MOST_HELD, MOST_DEPTH = 32, 255
 
 
 def refusal(events, event, limit):
-    """What is printed where the event is not lawful after these, in the order of the tests; none where it is."""
+    """Returns the printed refusal of the event after these, or None if it is lawful."""
     thread, kind, target = event
-    stands = lambda kind, target: any(other[1:] == (kind, target) for other in events)
+    exists = lambda kind, target: any(other[1:] == (kind, target) for other in events)
     held = [lock for lock in {other[2] for other in events if other[1] == "a"} if depth(events, thread, lock) > 0]
     others = {other[0] for other in events} - {thread}
     tests = [
         ("1 Full", len(events) >= limit),
-        ("2 Unforked", thread != 0 and not stands("f", thread)),
-        ("3 Ended", stands("j", thread)),
-        ("4 AlreadyForked", kind == "f" and (target == 0 or stands("f", target))),
+        ("2 Unforked", thread != 0 and not exists("f", thread)),
+        ("3 Ended", exists("j", thread)),
+        ("4 AlreadyForked", kind == "f" and (target == 0 or exists("f", target))),
         ("6 JoinsItself", kind == "j" and target == thread),
-        ("7 JoinUnknown", kind == "j" and (target == 0 or not stands("f", target))),
-        ("8 JoinedTwice", kind == "j" and stands("j", target)),
+        ("7 JoinUnknown", kind == "j" and (target == 0 or not exists("f", target))),
+        ("8 JoinedTwice", kind == "j" and exists("j", target)),
         ("9 TooNested", kind == "a" and depth(events, thread, target) >= MOST_DEPTH),
         ("10 HeldByOther", kind == "a" and any(depth(events, other, target) > 0 for other in others)),
         ("11 TooDeep", kind == "a" and target not in held and len(held) >= MOST_HELD),
@@ -171,7 +176,7 @@ def refusal(events, event, limit):
 
 
 def compare_refusals(program, path, seed, events):
-    """Runs random events, lawful or not, as a script."""
+    """Runs random events, lawful or not, as a script, and returns the number of refusals."""
     numbers = random.Random(seed)
     limit = events // 2
     few = numbers.choice([3, 20])
@@ -187,16 +192,17 @@ def compare_refusals(program, path, seed, events):
         out.write("".join("%d%s%d\n" % event for event in offered))
     got = subprocess.run([program, "script", path, "--limit", str(limit)], capture_output=True, text=True)
     if got.returncode != 0 or got.stdout.splitlines() != wanted:
-        print(f"seed {seed}, {events} events, limit {limit}: they refuse other events")
+        print(f"seed {seed}, {events} events, limit {limit}: other events are refused")
         sys.exit(1)
     return sum(line.startswith("refused") for line in wanted)
 
 
 def main(arguments):
-    if not arguments:
-        sys.exit(__doc__)
-    program = os.path.abspath(arguments[0])
-    count, events, first = [int(a) for a in arguments[1:]] + [200, 60, 0][len(arguments) - 1 :]
+    if len(arguments) > 3 or not all(word.isdecimal() for word in arguments):
+        sys.exit(__doc__.strip())
+    root = os.path.dirname(os.path.dirname(os.path.abspath(__file__)))
+    program = os.path.abspath(os.environ.get("GOODLOCKD_PROGRAM", os.path.join(root, "goodlockd")))
+    count, events, first = [int(word) for word in arguments] + [200, 60, 0][len(arguments) :]
     total = sum_confirmed = refused = 0
     with tempfile.TemporaryDirectory() as folder:
         path = os.path.join(folder, "small.trace")
@@ -208,9 +214,9 @@ def main(arguments):
             got = subprocess.run([program, "offline", path, "--bound", str(bound)], capture_output=True, text=True)
             wanted, found, confirmed = report(parse(words), bound)
             if got.returncode != 0 or got.stdout != wanted:
-                print(f"seed {seed}, {events} events, bound {bound}: they differ")
+                print(f"seed {seed}, {events} events, bound {bound}: the reports differ")
                 print(" ".join(words))
-                print("--- the program\n" + got.stdout + got.stderr + "--- the plain one\n" + wanted)
+                print("--- goodlockd\n" + got.stdout + got.stderr + "--- compare.py\n" + wanted)
                 sys.exit(1)
             total += found
             sum_confirmed += confirmed

@@ -1,8 +1,7 @@
-/* Refuses allocations of the program that it is preloaded into, as a table says which bench/refused shares with it.
+/* Makes allocations of the program that it is preloaded into fail, as a table says that it shares with bench/refused.
 
-   An allocation counts where the call stands in the program's own code: its return address lies in the program's file, so
-   that what the C library allocates for itself (for threads, names of hosts) is neither counted nor refused. Counting begins
-   before `main`, or where the table says so once a line was written to standard output. */
+   An allocation counts if the return address of the call is in the program's file: what the C library allocates for itself
+   neither counts nor fails. Counting begins before `main`, or after the first line on standard output, as the table says. */
 #define _GNU_SOURCE
 #include <errno.h>
 #include <fcntl.h>
@@ -15,14 +14,14 @@
 #include <sys/syscall.h>
 #include <unistd.h>
 
-/* The file that REFUSE_TABLE names: six numbers, of which the script may change the first two while the program runs. */
+/* The file that REFUSE_TABLE names. The script may change `first` and `last` while the program runs. */
 struct table {
-    _Atomic uint64_t first;   /* the first allocation that is refused, from 1 */
-    _Atomic uint64_t last;    /* none is refused after this one */
-    _Atomic uint64_t every;   /* of these one in so many is refused */
-    _Atomic uint64_t begun;   /* whether allocations are counted */
-    _Atomic uint64_t counted; /* how many were made */
-    _Atomic uint64_t refused; /* how many of them were refused */
+    _Atomic uint64_t first;   /* the first allocation that fails; 1-based */
+    _Atomic uint64_t last;    /* none fails after this one */
+    _Atomic uint64_t every;   /* of these one in `every` fails */
+    _Atomic uint64_t begun;   /* whether allocations count */
+    _Atomic uint64_t counted; /* allocations so far */
+    _Atomic uint64_t refused; /* those of them that failed */
 };
 
 extern void *__libc_malloc(size_t size);
@@ -33,7 +32,7 @@ extern void *__libc_memalign(size_t alignment, size_t size);
 static struct table *table;
 static uintptr_t program_start, program_end;
 
-/* The program's own file is the first that is told. */
+/* The first object is the program's own file. */
 static int note_program(struct dl_phdr_info *object, size_t size, void *data)
 {
     (void)size;
@@ -67,7 +66,7 @@ __attribute__((constructor)) static void open_table(void)
     table = shared;
 }
 
-/* Counts an allocation that this caller makes, and says whether it is refused. */
+/* Counts an allocation by this caller, and returns whether it fails. */
 static int refuses(const void *caller)
 {
     uint64_t number;
@@ -109,7 +108,7 @@ int posix_memalign(void **block, size_t alignment, size_t size)
     return *block ? 0 : ENOMEM;
 }
 
-/* Counting begins once a line is on standard output. */
+/* Counting begins after a line on standard output. */
 ssize_t write(int file, const void *bytes, size_t size)
 {
     ssize_t written = syscall(SYS_write, file, bytes, size);

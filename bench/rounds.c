@@ -1,4 +1,7 @@
-/* Threads that take two of eight locks, always in one order, with a little work inside: rounds THREADS ROUNDS */
+/* Threads that take two of eight locks, always in one order, with a little work inside.
+ *
+ * usage: rounds [THREADS (4)] [ROUNDS (1000)]
+ */
 #include <pthread.h>
 #include <stdio.h>
 #include <stdlib.h>

@@ -1,10 +1,13 @@
 #!/usr/bin/env python3
-"""As rounds.c, in Python: rounds.py THREADS ROUNDS"""
+"""Like rounds.c, in Python.
+
+usage: rounds.py THREADS ROUNDS
+"""
 import os
 import sys
 import threading
 
-sys.path.insert(0, os.path.join(os.path.dirname(os.path.abspath(__file__)), "..", "examples", "python"))
+sys.path.insert(0, os.path.join(os.path.dirname(os.path.abspath(__file__)), "..", "agents", "python"))
 import goodlock_agent
 
 goodlock_agent.start()

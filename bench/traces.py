@@ -1,15 +1,19 @@
 #!/usr/bin/env python3
-"""Writes a trace in the words of an event file.
+"""Writes a trace as an event file to standard output.
 
-  traces.py opposite ROUNDS        two threads that take two locks in opposite orders, ROUNDS times each
-  traces.py rows LOCKS             two threads that take lock 1 and each of LOCKS locks in opposite orders
-  traces.py taken LOCKS            the same the other way round, lock 1 being taken under each of them first, and with the fork between
-  traces.py accounts SECTIONS      16 threads that take two of 64 locks each time, SECTIONS times in all
-  traces.py nested SECTIONS        12 threads that hold one to five of 40 locks, SECTIONS times in all
-  traces.py pairs LOCKS            four threads that take all pairs of LOCKS locks, in one order
-  traces.py orders LOCKS           four threads that take all pairs of LOCKS locks, in both orders
-  traces.py ring LOCKS             eight threads that take all pairs of LOCKS locks in a ring that are one to four apart
-  traces.py small SEED EVENTS      a random lawful trace of few threads and locks
+usage: bench/traces.py KIND NUMBER ..
+
+  opposite ROUNDS      two threads acquire two locks in opposite orders, ROUNDS times each
+  rows LOCKS           two threads acquire lock 1 and each other lock up to LOCKS in opposite orders
+  taken LOCKS          thread 0 acquires lock 1 while it holds each other lock, then forks thread 1, which does the reverse
+  accounts SECTIONS    16 threads acquire two of 64 locks, SECTIONS times in all
+  nested SECTIONS      12 threads hold one to five of 40 locks, SECTIONS times in all
+  pairs LOCKS          four threads acquire all pairs of LOCKS locks, in one order
+  orders LOCKS         four threads acquire all pairs of LOCKS locks, in both orders
+  ring LOCKS           eight threads acquire the pairs of LOCKS locks in a ring that are one to four apart
+  small SEED EVENTS    a random lawful trace of four threads and four locks
+
+Each NUMBER is 1 or more, SEED 0 or more. goodlockd accepts at most 1048576 events.
 """
 import random
 import sys
@@ -32,7 +36,7 @@ def opposite(rounds):
 
 
 def rows(locks):
-    """Thread 0 holds lock 1 while it takes each other lock, and then thread 1 holds each while it takes lock 1."""
+    """Thread 0 acquires each other lock while it holds lock 1; then thread 1 acquires lock 1 while it holds each."""
     words = forks(1)
     for lock in range(2, locks + 1):
         words += section(0, [1, lock])
@@ -42,7 +46,7 @@ def rows(locks):
 
 
 def taken(locks):
-    """Thread 0 holds each other lock while it takes lock 1, and then forks thread 1, which holds lock 1 while it takes each."""
+    """Thread 0 acquires lock 1 while it holds each other lock, and forks thread 1, which does the reverse."""
     words = []
     for lock in range(2, locks + 1):
         words += section(0, [lock, 1])
@@ -64,7 +68,7 @@ def accounts(count, seed=1):
 
 
 def nested(count, seed=1):
-    """One section in 50 takes its locks in any order, the others take the least first."""
+    """One section in 50 acquires its locks in random order, the others in ascending order."""
     chooser = random.Random(seed)
     words = forks(12)
     for _ in range(count):
@@ -76,7 +80,7 @@ def nested(count, seed=1):
 
 
 def pairs(locks):
-    """No thread takes a greater lock first, so no bound has a cycle."""
+    """Every thread acquires the smaller lock first, so there is no cycle."""
     words = forks(4)
     for thread in range(1, 5):
         for first in range(locks):
@@ -96,7 +100,7 @@ def orders(locks):
 
 
 def ring(locks):
-    """A cycle goes round the ring, so with more than 32 locks no bound has one."""
+    """A cycle goes around the whole ring, so with more than 32 locks no bound has one."""
     words = forks(8)
     for thread in range(1, 9):
         for first in range(locks):
@@ -106,7 +110,7 @@ def ring(locks):
 
 
 def small(seed, events):
-    """Lawful words of up to four threads, four locks and two variables; some acquires are inner, thread 3 may be joined."""
+    """Random lawful events of four threads, four locks and two variables. Some acquires are inner; thread 3 may be joined."""
     chooser = random.Random(seed)
     words = ["0f1", "0f2", "0f3"]
     held = {thread: [] for thread in range(4)}
@@ -155,7 +159,7 @@ KINDS = {
 
 def main(arguments):
     if len(arguments) < 2 or arguments[0] not in KINDS:
-        sys.exit(__doc__)
+        sys.exit(__doc__.strip())
     words = KINDS[arguments[0]](*[int(argument) for argument in arguments[1:]])
     for start in range(0, len(words), 16):
         print(" ".join(words[start : start + 16]))

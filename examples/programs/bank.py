@@ -1,15 +1,15 @@
 #!/usr/bin/env python3
-"""The bank in Python: two tellers move money in opposite directions, and lock the two accounts in opposite orders. Here the
-second comes a little later, so that all goes well: it need not.
+"""Two tellers move money in opposite directions, and lock the two accounts in opposite orders. This program can deadlock. In this
+run the second teller comes half a second later, so it does not.
 
-usage: bank.py     with GOODLOCKD=ADDRESS:PORT it tells the server there, and writes the report at exit
+usage: bank.py     with GOODLOCKD=ADDRESS:PORT it streams to the server there, and writes the report at exit
 """
 import os
 import sys
 import threading
 import time
 
-sys.path.insert(0, os.path.join(os.path.dirname(os.path.abspath(__file__)), "..", "python"))
+sys.path.insert(0, os.path.join(os.path.dirname(os.path.abspath(__file__)), "..", "..", "agents", "python"))
 import goodlock_agent
 
 goodlock_agent.start()

@@ -1,4 +1,6 @@
-pub mod Beginnings
+pub mod Prefixes
 pub mod Adding
 pub mod Showing
 pub mod Searching
+pub mod Publishing
+pub mod Lengths

@@ -1,21 +1,20 @@
-//! The board: a summary of what was published, which readers read without a lock and without
-//! waiting.
-//!
-//! One writer publishes steps; each reader sees the summary of a beginning of the published steps,
-//! never an earlier one than before, and none that lacks a step that it was told of by a receipt.
-//! The steps themselves are kept nowhere: the list of them, the history, exists in proofs alone,
-//! and what the board shows carries the evidence that it is the summary of a beginning of that
-//! list.
+//! The board: a summary of the published steps that readers read without a lock and without
+//! waiting. One writer publishes steps. Each reader sees the summary of a prefix of the published
+//! steps, never an older one than before, and never one that lacks a step of a receipt that it
+//! learned. The list of steps, the history, exists in proofs only. The main contract is
+//! [`BoardReader::status`]; start reading at `rule`, which states the rule of the board.
 #![tactic(auto)]
 
 mod history;
 mod reader;
+mod rule;
 mod shown;
 mod summary;
 mod writer;
 
-pub use history::{Beginning, Head, Naming, Opened};
+pub use history::{HistoryId, HistoryPrefix, LengthWord, NewHistory};
 pub use reader::{BoardReader, Busy, Receipt};
-pub use shown::{Next, Shown};
+pub use rule::{BoardValue, SeenSteps};
+pub use shown::{Shown, StepDelta};
 pub use summary::{QuestionSummary, Summary, Unsettled};
-pub use writer::{BoardWriter, Follows, NotMade, new_board};
+pub use writer::{BoardWriter, NotMade, new_board};

@@ -1,73 +1,45 @@
 //! Writing the board.
-ghost use Rattle.std.specs.Prelude.{◌≡◌, ◌≤◌, [], ◌∷◌, ◌++◌, List, length, map, refl, None, Some, IfOk, OnErr};
-ghost use Rattle.left_right.specs.Handles.{published, pending};
+ghost use Rattle.std.specs.Prelude.{◌≡◌, ◌≤◌, [], ◌∷◌, ◌++◌, List, length, map, drop, None, Some, IfOk, OnErr};
+ghost use Rattle.left_right.specs.Sides.{view};
 ghost use Rattle.trace_model.specs.declared.messages.step.BoardStep.{BoardStep};
 ghost use Rattle.trace_model.specs.Protocol.Runs.{IsLegal};
-ghost use Rattle.board.specs.Fits.{followed, kept};
+ghost use Rattle.board.specs.Fits.{truncated};
+ghost use Rattle.board.specs.Rules.{IsLonger};
 ghost use Rattle.board.specs.Totals.{Shows};
 
-use crate::history::{Beginning, Head, Naming, Opened};
+use crate::history::{HistoryId, HistoryPrefix, LengthWord, NewHistory};
 use crate::reader::{BoardReader, Receipt};
-use crate::shown::{Next, Shown};
+use crate::rule::{BoardValue, Publish, SeenSteps};
+use crate::shown::{Shown, StepDelta};
 use crate::summary::Summary;
-use left_right::{Absorb, WriteHandle};
+use core::mem::replace_with;
+use left_right::writer::Writer;
 use std::alloc::{AllocError, Global};
 use std::marker::Model;
 use std::sync::Wait;
 use trace_model::{BoardStep, NoMemory};
 
-/// The board was not made: a growth was refused.
+/// The board was not made, since an allocation failed.
 #[derive(Clone, Copy, Debug, PartialEq, Eq)]
 pub struct NotMade;
 
-/// More steps than a legal run can have.
-const MAX_STEPS: u64 = 1 << 62;
+/// The writer of the kit's board, under the rule of this crate. Its view is the published list.
+type RuledWriter<N, T> = Writer<T, Option<StepDelta<N>>, SeenSteps, T>;
 
-type Handle<N, R, T> = WriteHandle<T, Option<Next<N>>, R>;
-
-/// A value that shows a run, and the next one once that is absorbed.
-pub trait Follows<N: Naming>: Absorb<Option<Next<N>>> + Drop {
-    ghost run: { Self → List BoardStep };
-
-    fn summary(&self) -> &Summary
-        ensures { Shows result.now (run self.now) };
-
-    ghost follows: { (s t : Self) (next : List BoardStep) →
-        Self.state t ≡ Self.applied (Self.state s) (Some next) → run t ≡ followed (run s) next };
-
-    ghost idle: { (shown : Self.State) → Self.applied shown None ≡ shown };
-
-    ghost sure: { Self.never_fails };
-}
-
-impl<N: Naming> Follows<N> for Shown<N> {
-    ghost run = { λ s. s };
-
-    ghost follows = { λ s t next is. is };
-
-    ghost idle = { λ shown. refl };
-
-    ghost sure = { tt };
-
-    fn summary(&self) -> &Summary {
-        self.totals()
-    }
-}
-
-/// Appends the change, where the queue was grown for it. It waits while there is no memory all the
-/// same: what was committed must be published.
-fn append<N: Naming, R: Wait + Copy, T: Follows<N>>(
+/// Appends the change to the queue, which has memory for it. If an allocation fails all the same, it
+/// tries again: a committed step must be published.
+fn append<N: HistoryId, R: Wait + Copy, T: BoardValue<N>>(
     rt: &R,
-    handle: &mut Handle<N, R, T>,
-    next: Next<N>,
+    publisher: &mut RuledWriter<N, T>,
+    next: StepDelta<N>,
 )
-    requires { pending handle.old ≡ None ∷ [] }
-    ensures published { published handle.new ≡ published handle.old }
-    ensures pending { pending handle.new ≡ None ∷ Some next ∷ [] }
+    requires { drop publisher.old.behind publisher.old.log.items ≡ None ∷ [] }
+    ensures desk { publisher.new.desk ≡ publisher.old.desk }
+    ensures pending { drop publisher.new.behind publisher.new.log.items ≡ None ∷ Some next ∷ [] }
 {
     let mut change = Some(next);
     for _ in rt.forever() {
-        match handle.append(change) {
+        match publisher.append(change) {
             Ok(()) => return,
             Err(back) => change = back,
         }
@@ -75,93 +47,129 @@ fn append<N: Naming, R: Wait + Copy, T: Follows<N>>(
     unreachable!()
 }
 
-/// Shows the next step.
-fn show<N: Naming, R: Wait + Copy, T: Follows<N>>(
+/// Appends the change of the next step and publishes it.
+fn show<N: HistoryId, R: Wait + Copy, T: BoardValue<N>>(
     rt: &R,
-    handle: &mut Handle<N, R, T>,
-    next: Next<N>,
-)
-    requires { pending handle.old ≡ None ∷ [] }
-    ensures shown { T.run (published handle.new) ≡ followed (T.run (published handle.old)) next }
-    ensures rests { pending handle.new ≡ [] }
+    mut publisher: RuledWriter<N, T>,
+    next: StepDelta<N>,
+) -> RuledWriter<N, T>
+    requires room { drop publisher.behind publisher.log.items ≡ None ∷ [] }
+    requires next { (step : BoardStep) × (next ≡ T.run publisher.desk.shown.value ++ step ∷ []) }
+    requires legal { IsLegal next }
+    ensures shown { T.run result.desk.shown.value ≡ next }
+    ensures seen { view result.desk.place ≡ next }
+    ensures rests { drop result.behind result.log.items ≡ [] }
 {
-    append(rt, handle, next);
-    let _ = handle.publish();
+    append(rt, &mut publisher, next);
+    publisher.publish_as::<Publish<N>, R>(rt).0
 }
 
-/// Waits for ever.
-fn stop<R: Wait>(rt: &R) -> ! {
+fn show_in<N: HistoryId, R: Wait + Copy, T: BoardValue<N>>(
+    rt: &R,
+    publisher: &mut RuledWriter<N, T>,
+    next: StepDelta<N>,
+)
+    requires room { drop publisher.old.behind publisher.old.log.items ≡ None ∷ [] }
+    requires next { (step : BoardStep) ×
+        (next ≡ T.run publisher.old.desk.shown.value ++ step ∷ []) }
+    requires legal { IsLegal next }
+    ensures shown { T.run publisher.new.desk.shown.value ≡ next }
+    ensures seen { view publisher.new.desk.place ≡ next }
+    ensures rests { drop publisher.new.behind publisher.new.log.items ≡ [] }
+{
+    replace_with(
+        publisher,
+        (),
+        |publisher, _| (show(rt, publisher, next), ()),
+    )
+}
+
+/// Waits forever. Another writer has extended the history, which does not occur, since the board's
+/// writer owns its word.
+fn wait_forever<N: HistoryId, R: Wait>(
+    rt: &R,
+    known: &HistoryPrefix<N>,
+    found: &HistoryPrefix<N>,
+) -> !
+    requires { IsLonger known.now found.now }
+{
     for _ in rt.forever() {}
     unreachable!()
 }
 
-/// The writer of the board. Contracts see it as the published steps, and those that wait.
-pub struct BoardWriter<N: Naming, R: Wait + Copy, T: Follows<N>> {
-    handle: Handle<N, R, T>,
-    head: Head<N>,
-    beginning: Beginning<N>,
+/// The writer of the board. Contracts see two lists of steps: `published`, which is its view under
+/// the rule of the board, and `waiting`, the steps to be published next (at most one).
+pub struct BoardWriter<N: HistoryId, R: Wait + Copy, T: BoardValue<N>> {
+    publisher: RuledWriter<N, T>,
+    word: LengthWord<N>,
+    prefix: HistoryPrefix<N>,
     waiting: Option<BoardStep>,
     rt: R,
 }
 
-impl<N: Naming, R: Wait + Copy, T: Follows<N>> Drop for BoardWriter<N, R, T> {
+impl<N: HistoryId, R: Wait + Copy, T: BoardValue<N>> Drop for BoardWriter<N, R, T> {
     fn drop(self) {
         let BoardWriter {
-            handle: _,
-            head: _,
-            beginning: _,
+            publisher,
+            word: _,
+            prefix: _,
             waiting: _,
-            rt: _,
+            rt,
         } = self;
+        drop(publisher.take(&rt));
     }
 }
 
-impl<N: Naming, R: Wait + Copy, T: Follows<N>> Model for BoardWriter<N, R, T> {
-    ghost use Rattle.std.specs.Prelude.{◌≡◌, []};
-    ghost use Rattle.left_right.specs.Handles.{published, pending};
-    ghost use Rattle.board.specs.Fits.{Written, list_of, room_of};
+impl<N: HistoryId, R: Wait + Copy, T: BoardValue<N>> Model for BoardWriter<N, R, T> {
+    ghost use Rattle.std.specs.Prelude.{◌≡◌, [], drop};
+    ghost use Rattle.left_right.specs.Sides as sides;
+    ghost use Rattle.board.specs.Fits.{WriterView, list_of, room_of};
 
-    ghost Value = { Written };
+    ghost Value = { WriterView };
 
-    ghost view = { λ w. record { published = w.beginning; waiting = list_of w.waiting } };
+    ghost view = { λ w. record {
+      published = sides.view w.publisher.desk.place;
+      waiting = list_of w.waiting;
+    } };
 
-    ghost invariant = { λ w. (T.run (published w.handle) ≡ w.beginning)
-        × (pending w.handle ≡ room_of w.waiting) };
+    ghost invariant = { λ w. (T.run w.publisher.desk.shown.value ≡ sides.view w.publisher.desk.place)
+        × (w.prefix ≡ sides.view w.publisher.desk.place)
+        × (drop w.publisher.behind w.publisher.log.items ≡ room_of w.waiting) };
 }
 
-impl<N: Naming, R: Wait + Copy, T: Follows<N>> BoardWriter<N, R, T> {
-    /// One step waits to be published, and the queue of changes has grown for it. Nothing that is
-    /// published changes.
+impl<N: HistoryId, R: Wait + Copy, T: BoardValue<N>> BoardWriter<N, R, T> {
+    /// Reserves memory for publishing `step`, which then waits. No step may be waiting. The published
+    /// steps do not change.
     ///
     /// # Errors
     ///
-    /// `NoMemory` where the queue could not grow; nothing waits then.
+    /// `NoMemory` if an allocation fails. The writer does not change.
     pub fn grow(&mut self, step: BoardStep) -> Result<(), NoMemory>
         requires { self.old.waiting ≡ [] }
         ensures published { self.new.published ≡ self.old.published }
         ensures waiting { IfOk result (λ _. self.new.waiting ≡ step ∷ []) }
         ensures refused { OnErr result (self.new ≡ self.old) }
     {
-        self.handle.append(None).map_err(|_| AllocError)?;
+        self.publisher.append(None).map_err(|_| AllocError)?;
         self.waiting = Some(step);
         Ok(())
     }
 
-    /// Of the events of a step that waits and accepts some, only the first ones stay, so many, at
-    /// least one. Any other step stays as it is, and so does what is published. It takes no memory.
-    pub fn keep(&mut self, events: usize)
+    /// Cuts the events of a waiting `Accept` step to the first `events`, at least 1. Other steps and
+    /// the published steps do not change. Does not allocate.
+    pub fn truncate(&mut self, events: usize)
         requires some { 1 ≤ events }
         ensures published { self.new.published ≡ self.old.published }
-        ensures waiting { self.new.waiting ≡ map (kept events) self.old.waiting }
+        ensures waiting { self.new.waiting ≡ map (truncated events) self.old.waiting }
     {
-        let _ = &self.handle;
+        let _ = &self.publisher; // for the proof
         if let Some(BoardStep::Accept(batch)) = &mut self.waiting {
             batch.truncate(events);
         }
     }
 
-    /// Publishes what waits, at once. It may wait for readers. The published steps must then be a
-    /// legal run.
+    /// Publishes the waiting step. There must be one, and the published steps must then be a legal
+    /// run. May wait for readers.
     pub fn publish(&mut self)
         requires waits { length self.old.waiting ≡ 1 }
         requires legal { IsLegal (self.old.published ++ self.old.waiting) }
@@ -171,77 +179,80 @@ impl<N: Naming, R: Wait + Copy, T: Follows<N>> BoardWriter<N, R, T> {
         let Some(step) = &self.waiting else {
             unreachable!();
         };
-        let mut beginning = self.beginning.again();
-        if beginning.len() >= MAX_STEPS || !beginning.add(&self.head, step) {
-            stop(&self.rt);
+        let mut prefix = self.prefix.again();
+        if !prefix.add(&self.word, step) {
+            wait_forever(&self.rt, &self.prefix, &prefix);
         }
-        let next = Next::new(beginning.again(), &self.beginning, step);
+        let next = StepDelta::new(prefix.again(), &self.prefix, step);
         self.waiting = None;
-        show(&self.rt, &mut self.handle, next);
-        self.beginning = beginning;
+        show_in(&self.rt, &mut self.publisher, next);
+        self.prefix = prefix;
     }
 
-    /// What the board shows: the summary of all that is published.
+    /// Returns the summary of the published steps.
     pub fn summary(&self) -> &Summary
         ensures { Shows result.now self.now.published }
     {
-        self.handle.published().summary()
+        self.publisher.published().summary()
     }
 
-    /// Names all that is published.
+    /// Returns a receipt for all published steps. Does not allocate.
     pub fn receipt(&self) -> Receipt<N>
         ensures { result ≡ self.now.published }
     {
-        Receipt::of(&self.beginning)
+        Receipt::of(&self.prefix)
     }
 }
 
-/// An empty board with so many readers, 1 to 40, over a history that was just opened.
+/// Creates an empty board with `readers` readers (1 to 40) over a new history.
 ///
 /// # Errors
 ///
-/// `NotMade` where a growth was refused.
-pub fn new_board<N: Naming, R: Wait + Copy>(
+/// `NotMade` if an allocation fails.
+pub fn new_board<N: HistoryId, R: Wait + Copy>(
     alloc: Global,
     rt: R,
-    opened: Opened,
+    history: NewHistory,
     readers: usize,
 ) -> Result<(BoardWriter<N, R, Shown<N>>, Vec<BoardReader<N>>), NotMade>
-    requires name { opened.seen.book ≡ N.book }
+    requires name { history.seen.book ≡ N.book }
     requires readers { (1 ≤ readers) × (readers ≤ 40) }
     ensures writer { IfOk result (λ r. (r.0.published ≡ []) × (r.0.waiting ≡ [])) }
     ensures readers { IfOk result (λ r. length r.1.items ≡ readers) }
 {
-    let (head, beginning) = opened.named::<N>();
-    let (first, second) = (Shown::opening(&beginning), Shown::opening(&beginning));
-    let Ok(handle) = WriteHandle::new(alloc, rt, first, second, readers) else {
+    let (word, prefix) = history.named::<N>();
+    let (first, second) = (Shown::opening(&prefix), Shown::opening(&prefix));
+    let Ok(publisher) = RuledWriter::new(alloc, first, second, readers) else {
         return Err(NotMade);
     };
-    let all = make_readers(alloc, &handle, &beginning, readers)?;
+    let Ok(all) = make_readers(alloc, &publisher, &prefix, readers) else {
+        drop(publisher.take(&rt));
+        return Err(NotMade);
+    };
     let writer = BoardWriter {
-        handle,
-        head,
-        beginning,
+        publisher,
+        word,
+        prefix,
         waiting: None,
         rt,
     };
     Ok((writer, all))
 }
 
-fn make_readers<N: Naming, R: Wait + Copy>(
+fn make_readers<N: HistoryId>(
     alloc: Global,
-    handle: &Handle<N, R, Shown<N>>,
-    beginning: &Beginning<N>,
+    publisher: &RuledWriter<N, Shown<N>>,
+    prefix: &HistoryPrefix<N>,
     readers: usize,
 ) -> Result<Vec<BoardReader<N>>, NotMade>
     ensures { IfOk result (λ v. length v.items ≡ readers) }
 {
     let mut all = Vec::new(alloc);
     for _ in 0..readers {
-        let Ok(reader) = handle.handle() else {
+        let Ok(reader) = publisher.factory().reader() else {
             return Err(NotMade);
         };
-        let Ok(()) = all.push(BoardReader::new(reader, beginning)) else {
+        let Ok(()) = all.push(BoardReader::new(reader, prefix)) else {
             return Err(NotMade);
         };
     }

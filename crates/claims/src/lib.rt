@@ -1,8 +1,7 @@
-//! Numbers for tasks, drawn by many threads without a lock.
-//!
-//! Each claimant of one call draws numbers of questions by one `fetch_add` on the question's word.
-//! No number of a question is drawn twice, and none is left out: whoever gathers all claimants
-//! learns that the numbers drawn of a question are those below its total, each once.
+//! Task numbers that many threads draw without a lock. Each draw is one `fetch_add` on the word of its
+//! question. The main contract is [`gather`]: once all claimants are gathered, the numbers drawn for
+//! each question are those below its total, each exactly once. Start reading at [`Claims`], the rule of
+//! the words.
 #![tactic(auto)]
 
 ghost use Rattle.std.specs.Prelude.{◌≡◌, ℕ, ◌+◌, ◌-◌, ◌*◌, ◌^◌, ◌<◌, ◌≤◌, [], ◌∷◌, ◌++◌, length, replicate, slice_index, IfOk, IfErr, MatchResult};
@@ -17,20 +16,21 @@ use std::marker::Model;
 use std::sync::Arc;
 use thiserror::Error;
 
-/// How many questions there are: each has a word of its own.
+/// The number of questions. Each has its own word.
 pub const QUESTIONS: usize = 256;
 
-/// The most draws of one claimant, over all questions. With 64 claimants no word wraps.
+/// The largest number of draws of one claimant, over all questions. With at most 64 claimants no word
+/// wraps.
 pub const MAX_DRAWS: u64 = 1 << 40;
 
-/// One draw. No value of it is made.
+/// One draw. It exists in proofs only.
 #[derive(Drop)]
 pub struct Draw {
     pub question: u8,
     pub number: u64,
 }
 
-/// What a seat has drawn, and its parts of the right to know the whole. No value of it is made.
+/// The draws of a seat, and its parts of the right to know all draws. It exists in proofs only.
 #[derive(Drop)]
 pub struct Hand {
     pub parts: u64,
@@ -47,14 +47,14 @@ impl TableRule<(), Hand, usize> for Claims {
     ghost first = { λ n. hand n [] };
 }
 
-/// A `fetch_add` tells its claimant the number that it found.
+/// A `fetch_add` gives its claimant the number that it found.
 struct Draws;
 
 impl Play<(), Hand> for Draws {
     ghost then = { drew };
 }
 
-/// A claimant's seat is cut from one that has drawn nothing.
+/// A claimant's seat is split off a seat without draws.
 struct Cut;
 
 impl Split<Hand> for Cut {
@@ -63,7 +63,7 @@ impl Split<Hand> for Cut {
     ghost right = { λ _. hand 1 [] };
 }
 
-/// A claimant's seat joins another one; what is left of it has no draws.
+/// A claimant's seat joins another seat. It is left without draws.
 struct Together;
 
 impl Join<Hand> for Together {
@@ -72,22 +72,22 @@ impl Join<Hand> for Together {
     ghost spent = { hand 0 [] };
 }
 
-/// This claimant has made all its draws.
+/// The claimant has made all its draws.
 #[derive(Debug, Drop, Error)]
 #[error("all draws are made")]
 pub struct Spent;
 
-/// The claimants were not made: a growth was refused.
+/// The claimants were not created, since an allocation failed.
 #[derive(Debug, Drop, Error)]
 #[error("no memory for the claimants")]
 pub struct NotMade(#[from(alloc)] AllocError);
 
-/// The table of the numbers was not given up by its owners. No test meets it.
+/// The table of the words still has another owner. No test meets this error.
 #[derive(Debug, Drop, Error)]
 #[error("the table was not given up")]
 pub struct NotGathered;
 
-/// The right to draw numbers, of which no two are equal.
+/// A claimant, which draws numbers. No two claimants of one call draw the same number.
 #[derive(Drop)]
 pub struct Claimant {
     table: Arc<Table<(), Hand, usize, Claims, Global>, Global>,
@@ -110,12 +110,12 @@ impl Model for Claimant {
 }
 
 impl Claimant {
-    /// Draws the next number of the question, from 0: one `fetch_add`, without a lock, a wait or
-    /// memory.
+    /// Draws the next number of the question, counted from 0, by one `fetch_add`. Does not lock, wait or
+    /// allocate.
     ///
     /// # Errors
     ///
-    /// `Spent` exactly once this claimant has made `MAX_DRAWS` draws. It then stays so.
+    /// `Spent` exactly if this claimant has made `MAX_DRAWS` draws. No number is drawn.
     pub fn draw(&mut self, question: u8) -> Result<u64, Spent>
         ensures same { (self.new.call ≡ self.old.call) × (self.new.claimants ≡ self.old.claimants) }
         ensures drawn { IfOk result (λ x. (length self.old.draws < 2 ^ 40)
@@ -135,12 +135,11 @@ impl Claimant {
     }
 }
 
-/// As many claimants as are asked for, 1 to 64. What one of them draws of a question is drawn by no
-/// other.
+/// Creates `n` claimants (1 to 64).
 ///
 /// # Errors
 ///
-/// `NotMade` where a growth was refused.
+/// `NotMade` if an allocation fails.
 pub fn claimants(alloc: Global, n: usize) -> Result<Vec<Claimant>, NotMade>
     requires { (1 ≤ n) × (n ≤ 64) }
     ensures { IfOk result (λ v. (call : TableId) × (v.items ≡ replicate n (newcomer call n))) }
@@ -167,7 +166,7 @@ pub fn claimants(alloc: Global, n: usize) -> Result<Vec<Claimant>, NotMade>
     Ok(made)
 }
 
-/// How many numbers were drawn of each question, once one seat has all draws.
+/// Returns the number of draws for each question, from the seat with all draws.
 fn totals_of(
     table: Table<(), Hand, usize, Claims, Global>,
     seat: Seat<(), Hand>,
@@ -188,13 +187,13 @@ fn totals_of(
     totals
 }
 
-/// How many numbers were drawn of each question. It asks all claimants of one `claimants` call:
-/// what they drew of a question is then exactly the numbers below its total, each once. The
-/// claimants are gone.
+/// Consumes all claimants of one `claimants` call and returns the number of draws for each question.
+/// The numbers drawn for a question are exactly those below its total, each once. Part of the public
+/// API; not called by the program.
 ///
 /// # Errors
 ///
-/// `NotGathered` where the table of the words was not given up by its owners.
+/// `NotGathered` if the table of the words still has another owner. The claimants are gone.
 pub fn gather(mut claimants: Vec<Claimant>) -> Result<[u64; QUESTIONS], NotGathered>
     requires { AreAllOfOneCall claimants.items }
     ensures each_once { IfOk result (λ totals. DrewEachOnce claimants.items totals) }

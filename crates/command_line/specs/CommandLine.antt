@@ -1,13 +1,13 @@
--- The ranges of the numbers of a command.
+-- The ranges of the numbers of a command (this project's profile).
 use Rattle.std.specs.Prelude.{ℕ, ◌≤◌}
 use Rattle.command_line.specs.declared.Invocation.{Invocation}
 use Rattle.command_line.specs.declared.Invocation.TheVariants.{Serve, Script, Offline, Replay}
 
--- the number lies between these two, or is one of them
+-- the number is in the closed range
 abbrev pub IsWithin : ℕ → ℕ → ℕ → Type 0
 IsWithin least most number = (least ≤ number) × (number ≤ most)
 
--- how many events a book may accept
+-- the limit of a book
 abbrev pub IsLimit : ℕ → Type 0
 IsLimit limit = IsWithin 1 1_048_576 limit
 

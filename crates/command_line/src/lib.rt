@@ -1,4 +1,5 @@
-//! The command line.
+//! The command line: parses the words of the program into an [`Invocation`], over `clap`. The main
+//! contract is [`parse`]: each number of an invocation is in its range.
 #![tactic(auto)]
 
 mod words;
@@ -11,40 +12,43 @@ use clap::{Arg, ArgMatches, Command, Error, value_parser};
 use std::alloc::{AllocError, Global};
 pub use words::{tell, words_of};
 
-/// What the words of a command line ask for.
+/// A parsed command line.
 #[derive(Drop, PartialEq, Eq)]
 pub enum Invocation<'a> {
-    /// Serve at the address with so many workers, up to so many sessions (0: without end), over a
-    /// book that accepts at most `limit` events.
+    /// Serve at an address, with 1 to 16 workers, for `sessions` sessions (0: without end, at most
+    /// 1,000,000), over a book that accepts at most `limit` events (1 to 1,048,576).
     Serve {
         address: &'a str,
         workers: u32,
         sessions: u32,
         limit: u32,
     },
-    /// Run the script in the file over a book that accepts at most `limit` events.
+    /// Run a script over a book that accepts at most `limit` events (1 to 1,048,576).
     Script {
         file: &'a str,
         limit: u32,
     },
-    /// Report the cycles up to the bound in the events of the file.
+    /// Report the cycles of at most `bound` members (2 to 8) in a file of events.
     Offline {
         file: &'a str,
         bound: u32,
     },
-    /// Check the witness in a file against the trace in another.
+    /// Check a witness file against a trace file.
     Replay {
         trace: &'a str,
         witness: &'a str,
     },
 }
 
-/// An argument that must be there, by its place.
-fn given<'a>(alloc: Global, id: &'a str, name: &'a str) -> Arg<'a> {
-    Arg::new(alloc, id).value_name(name).required(true)
+/// Returns a required positional argument.
+fn positional<'a>(alloc: Global, id: &'a str, name: &'a str, help: &'a str) -> Arg<'a> {
+    Arg::new(alloc, id)
+        .value_name(name)
+        .help(help)
+        .required(true)
 }
 
-/// An argument with a number in the range, after its name.
+/// Returns an option `--id NAME` with a number from `least` to `most`.
 fn ranged<'a>(alloc: Global, id: &'a str, name: &'a str, least: i64, most: i64) -> Arg<'a> {
     Arg::new(alloc, id)
         .long(id)
@@ -53,22 +57,30 @@ fn ranged<'a>(alloc: Global, id: &'a str, name: &'a str, least: i64, most: i64) 
 }
 
 fn limit<'a>(alloc: Global) -> Arg<'a> {
-    ranged(alloc, "limit", "L", 1, 1_048_576).default_value("1048576")
+    ranged(alloc, "limit", "L", 1, 1_048_576)
+        .help("Largest number of accepted events, 1 to 1048576")
+        .default_value("1048576")
 }
 
 fn workers<'a>(alloc: Global) -> Arg<'a> {
-    ranged(alloc, "workers", "W", 1, 16).default_value("1")
+    ranged(alloc, "workers", "W", 1, 16)
+        .help("Number of threads that compute tasks, 1 to 16")
+        .default_value("1")
 }
 
 fn sessions<'a>(alloc: Global) -> Arg<'a> {
-    ranged(alloc, "sessions", "S", 0, 1_000_000).default_value("0")
+    ranged(alloc, "sessions", "S", 0, 1_000_000)
+        .help("End after this number of sessions, 0 to 1000000; 0 means never")
+        .default_value("0")
 }
 
 fn bound<'a>(alloc: Global) -> Arg<'a> {
-    ranged(alloc, "bound", "K", 2, 8).required(true)
+    ranged(alloc, "bound", "K", 2, 8)
+        .help("Largest number of members of a cycle, 2 to 8")
+        .required(true)
 }
 
-/// The command with this argument too.
+/// Returns the command with one more argument.
 fn taking<'a>(
     command: Result<Command<'a>, AllocError>,
     argument: Arg<'a>,
@@ -84,8 +96,13 @@ fn taking<'a>(
 
 fn serve<'a>(alloc: Global) -> Result<Command<'a>, AllocError> {
     let command = Command::new(alloc, "serve")
-        .about("Serves agents over TCP: takes their events and answers their questions")
-        .arg(given(alloc, "address", "ADDRESS"));
+        .about("Serves agents and operators over TCP")
+        .arg(positional(
+            alloc,
+            "address",
+            "ADDRESS",
+            "Address and port, as in 127.0.0.1:7070",
+        ));
     let command = taking(command, workers(alloc));
     let command = taking(command, sessions(alloc));
     taking(command, limit(alloc))
@@ -93,26 +110,29 @@ fn serve<'a>(alloc: Global) -> Result<Command<'a>, AllocError> {
 
 fn script<'a>(alloc: Global) -> Result<Command<'a>, AllocError> {
     let command = Command::new(alloc, "script")
-        .about("Runs a script of events and prints the replies")
-        .arg(given(alloc, "file", "FILE"));
+        .about("Runs a script of events and questions and prints the replies")
+        .arg(positional(alloc, "file", "FILE", "The script"));
     taking(command, limit(alloc))
 }
 
 fn offline<'a>(alloc: Global) -> Result<Command<'a>, AllocError> {
     let command = Command::new(alloc, "offline")
-        .about("Reports the cycles of a file of events")
-        .arg(given(alloc, "file", "FILE"));
+        .about("Reports the lock cycles of a file of events")
+        .arg(positional(alloc, "file", "FILE", "The file of events"));
     taking(command, bound(alloc))
 }
 
 fn replay<'a>(alloc: Global) -> Result<Command<'a>, AllocError> {
     let command = Command::new(alloc, "replay")
         .about("Checks a witness against a trace")
-        .arg(given(alloc, "trace", "TRACE"));
-    taking(command, given(alloc, "witness", "WITNESS"))
+        .arg(positional(alloc, "trace", "TRACE", "The file of events"));
+    taking(
+        command,
+        positional(alloc, "witness", "WITNESS", "The witness file"),
+    )
 }
 
-/// The program with this command too.
+/// Returns the program with one more command.
 fn with_command<'a>(
     program: Command<'a>,
     command: Result<Command<'a>, AllocError>,
@@ -126,7 +146,7 @@ fn with_command<'a>(
     }
 }
 
-/// The program, if there is one, with this command too.
+/// Returns the program with one more command, or the first error.
 fn with<'a>(
     program: Result<Command<'a>, AllocError>,
     command: Result<Command<'a>, AllocError>,
@@ -143,6 +163,7 @@ fn with<'a>(
 fn program<'a>(alloc: Global) -> Result<Command<'a>, AllocError> {
     let program = Command::new(alloc, "goodlockd")
         .about("Predicts the deadlocks of a traced program from its events")
+        .version("2.0.0")
         .subcommand_required(true);
     let program = with_command(program, serve(alloc));
     let program = with(program, script(alloc));
@@ -150,7 +171,7 @@ fn program<'a>(alloc: Global) -> Result<Command<'a>, AllocError> {
     with(program, replay(alloc))
 }
 
-/// The number of this argument, if it is in the range.
+/// Returns the number of an argument, or `None` if it is not in the range.
 fn number(matches: &ArgMatches<'_>, id: &str, least: u32, most: u32) -> Option<u32>
     ensures { IfSome result (IsWithin least most) }
 {
@@ -213,7 +234,7 @@ fn chosen<'a>(matches: &ArgMatches<'a>) -> Option<Invocation<'a>>
     }
 }
 
-/// What the words ask of the program.
+/// Parses the words with a built program.
 fn invocation_of<'a>(
     program: &mut Command<'a>,
     words: &'a [&'a str],
@@ -229,11 +250,12 @@ fn invocation_of<'a>(
     }
 }
 
-/// What the words ask for, the first of which names the program. Each number is in its range.
+/// Parses a command line. The first word names the program.
 ///
 /// # Errors
 ///
-/// The text for the user, where the words are not those of a command, or ask for help.
+/// `clap`'s error if the words are not understood or ask for help or the version. Its text is for the
+/// user.
 pub fn parse<'a>(alloc: Global, words: &'a [&'a str]) -> Result<Invocation<'a>, Error>
     ensures { IfOk result IsInRange }
 {

@@ -1,15 +1,15 @@
-//! The words of a command line, and what is told where they ask for nothing.
+//! The words of a command line, and printing what is not a command.
 
 use clap::Error;
 use clap::error::ErrorKind;
 use std::alloc::{AllocError, Global};
 use std::io;
 
-/// The arguments, to be read as words.
+/// Returns the arguments as string slices.
 ///
 /// # Errors
 ///
-/// Where a growth was refused.
+/// If an allocation fails.
 pub fn words_of<'a>(alloc: Global, arguments: &'a [String]) -> Result<Vec<&'a str>, AllocError> {
     let mut words = Vec::new(alloc);
     for argument in arguments {
@@ -18,11 +18,12 @@ pub fn words_of<'a>(alloc: Global, arguments: &'a [String]) -> Result<Vec<&'a st
     Ok(words)
 }
 
-/// Tells why the command line asks for nothing, or the help that it asks for: whether it was help.
+/// Prints the error, help or version text of `clap`. Returns whether it was help or the version, which
+/// is no error.
 ///
 /// # Errors
 ///
-/// Where a growth was refused, or the stream failed.
+/// If an allocation or the stream fails.
 pub fn tell(rt: &HostRuntime, refused: Error) -> io::Result<bool> {
     if refused.kind() == ErrorKind::OutOfMemory {
         return Err(AllocError.into());

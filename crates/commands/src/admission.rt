@@ -1,30 +1,30 @@
-//! Event files through the gate.
-ghost use Rattle.std.specs.Prelude.{◌≡◌, ◌++◌, IfOk, OnOk, codes, decimal};
+//! Event files passed through the gate.
+ghost use Rattle.std.specs.Prelude.{◌≡◌, ◌++◌, IfOk, OnOk};
 ghost use Rattle.commands.specs.Admission.{IsAdmissionOf, refused_at_line};
 
+use crate::exit::CommandError;
+use crate::text::{push_last, push_refusal};
 use event_files::read_events;
-use itoa::Buffer;
-use outcomes::{Stopped, push_refusal};
 use std::alloc::Global;
 use std::hash::RandomState;
 use trace_model::{Event, NoMemory};
 use wellformed::{FirstUnlawful, first_unlawful};
 
-/// What came of the events of a file.
+/// The events of a file after the gate.
 #[derive(Drop)]
 pub enum Admission {
-    /// Each of these is lawful after those before it.
+    /// A well-formed trace: all events of the file.
     Admitted(Vec<Event>),
-    /// This one is not.
+    /// The first event that is not lawful after those before it.
     Refused(FirstUnlawful),
 }
 
-/// Reads an event file and passes its events through the gate.
+/// Parses an event file and passes its events through the gate.
 ///
 /// # Errors
 ///
-/// The first line that is not understood, or `Memory`.
-pub fn admit_file(alloc: Global, state: RandomState, file: &[u8]) -> Result<Admission, Stopped>
+/// `Line` with the first line that is not understood, or `Memory` if an allocation fails.
+pub fn admit_file(alloc: Global, state: RandomState, file: &[u8]) -> Result<Admission, CommandError>
     ensures { IfOk result (IsAdmissionOf file.now) }
 {
     let events = read_events(alloc, file)?;
@@ -34,28 +34,14 @@ pub fn admit_file(alloc: Global, state: RandomState, file: &[u8]) -> Result<Admi
     }
 }
 
-/// Adds the line that tells which event of a file was refused.
+/// Appends the line that reports the first unlawful event of a file.
 ///
 /// # Errors
 ///
-/// `NoMemory` where a growth was refused.
+/// `NoMemory` if an allocation fails.
 pub fn push_refused_at(text: &mut Vec<u8>, first: FirstUnlawful) -> Result<(), NoMemory>
     ensures { OnOk result (text.new.items ≡ text.old.items ++ refused_at_line first) }
 {
     push_refusal(text, first.refusal)?;
-    text.extend_from_slice(b" at ")?;
-    push_last(text, first.index as u64)
-}
-
-/// Adds the number that ends a line.
-///
-/// # Errors
-///
-/// `NoMemory` where a growth was refused.
-pub fn push_last(text: &mut Vec<u8>, number: u64) -> Result<(), NoMemory>
-    ensures { OnOk result (text.new.items ≡ text.old.items ++ decimal number ++ codes "\n") }
-{
-    text.extend_from_slice(Buffer::new().format(number).as_bytes())?;
-    text.push(b'\n')?;
-    Ok(())
+    push_last(text, b" at ", first.index as u64)
 }

@@ -1,16 +1,27 @@
-//! The commands about files of events: an offline report, and the check of a witness. Each reads bytes
-//! and writes what it tells, and answers its exit status; and the same for files by their names.
+//! The commands `script`, `offline` and `replay`. Each one exists twice: over bytes and writers
+//! (`run_script`, `run_offline`, `run_replay`), which is what tests call, and over named files and
+//! the standard streams (`script_file`, `offline_file`, `replay_files`), which is what the program
+//! calls. Main contract: if `run_offline` ends with `Done`, its output is the report on exactly the
+//! events of the file. Start reading at `offline_command`; `exit` has the exit statuses.
 #![tactic(auto)]
 
 mod admission;
-mod named_files;
+mod exit;
+mod files;
 mod offline_command;
 mod progress;
 mod progress_line;
 mod replay_command;
+mod script_command;
+mod text;
 
-pub use named_files::{offline_file, replay_files};
-pub use offline_command::run_offline;
-pub use progress::{Progress, Unshown};
+pub use exit::{CommandError, Status, final_status};
+pub use files::{arguments, read_file};
+pub use offline_command::{offline_file, run_offline};
+pub use progress::{NoProgress, Progress};
 pub use progress_line::ProgressLine;
-pub use replay_command::{Files, Names, run_replay};
+pub use replay_command::{Files, Names, replay_files, run_replay};
+pub use script_command::printing::push_reply;
+pub use script_command::reading::{Command, read_script};
+pub use script_command::{run_script, script_file};
+pub use text::push_refusal;

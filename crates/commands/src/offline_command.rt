@@ -1,31 +1,25 @@
-//! The command that reports on a file of events.
-ghost use Rattle.std.specs.Prelude.{◌≡◌, ◌++◌, IfOk, IfErr, OnOk};
+//! The command `offline`: the report on a file of events.
+ghost use Rattle.std.specs.Prelude.{◌≡◌, ◌++◌, ◌≤◌, IfOk, IfErr, OnOk};
 ghost use Rattle.std.specs.Io.KnownBytes.{Appends};
-ghost use Rattle.outcomes.specs.declared.outcome.Status.TheVariants.{Done, Refused};
-ghost use Rattle.commands.specs.Offline.{OfflineTells, refusal_line, refused_line};
+ghost use Rattle.commands.specs.declared.exit.Status.TheVariants.{Done, Refused};
+ghost use Rattle.commands.specs.Offline.{OfflineTells, refused_line};
 ghost use Rattle.offline_report.specs.Offline.{IsRefused, IsReport, whole};
 
 use crate::admission::push_refused_at;
+use crate::exit::{CommandError, Status, write_text};
+use crate::files::read_file;
 use crate::progress::Progress;
-use event_files::read_events_by;
+use crate::progress_line::ProgressLine;
+use crate::text::push_refusal_line;
+use event_files::read_events;
 use offline_report::{Offline, OfflineRefused};
-use outcomes::{Status, Stopped, push_refusal, write_text};
 use std::alloc::Global;
 use std::hash::RandomState;
-use std::io::Write;
+use std::io::{self, BufWriter, IsTerminal, Write};
 use std::thread::Threads;
 use trace_model::{Bound, Event, NoMemory, Refusal};
 
-/// Adds a line of its own for the refusal.
-fn push_refusal_line(text: &mut Vec<u8>, refusal: Refusal) -> Result<(), NoMemory>
-    ensures { OnOk result (text.new.items ≡ text.old.items ++ refusal_line refusal) }
-{
-    push_refusal(text, refusal)?;
-    text.push(b'\n')?;
-    Ok(())
-}
-
-/// Adds the line that tells why there is no report; a growth that was refused has none.
+/// Appends the line that says why there is no report. `NoMemory` has no line.
 fn push_refused(text: &mut Vec<u8>, refused: OfflineRefused) -> Result<(), NoMemory>
     ensures { OnOk result (text.new.items ≡ text.old.items ++ refused_line refused) }
 {
@@ -37,7 +31,7 @@ fn push_refused(text: &mut Vec<u8>, refused: OfflineRefused) -> Result<(), NoMem
     }
 }
 
-/// The report on these events, in pieces one after another, of which the progress is told.
+/// Returns the report on `events` as consecutive pieces of text.
 fn report_on<R: Threads + Sync, P: Progress + Sync>(
     rt: &R,
     alloc: Global,
@@ -56,8 +50,8 @@ fn report_on<R: Threads + Sync, P: Progress + Sync>(
     pieces
 }
 
-/// Writes the pieces of a report, one after another.
-fn write_pieces<O: Write>(out: &mut O, pieces: &[Vec<u8>]) -> Result<Status, Stopped>
+/// Writes the pieces of a report in order.
+fn write_pieces<O: Write>(out: &mut O, pieces: &[Vec<u8>]) -> Result<Status, CommandError>
     ensures { IfOk result (λ status. (status ≡ Done)
         × Appends (O.contents out.old) (O.contents out.new) (whole pieces.now)) }
 {
@@ -68,12 +62,12 @@ fn write_pieces<O: Write>(out: &mut O, pieces: &[Vec<u8>]) -> Result<Status, Sto
     Ok(Status::Done)
 }
 
-/// Writes why there is no report.
+/// Writes the line that says why there is no report.
 pub(crate) fn write_refused<O: Write>(
     alloc: Global,
     refused: OfflineRefused,
     out: &mut O,
-) -> Result<Status, Stopped>
+) -> Result<Status, CommandError>
     ensures { IfOk result (λ status. (status ≡ Refused)
         × Appends (O.contents out.old) (O.contents out.new) (refused_line refused)) }
 {
@@ -83,7 +77,7 @@ pub(crate) fn write_refused<O: Write>(
     Ok(Status::Refused)
 }
 
-/// Writes the report, or why there is none.
+/// Writes the report on the events of the file, or why there is none.
 fn report<R: Threads + Sync, P: Progress + Sync, O: Write>(
     rt: &R,
     alloc: Global,
@@ -92,26 +86,26 @@ fn report<R: Threads + Sync, P: Progress + Sync, O: Write>(
     bound: Bound,
     progress: &P,
     out: &mut O,
-) -> Result<Status, Stopped>
+) -> Result<Status, CommandError>
     ensures { IfOk result (λ status.
         OfflineTells file.now bound status (O.contents out.old) (O.contents out.new)) }
 {
-    let events = read_events_by(rt, alloc, file)?;
+    let events = read_events(alloc, file)?;
     match report_on(rt, alloc, state, events, bound, progress) {
         Ok(pieces) => {
             let written = write_pieces(out, &pieces);
             drop(pieces);
             written
         }
-        Err(OfflineRefused::NoMemory) => Err(Stopped::Memory),
+        Err(OfflineRefused::NoMemory) => Err(CommandError::Memory),
         Err(refused) => write_refused(alloc, refused, out),
     }
 }
 
-/// Writes the report of question 0, with this bound, about the events in the bytes of the file of
-/// this name, or the first of them that is not lawful, or why there is no report. Its tasks are
-/// computed by as many threads as there are processors, and the progress is told of each. What
-/// ended the command early is told to `err`.
+/// Writes the report on the events in `file` to `out`: question 0, cycles of at most `bound`
+/// members. If an event is not lawful or there is no report, `out` gets one line that says so, and
+/// the status is `Refused`. One thread per processor computes the tasks and calls `progress` after
+/// each. An error message about the file `name` goes to `err`.
 pub fn run_offline<R: Threads + Sync, P: Progress + Sync, O: Write, E: Write>(
     rt: &R,
     alloc: Global,
@@ -130,6 +124,60 @@ pub fn run_offline<R: Threads + Sync, P: Progress + Sync, O: Write, E: Write>(
 {
     match report(rt, alloc, state, file, bound, progress, out) {
         Ok(status) => status,
-        Err(stopped) => stopped.tell(name, err),
+        Err(error) => error.report(name, err),
     }
+}
+
+/// Runs `run_offline` over the bytes of a file, on the standard streams.
+fn offline_bytes<T: Threads + Sync>(
+    rt: &HostRuntime,
+    threads: &T,
+    file: &str,
+    bytes: &[u8],
+    bound: u32,
+    progress: &ProgressLine<'_, HostRuntime>,
+) -> io::Result<Status>
+    requires least { 2 ≤ bound }
+    requires most { bound ≤ 8 }
+{
+    let Some(bound) = Bound::new(bound as u8) else {
+        unreachable!()
+    };
+    let state = RandomState::new(rt)?;
+    let mut out = BufWriter::new(rt.alloc(), rt.stdout())?;
+    let mut err = rt.stderr();
+    Ok(run_offline(
+        threads,
+        rt.alloc(),
+        state,
+        file,
+        bytes,
+        bound,
+        progress,
+        &mut out,
+        &mut err,
+    ))
+}
+
+/// Runs `offline` over the file with this name. The status is `Error` if the file cannot be read.
+///
+/// # Errors
+///
+/// If an allocation or a standard stream fails before the report begins.
+pub fn offline_file<T: Threads + Sync>(
+    rt: &HostRuntime,
+    threads: &T,
+    file: &str,
+    bound: u32,
+) -> io::Result<Status>
+    requires least { 2 ≤ bound }
+    requires most { bound ≤ 8 }
+{
+    let progress = ProgressLine::new(rt, rt.stderr().is_terminal());
+    let Some(bytes) = read_file(rt, file)? else {
+        return Ok(Status::Error);
+    };
+    let reported = offline_bytes(rt, threads, file, &bytes, bound, &progress);
+    drop(bytes);
+    reported
 }

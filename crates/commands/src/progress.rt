@@ -1,24 +1,23 @@
-//! Who is told how far a report is.
+//! The progress of a report.
 use findings::Hold;
 
-/// Is told how far a report is: of each task by its hold, which any thread calls once the task's
-/// rows are there.
+/// Receives the progress of a report. Any thread calls `hold` once the rows of a task are computed.
 pub trait Progress: Hold {
-    /// The report has so many tasks, of which none is computed.
+    /// Called once before the first task, with the number of tasks.
     fn begin(&self, tasks: u32);
 
-    /// No task is computed any more.
+    /// Called once after the last task.
     fn end(&self);
 }
 
-/// Shows nothing.
-pub struct Unshown;
+/// Ignores all progress.
+pub struct NoProgress;
 
-impl Hold for Unshown {
+impl Hold for NoProgress {
     fn hold(&self, _question: u32, _task: u32) {}
 }
 
-impl Progress for Unshown {
+impl Progress for NoProgress {
     fn begin(&self, _tasks: u32) {}
 
     fn end(&self) {}

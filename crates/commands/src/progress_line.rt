@@ -1,28 +1,28 @@
-//! How far a report is, on standard error.
+//! A progress line on standard error.
 use crate::progress::Progress;
 use findings::Hold;
 use std::rt::Clock;
 use std::sync::atomic::{AtomicU32, AtomicU64, Ordering};
 use std::time::Instant;
 
-/// How long nothing is shown, in tenths of a second.
-const SILENT: u64 = 20;
+/// How long the line stays hidden, in tenths of a second.
+const DELAY: u64 = 20;
 
-/// One line on standard error with how many tasks are done of all. It comes two seconds after it
-/// was made, is written anew at most ten times a second, and is taken away at the end.
+/// A line on standard error with the number of finished tasks. It appears after two seconds, is
+/// rewritten at most ten times a second, and is erased at the end.
 #[derive(Drop)]
 pub struct ProgressLine<'a, R: Clock + Eprint> {
     rt: &'a R,
-    /// When it was made; none where nothing is shown.
+    /// The time of creation; `None` if nothing is to be shown.
     start: Option<Instant>,
     tasks: AtomicU32,
     done: AtomicU32,
-    /// In which tenth of a second from the start the line was last written, 0 where it was not.
+    /// The time of the last write, in tenths of a second since `start`; 0 if there was none.
     written: AtomicU64,
 }
 
 impl<'a, R: Clock + Eprint> ProgressLine<'a, R> {
-    /// A line that is shown on a terminal, and nowhere else. Without a clock nothing is shown.
+    /// Creates a line, which is shown only if standard error is a terminal and the clock works.
     pub fn new(rt: &'a R, is_terminal: bool) -> ProgressLine<'a, R> {
         let start = if is_terminal {
             Instant::now(rt).ok()
@@ -38,20 +38,20 @@ impl<'a, R: Clock + Eprint> ProgressLine<'a, R> {
         }
     }
 
-    /// In which tenth of a second from the start it is now.
+    /// Returns the time since `start`, in tenths of a second.
     fn now(&self) -> Option<u64> {
         let elapsed = self.start?.elapsed(self.rt).ok()?;
         let tenths = u64::from(elapsed.subsec_millis() / 100);
         Some(elapsed.as_secs().saturating_mul(10).saturating_add(tenths))
     }
 
-    /// Writes the line if it is due, and no other thread does.
+    /// Writes the line if it is due and no other thread is writing it.
     fn show(&self) {
         let Some(now) = self.now() else {
             return;
         };
         let last = self.written.load(Ordering::SeqCst);
-        if now < SILENT || now <= last {
+        if now < DELAY || now <= last {
             return;
         }
         let turn = self
@@ -60,7 +60,7 @@ impl<'a, R: Clock + Eprint> ProgressLine<'a, R> {
         if turn.is_ok() {
             let done = self.done.load(Ordering::SeqCst);
             let tasks = self.tasks.load(Ordering::SeqCst);
-            // What standard error does not take is lost.
+            // A progress line that cannot be written is not an error.
             let _ = eprint!(self.rt; "\r{done} of {tasks} tasks");
         }
     }

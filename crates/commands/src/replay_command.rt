@@ -1,34 +1,36 @@
-//! The command that checks a witness against a trace.
+//! The command `replay`: the check of a witness against a trace.
 ghost use Rattle.std.specs.Prelude.{◌≡◌, ◌++◌, OnOk};
 ghost use Rattle.trace_model.specs.Theory.Lawful.{IsWellFormed};
 ghost use Rattle.commands.specs.Replay.{verdict_line, verdict_status};
 
-use crate::admission::{Admission, admit_file, push_last};
+use crate::admission::{Admission, admit_file};
+use crate::exit::{CommandError, Status, write_text};
+use crate::files::read_file;
 use crate::offline_command::write_refused;
+use crate::text::push_last;
 use event_files::read_witness;
 use offline_report::OfflineRefused;
-use outcomes::{Status, Stopped, write_text};
 use replay::{Verdict, check};
 use std::alloc::Global;
 use std::hash::RandomState;
-use std::io::Write;
+use std::io::{self, Write};
 use trace_model::{Event, NoMemory};
 
-/// The files of a replay: a trace, and a witness.
+/// The contents of the two files of a replay.
 #[derive(Clone, Copy)]
 pub struct Files<'a> {
     pub trace: &'a [u8],
     pub witness: &'a [u8],
 }
 
-/// The names of these files, as they are told.
+/// The names of the two files, for error messages.
 #[derive(Clone, Copy)]
 pub struct Names<'a> {
     pub trace: &'a str,
     pub witness: &'a str,
 }
 
-/// Adds the line of a verdict.
+/// Appends the line of a verdict.
 fn push_verdict(text: &mut Vec<u8>, verdict: &Verdict) -> Result<(), NoMemory>
     ensures { OnOk result (text.new.items ≡ text.old.items ++ verdict_line verdict.now) }
 {
@@ -40,13 +42,12 @@ fn push_verdict(text: &mut Vec<u8>, verdict: &Verdict) -> Result<(), NoMemory>
         Verdict::Fails(fault, place) => {
             text.extend_from_slice(b"fault ")?;
             text.extend_from_slice(fault.name().as_bytes())?;
-            text.push(b' ')?;
-            push_last(text, u64::from(place.get()))
+            push_last(text, b" ", u64::from(place.get()))
         }
     }
 }
 
-/// The exit status that a verdict gives.
+/// Returns the exit status of a verdict.
 fn status_of(verdict: &Verdict) -> Status
     ensures { result ≡ verdict_status verdict.now }
 {
@@ -56,14 +57,14 @@ fn status_of(verdict: &Verdict) -> Status
     }
 }
 
-/// Checks the witness against these events, and writes what came of it.
-fn verdict_of<O: Write>(
+/// Checks the witness against the events and writes the verdict.
+fn write_verdict<O: Write>(
     alloc: Global,
     state: RandomState,
     events: &[Event],
     witness: &[u8],
     out: &mut O,
-) -> Result<Status, Stopped>
+) -> Result<Status, CommandError>
     requires { IsWellFormed events.now }
 {
     let witness = read_witness(alloc, witness)?;
@@ -74,18 +75,17 @@ fn verdict_of<O: Write>(
     Ok(status_of(&verdict))
 }
 
-/// The exit status of what ended so, which is told where that was early, with the name of the file
-/// that it is about.
-fn status_told<E: Write>(ended: Result<Status, Stopped>, name: &str, err: &mut E) -> Status {
+/// Returns the status of a check, after an error message about the file `name` if it failed.
+fn reported<E: Write>(ended: Result<Status, CommandError>, name: &str, err: &mut E) -> Status {
     match ended {
         Ok(status) => status,
-        Err(stopped) => stopped.tell(name, err),
+        Err(error) => error.report(name, err),
     }
 }
 
-/// Checks the witness in the second file against the trace in the first: prints `reaches`, or the
-/// test that fails with its place, or the event of the trace that is not lawful. What ended the
-/// command early is told to `err`, with the name of the file.
+/// Checks the witness against the trace. Writes one line to `out`: `reaches`; or the first test
+/// that fails, with its place; or the first event of the trace that is not lawful, with its index.
+/// An error message goes to `err`, with the name of the file at fault.
 pub fn run_replay<O: Write, E: Write>(
     alloc: Global,
     state: RandomState,
@@ -96,14 +96,38 @@ pub fn run_replay<O: Write, E: Write>(
 ) -> Status {
     match admit_file(alloc, state, files.trace) {
         Ok(Admission::Admitted(events)) => {
-            let ended = verdict_of(alloc, state, &events, files.witness, out);
+            let ended = write_verdict(alloc, state, &events, files.witness, out);
             drop(events);
-            status_told(ended, names.witness, err)
+            reported(ended, names.witness, err)
         }
         Ok(Admission::Refused(first)) => {
             let ended = write_refused(alloc, OfflineRefused::Unlawful(first), out);
-            status_told(ended, names.trace, err)
+            reported(ended, names.trace, err)
         }
-        Err(stopped) => stopped.tell(names.trace, err),
+        Err(error) => error.report(names.trace, err),
     }
+}
+
+/// Runs `replay` over the files with these names. The status is `Error` if one of them cannot be
+/// read.
+///
+/// # Errors
+///
+/// If an allocation or a standard stream fails before the check begins.
+pub fn replay_files(rt: &HostRuntime, trace: &str, witness: &str) -> io::Result<Status> {
+    let Some(events) = read_file(rt, trace)? else {
+        return Ok(Status::Error);
+    };
+    let Some(order) = read_file(rt, witness)? else {
+        return Ok(Status::Error);
+    };
+    let names = Names { trace, witness };
+    let files = Files {
+        trace: &events,
+        witness: &order,
+    };
+    let state = RandomState::new(rt)?;
+    let mut out = rt.stdout();
+    let mut err = rt.stderr();
+    Ok(run_replay(rt.alloc(), state, names, files, &mut out, &mut err))
 }

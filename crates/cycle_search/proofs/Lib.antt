@@ -1,7 +1,7 @@
 pub mod Listing
 pub mod Paths
 pub mod Turns
-pub mod Ranked
+pub mod ComponentLemmas
 pub mod Listed
-pub mod Left
-pub mod WaysBack
+pub mod Remaining
+pub mod DistanceLemmas

@@ -1,4 +1,4 @@
--- The takers of locks as they are listed, and the least of them.
+-- The listed acquirers of locks, and the least of them.
 use Rattle.std.proofs.Common.{◌≡◌, ℕ, zero, suc, ◌+◌, ◌<◌, ◌≤◌, ◌⊎◌, ◌↔◌, inl, inr, min, Bool, true, false, ◌||◌, cond, List, [], ◌∷◌, ◌++◌, length, map, take, option_map, slice_get, get_or, nat_eq, Option, Some, None, refl, sym, ap, ◌∙◌, subst, arith}
 use Rattle.std.proofs.Math.Numerals.{add-one}
 use Rattle.std.proofs.lemmas.Option.{none-some, same_Some, slice_get_within, slice_get-map, slice_get-get_or, get_or_from_slice_get}
@@ -10,12 +10,13 @@ use Rattle.trace_model.specs.Theory.Dependencies.{Dependency}
 use Rattle.trace_model.proofs.Theory.Unique.{has_contained, contains_had, increasing_ordered}
 use Rattle.lock_graph.specs.Graph.{IsGraphOf}
 use Rattle.lock_graph.proofs.Growing.{graph-more}
-use Rattle.cycle_search.specs.Takers.{TakesLock, AreTakers, HasOneMore, IsListed, IsLeast, least_of}
-use Rattle.cycle_search.specs.Search.{TakesBack}
+use Rattle.cycle_search.specs.Acquirers.{AcquiresLock, AreAcquirers, HasOneMore, IsListed, IsLeast, least_of}
+use Rattle.cycle_search.specs.Search.{ClosesBack}
 use Rattle.cycle_search.proofs.Paths.{found}
-use Rattle.cycle_search.proofs.Ranked.{map-more}
+use Rattle.cycle_search.proofs.ComponentLemmas.{map-more}
 
--- one that holds just what the dependency takes: the takers are the graph of such ones
+-- A dependency that holds exactly the acquired lock: the acquirers are the graph of such
+-- dependencies.
 abbrev pub turned : Dependency → Dependency
 turned d = record { thread = d.thread; lock = d.lock; held = d.lock ∷ [] }
 
@@ -23,9 +24,9 @@ or-none : (b : Bool) (xs ys : List ℕ) → cond b xs ys ≡ cond (b || false) x
 or-none true xs ys = refl
 or-none false xs ys = refl
 
-pub takers-more : (ds : List Dependency) (i : ℕ) (d : Dependency) (old new : ℕ → List ℕ) → slice_get ds i ≡ Some d →
+pub acquirers-more : (ds : List Dependency) (i : ℕ) (d : Dependency) (old new : ℕ → List ℕ) → slice_get ds i ≡ Some d →
     HasOneMore old d.lock i new → IsGraphOf (map turned (take i ds)) old → IsGraphOf (map turned (take (i + 1) ds)) new
-takers-more ds i d old new at step g =
+acquirers-more ds i d old new at step g =
     subst (λ xs. IsGraphOf xs new) (sym (ap (λ n. map turned (take n ds)) (add-one i) ∙ map-more turned ds i d at))
     (graph-more (map turned (take i ds)) (turned d) i old new long (λ lock. step lock ∙ or-none (nat_eq d.lock lock) (old lock ++ i ∷ []) (old lock)) g)
   where
@@ -36,20 +37,20 @@ only-one : (x y : ℕ) → Contains (x ∷ []) y → x ≡ y
 only-one x y (zero, l, e) = e
 only-one x y (suc k, l, e) = absurd (omega arith)
 
-pub takers-from_graph : (ds : List Dependency) (takers : ℕ → List ℕ) → IsGraphOf (map turned ds) takers → AreTakers ds takers
-takers-from_graph ds takers g = record {
+pub acquirers-from_graph : (ds : List Dependency) (acquirers : ℕ → List ℕ) → IsGraphOf (map turned ds) acquirers → AreAcquirers ds acquirers
+acquirers-from_graph ds acquirers g = record {
   exact = λ lock n. (forth lock n, λ (d, at, takes). (g.exact lock n).1 (turned d, slice_get-map turned ds n ∙ ap (option_map turned) at, (0, omega arith, takes)));
   ascends = g.ascends;
 }
   where
-    forth : (lock n : ℕ) → Contains (takers lock) n → TakesLock ds n lock
+    forth : (lock n : ℕ) → Contains (acquirers lock) n → AcquiresLock ds n lock
     forth lock n c =
         let (t, at, takes) = (g.exact lock n).0 c in
         let d = found ds n (omega (arith, slice_get_within (map turned ds) n t at, length-map ds turned)) in
         let same : turned d.0 ≡ t = same_Some (turned d.0) t (sym (slice_get-map turned ds n ∙ ap (option_map turned) d.1) ∙ at) in
         (d.0, d.1, only-one d.0.lock lock (subst (λ z. Contains z.held lock) (sym same) takes))
 
--- the first of ascending numbers is the least
+-- The first of ascending numbers is the least.
 pub least-first : (xs : List ℕ) → IsStrictlyIncreasing xs → IsLeast (Contains xs) (slice_get xs 0)
 least-first xs up = record {
   sound = λ n e. contains_had xs n (0, e);
@@ -83,7 +84,7 @@ right None b n e = (n, e, omega arith)
 right (Some a) None n e = absurd (none-some n e)
 right (Some a) (Some b) n e = (min a b, refl, omega (arith, same_Some b n e))
 
--- the lesser of two least numbers
+-- The lesser of two least numbers.
 pub least-join : (P Q R : ℕ → Type 0) (a b : Option ℕ) → ((m : ℕ) → P m → R m) → ((m : ℕ) → Q m → R m) → ((m : ℕ) → R m → P m ⊎ Q m) →
     IsLeast P a → IsLeast Q b → IsLeast R (least_of a b)
 least-join P Q R a b f g h p q = record {
@@ -97,10 +98,10 @@ least-join P Q R a b f g h p q = record {
   ];
 }
 
--- what one of the first member's locks has is exactly what takes back
-pub listed-takes_back : (ds : List Dependency) (path : List ℕ) (first : Dependency) (takers : ℕ → List ℕ) (m : ℕ) → 0 < length path →
-    slice_get ds (get_or path 0 0) ≡ Some first → AreTakers ds takers → IsListed takers first.held (length first.held) m ↔ TakesBack ds path m
-listed-takes_back ds path first takers m begun head t = (
+-- The acquirers of the first member's locks are exactly the dependencies that close the path.
+pub listed-takes_back : (ds : List Dependency) (path : List ℕ) (first : Dependency) (acquirers : ℕ → List ℕ) (m : ℕ) → 0 < length path →
+    slice_get ds (get_or path 0 0) ≡ Some first → AreAcquirers ds acquirers → IsListed acquirers first.held (length first.held) m ↔ ClosesBack ds path m
+listed-takes_back ds path first acquirers m begun head t = (
   (λ (k, l, c).
       let (d, at, takes) = (t.exact (get_or first.held k 0) m).0 c in (
         first,

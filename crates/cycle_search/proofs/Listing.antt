@@ -1,4 +1,4 @@
--- One list of cycles after another.
+-- Concatenated lists of cycles.
 use Rattle.std.proofs.Common.{◌≡◌, ℕ, zero, suc, ◌+◌, ◌-◌, ◌<◌, ◌⊎◌, inl, inr, List, [], ◌∷◌, ◌++◌, length, take, slice_get, Some, refl, ap, ◌∙◌, subst, arith}
 use Rattle.std.proofs.lemmas.Option.{none-some, same_Some, slice_get_within}
 use Rattle.trace_model.proofs.Lists.{length-push, take-push}
@@ -24,7 +24,7 @@ pub has-right : {X : Type 0} (xs ys : List X) (x : X) → Has ys x → Has (xs +
 has-right [] ys x h = h
 has-right (y ∷ xs) ys x h = let r = has-right xs ys x h in (suc r.0, r.1)
 
--- two lists with a beginning in common
+-- Two lists with a common prefix.
 pub below-after : (path : List ℕ) (a b : ℕ) (xs ys : List ℕ) → a < b → ListBelow (path ++ a ∷ xs) (path ++ b ∷ ys)
 below-after [] a b xs ys l = inl l
 below-after (p ∷ path) a b xs ys l = inr (refl, below-after path a b xs ys l)
@@ -94,7 +94,7 @@ pub append-nil : (xs : List (List ℕ)) → xs ++ [] ≡ xs
 append-nil [] = refl
 append-nil (x ∷ xs) = ap (λ z. x ∷ z) (append-nil xs)
 
--- without its last number a path is as it was
+-- Removing the pushed number restores the path.
 pub popped : (path longer : List ℕ) (m : ℕ) → longer ≡ path ++ m ∷ [] → take (length longer - 1) longer ≡ path
 popped path longer m e =
     let before : length (path ++ m ∷ []) - 1 ≡ length path = omega (arith, length-push path m) in

@@ -1,4 +1,4 @@
--- How the beginning of a cycle grows, and when it is one.
+-- When a path can be extended, and when it is a cycle.
 use Rattle.std.proofs.Common.{◌≡◌, ◌≢◌, ℕ, zero, suc, ◌+◌, ◌-◌, ◌<◌, ◌≤◌, ◌⊎◌, ◌↔◌, Bool, IsTrue, inl, inr, List, [], ◌∷◌, ◌++◌, length, slice_get, get_or, drop, leb, true, false, Some, refl, sym, ap, ◌∙◌, subst, arith}
 use Rattle.std.proofs.lemmas.Option.{none-some, same_Some, slice_get_within, slice_get-get_or, get_or_from_slice_get}
 use Rattle.std.proofs.lemmas.List.{length-append, length-drop, get_or-drop}
@@ -16,10 +16,10 @@ use Rattle.trace_model.specs.Theory.Held.{has}
 use Rattle.held_sets.proofs.Locks.{has_contains, contains_has}
 use Rattle.guards.specs.Compatible.{NumbersApart, IsCompatible}
 use Rattle.lock_graph.specs.Graph.{IsGraphOf}
-use Rattle.cycle_search.specs.Search.{IsPath, Follows, Closes, LinksTo, TakesBack, AboveFirst, AreNexts}
+use Rattle.cycle_search.specs.Search.{IsPath, Follows, Closes, LinksTo, ClosesBack, AboveFirst, AreNexts}
 use Rattle.cycle_search.proofs.Listing.{get-left}
 
--- the number's dependency
+-- The dependency of the number.
 pub found : (ds : List Dependency) (m : ℕ) → m < length ds → (d : Dependency) × (slice_get ds m ≡ Some d)
 found [] m l = absurd (omega arith)
 found (d ∷ ds) zero l = (d, refl)
@@ -32,7 +32,7 @@ pub all-from : (P : ℕ → Type 0) (xs : List ℕ) → ((k m : ℕ) → slice_g
 all-from P xs h k d l = h k (get_or xs k d) (slice_get-get_or xs k d l)
 
 module _ (ds : List Dependency) (path : List ℕ) (m : ℕ) where
-  -- a member of the longer path is one of the path, or the new one
+  -- A member of the extended path is one of the path, or the new one.
   member-push : (i : ℕ) (a : Dependency) → Member ds (path ++ m ∷ []) i a →
       (Member ds path i a × (i < length path)) ⊎ ((i ≡ length path) × (slice_get ds m ≡ Some a))
   member-push i a (n, x, y) = elim (get-push path m i n x) [
@@ -88,7 +88,7 @@ module _ (ds : List Dependency) (path : List ℕ) (m : ℕ) where
     ];
   }
 
--- one number is the beginning of a path
+-- A single number is a path.
 only : (root k m : ℕ) → slice_get (root ∷ []) k ≡ Some m → root ≡ m
 only root zero m h = same_Some root m h
 only root (suc k) m h = absurd (none-some m h)
@@ -107,21 +107,21 @@ pub at-end : (path : List ℕ) (m : ℕ) (rest : List ℕ) → slice_get (path +
 at-end [] m rest = refl
 at-end (x ∷ path) m rest = at-end path m rest
 
--- the next place of a cycle
+-- The next position in a cycle.
 pub next-inside : (numbers : List ℕ) (i : ℕ) → suc i < length numbers → next numbers i ≡ suc i
 next-inside numbers i l = grind (arith, nat_tests)
 
 pub next-last : (numbers : List ℕ) (i : ℕ) → suc i ≡ length numbers → next numbers i ≡ 0
 next-last numbers i l = grind (arith, nat_tests)
 
--- every place below the length has a member
+-- Every position below the length has a member.
 pub member-at : (ds : List Dependency) (path : List ℕ) → All (λ m. m < length ds) path → (i : ℕ) → i < length path → (d : Dependency) × Member ds path i d
 member-at ds path known i l =
     let d = found ds (get_or path i 0) (known i 0 l) in
     (d.0, (get_or path i 0, slice_get-get_or path i 0 l, d.1))
 
 module _ (ds : List Dependency) (path : List ℕ) (p : IsPath ds path) (closes : Closes ds path) where
-  -- the lock of each member is in the held set of the next
+  -- The lock of each member is in the held set of the next one.
   pub link : (i : ℕ) (a b : Dependency) → Member ds path i a → Member ds path (next path i) b → Contains b.held a.lock
   link i a b x y = elim (cases_lt (suc i) (length path)) [
     | inl l ↦ p.linked i a b x (subst (λ k. Member ds path k b) (next-inside path i l) y)
@@ -130,7 +130,7 @@ module _ (ds : List Dependency) (path : List ℕ) (p : IsPath ds path) (closes :
         closes i b a e (subst (λ k. Member ds path k b) (next-last path i e) y) x
   ]
 
-  -- two members with one lock would have it in the held sets of both their next ones
+  -- Two members that acquire one lock would have it in the held sets of both their successors.
   pub locks-distinct : (i j : ℕ) (a b : Dependency) → i < j → Member ds path i a → Member ds path j b → a.lock ≢ b.lock
   locks-distinct i j a b l x y same =
       let inside : j < length path = slice_get_within path j y.0 y.1 in
@@ -168,7 +168,7 @@ module _ (ds : List Dependency) (bound : ℕ) (path : List ℕ) (m : ℕ) (rest 
   within : (k : ℕ) (d : Dependency) → Member ds path k d → Member ds (path ++ m ∷ rest) k d
   within k d (n, x, y) = (n, get-left path (m ∷ rest) k n x, y)
 
-  -- what comes next in a cycle follows
+  -- The next member of a cycle follows the path.
   pub follows-from_cycle : Follows ds path m
   follows-from_cycle = record {
     known = c.known m (contains_had (path ++ m ∷ rest) m (length path, here));
@@ -190,7 +190,7 @@ module _ (ds : List Dependency) (bound : ℕ) (path : List ℕ) (m : ℕ) (rest 
         c.linked k a b (within k a x) (subst (λ i. Member ds (path ++ m ∷ rest) i b) (sym at) (m, here, y));
   }
 
-  -- a path that closes is no beginning of a longer cycle
+  -- A path that closes begins no longer cycle.
   pub closed-no_more : (known : All (λ n. n < length ds) path) → Closes ds path → ⊥
   closed-no_more known closes = go (length path) refl
     where
@@ -208,7 +208,7 @@ module _ (ds : List Dependency) (bound : ℕ) (path : List ℕ) (m : ℕ) (rest 
 pub closes-from_cycle : (ds : List Dependency) (bound : ℕ) (path : List ℕ) → IsCycle ds bound path → Closes ds path
 closes-from_cycle ds bound path c k first last e x y = c.linked k last first y (subst (λ i. Member ds path i first) (sym (next-last path k e)) x)
 
--- the members that the code reads
+-- The members that the code reads.
 module _ (ds : List Dependency) (path : List ℕ) (p : IsPath ds path) (last : Dependency) (at : slice_get ds (get_or path (length path - 1) 0) ≡ Some last) where
   last-member : Member ds path (length path - 1) last
   last-member = (get_or path (length path - 1) 0, slice_get-get_or path (length path - 1) 0 (omega (arith, p.begun)), at)
@@ -247,7 +247,7 @@ module _ (ds : List Dependency) (path : List ℕ) (p : IsPath ds path) (last : D
       holder : (m : ℕ) → Contains nexts m → (d : Dependency) × (slice_get ds m ≡ Some d) × Contains d.held last.lock
       holder m h = (g.exact last.lock m).0 (subst (λ z. Contains z m) e ((exact m).0 h).1)
 
--- a number that closes the path takes a lock that its first member holds
+-- A number that closes the path acquires a lock that its first member holds.
 pub closed-back : (ds : List Dependency) (path : List ℕ) (m : ℕ) (first last : Dependency) → 0 < length path →
     slice_get ds (get_or path 0 0) ≡ Some first → slice_get ds m ≡ Some last → Closes ds (path ++ m ∷ []) → Contains first.held last.lock
 closed-back ds path m first last begun head at closes =
@@ -255,7 +255,7 @@ closed-back ds path m first last begun head at closes =
     (get_or path 0 0, get-push_kept path m 0 (get_or path 0 0) (slice_get-get_or path 0 0 begun), head)
     (m, at-end path m [], at)
 
--- and a number whose dependency takes one closes the path
+-- A number whose dependency acquires such a lock closes the path.
 pub closes-decided : (ds : List Dependency) (path : List ℕ) (m : ℕ) (first last : Dependency) → 0 < length path →
     slice_get ds (get_or path 0 0) ≡ Some first → slice_get ds m ≡ Some last → (b : Bool) →
     IsTrue b ↔ Contains first.held last.lock → IsTrue b ↔ Closes ds (path ++ m ∷ [])
@@ -269,9 +269,9 @@ closes-decided ds path m first last begun head at b decides = (
   (λ closes. decides.1 (closed-back ds path m first last begun head at closes)),
 )
 
--- the last member of a cycle takes such a lock
+-- The last member of a cycle acquires such a lock.
 pub last-takes_back : (ds : List Dependency) (bound : ℕ) (path : List ℕ) (m : ℕ) (rest : List ℕ) → IsPath ds path → bound ≤ length path + 1 →
-    IsCycle ds bound (path ++ m ∷ rest) → TakesBack ds path m
+    IsCycle ds bound (path ++ m ∷ rest) → ClosesBack ds path m
 last-takes_back ds bound path m (x ∷ rest) p full c = absurd (omega (arith, full, c.at_most, length-append path (m ∷ x ∷ rest)))
 last-takes_back ds bound path m [] p full c =
     let f = follows-from_cycle ds bound path m [] p.begun c in
@@ -284,7 +284,7 @@ last-takes_back ds bound path m [] p full c =
       closed-back ds path m first.0 last.0 p.begun first.1 last.1 (closes-from_cycle ds bound (path ++ m ∷ []) c),
     )
 
--- a number that passed the tests of the code
+-- A number that passed the tests of the code.
 pub path-tested : (ds : List Dependency) (path : List ℕ) (m : ℕ) → IsPath ds path → m < length ds → AboveFirst path m → LinksTo ds path m →
     IsCompatible ds path m → IsPath ds (path ++ m ∷ [])
 path-tested ds path m p known above links apart = path-push ds path m p (record {
@@ -294,7 +294,7 @@ path-tested ds path m p known above links apart = path-push ds path m p (record 
   linked = links;
 })
 
--- what is left of ascending numbers above one of them
+-- The ascending numbers above one of them.
 module _ (xs : List ℕ) (up : IsStrictlyIncreasing xs) (first i : ℕ) (at : IsPartitionPoint (λ y. leb y first ≡ true) (λ y. leb y first ≡ false) xs i) where
   pub above-exact : (m : ℕ) → Contains (drop i xs) m ↔ ((first < m) × Contains xs m)
   above-exact m = (
@@ -324,13 +324,13 @@ module _ (xs : List ℕ) (up : IsStrictlyIncreasing xs) (first i : ℕ) (at : Is
       let same : get_or xs (i + (k + 1)) 0 ≡ get_or xs (i + k + 1) 0 = ap (λ n. get_or xs n 0) (omega arith) in
       omega arith
 
--- ascending numbers do not fall
+-- Ascending numbers do not decrease.
 pub non-decreasing : (xs : List ℕ) → IsStrictlyIncreasing xs → IsNonDecreasingBy (λ y. y) xs
 non-decreasing xs up = IsNonDecreasingBy-from_default (λ y. y) xs 0 (λ j k l inside. elim (cases_lt j k) [
   | inl less ↦ let a = AllPairs-from_increasing xs up j k 0 less inside in omega arith
   | inr more ↦ let same : get_or xs j 0 ≡ get_or xs k 0 = ap (λ n. get_or xs n 0) (omega arith) in omega arith
 ])
 
--- the test of the held set decides
+-- The test of the held set decides membership.
 pub has-decided : (b : Bool) (l : ℕ) (xs : List ℕ) → b ≡ has l xs → IsTrue b ↔ Contains xs l
 has-decided b l xs e = ((λ t. has_contains l xs (sym e ∙ t)), (λ c. e ∙ contains_has l xs c))

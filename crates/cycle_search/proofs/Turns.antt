@@ -1,4 +1,4 @@
--- One turn of the search after another.
+-- The cycles that each step of the search finds.
 use Rattle.std.proofs.Common.{◌≡◌, ℕ, ◌+◌, ◌<◌, ◌≤◌, ◌⊎◌, inl, inr, None, List, [], ◌∷◌, ◌++◌, length, slice_get, Some, refl, sym, ap, ◌∙◌, subst, append_assoc, arith}
 use Rattle.std.proofs.lemmas.Option.{none-some, same_Some, slice_get_within}
 use Rattle.std.proofs.lemmas.List.{length-append}
@@ -7,19 +7,19 @@ use Rattle.std.specs.List.Sorted.{IsStrictlyIncreasing}
 use Rattle.trace_model.specs.Theory.Dependencies.{Dependency}
 use Rattle.trace_model.specs.Theory.Cycles.{ListBelow, IsCycle, AreCyclesFrom}
 use Rattle.trace_model.proofs.Theory.Unique.{has_contained, increasing_ordered}
-use Rattle.cycle_search.specs.Search.{AreSome, AreAll, Adds, Exceeds, MoreThan, CycleFrom, CycleBeyond, CycleThrough, CycleOver, IsAmong, CycleUpTo, IsPath, Follows, Closes, TakesBack, AreNexts}
-use Rattle.cycle_search.specs.Takers.{IsNext}
+use Rattle.cycle_search.specs.Search.{AreSome, AreAll, Adds, Exceeds, MoreThan, CycleFrom, CycleBeyond, CycleThrough, CycleOver, IsAmong, CycleUpTo, IsPath, Follows, Closes, ClosesBack, AreNexts}
+use Rattle.cycle_search.specs.Acquirers.{IsNext}
 use Rattle.cycle_search.proofs.Listing.{below-after, some-join, all-join, some-weaker, all-same, all-none, all-one, append-nil}
 use Rattle.trace_model.proofs.Lists.{length-push}
 use Rattle.cycle_search.proofs.Paths.{cycle-from_path, follows-from_cycle, closed-no_more, closes-from_cycle, last-takes_back}
 
 module _ (ds : List Dependency) (bound : ℕ) (path : List ℕ) (m : ℕ) where
-  -- nothing goes on with a number that does not follow
+  -- No cycle continues with a number that does not follow the path.
   pub rejected : 0 < length path → (Follows ds path m → ⊥) → AreAll (CycleThrough ds bound path m) []
   rejected begun none = all-none (CycleThrough ds bound path m)
       (λ n h. none (follows-from_cycle ds bound path m h.1.0 begun (subst (λ x. IsCycle ds bound x) h.1.1 h.0)))
 
-  -- a path that closes is the one cycle that goes on with its last number
+  -- A path that closes is the only cycle through its last number.
   pub closed : IsPath ds (path ++ m ∷ []) → Closes ds (path ++ m ∷ []) → 0 < length path → length path < bound →
       AreAll (CycleThrough ds bound path m) ((path ++ m ∷ []) ∷ [])
   closed p closes begun room = all-one (CycleThrough ds bound path m) (path ++ m ∷ [])
@@ -45,7 +45,7 @@ module _ (ds : List Dependency) (bound : ℕ) (path : List ℕ) (m : ℕ) where
       go c [] e = absurd (open' (closes-from_cycle ds bound (path ++ m ∷ []) (subst (λ z. IsCycle ds bound z) e c)))
       go c (x ∷ rest) e = (c, (x, rest, e ∙ sym (append_assoc path (m ∷ []) (x ∷ rest))))
 
-  -- a path that does not close is the beginning of longer cycles alone
+  -- A path that does not close begins only longer cycles.
   pub deeper : (more : List (List ℕ)) → (Closes ds (path ++ m ∷ []) → ⊥) → AreAll (CycleBeyond ds bound (path ++ m ∷ [])) more →
       AreAll (CycleThrough ds bound path m) more
   deeper more open' a = all-same (CycleBeyond ds bound (path ++ m ∷ [])) (CycleThrough ds bound path m) more forth (back open') a
@@ -53,7 +53,7 @@ module _ (ds : List Dependency) (bound : ℕ) (path : List ℕ) (m : ℕ) where
   pub deeper-some : (more : List (List ℕ)) → AreSome (CycleBeyond ds bound (path ++ m ∷ [])) more → AreSome (CycleThrough ds bound path m) more
   deeper-some more a = some-weaker (CycleBeyond ds bound (path ++ m ∷ [])) (CycleThrough ds bound path m) more forth a
 
-  -- and of none where it has as many members as the bound
+  -- It begins none if it has as many members as the bound.
   pub full : (Closes ds (path ++ m ∷ []) → ⊥) → bound ≤ length (path ++ m ∷ []) → AreAll (CycleThrough ds bound path m) []
   full open' long = all-none (CycleThrough ds bound path m) (λ n h. over n (back open' n h))
     where
@@ -66,7 +66,7 @@ module _ (ds : List Dependency) (bound : ℕ) (path : List ℕ) (P : ℕ → Typ
     below a b (n, p, (c, (rest, e))) (d, (more, f)) =
         subst (λ z. ListBelow z b) (sym e) (subst (λ z. ListBelow (path ++ n ∷ rest) z) (sym f) (below-after path n m rest more (less n p)))
 
-    -- the numbers so far, and a greater one
+    -- The numbers so far, and a greater one.
     pub over-more : (Q : ℕ → Type 0) → ((n : ℕ) → P n → Q n) → Q m →
         ((n : ℕ) (numbers : List ℕ) → Q n → CycleThrough ds bound path n numbers → P n ⊎ (n ≡ m)) → (old mid new : List (List ℕ)) →
         Adds (CycleOver ds bound path P) old mid → Adds (CycleThrough ds bound path m) mid new → Adds (CycleOver ds bound path Q) old new
@@ -94,7 +94,7 @@ module _ (ds : List Dependency) (bound : ℕ) (path : List ℕ) (P : ℕ → Typ
       omega (arith, l, ap length e, length-append old xs, length-append xs ys),
     )
 
-  -- every cycle that goes on has such a number next
+  -- Every longer cycle continues with such a number.
   pub over-end : ((n : ℕ) (numbers : List ℕ) → CycleThrough ds bound path n numbers → P n) → (old new : List (List ℕ)) →
       Adds (CycleOver ds bound path P) old new → Adds (CycleBeyond ds bound path) old new
   over-end covers old new (xs, e, p) = (
@@ -106,7 +106,7 @@ module _ (ds : List Dependency) (bound : ℕ) (path : List ℕ) (P : ℕ → Typ
         p,
   )
 
--- the numbers of a list, one after another
+-- The numbers of a list, one after another.
 module _ (ds : List Dependency) (bound : ℕ) (path nexts : List ℕ) where
   module _ (up : IsStrictlyIncreasing nexts) (i m : ℕ) (at : slice_get nexts i ≡ Some m) where
     less : (n : ℕ) → IsAmong nexts i n → n < m
@@ -136,12 +136,12 @@ module _ (ds : List Dependency) (bound : ℕ) (path nexts : List ℕ) where
       (k.0, omega (arith, l, end), k.1))
       old new
 
--- the last members, by the locks that they take
+-- The last members, looked up by the locks that they acquire.
 module _ (ds : List Dependency) (bound : ℕ) (path : List ℕ) (p : IsPath ds path) (one : length path + 1 ≡ bound) where
-  closer : (n : ℕ) (numbers : List ℕ) → CycleThrough ds bound path n numbers → TakesBack ds path n
+  closer : (n : ℕ) (numbers : List ℕ) → CycleThrough ds bound path n numbers → ClosesBack ds path n
   closer n numbers (c, (rest, e)) = last-takes_back ds bound path n rest p (omega arith) (subst (λ x. IsCycle ds bound x) e c)
 
-  module _ (last m : ℕ) (least : IsNext last (TakesBack ds path) (Some m)) where
+  module _ (last m : ℕ) (least : IsNext last (ClosesBack ds path) (Some m)) where
     above : last < m
     above = (least.sound m refl).0
 
@@ -161,7 +161,7 @@ module _ (ds : List Dependency) (bound : ℕ) (path : List ℕ) (p : IsPath ds p
         Exceeds (CycleThrough ds bound path m) most mid → Exceeds (CycleBeyond ds bound path) most old
     closers-exceed = over-exceeds ds bound path (λ n. n ≤ last) m (λ n l. omega (arith, above))
 
-  pub closers-end : (last : ℕ) → IsNext last (TakesBack ds path) None → (old new : List (List ℕ)) →
+  pub closers-end : (last : ℕ) → IsNext last (ClosesBack ds path) None → (old new : List (List ℕ)) →
       Adds (CycleUpTo ds bound path last) old new → Adds (CycleBeyond ds bound path) old new
   closers-end last least = over-end ds bound path (λ n. n ≤ last)
       (λ n numbers c. elim (cases_lt last n) [
@@ -169,7 +169,7 @@ module _ (ds : List Dependency) (bound : ℕ) (path : List ℕ) (p : IsPath ds p
         | inr less ↦ less
       ])
 
-  -- no cycle goes on with a number up to the first
+  -- No cycle continues with a number up to the first one.
   pub closers-begin : (first : ℕ) (old : List (List ℕ)) → slice_get path 0 ≡ Some first → Adds (CycleUpTo ds bound path first) old old
   closers-begin first old at = (
     [],
@@ -199,7 +199,7 @@ module _ (ds : List Dependency) (bound root : ℕ) where
   pub more-than_root : (most : ℕ) → Exceeds (CycleBeyond ds bound (root ∷ [])) most [] → MoreThan (CycleFrom ds bound root) most
   more-than_root most (xs, p, l) = (xs, some-weaker (CycleBeyond ds bound (root ∷ [])) (CycleFrom ds bound root) xs beyond-root p, omega (arith, l))
 
-  -- the same from what the code begins with
+  -- The same at the start of the loop.
   pub cycles-made : (b : ℕ) (path : List ℕ) (old new : List (List ℕ)) → b ≡ bound → path ≡ root ∷ [] → old ≡ [] →
       Adds (CycleBeyond ds b path) old new → AreCyclesFrom ds bound root new
   cycles-made b path old new e f g a = cycles-from_root new

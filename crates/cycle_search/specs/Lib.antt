@@ -1,7 +1,7 @@
 pub mod Search
 pub mod LockNumbers
-pub mod Ranked
+pub mod Components
 pub mod Searched
-pub mod Takers
+pub mod Acquirers
 pub mod Walk
-pub mod Ways
+pub mod Distances

@@ -1,8 +1,8 @@
--- The number of a lock.
+-- Tables from locks to numbers.
 use Rattle.std.specs.Prelude.{ℕ, nat_eq, unwrap_or}
 use Rattle.std.specs.HashMap.{get}
 use Rattle.cycle_search.specs.declared.lock_numbers.LockNumbers.{LockNumbers}
 
--- the number that a lock has
+-- The number of a lock.
 abbrev pub number_in : LockNumbers → ℕ → ℕ
 number_in numbers lock = unwrap_or (get nat_eq numbers.table lock) numbers.otherwise

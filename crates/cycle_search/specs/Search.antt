@@ -1,4 +1,4 @@
--- What the search for cycles knows at each point.
+-- The invariants of the search for cycles.
 use Rattle.std.specs.Prelude.{◌≡◌, ◌≢◌, ℕ, suc, ◌+◌, ◌<◌, ◌≤◌, List, ◌∷◌, ◌++◌, length, slice_get, slice_index, Some, Result, Err}
 use Rattle.std.specs.Global.{Vec}
 use Rattle.arrayvec.specs.ArrayVec.{ArrayVec}
@@ -11,94 +11,95 @@ use Rattle.guards.specs.Compatible.{IsCompatible}
 use Rattle.cycle_search.specs.declared.refused.SearchRefused.{SearchRefused}
 use Rattle.cycle_search.specs.declared.refused.SearchRefused.TheVariants.{TooMany}
 use Rattle.cycle_search.specs.declared.search.Search.{Search}
-use Rattle.cycle_search.specs.Ways.{AreWaysBack}
+use Rattle.cycle_search.specs.Distances.{AreDistances}
 
--- some of the lists with a property, each once, in lexicographic order
+-- Some of the lists with a property, each once, in lexicographic order.
 pub record AreSome (P : List ℕ → Type 0) (lists : List (List ℕ)) : Type 0 where
   pub sound : (numbers : List ℕ) → Contains lists numbers → P numbers
   pub in_order : InOrder lists
 
--- all of them
+-- All of the lists with the property, each once, in lexicographic order.
 pub record AreAll (P : List ℕ → Type 0) (lists : List (List ℕ)) : Type 0 where
   pub some : AreSome P lists
   pub complete : (numbers : List ℕ) → P numbers → Contains lists numbers
 
--- all of them are added to a list
+-- All of the lists with the property are appended to a list.
 abbrev pub Adds : (List ℕ → Type 0) → List (List ℕ) → List (List ℕ) → Type 0
 Adds P old new = (more : List (List ℕ)) × (new ≡ old ++ more) × AreAll P more
 
--- there are more than n of them
+-- There are more than `n` lists with the property.
 abbrev pub MoreThan : (List ℕ → Type 0) → ℕ → Type 0
 MoreThan P n = (some : List (List ℕ)) × AreSome P some × (n < length some)
 
--- with those of the list they are more than n
+-- The lists in `old` and those with the property are more than `n`.
 abbrev pub Exceeds : (List ℕ → Type 0) → ℕ → List (List ℕ) → Type 0
 Exceeds P n old = (more : List (List ℕ)) × AreSome P more × (n < length old + length more)
 
--- the fact holds where a search was refused for too many cycles
+-- The fact holds if a search failed with `TooMany`.
 abbrev pub IfTooMany : {T : Type 0} → Result T SearchRefused → Type 0 → Type 0
 IfTooMany result Fact = result ≡ Err TooMany → Fact
 
--- a path may have eight members at most, and what was found so far is within the limit
+-- A path has at most eight members, and the number of cycles found so far is within the limit.
 pub record IsWithin (search : Search) (found : List (List ℕ)) : Type 0 where
   pub members : search.members ≤ 8
   pub cycles : length found ≤ search.cycles
 
--- the ways lead back to the first member of the path
-abbrev pub HasWays : Search → List ℕ → Type 0
-HasWays search path = AreWaysBack search.searched.now (slice_index path 0) search.ways.now
+-- The distances are those to the first member of the path.
+abbrev pub HasDistances : Search → List ℕ → Type 0
+HasDistances search path = AreDistances search.searched.now (slice_index path 0)
+    search.distances.now
 
--- so many members must come after the number that with the path they are too many
+-- With the members that must follow the number, the path has too many members.
 abbrev pub IsTooFar : Search → List ℕ → ℕ → Type 0
-IsTooFar search path next = search.members ≤ length path + slice_index search.ways.now next
+IsTooFar search path next = search.members ≤ length path + slice_index search.distances.now next
 
--- a cycle up to the bound with this first number
+-- A cycle up to the bound with this first number.
 abbrev pub CycleFrom : List Dependency → ℕ → ℕ → List ℕ → Type 0
 CycleFrom ds bound root numbers = IsCycle ds bound numbers × (slice_get numbers 0 ≡ Some root)
 
--- a cycle up to the bound that begins with the path and goes on
+-- A cycle up to the bound that begins with the path and has more members.
 abbrev pub CycleBeyond : List Dependency → ℕ → List ℕ → List ℕ → Type 0
 CycleBeyond ds bound path numbers =
     IsCycle ds bound numbers × ((next : ℕ) × (rest : List ℕ) × (numbers ≡ path ++ next ∷ rest))
 
--- one that goes on with this number
+-- A cycle up to the bound that begins with the path followed by this number.
 abbrev pub CycleThrough : List Dependency → ℕ → List ℕ → ℕ → List ℕ → Type 0
 CycleThrough ds bound path next numbers =
     IsCycle ds bound numbers × ((rest : List ℕ) × (numbers ≡ path ++ next ∷ rest))
 
--- a search adds to what was found all that begin with the path and go on
+-- The search appends all cycles that begin with the path and have more members.
 abbrev pub AddsBeyond : Search → ArrayVec ℕ → Vec (List ℕ) → Vec (List ℕ) → Type 0
 AddsBeyond search path old new =
     Adds (CycleBeyond search.searched.now search.members path.items) old.items new.items
 
--- with what was found, these are more than it may find
+-- With the cycles found so far, these are more than the limit.
 abbrev pub ExceedsBeyond : Search → ArrayVec ℕ → Vec (List ℕ) → Type 0
 ExceedsBeyond search path old =
     Exceeds (CycleBeyond search.searched.now search.members path.items) search.cycles old.items
 
--- it adds all that go on with this number
+-- The search appends all cycles that begin with the path followed by this number.
 abbrev pub AddsThrough : Search → ArrayVec ℕ → ℕ → Vec (List ℕ) → Vec (List ℕ) → Type 0
 AddsThrough search path next old new =
     Adds (CycleThrough search.searched.now search.members path.items next) old.items new.items
 
--- with what was found, these are more than it may find
+-- With the cycles found so far, these are more than the limit.
 abbrev pub ExceedsThrough : Search → ArrayVec ℕ → ℕ → Vec (List ℕ) → Type 0
 ExceedsThrough search path next old = Exceeds
     (CycleThrough search.searched.now search.members path.items next) search.cycles old.items
 
--- one that goes on with a number that has the property
+-- A cycle that begins with the path followed by a number with the property.
 abbrev pub CycleOver : List Dependency → ℕ → List ℕ → (ℕ → Type 0) → List ℕ → Type 0
 CycleOver ds bound path P numbers = (next : ℕ) × P next × CycleThrough ds bound path next numbers
 
--- the number is one of the first i of these
+-- The number is one of the first `i` of these.
 abbrev pub IsAmong : List ℕ → ℕ → ℕ → Type 0
 IsAmong nexts i next = (k : ℕ) × (k < i) × (slice_get nexts k ≡ Some next)
 
--- one that goes on with a number up to the last
+-- A cycle that begins with the path followed by a number up to `last`.
 abbrev pub CycleUpTo : List Dependency → ℕ → List ℕ → ℕ → List ℕ → Type 0
 CycleUpTo ds bound path last = CycleOver ds bound path (λ next. next ≤ last)
 
--- the path may be the beginning of a cycle
+-- The path may be the beginning of a cycle.
 pub record IsPath (ds : List Dependency) (path : List ℕ) : Type 0 where
   pub begun : 0 < length path
   pub known : All (λ m. m < length ds) path
@@ -110,22 +111,22 @@ pub record IsPath (ds : List Dependency) (path : List ℕ) : Type 0 where
   pub linked : (i : ℕ) (a b : Dependency) → Member ds path i a → Member ds path (suc i) b →
       Contains b.held a.lock
 
--- the lock of the last member is in the held set of the number's dependency
+-- The dependency holds the lock of the path's last member.
 abbrev pub LinksTo : List Dependency → List ℕ → ℕ → Type 0
 LinksTo ds path next = (k : ℕ) (a b : Dependency) → suc k ≡ length path → Member ds path k a →
     slice_get ds next ≡ Some b → Contains b.held a.lock
 
--- the number's dependency takes a lock that is in the held set of the first member
-abbrev pub TakesBack : List Dependency → List ℕ → ℕ → Type 0
-TakesBack ds path next =
+-- The path's first member holds the lock of its last member.
+abbrev pub ClosesBack : List Dependency → List ℕ → ℕ → Type 0
+ClosesBack ds path next =
     (first last : Dependency) × Member ds path 0 first × (slice_get ds next ≡ Some last)
     × Contains first.held last.lock
 
--- the number is above the first one of the path
+-- The number is greater than the first one of the path.
 abbrev pub AboveFirst : List ℕ → ℕ → Type 0
 AboveFirst path next = (first : ℕ) → slice_get path 0 ≡ Some first → first < next
 
--- the number may come next after the path
+-- The number may follow the path.
 pub record Follows (ds : List Dependency) (path : List ℕ) (next : ℕ) : Type 0 where
   pub known : next < length ds
   pub above : AboveFirst path next
@@ -137,7 +138,7 @@ abbrev pub Closes : List Dependency → List ℕ → Type 0
 Closes ds path = (k : ℕ) (first last : Dependency) → suc k ≡ length path → Member ds path 0 first →
     Member ds path k last → Contains first.held last.lock
 
--- exactly the dependencies above the first that hold the lock of the last member, ascending
+-- Exactly the dependencies above the first member that hold the lock of the last member, ascending.
 pub record AreNexts (ds : List Dependency) (path nexts : List ℕ) : Type 0 where
   pub known : (m : ℕ) → Contains nexts m → m < length ds
   pub above : (m : ℕ) → Contains nexts m → AboveFirst path m

@@ -3,10 +3,10 @@ use Rattle.std.specs.Prelude.{List}
 use Rattle.trace_model.specs.Theory.Dependencies.{Dependency}
 use Rattle.lock_graph.specs.declared.graph.LockGraph.{LockGraph}
 use Rattle.lock_graph.specs.Graph.{HasGraphOf}
-use Rattle.cycle_search.specs.declared.ranks.Ranks.{Ranks}
-use Rattle.cycle_search.specs.Ranked.{AreRanks}
+use Rattle.cycle_search.specs.declared.components.Components.{Components}
+use Rattle.cycle_search.specs.Components.{AreComponents}
 
--- the graph and the ranks are those of the dependencies
-pub record AreSearched (ds : List Dependency) (g : LockGraph) (r : Ranks) : Type 0 where
+-- The graph and the components are those of the dependencies.
+pub record AreSearched (ds : List Dependency) (g : LockGraph) (r : Components) : Type 0 where
   pub graph : HasGraphOf ds g
-  pub ranks : AreRanks ds r
+  pub components : AreComponents ds r

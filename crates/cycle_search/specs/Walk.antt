@@ -1,49 +1,49 @@
--- What a walk in depth has left to do. It falls at each step.
+-- How much work a depth-first search has left. It decreases at each step.
 use Rattle.std.specs.Prelude.{◌≡◌, ℕ, ◌+◌, ◌-◌, ◌⊎◌, Bool, false, ◌||◌, List, [], ◌∷◌, ◌++◌, length, nat_eq, is_some, if◌then◌else◌}
 use Rattle.std.specs.HashMap.{get}
 use Rattle.trace_model.specs.Theory.Dependencies.{Dependency}
 use Rattle.lock_graph.specs.declared.graph.LockGraph.{LockGraph}
 use Rattle.lock_graph.specs.Graph.{holders_below}
-use Rattle.cycle_search.specs.declared.components.Stop.{Stop}
-use Rattle.cycle_search.specs.declared.components.Walk.{Walk}
+use Rattle.cycle_search.specs.declared.tarjan.Frame.{Frame}
+use Rattle.cycle_search.specs.declared.tarjan.Walk.{Walk}
 
--- the walk met the lock
-abbrev pub is_met : Walk → ℕ → Bool
-is_met walk lock = is_some (get nat_eq walk.met lock)
+-- The lock was visited.
+abbrev pub is_visited : Walk → ℕ → Bool
+is_visited walk lock = is_some (get nat_eq walk.visited lock)
 
--- the edges of the stop's lock that are not followed, and to leave it
-abbrev pub left_at : (ℕ → List ℕ) → Stop → ℕ
-left_at graph stop = length (graph stop.lock) - stop.followed + 1
+-- The edges of the frame's lock that were not followed, and one step to leave it.
+abbrev pub left_at : (ℕ → List ℕ) → Frame → ℕ
+left_at graph frame = length (graph frame.lock) - frame.followed + 1
 
--- what is left at the stops of a path
-unfoldable pub left_on : (ℕ → List ℕ) → List Stop → ℕ
+-- The work left in the frames of a path.
+unfoldable pub left_on : (ℕ → List ℕ) → List Frame → ℕ
 left_on graph [] = 0
-left_on graph (stop ∷ path) = left_at graph stop + left_on graph path
+left_on graph (frame ∷ path) = left_at graph frame + left_on graph path
 
--- what is left at the locks of the dependencies that are not met
+-- The work left for the locks of the dependencies that were not visited.
 unfoldable pub left_beyond : (ℕ → Bool) → (ℕ → List ℕ) → List Dependency → ℕ
-left_beyond met graph [] = 0
-left_beyond met graph (d ∷ ds) = (if met d.lock then 0 else length (graph d.lock) + 2) +
-    left_beyond met graph ds
+left_beyond visited graph [] = 0
+left_beyond visited graph (d ∷ ds) = (if visited d.lock then 0 else length (graph d.lock) + 2) +
+    left_beyond visited graph ds
 
--- all that is left
+-- All the work left.
 abbrev pub left : (ℕ → List ℕ) → List Dependency → Walk → ℕ
-left graph ds walk = left_on graph walk.path.items + left_beyond (is_met walk) graph ds
+left graph ds walk = left_on graph walk.path.items + left_beyond (is_visited walk) graph ds
 
--- all that is left in a graph of these dependencies, and maybe of later ones
+-- All the work left in a graph that contains the edges of these dependencies.
 abbrev pub left_in : List Dependency → LockGraph → Walk → ℕ
 left_in ds g walk = left (holders_below g (length ds)) ds walk
 
--- the path is the same, and the same locks are met
+-- The path is unchanged, and the same locks are visited.
 pub record Stays (old new : Walk) : Type 0 where
   pub path : new.path.items ≡ old.path.items
-  pub met : (lock : ℕ) → is_met new lock ≡ is_met old lock
+  pub visited : (lock : ℕ) → is_visited new lock ≡ is_visited old lock
 
--- the lock is met, and the path leads to it
+-- The lock is visited and appended to the path.
 pub record Enters (old : Walk) (lock : ℕ) (new : Walk) : Type 0 where
   pub path : new.path.items ≡ old.path.items ++ record { lock = lock; followed = 0 } ∷ []
-  pub met : (other : ℕ) → is_met new other ≡ nat_eq lock other || is_met old other
+  pub visited : (other : ℕ) → is_visited new other ≡ nat_eq lock other || is_visited old other
 
--- it stays, or enters a lock that was not met
+-- The path is unchanged, or a lock that was not visited is entered.
 abbrev pub StaysOrEnters : Walk → ℕ → Walk → Type 0
-StaysOrEnters old lock new = Stays old new ⊎ ((is_met old lock ≡ false) × Enters old lock new)
+StaysOrEnters old lock new = Stays old new ⊎ ((is_visited old lock ≡ false) × Enters old lock new)

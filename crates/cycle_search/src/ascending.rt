@@ -1,10 +1,10 @@
-//! Members of a cycle, in the order in which they are visited.
+//! Sublists of ascending numbers.
 
 ghost use Rattle.std.specs.Prelude.{◌<◌, ◌↔◌, ℕ};
 ghost use Rattle.std.specs.List.{Contains};
 ghost use Rattle.std.specs.List.Sorted.{IsStrictlyIncreasing};
 
-/// Those of ascending numbers that are above a bound.
+/// Returns the numbers greater than `bound`. `numbers` is ascending.
 pub(crate) fn above(numbers: &[u32], bound: u32) -> &[u32]
     requires { IsStrictlyIncreasing numbers.now }
     ensures exact { (m : ℕ) → Contains result.now m ↔ ((bound < m) × Contains numbers.now m) }

@@ -1,4 +1,5 @@
-//! What a search costs, about. No answer depends on it.
+//! Estimates of the cost of a search, for choosing between two ways to search. No result depends on
+//! them.
 
 ghost use Rattle.std.specs.Prelude.{ℕ, ◌<◌, length};
 ghost use Rattle.std.specs.List.{Contains};
@@ -7,30 +8,31 @@ ghost use Rattle.cycle_search.specs.Search.{IsPath};
 use crate::Searched;
 use crate::search::{Path, successors};
 
-/// How many successors are visited in the time of one search among the takers of a lock.
+/// The number of visited successors that cost as much as one binary search in the list of a lock.
 const VISITS_PER_SEARCH: usize = 4;
 
-/// How many successors are visited, for each dependency, in the time that it takes to find how far
-/// all locks are from the root, at most.
-const VISITS_PER_WAY: usize = 16;
+/// For each dependency, the number of visited successors that cost as much as computing the
+/// distances of all locks.
+const VISITS_PER_DISTANCES: usize = 16;
 
-/// With fewer members there is at most one between the root's successors and the last one, which is
-/// looked for from both sides.
+/// The least number of members for which distances are worth computing. With fewer members at most
+/// one member is between the successors of the root and the last member, which is looked up from
+/// both sides.
 const LEAST_MEMBERS: usize = 4;
 
-/// How many successors are visited in the time that it takes to find all members that may close a
-/// path of the root.
+/// Returns the cost, in visited successors, of looking up all members that may close a path of
+/// `root`.
 pub(crate) fn closing_visits(searched: &Searched<'_>, root: u32) -> usize
     requires { root < length searched.now }
 {
     let locks = searched.table.get(root).held.locks();
-    let takers = searched.ranks.takers();
-    let searches = takers.count(locks).saturating_mul(locks.len());
+    let acquirers = searched.components.acquirers();
+    let searches = acquirers.count(locks).saturating_mul(locks.len());
     searches.saturating_mul(VISITS_PER_SEARCH)
 }
 
-/// Whether a search from the path's one member for cycles of so many members takes longer than to
-/// find how far all locks are from it.
+/// Returns whether a search from the path's one member for cycles of up to `members` members costs
+/// more than computing the distances of all locks to it.
 pub(crate) fn is_long(searched: &Searched<'_>, path: &Path, members: usize) -> bool
     requires { IsPath searched.now path.now.items }
 {
@@ -44,10 +46,11 @@ pub(crate) fn is_long(searched: &Searched<'_>, path: &Path, members: usize) -> b
     for _member in LEAST_MEMBERS..members {
         paths = paths.saturating_mul(each);
     }
-    paths / VISITS_PER_WAY > searched.table.len()
+    paths / VISITS_PER_DISTANCES > searched.table.len()
 }
 
-/// How many successors those of the root have together, of which some may be counted more than once.
+/// Returns the total number of successors of `nexts`, the successors of the root. A dependency is
+/// counted once for each predecessor.
 fn third_members(searched: &Searched<'_>, root: u32, nexts: &[u32]) -> usize
     requires root { root < length searched.now }
     requires nexts { (next : ℕ) → Contains nexts.now next → next < length searched.now }
@@ -59,13 +62,13 @@ fn third_members(searched: &Searched<'_>, root: u32, nexts: &[u32]) -> usize
     count
 }
 
-/// How many successors one of the root's successors has in a search.
+/// Returns the number of successors of `next`, a successor of the root, that the search visits.
 fn successors_after(searched: &Searched<'_>, root: u32, next: u32) -> usize
     requires root { root < length searched.now }
     requires next { next < length searched.now }
 {
     let lock = searched.table.get(next).lock;
-    if !searched.ranks.are_equal(root, next) || searched.table.get(root).held.contains(lock) {
+    if !searched.components.in_same(root, next) || searched.table.get(root).held.contains(lock) {
         return 0;
     }
     searched

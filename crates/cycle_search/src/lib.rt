@@ -1,18 +1,26 @@
-//! The cycles of a table of dependencies.
+//! Finds the cycles of a table of dependencies.
+//!
+//! [`cycles_from`] returns all cycles whose first (least) member is a given dependency, each once,
+//! in lexicographic order. It is a depth-first search over paths of dependencies. Two tables prune
+//! it: the strongly connected components of the graph of locks ([`Components`]), and for long
+//! searches the distance from each dependency back to the root. The result does not depend on
+//! either table.
+//!
+//! Start reading at `search.rt`.
 #![tactic(auto)]
 
+mod acquirers;
 mod ascending;
 mod components;
 mod costs;
+mod distances;
 mod lock_numbers;
-mod ranks;
 mod refused;
 mod search;
 mod searched;
-mod takers;
-mod ways;
+mod tarjan;
 
-pub use ranks::Ranks;
+pub use components::Components;
 pub use refused::SearchRefused;
 pub use search::{cycles_from, cycles_within};
 pub use searched::Searched;

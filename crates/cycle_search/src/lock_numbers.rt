@@ -1,4 +1,4 @@
-//! Numbers of locks.
+//! Tables from locks to numbers.
 
 ghost use Rattle.std.specs.Prelude.{◌≡◌, ◌≤◌, ℕ, map, IfOk, IsTrue};
 ghost use Rattle.std.specs.List.{All};
@@ -11,7 +11,7 @@ use std::collections::HashMap;
 use std::collections::hash_map::RandomState;
 use trace_model::NoMemory;
 
-/// A number for each lock: that of the table, and the same one for all locks that it lacks.
+/// A number for each lock: the one in `table`, or `otherwise` if the lock is not in it.
 #[derive(Drop)]
 pub(crate) struct LockNumbers {
     pub(crate) table: HashMap<u32, u32, RandomState>,
@@ -19,7 +19,7 @@ pub(crate) struct LockNumbers {
 }
 
 impl LockNumbers {
-    /// The same number for all locks. It takes no memory.
+    /// Returns a table with the same number for all locks. Does not allocate.
     pub(crate) fn all(alloc: Global, state: RandomState, number: u32) -> LockNumbers
         ensures { (lock : ℕ) → number_in result lock ≡ number }
     {
@@ -29,7 +29,7 @@ impl LockNumbers {
         }
     }
 
-    /// The number of a lock.
+    /// Returns the number of `lock`.
     pub(crate) fn of(&self, lock: u32) -> u32
         ensures { result ≡ number_in self.now lock }
     {
@@ -39,7 +39,7 @@ impl LockNumbers {
         }
     }
 
-    /// Whether none of the locks has a greater number.
+    /// Returns whether each of the locks has a number of at most `most`.
     pub(crate) fn are_within(&self, locks: &[u32], most: u32) -> bool
         ensures { IsTrue result → All (λ lock. number_in self.now lock ≤ most) locks.now }
     {
@@ -51,7 +51,10 @@ impl LockNumbers {
         true
     }
 
-    /// For each dependency of the table the number of the lock that it takes.
+    /// Returns, for each dependency of `table`, the number of the lock that it acquires.
+    ///
+    /// # Errors
+    /// `NoMemory` if an allocation fails.
     pub(crate) fn by_dependency(
         &self,
         alloc: Global,
@@ -68,7 +71,10 @@ impl LockNumbers {
         Ok(numbers)
     }
 
-    /// Gives the number to those of the locks that the table lacks.
+    /// Sets the number of those of the locks that are not in the table.
+    ///
+    /// # Errors
+    /// `NoMemory` if an allocation fails.
     pub(crate) fn enter(&mut self, locks: &[u32], number: u32) -> Result<(), NoMemory> {
         for lock in locks {
             if !self.table.contains_key(lock) {

@@ -1,16 +1,16 @@
-//! Why a search ends early.
+//! Why a search fails.
 
 use std::alloc::AllocFailed;
 use thiserror::Error;
 use trace_model::NoMemory;
 
-/// Why a search gave no cycles.
+/// Why a search returns no cycles.
 #[derive(Debug, Drop, PartialEq, Eq, Error)]
 pub enum SearchRefused {
     /// There are more than 4,294,967,295 cycles.
     #[error("more than 4294967295 cycles")]
     TooMany,
-    /// A growth was refused.
+    /// An allocation failed.
     #[error("no memory")]
     NoMemory,
 }

@@ -1,17 +1,21 @@
-//! The search: each cycle with a given least member, in order.
+//! The depth-first search for the cycles with a given least member.
+//!
+//! A path is a list of dependencies in which each one holds the lock that the one before it
+//! acquires. A path grows by one successor at a time. It is a cycle if its first member holds the
+//! lock that its last member acquires.
 
 ghost use Rattle.std.specs.Prelude.{◌≡◌, ◌<◌, ◌≤◌, ◌↔◌, ◌+◌, ◌++◌, ◌∷◌, [], slice_index, length, IsTrue, IfOk, OnOk, Err};
 ghost use Rattle.trace_model.specs.declared.limits.TheConstants.{MAX_CYCLES};
 ghost use Rattle.trace_model.specs.Theory.Cycles.{AreCyclesFrom};
 ghost use Rattle.guards.specs.Compatible.{IsCompatible};
-ghost use Rattle.cycle_search.specs.Takers.{IsNext};
-ghost use Rattle.cycle_search.specs.Ways.{AreWaysBack};
-ghost use Rattle.cycle_search.specs.Search.{IsPath, Closes, AboveFirst, LinksTo, TakesBack, AreNexts, MoreThan, CycleFrom, IsWithin, HasWays, IsTooFar, AddsBeyond, ExceedsBeyond, AddsThrough, ExceedsThrough, IfTooMany};
+ghost use Rattle.cycle_search.specs.Acquirers.{IsNext};
+ghost use Rattle.cycle_search.specs.Distances.{AreDistances};
+ghost use Rattle.cycle_search.specs.Search.{IsPath, Closes, AboveFirst, LinksTo, ClosesBack, AreNexts, MoreThan, CycleFrom, IsWithin, HasDistances, IsTooFar, AddsBeyond, ExceedsBeyond, AddsThrough, ExceedsThrough, IfTooMany};
 
 use crate::ascending::above;
 use crate::costs::{closing_visits, is_long};
-use crate::ways::ways_back;
-use crate::{Ranks, SearchRefused, Searched};
+use crate::distances::distances_to;
+use crate::{Components, SearchRefused, Searched};
 use arrayvec::ArrayVec;
 use guards::compatible;
 use std::alloc::Global;
@@ -20,24 +24,31 @@ use trace_model::{Bound, Cycle, MAX_CYCLES, MAX_MEMBERS, NoMemory};
 /// The numbers of a path that may grow into a cycle.
 pub(crate) type Path = ArrayVec<u32, MAX_MEMBERS>;
 
-/// What is searched, with the most members of a cycle, and the most cycles.
+/// The parameters of one search.
 #[derive(Clone, Copy)]
 struct Search<'a> {
     searched: &'a Searched<'a>,
-    /// How many members must come at least after each dependency, none where that is not known.
-    ways: &'a [u32],
+    /// The least number of members that must follow each dependency, or an empty list if distances
+    /// were not computed.
+    distances: &'a [u32],
+    /// The maximum number of members of a cycle.
     members: usize,
+    /// The maximum number of cycles.
     cycles: usize,
-    /// Of a path with more successors, the last members are found by the locks that they take.
+    /// If the last member is missing and the path has more successors than this, the search looks
+    /// up the last member by the locks that it acquires.
     successors: usize,
 }
 
-/// All cycles up to the bound whose first number is `root`, each once, in lexicographic order.
-/// `root` must be a number of the dependencies.
+/// Returns all cycles with at most `bound` members whose first member is `root`, each once, in
+/// lexicographic order. The first member of a cycle is its least number, so each cycle is found
+/// from exactly one root.
 ///
 /// # Errors
+/// - `TooMany` only if there are more than 4,294,967,295 such cycles.
+/// - `NoMemory` if an allocation fails.
 ///
-/// `TooMany` where there are more than 4,294,967,295, and `NoMemory` where a growth was refused.
+/// The caller passes a number of a dependency of `searched` as `root`.
 pub fn cycles_from(
     alloc: Global,
     searched: &Searched<'_>,
@@ -53,11 +64,12 @@ pub fn cycles_from(
     cycles_within(alloc, searched, root, bound, MAX_CYCLES)
 }
 
-/// The same, but that `TooMany` is answered where there are more than `most`.
+/// Returns the same as [`cycles_from`], with a limit of `most` cycles instead of 4,294,967,295.
+/// Tests call it with small limits.
 ///
 /// # Errors
-///
-/// `NoMemory` where a growth was refused, `TooMany` exactly as said.
+/// - `TooMany` only if there are more than `most` such cycles.
+/// - `NoMemory` if an allocation fails.
 pub fn cycles_within(
     alloc: Global,
     searched: &Searched<'_>,
@@ -72,10 +84,10 @@ pub fn cycles_within(
 {
     let mut path = Path::new();
     path.push(root);
-    let ways = ways_of(alloc, searched, &path, bound)?;
+    let distances = distances_of(alloc, searched, &path, bound)?;
     let search = Search {
         searched,
-        ways: &ways,
+        distances: &distances,
         members: bound.get() as usize,
         cycles: most,
         successors: closing_visits(searched, root),
@@ -85,39 +97,39 @@ pub fn cycles_within(
     Ok(found)
 }
 
-/// The ways back to the path's one member, where a search from it is long, and else none.
-fn ways_of(
+/// Returns the distances to the path's one member if a search from it is long, else an empty list.
+fn distances_of(
     alloc: Global,
     searched: &Searched<'_>,
     path: &Path,
     bound: Bound,
 ) -> Result<Vec<u32>, NoMemory>
     requires { IsPath searched.now path.now.items }
-    ensures { IfOk result (λ ways. AreWaysBack searched.now (slice_index path.now.items 0)
-        ways.items) }
+    ensures { IfOk result (λ distances. AreDistances searched.now (slice_index path.now.items 0)
+        distances.items) }
 {
     if !is_long(searched, path, bound.get() as usize) {
         return Ok(Vec::new(alloc));
     }
-    let state = searched.ranks.state();
+    let state = searched.components.state();
     let most = u32::from(bound.get()).saturating_sub(1);
-    ways_back(alloc, state, searched.table, path[0], most)
+    distances_to(alloc, state, searched.table, path[0], most)
 }
 
-/// Adds all cycles that begin with the path and go on.
+/// Appends to `found` all cycles that begin with the path and have more members.
 #[cycle(search)]
 fn extend(search: &Search<'_>, path: &mut Path, found: &mut Vec<Cycle>) -> Result<(), SearchRefused>
     requires path { IsPath search.now.searched.now path.old.items }
     requires room { length path.old.items < search.now.members }
     requires limits { IsWithin search.now found.old.items }
-    requires ways { HasWays search.now path.old.items }
+    requires distances { HasDistances search.now path.old.items }
     ensures path { OnOk result (path.new.items ≡ path.old.items) }
     ensures all { OnOk result (AddsBeyond search.now path.old found.old found.new) }
     ensures few { OnOk result (length found.new.items ≤ search.now.cycles) }
     ensures too_many { IfTooMany result (ExceedsBeyond search.now path.old found.old) }
 {
     let nexts = successors(search.searched, path);
-    // many may hold the lock of the last member where few take one that the first member holds
+    // The path may have many successors although few dependencies close it.
     if path.len() + 1 == search.members && search.successors < nexts.len() {
         return close(search, path, found);
     }
@@ -127,14 +139,14 @@ fn extend(search: &Search<'_>, path: &mut Path, found: &mut Vec<Cycle>) -> Resul
     Ok(())
 }
 
-/// Adds all cycles of the path and one member more, which is found by the locks that the first one
-/// holds.
+/// Appends to `found` all cycles that consist of the path and one more member. It looks up that
+/// member by the locks that the first member holds.
 #[cycle(search)]
 fn close(search: &Search<'_>, path: &mut Path, found: &mut Vec<Cycle>) -> Result<(), SearchRefused>
     requires path { IsPath search.now.searched.now path.old.items }
     requires room { length path.old.items + 1 ≡ search.now.members }
     requires limits { IsWithin search.now found.old.items }
-    requires ways { HasWays search.now path.old.items }
+    requires distances { HasDistances search.now path.old.items }
     ensures path { OnOk result (path.new.items ≡ path.old.items) }
     ensures all { OnOk result (AddsBeyond search.now path.old found.old found.new) }
     ensures few { OnOk result (length found.new.items ≤ search.now.cycles) }
@@ -150,7 +162,7 @@ fn close(search: &Search<'_>, path: &mut Path, found: &mut Vec<Cycle>) -> Result
     Ok(())
 }
 
-/// Adds all cycles that begin with the path and go on with the number.
+/// Appends to `found` all cycles that begin with the path followed by `next`.
 #[cycle(search)]
 fn visit(
     search: &Search<'_>,
@@ -161,7 +173,7 @@ fn visit(
     requires path { IsPath search.now.searched.now path.old.items }
     requires room { length path.old.items < search.now.members }
     requires limits { IsWithin search.now found.old.items }
-    requires ways { HasWays search.now path.old.items }
+    requires distances { HasDistances search.now path.old.items }
     requires known { next < length search.now.searched.now }
     requires above { AboveFirst path.old.items next }
     requires linked { LinksTo search.now.searched.now path.old.items next }
@@ -171,7 +183,7 @@ fn visit(
     ensures too_many { IfTooMany result (ExceedsThrough search.now path.old next found.old) }
 {
     let searched = search.searched;
-    if !same_rank(searched.ranks, path, next) {
+    if !same_component(searched.components, path, next) {
         return Ok(());
     }
     if is_too_far(search, path, next) {
@@ -197,30 +209,31 @@ fn visit(
     Ok(())
 }
 
-/// Whether the number has the rank of the path's first member.
-fn same_rank(ranks: &Ranks, path: &Path, next: u32) -> bool
+/// Returns whether `next` is in the component of the path's first member.
+fn same_component(components: &Components, path: &Path, next: u32) -> bool
     requires begun { 0 < length path.now.items }
-    requires first { slice_index path.now.items 0 < length ranks.now.numbers.items }
-    requires next { next < length ranks.now.numbers.items }
+    requires first { slice_index path.now.items 0 < length components.now.numbers.items }
+    requires next { next < length components.now.numbers.items }
     ensures { IsTrue result ↔
-        (slice_index ranks.now.numbers.items (slice_index path.now.items 0) ≡
-        slice_index ranks.now.numbers.items next) }
+        (slice_index components.now.numbers.items (slice_index path.now.items 0) ≡
+        slice_index components.now.numbers.items next) }
 {
-    ranks.are_equal(path[0], next)
+    components.in_same(path[0], next)
 }
 
-/// Whether a cycle that goes on with the number has more members than it may.
+/// Returns whether each cycle that begins with the path and `next` has too many members.
 fn is_too_far(search: &Search<'_>, path: &Path, next: u32) -> bool
     requires { length path.now.items < search.now.members }
     ensures { IsTrue result → IsTooFar search.now path.now.items next }
 {
-    match search.ways.get(next as usize) {
-        Some(way) => path.len() + *way as usize >= search.members,
+    match search.distances.get(next as usize) {
+        Some(distance) => path.len() + *distance as usize >= search.members,
         None => false,
     }
 }
 
-/// Whether a path of so many members has room for the number alone, and is not closed by it.
+/// Returns whether `next` would be the last member that `members` allows, and does not close the
+/// path.
 fn ends_open(searched: &Searched<'_>, members: usize, path: &Path, next: u32) -> bool
     requires path { IsPath searched.now path.now.items }
     requires next { next < length searched.now }
@@ -230,7 +243,7 @@ fn ends_open(searched: &Searched<'_>, members: usize, path: &Path, next: u32) ->
     path.len() + 1 >= members && !closes(searched, path, next)
 }
 
-/// Whether the number may stand in one cycle with all members of the path.
+/// Returns whether `next` is compatible with all members of the path.
 fn fits(searched: &Searched<'_>, path: &Path, next: u32) -> bool
     requires path { IsPath searched.now path.now.items }
     requires next { next < length searched.now }
@@ -239,7 +252,7 @@ fn fits(searched: &Searched<'_>, path: &Path, next: u32) -> bool
     compatible(searched.table, path.as_slice(), next)
 }
 
-/// The cycle with the numbers of a path.
+/// Returns the path as a cycle.
 fn cycle_of(path: &Path) -> Cycle
     requires { 2 ≤ length path.now.items }
     ensures { result ≡ path.now.items }
@@ -250,8 +263,8 @@ fn cycle_of(path: &Path) -> Cycle
     cycle
 }
 
-/// Whether the number's dependency takes a lock that the path's first member holds, so that the
-/// number closes the path.
+/// Returns whether `next` closes the path: the path's first member holds the lock that `next`
+/// acquires.
 #[inline(always)]
 fn closes(searched: &Searched<'_>, path: &Path, next: u32) -> bool
     requires path { IsPath searched.now path.now.items }
@@ -263,7 +276,8 @@ fn closes(searched: &Searched<'_>, path: &Path, next: u32) -> bool
     first.held.contains(last.lock)
 }
 
-/// The dependencies above the path's first member that hold the lock of its last, ascending.
+/// Returns the dependencies above the path's first member that hold the lock of its last member,
+/// ascending.
 pub(crate) fn successors<'a>(searched: &Searched<'a>, path: &Path) -> &'a [u32]
     requires { IsPath searched.now path.now.items }
     ensures { AreNexts searched.now path.now.items result.now }
@@ -274,16 +288,20 @@ pub(crate) fn successors<'a>(searched: &Searched<'a>, path: &Path) -> &'a [u32]
     above(holders, path[0])
 }
 
-/// The least number above a bound whose dependency takes a lock that the path's first member holds.
+/// Returns the least dependency above `bound` that acquires a lock which the path's first member
+/// holds.
 fn next_closer(searched: &Searched<'_>, path: &Path, bound: u32) -> Option<u32>
     requires { IsPath searched.now path.now.items }
-    ensures { IsNext bound (TakesBack searched.now path.now.items) result }
+    ensures { IsNext bound (ClosesBack searched.now path.now.items) result }
 {
     let first = searched.table.get(path[0]);
-    searched.ranks.takers().next(first.held.locks(), bound)
+    searched
+        .components
+        .acquirers()
+        .next(first.held.locks(), bound)
 }
 
-/// Whether the number's dependency holds the lock of the path's last member.
+/// Returns whether `next` holds the lock of the path's last member.
 fn links(searched: &Searched<'_>, path: &Path, next: u32) -> bool
     requires path { IsPath searched.now path.now.items }
     requires next { next < length searched.now }

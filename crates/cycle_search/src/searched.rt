@@ -1,17 +1,17 @@
-//! What a search reads.
+//! The tables that a search reads.
 
-use crate::Ranks;
+use crate::Components;
 use dependencies::DepTable;
 use lock_graph::LockGraph;
 use std::marker::Model;
 
-/// The dependencies that a search reads: their table, their graph and the table's ranks, which
-/// agree by its type. Contracts see it as the dependencies of the table.
+/// A table of dependencies with its graph and its components, which agree by type. Contracts see it
+/// as the list of dependencies.
 #[derive(Drop)]
 pub struct Searched<'a> {
     pub(crate) table: &'a DepTable,
     pub(crate) graph: &'a LockGraph,
-    pub(crate) ranks: &'a Ranks,
+    pub(crate) components: &'a Components,
 }
 
 impl<'a> Model for Searched<'a> {
@@ -24,27 +24,32 @@ impl<'a> Model for Searched<'a> {
 
     ghost view = { λ s. known s.table.now };
 
-    ghost invariant = { λ s. AreSearched (known s.table.now) s.graph.now s.ranks.now };
+    ghost invariant = { λ s. AreSearched (known s.table.now) s.graph.now s.components.now };
 }
 
 impl<'a> Searched<'a> {
     ghost use Rattle.std.specs.Prelude.{◌≡◌};
     ghost use Rattle.dependencies.specs.Tables.{known};
     ghost use Rattle.lock_graph.specs.Graph.{HasGraphOf};
-    ghost use Rattle.cycle_search.specs.Ranked.{AreRanks};
+    ghost use Rattle.cycle_search.specs.Components.{AreComponents};
 
-    /// The dependencies of the table. The ranks must be those of the table, and the graph that of
-    /// its dependencies; later ones that the graph may have besides are left out. It takes no
-    /// memory.
-    pub fn new(table: &'a DepTable, graph: &'a LockGraph, ranks: &'a Ranks) -> Searched<'a>
+    /// Combines the three tables. Does not allocate.
+    ///
+    /// The caller passes the components of `table`, and a graph that contains the edges of its
+    /// dependencies. Edges of later dependencies are ignored.
+    pub fn new(
+        table: &'a DepTable,
+        graph: &'a LockGraph,
+        components: &'a Components,
+    ) -> Searched<'a>
         requires graph { HasGraphOf (known table.now) graph.now }
-        requires ranks { AreRanks (known table.now) ranks.now }
+        requires components { AreComponents (known table.now) components.now }
         ensures { result ≡ known table.now }
     {
         Searched {
             table,
             graph,
-            ranks,
+            components,
         }
     }
 }

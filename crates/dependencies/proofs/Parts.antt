@@ -1,4 +1,4 @@
--- The part of a table that a beginning of the trace has.
+-- The part of a table for a prefix of the trace.
 use Rattle.std.proofs.Common.{◌≡◌, ℕ, zero, suc, ◌<◌, ◌≤◌, ◌==◌, ltb, Bool, true, false, cond, List, [], ◌∷◌, length, take, map, slice_get, Some, refl, sym, ap, subst, ◌∙◌, arith}
 use Rattle.std.specs.Prelude.{◌↔◌}
 use Rattle.std.proofs.lemmas.Bool.{ltb-true, ltb-false}
@@ -10,8 +10,8 @@ use Rattle.std.specs.List.Sorted.{IsStrictlyIncreasing}
 use Rattle.segments.specs.Notes.{places_in, notes_below}
 use Rattle.trace_model.specs.Theory.Dependencies.{Dependency}
 use Rattle.trace_model.proofs.Theory.Ascending.{place_of, contains_at}
-use Rattle.dependencies.specs.Tables.{placed, AreRows, IsTotal, IsPart}
-use Rattle.dependencies.specs.Entries.{rows_from, IsKeptOf}
+use Rattle.dependencies.specs.Tables.{placed, IsListing, IsTotal, IsPart}
+use Rattle.dependencies.specs.Entries.{listing_from, IsKeptOf}
 use Rattle.dependencies.proofs.Shown.{NoneBeyond, known_from, length_from, places_all}
 
 -- ---- numbers of a list that are below n
@@ -96,7 +96,7 @@ none_in (x ∷ xs) h = absurd (h x (contains_at (x ∷ xs) x 0 refl))
 -- ---- the part
 
 module _ (ds ds' : List Dependency) (notes notes' : List (ℕ × ℕ)) (numbers total n : ℕ)
-    (kept : IsKeptOf ds notes numbers) (rows : AreRows (rows_from 0 ds notes)) (is_total : IsTotal (rows_from 0 ds notes) total n)
+    (kept : IsKeptOf ds notes numbers) (listing : IsListing (listing_from 0 ds notes)) (is_total : IsTotal (listing_from 0 ds notes) total n)
     (first : ds' ≡ take total ds) (early : notes' ≡ notes_below n notes) where
   within : total ≤ length ds
   within = let len = length_from 0 ds notes in let l = is_total.within in omega arith
@@ -107,7 +107,7 @@ module _ (ds ds' : List Dependency) (notes notes' : List (ℕ × ℕ)) (numbers 
   early_in : (m : ℕ) → places_in notes' m ≡ below n (places_in notes m)
   early_in m = ap (λ xs. places_in xs m) early ∙ places_below n notes m
 
-  all_in : (m : ℕ) → placed (rows_from 0 ds notes) m ≡ places_in notes m
+  all_in : (m : ℕ) → placed (listing_from 0 ds notes) m ≡ places_in notes m
   all_in m = places_all ds notes kept.beyond m
 
   beyond : NoneBeyond ds' notes'
@@ -117,32 +117,32 @@ module _ (ds ds' : List Dependency) (notes notes' : List (ℕ × ℕ)) (numbers 
       let len = count in
       omega arith)
 
-  pub part_places : (m : ℕ) → placed (rows_from 0 ds' notes') m ≡ below n (placed (rows_from 0 ds notes) m)
+  pub part_places : (m : ℕ) → placed (listing_from 0 ds' notes') m ≡ below n (placed (listing_from 0 ds notes) m)
   part_places m = places_all ds' notes' beyond m ∙ early_in m ∙ ap (below n) (sym (all_in m))
 
-  in_part : (m p : ℕ) → Contains (placed (rows_from 0 ds' notes') m) p ↔ ((p < n) × Contains (placed (rows_from 0 ds notes) m) p)
+  in_part : (m p : ℕ) → Contains (placed (listing_from 0 ds' notes') m) p ↔ ((p < n) × Contains (placed (listing_from 0 ds notes) m) p)
   in_part m p =
-      let exact = below_exact n (placed (rows_from 0 ds notes) m) p in (
+      let exact = below_exact n (placed (listing_from 0 ds notes) m) p in (
         (λ c. exact.0 (subst (λ (ps : List ℕ). Contains ps p) (part_places m) c)),
         (λ r. subst (λ (ps : List ℕ). Contains ps p) (sym (part_places m)) (exact.1 r)),
       )
 
-  pub part_is : IsPart (rows_from 0 ds notes) total n (rows_from 0 ds' notes')
+  pub part_is : IsPart (listing_from 0 ds notes) total n (listing_from 0 ds' notes')
   part_is = record {
     dependencies = known_from 0 ds' notes' ∙ first ∙ ap (take total) (sym (known_from 0 ds notes));
     places = in_part;
   }
 
-  pub part_rows : AreRows (rows_from 0 ds' notes')
-  part_rows = record {
-    ascends = λ m. subst IsStrictlyIncreasing (sym (part_places m)) (IsStrictlyIncreasing-filter (λ p. ltb p n) (placed (rows_from 0 ds notes) m) (rows.ascends m));
+  pub part_listing : IsListing (listing_from 0 ds' notes')
+  part_listing = record {
+    ascends = λ m. subst IsStrictlyIncreasing (sym (part_places m)) (IsStrictlyIncreasing-filter (λ p. ltb p n) (placed (listing_from 0 ds notes) m) (listing.ascends m));
     some = λ m l.
         let len = length_from 0 ds' notes' in
         let c = count in
         let p = is_total.some m (omega arith) in
         (p.0, (in_part m p.0).1 (p.2, p.1));
-    least = λ m p c. rows.least m p ((in_part m p).0 c).1;
-    few = (let len = length_from 0 ds' notes' in let c = count in let w = is_total.within in let f = rows.few in omega arith);
+    least = λ m p c. listing.least m p ((in_part m p).0 c).1;
+    few = (let len = length_from 0 ds' notes' in let c = count in let w = is_total.within in let f = listing.few in omega arith);
   }
 
   pub part_kept : IsKeptOf ds' notes' numbers

@@ -19,10 +19,10 @@ use Rattle.trace_model.proofs.Lists.{length-push, same_bool, take_next}
 use Rattle.trace_model.proofs.Theory.Ascending.{place_of, contains_at}
 use Rattle.std.specs.List.Sorted.{IsStrictlyIncreasing}
 use Rattle.dependencies.specs.Tables.{named, placed, EndBelow, HaveOneMore}
-use Rattle.dependencies.specs.Entries.{rows_from, IsKeptOf}
+use Rattle.dependencies.specs.Entries.{listing_from, IsKeptOf}
 use Rattle.dependencies.proofs.Noting.{noted_known, noted_new, push_increases}
 
--- what has no place among the keys is not named
+-- a dependency without a position is not in the list
 none_is : {X : Type 0} (o : Option X) → is_some o ≡ false → o ≡ None
 none_is None h = refl
 none_is (Some x) h = absurd (true≢false h)
@@ -32,7 +32,7 @@ at_position d ds i h =
     let p = position-Some (same_dependency d) ds i d h in
     slice_get-get_or ds i d p.0 ∙ ap Some (sym (same_dependency_so d (get_or ds i d) p.1))
 
--- one of distinct dependencies stands where it is first found
+-- one of distinct dependencies is at its first position
 pub position_of : (d : Dependency) (ds : List Dependency) (i : ℕ) → IsDistinct same_dependency ds → slice_get ds i ≡ Some d → position (same_dependency d) ds ≡ Some i
 position_of d ds i once at =
     let within : i < length ds = slice_get_within ds i d at in
@@ -80,22 +80,22 @@ inserted {V} {S} m es d v gone after = ap keys_of (after ∙ insert_entry-new sa
 
 -- ---- tables
 
-pub known_from : (k : ℕ) (ds : List Dependency) (notes : List (ℕ × ℕ)) → named (rows_from k ds notes) ≡ ds
+pub known_from : (k : ℕ) (ds : List Dependency) (notes : List (ℕ × ℕ)) → named (listing_from k ds notes) ≡ ds
 known_from k [] notes = refl
 known_from k (d ∷ ds) notes = ap (λ ks. d ∷ ks) (known_from (suc k) ds notes)
 
-pub length_from : (k : ℕ) (ds : List Dependency) (notes : List (ℕ × ℕ)) → length (rows_from k ds notes) ≡ length ds
+pub length_from : (k : ℕ) (ds : List Dependency) (notes : List (ℕ × ℕ)) → length (listing_from k ds notes) ≡ length ds
 length_from k [] notes = refl
 length_from k (d ∷ ds) notes = ap suc (length_from (suc k) ds notes)
 
-pub places_from : (k : ℕ) (ds : List Dependency) (notes : List (ℕ × ℕ)) (m : ℕ) → m < length ds → placed (rows_from k ds notes) m ≡ places_in notes (k + m)
+pub places_from : (k : ℕ) (ds : List Dependency) (notes : List (ℕ × ℕ)) (m : ℕ) → m < length ds → placed (listing_from k ds notes) m ≡ places_in notes (k + m)
 places_from k [] notes m l = absurd (omega arith)
 places_from k (d ∷ ds) notes zero l = let same : k ≡ k + 0 = omega arith in ap (places_in notes) same
 places_from k (d ∷ ds) notes (suc m) l =
     let same : suc k + m ≡ k + suc m = omega arith in
     places_from (suc k) ds notes m (omega arith) ∙ ap (places_in notes) same
 
-beyond_from : (k : ℕ) (ds : List Dependency) (notes : List (ℕ × ℕ)) (m : ℕ) → length ds ≤ m → placed (rows_from k ds notes) m ≡ []
+beyond_from : (k : ℕ) (ds : List Dependency) (notes : List (ℕ × ℕ)) (m : ℕ) → length ds ≤ m → placed (listing_from k ds notes) m ≡ []
 beyond_from k [] notes m l = refl
 beyond_from k (d ∷ ds) notes zero l = absurd (omega arith)
 beyond_from k (d ∷ ds) notes (suc m) l = beyond_from (suc k) ds notes m (omega arith)
@@ -103,8 +103,8 @@ beyond_from k (d ∷ ds) notes (suc m) l = beyond_from (suc k) ds notes m (omega
 abbrev pub NoneBeyond : List Dependency → List (ℕ × ℕ) → Type 0
 NoneBeyond ds notes = (m : ℕ) → length ds ≤ m → places_in notes m ≡ []
 
--- the places of each number, also of one that is not there
-pub places_all : (ds : List Dependency) (notes : List (ℕ × ℕ)) → NoneBeyond ds notes → (m : ℕ) → placed (rows_from 0 ds notes) m ≡ places_in notes m
+-- the places of each number, also of an unknown one
+pub places_all : (ds : List Dependency) (notes : List (ℕ × ℕ)) → NoneBeyond ds notes → (m : ℕ) → placed (listing_from 0 ds notes) m ≡ places_in notes m
 places_all ds notes none m = elim (cases_lt m (length ds)) [
   | inl l ↦ let same : 0 + m ≡ m = omega arith in places_from 0 ds notes m l ∙ ap (places_in notes) same
   | inr l ↦ beyond_from 0 ds notes m l ∙ sym (none m l)
@@ -135,12 +135,12 @@ places_elsewhere notes n p m h = places_push notes (n, p) m ∙ ap (λ b. cond b
 pub beyond_push : (ds : List Dependency) (notes : List (ℕ × ℕ)) (n p k : ℕ) → NoneBeyond ds notes → length ds ≤ k → n < k → (m : ℕ) → k ≤ m → places_in (notes ++ (n, p) ∷ []) m ≡ []
 beyond_push ds notes n p k none l b m h = places_elsewhere notes n p m (λ e. omega arith) ∙ none m (omega arith)
 
--- one more place of a number that is there
+-- one more place of a known number
 pub known_noted : (ds : List Dependency) (notes notes' : List (ℕ × ℕ)) (p : ℕ) (d : Dependency) (n : ℕ) → NoneBeyond ds notes → slice_get ds n ≡ Some d → n < length ds →
-    notes' ≡ notes ++ (n, p) ∷ [] → HaveOneMore (rows_from 0 ds notes) p d n (rows_from 0 ds notes')
+    notes' ≡ notes ++ (n, p) ∷ [] → HaveOneMore (listing_from 0 ds notes) p d n (listing_from 0 ds notes')
 known_noted ds notes notes' p d n none at within is =
-    subst (λ xs. HaveOneMore (rows_from 0 ds notes) p d n (rows_from 0 ds xs)) (sym is)
-    (noted_known (rows_from 0 ds notes) (rows_from 0 ds more) p d n (ap (λ xs. slice_get xs n) (known_from 0 ds notes) ∙ at) (known_from 0 ds more ∙ sym (known_from 0 ds notes))
+    subst (λ xs. HaveOneMore (listing_from 0 ds notes) p d n (listing_from 0 ds xs)) (sym is)
+    (noted_known (listing_from 0 ds notes) (listing_from 0 ds more) p d n (ap (λ xs. slice_get xs n) (known_from 0 ds notes) ∙ at) (known_from 0 ds more ∙ sym (known_from 0 ds notes))
     (places_all ds more none' n ∙ places_here notes n p ∙ ap (λ xs. xs ++ p ∷ []) (sym (places_all ds notes none n)))
     (λ m h. places_all ds more none' m ∙ places_elsewhere notes n p m (λ e. h (sym e)) ∙ sym (places_all ds notes none m)))
   where
@@ -151,27 +151,27 @@ known_noted ds notes notes' p d n none at within is =
     none' = beyond_push ds notes n p (length ds) none (omega arith) within
 
 from_push : (k : ℕ) (ds : List Dependency) (d : Dependency) (notes notes' : List (ℕ × ℕ)) → ((m : ℕ) → m < k + length ds → places_in notes' m ≡ places_in notes m) →
-    rows_from k (ds ++ d ∷ []) notes' ≡ rows_from k ds notes ++ (d, places_in notes' (k + length ds)) ∷ []
+    listing_from k (ds ++ d ∷ []) notes' ≡ listing_from k ds notes ++ (d, places_in notes' (k + length ds)) ∷ []
 from_push k [] d notes notes' h = let same : k ≡ k + 0 = omega arith in ap (λ i. (d, places_in notes' i) ∷ []) same
 from_push k (x ∷ ds) d notes notes' h =
     let same : suc k + length ds ≡ k + suc (length ds) = omega arith in
-    ap (λ ps. (x, ps) ∷ rows_from (suc k) (ds ++ d ∷ []) notes') (h k (omega arith))
-    ∙ ap (λ t. (x, places_in notes k) ∷ t) (from_push (suc k) ds d notes notes' (λ m l. h m (omega arith)) ∙ ap (λ i. rows_from (suc k) ds notes ++ (d, places_in notes' i) ∷ []) same)
+    ap (λ ps. (x, ps) ∷ listing_from (suc k) (ds ++ d ∷ []) notes') (h k (omega arith))
+    ∙ ap (λ t. (x, places_in notes k) ∷ t) (from_push (suc k) ds d notes notes' (λ m l. h m (omega arith)) ∙ ap (λ i. listing_from (suc k) ds notes ++ (d, places_in notes' i) ∷ []) same)
 
 -- a new dependency with its first place
 pub new_noted : (ds ds' : List Dependency) (notes notes' : List (ℕ × ℕ)) (p : ℕ) (d : Dependency) (n : ℕ) → NoneBeyond ds notes → list_any (same_dependency d) ds ≡ false → n ≡ length ds →
-    notes' ≡ notes ++ (n, p) ∷ [] → ds' ≡ ds ++ d ∷ [] → HaveOneMore (rows_from 0 ds notes) p d n (rows_from 0 ds' notes')
+    notes' ≡ notes ++ (n, p) ∷ [] → ds' ≡ ds ++ d ∷ [] → HaveOneMore (listing_from 0 ds notes) p d n (listing_from 0 ds' notes')
 new_noted ds ds' notes notes' p d n none gone at is keys =
     let len = length_from 0 ds notes in
     let zero_n : 0 + length ds ≡ n = omega arith in
     let first : places_in notes' n ≡ p ∷ [] = ap (λ xs. places_in xs n) is ∙ places_here notes n p ∙ ap (λ xs. xs ++ p ∷ []) (none n (omega arith)) in
-    let table : rows_from 0 ds' notes' ≡ rows_from 0 ds notes ++ (d, p ∷ []) ∷ [] =
-    ap (λ ks. rows_from 0 ks notes') keys
+    let table : listing_from 0 ds' notes' ≡ listing_from 0 ds notes ++ (d, p ∷ []) ∷ [] =
+    ap (λ ks. listing_from 0 ks notes') keys
     ∙ from_push 0 ds d notes notes' (λ m l. ap (λ xs. places_in xs m) is ∙ places_elsewhere notes n p m (λ e. omega arith))
-    ∙ ap (λ ps. rows_from 0 ds notes ++ (d, ps) ∷ []) (ap (places_in notes') zero_n ∙ first) in
-    subst (λ t. HaveOneMore (rows_from 0 ds notes) p d n t) (sym table)
-    (subst (λ i. HaveOneMore (rows_from 0 ds notes) p d i (rows_from 0 ds notes ++ (d, p ∷ []) ∷ [])) (len ∙ sym at)
-    (noted_new (rows_from 0 ds notes) p d (ap (list_any (same_dependency d)) (known_from 0 ds notes) ∙ gone)))
+    ∙ ap (λ ps. listing_from 0 ds notes ++ (d, ps) ∷ []) (ap (places_in notes') zero_n ∙ first) in
+    subst (λ t. HaveOneMore (listing_from 0 ds notes) p d n t) (sym table)
+    (subst (λ i. HaveOneMore (listing_from 0 ds notes) p d i (listing_from 0 ds notes ++ (d, p ∷ []) ∷ [])) (len ∙ sym at)
+    (noted_new (listing_from 0 ds notes) p d (ap (list_any (same_dependency d)) (known_from 0 ds notes) ∙ gone)))
 
 numbers_grow : (n k after : ℕ) → n ≤ k → after ≡ cond (nat_eq n k) (k + 1) k → (k ≤ after) × (n < after)
 numbers_grow n k after l h = elim (cases_eq n k) [
@@ -203,12 +203,12 @@ noted_at (e ∷ notes) (suc k) q h =
     go true m j k = contains_at (e.1 ∷ places_in notes m) q (suc j) k
     go false m j k = contains_at (places_in notes m) q j k
 
-noted_below : (ds : List Dependency) (notes : List (ℕ × ℕ)) (p k q : ℕ) → NoneBeyond ds notes → EndBelow (rows_from 0 ds notes) p → slice_get (map (λ x. x.1) notes) k ≡ Some q → q < p
+noted_below : (ds : List Dependency) (notes : List (ℕ × ℕ)) (p k q : ℕ) → NoneBeyond ds notes → EndBelow (listing_from 0 ds notes) p → slice_get (map (λ x. x.1) notes) k ≡ Some q → q < p
 noted_below ds notes p k q none below h =
     let at = noted_at notes k q h in
     below at.0 q (subst (λ (ps : List ℕ). Contains ps q) (sym (places_all ds notes none at.0)) at.1)
 
-ascend_push : (ds : List Dependency) (notes notes' : List (ℕ × ℕ)) (n p : ℕ) → NoneBeyond ds notes → Ascend notes → EndBelow (rows_from 0 ds notes) p → notes' ≡ notes ++ (n, p) ∷ [] → Ascend notes'
+ascend_push : (ds : List Dependency) (notes notes' : List (ℕ × ℕ)) (n p : ℕ) → NoneBeyond ds notes → Ascend notes → EndBelow (listing_from 0 ds notes) p → notes' ≡ notes ++ (n, p) ∷ [] → Ascend notes'
 ascend_push ds notes notes' n p none up below is =
     subst IsStrictlyIncreasing (sym (ap (map (λ x. x.1)) is ∙ place_push notes (n, p)))
     (push_increases (map (λ x. x.1) notes) p up (λ q c. let at = place_of (map (λ x. x.1) notes) q c in noted_below ds notes p at.0 q none below at.1))
@@ -221,8 +221,8 @@ least_or xs (suc i) up l =
     let before = least_or xs i up (omega arith) in
     omega arith
 
--- there are no more notes than places below a bound of them
-pub few_notes : (ds : List Dependency) (notes : List (ℕ × ℕ)) (numbers p : ℕ) → IsKeptOf ds notes numbers → EndBelow (rows_from 0 ds notes) p → length notes ≤ p
+-- the number of notes is at most a bound of their places
+pub few_notes : (ds : List Dependency) (notes : List (ℕ × ℕ)) (numbers p : ℕ) → IsKeptOf ds notes numbers → EndBelow (listing_from 0 ds notes) p → length notes ≤ p
 few_notes ds notes numbers p kept below = go (length (map (λ x. x.1) notes)) refl
   where
     len : (xs : List (ℕ × ℕ)) → length (map (λ x. x.1) xs) ≡ length xs
@@ -239,7 +239,7 @@ few_notes ds notes numbers p kept below = go (length (map (λ x. x.1) notes)) re
 
 -- ---- one more note
 
-pub kept_known : (ds : List Dependency) (notes notes' : List (ℕ × ℕ)) (p n k k' : ℕ) → IsKeptOf ds notes k → EndBelow (rows_from 0 ds notes) p → n < length ds →
+pub kept_known : (ds : List Dependency) (notes notes' : List (ℕ × ℕ)) (p n k k' : ℕ) → IsKeptOf ds notes k → EndBelow (listing_from 0 ds notes) p → n < length ds →
     notes' ≡ notes ++ (n, p) ∷ [] → k' ≡ cond (nat_eq n k) (k + 1) k → IsKeptOf ds notes' k'
 kept_known ds notes notes' p n k k' kept below within is after = record {
   counted = let c = kept.counted in let g = numbers_grow n k k' (omega arith) after in let l = g.0 in omega arith;
@@ -247,7 +247,7 @@ kept_known ds notes notes' p n k k' kept below within is after = record {
   ascend = ascend_push ds notes notes' n p kept.beyond kept.ascend below is;
 }
 
-pub kept_new : (ds ds' : List Dependency) (notes notes' : List (ℕ × ℕ)) (p : ℕ) (d : Dependency) (n k k' : ℕ) → IsKeptOf ds notes k → EndBelow (rows_from 0 ds notes) p → n ≡ length ds →
+pub kept_new : (ds ds' : List Dependency) (notes notes' : List (ℕ × ℕ)) (p : ℕ) (d : Dependency) (n k k' : ℕ) → IsKeptOf ds notes k → EndBelow (listing_from 0 ds notes) p → n ≡ length ds →
     notes' ≡ notes ++ (n, p) ∷ [] → ds' ≡ ds ++ d ∷ [] → k' ≡ cond (nat_eq n k) (k + 1) k → IsKeptOf ds' notes' k'
 kept_new ds ds' notes notes' p d n k k' kept below at is keys after =
     let len = ap length keys ∙ length-push ds d in
@@ -278,7 +278,7 @@ dependencies_are = record {
     turned : (a b : Dependency) → same_dependency a b ≡ true → same_dependency b a ≡ true
     turned a b h = subst (λ x. same_dependency x a ≡ true) (same_dependency_so a b h) (same_dependency_itself a)
 
--- what stands next in a list where each stands once is new to a map of those before it
+-- the next element of a distinct list is not in a map of the elements before it
 pub next_key : {V S : Type 0} → (ds : List Dependency) (m : IndexMap Dependency V S) (after : List (Dependency × V)) (n : ℕ) (d : Dependency) (v : V) →
     IsDistinct same_dependency ds → keys_of m.entries ≡ take n ds → slice_get ds n ≡ Some d → after ≡ insert_entry same_dependency m.entries d v →
     keys_of after ≡ take (suc n) ds

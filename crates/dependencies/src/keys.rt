@@ -1,5 +1,5 @@
-//! The dependencies in order of first appearance, in segments that later tables share, and their
-//! numbers by hash.
+//! The dependencies in order of first appearance, in shared segments, and the look-up of their
+//! numbers.
 
 ghost use Rattle.std.specs.Prelude.{◌≡◌, ◌≤◌, ◌<◌, ◌+◌, [], ◌∷◌, ◌++◌, length, take, Some, None, slice_get, true, OnOk, IfOk, position};
 ghost use Rattle.std.specs.Map.{keys_of};
@@ -7,34 +7,25 @@ ghost use Rattle.trace_model.specs.Theory.Dependencies.{same_dependency};
 
 use crate::Dependency;
 use indexmap::IndexMap;
+use number_map::PositionCache;
 use segments::Segments;
-use slots::Guesses;
 use std::alloc::Global;
 use std::collections::hash_map::RandomState;
 use std::marker::Model;
 use trace_model::NoMemory;
 
-/// Dependencies in order, each once. A table that shares them has no number by hash until room is
-/// made in it. The number of one that came lately is looked for in a cell of its thread and lock,
-/// before its held set is hashed.
+/// Distinct dependencies in order, and a hash map from each to its number. A shared copy fills its
+/// hash map in `reserve`. A position cache by thread and lock finds recent dependencies without
+/// hashing their held sets.
+#[derive(Drop)]
 pub(crate) struct Keys {
     list: Segments<Dependency>,
     numbers: IndexMap<Dependency, (), RandomState>,
-    guesses: Guesses,
+    cache: PositionCache,
 }
 
-impl Drop for Keys {
-    fn drop(self) {
-        let Keys {
-            list: _,
-            numbers: _,
-            guesses: _,
-        } = self;
-    }
-}
-
-/// The cell of a dependency.
-fn cell(dependency: &Dependency) -> u32 {
+/// Returns the key of `dependency` in the position cache: a mix of its lock and its thread.
+fn cache_key(dependency: &Dependency) -> u32 {
     dependency
         .lock
         .wrapping_add(dependency.thread.wrapping_mul(31))
@@ -53,18 +44,18 @@ impl Model for Keys {
 }
 
 impl Keys {
-    /// None.
+    /// Returns the empty list.
     pub(crate) fn new(alloc: Global, state: RandomState) -> Keys
         ensures { result.keys ≡ [] }
     {
         Keys {
             list: Segments::new(alloc),
             numbers: IndexMap::with_hasher(alloc, state),
-            guesses: Guesses::new(),
+            cache: PositionCache::new(),
         }
     }
 
-    /// How many there are.
+    /// Returns the number of dependencies.
     pub(crate) fn len(&self) -> usize
         requires { length self.now.keys ≤ 4294967296 }
         ensures { result ≡ length self.now.keys }
@@ -72,7 +63,7 @@ impl Keys {
         self.list.len()
     }
 
-    /// The one with this number.
+    /// Returns the dependency with this number.
     pub(crate) fn get(&self, number: usize) -> &Dependency
         requires { number < length self.now.keys }
         ensures { slice_get self.now.keys number ≡ Some result.now }
@@ -83,8 +74,8 @@ impl Keys {
         dependency
     }
 
-    /// Whether a dependency has this number.
-    fn stands_at(&self, number: usize, dependency: &Dependency) -> bool
+    /// Returns whether `dependency` has this number.
+    fn is_at(&self, number: usize, dependency: &Dependency) -> bool
         ensures { result ≡ true →
             position (same_dependency dependency.now) self.now.keys ≡ Some number }
     {
@@ -94,19 +85,20 @@ impl Keys {
         }
     }
 
-    /// The number of a dependency, if it has one, where room was made.
+    /// Returns the number of `dependency`, or `None` if it has none. Memory must be reserved, so
+    /// that the hash map is complete.
     pub(crate) fn number_of(&self, dependency: &Dependency) -> Option<usize>
         requires { self.now.room ≡ true }
         ensures { result ≡ position (same_dependency dependency.now) self.now.keys }
     {
-        let guess = self.guesses.of(cell(dependency));
-        if self.stands_at(guess, dependency) {
-            return Some(guess);
+        let candidate = self.cache.candidate(cache_key(dependency));
+        if self.is_at(candidate, dependency) {
+            return Some(candidate);
         }
         self.numbers.get_index_of(dependency)
     }
 
-    /// Makes room for one more.
+    /// Completes the hash map, and reserves memory for one more dependency.
     pub(crate) fn reserve(&mut self) -> Result<(), NoMemory>
         requires { length self.old.keys ≤ 4294967296 }
         ensures shown { self.new.keys ≡ self.old.keys }
@@ -120,20 +112,22 @@ impl Keys {
         Ok(())
     }
 
-    /// Adds one that is not there, where room was made.
+    /// Adds a new dependency at the end. Memory must be reserved.
     pub(crate) fn add(&mut self, dependency: Dependency)
         requires new { position (same_dependency dependency) self.old.keys ≡ None }
         requires room { self.old.room ≡ true }
         ensures { self.new.keys ≡ self.old.keys ++ dependency ∷ [] }
     {
-        self.guesses.note(cell(&dependency), self.numbers.len());
+        self.cache
+            .record(cache_key(&dependency), self.numbers.len());
         self.list.put(dependency.copied());
         let Ok(_) = self.numbers.insert(dependency, ()) else {
             unreachable!()
         };
     }
 
-    /// The first ones: full segments are shared, and at most 4,096 of them copied.
+    /// Returns the first `total` dependencies. Sealed segments are shared, and at most 4,096
+    /// dependencies are copied.
     pub(crate) fn share(&self, total: usize) -> Result<Keys, NoMemory>
         requires within { total ≤ length self.now.keys }
         requires few { length self.now.keys ≤ 4294967296 }
@@ -149,11 +143,11 @@ impl Keys {
         Ok(Keys {
             list,
             numbers: IndexMap::with_hasher(alloc, state),
-            guesses: Guesses::new(),
+            cache: PositionCache::new(),
         })
     }
 
-    /// Gives the next one its number by hash.
+    /// Adds the next dependency to the hash map.
     fn number_next(&mut self, number: usize) -> Result<(), NoMemory>
         requires next { self.old.numbered ≡ number }
         requires within { number < length self.old.keys }

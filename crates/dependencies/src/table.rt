@@ -12,29 +12,24 @@ use std::marker::Model;
 use trace_model::{NoMemory, Place};
 
 /// The dependencies by number, from 0 by first appearance, each with its places.
+#[derive(Drop)]
 pub struct DepTable {
     entries: Entries,
 }
 
-impl Drop for DepTable {
-    fn drop(self) {
-        let DepTable { entries: _ } = self;
-    }
-}
-
 impl Model for DepTable {
-    ghost use Rattle.dependencies.specs.Tables.{Table, AreRows};
-    ghost use Rattle.dependencies.specs.Entries.{shown_by, rows_of, IsKept};
+    ghost use Rattle.dependencies.specs.Tables.{Table, IsListing};
+    ghost use Rattle.dependencies.specs.Entries.{shown_by, listing_of, IsKept};
 
     ghost Value = { Table };
 
     ghost view = { λ t. shown_by t.entries };
 
-    ghost invariant = { λ t. AreRows (rows_of t.entries) × IsKept t.entries };
+    ghost invariant = { λ t. IsListing (listing_of t.entries) × IsKept t.entries };
 }
 
 impl DepTable {
-    /// No dependency. It takes no memory.
+    /// Returns the table without dependencies. Does not allocate.
     pub fn new(alloc: Global, state: RandomState) -> DepTable
         ensures { result.shown ≡ [] }
     {
@@ -43,7 +38,7 @@ impl DepTable {
         }
     }
 
-    /// How many dependencies there are. It takes no memory.
+    /// Returns the number of dependencies. Does not allocate.
     pub fn len(&self) -> usize
         ensures value { result ≡ length (known self.now) }
         ensures few { length (known self.now) ≤ 4294967296 }
@@ -51,14 +46,14 @@ impl DepTable {
         self.entries.len()
     }
 
-    /// Whether there is none. It takes no memory.
+    /// Returns whether there is no dependency. Does not allocate.
     pub fn is_empty(&self) -> bool
         ensures { result ≡ nat_eq (length (known self.now)) 0 }
     {
         self.len() == 0
     }
 
-    /// The dependency with this number, which must be below `len()`. It takes no memory.
+    /// Returns the dependency with this number, which must be below `len()`. Does not allocate.
     pub fn get(&self, number: u32) -> &Dependency
         requires { number < length (known self.now) }
         ensures { slice_get (known self.now) number ≡ Some result.now }
@@ -66,8 +61,8 @@ impl DepTable {
         self.entries.dependency(number as usize)
     }
 
-    /// The places of the dependency with this number, which must be below `len()`. It takes no
-    /// memory.
+    /// Returns the places of the dependency with this number, which must be below `len()`:
+    /// ascending, read by index. Does not allocate.
     pub fn places(&self, number: u32) -> PlacesOf<'_>
         requires { number < length (known self.now) }
         ensures { result ≡ places_of self.now number }
@@ -75,65 +70,54 @@ impl DepTable {
         self.entries.places(number)
     }
 
-    /// Adds a place of a dependency, which must be later than all places noted before, and answers
-    /// the dependency's number: the one that it has, or the next.
+    /// Adds a place of `dependency`, and returns its number: the one that it has, or the next one.
+    /// The place must be later than all recorded places.
+    ///
+    /// Part of the public API; not called by the program, which calls `reserve` and `record`.
     ///
     /// # Errors
     ///
-    /// `NoMemory` where a growth was refused. The table then shows what it did.
+    /// `NoMemory` if an allocation fails. The dependencies and places do not change.
     pub fn note(&mut self, place: Place, dependency: Dependency) -> Result<u32, NoMemory>
         requires { AllBelow self.old place }
         ensures ok { IfOk result (λ number. IsNoted self.old place dependency number self.new) }
         ensures err { OnErr result (self.new.shown ≡ self.old.shown) }
     {
-        self.reserve(place, &dependency)?;
+        self.reserve()?;
         Ok(self.record(place, dependency))
     }
 
-    /// Makes room for a place of a dependency, as `make_room` does.
+    /// Reserves memory for one place of any dependency. The dependencies and places do not change.
     ///
     /// # Errors
     ///
-    /// `NoMemory` where a growth was refused.
-    pub fn reserve(&mut self, _place: Place, _dependency: &Dependency) -> Result<(), NoMemory>
-        ensures shown { self.new.shown ≡ self.old.shown }
-        ensures ok { OnOk result (self.new.room ≡ true) }
-    {
-        self.make_room()
-    }
-
-    /// Makes room for any one place of any dependency, which stands until `record` takes it. What
-    /// the table shows stays as it was.
-    ///
-    /// # Errors
-    ///
-    /// `NoMemory` where a growth was refused.
-    pub fn make_room(&mut self) -> Result<(), NoMemory>
+    /// `NoMemory` if an allocation fails.
+    pub fn reserve(&mut self) -> Result<(), NoMemory>
         ensures shown { self.new.shown ≡ self.old.shown }
         ensures ok { OnOk result (self.new.room ≡ true) }
     {
         self.entries.reserve()
     }
 
-    /// Does what `note` does, where room was made. It takes no memory.
+    /// Adds a place of `dependency`, as `note` does, and returns its number. Memory must be
+    /// reserved, and the place must be later than all recorded places. Does not allocate.
     pub fn record(&mut self, place: Place, dependency: Dependency) -> u32
         requires room { self.old.room ≡ true }
         requires below { AllBelow self.old place }
         ensures { IsNoted self.old place dependency result self.new }
     {
-        // a number is never above its place, whose range is known once it was read
-        let _index = place.get();
+        let _index = place.get(); // for the proof: the range of a place bounds the numbers
         self.entries.record(place, dependency) as u32
     }
 
-    /// The table that a beginning of the trace has: the dependencies below the total, with their
-    /// places below `events`. The total must be the number of dependencies with such a place. What
-    /// was noted later is not shown. It takes time for at most 4,096 dependencies and 4,096 places,
-    /// and for each full segment of either.
+    /// Returns the table of a prefix of the trace: the first `total` dependencies, with their
+    /// places below `events`. `total` must be the number of dependencies with such a place.
+    ///
+    /// Copies at most 4,096 dependencies and 4,096 places, and shares the full segments.
     ///
     /// # Errors
     ///
-    /// `NoMemory` where a growth was refused.
+    /// `NoMemory` if an allocation fails.
     pub fn share(&self, total: u32, events: u32) -> Result<DepTable, NoMemory>
         requires { IsTotal self.now.shown total events }
         ensures { IfOk result (λ part. IsPart self.now.shown total events part.shown) }

@@ -1,4 +1,4 @@
--- A question stays about the same events, whatever the machine takes.
+-- The events that a question covers never change.
 use Rattle.std.proofs.Common.{◌≡◌, ℕ, ◌≤◌, ◌⊎◌, inl, inr, List, [], ◌∷◌, take, slice_get, slice_set, Some, refl, sym, ap, subst, ◌∙◌}
 use Rattle.std.proofs.lemmas.Bool.{cases_eq}
 use Rattle.std.proofs.lemmas.List.{take-append-le}
@@ -44,7 +44,7 @@ run_keeps s last [] number events is fits are = subst (λ (x : State). AreEvents
 run_keeps s last (step ∷ steps) number events (mid, takes, run) fits are =
     run_keeps mid last steps number events run (step_fits AreRows s mid step takes fits) (step_keeps s mid step number events takes fits are)
 
--- what a question is about after a beginning of a run, it is about after the run
+-- a question covers the same events after a prefix of a run and after the run
 begun_keeps : (limit : ℕ) (early late : List BoardStep) (s t : State) (number : ℕ) (events : Trace) → limit ≤ MAX_EVENTS → IsPrefix early late →
     After limit early s → After limit late t → AreEventsOf s number events → AreEventsOf t number events
 begun_keeps limit early late s t number events allowed (rest, is) was now are =
@@ -56,8 +56,7 @@ begun_keeps limit early late s t number events allowed (rest, is) was now are =
 one_list : (s : State) (number : ℕ) (events : Trace) → AreEventsOf s number events → AreKnown s number events
 one_list s number events (p, there, are) q at = are ∙ ap (λ (x : Question). take x.length s.accepted) (same_Some p q (sym there ∙ at))
 
--- the events that a question is about after one of two runs are known after the other, where one of
--- the runs begins the other
+-- a question covers the same events after two runs of which one is a prefix of the other
 pub known_of : (limit : ℕ) (told run both : List BoardStep) (s : State) (number : ℕ) (events : Trace) → limit ≤ MAX_EVENTS →
     IsPrefix told both → IsPrefix run both → (both ≡ told) ⊎ (both ≡ run) → After limit run s →
     Afterwards limit told (λ state. AreEventsOf state number events) → AreKnown s number events

@@ -1,4 +1,4 @@
--- What a desk tells by its receipt of what became of a call under the lock.
+-- From a call under the lock to the desk's answer and its receipt.
 use Rattle.std.proofs.Common.{◌≡◌, ℕ, List, [], ◌∷◌, ◌++◌, None, Result, Ok, Err, IfOk, IfErr, sym, ap, subst, ◌∙◌}
 use Rattle.std.specs.Result.{OnOk, OnErr}
 use Rattle.trace_model.specs.declared.messages.step.BoardStep.{BoardStep}
@@ -7,18 +7,18 @@ use Rattle.trace_model.specs.Protocol.Runs.{IsLegal}
 use Rattle.snapshots.specs.Found.{AreRowsOf, FoundRows}
 use Rattle.sequencer.specs.Deliveries.{Delivered, delivery}
 use Rattle.desk.specs.Deliveries.{WentSo}
-use Rattle.desk.specs.Published.{After, Afterwards, EndsBy, Kept, delivery_step}
+use Rattle.desk.specs.Published.{After, Afterwards, EndsBy, DeskView, delivery_step}
 use Rattle.desk.specs.Refused.{RefusesFinding}
 
--- what was refused is refused after the run that the receipt names
-pub refused_after : {A E : Type 0} (limit : ℕ) (old new : Kept) (run : List BoardStep) (outcome : Result A E) (So : E → State → Type 0) → After limit old.published old.state → run ≡ new.published →
+-- a refusal is the machine's after the receipt's run
+pub refused_after : {A E : Type 0} (limit : ℕ) (old new : DeskView) (run : List BoardStep) (outcome : Result A E) (So : E → State → Type 0) → After limit old.published old.state → run ≡ new.published →
     OnErr outcome (new ≡ old) → IfErr outcome (λ e. So e old.state) → IfErr outcome (λ e. Afterwards limit run (So e))
 refused_after limit old new run (Ok a) So before is same so = tt
 refused_after limit old new run (Err e) So before is same so =
-    (old.state, subst (λ (r : List BoardStep). After limit r old.state) (sym (is ∙ ap (λ (k : Kept). k.published) same)) before, so)
+    (old.state, subst (λ (r : List BoardStep). After limit r old.state) (sym (is ∙ ap (λ (k : DeskView). k.published) same)) before, so)
 
--- what was taken is the last step of the run that the receipt names
-pub ended_by : {A E : Type 0} (limit : ℕ) (old new : Kept) (run : List BoardStep) (outcome : Result A E) (last : A → BoardStep) (Went : A → State → State → Type 0) → After limit old.published old.state →
+-- the last step of the receipt's run is the accepted one
+pub ended_by : {A E : Type 0} (limit : ℕ) (old new : DeskView) (run : List BoardStep) (outcome : Result A E) (last : A → BoardStep) (Went : A → State → State → Type 0) → After limit old.published old.state →
     After limit new.published new.state → run ≡ new.published → IfOk outcome (λ a. new.published ≡ old.published ++ last a ∷ []) → IfOk outcome (λ a. Went a old.state new.state) →
     IfOk outcome (λ a. EndsBy limit run (last a) (Went a))
 ended_by limit old new run (Ok a) last Went before after is published went = record {
@@ -36,18 +36,18 @@ pub if_ok : {A E : Type 0} (outcome : Result A E) (P : Type 0) → OnOk outcome 
 if_ok (Ok a) P h = h
 if_ok (Err e) P h = tt
 
--- what was answered is so after the run that the receipt names
-pub told_after : {A E : Type 0} (limit : ℕ) (old new : Kept) (run : List BoardStep) (outcome : Result A E) (So : A → State → Type 0) → After limit old.published old.state → run ≡ new.published →
+-- an answer is the machine's after the receipt's run
+pub told_after : {A E : Type 0} (limit : ℕ) (old new : DeskView) (run : List BoardStep) (outcome : Result A E) (So : A → State → Type 0) → After limit old.published old.state → run ≡ new.published →
     new ≡ old → IfOk outcome (λ a. So a old.state) → IfOk outcome (λ a. Afterwards limit run (So a))
 told_after limit old new run (Ok a) So before is same so =
-    (old.state, subst (λ (r : List BoardStep). After limit r old.state) (sym (is ∙ ap (λ (k : Kept). k.published) same)) before, so)
+    (old.state, subst (λ (r : List BoardStep). After limit r old.state) (sym (is ∙ ap (λ (k : DeskView). k.published) same)) before, so)
 told_after limit old new run (Err e) So before is same so = tt
 
 pub on_err : {A E : Type 0} {P : Type 0} (outcome : Result A E) → P → OnErr outcome P
 on_err (Ok a) h = tt
 on_err (Err e) h = h
 
--- what a desk tells of one finding
+-- the outcome of one finding at a desk
 pub record IsToldOf (limit : ℕ) (f : FoundRows) (outcome : Delivered) (run : List BoardStep) : Type 0 where
   pub taken : OnOk outcome (EndsBy limit run (delivery_step f) (λ state next. delivery state f ≡ (None, next)))
   pub exact : OnOk outcome (AreRowsOf f.events f.bound f.task f.rows)
@@ -55,8 +55,8 @@ pub record IsToldOf (limit : ℕ) (f : FoundRows) (outcome : Delivered) (run : L
   pub back : IfErr outcome (λ refused. refused.1 ≡ f)
   pub legal : IsLegal run
 
--- the receipt names what is published after it
-pub told_of : (limit : ℕ) (old new : Kept) (f : FoundRows) (outcome : Delivered) (run : List BoardStep) → After limit old.published old.state → After limit new.published new.state →
+-- the receipt names the steps that are published afterwards
+pub told_of : (limit : ℕ) (old new : DeskView) (f : FoundRows) (outcome : Delivered) (run : List BoardStep) → After limit old.published old.state → After limit new.published new.state →
     WentSo old new f outcome → run ≡ new.published → IsLegal new.published → IsToldOf limit f outcome run
 told_of limit old new f (Ok u) run before after went is legal = record {
   taken = record {
@@ -76,7 +76,7 @@ told_of limit old new f (Ok u) run before after went is legal = record {
 told_of limit old new f (Err refused) run before after went is legal = record {
   taken = tt;
   exact = tt;
-  refused = (old.state, subst (λ (r : List BoardStep). After limit r old.state) (sym (is ∙ ap (λ (k : Kept). k.published) went.same)) before, went.refuses);
+  refused = (old.state, subst (λ (r : List BoardStep). After limit r old.state) (sym (is ∙ ap (λ (k : DeskView). k.published) went.same)) before, went.refuses);
   back = went.back;
   legal = subst IsLegal (sym is) legal;
 }

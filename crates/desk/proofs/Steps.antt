@@ -1,4 +1,4 @@
--- A run goes on with what the machine takes.
+-- A run followed by one more step of the machine.
 use Rattle.std.proofs.Common.{◌≡◌, ℕ, zero, suc, ◌≤◌, List, [], ◌∷◌, ◌++◌, length, take, get_or, inl, inr, Option, Some, None, refl, sym, ap, subst, ◌∙◌, arith}
 use Rattle.std.proofs.lemmas.List.{append-nil, length-map, length-take}
 use Rattle.std.proofs.lemmas.Option.{none-some, slice_get-get_or}
@@ -22,13 +22,13 @@ use Rattle.snapshots.specs.Found.{AreRowsOf, FoundRows}
 use Rattle.sequencer.specs.declared.asking.AskRefused.{AskRefused}
 use Rattle.sequencer.specs.declared.asking.Opened.{Opened}
 use Rattle.sequencer.specs.declared.batching.Batched.{Batched}
-use Rattle.sequencer.specs.Batched.{EndsBatch, FirstIsAdmitted, IsBatched}
+use Rattle.sequencer.specs.Batched.{EndsBatch, FirstIsReserved, IsBatched}
 use Rattle.sequencer.specs.Book as books
 use Rattle.sequencer.specs.Book.{Refuses, RefusesAsk, RefusesOffer, IsAccepted, ask_refusal, findings_rows, opened_reply}
 use Rattle.sequencer.specs.Printing.{printing}
 use Rattle.sequencer.specs.Deliveries.{delivery}
 use Rattle.desk.specs.Batches.{accepting}
-use Rattle.desk.specs.Published.{After, IsKept, Kept, delivery_step}
+use Rattle.desk.specs.Published.{After, IsDesk, DeskView, delivery_step}
 use Rattle.desk.specs.Refused.{RefusesFinding}
 
 -- the machine takes the step
@@ -36,36 +36,36 @@ abbrev pub Takes : State → BoardStep → State → Type 0
 Takes = TakesStep AreRows
 
 -- the book and the published steps after one more step
-pub kept_on : (limit : ℕ) (run waiting shown rest : List BoardStep) (s next : State) (added : BoardStep) → IsKept limit run waiting s → Takes s added next →
-    shown ≡ run ++ added ∷ [] → rest ≡ [] → IsKept limit shown rest next
+pub kept_on : (limit : ℕ) (run waiting shown rest : List BoardStep) (s next : State) (added : BoardStep) → IsDesk limit run waiting s → Takes s added next →
+    shown ≡ run ++ added ∷ [] → rest ≡ [] → IsDesk limit shown rest next
 kept_on limit run waiting shown rest s next added kept takes is none = record {
   allowed = kept.allowed;
   after = subst (λ x. After limit x next) (sym is) (run_push AreRows (opening limit) s next run added kept.after takes);
   rests = none;
 }
 
-pub legal_kept : (limit : ℕ) (run waiting : List BoardStep) (s : State) → IsKept limit run waiting s → IsLegal run
+pub legal_kept : (limit : ℕ) (run waiting : List BoardStep) (s : State) → IsDesk limit run waiting s → IsLegal run
 legal_kept limit run waiting s kept = run_legal limit s run kept.allowed kept.after
 
--- so it is of what is shown of both
-pub after_shown : (limit : ℕ) (k shown : Kept) → k ≡ shown → After limit k.published k.state → After limit shown.published shown.state
-after_shown limit k shown is = subst (λ (x : Kept). After limit x.published x.state) is
+-- the same for their views
+pub after_shown : (limit : ℕ) (k shown : DeskView) → k ≡ shown → After limit k.published k.state → After limit shown.published shown.state
+after_shown limit k shown is = subst (λ (x : DeskView). After limit x.published x.state) is
 
 -- one more step may be published
-pub legal_next : (limit : ℕ) (run waiting shown : List BoardStep) (s next : State) (added : BoardStep) → IsKept limit run waiting s → Takes s added next →
+pub legal_next : (limit : ℕ) (run waiting shown : List BoardStep) (s next : State) (added : BoardStep) → IsDesk limit run waiting s → Takes s added next →
     shown ≡ run ++ added ∷ [] → IsLegal shown
 legal_next limit run waiting shown s next added kept takes is =
     legal_kept limit shown [] next (kept_on limit run waiting shown [] s next added kept takes is refl)
 
--- a call changed nothing of what lies under the lock, and this is so of the machine before it
-pub record Stays (limit : ℕ) (now next : Kept) (so : State → Type 0) : Type 0 where
+-- a call changed nothing under the lock, and the property holds of the machine before it
+pub record Stays (limit : ℕ) (now next : DeskView) (so : State → Type 0) : Type 0 where
   pub before : After limit now.published now.state
   pub after : After limit next.published next.state
   pub is : so now.state
   pub same : next ≡ now
   pub legal : IsLegal next.published
 
-pub stays : (limit : ℕ) (run waiting shown : List BoardStep) (s next : State) (now : Kept) (so : State → Type 0) → IsKept limit run waiting s → record { published = run; state = s } ≡ now →
+pub stays : (limit : ℕ) (run waiting shown : List BoardStep) (s next : State) (now : DeskView) (so : State → Type 0) → IsDesk limit run waiting s → record { published = run; state = s } ≡ now →
     shown ≡ run → next ≡ s → so s → Stays limit now (record { published = shown; state = next }) so
 stays limit run waiting shown s next now so kept view same_run same_state is =
     let before = after_shown limit _ now view kept.after in
@@ -73,26 +73,26 @@ stays limit run waiting shown s next now so kept view same_run same_state is =
     record {
       before = before;
       after = after_shown limit now _ (sym same) before;
-      is = subst (λ (x : Kept). so x.state) view is;
+      is = subst (λ (x : DeskView). so x.state) view is;
       same = same;
       legal = subst IsLegal (sym same_run) (legal_kept limit run waiting s kept);
     }
 
--- a call published one more step, and this is so of the machine before it
-pub record Goes (limit : ℕ) (now next : Kept) (added : BoardStep) (so : State → Type 0) : Type 0 where
+-- a call published one more step, and the property holds of the machine before it
+pub record Goes (limit : ℕ) (now next : DeskView) (added : BoardStep) (so : State → Type 0) : Type 0 where
   pub before : After limit now.published now.state
   pub after : After limit next.published next.state
   pub is : so now.state
   pub published : next.published ≡ now.published ++ added ∷ []
   pub legal : IsLegal next.published
 
-pub goes : (limit : ℕ) (run waiting shown rest : List BoardStep) (s next : State) (now : Kept) (added : BoardStep) (so : State → Type 0) → IsKept limit run waiting s → record { published = run; state = s } ≡ now →
-    IsKept limit shown rest next → shown ≡ run ++ added ∷ [] → so s → Goes limit now (record { published = shown; state = next }) added so
+pub goes : (limit : ℕ) (run waiting shown rest : List BoardStep) (s next : State) (now : DeskView) (added : BoardStep) (so : State → Type 0) → IsDesk limit run waiting s → record { published = run; state = s } ≡ now →
+    IsDesk limit shown rest next → shown ≡ run ++ added ∷ [] → so s → Goes limit now (record { published = shown; state = next }) added so
 goes limit run waiting shown rest s next now added so kept view went published is = record {
   before = after_shown limit _ now view kept.after;
   after = went.after;
-  is = subst (λ (x : Kept). so x.state) view is;
-  published = published ∙ ap (λ (x : Kept). x.published ++ added ∷ []) view;
+  is = subst (λ (x : DeskView). so x.state) view is;
+  published = published ∙ ap (λ (x : DeskView). x.published ++ added ∷ []) view;
   legal = legal_kept limit shown rest next went;
 }
 
@@ -106,7 +106,7 @@ pub takes_batch : (s next : State) (events : List Event) (b : Batched) → IsBat
 takes_batch s next events b (some, few) came h =
     ((omega (arith, length-take b.accepted events), omega (arith, length-take b.accepted events)), h.lawful, h.appended)
 
--- the step of a batch of which some came in
+-- the step of a batch with accepted events
 pub accepting_some : (events : List Event) (n : ℕ) → 1 ≤ n → 1 ≤ length events → accepting (take n events) ≡ Accept (take n events) ∷ []
 accepting_some [] n came some = absurd (omega (arith, some))
 accepting_some (e ∷ events) zero came some = absurd (omega (arith, came))
@@ -142,9 +142,9 @@ takes_finding s next f none is exact =
     subst (Takes s (delivery_step f)) (ap (λ (r : Option Refusal × State). r.1) is)
     ((machine_steps AreRows).delivers s f.question f.bound f.events f.task rows (sym none) exact.exact (subst (λ n. n ≤ MAX_CYCLES) (sym (length-map f.rows (λ p. p.row))) exact.few))
 
--- the first of a batch, where there is room for it
-pub first_admitted : (book : books.Kept) (s : State) (events : List Event) (d : Event) → 1 ≤ length events → book.state ≡ s → book.reserved ≡ Some (get_or events 0 d) →
-    refusal_of s.limit s.accepted (get_or events 0 d) ≡ None → FirstIsAdmitted book events
+-- the first event of a batch, with memory reserved for it
+pub first_admitted : (book : books.BookView) (s : State) (events : List Event) (d : Event) → 1 ≤ length events → book.state ≡ s → book.reserved ≡ Some (get_or events 0 d) →
+    refusal_of s.limit s.accepted (get_or events 0 d) ≡ None → FirstIsReserved book events
 first_admitted book s events d some shown reserved none =
     let e = get_or events 0 d in
     (e, slice_get-get_or events 0 d some, reserved, subst (λ (x : State). refusal_of x.limit x.accepted e ≡ None) (sym shown) none)
@@ -162,14 +162,14 @@ refuses_ask s bound r (inr (is, none)) = inr (ap (λ x. Refused (ask_refusal x))
 pub refuses_finding : (s : State) (f : FoundRows) (r : Refusal) → Some r ≡ deliver_refused s f.question f.bound f.events f.task → RefusesFinding s f r
 refuses_finding s f r is = inl (ap (λ o. (o, deliver_next s f.question f.task (findings_rows f) o)) (sym is))
 
--- what it would take is refused for want of memory
+-- a request that the machine accepts is refused since an allocation failed
 pub no_memory_offer : (s : State) (e : Event) → refusal_of s.limit s.accepted e ≡ None → Refuses s (Offer e) (Refused NoMemory)
 no_memory_offer s e none = inr (refl, subst (λ o. IsAccepted (offer_reply s o)) (sym none) tt)
 
 pub no_memory_ask : (s : State) (bound : ℕ) → ask_refused s bound ≡ None → Refuses s (Ask bound) (Refused NoMemory)
 no_memory_ask s bound none = inr (refl, subst (λ o. IsAccepted (ask_reply s o)) (sym none) tt)
 
--- none of a batch is accepted, where its first event is refused
+-- no event of a batch is accepted if its first event is refused
 pub none_batched : (s next : State) (events : List Event) (d : Event) (r : Refusal) (out : Batched) → next ≡ s → 1 ≤ length events → RefusesOffer s (get_or events 0 d) r →
     out.accepted ≡ 0 → out.refusal ≡ Some r → out.length ≡ length next.accepted → IsBatched s events out next
 none_batched s next events d r out shown some refuses none refusal long =

@@ -1,4 +1,4 @@
--- One finding more that is delivered.
+-- One more delivered finding.
 use Rattle.std.proofs.Common.{◌≡◌, ℕ, List, [], ◌∷◌, ◌++◌, length, map, take, slice_get, Some, Ok, Err, inl, inr, refl, sym, ap, subst, ◌∙◌, arith, append_assoc}
 use Rattle.std.proofs.lemmas.List.{append-nil, map-append, take-append-le}
 use Rattle.std.proofs.lemmas.Option.{none-some, same_Some, slice_get_within}
@@ -7,7 +7,7 @@ use Rattle.trace_model.proofs.Lists.{get-append, get-push, get-push_last, length
 use Rattle.snapshots.specs.Found.{FoundRows}
 use Rattle.sequencer.specs.Deliveries.{Delivered}
 use Rattle.desk.specs.Deliveries.{WentSo}
-use Rattle.desk.specs.Published.{After, Kept, delivery_step}
+use Rattle.desk.specs.Published.{After, DeskView, delivery_step}
 use Rattle.desk.specs.Together.{AreOutcomes, IsOutcome, taken, taken_steps}
 
 taken_more : (fs : List FoundRows) (os : List Delivered) (f : FoundRows) (o : Delivered) → length os ≡ length fs →
@@ -18,7 +18,7 @@ taken_more (g ∷ fs) (Err r ∷ os) f o same = taken_more fs os f o (omega (ari
 taken_more [] (p ∷ os) f o same = absurd (omega (arith, same))
 taken_more (g ∷ fs) [] f o same = absurd (omega (arith, same))
 
--- what was published before, with what one finding more publishes
+-- the published steps with the step of one more finding
 pub steps_more : (run now next : List BoardStep) (fs : List FoundRows) (os : List Delivered) (f : FoundRows) (o : Delivered) → length os ≡ length fs →
     now ≡ run ++ taken_steps fs os → next ≡ now ++ taken_steps (f ∷ []) (o ∷ []) → next ≡ run ++ taken_steps (fs ++ f ∷ []) (os ++ o ∷ [])
 steps_more run now next fs os f o same was is =
@@ -26,7 +26,7 @@ steps_more run now next fs os f o same was is =
     ∙ (append_assoc run (taken_steps fs os) (taken_steps (f ∷ []) (o ∷ []))
     ∙ ap (λ xs. run ++ xs) (sym (map-append delivery_step (taken fs os) (taken (f ∷ []) (o ∷ []))) ∙ ap (map delivery_step) (sym (taken_more fs os f o same)))))
 
--- what became of the findings before, with what became of one more
+-- the outcomes of the earlier findings with the outcome of one more
 pub outcomes_more : (limit : ℕ) (run now : List BoardStep) (fs : List FoundRows) (os : List Delivered) (f : FoundRows) (o : Delivered) →
     AreOutcomes limit run fs os → now ≡ run ++ taken_steps fs os → IsOutcome limit now f o → AreOutcomes limit run (fs ++ f ∷ []) (os ++ o ∷ [])
 outcomes_more limit run now fs os f o are was is = record {
@@ -48,16 +48,16 @@ outcomes_more limit run now fs os f o are was is = record {
   ];
 }
 
--- what `deliver` says of one
-pub outcome_of : (limit : ℕ) (s next : Kept) (f : FoundRows) (o : Delivered) → After limit s.published s.state →
+-- the contract of `deliver` for one finding
+pub outcome_of : (limit : ℕ) (s next : DeskView) (f : FoundRows) (o : Delivered) → After limit s.published s.state →
     WentSo s next f o → IsOutcome limit s.published f o
 outcome_of limit s next f (Ok u) after taken = ((s.state, after, ap (λ r. r.0) taken.taken), taken.exact)
 outcome_of limit s next f (Err r) after refused = ((s.state, after, refused.refuses), refused.back)
 
-pub steps_of : (s next : Kept) (f : FoundRows) (o : Delivered) → WentSo s next f o →
+pub steps_of : (s next : DeskView) (f : FoundRows) (o : Delivered) → WentSo s next f o →
     next.published ≡ s.published ++ taken_steps (f ∷ []) (o ∷ [])
 steps_of s next f (Ok u) taken = taken.published
-steps_of s next f (Err r) refused = ap (λ (k : Kept). k.published) refused.same ∙ sym (append-nil s.published)
+steps_of s next f (Err r) refused = ap (λ (k : DeskView). k.published) refused.same ∙ sym (append-nil s.published)
 
 pub none_yet : (limit : ℕ) (run : List BoardStep) (outcomes : List Delivered) → outcomes ≡ [] → AreOutcomes limit run [] outcomes
 none_yet limit run outcomes none = record {

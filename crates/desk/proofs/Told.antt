@@ -1,4 +1,4 @@
--- What a client reads off the board, and is told by the desk.
+-- What a client reads from the board, and the replies of the desk.
 use Rattle.std.proofs.Common.{◌≡◌, ℕ, zero, suc, List, [], ◌∷◌, ◌++◌, ◌<◌, length, take, slice_get, ltb, cond, inl, inr, Option, Some, None, Result, Ok, Err, IfOk, IfErr, refl, sym, ap, subst, ◌∙◌, arith}
 use Rattle.std.proofs.lemmas.Bool.{cond_above, cond_below}
 use Rattle.std.proofs.lemmas.List.{append-nil}
@@ -40,17 +40,17 @@ use Rattle.desk.specs.Published.{After, Afterwards, EndsBy}
 use Rattle.desk.proofs.Steps.{accepting_some}
 use Rattle.desk.specs.Clients.{IsStatus, IsTold, RepliesAfter}
 
--- what the board shows of a question, by its number
+-- the board's entry for a question
 abbrev Finds : Summary → ℕ → Option QuestionSummary → Type 0
 Finds s question found = found ≡ cond (ltb question s.opened) (slice_get s.questions question) None
 
--- of a question that is counted it shows what is counted
+-- the entry of an open question shows its counts
 shown_there : (s : Summary) (counts : runs.Summary) (question : ℕ) (q : Shown) (found : Option QuestionSummary) → ShowsCounts s counts → Finds s question found → slice_get counts.questions question ≡ Some q →
     question < length counts.questions → found ≡ Some (shown_as q)
 shown_there s counts question q found shows finds there within =
     finds ∙ (sym (cond_below question s.opened _ None (omega (arith, within, shows.opened))) ∙ shows.each question q there)
 
--- the reply to a status where the board shows the question
+-- the reply to a status if the question is open
 pub status_some : (s : Summary) (counts : runs.Summary) (question : ℕ) (asked : QuestionSummary) (found : Option QuestionSummary) → Finds s question found → found ≡ Some asked → ShowsCounts s counts →
     replies.Status (record {
       question = question;
@@ -81,7 +81,7 @@ status_some s counts question asked found finds is shows = elim (slice_get_cases
       absurd (none-some asked (cond_above question s.opened (slice_get s.questions question) None None (omega (arith, past, shows.opened)) refl ∙ (sym finds ∙ is)))
 ]
 
--- and where it shows none
+-- the reply to a status if it is not
 pub status_none : (s : Summary) (counts : runs.Summary) (question : ℕ) (found : Option QuestionSummary) → Finds s question found → found ≡ None → ShowsCounts s counts →
     replies.Refused NoSuchQuestion ≡ shown_status counts question
 status_none s counts question found finds is shows = elim (slice_get_cases counts.questions question).1 [
@@ -94,8 +94,7 @@ pub told_status : (s : Summary) (question : ℕ) (reply : Reply) (old new : List
 told_status s question reply old new legal shows is =
     inl (legal.0, legal.1, is (summary new) shows ∙ status_shown (summary new) legal.0 question (summary_is_state AreRows MAX_EVENTS new legal.0 legal.1))
 
--- what became of a batch is told by a run that ends with the step of its events, or that it left as
--- it was
+-- the run of a batch ends with the step of its accepted events, or is unchanged if there are none
 pub told_batch : (limit : ℕ) (run seen : List BoardStep) (events : List Event) (b : Batched) → IsBatch events → IsPrefix run seen → EndsByBatch limit run events b →
     IsTold limit (Batch events) (replies.Batched b.accepted b.refusal b.length) seen
 told_batch limit run seen events b some learnt h = record {

@@ -1,4 +1,4 @@
--- Events that are offered to a desk at once.
+-- Batches at a desk (this project's profile).
 use Rattle.std.specs.Prelude.{◌≡◌, ℕ, List, [], ◌∷◌, ◌++◌, take}
 use Rattle.trace_model.specs.declared.traces.event.Event.{Event}
 use Rattle.trace_model.specs.declared.messages.step.BoardStep.{BoardStep}
@@ -8,13 +8,13 @@ use Rattle.sequencer.specs.Batched.{IsBatched}
 use Rattle.sequencer.specs.declared.batching.Batched.{Batched}
 use Rattle.desk.specs.Published.{After}
 
--- the one step that events which came in at once are published as, none where none came in
+-- the one step that publishes the accepted events, or none if there are none
 abbrev pub accepting : List Event → List BoardStep
 accepting [] = []
 accepting (e ∷ events) = Accept (e ∷ events) ∷ []
 
--- the run ends with the step of those of the events that came in, after which the others were
--- refused
+-- the run ends with the step of the accepted events, and the refusal of the next event is right
+-- after it
 pub record EndsByBatch (limit : ℕ) (run : List BoardStep) (events : List Event)
     (batched : Batched) : Type 0 where
   pub before : List BoardStep

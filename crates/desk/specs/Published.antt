@@ -1,4 +1,4 @@
--- A published run, and the machine after it.
+-- Published runs, and the machine after them (this project's profile).
 use Rattle.std.specs.Prelude.{◌≡◌, ℕ, ◌≤◌, List, [], ◌∷◌, ◌++◌, length, None}
 use Rattle.std.specs.List.{count_by}
 use Rattle.trace_model.specs.declared.limits.TheConstants.{MAX_EVENTS}
@@ -12,27 +12,27 @@ use Rattle.sequencer.specs.Book.{findings_rows}
 use Rattle.sequencer.specs.Deliveries.{delivery}
 use mathlib.Core.List.{IsPrefix}
 
--- the machine with this limit after the run
+-- the state is that of the machine with this limit after the run
 abbrev pub After : ℕ → List BoardStep → State → Type 0
 After limit run state = IsRun AreRows (opening limit) run state
 
--- what lies under the lock: the published steps, and the state of the book
-pub record Kept : Type 0 where
+-- what contracts see of the value under the lock: the published steps, and the state of the book
+pub record DeskView : Type 0 where
   pub published : List BoardStep
   pub state : State
 
--- the book is the machine after the published steps, and no step waits
-pub record IsKept (limit : ℕ) (published waiting : List BoardStep) (state : State) : Type 0 where
+-- the book's state is the machine's after the published steps, and no step waits
+pub record IsDesk (limit : ℕ) (published waiting : List BoardStep) (state : State) : Type 0 where
   pub allowed : limit ≤ MAX_EVENTS
   pub after : After limit published state
   pub rests : waiting ≡ []
 
--- the step that a finding is published as
+-- the step that publishes a finding
 abbrev pub delivery_step : FoundRows → BoardStep
 delivery_step f = Deliver f.question f.task (length (findings_rows f))
     (count_by is_confirmed (findings_rows f))
 
--- the run ends with this step, by which the machine went so
+-- the run ends with this step, and the machine moved so by it
 pub record EndsBy (limit : ℕ) (run : List BoardStep) (last : BoardStep) (went : State → State →
     Type 0) : Type 0 where
   pub before : List BoardStep
@@ -43,12 +43,12 @@ pub record EndsBy (limit : ℕ) (run : List BoardStep) (last : BoardStep) (went 
   pub is : After limit run next
   pub took : went state next
 
--- the finding was taken by the last step of a run, and all of that run was seen
+-- the finding was taken by the last step of a run, and the whole run has been seen
 abbrev pub WasTaken : ℕ → FoundRows → List BoardStep → Type 0
 WasTaken limit f seen =
     (run : List BoardStep) × EndsBy limit run (delivery_step f)
     (λ state next. delivery state f ≡ (None, next)) × IsPrefix run seen
 
--- this is so of the machine after the run
+-- the property holds of the machine after the run
 abbrev pub Afterwards : ℕ → List BoardStep → (State → Type 0) → Type 0
 Afterwards limit run so = (state : State) × After limit run state × so state

@@ -1,16 +1,15 @@
--- What a worker asks of the machine's questions.
+-- Look-ups in the machine's questions (this project's profile).
 use Rattle.std.specs.Prelude.{◌≡◌, ℕ, take, slice_get, Option, Some, None, MatchOption}
 use Rattle.trace_model.specs.Theory.Trace.{Trace}
 use Rattle.trace_model.specs.Protocol.Machine.{Question, State}
 use Rattle.sequencer.specs.Book.{IsLeastMissing}
 
--- these are the events that the question with this number is about
+-- the question with this number is open and covers exactly these events
 abbrev pub AreEventsOf : State → ℕ → Trace → Type 0
 AreEventsOf s number events =
     (q : Question) × (slice_get s.questions number ≡ Some q) × (events ≡ take q.length s.accepted)
 
--- this is the least task of the question with this number that is not delivered, or none where all
--- are
+-- the least missing task of the question with this number, or `None` if all are delivered
 abbrev pub IsFirstMissing : State → ℕ → Option ℕ → Type 0
 IsFirstMissing s number found =
     (q : Question) × (slice_get s.questions number ≡ Some q)

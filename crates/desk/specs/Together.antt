@@ -1,4 +1,4 @@
--- Findings that are delivered one after another, with nothing between them.
+-- Findings delivered one after another with nothing in between (this project's profile).
 use Rattle.std.specs.Prelude.{◌≡◌, ℕ, List, [], ◌∷◌, ◌++◌, length, map, take, slice_get, Some, None, Ok, Err}
 use Rattle.trace_model.specs.declared.messages.step.BoardStep.{BoardStep}
 use Rattle.snapshots.specs.Found.{AreRowsOf, FoundRows}
@@ -6,18 +6,18 @@ use Rattle.sequencer.specs.Deliveries.{Delivered, delivery}
 use Rattle.desk.specs.Published.{Afterwards, delivery_step}
 use Rattle.desk.specs.Refused.{RefusesFinding}
 
--- those of the findings that were taken, in their order
+-- the findings that were taken, in order
 abbrev pub taken : List FoundRows → List Delivered → List FoundRows
 taken (f ∷ findings) (Ok u ∷ outcomes) = f ∷ taken findings outcomes
 taken (f ∷ findings) (Err refused ∷ outcomes) = taken findings outcomes
 taken _ _ = []
 
--- the steps that these are published as
+-- the steps that publish these
 abbrev pub taken_steps : List FoundRows → List Delivered → List BoardStep
 taken_steps findings outcomes = map delivery_step (taken findings outcomes)
 
--- what became of a finding that was delivered after the run: the machine takes it then, and its
--- rows are exact; or it is refused then, and handed back
+-- the outcome of a finding that is delivered after the run is right: it is taken and its rows are
+-- exact, or it is refused and given back
 abbrev pub IsOutcome : ℕ → List BoardStep → FoundRows → Delivered → Type 0
 IsOutcome limit run f (Ok u) =
     Afterwards limit run (λ state. (delivery state f).0 ≡ None)
@@ -25,8 +25,7 @@ IsOutcome limit run f (Ok u) =
 IsOutcome limit run f (Err refused) =
     Afterwards limit run (λ state. RefusesFinding state f refused.0) × (refused.1 ≡ f)
 
--- what became of findings that were delivered after the run: of each what becomes of it after the
--- run and those findings before it that were taken
+-- the outcome of each finding is right after the run and the findings before it that were taken
 pub record AreOutcomes (limit : ℕ) (run : List BoardStep) (findings : List FoundRows)
     (outcomes : List Delivered) : Type 0 where
   pub count : length outcomes ≡ length findings
@@ -34,8 +33,8 @@ pub record AreOutcomes (limit : ℕ) (run : List BoardStep) (findings : List Fou
       slice_get outcomes k ≡ Some outcome →
       IsOutcome limit (run ++ taken_steps (take k findings) (take k outcomes)) f outcome
 
--- the run ends with the steps of those that were taken; all were delivered after what stands before
--- these
+-- the run ends with the steps of the findings that were taken; all were delivered after the steps
+-- before those
 pub record EndsByAll (limit : ℕ) (run : List BoardStep) (findings : List FoundRows)
     (outcomes : List Delivered) : Type 0 where
   pub before : List BoardStep

@@ -1,4 +1,4 @@
-//! A desk as a session has it.
+//! The client of a desk: it answers the requests of one session.
 ghost use Rattle.std.specs.Prelude.{◌≡◌};
 ghost use mathlib.Core.List.{IsPrefix};
 ghost use Rattle.trace_model.specs.Protocol.Batches.{IsBatch};
@@ -10,52 +10,52 @@ ghost use Rattle.board.specs.Totals.{ShowsCounts};
 ghost use Rattle.desk.specs.Clients.{IsTold, IsStatus, StepsAtDesk};
 
 use crate::desk::Desk;
-use board::{BoardReader, Busy, Follows, Naming, Receipt, Summary};
+use board::{BoardReader, BoardValue, HistoryId, Receipt, Summary};
 use sequencer::Calls;
 use std::marker::Model;
 use std::sync::{Arc, Wait};
 use trace_model::{Event, QuestionStatus, Refusal, Reply, Request};
 
-/// A desk with a reader of its board, which learns the receipt of each of the client's calls: so
-/// its status, which is read from the board, holds every step that its session was answered.
-/// Contracts see it as the steps that its reader has seen.
-pub struct Client<N: Naming, R: Wait + Copy, T: Follows<N>> {
+/// A desk and a reader of its board, for one session. The reader learns the receipt of each call, so a
+/// status, which is read from the board, covers every step that the session received a reply for. Contracts
+/// see a client as the steps that its reader has seen or learned.
+pub struct Client<N: HistoryId, R: Wait + Copy, T: BoardValue<N>> {
     desk: Arc<Desk<N, R, T>>,
     reader: BoardReader<N>,
 }
 
-impl<N: Naming, R: Wait + Copy, T: Follows<N>> Drop for Client<N, R, T> {
+impl<N: HistoryId, R: Wait + Copy, T: BoardValue<N>> Drop for Client<N, R, T> {
     fn drop(self) {
         let Client { desk: _, reader: _ } = self;
     }
 }
 
-impl<N: Naming, R: Wait + Copy, T: Follows<N>> Model for Client<N, R, T> {
+impl<N: HistoryId, R: Wait + Copy, T: BoardValue<N>> Model for Client<N, R, T> {
     ghost use Rattle.std.specs.Prelude.{List};
     ghost use Rattle.trace_model.specs.declared.messages.step.BoardStep.{BoardStep};
 
     ghost Value = { List BoardStep };
 
-    ghost view = { λ c. c.reader };
+    ghost view = { λ c. c.reader.known };
 }
 
-impl<N: Naming, R: Wait + Copy, T: Follows<N>> Client<N, R, T> {
-    /// A client of the desk, which must be the reader's.
+impl<N: HistoryId, R: Wait + Copy, T: BoardValue<N>> Client<N, R, T> {
+    /// Creates a client. The reader must be of this desk.
     pub fn new(desk: Arc<Desk<N, R, T>>, reader: BoardReader<N>) -> Client<N, R, T>
-        ensures { result ≡ reader }
+        ensures { result ≡ reader.known }
     {
         Client { desk, reader }
     }
 
-    /// The reader, for a later session. It takes no memory.
+    /// Returns the reader, for a later session. Does not allocate.
     pub fn into_reader(self) -> BoardReader<N>
-        ensures { result ≡ self }
+        ensures { result.known ≡ self }
     {
         let Client { desk: _, reader } = self;
         reader
     }
 
-    /// The desk's answer, whose receipt is learnt.
+    /// Learns the receipt of a desk's call and returns its answer.
     fn learn<A: Drop>(&mut self, told: (A, Receipt<N>)) -> A
         ensures answer { result ≡ told.0 }
         ensures later { IsPrefix self.old self.new }
@@ -119,12 +119,12 @@ impl<N: Naming, R: Wait + Copy, T: Follows<N>> Client<N, R, T> {
     {
         match self.reader.status() {
             Ok(summary) => status_in(&summary, question),
-            Err(Busy) => Reply::Refused(Refusal::BoardBusy),
+            Err(_) => Reply::Refused(Refusal::BoardBusy),
         }
     }
 }
 
-/// What a summary shows of the question with this number.
+/// Returns the status reply for a question, from a summary.
 fn status_in(summary: &Summary, question: u32) -> Reply
     ensures shown { (counts : runs.Summary) → ShowsCounts summary.now counts →
         result ≡ shown_status counts question }
@@ -146,9 +146,9 @@ fn status_in(summary: &Summary, question: u32) -> Reply
     }
 }
 
-/// The desk answers offers, asks and answers; a status is read from the board, and is `BoardBusy`
-/// where that gives no entry.
-impl<N: Naming, R: Wait + Copy, T: Follows<N>> Calls for Client<N, R, T> {
+/// A status is read from the board, and is `BoardBusy` if the board cannot be read. All other requests
+/// go to the desk.
+impl<N: HistoryId, R: Wait + Copy, T: BoardValue<N>> Calls for Client<N, R, T> {
     ghost steps = { λ old request reply new. StepsAtDesk N.limit old request reply new };
 
     fn call(&mut self, request: Request) -> Reply {

@@ -1,4 +1,4 @@
-//! The desk that threads share.
+//! The desk: a lock around the book and the board's writer.
 
 ghost use Rattle.std.specs.Prelude.{◌≡◌, ◌<◌, [], ◌∷◌, length, slice_get, IfOk, IfErr, OnErr, OnOk, None};
 ghost use Rattle.std.specs.Arc.{arc_value};
@@ -20,7 +20,7 @@ ghost use Rattle.desk.specs.Together.{EndsByAll};
 
 use crate::locked::{DeskRefused, Locked};
 use crate::own::{OwnFinding, OwnJob};
-use board::{BoardReader, Follows, Naming, Receipt, Shown};
+use board::{BoardReader, BoardValue, HistoryId, Receipt, Shown};
 use findings::{Finding, Snapshot};
 use sequencer::{Answer, AnswerRefused, AskRefused, Batched, Delivered, NoSuchQuestion, Opened};
 use std::alloc::Global;
@@ -28,16 +28,17 @@ use std::hash::RandomState;
 use std::sync::{Arc, Mutex, Wait};
 use trace_model::{Bound, Event, Place, Refusal};
 
-/// A book that threads share, with the board that shows it. Each call takes the lock for its own
-/// work alone; the rows of a task are computed outside. What is said of a receipt is said of the
-/// steps that it names.
-pub struct Desk<N: Naming, R: Wait + Copy, T: Follows<N>> {
+/// A book that threads share, with the board that shows it. Each call takes the lock once and may wait
+/// for it. The rows of tasks are computed without the lock. Contracts see a receipt as the steps that
+/// it names: `EndsBy` says that these end with the call's own step, `Afterwards` that the answer is
+/// the machine's after all of them.
+pub struct Desk<N: HistoryId, R: Wait + Copy, T: BoardValue<N>> {
     locked: Mutex<Locked<N, R, T>>,
     rt: R,
     alloc: Global,
 }
 
-impl<N: Naming, R: Wait + Copy, T: Follows<N>> Drop for Desk<N, R, T> {
+impl<N: HistoryId, R: Wait + Copy, T: BoardValue<N>> Drop for Desk<N, R, T> {
     fn drop(self) {
         let Desk {
             locked: _,
@@ -47,29 +48,31 @@ impl<N: Naming, R: Wait + Copy, T: Follows<N>> Drop for Desk<N, R, T> {
     }
 }
 
-impl<N: Naming, R: Wait + Copy> Desk<N, R, Shown<N>> {
-    /// A desk whose book accepts at most `max_events` events, and so many readers of its board. The
-    /// history must have just been opened.
+impl<N: HistoryId, R: Wait + Copy> Desk<N, R, Shown<N>> {
+    /// Creates a desk over a new history, and `readers` readers of its board. The book accepts at most
+    /// `max_events` events.
     ///
     /// # Errors
     ///
-    /// `BadLimit` where `max_events` is not 1 to `MAX_EVENTS`, then `BadCount` where the readers
-    /// are not 1 to 40, then `NotMade` where a growth was refused.
+    /// The first that applies:
+    /// - `BadLimit` if `max_events` is not 1 to `MAX_EVENTS`.
+    /// - `BadCount` if `readers` is not 1 to 40.
+    /// - `NotMade` if an allocation fails.
     pub fn new(
         alloc: Global,
         state: RandomState,
         rt: R,
-        opened: board::Opened,
+        history: board::NewHistory,
         max_events: u32,
         readers: usize,
     ) -> Result<(Desk<N, R, Shown<N>>, Vec<BoardReader<N>>), DeskRefused>
-        requires book { opened.seen.book ≡ N.book }
+        requires book { history.seen.book ≡ N.book }
         requires limit { max_events ≡ N.limit }
         ensures readers { IfOk result (λ made. length made.1.items ≡ readers) }
         ensures allowed { IfOk result (λ _. IsLimit max_events × IsCount readers) }
         ensures refused { IfErr result (RefusesDesk max_events readers) }
     {
-        let (locked, all) = Locked::open(alloc, state, rt, opened, max_events, readers)?;
+        let (locked, all) = Locked::new(alloc, state, rt, history, max_events, readers)?;
         let desk = Desk {
             locked: Mutex::new(locked),
             rt,
@@ -79,13 +82,13 @@ impl<N: Naming, R: Wait + Copy> Desk<N, R, Shown<N>> {
     }
 }
 
-impl<N: Naming, R: Wait + Copy, T: Follows<N>> Desk<N, R, T> {
-    /// Offers an event. The receipt of an accepted one ends with it.
+impl<N: HistoryId, R: Wait + Copy, T: BoardValue<N>> Desk<N, R, T> {
+    /// Offers an event and returns its place. The receipt ends with the event's step.
     ///
     /// # Errors
     ///
-    /// The book's refusal after all that the receipt names, and `NoMemory` where it has none.
-    /// Nothing has changed.
+    /// The machine's refusal after the receipt's steps, or `NoMemory` if the machine accepts but an
+    /// allocation fails. Nothing changes.
     pub fn offer(&self, event: Event) -> (Result<Place, Refusal>, Receipt<N>)
         ensures placed { IfOk result.0
             (λ place. EndsBy N.limit result.1 (steps.Accept (event ∷ []))
@@ -98,9 +101,9 @@ impl<N: Naming, R: Wait + Copy, T: Follows<N>> Desk<N, R, T> {
         self.locked.lock(&self.rt).offer(event)
     }
 
-    /// Offers the events of a batch, of which there are 1 to `MAX_BATCH`, under one taking of the
-    /// lock: those before the first that is refused are accepted, as one step, with which the
-    /// receipt ends. Where none is, nothing has changed.
+    /// Offers a batch of 1 to `MAX_BATCH` events while holding the lock once. The events before the
+    /// first refused one are accepted as one step, and the receipt ends with that step. If none is
+    /// accepted, nothing changes.
     pub fn offer_batch(&self, events: &[Event]) -> (Batched, Receipt<N>)
         requires { IsBatch events.now }
         ensures batched { EndsByBatch N.limit result.1 events.now result.0 }
@@ -109,12 +112,12 @@ impl<N: Naming, R: Wait + Copy, T: Follows<N>> Desk<N, R, T> {
         self.locked.lock(&self.rt).offer_batch(events)
     }
 
-    /// Asks about the events so far. The receipt of an opened question ends with it.
+    /// Opens a question about the events accepted so far. The receipt ends with the question's step.
     ///
     /// # Errors
     ///
-    /// The book's refusal after all that the receipt names, and `NoMemory` where it has none.
-    /// Nothing has changed.
+    /// The machine's refusal after the receipt's steps, or `NoMemory` if the machine accepts but an
+    /// allocation fails. Nothing changes.
     pub fn ask(&self, bound: u8) -> (Result<Opened, AskRefused>, Receipt<N>)
         ensures opened { IfOk result.0
             (λ opened. EndsBy N.limit result.1 (steps.Open bound opened.total)
@@ -128,12 +131,12 @@ impl<N: Naming, R: Wait + Copy, T: Follows<N>> Desk<N, R, T> {
         self.locked.lock(&self.rt).ask(bound)
     }
 
-    /// Takes the rows of a task of a question. The receipt of what is taken ends with it.
+    /// Delivers the rows of one task. The receipt ends with the delivery's step.
     ///
     /// # Errors
     ///
-    /// The book's refusal after all that the receipt names, and `NoMemory` where it has none, with
-    /// the finding handed back. Nothing has changed.
+    /// The machine's refusal after the receipt's steps, or `NoMemory` if the machine accepts but an
+    /// allocation fails. The finding is given back and nothing changes.
     pub fn deliver(&self, finding: Finding) -> (Result<(), (Refusal, Finding)>, Receipt<N>)
         ensures taken { OnOk result.0
             (EndsBy N.limit result.1 (delivery_step finding)
@@ -149,7 +152,7 @@ impl<N: Naming, R: Wait + Copy, T: Follows<N>> Desk<N, R, T> {
         self.locked.lock(&self.rt).deliver(finding)
     }
 
-    /// The job of a question with this bound, about the events that it is about.
+    /// Returns a job that computes the tasks of a question with this bound.
     ///
     /// # Errors
     ///
@@ -159,8 +162,8 @@ impl<N: Naming, R: Wait + Copy, T: Follows<N>> Desk<N, R, T> {
         Ok(OwnJob::new(self.alloc, shared?, question, bound, receipt))
     }
 
-    /// Does what `deliver` does with a finding of one of the desk's own questions, whose events are
-    /// not compared.
+    /// Delivers like `deliver`, for a finding that was computed from a snapshot of this desk. Its
+    /// events are not compared again.
     ///
     /// # Errors
     ///
@@ -181,14 +184,13 @@ impl<N: Naming, R: Wait + Copy, T: Follows<N>> Desk<N, R, T> {
         self.locked.lock(&self.rt).deliver_own(own)
     }
 
-    /// Delivers the findings in their order, each as by `deliver`, under one taking of the lock:
-    /// nothing else comes between them. Answers what became of each, in the same order. The receipt
-    /// ends with those that were taken.
+    /// Delivers the findings in order, each like `deliver`, while holding the lock once. Returns the
+    /// outcome of each, in the same order. The receipt ends with the steps of those that were taken.
     ///
     /// # Errors
     ///
-    /// All findings, handed back, where there is no memory for the list of what became of them,
-    /// which an empty list wants none of. Nothing has changed.
+    /// All findings, if the list of outcomes cannot be allocated. Nothing changes. An empty list
+    /// needs no allocation.
     pub fn deliver_all(
         &self,
         findings: Vec<Finding>,
@@ -202,12 +204,12 @@ impl<N: Naming, R: Wait + Copy, T: Follows<N>> Desk<N, R, T> {
         self.locked.lock(&self.rt).deliver_all(findings)
     }
 
-    /// What is known of the question after all that the receipt names: the report once all its
-    /// tasks are delivered.
+    /// Returns the report of a question if all its tasks are delivered, else how many are.
     ///
     /// # Errors
     ///
-    /// The book's refusal after all that the receipt names, and `NoMemory` where it has none.
+    /// The machine's refusal after the receipt's steps, or `NoMemory` if the machine answers but an
+    /// allocation fails.
     pub fn answer(&self, question: u32) -> (Result<Answer, AnswerRefused>, Receipt<N>)
         ensures told { IfOk result.0
             (λ told. Afterwards N.limit result.1
@@ -222,13 +224,12 @@ impl<N: Naming, R: Wait + Copy, T: Follows<N>> Desk<N, R, T> {
         self.locked.lock(&self.rt).answer(question)
     }
 
-    /// Exactly the events that the question is about, with what is needed to compute its tasks. The
-    /// receipt names all that is then published.
+    /// Returns a snapshot of exactly the events that the question covers.
     ///
     /// # Errors
     ///
-    /// After all that the receipt names: `NoSuchQuestion`, or `NoMemory` where a growth was
-    /// refused.
+    /// `NoSuchQuestion` if it is not open after the receipt's steps; `NoMemory` if an allocation
+    /// fails.
     pub fn snapshot(&self, question: u32) -> (Result<Arc<Snapshot, Global>, Refusal>, Receipt<N>)
         ensures ok { IfOk result.0
             (λ shared. Afterwards N.limit result.1
@@ -242,12 +243,11 @@ impl<N: Naming, R: Wait + Copy, T: Follows<N>> Desk<N, R, T> {
         (locked.snapshot(question), locked.receipt())
     }
 
-    /// The least task of the question that is not delivered; none where all are. The receipt names
-    /// all that is then published.
+    /// Returns the least missing task of the question, or `None` if all are delivered.
     ///
     /// # Errors
     ///
-    /// `NoSuchQuestion`, after all that the receipt names.
+    /// `NoSuchQuestion` if it is not open after the receipt's steps.
     pub fn missing(&self, question: u32) -> (Result<Option<u32>, NoSuchQuestion>, Receipt<N>)
         ensures ok { IfOk result.0
             (λ found. Afterwards N.limit result.1 (λ state. IsFirstMissing state question found)) }

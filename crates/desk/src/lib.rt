@@ -1,7 +1,7 @@
-//! The desk: one book that threads share, behind a lock, with the board that shows it.
-//!
-//! Whenever the lock is free, the published steps are a legal run, the book is the machine after
-//! it, and the board shows its summary. Whoever was answered holds a receipt that says so.
+//! The desk: one book behind a lock, shared by threads, and the board that shows its summary. Whenever
+//! the lock is free, the published steps are a legal run, the book is the machine's state after that
+//! run, and the board shows its summary; the type [`Locked`] states this. Each call returns a receipt,
+//! which names the steps published so far. Start reading at `locked`.
 #![tactic(auto)]
 
 mod client;
@@ -12,5 +12,6 @@ mod worker;
 
 pub use client::Client;
 pub use desk::Desk;
+pub use findings::Hold;
 pub use locked::{DeskRefused, Locked};
-pub use worker::{Failed, Turn, Worker};
+pub use worker::{Turn, TurnFailure, Worker};

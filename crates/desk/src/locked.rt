@@ -1,4 +1,4 @@
-//! What lies under the lock.
+//! The value under the desk's lock.
 
 ghost use Rattle.std.specs.Prelude.{◌≡◌, ◌<◌, [], ◌∷◌, ◌++◌, length, take, slice_get, IfOk, IfErr, OnOk, OnErr, None, Some};
 ghost use Rattle.std.specs.Arc.{arc_value};
@@ -21,7 +21,7 @@ ghost use Rattle.desk.specs.Refused.{IsCount, RefusesDesk};
 ghost use Rattle.desk.specs.Together.{AreOutcomes, taken_steps};
 
 use crate::own::OwnFinding;
-use board::{BoardReader, BoardWriter, Follows, Naming, Receipt, Shown, Summary, new_board};
+use board::{BoardReader, BoardValue, BoardWriter, HistoryId, Receipt, Shown, Summary, new_board};
 use findings::{Finding, Snapshot};
 use reports::confirmed_in;
 use sequencer::{
@@ -34,10 +34,10 @@ use std::sync::{Arc, Wait};
 use thiserror::Error;
 use trace_model::{BoardStep, Event, EventBatch, Place, Refusal};
 
-/// The most readers of a desk.
+/// The largest number of readers of a desk.
 const MAX_READERS: usize = 40;
 
-/// Why a desk is not made.
+/// Why a desk cannot be created.
 #[derive(Clone, Copy, Debug, PartialEq, Eq, Error)]
 pub enum DeskRefused {
     #[error("the limit is not 1 to 1048576")]
@@ -48,45 +48,48 @@ pub enum DeskRefused {
     NotMade,
 }
 
-/// The book with the board's writer. Contracts see it as the published steps and the state of the
-/// book, which is the machine's after these steps.
-pub struct Locked<N: Naming, R: Wait + Copy, T: Follows<N>> {
+/// The book and the board's writer. Contracts see it as the published steps and the state of the book,
+/// which is the machine's state after these steps.
+pub struct Locked<N: HistoryId, R: Wait + Copy, T: BoardValue<N>> {
     book: Book,
     board: BoardWriter<N, R, T>,
 }
 
-impl<N: Naming, R: Wait + Copy, T: Follows<N>> Drop for Locked<N, R, T> {
+impl<N: HistoryId, R: Wait + Copy, T: BoardValue<N>> Drop for Locked<N, R, T> {
     fn drop(self) {
         let Locked { book: _, board: _ } = self;
     }
 }
 
-impl<N: Naming, R: Wait + Copy, T: Follows<N>> Model for Locked<N, R, T> {
-    ghost use Rattle.desk.specs.Published.{IsKept, Kept};
+impl<N: HistoryId, R: Wait + Copy, T: BoardValue<N>> Model for Locked<N, R, T> {
+    ghost use Rattle.desk.specs.Published.{IsDesk, DeskView};
 
-    ghost Value = { Kept };
+    ghost Value = { DeskView };
 
     ghost view = { λ l. record { published = l.board.published; state = l.book.state } };
 
-    ghost invariant = { λ l. IsKept N.limit l.board.published l.board.waiting l.book.state };
+    ghost invariant = { λ l. IsDesk N.limit l.board.published l.board.waiting l.book.state };
 }
 
-impl<N: Naming, R: Wait + Copy> Locked<N, R, Shown<N>> {
-    /// A book without events, which accepts at most `max_events`, and a board that shows nothing,
-    /// with so many readers. The history must have just been opened.
+impl<N: HistoryId, R: Wait + Copy> Locked<N, R, Shown<N>> {
+    /// Creates an empty book that accepts at most `max_events` events, and an empty board with
+    /// `readers` readers over a new history.
     ///
     /// # Errors
     ///
-    /// As of `Desk::new`.
-    pub(crate) fn open(
+    /// The first that applies:
+    /// - `BadLimit` if `max_events` is not 1 to `MAX_EVENTS`.
+    /// - `BadCount` if `readers` is not 1 to 40.
+    /// - `NotMade` if an allocation fails.
+    pub fn new(
         alloc: Global,
         state: RandomState,
         rt: R,
-        opened: board::Opened,
+        history: board::NewHistory,
         max_events: u32,
         readers: usize,
     ) -> Result<(Locked<N, R, Shown<N>>, Vec<BoardReader<N>>), DeskRefused>
-        requires book { opened.seen.book ≡ N.book }
+        requires book { history.seen.book ≡ N.book }
         requires limit { max_events ≡ N.limit }
         ensures published { IfOk result (λ made. made.0.published ≡ []) }
         ensures state { IfOk result (λ made. made.0.state ≡ opening max_events) }
@@ -101,7 +104,7 @@ impl<N: Naming, R: Wait + Copy> Locked<N, R, Shown<N>> {
             drop(book);
             return Err(DeskRefused::BadCount);
         }
-        match new_board(alloc, rt, opened, readers) {
+        match new_board(alloc, rt, history, readers) {
             Ok((board, all)) => Ok((Locked { book, board }, all)),
             Err(_) => {
                 drop(book);
@@ -111,8 +114,8 @@ impl<N: Naming, R: Wait + Copy> Locked<N, R, Shown<N>> {
     }
 }
 
-impl<N: Naming, R: Wait + Copy, T: Follows<N>> Locked<N, R, T> {
-    /// What the board shows: the summary of all that is published.
+impl<N: HistoryId, R: Wait + Copy, T: BoardValue<N>> Locked<N, R, T> {
+    /// Returns the summary of the published steps.
     pub fn summary(&self) -> &Summary
         ensures shown { Shows result.now self.now.published }
         ensures after { After N.limit self.now.published self.now.state }
@@ -120,12 +123,12 @@ impl<N: Naming, R: Wait + Copy, T: Follows<N>> Locked<N, R, T> {
         self.board.summary()
     }
 
-    /// Offers an event. An accepted one gets its place and is published. The receipt names all that
-    /// is then published.
+    /// Offers an event. An accepted event is published, and its place is returned.
     ///
     /// # Errors
     ///
-    /// The book's refusal, and `NoMemory` where it has none. Nothing has changed.
+    /// The machine's refusal, or `NoMemory` if the machine accepts but an allocation fails. Nothing
+    /// changes.
     pub fn offer(&mut self, event: Event) -> (Result<Place, Refusal>, Receipt<N>)
         ensures before { After N.limit self.old.published self.old.state }
         ensures after { After N.limit self.new.published self.new.state }
@@ -140,20 +143,19 @@ impl<N: Naming, R: Wait + Copy, T: Follows<N>> Locked<N, R, T> {
         ensures receipt { result.1 ≡ self.new.published }
         ensures legal { IsLegal self.new.published }
     {
-        if let Err(refusal) = self.book.admit(&event) {
+        if let Err(refusal) = self.book.reserve_event(&event) {
             return (Err(refusal), self.board.receipt());
         }
         let Ok(()) = self.board.grow(BoardStep::Accept(EventBatch::of(event))) else {
             return (Err(Refusal::NoMemory), self.board.receipt());
         };
         let place = Place::new(self.book.len() as u32);
-        self.book.accept(&event);
+        self.book.record_event(&event);
         (Ok(place), publish(&mut self.board))
     }
 
-    /// Offers the events of a batch, of which there are 1 to `MAX_BATCH`: those before the first
-    /// that is refused are accepted, and published as one step. Where none is, nothing has changed.
-    /// The receipt names all that is then published.
+    /// Offers a batch of 1 to `MAX_BATCH` events. The events before the first refused one are accepted
+    /// and published as one step. If none is accepted, nothing changes.
     pub fn offer_batch(&mut self, events: &[Event]) -> (Batched, Receipt<N>)
         requires { IsBatch events.now }
         ensures before { After N.limit self.old.published self.old.state }
@@ -164,7 +166,7 @@ impl<N: Naming, R: Wait + Copy, T: Follows<N>> Locked<N, R, T> {
         ensures receipt { result.1 ≡ self.new.published }
         ensures legal { IsLegal self.new.published }
     {
-        if let Err(refusal) = self.book.admit(&events[0]) {
+        if let Err(refusal) = self.book.reserve_event(&events[0]) {
             return (none_of(&self.book, refusal), self.board.receipt());
         }
         let Some(batch) = EventBatch::new(events) else {
@@ -173,17 +175,17 @@ impl<N: Naming, R: Wait + Copy, T: Follows<N>> Locked<N, R, T> {
         let Ok(()) = self.board.grow(BoardStep::Accept(batch)) else {
             return (none_of(&self.book, Refusal::NoMemory), self.board.receipt());
         };
-        let batched = self.book.accept_batch(events);
-        self.board.keep(usize::from(batched.accepted));
+        let batched = self.book.record_batch(events);
+        self.board.truncate(usize::from(batched.accepted));
         (batched, publish(&mut self.board))
     }
 
-    /// Asks about the present events. An opened question is published. The receipt names all that
-    /// is then published.
+    /// Opens a question about the accepted events, and publishes it.
     ///
     /// # Errors
     ///
-    /// The book's refusal, and `NoMemory` where it has none. Nothing has changed.
+    /// The machine's refusal, or `NoMemory` if the machine accepts but an allocation fails. Nothing
+    /// changes.
     pub fn ask(&mut self, bound: u8) -> (Result<Opened, AskRefused>, Receipt<N>)
         ensures before { After N.limit self.old.published self.old.state }
         ensures after { After N.limit self.new.published self.new.state }
@@ -199,11 +201,11 @@ impl<N: Naming, R: Wait + Copy, T: Follows<N>> Locked<N, R, T> {
         ensures receipt { result.1 ≡ self.new.published }
         ensures legal { IsLegal self.new.published }
     {
-        let asked = match self.book.open(bound) {
+        let asked = match self.book.reserve_question(bound) {
             Ok(asked) => asked,
             Err(refused) => return (Err(refused), self.board.receipt()),
         };
-        let opened = self.book.opens(&asked);
+        let opened = self.book.preview(&asked);
         let step = BoardStep::Open {
             bound: asked.bound(),
             total: opened.total,
@@ -211,17 +213,16 @@ impl<N: Naming, R: Wait + Copy, T: Follows<N>> Locked<N, R, T> {
         let Ok(()) = self.board.grow(step) else {
             return (Err(AskRefused::NoMemory), self.board.receipt());
         };
-        self.book.add(asked);
+        self.book.record_question(asked);
         (Ok(opened), publish(&mut self.board))
     }
 
-    /// Takes the rows of a task of a question. What is taken is published. The receipt names all
-    /// that is then published.
+    /// Delivers the rows of one task, and publishes the delivery.
     ///
     /// # Errors
     ///
-    /// The book's refusal, and `NoMemory` where it has none, with the finding handed back. Nothing
-    /// has changed.
+    /// The machine's refusal, or `NoMemory` if the machine accepts but an allocation fails. The
+    /// finding is given back and nothing changes.
     pub fn deliver(&mut self, finding: Finding) -> (Result<(), (Refusal, Finding)>, Receipt<N>)
         ensures before { After N.limit self.old.published self.old.state }
         ensures after { After N.limit self.new.published self.new.state }
@@ -233,8 +234,8 @@ impl<N: Naming, R: Wait + Copy, T: Follows<N>> Locked<N, R, T> {
         self.take_if(admitted, finding)
     }
 
-    /// Does what `deliver` does with a finding of one of the desk's own questions, whose events it
-    /// does not compare: its receipt says that they are those of the question.
+    /// Delivers like `deliver`, for a finding that was computed from a snapshot of this desk. Its
+    /// events are not compared again: its receipt states that they are the question's.
     ///
     /// # Errors
     ///
@@ -250,13 +251,14 @@ impl<N: Naming, R: Wait + Copy, T: Follows<N>> Locked<N, R, T> {
         ensures legal { IsLegal self.new.published }
     {
         let (finding, receipt) = own.into_parts();
-        // both name beginnings of one history: after either the question is about the same events
+        // for the proof: both receipts are prefixes of one history, so the question covers the same
+        // events after either
         let _later = receipt.later(&self.board.receipt());
         let admitted = self.book.admits_known(&finding);
         self.take_if(admitted, finding)
     }
 
-    /// Takes the finding where the book admits it, and hands it back with its refusal where not.
+    /// Takes the finding if the book admitted it, else gives it back with the refusal.
     fn take_if(
         &mut self,
         admitted: Result<(), Refusal>,
@@ -281,14 +283,13 @@ impl<N: Naming, R: Wait + Copy, T: Follows<N>> Locked<N, R, T> {
         }
     }
 
-    /// Delivers the findings in their order, one after another: each as by `deliver`, and each that
-    /// is taken is published by itself. Answers what became of each, in the same order. The receipt
-    /// names all that is then published.
+    /// Delivers the findings in order, each like `deliver`; each one that is taken is published as its
+    /// own step. Returns the outcome of each, in the same order.
     ///
     /// # Errors
     ///
-    /// All findings, handed back, where there is no memory for the list of what became of them,
-    /// which an empty list wants none of. Nothing has changed.
+    /// All findings, if the list of outcomes cannot be allocated. Nothing changes. An empty list
+    /// needs no allocation.
     pub fn deliver_all(
         &mut self,
         findings: Vec<Finding>,
@@ -304,7 +305,7 @@ impl<N: Naming, R: Wait + Copy, T: Follows<N>> Locked<N, R, T> {
         ensures some { OnErr result (0 < length findings.items) }
         ensures legal { IsLegal self.new.published }
     {
-        let _ = &self.book;
+        let _ = &self.book; // for the proof
         let Ok(mut outcomes) = Vec::with_capacity(*findings.allocator(), findings.len()) else {
             return Err(findings);
         };
@@ -315,12 +316,12 @@ impl<N: Naming, R: Wait + Copy, T: Follows<N>> Locked<N, R, T> {
         Ok((outcomes, self.receipt()))
     }
 
-    /// What is known of the question: the report once all its tasks are delivered. The receipt
-    /// names all that is published. Nothing changes.
+    /// Returns the report of a question if all its tasks are delivered, else how many are. Nothing
+    /// changes.
     ///
     /// # Errors
     ///
-    /// The book's refusal, and `NoMemory` where it has none.
+    /// The machine's refusal, or `NoMemory` if the machine answers but an allocation fails.
     pub fn answer(&mut self, question: u32) -> (Result<Answer, AnswerRefused>, Receipt<N>)
         ensures before { After N.limit self.old.published self.old.state }
         ensures told { IfOk result.0
@@ -336,7 +337,7 @@ impl<N: Naming, R: Wait + Copy, T: Follows<N>> Locked<N, R, T> {
         (self.book.answer(question), self.board.receipt())
     }
 
-    /// Names all that is published.
+    /// Returns a receipt for all published steps.
     pub fn receipt(&self) -> Receipt<N>
         ensures published { result ≡ self.now.published }
         ensures legal { IsLegal self.now.published }
@@ -344,11 +345,11 @@ impl<N: Naming, R: Wait + Copy, T: Follows<N>> Locked<N, R, T> {
         self.board.receipt()
     }
 
-    /// Exactly the events that the question is about, with what is needed to compute its tasks.
+    /// Returns a snapshot of exactly the events that the question covers.
     ///
     /// # Errors
     ///
-    /// `NoSuchQuestion`, or `NoMemory` where a growth was refused.
+    /// `NoSuchQuestion` if it is not open; `NoMemory` if an allocation fails.
     pub fn snapshot(&self, question: u32) -> Result<Arc<Snapshot, Global>, Refusal>
         ensures now { After N.limit self.now.published self.now.state }
         ensures ok { IfOk result (λ shared. AreEventsOf self.now.state question
@@ -358,12 +359,12 @@ impl<N: Naming, R: Wait + Copy, T: Follows<N>> Locked<N, R, T> {
         self.book.snapshot(question)
     }
 
-    /// The least task of the question that is not delivered; none where all are. It takes no
-    /// memory.
+    /// Returns the least missing task of the question, or `None` if all are delivered. Does not
+    /// allocate.
     ///
     /// # Errors
     ///
-    /// `NoSuchQuestion`.
+    /// `NoSuchQuestion` if it is not open.
     pub fn missing(&self, question: u32) -> Result<Option<u32>, NoSuchQuestion>
         ensures now { After N.limit self.now.published self.now.state }
         ensures ok { IfOk result (IsFirstMissing self.now.state question) }
@@ -373,7 +374,7 @@ impl<N: Naming, R: Wait + Copy, T: Follows<N>> Locked<N, R, T> {
     }
 }
 
-/// What became of a batch of which this refuses the first event.
+/// Returns the outcome of a batch whose first event has this refusal.
 fn none_of(book: &Book, refusal: Refusal) -> Batched
     ensures accepted { result.accepted ≡ 0 }
     ensures refusal { result.refusal ≡ Some refusal }
@@ -386,8 +387,8 @@ fn none_of(book: &Book, refusal: Refusal) -> Batched
     }
 }
 
-/// Publishes the step that waits, and names all that is then published.
-fn publish<N: Naming, R: Wait + Copy, T: Follows<N>>(
+/// Publishes the waiting step, and returns a receipt for all published steps.
+fn publish<N: HistoryId, R: Wait + Copy, T: BoardValue<N>>(
     writer: &mut BoardWriter<N, R, T>,
 ) -> Receipt<N>
     requires waits { length writer.old.waiting ≡ 1 }
@@ -400,7 +401,7 @@ fn publish<N: Naming, R: Wait + Copy, T: Follows<N>>(
     writer.receipt()
 }
 
-/// The step that a finding is published as.
+/// Returns the step that publishes the finding.
 fn step_of(finding: &Finding) -> BoardStep
     ensures { result ≡ delivery_step finding.now }
 {

@@ -1,32 +1,32 @@
-//! Jobs and findings of a desk's own questions. Their events are known to be those that the
-//! question is about, so that they need not be compared under the lock.
+//! Jobs and findings that were made from a snapshot of the desk. A receipt shows that their events are
+//! those of the question, so they are not compared again under the lock.
 
 ghost use Rattle.std.specs.Prelude.{◌≡◌};
 ghost use Rattle.std.specs.Arc.{arc_value};
 ghost use Rattle.desk.specs.Published.{Afterwards};
 ghost use Rattle.desk.specs.Questions.{AreEventsOf};
 
-use board::{Naming, Receipt};
+use board::{HistoryId, Receipt};
 use findings::{ComputeRefused, Finding, Job, Snapshot};
 use std::alloc::Global;
 use std::marker::Model;
 use std::sync::Arc;
 use trace_model::Bound;
 
-/// The job of a question of the desk, with a receipt after which the question was open. Contracts
-/// see it as the job.
-pub(crate) struct OwnJob<N: Naming> {
+/// A job for a question of the desk, with a receipt after which the question was open. Contracts see
+/// it as the job.
+pub(crate) struct OwnJob<N: HistoryId> {
     job: Job,
     receipt: Receipt<N>,
 }
 
-impl<N: Naming> Drop for OwnJob<N> {
+impl<N: HistoryId> Drop for OwnJob<N> {
     fn drop(self) {
         let OwnJob { job: _, receipt: _ } = self;
     }
 }
 
-impl<N: Naming> Model for OwnJob<N> {
+impl<N: HistoryId> Model for OwnJob<N> {
     ghost use Rattle.findings.specs.Found.{Asked};
     ghost use Rattle.desk.specs.Published.{Afterwards};
     ghost use Rattle.desk.specs.Questions.{AreEventsOf};
@@ -40,9 +40,9 @@ impl<N: Naming> Model for OwnJob<N> {
         (λ state. AreEventsOf state own.job.question own.job.events) };
 }
 
-impl<N: Naming> OwnJob<N> {
-    /// The job of a question about the snapshot's events, which the question was about after all
-    /// that the receipt names. It takes no memory.
+impl<N: HistoryId> OwnJob<N> {
+    /// Creates a job. After the receipt's steps the question must cover exactly the snapshot's events.
+    /// Does not allocate.
     pub(crate) fn new(
         alloc: Global,
         snapshot: Arc<Snapshot, Global>,
@@ -57,12 +57,12 @@ impl<N: Naming> OwnJob<N> {
         OwnJob { job, receipt }
     }
 
-    /// The number of the question.
+    /// Returns the number of the question.
     pub(crate) fn question(&self) -> u32 {
         self.job.question()
     }
 
-    /// Computes the rows of a task, as `Job::compute` does.
+    /// Computes the rows of a task, like `Job::compute`.
     ///
     /// # Errors
     ///
@@ -74,14 +74,14 @@ impl<N: Naming> OwnJob<N> {
     }
 }
 
-/// The rows of a task of a question of the desk, with a receipt after which the question was open.
-/// Contracts see it as the finding.
-pub(crate) struct OwnFinding<N: Naming> {
+/// A finding for a question of the desk, with a receipt after which the question was open. Contracts
+/// see it as the finding.
+pub(crate) struct OwnFinding<N: HistoryId> {
     finding: Finding,
     receipt: Receipt<N>,
 }
 
-impl<N: Naming> Drop for OwnFinding<N> {
+impl<N: HistoryId> Drop for OwnFinding<N> {
     fn drop(self) {
         let OwnFinding {
             finding: _,
@@ -90,7 +90,7 @@ impl<N: Naming> Drop for OwnFinding<N> {
     }
 }
 
-impl<N: Naming> Model for OwnFinding<N> {
+impl<N: HistoryId> Model for OwnFinding<N> {
     ghost use Rattle.snapshots.specs.Found.{FoundRows};
     ghost use Rattle.desk.specs.Published.{Afterwards};
     ghost use Rattle.desk.specs.Questions.{AreEventsOf};
@@ -104,8 +104,8 @@ impl<N: Naming> Model for OwnFinding<N> {
         (λ state. AreEventsOf state own.finding.question own.finding.events) };
 }
 
-impl<N: Naming> OwnFinding<N> {
-    /// The finding, and a receipt after which its question was open.
+impl<N: HistoryId> OwnFinding<N> {
+    /// Returns the finding, and a receipt after which its question was open.
     pub(crate) fn into_parts(self) -> (Finding, Receipt<N>)
         ensures finding { result.0 ≡ self }
         ensures known { Afterwards N.limit result.1

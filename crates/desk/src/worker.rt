@@ -1,4 +1,4 @@
-//! Workers, which compute the rows of tasks with the lock free.
+//! Workers, which compute the rows of tasks without the lock.
 
 ghost use Rattle.std.specs.Prelude.{◌≡◌, ◌≢◌, IfErr, IsSome, OnOk};
 ghost use mathlib.Core.List.{IsPrefix};
@@ -7,45 +7,46 @@ ghost use Rattle.desk.specs.Published.{WasTaken};
 
 use crate::desk::Desk;
 use crate::own::{OwnFinding, OwnJob};
-use board::{BoardReader, Follows, Naming, Unsettled};
+use board::{BoardReader, BoardValue, HistoryId, Unsettled};
 use claims::Claimant;
 use findings::{ComputeRefused, Hold};
 use std::marker::Model;
 use std::sync::{Arc, Wait};
 use trace_model::{Bound, MAX_QUESTIONS, Refusal};
 
-/// Why a turn got no further.
+/// Why a turn failed.
 #[derive(Clone, Copy, Debug, PartialEq, Eq)]
-pub enum Failed {
+pub enum TurnFailure {
     NoMemory,
     BoardBusy,
     TooManyCycles,
 }
 
-impl Failed {
+impl TurnFailure {
     ghost use Rattle.desk.specs.Refused.{failure};
 
-    /// Its place among all refusals.
+    /// Returns the refusal of this failure.
     pub fn refusal(self) -> Refusal
         ensures { result ≡ failure self }
     {
         match self {
-            Failed::NoMemory => Refusal::NoMemory,
-            Failed::BoardBusy => Refusal::BoardBusy,
-            Failed::TooManyCycles => Refusal::TooManyCycles,
+            TurnFailure::NoMemory => Refusal::NoMemory,
+            TurnFailure::BoardBusy => Refusal::BoardBusy,
+            TurnFailure::TooManyCycles => Refusal::TooManyCycles,
         }
     }
 }
 
-/// What a turn did.
+/// The outcome of a turn.
 #[derive(Clone, Copy, Debug, PartialEq, Eq)]
 pub enum Turn {
-    /// The rows of a task were computed and taken.
+    /// The rows of a task were computed and delivered.
     Delivered,
-    /// The desk refused what was asked of it.
+    /// The desk refused the finding or the snapshot.
     Refused(Refusal),
-    Failed(Failed),
-    /// No task is missing, but of questions that it gave up.
+    /// Memory, the board or the search failed.
+    Failed(TurnFailure),
+    /// No task is missing, except of questions that this worker gave up.
     Idle,
 }
 
@@ -57,10 +58,10 @@ struct Picked {
     left: bool,
 }
 
-/// Computes tasks for a desk. It keeps the job of a question while that is not settled, and gives
-/// up a question whose least missing task has too many cycles. Contracts see it as the steps that
-/// it has seen or was told of.
-pub struct Worker<N: Naming, R: Wait + Copy, T: Follows<N>> {
+/// Computes tasks for a desk. It keeps the job of a question while that is unsettled, and gives up a
+/// question whose least missing task has too many cycles. Contracts see a worker as the steps that
+/// its reader has seen or learned.
+pub struct Worker<N: HistoryId, R: Wait + Copy, T: BoardValue<N>> {
     desk: Arc<Desk<N, R, T>>,
     claimant: Claimant,
     reader: BoardReader<N>,
@@ -68,7 +69,7 @@ pub struct Worker<N: Naming, R: Wait + Copy, T: Follows<N>> {
     given_up: [bool; MAX_QUESTIONS],
 }
 
-impl<N: Naming, R: Wait + Copy, T: Follows<N>> Drop for Worker<N, R, T> {
+impl<N: HistoryId, R: Wait + Copy, T: BoardValue<N>> Drop for Worker<N, R, T> {
     fn drop(self) {
         let Worker {
             desk: _,
@@ -80,23 +81,23 @@ impl<N: Naming, R: Wait + Copy, T: Follows<N>> Drop for Worker<N, R, T> {
     }
 }
 
-impl<N: Naming, R: Wait + Copy, T: Follows<N>> Model for Worker<N, R, T> {
+impl<N: HistoryId, R: Wait + Copy, T: BoardValue<N>> Model for Worker<N, R, T> {
     ghost use Rattle.std.specs.Prelude.{List};
     ghost use Rattle.trace_model.specs.declared.messages.step.BoardStep.{BoardStep};
 
     ghost Value = { List BoardStep };
 
-    ghost view = { λ w. w.reader };
+    ghost view = { λ w. w.reader.known };
 }
 
-impl<N: Naming, R: Wait + Copy, T: Follows<N>> Worker<N, R, T> {
-    /// A worker at the desk. What it draws no other claimant of its call draws.
+impl<N: HistoryId, R: Wait + Copy, T: BoardValue<N>> Worker<N, R, T> {
+    /// Creates a worker. The reader must be of this desk.
     pub fn new(
         desk: Arc<Desk<N, R, T>>,
         claimant: Claimant,
         reader: BoardReader<N>,
     ) -> Worker<N, R, T>
-        ensures { result ≡ reader }
+        ensures { result ≡ reader.known }
     {
         Worker {
             desk,
@@ -107,17 +108,17 @@ impl<N: Naming, R: Wait + Copy, T: Follows<N>> Worker<N, R, T> {
         }
     }
 
-    /// Takes a task of the least question that is not settled, nor given up: one that it draws, or
-    /// the least missing one once all are drawn. Computes its rows with the lock free, calls the
-    /// hold, and delivers. What it delivered it has seen then. Where the least missing one has too
-    /// many cycles, it gives the question up.
+    /// Works on one task of the least unsettled question that was not given up. The task is a drawn
+    /// number below the question's total, or the least missing task if all are drawn. Computes the
+    /// rows without the lock, calls `hold`, delivers, and learns the receipt. Gives the question up if
+    /// its least missing task has too many cycles.
     pub fn turn(&mut self, hold: &impl Hold) -> Turn
         ensures later { IsPrefix self.old self.new }
         ensures delivered { result ≡ Turn.Delivered → (finding : FoundRows)
             × WasTaken N.limit finding self.new }
     {
         let Ok(found) = self.reader.least_unsettled(&self.given_up) else {
-            return Turn::Failed(Failed::BoardBusy);
+            return Turn::Failed(TurnFailure::BoardBusy);
         };
         match found {
             Some(unsettled) => self.work_on(unsettled, hold),
@@ -128,7 +129,7 @@ impl<N: Naming, R: Wait + Copy, T: Follows<N>> Worker<N, R, T> {
         }
     }
 
-    /// Does what is told of a turn with a question that is not settled.
+    /// Works on one task of this question.
     fn work_on(&mut self, unsettled: Unsettled, hold: &impl Hold) -> Turn
         ensures later { IsPrefix self.old self.new }
         ensures delivered { result ≡ Turn.Delivered → (finding : FoundRows)
@@ -151,7 +152,7 @@ impl<N: Naming, R: Wait + Copy, T: Follows<N>> Worker<N, R, T> {
                 deliver(&self.desk, &mut self.reader, own)
             }
             Err(turn) => {
-                if picked.left && turn == Turn::Failed(Failed::TooManyCycles) {
+                if picked.left && turn == Turn::Failed(TurnFailure::TooManyCycles) {
                     self.given_up[usize::from(number)] = true;
                 }
                 turn
@@ -160,8 +161,8 @@ impl<N: Naming, R: Wait + Copy, T: Follows<N>> Worker<N, R, T> {
     }
 }
 
-/// A task of the question that no other worker drew, or the least missing one.
-fn pick<N: Naming, R: Wait + Copy, T: Follows<N>>(
+/// Returns a task that no other worker drew, or the least missing one, or `None` if none is missing.
+fn pick<N: HistoryId, R: Wait + Copy, T: BoardValue<N>>(
     desk: &Desk<N, R, T>,
     claimant: &mut Claimant,
     question: u8,
@@ -179,8 +180,8 @@ fn pick<N: Naming, R: Wait + Copy, T: Follows<N>>(
     Some(Picked { task, left: true })
 }
 
-/// Keeps the job of the question: the one that is kept already, or a new one in its place.
-fn keep_job<N: Naming, R: Wait + Copy, T: Follows<N>>(
+/// Ensures that `kept` is the job of the question: keeps it if it is, else replaces it.
+fn keep_job<N: HistoryId, R: Wait + Copy, T: BoardValue<N>>(
     desk: &Desk<N, R, T>,
     kept: &mut Option<OwnJob<N>>,
     question: u32,
@@ -204,8 +205,8 @@ fn keep_job<N: Naming, R: Wait + Copy, T: Follows<N>>(
     }
 }
 
-/// Computes the rows of the task, with the lock free, and keeps the job.
-fn compute<N: Naming, R: Wait + Copy, T: Follows<N>>(
+/// Computes the rows of the task without the lock, and keeps the job.
+fn compute<N: HistoryId, R: Wait + Copy, T: BoardValue<N>>(
     desk: &Desk<N, R, T>,
     kept: &mut Option<OwnJob<N>>,
     question: u32,
@@ -220,19 +221,19 @@ fn compute<N: Naming, R: Wait + Copy, T: Follows<N>>(
     };
     match job.compute(task) {
         Ok(own) => Ok(own),
-        Err(ComputeRefused::TooManyCycles) => Err(Turn::Failed(Failed::TooManyCycles)),
-        Err(ComputeRefused::NoMemory) => Err(Turn::Failed(Failed::NoMemory)),
+        Err(ComputeRefused::TooManyCycles) => Err(Turn::Failed(TurnFailure::TooManyCycles)),
+        Err(ComputeRefused::NoMemory) => Err(Turn::Failed(TurnFailure::NoMemory)),
     }
 }
 
-/// Delivers, and learns the receipt.
-fn deliver<N: Naming, R: Wait + Copy, T: Follows<N>>(
+/// Delivers the finding and learns the receipt.
+fn deliver<N: HistoryId, R: Wait + Copy, T: BoardValue<N>>(
     desk: &Desk<N, R, T>,
     reader: &mut BoardReader<N>,
     own: OwnFinding<N>,
 ) -> Turn
-    ensures later { IsPrefix reader.old reader.new }
-    ensures delivered { result ≡ Turn.Delivered → WasTaken N.limit own reader.new }
+    ensures later { IsPrefix reader.old.known reader.new.known }
+    ensures delivered { result ≡ Turn.Delivered → WasTaken N.limit own reader.new.known }
 {
     let (delivered, receipt) = desk.deliver_own(own);
     reader.learn(&receipt);
@@ -245,12 +246,12 @@ fn deliver<N: Naming, R: Wait + Copy, T: Follows<N>>(
     }
 }
 
-/// The turn that the desk refused so.
+/// Returns the outcome of a turn that the desk refused.
 fn refused(refusal: Refusal) -> Turn
     ensures { result ≢ Turn.Delivered }
 {
     match refusal {
-        Refusal::NoMemory => Turn::Failed(Failed::NoMemory),
+        Refusal::NoMemory => Turn::Failed(TurnFailure::NoMemory),
         _ => Turn::Refused(refusal),
     }
 }

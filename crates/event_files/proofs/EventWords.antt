@@ -1,4 +1,4 @@
--- How the word of an event is taken apart.
+-- The parts of an event word.
 use Rattle.std.proofs.Common.{◌≡◌, ℕ, suc, ◌+◌, ◌<◌, ◌≤◌, ◌^◌, true, false, cond, not, ltb, nat_lt, List, [], ◌∷◌, ◌++◌, length, take, drop, get_or, decimal, Some, None, refl, sym, ap, subst, ◌∙◌, arith, length-append}
 use Rattle.std.specs.List.{position, prefix_len}
 use Rattle.std.specs.Char.{is_ascii_digit}
@@ -29,7 +29,7 @@ place_of n c rest small other =
     let l : ltb (length (decimal n)) (length (decimal n ++ c ∷ rest)) ≡ true = lt-ltb _ _ (omega (arith, length-append (decimal n) (c ∷ rest))) in
     ap (λ k. cond (nat_lt k (length (decimal n ++ c ∷ rest))) (Some k) None) p ∙ ap (λ b. cond b (Some (length (decimal n))) None) l
 
--- what stands before a place, at it and after it
+-- the bytes before an index, at it and after it
 record HasParts (word front : List ℕ) (c : ℕ) (back : List ℕ) : Type 0 where
   before : take (length front) word ≡ front
   letter : get_or word (length front) 0 ≡ c
@@ -49,7 +49,7 @@ letter_other (Release lock) = refl
 letter_other (Read variable) = refl
 letter_other (Write variable) = refl
 
--- where the letter of an event's word stands, and what stands round it
+-- the index of the letter of an event word, and the digits around it
 pub record IsTakenApart (word : List ℕ) (e : Event) (place : ℕ) : Type 0 where
   pub found : position is_no_digit word ≡ Some place
   pub thread : take place word ≡ decimal e.thread
@@ -67,7 +67,7 @@ taken_apart word e small is =
       object = ap (λ k. drop k (event_word e)) next ∙ p.after;
     })
 
--- a word is an event's whose thread stands before a place, its letter there and its object after
+-- a word is that of an event whose thread is before an index, its letter at it and its object after
 pub word_is : (word : List ℕ) (e : Event) (place : ℕ) → place < length word → take place word ≡ decimal e.thread → get_or word place 0 ≡ letter_of e.op →
     drop (place + 1) word ≡ decimal (object_of e.op) → word ≡ event_word e
 word_is word e place within thread letter object =

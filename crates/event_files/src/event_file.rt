@@ -10,10 +10,9 @@ ghost use Rattle.event_files.specs.EventFile.{is_no_digit, is_word, letter_of, e
 use crate::numbers::number;
 use crate::refused::FileRefused;
 use std::alloc::{AllocError, Global};
-use std::thread::{Threads, join};
 use trace_model::{Event, NoMemory, Op};
 
-/// The operation of a letter.
+/// Returns the operation with this letter and object, or `None` if no operation has the letter.
 fn op_of(letter: u8, object: u32) -> Option<Op>
     ensures sound { IfSome result (λ op. (letter ≡ letter_of op) × (object_of op ≡ object)) }
     ensures complete { (op : Op) → letter ≡ letter_of op → object_of op ≡ object →
@@ -30,14 +29,15 @@ fn op_of(letter: u8, object: u32) -> Option<Op>
     }
 }
 
-/// The place of the first byte that is no digit.
+/// Returns the index of the first byte that is not a digit, or `None`.
 fn letter_place(word: &[u8]) -> Option<usize>
     ensures { result ≡ position is_no_digit word.now }
 {
     word.iter().position(|byte| !byte.is_ascii_digit())
 }
 
-/// The event that is written so: its thread, the letter of its operation, and its object.
+/// Returns the event that `word` denotes, or `None`. A word is the thread, the letter of the
+/// operation, and the object: `1a10` is an acquire of lock 10 by thread 1.
 pub fn event(word: &[u8]) -> Option<Event>
     ensures sound { IfSome result (λ e. word.now ≡ event_word e) }
     ensures complete { (e : Event) → IsRequest (Offer e) → word.now ≡ event_word e →
@@ -50,7 +50,7 @@ pub fn event(word: &[u8]) -> Option<Event>
     Some(Event { thread, op })
 }
 
-/// The pieces of the bytes between those that are the mark.
+/// Returns the pieces of `bytes` between the bytes equal to `mark`.
 fn pieces_at<'a>(alloc: Global, bytes: &'a [u8], mark: u8) -> Result<Vec<&'a [u8]>, AllocError>
     ensures { IfOk result (λ pieces. map (λ piece. piece.now) pieces.items ≡
         pieces_at mark bytes.now) }
@@ -58,18 +58,18 @@ fn pieces_at<'a>(alloc: Global, bytes: &'a [u8], mark: u8) -> Result<Vec<&'a [u8
     bytes.split(|byte| *byte == mark).collect(alloc)
 }
 
-/// The lines of a file, which line feeds separate.
+/// Returns the lines of a file, which line feeds separate.
 ///
 /// # Errors
 ///
-/// `NoMemory` where a growth was refused.
+/// `NoMemory` if an allocation fails.
 pub fn lines_of(alloc: Global, file: &[u8]) -> Result<Vec<&[u8]>, NoMemory>
     ensures { IfOk result (λ lines. map (λ line. line.now) lines.items ≡ pieces_at 10 file.now) }
 {
     Ok(pieces_at(alloc, file, b'\n')?)
 }
 
-/// What stands between the spaces of a line.
+/// Returns the pieces of a line between its spaces, without empty pieces.
 fn spaced<'a>(alloc: Global, line: &'a [u8]) -> Result<Vec<&'a [u8]>, AllocError>
     ensures { IfOk result (λ words. map (λ word. word.now) words.items ≡
         filter is_word (pieces_at 32 line.now)) }
@@ -79,7 +79,7 @@ fn spaced<'a>(alloc: Global, line: &'a [u8]) -> Result<Vec<&'a [u8]>, AllocError
         .collect(alloc)
 }
 
-/// Whether a line is a comment whose first word this is.
+/// Returns whether a line with this first word is a comment: the word begins with `#`.
 fn is_comment(word: &[u8]) -> bool
     ensures { result ≡ is_comment word.now }
 {
@@ -89,11 +89,11 @@ fn is_comment(word: &[u8]) -> bool
     }
 }
 
-/// The words of a line, which are separated by spaces; none where the line is skipped.
+/// Returns the words of a line, which spaces separate. A comment has no words.
 ///
 /// # Errors
 ///
-/// `NoMemory` where a growth was refused.
+/// `NoMemory` if an allocation fails.
 pub fn words_of(alloc: Global, line: &[u8]) -> Result<Vec<&[u8]>, NoMemory>
     ensures { IfOk result (λ words. map (λ word. word.now) words.items ≡ line_words line.now) }
 {
@@ -104,11 +104,12 @@ pub fn words_of(alloc: Global, line: &[u8]) -> Result<Vec<&[u8]>, NoMemory>
     }
 }
 
-/// Adds the events of these words. It answers whether each is the word of one.
+/// Adds the events of `words` at the end of `events`. Returns false if some word is not an event
+/// word.
 ///
 /// # Errors
 ///
-/// `NoMemory` where a growth was refused. Some of the events may then be there.
+/// `NoMemory` if an allocation fails. Some of the events may have been added.
 pub fn push_events(events: &mut Vec<Event>, words: &[&[u8]]) -> Result<bool, NoMemory>
     ensures { result ≡ Ok true →
         map event_word events.new.items ≡ map event_word events.old.items ++
@@ -123,11 +124,11 @@ pub fn push_events(events: &mut Vec<Event>, words: &[&[u8]]) -> Result<bool, NoM
     Ok(true)
 }
 
-/// Adds the events of a line. It answers whether the line is understood.
+/// Adds the events of a line at the end of `events`. Returns false if the line is not understood.
 ///
 /// # Errors
 ///
-/// As of `push_events`.
+/// `NoMemory` if an allocation fails. Some of the events may have been added.
 fn push_line(alloc: Global, events: &mut Vec<Event>, line: &[u8]) -> Result<bool, NoMemory>
     ensures { result ≡ Ok true →
         map event_word events.new.items ≡ map event_word events.old.items ++ line_words line.now }
@@ -136,17 +137,18 @@ fn push_line(alloc: Global, events: &mut Vec<Event>, line: &[u8]) -> Result<bool
     push_events(events, &words)
 }
 
-/// The events of these lines, of which so many stand before them in their file.
+/// Returns the events of `lines`, in order.
 ///
 /// # Errors
 ///
-/// The first line that is not understood, by its number in the file, or `NoMemory`.
-fn events_of(alloc: Global, lines: &[&[u8]], before: usize) -> Result<Vec<Event>, FileRefused>
+/// - `Line` with the number of the first line that is not understood, counted from 1.
+/// - `NoMemory` if an allocation fails.
+fn events_of(alloc: Global, lines: &[&[u8]]) -> Result<Vec<Event>, FileRefused>
     ensures { IfOk result (λ events.
         AreEventsIn events.items (map (λ line. line.now) lines.now)) }
 {
     let mut events = Vec::new(alloc);
-    let mut number = before;
+    let mut number = 0usize;
     for line in lines {
         number = number.saturating_add(1);
         if !push_line(alloc, &mut events, line)? {
@@ -156,68 +158,15 @@ fn events_of(alloc: Global, lines: &[&[u8]], before: usize) -> Result<Vec<Event>
     Ok(events)
 }
 
-/// The events of a file, in their order.
+/// Returns the events of a file, in order.
 ///
 /// # Errors
 ///
-/// The first line that is not understood, or `NoMemory`.
+/// - `Line` with the number of the first line that is not understood, counted from 1.
+/// - `NoMemory` if an allocation fails.
 pub fn read_events(alloc: Global, file: &[u8]) -> Result<Vec<Event>, FileRefused>
     ensures { IfOk result (λ events. AreEventsOf events.items file.now) }
 {
     let lines = lines_of(alloc, file)?;
-    events_of(alloc, &lines, 0)
-}
-
-/// The events, and then these.
-fn followed(events: Vec<Event>, rest: &[Event]) -> Result<Vec<Event>, FileRefused>
-    ensures { IfOk result (λ all. all.items ≡ events.items ++ rest.now) }
-{
-    let mut events = events;
-    match events.extend_from_slice(rest) {
-        Ok(()) => Ok(events),
-        Err(_) => Err(FileRefused::NoMemory),
-    }
-}
-
-/// The events of the lines of a file: each half is read by a thread.
-///
-/// # Errors
-///
-/// As of `read_events`.
-fn events_by<R: Threads>(rt: &R, alloc: Global, lines: &[&[u8]]) -> Result<Vec<Event>, FileRefused>
-    ensures { IfOk result (λ events.
-        AreEventsIn events.items (map (λ line. line.now) lines.now)) }
-{
-    let (front, back) = lines.split_at(lines.len() / 2);
-    let (first, second) = join(
-        rt,
-        || -> Result<Vec<Event>, FileRefused>
-            ensures { IfOk result (λ events.
-                AreEventsIn events.items (map (λ line. line.now) front.entry.now)) }
-        { events_of(alloc, front, 0) },
-        || -> Result<Vec<Event>, FileRefused>
-            ensures { IfOk result (λ events.
-                AreEventsIn events.items (map (λ line. line.now) back.entry.now)) }
-        { events_of(alloc, back, front.len()) },
-    );
-    let events = first?;
-    let rest = second?;
-    followed(events, &rest)
-}
-
-/// The events of a file, in their order, as `read_events` gives them: of its lines each half is
-/// read by a thread.
-///
-/// # Errors
-///
-/// As of `read_events`.
-pub fn read_events_by<R: Threads>(
-    rt: &R,
-    alloc: Global,
-    file: &[u8],
-) -> Result<Vec<Event>, FileRefused>
-    ensures { IfOk result (λ events. AreEventsOf events.items file.now) }
-{
-    let lines = lines_of(alloc, file)?;
-    events_by(rt, alloc, &lines)
+    events_of(alloc, &lines)
 }

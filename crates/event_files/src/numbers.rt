@@ -1,8 +1,9 @@
-//! Numbers in decimal.
+//! Decimal numbers.
 ghost use Rattle.std.specs.Prelude.{◌≡◌, ◌<◌, ◌^◌, ℕ, IfSome, IfNone, Some, decimal};
 ghost use Rattle.event_files.specs.Numbers.{IsValueOf, IsTooLarge};
 
-/// The value of a text of digits, none where another byte is there or the value is too large.
+/// Returns the value of a text of digits, or `None` if it has another byte or the value does not
+/// fit in 32 bits.
 fn value_of(digits: &[u8]) -> Option<u32>
     ensures some { IfSome result (IsValueOf digits.now) }
     ensures none { IfNone result (IsTooLarge digits.now) }
@@ -19,7 +20,8 @@ fn value_of(digits: &[u8]) -> Option<u32>
     Some(value)
 }
 
-/// The number that is written so in decimal: `0`, or digits without a leading zero.
+/// Returns the number that `digits` denotes: `0`, or digits without a leading zero. Returns `None`
+/// for any other text.
 pub fn number(digits: &[u8]) -> Option<u32>
     ensures sound { IfSome result (λ n. digits.now ≡ decimal n) }
     ensures complete { (n : ℕ) → n < 2 ^ 32 → digits.now ≡ decimal n → result ≡ Some n }

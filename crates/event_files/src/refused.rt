@@ -2,13 +2,13 @@
 use thiserror::Error;
 use trace_model::NoMemory;
 
-/// Why a file was not read whole.
+/// Why a file was not read.
 #[derive(Clone, Copy, Debug, PartialEq, Eq, Error)]
 pub enum FileRefused {
-    /// The line with this number, from 1, is the first that is not understood.
+    /// The first line that is not understood has this number, counted from 1.
     #[error("line {0} is not understood")]
     Line(usize),
-    /// A growth was refused.
+    /// An allocation failed.
     #[error("no memory")]
     NoMemory,
 }

@@ -5,14 +5,15 @@ use crate::refused::FileRefused;
 use std::alloc::Global;
 use trace_model::{Instance, NoMemory, Place};
 
-/// What a witness file says: the places that are to be reached, and the list that is to reach them.
+/// The contents of a witness file: an instance, and the list of places that claims to reach it.
 #[derive(Drop)]
 pub struct WitnessFile {
     pub instance: Instance,
     pub order: Vec<Place>,
 }
 
-/// The places that follow the keyword, or none where the words are not that and numbers.
+/// Returns the places after the keyword, or `None` if the first word is not `keyword` or another
+/// word is not a number.
 fn places_after(
     alloc: Global,
     keyword: &[u8],
@@ -34,7 +35,7 @@ fn places_after(
     Ok(Some(places))
 }
 
-/// The instance of a line `reach` with 2 to 8 numbers.
+/// Returns the instance of a line `reach` with 2 to 8 numbers, or `None` for any other line.
 fn reach(alloc: Global, words: &[&[u8]]) -> Result<Option<Instance>, NoMemory> {
     match places_after(alloc, b"reach", words)? {
         Some(places) => Ok(Instance::new(&places)),
@@ -42,8 +43,8 @@ fn reach(alloc: Global, words: &[&[u8]]) -> Result<Option<Instance>, NoMemory> {
     }
 }
 
-/// Reads the words of the next line, none where it is skipped. It answers whether they are
-/// understood.
+/// Reads the words of the next line into `instance` or `order`. Returns whether they are
+/// understood. A line without words is skipped.
 fn read_words(
     alloc: Global,
     words: &[&[u8]],
@@ -64,7 +65,7 @@ fn read_words(
     Ok(false)
 }
 
-/// Reads the next line. It answers whether that is understood.
+/// Reads the next line. Returns whether it is understood.
 fn read_line(
     alloc: Global,
     line: &[u8],
@@ -75,7 +76,7 @@ fn read_line(
     read_words(alloc, &words, instance, order)
 }
 
-/// Reads the lines of a file.
+/// Reads the lines of a file into `instance` and `order`.
 fn read_lines(
     alloc: Global,
     lines: &[&[u8]],
@@ -92,13 +93,14 @@ fn read_lines(
     Ok(())
 }
 
-/// Reads a witness file: beside skipped lines a line `reach` with 2 to 8 numbers, and then a line
-/// `order` with any number of them.
+/// Returns the contents of a witness file: a line `reach` with 2 to 8 numbers, then a line `order`
+/// with any number of them. Empty lines and comments are skipped.
 ///
 /// # Errors
 ///
-/// The first line that is not understood, which is one more than the number of lines where a line
-/// is missing, or `NoMemory`.
+/// - `Line` with the number of the first line that is not understood, counted from 1. If a line is
+///   missing, this is one more than the number of lines.
+/// - `NoMemory` if an allocation fails.
 pub fn read_witness(alloc: Global, file: &[u8]) -> Result<WitnessFile, FileRefused> {
     let lines = lines_of(alloc, file)?;
     let mut instance = None;
@@ -110,7 +112,7 @@ pub fn read_witness(alloc: Global, file: &[u8]) -> Result<WitnessFile, FileRefus
     }
 }
 
-/// One more than the number of lines of a file that was cut into so many pieces.
+/// Returns one more than the number of lines of a file that line feeds cut into `pieces` pieces.
 fn after_last(file: &[u8], pieces: usize) -> usize {
     let ends_a_line = match file.last() {
         Some(byte) => *byte == b'\n',

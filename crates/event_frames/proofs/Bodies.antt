@@ -1,4 +1,4 @@
--- How long the parts of a reply's body are, and what they are behind the bytes before them.
+-- The lengths of the parts of a reply body, and the bytes after each part is added.
 use Rattle.std.proofs.Common.{◌≡◌, ℕ, List, [], ◌∷◌, ◌++◌, length, cond, Result, Ok, Err, refl, sym, ap, ◌∙◌, append_assoc}
 use Rattle.std.specs.Result.{OnOk, is_ok}
 use Rattle.std.specs.Int.{w32, w64, to_be_bytes}
@@ -13,7 +13,7 @@ pub length-status_fields : (s : QuestionStatus) → length (status_fields s) ≡
 unfolding three_words status_fields
 length-status_fields s = refl
 
--- what a call leaves that puts something behind, where it went well
+-- the bytes after a call that adds bytes, if it succeeds
 pub put_where_ok : {T E : Type 0} (r : Result T E) (new put old : List ℕ) → new ≡ cond (is_ok r) put old → OnOk r (new ≡ put)
 put_where_ok (Ok _) new put old e = e
 put_where_ok (Err _) new put old e = tt

@@ -1,4 +1,4 @@
--- A frame by the places of its bytes.
+-- A frame by the indices of its bytes.
 use Rattle.std.proofs.Common.{◌≡◌, ℕ, ◌+◌, ◌-◌, ◌≤◌, Bool, true, false, cond, not, eqb, ltb, List, [], ◌∷◌, length, get_or, drop, Option, Some, None, Ok, sym, ap, ◌∙◌, arith}
 use Rattle.std.specs.Int.{w16, from_be_bytes}
 use Rattle.std.proofs.lemmas.Bool.{le-ltb, ne_eqb}
@@ -28,7 +28,7 @@ header_is (high ∷ low ∷ kind ∷ fields) long h =
     let p = no_header_fault (eqb len 0) (is_kind kind) (is_length_of kind len) (fields_fault kind len fields) h in
     record { known = p.0; right = p.1; sound = p.2 }
 
--- an unknown kind shows where the length is there and not 0
+-- an unknown kind is a fault if the length is not 0
 pub unknown_kind : (bytes : List ℕ) (len : ℕ) → 3 ≤ length bytes → len ≡ len_at bytes → (len ≡ 0 → ⊥) → is_kind (get_or bytes 2 0) ≡ false → Some BadKind ≡ header_fault bytes
 unfolding header_fault
 unknown_kind [] len long is some unknown = absurd (omega arith)

@@ -1,4 +1,4 @@
--- What the calls of a reader say of the whole text.
+-- The calls of a reader, as facts of the whole text.
 use Rattle.std.proofs.Common.{◌≡◌, ℕ, Bool, true, false, List, [], ◌∷◌, ◌++◌, Option, Some, None, Result, Ok, Err, refl, sym, ap, ◌∙◌, append_assoc}
 use Rattle.std.specs.Option.{is_some}
 use Rattle.std.specs.List.{flat_map, AllByRecursion}
@@ -19,7 +19,7 @@ frames_push given request rest =
     sym (append_assoc (flat_map frame given) (frame request) rest)
     ∙ ap (λ (x : List ℕ). x ++ rest) (ap (λ (x : List ℕ). flat_map frame given ++ x) (sym (append-nil (frame request))) ∙ sym (flat_map-append frame given (request ∷ [])))
 
--- where no request stands first in the rest, all were given
+-- if the rest has no request at its start, then all requests were returned
 pub all_given : (text : List ℕ) (given : List Request) (rest : List ℕ) → AllByRecursion IsRequest given → text ≡ flat_map frame given ++ rest → requests_in rest ≡ [] → given ≡ requests_in text
 all_given text given rest each whole none =
     sym (ap requests_in whole ∙ ((frames_after given rest each).requests ∙ (ap (λ (x : List Request). given ++ x) none ∙ append-nil given)))
@@ -30,7 +30,7 @@ fault_of_rest text given rest ended each whole = ap (λ (x : List ℕ). fault_in
 untold_follows : (rest : List ℕ) (v : Reading) → v.told ≡ None → v.rest ≡ rest → Follows rest v
 untold_follows rest v e r = record { untold = λ _. r; told = λ fault t. let no_fault : ◌≡◌ {A = Option Fault} None (Some fault) = sym e ∙ t in absurd cc }
 
--- the fault that is told, by the rest that the reader follows
+-- the fault that is returned is that of the rest of the text
 told_at : (rest : List ℕ) (old : Reading) (fault : Fault) (new : Reading) → Follows rest old → TellsFault old fault new → (o : Option Fault) → old.told ≡ o → (requests_in rest ≡ []) × (fault_in rest old.ended ≡ Some fault)
 told_at rest old fault new f h None e =
     let s = h.stands e in
@@ -87,7 +87,7 @@ ends_at : (rest : List ℕ) (g : Fault) (b : Bool) → requests_in rest ≡ [] �
 ends_at rest g true n e = e
 ends_at rest g false n e = ap (λ (x : List ℕ). fault_in x true) (sym (append-nil rest)) ∙ (fault_stays rest [] true g n e).stands
 
--- once a fault was told, all requests were given, and the fault stands, ended or not
+-- after a fault, all requests were returned, and the fault is that of the text, ended or not
 pub told_whole : (text : List ℕ) (given : List Request) (v : Reading) (fault : Fault) → HasRead text given v → v.told ≡ Some fault → given ≡ requests_in text
 told_whole text given v fault k e = all_given text given k.rest k.each k.whole (k.follows.told fault e).0
 
@@ -101,7 +101,7 @@ told_always text given v fault k n e b =
     either true f = ends_at k.rest fault false (k.follows.told fault e).0 f
     either false f = f
 
--- what is left, while no fault was told
+-- the rest of the text, before a fault
 pub record Leaves (text : List ℕ) (given : List Request) (v : Reading) (ended : Bool) : Type 0 where
   pub requests : requests_in text ≡ given ++ requests_in v.rest
   pub fault : fault_in text ended ≡ fault_in v.rest ended

@@ -1,10 +1,11 @@
--- What stands first, by how many bytes it takes.
+-- The first frame of a text, and its length in bytes.
 use Rattle.std.specs.Prelude.{◌≡◌, ℕ, ◌≤◌, List, length, drop, ◌++◌, Option, Some, None, Result, Ok, Err}
 use Rattle.trace_model.specs.declared.messages.session.Request.{Request}
 use Rattle.trace_model.specs.declared.messages.session.Fault.{Fault}
 use Rattle.trace_model.specs.Protocol.Frames.{frame, IsRequest, leading_of}
 
--- what stands first: a fault, nothing whole, or a request and how many bytes its frame takes
+-- The result is the start of the text: a fault, no whole frame, or the first request and the length
+-- of its frame.
 abbrev pub IsLeading : List ℕ → Result (Option (Request × ℕ)) Fault → Type 0
 IsLeading bytes (Err fault) = leading_of bytes ≡ Err fault
 IsLeading bytes (Ok None) = leading_of bytes ≡ Ok None

@@ -1,12 +1,12 @@
--- What a reader of frames is, and what its calls do.
+-- The value of a frame reader, and what its calls do.
 use Rattle.std.specs.Prelude.{◌≡◌, ℕ, ◌<◌, Bool, List, [], ◌∷◌, ◌++◌, length, Option, Some, None, Result, Ok, Err, IsSome}
 use Rattle.std.specs.List.{flat_map, AllByRecursion}
 use Rattle.trace_model.specs.declared.messages.session.Request.{Request}
 use Rattle.trace_model.specs.declared.messages.session.Fault.{Fault}
 use Rattle.trace_model.specs.Protocol.Frames.{frame, IsRequest, requests_in, fault_in}
 
--- a reader: the bytes that were fed and not yet taken, whether the input ended, the fault that was
--- told, how many bytes it holds, and how many it has room for
+-- The value of a reader: the unread bytes, whether the input has ended, the fault that was
+-- returned, and the length and capacity of the buffer.
 pub record Reading : Type 0 where
   pub rest : List ℕ
   pub ended : Bool
@@ -14,19 +14,19 @@ pub record Reading : Type 0 where
   pub buffered : ℕ
   pub capacity : ℕ
 
--- new is old after a piece
+-- The new reader is the old one with a piece added. After a fault the piece is dropped.
 abbrev pub IsFed : Reading → List ℕ → Reading → Type 0
 IsFed old piece new = (new.told ≡ old.told) × (new.ended ≡ old.ended)
     × (old.told ≡ None → new.rest ≡ old.rest ++ piece)
 
--- a request was taken that stood first
+-- The call removes the frame of this request from the front of the unread bytes.
 pub record TakesRequest (old : Reading) (request : Request) (new : Reading) : Type 0 where
   pub fits : IsRequest request
   pub leading : old.rest ≡ frame request ++ new.rest
   pub untold : old.told ≡ None
   pub same : (new.told ≡ None) × (new.ended ≡ old.ended)
 
--- there is no more
+-- The unread bytes have no whole frame and no fault.
 pub record AwaitsMore (old new : Reading) : Type 0 where
   pub requests : requests_in old.rest ≡ []
   pub fault : fault_in old.rest old.ended ≡ None
@@ -34,7 +34,8 @@ pub record AwaitsMore (old new : Reading) : Type 0 where
   pub same : (new.rest ≡ old.rest) × (new.told ≡ None) × (new.ended ≡ old.ended)
   pub few : (length old.rest < 580) × (new.buffered ≡ length old.rest)
 
--- a fault is told, now or as before
+-- The call returns the fault: the one that was returned before, or the one at the front of the
+-- unread bytes.
 pub record TellsFault (old : Reading) (fault : Fault) (new : Reading) : Type 0 where
   pub stands : old.told ≡ None → (requests_in old.rest ≡ [])
       × (fault_in old.rest old.ended ≡ Some fault)
@@ -43,27 +44,28 @@ pub record TellsFault (old : Reading) (fault : Fault) (new : Reading) : Type 0 w
   pub same : new.ended ≡ old.ended
   pub keeps_nothing : new.buffered ≡ 0
 
+-- What a call of `next` returns and leaves.
 abbrev pub Answers : Reading → Result (Option Request) Fault → Reading → Type 0
 Answers old (Err fault) new = TellsFault old fault new
 Answers old (Ok None) new = AwaitsMore old new
 Answers old (Ok (Some request)) new = TakesRequest old request new
 
--- ---- by the whole text
+-- ---- facts of the whole text
 
--- the rest of a text, as the reader has it
+-- The reader has this rest of the text, or has returned its fault.
 pub record Follows (rest : List ℕ) (v : Reading) : Type 0 where
   pub untold : v.told ≡ None → v.rest ≡ rest
   pub told : (fault : Fault) → v.told ≡ Some fault → (requests_in rest ≡ [])
       × (fault_in rest v.ended ≡ Some fault)
 
--- A reader that was fed this text, in whatever pieces, and has given these requests.
+-- The reader was fed this text, in any pieces, and has returned these requests.
 pub record HasRead (text : List ℕ) (given : List Request) (v : Reading) : Type 0 where
   pub each : AllByRecursion IsRequest given
   pub rest : List ℕ
   pub whole : text ≡ flat_map frame given ++ rest
   pub follows : Follows rest v
 
--- its answer by the whole text
+-- What a call of `next` returns, as a fact of the whole text.
 abbrev pub Tells : List ℕ → List Request → Bool → Result (Option Request) Fault → Reading → Type 0
 Tells text given ended (Ok (Some request)) new = HasRead text (given ++ request ∷ []) new
 Tells text given ended (Ok None) new = (given ≡ requests_in text) × (fault_in text ended ≡ None)

@@ -1,11 +1,11 @@
-//! Events in frames.
+//! Events in frames: nine bytes each.
 ghost use Rattle.std.specs.Prelude.{◌≡◌, ◌*◌, ◌≤◌, length, take, true};
 ghost use Rattle.std.specs.Int.{w32, from_be_bytes};
 ghost use Rattle.trace_model.specs.Protocol.Frames.{batch_fault, cells_fault, event_bytes, event_of, events_of, is_event_kind, kind_of, object_of, op_of};
 
 use trace_model::{Event, EventBatch, Fault, Op};
 
-/// The number in the first four bytes.
+/// Returns the big-endian number in the first four bytes.
 pub(crate) fn word(bytes: &[u8]) -> u32
     requires { 4 ≤ length bytes.now }
     ensures { result ≡ from_be_bytes w32 (take 4 bytes.now) }
@@ -13,7 +13,7 @@ pub(crate) fn word(bytes: &[u8]) -> u32
     u32::from_be_bytes([bytes[0], bytes[1], bytes[2], bytes[3]])
 }
 
-/// What an event of this kind does, by its object.
+/// Returns the operation with this kind byte and object.
 pub(crate) fn op_of(kind: u8, object: u32) -> Op
     ensures { result ≡ op_of kind object }
 {
@@ -27,6 +27,7 @@ pub(crate) fn op_of(kind: u8, object: u32) -> Op
     }
 }
 
+/// Returns the kind byte of an operation.
 fn kind_of(op: Op) -> u8
     ensures { result ≡ kind_of op }
 {
@@ -40,6 +41,7 @@ fn kind_of(op: Op) -> u8
     }
 }
 
+/// Returns the object of an operation: the thread, lock or variable that it names.
 fn object_of(op: Op) -> u32
     ensures { result ≡ object_of op }
 {
@@ -53,7 +55,7 @@ fn object_of(op: Op) -> u32
     }
 }
 
-/// The event's kind, its thread and its object.
+/// Returns the nine bytes of an event: kind, thread, object.
 pub(crate) fn event_bytes(event: &Event) -> [u8; 9]
     ensures { result ≡ event_bytes event.now }
 {
@@ -62,13 +64,14 @@ pub(crate) fn event_bytes(event: &Event) -> [u8; 9]
     [kind_of(event.op), a, b, c, d, e, f, g, h]
 }
 
+/// Returns whether the byte is the kind of an event.
 fn is_event_kind(kind: u8) -> bool
     ensures { result ≡ is_event_kind kind }
 {
     1 <= kind && kind <= 6
 }
 
-/// The fault of so many events, as far as their bytes are there.
+/// Returns the fault of `count` events, in the bytes that have arrived.
 fn cells_fault(count: usize, cells: &[u8]) -> Option<Fault>
     requires few { count ≤ 65_536 }
     ensures { result ≡ cells_fault count cells.now }
@@ -86,7 +89,7 @@ fn cells_fault(count: usize, cells: &[u8]) -> Option<Fault>
     None
 }
 
-/// The fault of a batch of so many events, as far as its bytes are there.
+/// Returns the fault of a batch of `count` events, in the bytes that have arrived.
 pub(crate) fn batch_fault(count: usize, fields: &[u8]) -> Option<Fault>
     requires few { count ≤ 65_536 }
     ensures { result ≡ batch_fault count fields.now }
@@ -100,7 +103,7 @@ pub(crate) fn batch_fault(count: usize, fields: &[u8]) -> Option<Fault>
     cells_fault(count, cells)
 }
 
-/// The event of the first 9 bytes.
+/// Returns the event in the first nine bytes.
 fn event_of(cells: &[u8]) -> Event
     requires { 9 ≤ length cells.now }
     ensures { result ≡ event_of cells.now }
@@ -111,7 +114,7 @@ fn event_of(cells: &[u8]) -> Event
     }
 }
 
-/// So many events, which these bytes begin with.
+/// Returns the batch of the `count` events in the first `9 * count` bytes.
 pub(crate) fn read_batch(count: usize, cells: &[u8]) -> EventBatch
     requires some { 1 ≤ count }
     requires few { count ≤ 64 }

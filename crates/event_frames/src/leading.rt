@@ -1,4 +1,4 @@
-//! What stands first in the bytes of a session.
+//! The first frame in the bytes of a session.
 ghost use Rattle.std.specs.Prelude.{◌≡◌, ◌+◌, ◌≤◌, length, true, None};
 ghost use Rattle.trace_model.specs.Protocol.Frames.{fields_fault, header_fault, is_kind, is_length_of, request_of};
 ghost use Rattle.event_frames.specs.Leading.{IsLeading};
@@ -6,13 +6,14 @@ ghost use Rattle.event_frames.specs.Leading.{IsLeading};
 use crate::cells::{batch_fault, op_of, read_batch, word};
 use trace_model::{Event, Fault, Request};
 
+/// Returns whether the byte is the kind of a request.
 fn is_kind(kind: u8) -> bool
     ensures { result ≡ is_kind kind }
 {
     1 <= kind && kind <= 10
 }
 
-/// Whether a body of this kind may have this length.
+/// Returns whether a body of this kind may have this length.
 fn is_length_of(kind: u8, len: u16) -> bool
     requires { is_kind kind ≡ true }
     ensures { result ≡ is_length_of kind len }
@@ -25,7 +26,7 @@ fn is_length_of(kind: u8, len: u16) -> bool
     }
 }
 
-/// The fault of the fields of this kind that are there already, by the length of the body.
+/// Returns the fault in the fields that have arrived, for a body of this kind and length.
 fn fields_fault(kind: u8, len: u16, fields: &[u8]) -> Option<Fault>
     ensures { result ≡ fields_fault kind len fields.now }
 {
@@ -36,7 +37,7 @@ fn fields_fault(kind: u8, len: u16, fields: &[u8]) -> Option<Fault>
     }
 }
 
-/// The fault that the bytes show already, whatever follows them.
+/// Returns the fault that the bytes show in any continuation, or `None`.
 #[tactic(auto, unfolding(trace_model::specs::Protocol::Frames::header_fault))]
 fn header_fault(bytes: &[u8]) -> Option<Fault>
     ensures { result ≡ header_fault bytes.now }
@@ -67,7 +68,7 @@ fn header_fault(bytes: &[u8]) -> Option<Fault>
     }
 }
 
-/// The request of this kind whose fields are the first of these bytes, by the length of its body.
+/// Returns the request of this kind whose fields are at the start of the bytes.
 #[tactic(auto, unfolding(trace_model::specs::Protocol::Frames::request_of))]
 fn request_of(kind: u8, len: u16, fields: &[u8]) -> Request
     requires kind { is_kind kind ≡ true }
@@ -88,11 +89,12 @@ fn request_of(kind: u8, len: u16, fields: &[u8]) -> Request
     }
 }
 
-/// A fault, nothing whole, or a request and how many bytes its frame takes.
+/// Returns the first request and the length of its frame in bytes, or `None` if the bytes have no
+/// whole frame.
 ///
 /// # Errors
 ///
-/// The fault that the bytes show, whatever comes after them.
+/// The fault that the bytes show in any continuation.
 #[tactic(auto, unfolding(trace_model::specs::Protocol::Frames::leading_of, trace_model::specs::Protocol::Frames::whole_frame))]
 pub fn leading(bytes: &[u8]) -> Result<Option<(Request, usize)>, Fault>
     ensures { IsLeading bytes.now result }

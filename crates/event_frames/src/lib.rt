@@ -1,4 +1,9 @@
-//! Requests from bytes, in whatever pieces these come, requests as bytes, and replies as bytes.
+//! Request and reply frames: requests from bytes that arrive in pieces, requests as bytes, and
+//! replies as bytes.
+//!
+//! [`FrameReader`] is the reader. Its contract: the requests and the fault that it returns are
+//! those of the whole text, however the text was cut into pieces. Start reading at
+//! [`FrameReader::next`]; [`encode_reply`] is the other direction.
 #![tactic(auto)]
 
 mod cells;

@@ -1,4 +1,4 @@
-//! The requests of a session, from the pieces in which its bytes come.
+//! The reader of a session: requests from bytes that arrive in pieces.
 ghost use Rattle.std.specs.Prelude.{◌≡◌, ℕ, ◌<◌, ◌+◌, List, ◌++◌, [], length, true, false, None, Some, Ok, OnOk, OnErr, IsSome, is_some, ◌||◌};
 ghost use Rattle.event_frames.specs.Reader.{IsFed, Answers, HasRead, Tells};
 ghost use Rattle.trace_model.specs.declared.messages.session.Request.{Request};
@@ -8,23 +8,16 @@ use std::alloc::Global;
 use std::marker::Model;
 use trace_model::{Fault, NoMemory, Request};
 
-/// What a session sent and is not yet taken as requests.
+/// The bytes of a session that have arrived and are not yet returned as requests.
+///
+/// Contracts see the unread bytes, whether the input has ended, the fault that was returned, and
+/// the length and capacity of the buffer.
+#[derive(Drop)]
 pub struct FrameReader {
     bytes: Vec<u8>,
     start: usize,
     ended: bool,
     told: Option<Fault>,
-}
-
-impl Drop for FrameReader {
-    fn drop(self) {
-        let FrameReader {
-            bytes: _,
-            start: _,
-            ended: _,
-            told: _,
-        } = self;
-    }
 }
 
 impl Model for FrameReader {
@@ -45,7 +38,7 @@ impl Model for FrameReader {
 }
 
 impl FrameReader {
-    /// A reader that was fed nothing.
+    /// Returns a reader without input. Does not allocate.
     pub fn new(alloc: Global) -> FrameReader
         ensures made { result ≡ record {
           rest = [];
@@ -64,12 +57,12 @@ impl FrameReader {
         }
     }
 
-    /// Takes the next piece of the input, which must not have ended.
+    /// Adds the next piece of the input. The caller must not have called `finish`. After a fault
+    /// the piece is dropped, and the call does not allocate.
     ///
     /// # Errors
     ///
-    /// `NoMemory` where there is no room for the piece, and nothing has changed. After a fault was
-    /// told the piece is dropped and no memory is taken.
+    /// `NoMemory` if an allocation fails. The reader is unchanged.
     pub fn feed(&mut self, piece: &[u8]) -> Result<(), NoMemory>
         requires { self.old.ended ≡ false }
         ensures fed { OnOk result (IsFed self.old piece.now self.new) }
@@ -84,6 +77,7 @@ impl FrameReader {
         self.put(piece)
     }
 
+    /// Adds a piece to the buffer, or drops it after a fault.
     fn put(&mut self, piece: &[u8]) -> Result<(), NoMemory>
         ensures fed { OnOk result (IsFed self.old piece.now self.new) }
         ensures told { IsSome self.old.told → (result ≡ Ok record {}) × (self.new ≡ self.old)
@@ -99,14 +93,14 @@ impl FrameReader {
         Ok(())
     }
 
-    /// Whether the input has ended or a fault was told.
+    /// Returns whether the input has ended or a fault was returned.
     pub fn is_closed(&self) -> bool
         ensures { result ≡ is_some self.now.told || self.now.ended }
     {
         self.told.is_some() || self.ended
     }
 
-    /// No more input comes.
+    /// Records that the input has ended.
     pub fn finish(&mut self)
         ensures ended { self.new ≡ record self.old { ended = true } }
         ensures grammar { (text : List ℕ) (given : List Request) → HasRead text given self.old →
@@ -115,21 +109,24 @@ impl FrameReader {
         self.ended = true;
     }
 
-    /// The next request, or none where the input so far has no more. It takes no memory.
+    /// Returns the next request, or `None` if the input so far has no further request. Does not
+    /// allocate.
     ///
     /// # Errors
     ///
-    /// The fault of the input, as soon as its bytes are there, and from then on for ever.
+    /// The fault of the input, as soon as the bytes that show it have arrived. Each later call
+    /// returns the same fault.
     pub fn next(&mut self) -> Result<Option<Request>, Fault>
         ensures answers { Answers self.old result self.new }
-        // Requests and fault are those of all the text that was fed, however it was cut.
+        // The requests and the fault are those of the whole text, however it was cut into pieces.
         ensures grammar { (text : List ℕ) (given : List Request) → HasRead text given self.old
             → Tells text given self.old.ended result self.new }
     {
-        self.turn()
+        self.read_frame()
     }
 
-    fn turn(&mut self) -> Result<Option<Request>, Fault>
+    /// Returns the next request, the fault, or `None`.
+    fn read_frame(&mut self) -> Result<Option<Request>, Fault>
         ensures { Answers self.old result self.new }
     {
         if let Some(fault) = self.told {
@@ -155,7 +152,7 @@ impl FrameReader {
         }
     }
 
-    /// Tells the fault from now on, and keeps no bytes.
+    /// Records the fault, which each later call returns, and drops all bytes.
     fn fail(&mut self, fault: Fault)
         ensures { self.new ≡ record {
           rest = [];
@@ -170,7 +167,7 @@ impl FrameReader {
         self.told = Some(fault);
     }
 
-    /// Drops the bytes that were taken.
+    /// Drops the bytes that were returned as requests.
     fn compact(&mut self)
         requires { self.old.told ≡ None }
         ensures { self.new ≡ record self.old { buffered = length self.old.rest } }

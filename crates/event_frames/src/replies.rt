@@ -6,6 +6,7 @@ ghost use Rattle.trace_model.specs.Protocol.Replies.{reply_body, reply_frame, fa
 use std::alloc::{AllocError, Global};
 use trace_model::{Fault, NoMemory, QuestionStatus, Refusal, Reply};
 
+/// Returns the number of a fault.
 fn fault_number(fault: Fault) -> u8
     ensures { result ≡ fault_number fault }
 {
@@ -17,6 +18,7 @@ fn fault_number(fault: Fault) -> u8
     }
 }
 
+/// Returns the length of the body of a reply frame, in bytes.
 #[tactic(auto, unfolding(trace_model::specs::Protocol::Replies::three_words, trace_model::specs::Protocol::Replies::status_fields))]
 fn body_len(reply: &Reply) -> u32
     requires { IsReply reply.now }
@@ -34,7 +36,7 @@ fn body_len(reply: &Reply) -> u32
     }
 }
 
-/// Adds three numbers at the end.
+/// Adds three numbers of four bytes each at the end.
 fn put_words(out: &mut Vec<u8>, first: u32, second: u32, third: u32) -> Result<(), AllocError>
     ensures ok { OnOk result (out.new.items ≡ out.old.items ++ three_words first second third) }
     ensures room { vec_len out.old + 12 ≤ vec_capacity out.old → IsOk result }
@@ -46,7 +48,7 @@ fn put_words(out: &mut Vec<u8>, first: u32, second: u32, third: u32) -> Result<(
     out.extend_from_slice(&third.to_be_bytes())
 }
 
-/// Adds what was counted of a question at the end.
+/// Adds the counts of a question at the end.
 fn put_counts(out: &mut Vec<u8>, status: &QuestionStatus) -> Result<(), AllocError>
     ensures ok { OnOk result (out.new.items ≡ out.old.items ++
         (to_be_bytes w32 status.now.total ++ to_be_bytes w32 status.now.delivered ++
@@ -70,7 +72,7 @@ fn put_status(out: &mut Vec<u8>, status: &QuestionStatus) -> Result<(), AllocErr
     put_counts(out, status)
 }
 
-/// The number of what refuses an event, 0 for none.
+/// Returns the number of a refusal, or 0 for none.
 fn refusal_number(refusal: Option<Refusal>) -> u8
     ensures { result ≡ refusal_number refusal }
 {
@@ -80,7 +82,7 @@ fn refusal_number(refusal: Option<Refusal>) -> u8
     }
 }
 
-/// Adds what became of a batch at the end.
+/// Adds the fields of the result of a batch at the end.
 fn put_batched(
     out: &mut Vec<u8>,
     accepted: u8,
@@ -95,7 +97,7 @@ fn put_batched(
     out.extend_from_slice(&length.to_be_bytes())
 }
 
-/// The number of the reply's kind, which its body begins with.
+/// Returns the kind byte of a reply, which is the first byte of its body.
 fn kind_number(reply: &Reply) -> u8
     ensures { result ≡ slice_index (reply_body reply.now) 0 }
 {
@@ -111,7 +113,7 @@ fn kind_number(reply: &Reply) -> u8
     }
 }
 
-/// Adds the body of a reply's frame at the end.
+/// Adds the body of a reply frame at the end.
 fn put_body(out: &mut Vec<u8>, reply: &Reply) -> Result<(), AllocError>
     requires { IsReply reply.now }
     ensures ok { OnOk result (out.new.items ≡ out.old.items ++ reply_body reply.now) }
@@ -146,6 +148,7 @@ fn put_body(out: &mut Vec<u8>, reply: &Reply) -> Result<(), AllocError>
     }
 }
 
+/// Adds a reply frame at the end.
 #[tactic(auto, unfolding(trace_model::specs::Protocol::Replies::reply_frame))]
 fn put_frame(out: &mut Vec<u8>, reply: &Reply) -> Result<(), AllocError>
     requires { IsReply reply.now }
@@ -157,12 +160,12 @@ fn put_frame(out: &mut Vec<u8>, reply: &Reply) -> Result<(), AllocError>
     put_body(out, reply)
 }
 
-/// Adds a reply's frame at the end of the bytes. A report's text must have at most `MAX_REPORT`
-/// bytes.
+/// Adds the frame of `reply` at the end of `out`. The text of a report must have at most
+/// `MAX_REPORT` bytes.
 ///
 /// # Errors
 ///
-/// `NoMemory`, and the bytes are as before.
+/// `NoMemory` if an allocation fails. The bytes in `out` are unchanged.
 #[tactic(auto, unfolding(trace_model::specs::Protocol::Replies::reply_frame))]
 pub fn push_reply(out: &mut Vec<u8>, reply: &Reply) -> Result<(), NoMemory>
     requires { IsReply reply.now }
@@ -178,11 +181,11 @@ pub fn push_reply(out: &mut Vec<u8>, reply: &Reply) -> Result<(), NoMemory>
     Ok(())
 }
 
-/// The frame of a reply. A report's text must have at most `MAX_REPORT` bytes.
+/// Returns the frame of `reply`. The text of a report must have at most `MAX_REPORT` bytes.
 ///
 /// # Errors
 ///
-/// `NoMemory`.
+/// `NoMemory` if an allocation fails.
 pub fn encode_reply(alloc: Global, reply: &Reply) -> Result<Vec<u8>, NoMemory>
     requires { IsReply reply.now }
     ensures { IfOk result (λ bytes. bytes.items ≡ reply_frame reply.now) }

@@ -8,7 +8,7 @@ use crate::cells::event_bytes;
 use std::alloc::Global;
 use trace_model::{Event, NoMemory};
 
-/// The frame that offers an event.
+/// Returns the frame that offers `event`.
 #[tactic(auto, unfolding(trace_model::specs::Protocol::Frames::frame))]
 pub fn offer_frame(event: &Event) -> [u8; 11]
     ensures { result ≡ frame (Offer event.now) }
@@ -17,7 +17,7 @@ pub fn offer_frame(event: &Event) -> [u8; 11]
     [0, 9, kind, a, b, c, d, e, f, g, h]
 }
 
-/// The frame that asks a question with this bound.
+/// Returns the frame that asks a question with this bound.
 #[tactic(auto, unfolding(trace_model::specs::Protocol::Frames::frame))]
 pub fn ask_frame(bound: u8) -> [u8; 4]
     ensures { result ≡ frame (Ask bound) }
@@ -25,7 +25,7 @@ pub fn ask_frame(bound: u8) -> [u8; 4]
     [0, 2, 7, bound]
 }
 
-/// The frame that wants the answer of the question.
+/// Returns the frame that asks for the answer of `question`.
 #[tactic(auto, unfolding(trace_model::specs::Protocol::Frames::frame))]
 pub fn answer_frame(question: u32) -> [u8; 7]
     ensures { result ≡ frame (Answer question) }
@@ -34,7 +34,7 @@ pub fn answer_frame(question: u32) -> [u8; 7]
     [0, 5, 8, a, b, c, d]
 }
 
-/// The frame that wants the status of the question.
+/// Returns the frame that asks for the status of `question`.
 #[tactic(auto, unfolding(trace_model::specs::Protocol::Frames::frame))]
 pub fn status_frame(question: u32) -> [u8; 7]
     ensures { result ≡ frame (Status question) }
@@ -43,11 +43,11 @@ pub fn status_frame(question: u32) -> [u8; 7]
     [0, 5, 9, a, b, c, d]
 }
 
-/// The frame that offers these events at once, of which there must be 1 to `MAX_BATCH`.
+/// Returns the frame that offers `events` as one batch. There must be 1 to `MAX_BATCH` of them.
 ///
 /// # Errors
 ///
-/// `NoMemory`.
+/// `NoMemory` if an allocation fails.
 pub fn batch_frame(alloc: Global, events: &[Event]) -> Result<Vec<u8>, NoMemory>
     requires { IsBatch events.now }
     ensures { IfOk result (λ bytes. bytes.items ≡ frame (Batch events.now)) }

@@ -1,4 +1,4 @@
--- Refusals are told apart.
+-- The reasons of refusals are distinct.
 use Rattle.std.proofs.Common.{◌≡◌, Result, Ok, Err}
 use Rattle.cycle_search.specs.declared.refused.SearchRefused.{SearchRefused}
 use Rattle.cycle_search.specs.declared.refused.SearchRefused.TheVariants as search

@@ -1,4 +1,4 @@
-//! The finding of one task.
+//! Computes the finding of one task.
 
 ghost use Rattle.std.specs.Prelude.{◌≡◌, IfOk, Err};
 ghost use Rattle.std.specs.Arc.{arc_value};
@@ -19,17 +19,17 @@ pub enum ComputeRefused {
     /// The task has more than `MAX_CYCLES` cycles.
     #[error("too many cycles")]
     TooManyCycles,
-    /// A growth was refused.
+    /// An allocation failed.
     #[error("no memory")]
     NoMemory,
 }
 
-/// Computes the rows of a task, by a job of its own: see `Job::compute`.
+/// Returns the finding of a task, computed by a job of its own. See [`Job::compute`]. Part of the
+/// public API; not called by the program.
 ///
 /// # Errors
-///
-/// `TooManyCycles` only where the task has more than `MAX_CYCLES` cycles, `NoMemory` where a
-/// growth was refused.
+/// - `TooManyCycles` only if the task has more than `MAX_CYCLES` cycles.
+/// - `NoMemory` if an allocation fails.
 pub fn compute(
     alloc: Global,
     snapshot: Arc<Snapshot, Global>,

@@ -1,4 +1,4 @@
-//! Tasks of one question, computed one after another over the same tables.
+//! Computes tasks of one question one after another, with shared tables.
 
 ghost use Rattle.std.specs.Prelude.{◌≡◌, IfOk, Err};
 ghost use Rattle.std.specs.Arc.{arc_value};
@@ -15,8 +15,8 @@ use std::marker::Model;
 use std::sync::Arc;
 use trace_model::Bound;
 
-/// What the tasks of a question are computed from: the snapshot of its events, its bound, and what
-/// is kept from one task to the next. Contracts see it as the question.
+/// A question on a snapshot, with the tables that are kept from one task to the next. Contracts see
+/// it as the question.
 pub struct Job {
     alloc: Global,
     snapshot: Arc<Snapshot, Global>,
@@ -54,8 +54,8 @@ impl Model for Job {
 }
 
 impl Job {
-    /// The job of a question with this bound about the snapshot's events. The question's number is
-    /// kept as it is given. It takes no memory.
+    /// Returns a job for the question with this number and bound on the snapshot's events. The
+    /// number is only copied into findings. Does not allocate.
     pub fn new(alloc: Global, snapshot: Arc<Snapshot, Global>, question: u32, bound: Bound) -> Job
         ensures { result ≡ record {
           question = question;
@@ -72,21 +72,20 @@ impl Job {
         }
     }
 
-    /// The number of the question. It takes no memory, and neither do the others.
+    /// Returns the number of the question. Does not allocate.
     pub fn question(&self) -> u32
         ensures { result ≡ self.now.question }
     {
         self.question
     }
 
-    /// Computes the rows of a task: of the cycles up to the bound in the snapshot's events whose
-    /// first number is the task's. A task past the last one has no rows. What it answers, the job
-    /// serves for further tasks.
+    /// Computes the rows of a task: one for each cycle of at most `bound` members whose first
+    /// member is the task's dependency. A task past the last one has no rows. The job can compute
+    /// further tasks after any result.
     ///
     /// # Errors
-    ///
-    /// `TooManyCycles` only where the task has more than `MAX_CYCLES` cycles, `NoMemory` where a
-    /// growth was refused.
+    /// - `TooManyCycles` only if the task has more than `MAX_CYCLES` cycles.
+    /// - `NoMemory` if an allocation fails.
     pub fn compute(&mut self, task: u32) -> Result<Finding, ComputeRefused>
         ensures same { self.new ≡ self.old }
         ensures asked { IfOk result (λ f. (f.question ≡ self.old.question)

@@ -1,4 +1,4 @@
-//! What the tasks of one job keep from one to the next.
+//! Tables that a job keeps from one task to the next.
 
 ghost use Rattle.std.specs.Prelude.{◌≡◌, ℕ, ◌<◌, ◌≤◌, length, IsTrue, IfOk, Err};
 ghost use Rattle.std.specs.List.{All, Contains};
@@ -9,49 +9,53 @@ ghost use Rattle.trace_model.specs.Theory.Cycles.{AreCyclesFrom, IsConfirmed};
 ghost use Rattle.trace_model.specs.Theory.Dependencies.{dependencies};
 ghost use Rattle.cycle_search.specs.Search.{CycleFrom, MoreThan};
 ghost use Rattle.sp_closure.specs.Closers.{IsCloser};
-ghost use Rattle.cycle_search.specs.Ranked.{AreRanks};
+ghost use Rattle.cycle_search.specs.Components.{AreComponents};
 ghost use Rattle.sp_closure.specs.Pointers.{AreKnown};
-ghost use Rattle.sp_closure.specs.Pasts.{ArePasts};
+ghost use Rattle.sp_closure.specs.Timestamps.{AreTimestamps};
 ghost use Rattle.findings.specs.Found.{AreRowsFor};
 ghost use Rattle.findings.specs.Scratches.{IsScratch};
 
 use crate::rows::rows_by;
-use cycle_search::{Cycle, Ranks, SearchRefused, Searched, cycles_from};
+use cycle_search::{Components, Cycle, SearchRefused, Searched, cycles_from};
 use reports::Row;
 use snapshots::Snapshot;
-use sp_closure::{Closer, Pasts, Steps};
+use sp_closure::{Closer, Steps, Timestamps};
 use std::alloc::Global;
 use std::marker::Brand;
 use std::sync::ledger::{Blank, Ledger};
 use trace_model::{Bound, NoMemory};
 
-/// From how many cycles on the pasts of all dependencies are made.
+/// The number of cycles from which on the timestamps of all dependencies are computed.
 const MANY_CYCLES: usize = 64;
 
-/// Ranks and closer, made when they are first wanted, and the pasts of the dependencies, made once
-/// there were many cycles. No answer depends on what is kept.
+/// The components and the closer, made when they are first needed, and the timestamps of the
+/// dependencies, computed once there were many cycles. No result depends on them.
 #[derive(Drop)]
 pub(crate) struct Scratch {
-    pub(crate) ranks: Option<Ranks>,
+    pub(crate) components: Option<Components>,
     pub(crate) closer: Option<Closer>,
-    pub(crate) pasts: Option<Pasts>,
+    pub(crate) timestamps: Option<Timestamps>,
     cycles: usize,
 }
 
 impl Scratch {
-    /// Nothing is kept. It takes no memory.
+    /// Returns an empty scratch. Does not allocate.
     pub(crate) fn new() -> Scratch
         ensures { (s : Trace) → IsScratch s result }
     {
         Scratch {
-            ranks: None,
+            components: None,
             closer: None,
-            pasts: None,
+            timestamps: None,
             cycles: 0,
         }
     }
 
-    /// The cycles of a task that there is.
+    /// Returns the cycles of an existing task.
+    ///
+    /// # Errors
+    /// - `TooMany` only if the task has more than `MAX_CYCLES` cycles.
+    /// - `NoMemory` if an allocation fails.
     pub(crate) fn cycles(
         &mut self,
         alloc: Global,
@@ -68,16 +72,19 @@ impl Scratch {
         ensures too_many { result ≡ Err SearchRefused.TooMany →
             MoreThan (CycleFrom (dependencies snapshot.now) bound task) MAX_CYCLES }
     {
-        let Ok(ranks) = ranks_of(alloc, snapshot, self.ranks.take()) else {
+        let Ok(components) = components_of(alloc, snapshot, self.components.take()) else {
             return Err(SearchRefused::NoMemory);
         };
-        let searched = Searched::new(snapshot.table(), snapshot.graph(), &ranks);
+        let searched = Searched::new(snapshot.table(), snapshot.graph(), &components);
         let cycles = cycles_from(alloc, &searched, task, bound);
-        self.ranks = Some(ranks);
+        self.components = Some(components);
         cycles
     }
 
-    /// The rows of these cycles.
+    /// Returns the rows of these cycles.
+    ///
+    /// # Errors
+    /// `NoMemory` if an allocation fails.
     pub(crate) fn rows(
         &mut self,
         alloc: Global,
@@ -95,26 +102,36 @@ impl Scratch {
         }
         self.cycles = self.cycles.saturating_add(cycles.len());
         let mut closer = closer_of(alloc, snapshot, self.closer.take())?;
-        let pasts = pasts_of(snapshot, &mut closer, self.pasts.take(), self.cycles)?;
-        let rows = rows_by(alloc, snapshot, &mut closer, &pasts, cycles);
+        let timestamps = timestamps_of(snapshot, &mut closer, self.timestamps.take(), self.cycles)?;
+        let rows = rows_by(alloc, snapshot, &mut closer, &timestamps, cycles);
         self.closer = Some(closer);
-        self.pasts = pasts;
+        self.timestamps = timestamps;
         rows
     }
 }
 
-/// The ranks that are there, or new ones.
-fn ranks_of(alloc: Global, snapshot: &Snapshot, kept: Option<Ranks>) -> Result<Ranks, NoMemory>
-    requires { ForSome kept (AreRanks (dependencies snapshot.now)) }
-    ensures { IfOk result (AreRanks (dependencies snapshot.now)) }
+/// Returns the kept components, or new ones.
+///
+/// # Errors
+/// `NoMemory` if an allocation fails.
+fn components_of(
+    alloc: Global,
+    snapshot: &Snapshot,
+    kept: Option<Components>,
+) -> Result<Components, NoMemory>
+    requires { ForSome kept (AreComponents (dependencies snapshot.now)) }
+    ensures { IfOk result (AreComponents (dependencies snapshot.now)) }
 {
     match kept {
-        Some(ranks) => Ok(ranks),
-        None => Ranks::new(alloc, snapshot.state(), snapshot.table(), snapshot.graph()),
+        Some(components) => Ok(components),
+        None => Components::new(alloc, snapshot.state(), snapshot.table(), snapshot.graph()),
     }
 }
 
-/// The closer that is there, or a new one.
+/// Returns the kept closer, or a new one.
+///
+/// # Errors
+/// `NoMemory` if an allocation fails.
 fn closer_of(alloc: Global, snapshot: &Snapshot, kept: Option<Closer>) -> Result<Closer, NoMemory>
     requires { ForSome kept (IsCloser snapshot.now) }
     ensures { IfOk result (IsCloser snapshot.now) }
@@ -125,49 +142,57 @@ fn closer_of(alloc: Global, snapshot: &Snapshot, kept: Option<Closer>) -> Result
     }
 }
 
-/// The pasts that are there, or new ones where there were many cycles.
-fn pasts_of(
+/// Returns the kept timestamps, or computes them if there were many cycles and they are small.
+///
+/// # Errors
+/// `NoMemory` if an allocation fails.
+fn timestamps_of(
     snapshot: &Snapshot,
     closer: &mut Closer,
-    kept: Option<Pasts>,
+    kept: Option<Timestamps>,
     cycles: usize,
-) -> Result<Option<Pasts>, NoMemory>
-    requires pasts { ForSome kept (ArePasts snapshot.now) }
+) -> Result<Option<Timestamps>, NoMemory>
+    requires timestamps { ForSome kept (AreTimestamps snapshot.now) }
     requires closer { IsCloser snapshot.now closer.old }
-    ensures pasts { IfOk result (λ pasts. ForSome pasts (ArePasts snapshot.now)) }
+    ensures timestamps { IfOk result (λ timestamps. ForSome timestamps (AreTimestamps
+        snapshot.now)) }
     ensures closer { IsCloser snapshot.now closer.new }
 {
-    if kept.is_some() || cycles < MANY_CYCLES || !closer.are_pasts_small(snapshot.table()) {
+    if kept.is_some() || cycles < MANY_CYCLES || !closer.are_timestamps_small(snapshot.table()) {
         return Ok(kept);
     }
-    let pasts = make_pasts::<Brand>(snapshot, closer, Blank::new(1))?;
-    Ok(Some(pasts))
+    let timestamps = make_timestamps::<Brand>(snapshot, closer, Blank::new(1))?;
+    Ok(Some(timestamps))
 }
 
-/// The pasts of all dependencies, with a count of their own.
-fn make_pasts<L: Ledger>(
+/// Computes the timestamps of all dependencies, counted by a new count of steps.
+///
+/// # Errors
+/// `NoMemory` if an allocation fails.
+fn make_timestamps<L: Ledger>(
     snapshot: &Snapshot,
     closer: &mut Closer,
     blank: Blank,
-) -> Result<Pasts, NoMemory>
+) -> Result<Timestamps, NoMemory>
     requires name { blank.name ≡ L.name }
     requires parts { blank.parts ≡ L.parts }
     requires some { 0 < L.parts }
     requires closer { IsCloser snapshot.now closer.old }
-    ensures pasts { IfOk result (ArePasts snapshot.now) }
+    ensures timestamps { IfOk result (AreTimestamps snapshot.now) }
     ensures closer { IsCloser snapshot.now closer.new }
 {
     let mut steps = Steps::<L>::new(blank);
-    closer.pasts(snapshot.index(), snapshot.table(), &mut steps)
+    closer.timestamps(snapshot.index(), snapshot.table(), &mut steps)
 }
 
-/// Whether the pasts rule the cycle out. Where there are none nothing is said.
-pub(crate) fn is_ruled_out(pasts: &Option<Pasts>, cycle: &Cycle) -> bool
-    ensures { IsTrue result → (s : Trace) → ForSome pasts.now (ArePasts s) → AreKnown s cycle.now →
+/// Returns whether the timestamps exclude each instance of the cycle. `false` says nothing.
+pub(crate) fn is_excluded(timestamps: &Option<Timestamps>, cycle: &Cycle) -> bool
+    ensures { IsTrue result → (s : Trace) → ForSome timestamps.now (AreTimestamps s) →
+        AreKnown s cycle.now →
         IsConfirmed s cycle.now → ⊥ }
 {
-    match pasts {
-        Some(pasts) => pasts.rules_out(cycle.numbers()),
+    match timestamps {
+        Some(timestamps) => timestamps.excludes(cycle.numbers()),
         None => false,
     }
 }

@@ -1,4 +1,4 @@
--- The tables as they are built, place after place.
+-- The tables while they are built, place by place.
 use Rattle.std.proofs.Common.{◌≡◌, ℕ, zero, suc, ◌+◌, ◌<◌, ◌≤◌, ◌⊎◌, inl, inr, Vec, List, [], ◌∷◌, ◌++◌, length, slice_get, slice_set, Option, Some, None, refl, sym, ap, subst, ◌∙◌, arith}
 use Rattle.std.specs.Global.{Global}
 use Rattle.std.specs.List.{Contains}
@@ -12,13 +12,13 @@ use Rattle.trace_model.proofs.Lists.{at_index, length-push, get-push, get-set_sa
 use Rattle.trace_index.specs.Numbers.{number_at}
 use Rattle.std.specs.Arc.{arc_value}
 use Rattle.fronts.specs.declared.classes.Classes.{Classes}
-use Rattle.fronts.specs.declared.demands.Need.TheVariants.{Reach, Begin}
-use Rattle.fronts.specs.declared.demands.Item.{Item}
-use Rattle.fronts.specs.declared.demands.Demands.{Demands}
-use Rattle.fronts.specs.Slots.{slots_of, AreSlots, AreStands, AreThreadSlots, Stands}
-use Rattle.fronts.specs.Demands.{Needs, AreLockSlots, AreItems, AreDemands, item, item_at}
-use Rattle.fronts.specs.Pushing.{Slotted, with_slots, IsDemand, IsForkLater, IsReached, IsBegun, AddsDemands, AreBuilt, AreAllBuilt}
-use Rattle.fronts.proofs.SlotLemmas.{before_stands, has_upto}
+use Rattle.fronts.specs.declared.requirements.Requirement.TheVariants.{Reach, Begin}
+use Rattle.fronts.specs.declared.requirements.Item.{Item}
+use Rattle.fronts.specs.declared.requirements.Requirements.{Requirements}
+use Rattle.fronts.specs.Slots.{slots_of, AreSlots, ArePositions, AreThreadSlots, HasPosition}
+use Rattle.fronts.specs.Requirements.{Needs, AreLockSlots, AreItems, AreRequirements, item, item_at}
+use Rattle.fronts.specs.Pushing.{Slotted, with_slots, IsRequirement, IsForkLater, IsReached, IsBegun, AddsRequirements, AreBuilt, AreAllBuilt}
+use Rattle.fronts.proofs.SlotLemmas.{before_position, has_upto}
 use Rattle.fronts.proofs.ThreadLemmas.{place_below}
 use Rattle.fronts.proofs.PushLemmas.{reached_left, reached_right, begun_left, begun_right}
 
@@ -28,7 +28,7 @@ found_at xs x (k, l, e) = (k, slice_get-get_or xs k x l ∙ ap Some e)
 contained : {X : Type 0} (xs : List X) (k : ℕ) (x : X) → slice_get xs k ≡ Some x → Contains xs x
 contained xs k x h = (k, slice_get_within xs k x h, get_or_from_slice_get xs k x x h)
 
--- an element of two lists is one of the first, or stands behind it
+-- An element of two concatenated lists is in the first one, or after it.
 two_lists : {X : Type 0} (xs ys : List X) (k : ℕ) (x : X) → slice_get (xs ++ ys) k ≡ Some x → (slice_get xs k ≡ Some x) ⊎ ((length xs ≤ k) × Contains ys x)
 two_lists [] ys k x h = inr (omega arith, contained ys k x h)
 two_lists (z ∷ zs) ys zero x h = inl h
@@ -37,7 +37,7 @@ two_lists (z ∷ zs) ys (suc k) x h = elim (two_lists zs ys k x h) [
   | inr b ↦ inr (omega (arith, b.0), b.1)
 ]
 
--- q is below p, or is p
+-- The place `q` is below `p`, or is `p`.
 upto : (p q : ℕ) → q < suc p → (q < p) ⊎ (q ≡ p)
 upto p q l = elim (cases_lt q p) [
   | inl less ↦ inl less
@@ -48,8 +48,8 @@ built_other : (v : Slotted) (p a : ℕ) (xs : List Item) → (v.slots p ≡ Some
 built_other v p a xs apart b = record {
   only = λ i h. let (q, l, st, d) = b.only i h in (q, omega (arith, l), st, d);
   ascend = b.ascend;
-  needs = λ q r n l st need. elim (upto p q l) [
-    | inl less ↦ b.needs q r n less st need
+  needs = λ q r n l st requirement. elim (upto p q l) [
+    | inl less ↦ b.needs q r n less st requirement
     | inr e ↦ absurd (apart (subst (λ z. v.slots z ≡ Some a) e st.slot))
   ];
   begins = λ q k n l st on. elim (upto p q l) [
@@ -59,35 +59,35 @@ built_other v p a xs apart b = record {
 }
 
 built_pushed : (v : Slotted) (count p a : ℕ) (xs ys : List Item) → AreSlots v.trace v.slots count → v.slots p ≡ Some a → AreBuilt v p a xs →
-    AddsDemands v p xs ys → AreBuilt v (suc p) a ys
+    AddsRequirements v p xs ys → AreBuilt v (suc p) a ys
 built_pushed v count p a xs ys k slot b (n, added, num, is, d) = subst (AreBuilt v (suc p) a) (sym is) (record {
   only = λ i h. elim (Contains-append_cases xs added i h) [
     | inl old ↦ let (q, l, st, dem) = b.only i old in (q, omega (arith, l), st, dem)
     | inr new ↦
         let dem = d.only i new in
         let e : i.number ≡ n = dem.number in
-        (p, omega arith, subst (Stands v.trace v.slots p a) (sym e) here, subst (λ z. IsDemand v p z i) (sym e) dem)
+        (p, omega arith, subst (HasPosition v.trace v.slots p a) (sym e) here, subst (λ z. IsRequirement v p z i) (sym e) dem)
   ];
   ascend = λ i j x y l hx hy. elim (two_lists xs added i x hx) [
     | inl ox ↦ elim (two_lists xs added j y hy) [
       | inl oy ↦ b.ascend i j x y l ox oy
       | inr ny ↦
           let (q, less, st, dem) = b.only x (contained xs i x ox) in
-          omega (arith, before_stands v.trace v.slots count q p a x.number n k st here less, (d.only y ny.1).number)
+          omega (arith, before_position v.trace v.slots count q p a x.number n k st here less, (d.only y ny.1).number)
     ]
     | inr nx ↦ elim (two_lists xs added j y hy) [
       | inl oy ↦ absurd (omega (arith, l, nx.0, slice_get_within xs j y oy))
       | inr ny ↦ omega (arith, (d.only x nx.1).number, (d.only y ny.1).number)
     ]
   ];
-  needs = λ q r m l st need. elim (upto p q l) [
-    | inl less ↦ elim (b.needs q r m less st need) [
+  needs = λ q r m l st requirement. elim (upto p q l) [
+    | inl less ↦ elim (b.needs q r m less st requirement) [
       | inl later ↦ inl later
       | inr at ↦ inr (reached_left v.trace v.slots m r xs added at)
     ]
     | inr e ↦
         let same : n ≡ m = same_Some n m (sym num ∙ subst (λ z. number_at v.trace z ≡ Some m) e st.number) in
-        let now : IsForkLater v.trace p m r ⊎ IsReached v.trace v.slots m r added = subst (λ z. IsForkLater v.trace p z r ⊎ IsReached v.trace v.slots z r added) same (d.needs r (subst (λ z. Needs v.trace z r) e need)) in
+        let now : IsForkLater v.trace p m r ⊎ IsReached v.trace v.slots m r added = subst (λ z. IsForkLater v.trace p z r ⊎ IsReached v.trace v.slots z r added) same (d.needs r (subst (λ z. Needs v.trace z r) e requirement)) in
         elim now [
           | inl later ↦ inl (subst (λ z. IsForkLater v.trace z m r) (sym e) later)
           | inr at ↦ inr (reached_right v.trace v.slots m r xs added at)
@@ -102,28 +102,28 @@ built_pushed v count p a xs ys k slot b (n, added, num, is, d) = subst (AreBuilt
   ];
 })
   where
-    here : Stands v.trace v.slots p a n
+    here : HasPosition v.trace v.slots p a n
     here = record { slot = slot; number = num }
 
--- before the first place nothing is demanded
+-- Before the first place there are no requirements.
 pub none_built : (v : Slotted) (lists : List (Vec Item Global)) → ((a : ℕ) (xs : Vec Item Global) → slice_get lists a ≡ Some xs → xs.items ≡ []) → AreAllBuilt v 0 lists
 none_built v lists empty a xs at = subst (AreBuilt v 0 a) (sym (empty a xs at)) (record {
   only = λ i h. let (k, less, is) = h in absurd (omega (arith, less));
   ascend = λ j k x y l hx hy. absurd (none-some x hx);
-  needs = λ q r n l st need. absurd (omega (arith, l));
+  needs = λ q r n l st requirement. absurd (omega (arith, l));
   begins = λ q k n l st on. absurd (omega (arith, l));
 })
 
--- the slot of a place's thread is one of the slots
+-- The slot of a place's thread is one of the slots.
 pub slot_within : (s : Trace) (threads : Classes) (p a : ℕ) → AreThreadSlots s threads → slots_of threads p ≡ Some a → a < threads.count
 slot_within s threads p a k slot =
     let (t, of) = k.of_place p a slot in
     let (b, e, less) = k.each p t of in
     omega (arith, less, same_Some b a (sym e ∙ slot))
 
--- one more place
+-- One more place.
 pub all_pushed : (v : Slotted) (count p a : ℕ) (lists : List (Vec Item Global)) (old new : Vec Item Global) → AreSlots v.trace v.slots count → v.slots p ≡ Some a →
-    slice_get lists a ≡ Some old → AddsDemands v p old.items new.items → AreAllBuilt v p lists → AreAllBuilt v (suc p) (slice_set lists a new)
+    slice_get lists a ≡ Some old → AddsRequirements v p old.items new.items → AreAllBuilt v p lists → AreAllBuilt v (suc p) (slice_set lists a new)
 all_pushed v count p a lists old new k slot at adds all b zs h = elim (cases_lt a b) [
   | inl less ↦ other (λ e. omega (arith, less, e))
   | inr not ↦ elim (cases_lt b a) [
@@ -141,7 +141,7 @@ all_pushed v count p a lists old new k slot at adds all b zs h = elim (cases_lt 
         subst (λ z. AreBuilt v (suc p) b z.items) is
         (subst (λ z. AreBuilt v (suc p) z new.items) e (built_pushed v count p a old.items new.items k slot (all a old at) adds))
 
-item_so : (d : Demands) (a j : ℕ) (x : Item) → item_at d a j ≡ Some x → (xs : Vec Item Global) × (slice_get d.items.items a ≡ Some xs) × (slice_get xs.items j ≡ Some x)
+item_so : (d : Requirements) (a j : ℕ) (x : Item) → item_at d a j ≡ Some x → (xs : Vec Item Global) × (slice_get d.items.items a ≡ Some xs) × (slice_get xs.items j ≡ Some x)
 item_so d a j x h = go (slice_get d.items.items a) refl h
   where
     go : (o : Option (Vec Item Global)) → slice_get d.items.items a ≡ o → option_and_then (λ xs. slice_get xs.items j) o ≡ Some x →
@@ -149,12 +149,12 @@ item_so d a j x h = go (slice_get d.items.items a) refl h
     go None e k = absurd (none-some x k)
     go (Some xs) e k = (xs, e, k)
 
-item_from : (d : Demands) (a : ℕ) (xs : Vec Item Global) (x : Item) → slice_get d.items.items a ≡ Some xs → Contains xs.items x → (j : ℕ) × (item_at d a j ≡ Some x)
+item_from : (d : Requirements) (a : ℕ) (xs : Vec Item Global) (x : Item) → slice_get d.items.items a ≡ Some xs → Contains xs.items x → (j : ℕ) × (item_at d a j ≡ Some x)
 item_from d a xs x h c =
     let (j, at) = found_at xs.items x c in
     (j, ap (option_and_then (λ z. slice_get z.items j)) h ∙ at)
 
-pub items_built : (v : Slotted) (d : Demands) (count : ℕ) → AreSlots v.trace v.slots count → length d.items.items ≡ count →
+pub items_built : (v : Slotted) (d : Requirements) (count : ℕ) → AreSlots v.trace v.slots count → length d.items.items ≡ count →
     AreAllBuilt v (length v.trace) d.items.items → AreItems v.trace v.slots v.locks (item_at d)
 items_built v d count k len all = record {
   ascend = λ a i j x y l hx hy.
@@ -162,28 +162,28 @@ items_built v d count k len all = record {
       let (ys, other, fy) = item_so d a j y hy in
       let e : ys ≡ xs = same_Some ys xs (sym other ∙ at) in
       (all a xs at).ascend i j x y l fx (subst (λ z. slice_get z.items j ≡ Some y) e fy);
-  reach = λ a j n goal h.
-      let (xs, at, f) = item_so d a j (item n (Reach goal)) h in
-      let (q, l, st, dem) = (all a xs at).only (item n (Reach goal)) (contained xs.items j (item n (Reach goal)) f) in
-      let (r, need, is) = dem.reach goal refl in
-      (q, r, st, need, is);
+  reach = λ a j n prefix h.
+      let (xs, at, f) = item_so d a j (item n (Reach prefix)) h in
+      let (q, l, st, dem) = (all a xs at).only (item n (Reach prefix)) (contained xs.items j (item n (Reach prefix)) f) in
+      let (r, requirement, is) = dem.reach prefix refl in
+      (q, r, st, requirement, is);
   begin = λ a j n l c h.
       let (xs, at, f) = item_so d a j (item n (Begin l c)) h in
       let (q, less, st, dem) = (all a xs at).only (item n (Begin l c)) (contained xs.items j (item n (Begin l c)) f) in
       let (i, e, on, lock, ends) = dem.begin l c refl in
-      (i, subst (λ z. Stands v.trace v.slots z a n) (sym e) st, subst (λ z. BeginsOn v.trace z i) (sym e) on, subst (λ z. v.locks z ≡ Some l) (sym e) lock, ends);
-  needs = λ q r a n need st.
+      (i, subst (λ z. HasPosition v.trace v.slots z a n) (sym e) st, subst (λ z. BeginsOn v.trace z i) (sym e) on, subst (λ z. v.locks z ≡ Some l) (sym e) lock, ends);
+  needs = λ q r a n requirement st.
       let (t, oq) = k.of_place q a st.slot in
       let (xs, at) = list_of q a t st.slot oq in
-      elim ((all a xs at).needs q r n (place_below v.trace t q oq) st need) [
+      elim ((all a xs at).needs q r n (place_below v.trace t q oq) st requirement) [
         | inl (z, u, ou, fork) ↦
             let (p, sp) = has_upto v.trace v.slots count q a n k st 0 (omega arith) in
             let op = k.apart q p a u st.slot sp.slot ou in
             elim ((all a xs at).needs p r 0 (place_below v.trace u p op) sp (inl (inl (u, op, fork)))) [
               | inl later ↦ absurd (later.0 refl)
-              | inr (goal, m, c, sr, less) ↦ let (j, f) = item_from d a xs (item 0 (Reach goal)) at c in inr (j, 0, goal, m, f, omega arith, sr, less)
+              | inr (prefix, m, c, sr, less) ↦ let (j, f) = item_from d a xs (item 0 (Reach prefix)) at c in inr (j, 0, prefix, m, f, omega arith, sr, less)
             ]
-        | inr (goal, m, c, sr, less) ↦ let (j, f) = item_from d a xs (item n (Reach goal)) at c in inr (j, n, goal, m, f, omega arith, sr, less)
+        | inr (prefix, m, c, sr, less) ↦ let (j, f) = item_from d a xs (item n (Reach prefix)) at c in inr (j, n, prefix, m, f, omega arith, sr, less)
       ];
   begins = λ q i a n on st.
       let (t, oq) = k.of_place q a st.slot in
@@ -198,7 +198,7 @@ items_built v d count k len all = record {
         let (b, f, less) = k.each q t o in
         at_index d.items.items a (omega (arith, len, less, same_Some a b (sym e ∙ f)))
 
--- what holds of each element holds with one more
+-- A property of each element, with one more element.
 pub each_pushed : {X : Type 0} (P : ℕ → X → Type 0) (old new : List X) (n : ℕ) (x : X) → new ≡ old ++ x ∷ [] → length old ≡ n →
     ((k : ℕ) (y : X) → slice_get old k ≡ Some y → P k y) → P n x → (k : ℕ) (y : X) → slice_get new k ≡ Some y → P k y
 each_pushed P old new n x is len each last k y at = elim (get-push old x k y (ap (λ z. slice_get z k) (sym is) ∙ at)) [
@@ -209,7 +209,7 @@ each_pushed P old new n x is len each last k y at = elim (get-push old x k y (ap
 pub length_pushed : {X : Type 0} (old new : List X) (n : ℕ) (x : X) → new ≡ old ++ x ∷ [] → length old ≡ n → length new ≡ n + 1
 length_pushed old new n x is len = ap length is ∙ (length-push old x ∙ omega (arith, len))
 
-pub demands_built : (s : Trace) (d : Demands) → AreThreadSlots s d.threads → AreLockSlots s d.locks → AreStands s (slots_of d.threads) (arc_value d.stands).items → length d.items.items ≡ d.threads.count →
-    AreAllBuilt (with_slots s d.threads d.locks) (length s) d.items.items → AreDemands s d
-demands_built s d slots locks stands len all =
-    record { slots = slots; locks = locks; stands = stands; items = items_built (with_slots s d.threads d.locks) d d.threads.count slots len all }
+pub requirements_built : (s : Trace) (d : Requirements) → AreThreadSlots s d.threads → AreLockSlots s d.locks → ArePositions s (slots_of d.threads) (arc_value d.positions).items → length d.items.items ≡ d.threads.count →
+    AreAllBuilt (with_slots s d.threads d.locks) (length s) d.items.items → AreRequirements s d
+requirements_built s d slots locks positions len all =
+    record { slots = slots; locks = locks; positions = positions; items = items_built (with_slots s d.threads d.locks) d d.threads.count slots len all }

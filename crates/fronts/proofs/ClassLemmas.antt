@@ -1,4 +1,4 @@
--- One more place has its class.
+-- The classes with one more place.
 use Rattle.std.proofs.Common.{◌≡◌, ◌≢◌, ℕ, ◌+◌, ◌<◌, ◌≤◌, ◌⊎◌, get_or, inl, inr, cond, List, [], ◌∷◌, ◌++◌, length, slice_get, Option, Some, None, refl, sym, ap, subst, ◌∙◌, arith}
 use Rattle.std.proofs.lemmas.Bool.{cases_lt, eq-eqb}
 use Rattle.std.proofs.lemmas.Bool.Decides.{eqb_tells}
@@ -44,7 +44,7 @@ next_cases classes x p count = elim (eqb_tells x p) [
   | inr e ↦ inr (e.1, ap (λ b. cond b (Some count) (classes x)) e.0, ap (λ b. cond b (count + 1) count) e.0)
 ]
 
--- what one more place needs to know of the classes before it
+-- The properties of earlier classes that one more place needs.
 pub record IsNextClass (firsts classes : ℕ → Option ℕ) (count p : ℕ) (c : Option ℕ) (more : ℕ) : Type 0 where
   pub each : (x : ℕ) → firsts p ≡ Some x → (a : ℕ) × (c ≡ Some a) × (a < more)
   pub has : (a : ℕ) → c ≡ Some a → (x : ℕ) × (firsts p ≡ Some x)
@@ -168,7 +168,7 @@ classes_push firsts of count more c are old is_c is_more = push_from firsts of c
               }
         ]
 
--- a place that has the same first place as an earlier one has its class
+-- A place with the same first place as an earlier one has its class.
 pub as_before : (firsts classes : ℕ → Option ℕ) (count p q x : ℕ) → AreFirsts firsts → AreClasses firsts classes count p → q < p → firsts q ≡ Some x → firsts p ≡ Some x →
     classes q ≡ next_class classes (firsts p) p count
 as_before firsts classes count p q x are old l fq fp =
@@ -180,14 +180,14 @@ as_before firsts classes count p q x are old l fq fp =
           class ∙ sym (ap (λ z. next_class classes z p count) fp ∙ (h.1 ∙ old.alike q x a x (omega (arith, first.0, l)) class fq first.1))
     ]
 
--- and one that is its own first place has the next class
+-- A place that is its own first place has the next new class.
 pub as_first : (firsts classes : ℕ → Option ℕ) (count p : ℕ) → Some p ≡ firsts p → Some count ≡ next_class classes (firsts p) p count
 as_first firsts classes count p fp = elim (next_cases classes p p count) [
   | inl h ↦ sym (ap (λ z. next_class classes z p count) (sym fp) ∙ h.1)
   | inr h ↦ absurd (h.0 refl)
 ]
 
--- the count goes on by the class itself
+-- The count, by the class itself.
 pub count_by_class : (firsts classes : ℕ → Option ℕ) (count p : ℕ) (c : Option ℕ) → AreFirsts firsts → AreClasses firsts classes count p → c ≡ next_class classes (firsts p) p count →
     count_after c count count ≡ count_after (firsts p) p count
 count_by_class firsts classes count p c are old is = go (firsts p) refl

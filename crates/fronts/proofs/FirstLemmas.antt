@@ -17,17 +17,17 @@ use Rattle.std.specs.List.Sorted.{IsStrictlyIncreasing}
 use Rattle.trace_index.specs.Numbers.{of_thread, thread_before, acquire_before}
 use Rattle.trace_model.proofs.Theory.Begun.{begun_so, begun_from}
 use Rattle.fronts.specs.declared.classes.Classes.{Classes}
-use Rattle.fronts.specs.declared.demands.Shared.{Shared}
-use Rattle.fronts.specs.declared.demands.Shared.TheVariants.{Thread, Lock}
+use Rattle.fronts.specs.declared.requirements.Shared.{Shared}
+use Rattle.fronts.specs.declared.requirements.Shared.TheVariants.{Thread, Lock}
 use Rattle.fronts.specs.Slots.{slots_of, AreSlots}
-use Rattle.fronts.specs.Demands.{AreLocks}
+use Rattle.fronts.specs.Requirements.{AreLocks}
 use Rattle.fronts.specs.Classes.{AreFirsts, AreClasses, next_class}
 use Rattle.fronts.specs.Firsts.{first_of_thread, first_of_lock, first_of, AreSlotsOf}
 use Rattle.fronts.proofs.ClassLemmas.{as_before, as_first}
 use Rattle.fronts.proofs.FrontLemmas.{of_thread_from, of_thread_so}
 use Rattle.fronts.proofs.ThreadLemmas.{place_below}
 
--- the first of the places that pass, at or before any of them
+-- The first of the places with the property, at or before each of them.
 least_listed : (f : Places) (n p : ℕ) → p < n → f p ≡ true → (x : ℕ) × (slice_get (ascending f n) 0 ≡ Some x) × (x ≤ p) × (f x ≡ true) × (x < n)
 least_listed f n p l h =
     let (k, at) = place_of (ascending f n) p (contains_ascending f n p l h) in
@@ -40,8 +40,8 @@ least_listed f n p l h =
     before xs up zero x p a b = omega (arith, same_Some x p (sym a ∙ b))
     before xs up (suc k) x p a b = omega (arith, increasing_ordered xs up 0 (suc k) x p (omega arith) a b)
 
--- places by what they are on, a thread or a lock, of which there is one: each has the first place
--- on the same one
+-- Places grouped by their thread or lock: each place has the first place
+-- of its group.
 record HaveFirsts (On : ℕ → ℕ → Type 0) (first_of : ℕ → Option ℕ) (n : ℕ) : Type 0 where
   first : (p k : ℕ) → On p k → (x : ℕ) × (first_of p ≡ Some x) × (x ≤ p) × On x k
   some : (p x : ℕ) → first_of p ≡ Some x → (k : ℕ) × On p k
@@ -50,7 +50,7 @@ record HaveFirsts (On : ℕ → ℕ → Type 0) (first_of : ℕ → Option ℕ) 
   below : (p k : ℕ) → On p k → p < n
 
 module _ (On : ℕ → ℕ → Type 0) (first_of : ℕ → Option ℕ) (n : ℕ) (h : HaveFirsts On first_of n) where
-  -- a place before which none stands on the same one is the first
+  -- A place that no place of its group precedes is the first.
   is_first : (p k : ℕ) → On p k → ((x : ℕ) → x < p → On x k → ⊥) → Some p ≡ first_of p
   is_first p k o none =
       let (x, first, l, ox) = h.first p k o in
@@ -122,7 +122,7 @@ thread_slots s firsts slots count same c = record {
   alike = are_alike (OfThread s) (first_of_thread s) (length s) (threads_have s) firsts same slots count c;
 }
 
--- no place of its thread before it: it is the first one
+-- A place that no place of its thread precedes is the first one.
 thread_new : (s : Trace) (p t : ℕ) → OfThread s p t → last_place (of_thread s t) p ≡ None → Some p ≡ first_of_thread s p
 thread_new s p t o none = is_first (OfThread s) (first_of_thread s) (length s) (threads_have s) p t o
     (λ x less ox. last_place_none (of_thread s t) p none x less (of_thread_from s t x ox))
@@ -132,7 +132,7 @@ thread_old s p q t o last =
     let is = last_place_some (of_thread s t) p q last in
     (is.0, thread_at s q t (of_thread_so s t q is.1) ∙ sym (thread_at s p t o))
 
--- the same of locks
+-- The same for locks.
 
 lock_at : (s : Trace) (p k : ℕ) → BeginsOn s p k → first_of_lock s p ≡ slice_get (ascending (begins_on s k) (length s)) 0
 lock_at s p k b = ap (option_and_then (λ l. slice_get (ascending (begins_on s l) (length s)) 0)) (begun_from s p k b)
@@ -169,7 +169,7 @@ lock_slots s firsts locks count same c = record {
   alike = are_alike (BeginsOn s) (first_of_lock s) (length s) (locks_have s) firsts same locks count c;
 }
 
--- and of both
+-- The same for both.
 pub shared_firsts : (s : Trace) (shared : Shared) (firsts : ℕ → Option ℕ) → ((p : ℕ) → firsts p ≡ first_of s shared p) → AreFirsts firsts
 shared_firsts s Thread firsts same = firsts_are (OfThread s) (first_of_thread s) (length s) (threads_have s) firsts same
 shared_firsts s Lock firsts same = firsts_are (BeginsOn s) (first_of_lock s) (length s) (locks_have s) firsts same
@@ -192,7 +192,7 @@ lock_old s p q k b last =
     let is = last_place_some (begins_on s k) p q last in
     (is.0, lock_at s q k (begins_so s k q is.1) ∙ sym (lock_at s p k b))
 
--- from the place before it
+-- From the previous place.
 pub thread_new_class : (s : Trace) (p count : ℕ) (e : Event) (classes : ℕ → Option ℕ) → At s p e → None ≡ thread_before s p → Some count ≡ next_class classes (first_of_thread s p) p count
 thread_new_class s p count e classes a none = as_first (first_of_thread s) classes count p
     (thread_new s p e.thread (e.op, a) (sym (none ∙ ap (option_and_then (λ x. last_place (of_thread s x.thread) p)) a)))
@@ -215,6 +215,6 @@ lock_old_class s p q k count classes b some known =
     let (x, first, l, o) = lock_first s p k (begun_so s p k b) in
     as_before (first_of_lock s) classes count p q x (shared_firsts s Lock (first_of_lock s) (λ z. refl)) known old.0 (old.1 ∙ first) first
 
--- no section begins at the place
+-- No section begins at the place.
 pub lock_no_class : (s : Trace) (p count : ℕ) (classes : ℕ → Option ℕ) → None ≡ begun s p → None ≡ next_class classes (first_of_lock s p) p count
 lock_no_class s p count classes none = ap (λ z. next_class classes (option_and_then (λ l. slice_get (ascending (begins_on s l) (length s)) 0) z) p count) none

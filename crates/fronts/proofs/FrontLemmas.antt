@@ -1,4 +1,4 @@
--- Fronts, as sets of places.
+-- Fronts as sets of places.
 use Rattle.std.proofs.Common.{◌≡◌, ℕ, ◌<◌, ◌≤◌, true, false, ◌==◌, nat_lt, Bor, List, length, slice_get, Option, Some, None, refl, sym, ap, ◌∙◌, arith}
 use Rattle.std.specs.Option.{option_map_or}
 use Rattle.std.specs.Slice.{IsItemAt}
@@ -8,7 +8,7 @@ use Rattle.std.proofs.lemmas.Option.{slice_get_read, slice_get_past}
 use Rattle.trace_model.specs.declared.traces.event.Event.{Event}
 use Rattle.trace_model.specs.Theory.Trace.{Trace, event, OfThread}
 use Rattle.trace_index.specs.Numbers.{of_thread, earlier_events}
-use Rattle.fronts.specs.declared.demands.Goal.{Goal}
+use Rattle.fronts.specs.declared.requirements.ThreadPrefix.{ThreadPrefix}
 use Rattle.fronts.specs.Slots.{among, front_test}
 use Rattle.fronts.proofs.Counts.{count_lt}
 
@@ -34,7 +34,7 @@ lt_false a b h = grind (arith, nat_tests)
 pub earlier_lt : (s : Trace) (t p q : ℕ) → OfThread s p t → p < q → earlier_events s t p < earlier_events s t q
 earlier_lt s t p q o l = count_lt (of_thread s t) p q l (of_thread_from s t p o)
 
--- what a look-up lends
+-- The value of a lookup.
 pub lent : {X : Type 0} (xs : List X) (k : ℕ) (x : Bor X) → IsItemAt xs k (Some x) → slice_get xs k ≡ Some x.now
 lent xs k x h = slice_get_read xs (length xs) k x.now refl h.3.0 h.1
 
@@ -44,8 +44,8 @@ lt_not a b h = grind (arith, nat_tests)
 pub not_lent : {X : Type 0} (xs : List X) (k : ℕ) → IsItemAt xs k None → slice_get xs k ≡ None
 not_lent xs k h = slice_get_past xs k (lt_not k (length xs) h.0)
 
-pub among_at : (stands : List Goal) (front : ℕ → ℕ) (p n : ℕ) (to : Goal) → slice_get stands p ≡ Some to → n ≡ front to.slot → nat_lt to.count n ≡ among stands front p
-among_at stands front p n to at is = ap (nat_lt to.count) is ∙ sym (ap (λ o. option_map_or (λ (z : Goal). front_test front z.count z.slot) o false) at)
+pub among_at : (positions : List ThreadPrefix) (front : ℕ → ℕ) (p n : ℕ) (to : ThreadPrefix) → slice_get positions p ≡ Some to → n ≡ front to.slot → nat_lt to.count n ≡ among positions front p
+among_at positions front p n to at is = ap (nat_lt to.count) is ∙ sym (ap (λ o. option_map_or (λ (z : ThreadPrefix). front_test front z.count z.slot) o false) at)
 
-pub among_none : (stands : List Goal) (front : ℕ → ℕ) (p : ℕ) → slice_get stands p ≡ None → false ≡ among stands front p
-among_none stands front p none = sym (ap (λ o. option_map_or (λ (z : Goal). front_test front z.count z.slot) o false) none)
+pub among_none : (positions : List ThreadPrefix) (front : ℕ → ℕ) (p : ℕ) → slice_get positions p ≡ None → false ≡ among positions front p
+among_none positions front p none = sym (ap (λ o. option_map_or (λ (z : ThreadPrefix). front_test front z.count z.slot) o false) none)

@@ -1,13 +1,13 @@
 pub mod Counts
 pub mod FrontLemmas
-pub mod SheetLemmas
+pub mod EpochLemmas
 pub mod ThreadLemmas
 pub mod GrowingLemmas
 pub mod SlotLemmas
 pub mod MemberLemmas
 pub mod RaiseLemmas
 pub mod StageLemmas
-pub mod WayLemmas
+pub mod InvariantLemmas
 pub mod RunLemmas
 pub mod ClassLemmas
 pub mod FirstLemmas

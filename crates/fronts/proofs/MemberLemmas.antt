@@ -1,4 +1,4 @@
--- A member that goes to its next place passes no place at which a set stops.
+-- An advancing member skips no place at which a set stops.
 use Rattle.std.proofs.Common.{◌≡◌, ℕ, zero, suc, ◌+◌, ◌-◌, ◌<◌, ◌≤◌, max, inl, inr, Bool, true, false, List, [], ◌∷◌, length, slice_get, slice_set, Option, Some, refl, sym, ap, subst, ◌∙◌, arith}
 use Rattle.std.specs.List.{Contains}
 use Rattle.std.proofs.lemmas.Bool.{cases_lt, false≢true}
@@ -10,11 +10,11 @@ use Rattle.trace_model.proofs.Theory.Ascending.{place_of}
 use Rattle.trace_model.proofs.Lists.{get-set_same, get-set_other}
 use Rattle.trace_model.proofs.Theory.Unique.{increasing_ordered}
 use Rattle.std.proofs.Math.ListN.{length-set}
-use Rattle.fronts.specs.declared.demands.Goal.{Goal}
+use Rattle.fronts.specs.declared.requirements.ThreadPrefix.{ThreadPrefix}
 use Rattle.fronts.specs.declared.members.Member.{Member}
-use Rattle.fronts.specs.Slots.{AreSlots, Stands, HoldsFirst, HasFirst, HoldsPlaces}
-use Rattle.fronts.specs.Members.{Each, IsMember, StopsAt, Stops, IsNotPast, IsAhead, IsSameMember, AreMoved, IsWithinCount, Advances, HasMoved, IsSettled, steps_left}
-use Rattle.fronts.proofs.SlotLemmas.{stands_before, has_before}
+use Rattle.fronts.specs.Slots.{AreSlots, HasPosition, HoldsFirst, HasFirst, HoldsPlaces}
+use Rattle.fronts.specs.Members.{Each, IsMember, StopsAt, Stops, IsNotPast, IsAhead, IsSameMember, AreMoved, IsWithinCount, Advances, HasMoved, AreAdvanced, steps_left}
+use Rattle.fronts.proofs.SlotLemmas.{position_before, has_before}
 
 pub each_set : {X : Type 0} (P : X → Type 0) (xs : List X) (k : ℕ) (x y : X) → slice_get xs k ≡ Some x → Each P xs → P y → Each P (slice_set xs k y)
 each_set P xs k x y at all new i z h = elim (eqb_tells i k) [
@@ -32,7 +32,7 @@ moved_none slot xs = record {
   others = λ i x y h k n. same_Some x y (sym h ∙ k);
 }
 
--- one more member moved
+-- One more member advanced.
 pub moved_more : (slot : ℕ) (old xs : List Member) (k : ℕ) (x y : Member) → AreMoved slot old xs → slice_get xs k ≡ Some x →
     x.slot ≡ slot → IsSameMember x y → AreMoved slot old (slice_set xs k y)
 moved_more slot old xs k x y m at here same = record {
@@ -52,7 +52,7 @@ moved_more slot old xs k x y m at here same = record {
   ];
 }
 
--- a place of the list after the one at e is no earlier than the one at e + 1
+-- A place of the list after entry `e` is not before entry `e + 1`.
 pub after_entry : (s : Trace) (slots : ℕ → Option ℕ) (x y : Member) (q : ℕ) → IsMember s slots x → Advances s slots true x y → Contains x.places q → x.place < q → y.place ≤ q
 after_entry s slots x y q mx a c l =
     let up = increasing_ordered x.places a.ascends in
@@ -77,7 +77,7 @@ after_entry s slots x y q mx a c l =
       ]
     ]
 
--- at the last entry there is none after it
+-- There is no place after the last entry.
 pub after_last : (s : Trace) (slots : ℕ → Option ℕ) (x y : Member) (q : ℕ) → IsMember s slots x → Advances s slots false x y → Contains x.places q → x.place < q → ⊥
 after_last s slots x y q mx a c l =
     let up = increasing_ordered x.places a.ascends in
@@ -91,24 +91,24 @@ after_last s slots x y q mx a c l =
           omega (arith, l, same)
     ]
 
--- a set that holds the member's place stops later
+-- A set that contains the member's place stops later.
 pub stops_later : (s : Trace) (slots : ℕ → Option ℕ) (set : Places) (x : Member) (count q : ℕ) → IsMember s slots x → x.number < count →
     HoldsFirst s slots set x.slot count → IsNotPast s set x → Contains x.places q → StopsAt s set q → x.place < q
 stops_later s slots set x count q mx l holds not c stop =
     let below : x.place ≤ q = not q c stop in
-    let in_set : set x.place ≡ true = holds x.place x.number mx.stands l in
+    let in_set : set x.place ≡ true = holds x.place x.number mx.positions l in
     elim (eqb_tells x.place q) [
       | inl e ↦ absurd (false≢true (sym stop.out ∙ subst (λ z. set z ≡ true) e.1 in_set))
       | inr e ↦ omega (arith, below, e.1)
     ]
 
--- all that stands before a place at which the set stops, or before an earlier one, is in
+-- The set contains all places before a place at which it stops, or before an earlier one.
 pub holds_upto : (s : Trace) (slots : ℕ → Option ℕ) (count : ℕ) (set : Places) (y : Member) (q : ℕ) → AreSlots s slots count → IsMember s slots y →
     Contains y.places q → StopsAt s set q → y.place ≤ q → HoldsFirst s slots set y.slot y.number
 holds_upto s slots count set y q k my c stop l p n x less =
-    let before = stands_before s slots count p y.place y.slot n y.number k x my.stands less in
+    let before = position_before s slots count p y.place y.slot n y.number k x my.positions less in
     let (t, o, u, lt) = before in
-    let uq = k.apart y.place q y.slot t my.stands.slot (my.thread q c) u in
+    let uq = k.apart y.place q y.slot t my.positions.slot (my.thread q c) u in
     stop.before p (t, o, uq, omega (arith, lt, l))
 
 pub ahead_moves : (s : Trace) (slots : ℕ → Option ℕ) (count : ℕ) (set : Places) (xs : List Member) (k : ℕ) (x y : Member) (most : ℕ) → AreSlots s slots count →
@@ -143,7 +143,7 @@ left_less (a ∷ more) zero x y h p e l =
     omega (arith, n, m, e, l)
 left_less (a ∷ more) (suc k) x y h p e l = omega (arith, left_less more k x y h p e l)
 
--- the same, of a member that was moved in the list
+-- The same for a member that advanced in the list.
 members_on : (s : Trace) (slots : ℕ → Option ℕ) (xs ys : List Member) (k : ℕ) (b : Bool) → HasMoved (Advances s slots b) xs k ys →
     Each (IsMember s slots) xs → Each (IsMember s slots) ys
 members_on s slots xs ys k b m all =
@@ -165,8 +165,8 @@ has_on : (s : Trace) (slots : ℕ → Option ℕ) (few slot count n : ℕ) (xs y
 has_on s slots few slot count n xs ys k b m known here is has i l = elim (cases_lt i count) [
   | inl less ↦ has i less
   | inr more ↦
-      subst (λ a. (p : ℕ) × Stands s slots p a i) (m.advances.same.slot ∙ here)
-      (has_before s slots few m.y.place m.y.slot m.y.number known m.advances.is_member.stands i (omega (arith, l, more, is)))
+      subst (λ a. (p : ℕ) × HasPosition s slots p a i) (m.advances.same.slot ∙ here)
+      (has_before s slots few m.y.place m.y.slot m.y.number known m.advances.is_member.positions i (omega (arith, l, more, is)))
 ]
 
 ahead_on : (s : Trace) (slots : ℕ → Option ℕ) (few slot count n : ℕ) (set : Places) (xs ys : List Member) (k : ℕ) (m : HasMoved (Advances s slots true) xs k ys) →
@@ -182,59 +182,59 @@ ahead_on s slots few slot count n set xs ys k m known all here less is ahead hol
       ],
     )
 
--- a member of the slot that is at fewer places than counted
+-- A member of the slot whose number is below the count.
 pub record IsFound (a count : ℕ) (x : Member) : Type 0 where
   pub slot : x.slot ≡ a
   pub less : x.number < count
 
--- the one at k is such a member
+-- Member `k` is such a member.
 abbrev pub IsFoundAt : ℕ → ℕ → List Member → ℕ → Type 0
 IsFoundAt slot count xs k = (z : Member) × (slice_get xs k ≡ Some z) × (z.slot ≡ slot) × (z.number < count)
 
--- the member that was found is the one that moved
+-- The found member is the one that advanced.
 is_found : (s : Trace) (slots : ℕ → Option ℕ) (slot count : ℕ) (xs ys : List Member) (k : ℕ) (b : Bool) (m : HasMoved (Advances s slots b) xs k ys) →
     IsFoundAt slot count xs k → IsFound slot count m.x
 is_found s slots slot count xs ys k b m (z, at, here, less) =
     subst (IsFound slot count) (same_Some z m.x (sym at ∙ m.at)) (record { slot = here; less = less })
 
--- what the loop keeps
-pub record AreSettling (s : Trace) (slots : ℕ → Option ℕ) (goal : Goal) (old new : List Member) (count : ℕ) : Type 0 where
+-- The loop invariant.
+pub record AreSettling (s : Trace) (slots : ℕ → Option ℕ) (prefix : ThreadPrefix) (old new : List Member) (count : ℕ) : Type 0 where
   pub members : Each (IsMember s slots) new
-  pub moved : AreMoved goal.slot old new
-  pub within : Each (IsWithinCount goal.slot count) new
-  pub more : goal.count ≤ count
-  pub has : HasFirst s slots goal.slot count
-  pub ahead : (set : Places) → IsAhead s old set → HoldsFirst s slots set goal.slot goal.count →
-      IsAhead s new set × HoldsFirst s slots set goal.slot count
+  pub moved : AreMoved prefix.slot old new
+  pub within : Each (IsWithinCount prefix.slot count) new
+  pub more : prefix.count ≤ count
+  pub has : HasFirst s slots prefix.slot count
+  pub ahead : (set : Places) → IsAhead s old set → HoldsFirst s slots set prefix.slot prefix.count →
+      IsAhead s new set × HoldsFirst s slots set prefix.slot count
 
-pub settling_on : (s : Trace) (slots : ℕ → Option ℕ) (few : ℕ) (goal : Goal) (count n : ℕ) (old xs ys : List Member) (k : ℕ) (m : HasMoved (Advances s slots true) xs k ys) →
-    AreSlots s slots few → IsFoundAt goal.slot count xs k → m.y.number ≡ n → AreSettling s slots goal old xs count → AreSettling s slots goal old ys (max count n)
-settling_on s slots few goal count n old xs ys k m known at is all =
-    let found = is_found s slots goal.slot count xs ys k true m at in
+pub settling_on : (s : Trace) (slots : ℕ → Option ℕ) (few : ℕ) (prefix : ThreadPrefix) (count n : ℕ) (old xs ys : List Member) (k : ℕ) (m : HasMoved (Advances s slots true) xs k ys) →
+    AreSlots s slots few → IsFoundAt prefix.slot count xs k → m.y.number ≡ n → AreSettling s slots prefix old xs count → AreSettling s slots prefix old ys (max count n)
+settling_on s slots few prefix count n old xs ys k m known at is all =
+    let found = is_found s slots prefix.slot count xs ys k true m at in
     record {
       members = members_on s slots xs ys k true m all.members;
-      moved = moved_on s slots goal.slot old xs ys k true m all.moved found.slot;
-      within = within_on s slots goal.slot count n xs ys k true m is all.within;
+      moved = moved_on s slots prefix.slot old xs ys k true m all.moved found.slot;
+      within = within_on s slots prefix.slot count n xs ys k true m is all.within;
       more = omega (arith, all.more);
-      has = has_on s slots few goal.slot count n xs ys k true m known found.slot is all.has;
+      has = has_on s slots few prefix.slot count n xs ys k true m known found.slot is all.has;
       ahead = λ set a h.
           let (b, g) = all.ahead set a h in
-          ahead_on s slots few goal.slot count n set xs ys k m known all.members found.slot found.less is b g;
+          ahead_on s slots few prefix.slot count n set xs ys k m known all.members found.slot found.less is b g;
     }
 
--- where a member has no further place, no set stops at a place of each
-pub record HaveEnded (s : Trace) (slots : ℕ → Option ℕ) (goal : Goal) (old new : List Member) : Type 0 where
+-- If a member has no further place, no set stops at a place of each member.
+pub record HaveEnded (s : Trace) (slots : ℕ → Option ℕ) (prefix : ThreadPrefix) (old new : List Member) : Type 0 where
   pub members : Each (IsMember s slots) new
-  pub moved : AreMoved goal.slot old new
-  pub ahead : (set : Places) → IsAhead s old set → HoldsPlaces s slots goal set → ⊥
+  pub moved : AreMoved prefix.slot old new
+  pub ahead : (set : Places) → IsAhead s old set → HoldsPlaces s slots prefix set → ⊥
 
-pub settling_ends : (s : Trace) (slots : ℕ → Option ℕ) (goal : Goal) (count : ℕ) (old xs ys : List Member) (k : ℕ) → HasMoved (Advances s slots false) xs k ys →
-    IsFoundAt goal.slot count xs k → AreSettling s slots goal old xs count → HaveEnded s slots goal old ys
-settling_ends s slots goal count old xs ys k m at all =
-    let found = is_found s slots goal.slot count xs ys k false m at in
+pub settling_ends : (s : Trace) (slots : ℕ → Option ℕ) (prefix : ThreadPrefix) (count : ℕ) (old xs ys : List Member) (k : ℕ) → HasMoved (Advances s slots false) xs k ys →
+    IsFoundAt prefix.slot count xs k → AreSettling s slots prefix old xs count → HaveEnded s slots prefix old ys
+settling_ends s slots prefix count old xs ys k m at all =
+    let found = is_found s slots prefix.slot count xs ys k false m at in
     record {
       members = members_on s slots xs ys k false m all.members;
-      moved = moved_on s slots goal.slot old xs ys k false m all.moved found.slot;
+      moved = moved_on s slots prefix.slot old xs ys k false m all.moved found.slot;
       ahead = λ set a h.
           let (b, g) = all.ahead set a h in
           ahead_ends s slots set xs k m.x m.y count b m.at (all.members k m.x m.at) found.less
@@ -247,9 +247,9 @@ settling_less s slots xs ys k m all =
     subst (λ zs. steps_left zs < steps_left xs) (sym m.new_at)
     (left_less xs k m.x m.y m.at m.advances.same.places (m.advances.next refl) (slice_get_within m.x.places m.x.entry m.x.place (all k m.x m.at).at))
 
-pub settled : (s : Trace) (slots : ℕ → Option ℕ) (goal : Goal) (old xs : List Member) (count : ℕ) → AreSettling s slots goal old xs count →
-    Each (λ m. m.slot ≡ goal.slot → count ≤ m.number) xs → IsSettled s slots goal xs (record { slot = goal.slot; count = count })
-settled s slots goal old xs count all none = record {
+pub advanced : (s : Trace) (slots : ℕ → Option ℕ) (prefix : ThreadPrefix) (old xs : List Member) (count : ℕ) → AreSettling s slots prefix old xs count →
+    Each (λ m. m.slot ≡ prefix.slot → count ≤ m.number) xs → AreAdvanced s slots prefix xs (record { slot = prefix.slot; count = count })
+advanced s slots prefix old xs count all none = record {
   slot = refl;
   more = all.more;
   has = all.has;

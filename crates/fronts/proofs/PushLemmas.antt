@@ -1,4 +1,4 @@
--- What each place needs, and the items that it adds to those of its thread.
+-- The requirements of each place, and the items that it adds to its thread.
 use Rattle.std.proofs.Common.{◌≡◌, ◌↔◌, ℕ, zero, suc, ◌<◌, ◌≤◌, ◌⊎◌, inl, inr, List, [], ◌∷◌, ◌++◌, length, Option, Some, None, MatchOption, unwrap_or, refl, sym, ap, subst, ◌∙◌, arith, append_assoc}
 use Rattle.std.specs.List.{Contains}
 use Rattle.std.specs.Option.{option_and_then}
@@ -14,15 +14,15 @@ use Rattle.trace_model.proofs.Theory.Lookups.{writer_so}
 use Rattle.trace_model.proofs.Theory.Least.{at_thread}
 use Rattle.trace_index.specs.Numbers.{earlier_events, number_at}
 use Rattle.trace_model.proofs.Theory.Begun.{begun_from}
-use Rattle.fronts.specs.declared.demands.Goal.{Goal}
-use Rattle.fronts.specs.declared.demands.Section.{Section}
-use Rattle.fronts.specs.declared.demands.Need.{Need}
-use Rattle.fronts.specs.declared.demands.Need.TheVariants.{Reach, Begin}
-use Rattle.fronts.specs.declared.demands.Item.{Item}
+use Rattle.fronts.specs.declared.requirements.ThreadPrefix.{ThreadPrefix}
+use Rattle.fronts.specs.declared.requirements.Section.{Section}
+use Rattle.fronts.specs.declared.requirements.Requirement.{Requirement}
+use Rattle.fronts.specs.declared.requirements.Requirement.TheVariants.{Reach, Begin}
+use Rattle.fronts.specs.declared.requirements.Item.{Item}
 use Rattle.fronts.specs.Slots.{AreSlots}
 use Rattle.fronts.specs.Threads.{IsLastOf}
-use Rattle.fronts.specs.Demands.{Needs, IsGoal, EndsSection, item}
-use Rattle.fronts.specs.Pushing.{Slotted, goal_at, adding, reaching, IsStart, IsFirstNeed, IsLastNeed, IsBegin, IsDemand, IsForkLater, IsReached, IsBegun, AreDemandsOf}
+use Rattle.fronts.specs.Requirements.{Needs, IsPrefixThrough, EndsSection, item}
+use Rattle.fronts.specs.Pushing.{Slotted, prefix_through, adding, reaching, IsStart, IsFirstNeed, IsLastNeed, IsBegin, IsRequirement, IsForkLater, IsReached, IsBegun, AreRequirementsOf}
 use Rattle.fronts.proofs.FrontLemmas.{earlier_lt}
 use Rattle.fronts.proofs.ThreadLemmas.{place_below}
 use Rattle.fronts.proofs.SlotLemmas.{number_of}
@@ -62,18 +62,18 @@ last_join s q t c (Some p) at h = record {
 pub begin_is : (v : Slotted) (q k l : ℕ) (c : Section) → BeginsOn v.trace q k → v.locks q ≡ Some l → c.place ≡ q → EndsSection v.trace v.slots c →
     IsBegin v q (Some (Begin l c))
 begin_is v q k l c on lock e ends = record {
-  true_need = λ need h. (l, c, k, sym (same_Some (Begin l c) need h), e, on, lock, ends);
+  true_need = λ requirement h. (l, c, k, sym (same_Some (Begin l c) requirement h), e, on, lock, ends);
   begun = λ j b. (Begin l c, refl);
 }
 
--- where no section begins there is no demand of one
+-- If no section begins at a place, it has no such requirement.
 pub begin_none : (v : Slotted) (q : ℕ) → None ≡ begun v.trace q → IsBegin v q None
 begin_none v q none = record {
-  true_need = λ need h. absurd (none-some need h);
+  true_need = λ requirement h. absurd (none-some requirement h);
   begun = λ k on. absurd (none-some k (none ∙ begun_from v.trace q k on));
 }
 
--- what a place needs is in the trace
+-- A required place is in the trace.
 pub need_within : (s : Trace) (q r : ℕ) → q < length s → Needs s q r → r < length s
 need_within s q r l (inl (inl (t, o, (u, at)))) = slice_get_within s r _ at
 need_within s q r l (inl (inr (c, d, inl (u, at)))) = slice_get_within s r _ at
@@ -90,9 +90,9 @@ some_unwrapped : (o : Option ℕ) (a : ℕ) → o ≡ Some a → o ≡ Some (unw
 some_unwrapped None a h = absurd (none-some a h)
 some_unwrapped (Some b) a h = refl
 
--- the place's goal has it in
-goal_is : (s : Trace) (slots : ℕ → Option ℕ) (count p t : ℕ) → AreSlots s slots count → OfThread s p t → IsGoal s slots (goal_at s slots p) p
-goal_is s slots count p t k o =
+-- The prefix through a place contains it.
+prefix_is : (s : Trace) (slots : ℕ → Option ℕ) (count p t : ℕ) → AreSlots s slots count → OfThread s p t → IsPrefixThrough s slots (prefix_through s slots p) p
+prefix_is s slots count p t k o =
     let (a, e, less) = k.each p t o in (
       unwrap_or (number_at s p) 0,
       record { slot = some_unwrapped (slots p) a e; number = some_unwrapped (number_at s p) (earlier_events s t p) (number_of s p t o) },
@@ -108,42 +108,42 @@ one_in y x h = elim (Contains-push_cases [] y x h) [
   | inr e ↦ e
 ]
 
-abbrev goal_in : Need → Goal → Goal
-goal_in (Reach g) d = g
-goal_in (Begin l c) d = d
+abbrev prefix_in : Requirement → ThreadPrefix → ThreadPrefix
+prefix_in (Reach g) d = g
+prefix_in (Begin l c) d = d
 
-abbrev lock_in : Need → ℕ → ℕ
+abbrev lock_in : Requirement → ℕ → ℕ
 lock_in (Reach g) d = d
 lock_in (Begin l c) d = l
 
-abbrev section_in : Need → Section → Section
+abbrev section_in : Requirement → Section → Section
 section_in (Reach g) d = d
 section_in (Begin l c) d = c
 
-abbrev IsReach : Need → Type 0
+abbrev IsReach : Requirement → Type 0
 IsReach (Reach g) = Unit
 IsReach (Begin l c) = ⊥
 
 reach_only : (v : Slotted) (count q n : ℕ) (o : Option ℕ) (i : Item) → AreSlots v.trace v.slots count → ((r : ℕ) → o ≡ Some r → Needs v.trace q r) →
-    Contains (reaching v.trace v.slots n o) i → IsDemand v q n i
+    Contains (reaching v.trace v.slots n o) i → IsRequirement v q n i
 reach_only v count q n None i k so h = absurd (none_in i h)
 reach_only v count q n (Some p) i k so h =
-    let need = so p refl in
-    let (t, o) = need_thread v.trace q p need in
-    let g = goal_at v.trace v.slots p in
-    subst (IsDemand v q n) (one_in (item n (Reach g)) i h) (record {
+    let requirement = so p refl in
+    let (t, o) = need_thread v.trace q p requirement in
+    let g = prefix_through v.trace v.slots p in
+    subst (IsRequirement v q n) (one_in (item n (Reach g)) i h) (record {
       number = refl;
-      reach = λ goal e. (p, need, subst (λ z. IsGoal v.trace v.slots z p) (ap (λ z. goal_in z g) e) (goal_is v.trace v.slots count p t k o));
+      reach = λ prefix e. (p, requirement, subst (λ z. IsPrefixThrough v.trace v.slots z p) (ap (λ z. prefix_in z g) e) (prefix_is v.trace v.slots count p t k o));
       begin = λ l c e. absurd (subst IsReach e tt);
     })
 
-begin_only : (v : Slotted) (q n : ℕ) (o : Option Need) (i : Item) → IsBegin v q o → Contains (adding n o) i → IsDemand v q n i
+begin_only : (v : Slotted) (q n : ℕ) (o : Option Requirement) (i : Item) → IsBegin v q o → Contains (adding n o) i → IsRequirement v q n i
 begin_only v q n None i b h = absurd (none_in i h)
-begin_only v q n (Some need) i b h =
-    let (l, c, k, e, at, on, lock, ends) = b.true_need need refl in
-    subst (IsDemand v q n) (ap (item n) (sym e) ∙ one_in (item n need) i h) (record {
+begin_only v q n (Some requirement) i b h =
+    let (l, c, k, e, at, on, lock, ends) = b.true_need requirement refl in
+    subst (IsRequirement v q n) (ap (item n) (sym e) ∙ one_in (item n requirement) i h) (record {
       number = refl;
-      reach = λ goal f. absurd (subst IsReach (sym f) tt);
+      reach = λ prefix f. absurd (subst IsReach (sym f) tt);
       begin = λ m d f.
           let sec : c ≡ d = ap (λ z. section_in z c) f in
           let num : l ≡ m = ap (λ z. lock_in z l) f in
@@ -156,7 +156,7 @@ number_le s t p r o l = elim (cases_lt r p) [
   | inr not ↦ let e : r ≡ p = omega (arith, l, not) in omega (arith, ap (earlier_events s t) e)
 ]
 
--- the goal of a later place of the thread reaches the place
+-- The prefix through a later place of the thread contains the place.
 reach_covers : (s : Trace) (slots : ℕ → Option ℕ) (count n p r t : ℕ) (o : Option ℕ) → AreSlots s slots count → o ≡ Some p → OfThread s p t → OfThread s r t → r ≤ p →
     IsReached s slots n r (reaching s slots n o)
 reach_covers s slots count n p r t o k e op or l =
@@ -164,18 +164,18 @@ reach_covers s slots count n p r t o k e op or l =
     let slot : unwrap_or (slots p) 0 ≡ a = same_Some _ a (sym (some_unwrapped (slots p) a at) ∙ at) in
     let num = number_of s p t op in
     let number : unwrap_or (number_at s p) 0 ≡ earlier_events s t p = same_Some _ _ (sym (some_unwrapped (number_at s p) _ num) ∙ num) in (
-      goal_at s slots p,
+      prefix_through s slots p,
       earlier_events s t r,
-      rw e (Contains-push [] (item n (Reach (goal_at s slots p)))),
+      rw e (Contains-push [] (item n (Reach (prefix_through s slots p)))),
       record { slot = k.alike p r a t at op or ∙ ap Some (sym slot); number = number_of s r t or },
       omega (arith, number, number_le s t p r or l),
     )
 
 pub reached_left : (s : Trace) (slots : ℕ → Option ℕ) (n r : ℕ) (xs ys : List Item) → IsReached s slots n r xs → IsReached s slots n r (xs ++ ys)
-reached_left s slots n r xs ys (goal, m, c, st, l) = (goal, m, Contains-append_left xs ys (item n (Reach goal)) c, st, l)
+reached_left s slots n r xs ys (prefix, m, c, st, l) = (prefix, m, Contains-append_left xs ys (item n (Reach prefix)) c, st, l)
 
 pub reached_right : (s : Trace) (slots : ℕ → Option ℕ) (n r : ℕ) (xs ys : List Item) → IsReached s slots n r ys → IsReached s slots n r (xs ++ ys)
-reached_right s slots n r xs ys (goal, m, c, st, l) = (goal, m, Contains-append_right xs ys (item n (Reach goal)) c, st, l)
+reached_right s slots n r xs ys (prefix, m, c, st, l) = (prefix, m, Contains-append_right xs ys (item n (Reach prefix)) c, st, l)
 
 pub begun_left : (q n : ℕ) (xs ys : List Item) → IsBegun q n xs → IsBegun q n (xs ++ ys)
 begun_left q n xs ys (l, c, h, e) = (l, c, Contains-append_left xs ys (item n (Begin l c)) h, e)
@@ -183,18 +183,18 @@ begun_left q n xs ys (l, c, h, e) = (l, c, Contains-append_left xs ys (item n (B
 pub begun_right : (q n : ℕ) (xs ys : List Item) → IsBegun q n ys → IsBegun q n (xs ++ ys)
 begun_right q n xs ys (l, c, h, e) = (l, c, Contains-append_right xs ys (item n (Begin l c)) h, e)
 
-begun_at : (v : Slotted) (q n k : ℕ) (o : Option Need) → IsBegin v q o → BeginsOn v.trace q k → IsBegun q n (adding n o)
+begun_at : (v : Slotted) (q n k : ℕ) (o : Option Requirement) → IsBegin v q o → BeginsOn v.trace q k → IsBegun q n (adding n o)
 begun_at v q n k o b on =
-    let (need, e) = b.begun k on in
-    let (l, c, j, f, at, here, lock, ends) = b.true_need need e in
+    let (requirement, e) = b.begun k on in
+    let (l, c, j, f, at, here, lock, ends) = b.true_need requirement e in
     let last = Contains-push [] (item n (Begin l c)) in
-    let there = subst (λ (z : Need). Contains (adding n (Some z)) (item n (Begin l c))) (sym f) last in
-    (l, c, subst (λ (z : Option Need). Contains (adding n z) (item n (Begin l c))) (sym e) there, at)
+    let there = subst (λ (z : Requirement). Contains (adding n (Some z)) (item n (Begin l c))) (sym f) last in
+    (l, c, subst (λ (z : Option Requirement). Contains (adding n z) (item n (Begin l c))) (sym e) there, at)
 
-pub demands_from : (v : Slotted) (count q n : ℕ) (a b c : Option ℕ) (o : Option Need) → AreSlots v.trace v.slots count → number_at v.trace q ≡ Some n →
+pub requirements_from : (v : Slotted) (count q n : ℕ) (a b c : Option ℕ) (o : Option Requirement) → AreSlots v.trace v.slots count → number_at v.trace q ≡ Some n →
     IsStart v.trace q a → IsFirstNeed v.trace q b → IsLastNeed v.trace q c → IsBegin v q o →
-    AreDemandsOf v q n (reaching v.trace v.slots n a ++ (reaching v.trace v.slots n b ++ (reaching v.trace v.slots n c ++ adding n o)))
-demands_from v count q n a b c o k num start first last begin = record {
+    AreRequirementsOf v q n (reaching v.trace v.slots n a ++ (reaching v.trace v.slots n b ++ (reaching v.trace v.slots n c ++ adding n o)))
+requirements_from v count q n a b c o k num start first last begin = record {
   only = λ i h. elim (Contains-append_cases xs (ys ++ (zs ++ ws)) i h) [
     | inl hx ↦ reach_only v count q n a i k start.true_need hx
     | inr h1 ↦ elim (Contains-append_cases ys (zs ++ ws) i h1) [
@@ -205,7 +205,7 @@ demands_from v count q n a b c o k num start first last begin = record {
       ]
     ]
   ];
-  needs = λ r need. needed r need;
+  needs = λ r requirement. needed r requirement;
   begins = λ j on. begun_right q n xs (ys ++ (zs ++ ws)) (begun_right q n ys (zs ++ ws) (begun_right q n zs ws (begun_at v q n j o begin on)));
 }
   where
@@ -222,13 +222,13 @@ demands_from v count q n a b c o k num start first last begin = record {
     ws = adding n o
 
     by_first : (r : ℕ) → Needs v.trace q r → b ≡ Some r → IsReached v.trace v.slots n r (xs ++ (ys ++ (zs ++ ws)))
-    by_first r need e =
-        let (t, here) = need_thread v.trace q r need in
+    by_first r requirement e =
+        let (t, here) = need_thread v.trace q r requirement in
         reached_right v.trace v.slots n r xs (ys ++ (zs ++ ws)) (reached_left v.trace v.slots n r ys (zs ++ ws) (reach_covers v.trace v.slots count n r r t b k e here here (omega arith)))
 
     by_start : (r : ℕ) → Needs v.trace q r → a ≡ Some r → IsReached v.trace v.slots n r (xs ++ (ys ++ (zs ++ ws)))
-    by_start r need e =
-        let (t, here) = need_thread v.trace q r need in
+    by_start r requirement e =
+        let (t, here) = need_thread v.trace q r requirement in
         reached_left v.trace v.slots n r xs (ys ++ (zs ++ ws)) (reach_covers v.trace v.slots count n r r t a k e here here (omega arith))
 
     by_last : (r t : ℕ) → OfThread v.trace r t → (p : ℕ) × (c ≡ Some p) × OfThread v.trace p t × (r ≤ p) → IsReached v.trace v.slots n r (xs ++ (ys ++ (zs ++ ws)))

@@ -1,4 +1,4 @@
--- What a raised front keeps.
+-- Properties that hold after a front is raised.
 use Rattle.std.proofs.Common.{◌≡◌, ◌≢◌, ℕ, zero, suc, ◌+◌, ◌<◌, ◌≤◌, max, inl, inr, List, [], ◌∷◌, ◌++◌, length, Option, unwrap_or, refl, sym, ap, subst, ◌∙◌, arith}
 use Rattle.std.specs.List.{Contains}
 use Rattle.std.proofs.lemmas.Bool.{cases_lt}
@@ -7,16 +7,16 @@ use Rattle.std.proofs.lemmas.Option.{same_Some, slice_get_within}
 use Rattle.trace_model.specs.Theory.Trace.{Trace}
 use Rattle.trace_model.specs.Theory.Closure.{Places}
 use Rattle.trace_model.proofs.Lists.{at_index, length-push}
-use Rattle.fronts.specs.declared.demands.Goal.{Goal}
+use Rattle.fronts.specs.declared.requirements.ThreadPrefix.{ThreadPrefix}
 use Rattle.fronts.specs.declared.members.Member.{Member}
 use Rattle.fronts.specs.Slots.{HoldsFirst, HasFirst, AreSlots}
-use Rattle.fronts.specs.declared.demands.Section.{Section}
-use Rattle.fronts.specs.declared.layer.Layer.{Layer}
-use Rattle.fronts.specs.declared.sheet.Sheet.{Sheet}
-use Rattle.fronts.specs.Sheets.{at}
-use Rattle.fronts.specs.Layers.{Changes, first_some}
-use Rattle.fronts.specs.Members.{Each, IsMember, IsAhead, AreMoved, IsSettled}
-use Rattle.fronts.specs.Work.{State, Raises, IsBound, AreAtFront, AreUpTo, sum_to}
+use Rattle.fronts.specs.declared.requirements.Section.{Section}
+use Rattle.fronts.specs.declared.overlay.Overlay.{Overlay}
+use Rattle.fronts.specs.declared.epoch_array.EpochArray.{EpochArray}
+use Rattle.fronts.specs.EpochArrays.{at}
+use Rattle.fronts.specs.Overlays.{Changes, first_some}
+use Rattle.fronts.specs.Members.{Each, IsMember, IsAhead, AreMoved, AreAdvanced}
+use Rattle.fronts.specs.Propagation.{State, Raises, IsBound, AreAtFront, AreUpTo, sum_to}
 use Rattle.fronts.proofs.GrowingLemmas.{push_cases, push_kept, push_last}
 
 pub record IsLifted (front new : ℕ → ℕ) (a n : ℕ) : Type 0 where
@@ -72,14 +72,14 @@ lifted_grows front new a n l b = elim (eqb_tells b a) [
   | inr e ↦ omega (arith, l.others b e.1)
 ]
 
--- the front is lifted and its slot is put last among the pending ones
-pub lifted_raises : (k : ℕ) (goal : Goal) (x y : State) (n : ℕ) (a : ℕ) → IsLifted x.front y.front goal.slot n → goal.count ≤ n → goal.slot < k →
-    y.pending ≡ x.pending ++ a ∷ [] → a ≡ goal.slot → ((b : ℕ) → y.done b ≡ x.done b) → ((b : ℕ) → y.last b ≡ x.last b) → Raises k goal x y
-lifted_raises k goal x y n a l m less p same d e = record {
+-- The front is raised, and its slot is appended to the worklist.
+pub lifted_raises : (k : ℕ) (prefix : ThreadPrefix) (x y : State) (n : ℕ) (a : ℕ) → IsLifted x.front y.front prefix.slot n → prefix.count ≤ n → prefix.slot < k →
+    y.pending ≡ x.pending ++ a ∷ [] → a ≡ prefix.slot → ((b : ℕ) → y.done b ≡ x.done b) → ((b : ℕ) → y.last b ≡ x.last b) → Raises k prefix x y
+lifted_raises k prefix x y n a l m less p same d e = record {
   upto = omega (arith, l.here, m);
   growth = record {
-    grows = lifted_grows x.front y.front goal.slot n l;
-    pended = λ b. elim (eqb_tells b goal.slot) [
+    grows = lifted_grows x.front y.front prefix.slot n l;
+    enqueued = λ b. elim (eqb_tells b prefix.slot) [
       | inl i ↦ inr (subst (λ z. Contains z b) (sym p) (subst (λ z. Contains (x.pending ++ a ∷ []) z) (same ∙ sym i.1) (push_last x.pending a)))
       | inr i ↦ inl (l.others b i.1)
     ];
@@ -94,18 +94,18 @@ lifted_raises k goal x y n a l m less p same d e = record {
   last = e;
 }
 
--- settled members are right behind the lifted front
-pub lifted_behind : (s : Trace) (slots : ℕ → Option ℕ) (front new : ℕ → ℕ) (goal next : Goal) (old members : List Member) →
-    IsLifted front new goal.slot next.count → AreUpTo s slots front goal old → AreMoved goal.slot old members → IsSettled s slots goal members next →
+-- Advanced members are right after the raised front.
+pub lifted_behind : (s : Trace) (slots : ℕ → Option ℕ) (front new : ℕ → ℕ) (prefix next : ThreadPrefix) (old members : List Member) →
+    IsLifted front new prefix.slot next.count → AreUpTo s slots front prefix old → AreMoved prefix.slot old members → AreAdvanced s slots prefix members next →
     Each (IsMember s slots) members → AreAtFront s slots new members
-lifted_behind s slots front new goal next old members l upto moved settled each = record {
+lifted_behind s slots front new prefix next old members l upto moved advanced each = record {
   each = each;
-  at = λ i y h. elim (eqb_tells y.slot goal.slot) [
-    | inl e ↦ settled.at i y h (e.1 ∙ sym settled.slot) ∙ sym l.here ∙ ap new (sym e.1)
+  at = λ i y h. elim (eqb_tells y.slot prefix.slot) [
+    | inl e ↦ advanced.at i y h (e.1 ∙ sym advanced.slot) ∙ sym l.here ∙ ap new (sym e.1)
     | inr e ↦
         let (x, was) = at_index old i (omega (arith, slice_get_within members i y h, moved.same_length)) in
         let same = moved.same i x y was h in
-        let apart : x.slot ≢ goal.slot = λ z. e.1 (same.slot ∙ z) in
+        let apart : x.slot ≢ prefix.slot = λ z. e.1 (same.slot ∙ z) in
         let is : x ≡ y = moved.others i x y was h apart in
         let at : x.number ≡ front x.slot = upto.others i x was apart in
         subst (λ z. z.number ≡ new z.slot) is (at ∙ sym (l.others x.slot apart))
@@ -122,21 +122,21 @@ lifted_bound s slots front new a n old members set l b (ahead, holds) = record {
   ];
 }
 
--- a goal of some place has a slot
-pub goal_slot : (s : Trace) (slots : ℕ → Option ℕ) (count : ℕ) (goal : Goal) → AreSlots s slots count → HasFirst s slots goal.slot goal.count → 0 < goal.count →
-    goal.slot < count
-goal_slot s slots count goal known has l =
+-- The prefix of a place has a slot.
+pub prefix_slot : (s : Trace) (slots : ℕ → Option ℕ) (count : ℕ) (prefix : ThreadPrefix) → AreSlots s slots count → HasFirst s slots prefix.slot prefix.count → 0 < prefix.count →
+    prefix.slot < count
+prefix_slot s slots count prefix known has l =
     let (p, x) = has 0 l in
-    let (t, o) = known.of_place p goal.slot x.slot in
+    let (t, o) = known.of_place p prefix.slot x.slot in
     let (a, e, less) = known.each p t o in
-    omega (arith, less, same_Some a goal.slot (sym e ∙ x.slot))
+    omega (arith, less, same_Some a prefix.slot (sym e ∙ x.slot))
 
--- what a layer says of one sheet alone
-abbrev pub done_in : Layer → Sheet ℕ → ℕ → ℕ
-done_in under sheet a = unwrap_or (at sheet a) (unwrap_or (at under.done a) 0)
+-- An overlay of which one array changed.
+abbrev pub done_in : Overlay → EpochArray ℕ → ℕ → ℕ
+done_in under epoch_array a = unwrap_or (at epoch_array a) (unwrap_or (at under.done a) 0)
 
-abbrev pub last_in : Layer → Sheet Section → ℕ → Option Section
-last_in under sheet l = first_some (at sheet l) (at under.last l)
+abbrev pub last_in : Overlay → EpochArray Section → ℕ → Option Section
+last_in under epoch_array l = first_some (at epoch_array l) (at under.last l)
 
-abbrev pub front_in : Layer → Sheet ℕ → ℕ → ℕ
-front_in under sheet a = unwrap_or (at sheet a) (unwrap_or (at under.fronts a) 0)
+abbrev pub front_in : Overlay → EpochArray ℕ → ℕ → ℕ
+front_in under epoch_array a = unwrap_or (at epoch_array a) (unwrap_or (at under.fronts a) 0)

@@ -1,27 +1,27 @@
--- The work ends, and what is popped was met.
+-- The propagation ends, and a popped slot has no unprocessed requirement.
 use Rattle.std.proofs.Common.{◌≡◌, ℕ, zero, suc, ◌+◌, ◌-◌, ◌*◌, ◌<◌, ◌≤◌, inl, inr, List, [], ◌∷◌, ◌++◌, length, take, slice_get, Option, Some, None, refl, sym, ap, subst, ◌∙◌, arith}
 use Rattle.std.specs.List.{Contains}
 use Rattle.std.specs.Option.{option_map_or, option_and_then}
 use Rattle.std.proofs.lemmas.Option.{none-some, same_Some, slice_get_within}
 use Rattle.trace_model.proofs.Lists.{at_index}
 use Rattle.fronts.specs.declared.members.Member.{Member}
-use Rattle.fronts.specs.declared.demands.Item.{Item}
-use Rattle.fronts.specs.declared.demands.Demands.{Demands}
-use Rattle.fronts.specs.Layers.{Changes}
-use Rattle.fronts.specs.Demands.{item_at}
-use Rattle.fronts.specs.Work.{State, IsOnWay, AreKnownSlots, AreSame, sum_to}
+use Rattle.fronts.specs.declared.requirements.Item.{Item}
+use Rattle.fronts.specs.declared.requirements.Requirements.{Requirements}
+use Rattle.fronts.specs.Overlays.{Changes}
+use Rattle.fronts.specs.Requirements.{item_at}
+use Rattle.fronts.specs.Propagation.{State, IsConsistent, AreKnownSlots, AreSame, sum_to}
 use Rattle.fronts.proofs.GrowingLemmas.{push_cases, push_kept}
 use Rattle.fronts.proofs.RaiseLemmas.{sum_changes}
 
--- how many items the slot has
-pub items_of : Demands → ℕ → ℕ
+-- The number of items of the slot.
+pub items_of : Requirements → ℕ → ℕ
 items_of d a = option_map_or (λ xs. length xs.items) (slice_get d.items.items a) 0
 
--- how many are not met
-pub undone : Demands → (ℕ → ℕ) → ℕ → ℕ
+-- The number of unprocessed items.
+pub undone : Requirements → (ℕ → ℕ) → ℕ → ℕ
 undone d done n = sum_to (λ a. items_of d a - done a) n
 
-item_within : (d : Demands) (a j : ℕ) (i : Item) → item_at d a j ≡ Some i → j < items_of d a
+item_within : (d : Requirements) (a j : ℕ) (i : Item) → item_at d a j ≡ Some i → j < items_of d a
 unfolding items_of
 item_within d a j i h = go (slice_get d.items.items a) refl h
   where
@@ -29,7 +29,7 @@ item_within d a j i h = go (slice_get d.items.items a) refl h
     go None e k = absurd (none-some i k)
     go (Some xs) e k = slice_get_within xs.items j i k
 
-pub less_undone : (d : Demands) (old new : ℕ → ℕ) (a n : ℕ) (i : Item) → a < n → item_at d a (old a) ≡ Some i → Changes old a (old a + 1) new →
+pub less_undone : (d : Requirements) (old new : ℕ → ℕ) (a n : ℕ) (i : Item) → a < n → item_at d a (old a) ≡ Some i → Changes old a (old a + 1) new →
     suc (undone d new n) ≡ undone d old n
 unfolding undone
 less_undone d old new a n i l at c =
@@ -58,10 +58,10 @@ popped xs ys a e n = last_taken xs ys a e n
 pub pop_known : (k : ℕ) (xs ys : List ℕ) (a : ℕ) → xs ≡ ys ++ a ∷ [] → AreKnownSlots k xs → AreKnownSlots k ys
 pop_known k xs ys a e known b c = known b (subst (λ z. Contains z b) (sym e) (push_kept ys a b c))
 
-pub pop_on_way : (items : ℕ → ℕ → Option Item) (x y : State) (a : ℕ) → IsOnWay items x → x.pending ≡ y.pending ++ a ∷ [] →
+pub pop_consistent : (items : ℕ → ℕ → Option Item) (x y : State) (a : ℕ) → IsConsistent items x → x.pending ≡ y.pending ++ a ∷ [] →
     ((b : ℕ) → y.front b ≡ x.front b) → ((b : ℕ) → y.done b ≡ x.done b) → ((l : ℕ) → y.last l ≡ x.last l) →
-    ((j : ℕ) (i : Item) → items a j ≡ Some i → i.number < x.front a → j < x.done a) → IsOnWay items y
-pop_on_way items x y a w e f d l none = record {
+    ((j : ℕ) (i : Item) → items a j ≡ Some i → i.number < x.front a → j < x.done a) → IsConsistent items y
+pop_consistent items x y a w e f d l none = record {
   inside = λ b j i h k. omega (arith, w.inside b j i h (omega (arith, k, d b)), f b);
   reached = λ b j n g h k. omega (arith, w.reached b j n g h (omega (arith, k, d b)), f g.slot);
   lasts = λ m c h.
@@ -76,7 +76,7 @@ pop_on_way items x y a w e f d l none = record {
           | inr z ↦ inr (z.0, omega (arith, z.1, f c.end.slot))
         ],
       );
-  owed = λ b j i h k. elim (w.owed b j i h (omega (arith, k, f b))) [
+  queued = λ b j i h k. elim (w.queued b j i h (omega (arith, k, f b))) [
     | inl z ↦ inl (omega (arith, z, d b))
     | inr c ↦ elim (push_cases y.pending a b (subst (λ z. Contains z b) e c)) [
       | inl z ↦ inr z

@@ -8,7 +8,7 @@ use Rattle.trace_model.specs.Theory.Closure.{ascending}
 use Rattle.trace_model.proofs.Lists.{at_index}
 use Rattle.trace_index.specs.Numbers.{of_thread, earlier_events, number_at}
 use Rattle.segments.proofs.Counting.{length_ascending}
-use Rattle.fronts.specs.Slots.{AreSlots, Stands, in_front, HasFirst}
+use Rattle.fronts.specs.Slots.{AreSlots, HasPosition, in_front, HasFirst}
 use Rattle.fronts.proofs.Counts.{count_lt}
 use Rattle.fronts.proofs.FrontLemmas.{earlier_lt, of_thread_from, lt_true, lt_so}
 use Rattle.fronts.proofs.ThreadLemmas.{numbered_at, place_below}
@@ -19,10 +19,10 @@ number_of s p t (o, h) = rw h refl
 pub number_is : (s : Trace) (p t n : ℕ) → OfThread s p t → number_at s p ≡ Some n → earlier_events s t p ≡ n
 number_is s p t n o h = same_Some (earlier_events s t p) n (sym (number_of s p t o) ∙ h)
 
--- of two places of a thread, the one with the less number is earlier
-pub stands_before : (s : Trace) (slots : ℕ → Option ℕ) (count p q a n m : ℕ) → AreSlots s slots count →
-    Stands s slots p a n → Stands s slots q a m → n < m → EarlierInThread s p q
-stands_before s slots count p q a n m k x y l =
+-- Of two places of a thread, the one with the lower number is earlier.
+pub position_before : (s : Trace) (slots : ℕ → Option ℕ) (count p q a n m : ℕ) → AreSlots s slots count →
+    HasPosition s slots p a n → HasPosition s slots q a m → n < m → EarlierInThread s p q
+position_before s slots count p q a n m k x y l =
     let (t, o) = k.of_place p a x.slot in
     let u = k.apart p q a t x.slot y.slot o in
     let np = number_is s p t n o x.number in
@@ -41,27 +41,27 @@ stands_before s slots count p q a n m k x y l =
       ],
     )
 
-pub before_stands : (s : Trace) (slots : ℕ → Option ℕ) (count p q a n m : ℕ) → AreSlots s slots count →
-    Stands s slots p a n → Stands s slots q a m → p < q → n < m
-before_stands s slots count p q a n m k x y l =
+pub before_position : (s : Trace) (slots : ℕ → Option ℕ) (count p q a n m : ℕ) → AreSlots s slots count →
+    HasPosition s slots p a n → HasPosition s slots q a m → p < q → n < m
+before_position s slots count p q a n m k x y l =
     let (t, o) = k.of_place p a x.slot in
     let u = k.apart p q a t x.slot y.slot o in
     omega (arith, earlier_lt s t p q o l, number_is s p t n o x.number, number_is s q t m u y.number)
 
--- a place of the thread stands at its number
-pub standing : (s : Trace) (slots : ℕ → Option ℕ) (count p a t : ℕ) → slots p ≡ Some a → OfThread s p t → Stands s slots p a (earlier_events s t p)
-standing s slots count p a t e o = record { slot = e; number = number_of s p t o }
+-- A place of the thread has the position of its number.
+pub position_of : (s : Trace) (slots : ℕ → Option ℕ) (count p a t : ℕ) → slots p ≡ Some a → OfThread s p t → HasPosition s slots p a (earlier_events s t p)
+position_of s slots count p a t e o = record { slot = e; number = number_of s p t o }
 
--- the earlier one of the thread has the same slot and a less number
-pub earlier_stands : (s : Trace) (slots : ℕ → Option ℕ) (count p q a m : ℕ) → AreSlots s slots count → Stands s slots q a m → EarlierInThread s p q →
-    (n : ℕ) × Stands s slots p a n × (n < m)
-earlier_stands s slots count p q a m k y (t, o, u, l) =
+-- An earlier place of the thread has the same slot and a lower number.
+pub earlier_position : (s : Trace) (slots : ℕ → Option ℕ) (count p q a m : ℕ) → AreSlots s slots count → HasPosition s slots q a m → EarlierInThread s p q →
+    (n : ℕ) × HasPosition s slots p a n × (n < m)
+earlier_position s slots count p q a m k y (t, o, u, l) =
     let e : slots p ≡ Some a = k.alike q p a t y.slot u o in
-    let x = standing s slots count p a t e o in
-    (earlier_events s t p, x, before_stands s slots count p q a (earlier_events s t p) m k x y l)
+    let x = position_of s slots count p a t e o in
+    (earlier_events s t p, x, before_position s slots count p q a (earlier_events s t p) m k x y l)
 
--- there is a place for each number less than that of a place
-pub has_before : (s : Trace) (slots : ℕ → Option ℕ) (count q a m : ℕ) → AreSlots s slots count → Stands s slots q a m → HasFirst s slots a m
+-- There is a place for each lower number.
+pub has_before : (s : Trace) (slots : ℕ → Option ℕ) (count q a m : ℕ) → AreSlots s slots count → HasPosition s slots q a m → HasFirst s slots a m
 has_before s slots count q a m k y n l =
     let (t, u) = k.of_place q a y.slot in
     let e = number_is s q t m u y.number in
@@ -72,31 +72,31 @@ has_before s slots count q a m k y n l =
     let is = numbered_at s t n p h in
     (p, record { slot = k.alike q p a t y.slot u is.0; number = number_of s p t is.0 ∙ ap Some is.1 })
 
--- also the place itself
-pub has_upto : (s : Trace) (slots : ℕ → Option ℕ) (count q a m : ℕ) → AreSlots s slots count → Stands s slots q a m → HasFirst s slots a (suc m)
+-- The same, including the place itself.
+pub has_upto : (s : Trace) (slots : ℕ → Option ℕ) (count q a m : ℕ) → AreSlots s slots count → HasPosition s slots q a m → HasFirst s slots a (suc m)
 has_upto s slots count q a m k y n l = elim (cases_lt n m) [
   | inl less ↦ has_before s slots count q a m k y n less
-  | inr not ↦ let e : m ≡ n = omega (arith, l, not) in (q, subst (Stands s slots q a) e y)
+  | inr not ↦ let e : m ≡ n = omega (arith, l, not) in (q, subst (HasPosition s slots q a) e y)
 ]
 
-pub in_front_at : (s : Trace) (slots : ℕ → Option ℕ) (front : ℕ → ℕ) (p a n : ℕ) → Stands s slots p a n → in_front s slots front p ≡ nat_lt n (front a)
+pub in_front_at : (s : Trace) (slots : ℕ → Option ℕ) (front : ℕ → ℕ) (p a n : ℕ) → HasPosition s slots p a n → in_front s slots front p ≡ nat_lt n (front a)
 in_front_at s slots front p a n x = rw (x.slot, x.number) refl
 
-pub in_front_from : (s : Trace) (slots : ℕ → Option ℕ) (front : ℕ → ℕ) (p a n : ℕ) → Stands s slots p a n → n < front a → in_front s slots front p ≡ true
+pub in_front_from : (s : Trace) (slots : ℕ → Option ℕ) (front : ℕ → ℕ) (p a n : ℕ) → HasPosition s slots p a n → n < front a → in_front s slots front p ≡ true
 in_front_from s slots front p a n x l = in_front_at s slots front p a n x ∙ lt_true n (front a) l
 
 pub in_front_so : (s : Trace) (slots : ℕ → Option ℕ) (front : ℕ → ℕ) (p : ℕ) → in_front s slots front p ≡ true →
-    (a : ℕ) × (n : ℕ) × Stands s slots p a n × (n < front a)
+    (a : ℕ) × (n : ℕ) × HasPosition s slots p a n × (n < front a)
 in_front_so s slots front p h = go (slots p) (number_at s p) refl refl h
   where
     go : (a : Option ℕ) (n : Option ℕ) → slots p ≡ a → number_at s p ≡ n →
         option_map_or (λ a. option_map_or (λ n. nat_lt n (front a)) n false) a false ≡ true →
-        (a : ℕ) × (n : ℕ) × Stands s slots p a n × (n < front a)
+        (a : ℕ) × (n : ℕ) × HasPosition s slots p a n × (n < front a)
     go None n e f k = absurd (false≢true k)
     go (Some a) None e f k = absurd (false≢true k)
     go (Some a) (Some n) e f k = (a, n, record { slot = e; number = f }, lt_so n (front a) k)
 
-pub has_number : (s : Trace) (slots : ℕ → Option ℕ) (count p a : ℕ) → AreSlots s slots count → slots p ≡ Some a → (n : ℕ) × Stands s slots p a n
+pub has_number : (s : Trace) (slots : ℕ → Option ℕ) (count p a : ℕ) → AreSlots s slots count → slots p ≡ Some a → (n : ℕ) × HasPosition s slots p a n
 has_number s slots count p a k e =
     let (t, o) = k.of_place p a e in
-    (earlier_events s t p, standing s slots count p a t e o)
+    (earlier_events s t p, position_of s slots count p a t e o)

@@ -1,17 +1,17 @@
--- Work that is carried from one stage to another.
+-- Propagations that are carried from one stage to another.
 use Rattle.std.proofs.Common.{◌≡◌, ℕ, ◌+◌, Bool, true, List, Result, Ok, refl, sym, ap, subst, ◌∙◌}
 use Rattle.std.proofs.lemmas.Option.{same_Some}
 use Rattle.std.proofs.lemmas.Result.{IfOk-weaker}
 use Rattle.trace_model.specs.Theory.Closure.{Places}
-use Rattle.fronts.specs.declared.layer.Layer.{Layer}
-use Rattle.fronts.specs.declared.work.Ground.{Ground}
-use Rattle.fronts.specs.declared.work.Work.{Work}
+use Rattle.fronts.specs.declared.overlay.Overlay.{Overlay}
+use Rattle.fronts.specs.declared.propagation.Context.{Context}
+use Rattle.fronts.specs.declared.propagation.Propagation.{Propagation}
 use Rattle.fronts.specs.declared.members.Member.{Member}
-use Rattle.fronts.specs.Sheets.{size}
+use Rattle.fronts.specs.EpochArrays.{size}
 use Rattle.fronts.specs.Slots.{HasFronts}
 use Rattle.fronts.specs.Members.{AreMoved}
-use Rattle.fronts.specs.Work.{AreAtFront, AreSame, IsBound, sum_to}
-use Rattle.fronts.specs.Ground.{AreBehind, Bounds, Carries, Fits, IsReady, Stage, events_of, slots, stage, thread_count, total}
+use Rattle.fronts.specs.Propagation.{AreAtFront, AreSame, IsBound, sum_to, IsFit}
+use Rattle.fronts.specs.Context.{Carries, IsReady, Stage, events_of, slots, stage, thread_count, total, fronts}
 use Rattle.fronts.proofs.RaiseLemmas.{front_in}
 
 pub moved_same : (slot : ℕ) (old new : List Member) → AreMoved slot old new → AreSame old new
@@ -20,21 +20,21 @@ moved_same slot old new moved = record { same_length = moved.same_length; places
 pub same_members : (members : List Member) → AreSame members members
 same_members members = record { same_length = refl; places = λ i x y h k. ap (λ m. m.places) (same_Some y x (sym k ∙ h)) }
 
--- with nothing done the work goes on
-pub carries_here : {E : Type 0} (g : Ground) (Needed : Places → Type 0) (w : Work) (members : List Member) (n : ℕ) → Fits g w → AreBehind g w members →
+-- Without a change the propagation continues.
+pub carries_here : {E : Type 0} (g : Context) (Needed : Places → Type 0) (w : Propagation) (members : List Member) (n : ℕ) → IsFit (events_of g) g.requirements.now g.under.now w → AreAtFront (events_of g) (slots g) (fronts g w) members →
     Carries {E = E} g Needed (stage w members n) (stage w members n) (Ok true)
 carries_here g Needed w members n fits behind = record {
   fits = fits;
   steps = refl;
   same = same_members members;
   behind = λ is. behind;
-  bound = λ set b need. (refl, b);
+  bound = λ set b requirement. (refl, b);
 }
 
--- with the same fronts, and room for as much, the work is as ready
-pub ready_same : (gr : Ground) (w : Work) (members : List Member) (layer : Layer) → IsReady gr w members → layer.fronts ≡ w.layer.fronts → size layer.done ≡ size w.layer.done →
-    size layer.last ≡ size w.layer.last → IsReady gr (record { layer = layer; pending = w.pending }) members
-ready_same gr w members layer ready fronts done last =
+-- With the same fronts and the same memory, the propagation is still ready.
+pub ready_same : (gr : Context) (w : Propagation) (members : List Member) (overlay : Overlay) → IsReady gr w members → overlay.fronts ≡ w.overlay.fronts → size overlay.done ≡ size w.overlay.done →
+    size overlay.last ≡ size w.overlay.last → IsReady gr (record { overlay = overlay; pending = w.pending }) members
+ready_same gr w members overlay ready fronts done last =
     let s = gr.index.now.events in
     let under = gr.under.now in
     record {
@@ -45,20 +45,20 @@ ready_same gr w members layer ready fronts done last =
           done = done ∙ ready.fits.room.done;
           last = last ∙ ready.fits.room.last;
         };
-        fronts = subst (λ sheet. HasFronts s (slots gr) (front_in under sheet)) (sym fronts) ready.fits.fronts;
+        fronts = subst (λ epoch_array. HasFronts s (slots gr) (front_in under epoch_array)) (sym fronts) ready.fits.fronts;
       };
-      behind = subst (λ sheet. AreAtFront s (slots gr) (front_in under sheet) members) (sym fronts) ready.behind;
+      behind = subst (λ epoch_array. AreAtFront s (slots gr) (front_in under epoch_array) members) (sym fronts) ready.behind;
     }
 
--- from work with the same fronts, where what is needed follows
-pub carries_from : {E : Type 0} (g : Ground) (Needed More : Places → Type 0) (w mid : Work) (members : List Member) (n : ℕ) (new : Stage) (result : Result Bool E) →
-    mid.layer.fronts ≡ w.layer.fronts → ((set : Places) → Bounds g w members set → More set → Needed set) →
+-- From a propagation with the same fronts, if the needed property follows.
+pub carries_from : {E : Type 0} (g : Context) (Needed More : Places → Type 0) (w mid : Propagation) (members : List Member) (n : ℕ) (new : Stage) (result : Result Bool E) →
+    mid.overlay.fronts ≡ w.overlay.fronts → ((set : Places) → IsBound (events_of g) (slots g) (fronts g w) members set → More set → Needed set) →
     Carries g Needed (stage mid members n) new result → Carries g More (stage w members n) new result
 carries_from g Needed More w mid members n new result same needs c = record {
   fits = c.fits;
-  steps = subst (λ sheet. new.steps + sum_to (front_in g.under.now sheet) (thread_count g) ≡ n + total g new.work) same c.steps;
+  steps = subst (λ epoch_array. new.steps + sum_to (front_in g.under.now epoch_array) (thread_count g) ≡ n + total g new.propagation) same c.steps;
   same = c.same;
   behind = c.behind;
   bound = IfOk-weaker result _ _ (λ goes on set b more.
-      on set (subst (λ sheet. IsBound (events_of g) (slots g) (front_in g.under.now sheet) members set) (sym same) b) (needs set b more)) c.bound;
+      on set (subst (λ epoch_array. IsBound (events_of g) (slots g) (front_in g.under.now epoch_array) members set) (sym same) b) (needs set b more)) c.bound;
 }

@@ -13,7 +13,7 @@ use Rattle.fronts.specs.Threads.{IsNumbered, IsLastOf}
 use Rattle.fronts.proofs.Counts.{count_lt}
 use Rattle.fronts.proofs.FrontLemmas.{of_thread_from, of_thread_so}
 
--- a place is listed at its number
+-- A place is listed at its number.
 listed_at : (f : Places) (n k q : ℕ) → slice_get (ascending f n) k ≡ Some q → count_below f q ≡ k
 listed_at f zero k q h = absurd (none-some q h)
 listed_at f (suc n) k q h = go (listed_at f n k q) (f n) h

@@ -1,12 +1,12 @@
 pub mod Threads
 pub mod State
-pub mod Sheets
+pub mod EpochArrays
 pub mod Slots
 pub mod Members
-pub mod Layers
-pub mod Demands
-pub mod Work
-pub mod Ground
+pub mod Overlays
+pub mod Requirements
+pub mod Propagation
+pub mod Context
 pub mod Classes
 pub mod Firsts
 pub mod Pushing

@@ -4,53 +4,53 @@ use Rattle.std.specs.List.{Contains}
 use Rattle.std.specs.List.Sorted.{IsStrictlyIncreasing}
 use Rattle.trace_model.specs.Theory.Trace.{Trace, EarlierInThread}
 use Rattle.trace_model.specs.Theory.Closure.{Places, IsClosed}
-use Rattle.fronts.specs.declared.demands.Goal.{Goal}
+use Rattle.fronts.specs.declared.requirements.ThreadPrefix.{ThreadPrefix}
 use Rattle.fronts.specs.declared.members.Member.{Member}
-use Rattle.fronts.specs.Slots.{Stands, HasPlaces}
+use Rattle.fronts.specs.Slots.{HasPosition, HasPlaces}
 
--- each element, with its index
+-- Each element has the property.
 abbrev pub Each : {X : Type 0} → (X → Type 0) → List X → Type 0
 Each P xs = (i : ℕ) (x : _) → slice_get xs i ≡ Some x → P x
 
--- the member is at one of its places, which are all of one thread
+-- The member is at one of its places, which are all of one thread.
 pub record IsMember (s : Trace) (slots : ℕ → Option ℕ) (m : Member) : Type 0 where
   pub at : slice_get m.places m.entry ≡ Some m.place
-  pub stands : Stands s slots m.place m.slot m.number
+  pub positions : HasPosition s slots m.place m.slot m.number
   pub thread : (q : ℕ) → Contains m.places q → slots q ≡ Some m.slot
 
--- the set holds all that stands before the place in its thread, and not the place
+-- The set contains all places before this one in its thread, and not the place itself.
 pub record StopsAt (s : Trace) (set : Places) (q : ℕ) : Type 0 where
   pub before : (u : ℕ) → EarlierInThread s u q → IsTrue (set u)
   pub out : set q ≡ false
 
--- the set stops at one of the member's places
+-- The set stops at one of the member's places.
 abbrev pub Stops : Trace → Places → Member → Type 0
 Stops s set m = (q : ℕ) × Contains m.places q × StopsAt s set q
 
--- the set stops at one of the places
+-- The set stops at one of the places.
 abbrev pub StopsIn : Trace → List ℕ → Places → Type 0
 StopsIn s places set = (q : ℕ) × Contains places q × StopsAt s set q
 
--- the places of each member's dependency
+-- The places of each member's dependency.
 abbrev pub lists : List Member → List (List ℕ)
 lists members = map (λ m. m.places) members
 
--- the member is not past a place at which the set stops
+-- The member is at or before each of its places at which the set stops.
 abbrev pub IsNotPast : Trace → Places → Member → Type 0
 IsNotPast s set m = (q : ℕ) → Contains m.places q → StopsAt s set q → m.place ≤ q
 
--- a closed set that stops at a place of each member, none of which is past it
+-- A closed set that stops at a place of each member, where no member is past that place.
 pub record IsAhead (s : Trace) (members : List Member) (set : Places) : Type 0 where
   pub closed : IsClosed s set
   pub stops : Each (Stops s set) members
   pub not_past : Each (IsNotPast s set) members
 
--- the same member, perhaps at a later place
+-- The same member, perhaps at a later place.
 pub record IsSameMember (old new : Member) : Type 0 where
   pub places : new.places ≡ old.places
   pub slot : new.slot ≡ old.slot
 
--- the same members, of which those of other slots stay
+-- The same members; those of other slots did not move.
 pub record AreMoved (slot : ℕ) (old new : List Member) : Type 0 where
   pub same_length : length new ≡ length old
   pub same : (i : ℕ) (x y : Member) → slice_get old i ≡ Some x → slice_get new i ≡ Some y →
@@ -58,19 +58,20 @@ pub record AreMoved (slot : ℕ) (old new : List Member) : Type 0 where
   pub others : (i : ℕ) (x y : Member) → slice_get old i ≡ Some x → slice_get new i ≡ Some y →
       x.slot ≢ slot → x ≡ y
 
--- a member of the slot is at no more places than counted
+-- A member of the slot has a number of at most `count`.
 abbrev pub IsWithinCount : ℕ → ℕ → Member → Type 0
 IsWithinCount slot count m = m.slot ≡ slot → m.number ≤ count
 
+-- A member of the slot has this number.
 abbrev pub IsAtCount : ℕ → ℕ → Member → Type 0
 IsAtCount slot count m = m.slot ≡ slot → m.number ≡ count
 
--- how far the members are from their last places
+-- The total number of places after the members.
 abbrev pub steps_left : List Member → ℕ
 steps_left [] = 0
 steps_left (m ∷ ms) = (length m.places - m.entry) + steps_left ms
 
--- the member went to the next of its places, or is at the last one
+-- The member advanced to its next place, or is at its last one.
 pub record Advances (s : Trace) (slots : ℕ → Option ℕ) (moves : Bool)
     (old new : Member) : Type 0 where
   pub same : IsSameMember old new
@@ -79,15 +80,16 @@ pub record Advances (s : Trace) (slots : ℕ → Option ℕ) (moves : Bool)
   pub last : moves ≡ false → (length old.places ≤ old.entry + 1) × (new ≡ old)
   pub ascends : IsStrictlyIncreasing old.places
 
--- the members of the slot are right at the new goal, which has no fewer places
-pub record IsSettled (s : Trace) (slots : ℕ → Option ℕ) (goal : Goal) (members : List Member)
-    (new : Goal) : Type 0 where
-  pub slot : new.slot ≡ goal.slot
-  pub more : goal.count ≤ new.count
+-- The members of the slot are right after the new prefix, which is not shorter.
+pub record AreAdvanced (s : Trace) (slots : ℕ → Option ℕ) (prefix : ThreadPrefix)
+    (members : List Member)
+    (new : ThreadPrefix) : Type 0 where
+  pub slot : new.slot ≡ prefix.slot
+  pub more : prefix.count ≤ new.count
   pub has : HasPlaces s slots new
   pub at : Each (IsAtCount new.slot new.count) members
 
--- the member at k became another one, as the fact tells
+-- Member `k` changed as the relation says.
 pub record HasMoved (Moves : Member → Member → Type 0) (old : List Member) (k : ℕ)
     (new : List Member) : Type 0 where
   pub x : Member
@@ -96,7 +98,7 @@ pub record HasMoved (Moves : Member → Member → Type 0) (old : List Member) (
   pub new_at : new ≡ slice_set old k y
   pub advances : Moves x y
 
--- the member at k went to its next place, which has the number; with none it is at the last one
+-- Member `k` advanced to its next place, which has this number; or it is at its last place.
 abbrev pub MovesTo : (Bool → Member → Member → Type 0) → List Member → ℕ → List Member →
     Option ℕ → Type 0
 MovesTo Moves old k new number = MatchOption number (HasMoved (Moves false) old k new)

@@ -1,13 +1,13 @@
-//! How many events of each thread are in.
+//! Fronts: the number of included places of each thread.
 
 ghost use Rattle.std.specs.Prelude.{◌≡◌, ℕ, ◌+◌, ◌^◌, ◌<◌, ◌≤◌, max, IfOk};
 ghost use Rattle.std.specs.List.{Contains};
-ghost use Rattle.fronts.specs.Layers.{front_of};
+ghost use Rattle.fronts.specs.Overlays.{front_of};
 ghost use Rattle.fronts.specs.State.{count_of};
 
-use crate::demands::Goal;
-use crate::layer::Layer;
 use crate::members::greater;
+use crate::overlay::Overlay;
+use crate::requirements::ThreadPrefix;
 use crate::steps::Steps;
 use std::alloc::Global;
 use std::marker::Model;
@@ -15,9 +15,8 @@ use std::sync::Arc;
 use std::sync::ledger::Ledger;
 use trace_model::{NoMemory, Place};
 
-/// How many events of a thread are in.
-///
-/// It grows only by one call, which takes one place and adds one to a count of `Steps`.
+/// The number of included places of one thread. It grows only by one call, which includes one place
+/// and adds one to a count of [`Steps`].
 #[derive(Clone, Copy)]
 pub struct Front {
     count: u32,
@@ -34,21 +33,21 @@ impl Model for Front {
 }
 
 impl Front {
-    /// Nothing is in.
+    /// Returns a front that includes no place.
     pub(crate) fn new() -> Front
         ensures { result ≡ 0 }
     {
         Front { count: 0 }
     }
 
-    /// How many are in.
+    /// Returns the number of included places.
     pub fn count(self) -> u32
         ensures { result ≡ self }
     {
         self.count
     }
 
-    /// Takes in the next place of the thread.
+    /// Includes the next place of the thread.
     fn take<L: Ledger>(&mut self, steps: &mut Steps<L>)
         requires { self.old + 1 < 2 ^ 32 }
         ensures front { self.new ≡ self.old + 1 }
@@ -58,7 +57,7 @@ impl Front {
         self.count += 1;
     }
 
-    /// With the thread's next places in, up to this many.
+    /// Returns the front with the thread's next places included, up to `count` places.
     pub(crate) fn raised<L: Ledger>(self, count: u32, steps: &mut Steps<L>) -> Front
         ensures front { result ≡ max self count }
         ensures steps { steps.new + self ≡ steps.old + result }
@@ -71,11 +70,10 @@ impl Front {
     }
 }
 
-/// A set of places that holds, of each thread, its first events up to some number, all before some
-/// place.
+/// A set of places that contains a prefix of each thread, all before some place.
 #[derive(Drop)]
 pub struct Fronts {
-    pub(crate) stands: Arc<Vec<Goal>, Global>,
+    pub(crate) positions: Arc<Vec<ThreadPrefix>, Global>,
     pub(crate) counts: Vec<Front>,
     pub(crate) end: u32,
 }
@@ -86,6 +84,7 @@ impl Fronts {
     ghost use Rattle.fronts.specs.Slots.{among};
     ghost use Rattle.fronts.specs.State.{count_of, places_in};
 
+    /// Returns the number of included places of the thread with this slot.
     fn count(&self, slot: u32) -> u32
         ensures { result ≡ count_of self.now slot }
     {
@@ -95,38 +94,41 @@ impl Fronts {
         }
     }
 
-    /// Whether the place is in; a place that is not in the trace is not. It takes no memory.
+    /// Returns whether `place` is in the set. A place past the end of the trace is not. Does not
+    /// allocate.
     pub fn has(&self, place: Place) -> bool
         ensures { result ≡ places_in self.now place }
     {
         place.get() < self.end && self.counts_in(place)
     }
 
-    /// A place that is not before any that is in. It takes no memory.
+    /// Returns a place that is greater than all places of the set. Does not allocate.
     pub fn end(&self) -> Place
         ensures { (p : ℕ) → IsTrue (places_in self.now p) → p < result }
     {
         Place::new(self.end)
     }
 
-    /// How many places are in, at most: a hint for who lists them. It takes no memory.
+    /// Returns an upper bound for the size of the set, as a hint for reserving memory. Does not
+    /// allocate.
     pub fn most(&self) -> usize {
         self.counts.iter().fold(0, |most: usize, front| {
             most.saturating_add(front.count() as usize)
         })
     }
 
+    /// Returns whether `place` is among the counted places of its thread.
     fn counts_in(&self, place: Place) -> bool
-        ensures { result ≡ among (arc_value self.now.stands).items (count_of self.now) place }
+        ensures { result ≡ among (arc_value self.now.positions).items (count_of self.now) place }
     {
-        match self.stands.get(place.get() as usize) {
-            Some(goal) => goal.count < self.count(goal.slot),
+        match self.positions.get(place.get() as usize) {
+            Some(prefix) => prefix.count < self.count(prefix.slot),
             None => false,
         }
     }
 }
 
-/// The greatest of the places.
+/// Returns the greatest of the places, or 0.
 fn greatest(places: &[Place]) -> u32
     ensures { (p : ℕ) → Contains places.now p → p ≤ result }
 {
@@ -137,30 +139,29 @@ fn greatest(places: &[Place]) -> u32
     greatest
 }
 
-/// The fronts of a layer over the one under it, as far as the greatest of the places.
+/// Returns the fronts of `overlay` over `under`, up to the greatest of `places`.
 ///
 /// # Errors
-///
-/// `NoMemory` where a growth was refused.
+/// `NoMemory` if an allocation fails.
 pub fn gathered(
     alloc: Global,
-    stands: Arc<Vec<Goal>, Global>,
-    under: &Layer,
-    layer: &Layer,
+    positions: Arc<Vec<ThreadPrefix>, Global>,
+    under: &Overlay,
+    overlay: &Overlay,
     count: u32,
     places: &[Place],
 ) -> Result<Fronts, NoMemory>
     ensures end { IfOk result (λ fronts. (p : ℕ) → Contains places.now p → p ≤ fronts.end) }
-    ensures stands { IfOk result (λ fronts. fronts.stands ≡ stands) }
+    ensures positions { IfOk result (λ fronts. fronts.positions ≡ positions) }
     ensures fronts { IfOk result (λ fronts. (a : ℕ) → a < count →
-        count_of fronts a ≡ front_of under.now layer.now a) }
+        count_of fronts a ≡ front_of under.now overlay.now a) }
 {
     let mut counts = Vec::with_capacity(alloc, count as usize)?;
     for slot in 0..count {
-        counts.push(layer.front(under, slot))?;
+        counts.push(overlay.front(under, slot))?;
     }
     Ok(Fronts {
-        stands,
+        positions,
         counts,
         end: greatest(places),
     })

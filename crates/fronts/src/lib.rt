@@ -1,25 +1,31 @@
-//! What closures of places of a trace are made of.
+//! The propagation on which closures of a trace are computed.
 //!
-//! A set of places is kept as one front for each thread, which only moves forward. Tables say once
-//! for a trace what its places demand: a front is raised over all places up to a demanded one, and
-//! their demands are met in turn. Members of a cycle stand behind the fronts of their threads, and
-//! move on as these are raised.
+//! A set of places that is closed under "earlier in the same thread" is one prefix of each thread.
+//! It is stored as one count for each thread, its front. The closure of some places is the least
+//! such set that also contains what its places require: writers of reads, forks, ends of joined
+//! threads, and releases of earlier sections on the same lock. [`Requirements`] lists once for a
+//! trace what each place requires. [`Propagation`] is a worklist algorithm: it raises the front of
+//! a thread to include a required place, adds the thread to the worklist, and repeats until a
+//! fixpoint is reached. Each front only grows.
+//!
+//! While fronts grow, [`Member`] pointers advance: each member of a cycle is the first place of its
+//! dependency that is not included. Start reading at `propagation.rt`.
 #![tactic(auto)]
 
 mod classes;
-mod demands;
+mod epoch_array;
 mod fronts;
-mod layer;
 mod members;
-mod sheet;
+mod overlay;
+mod propagation;
+mod requirements;
 mod steps;
 mod threads;
-mod work;
 
 pub use classes::Classes;
-pub use demands::{Demands, Goal, goal_before};
 pub use fronts::{Front, Fronts, gathered};
-pub use layer::Layer;
 pub use members::{Member, greater};
+pub use overlay::Overlay;
+pub use propagation::{Context, Propagation};
+pub use requirements::{Requirements, ThreadPrefix, prefix_before};
 pub use steps::Steps;
-pub use work::{Ground, Work};

@@ -1,41 +1,41 @@
-//! One pointer for each member of a cycle, into the places of its dependency.
+//! Pointers into the places of dependencies, one for each member of a cycle.
 
 ghost use Rattle.std.specs.Prelude.{◌≡◌, ℕ, ◌<◌, ◌≤◌, max, length, slice_get, Some, None, IfSome, MatchOption};
 ghost use Rattle.trace_model.specs.Theory.Closure.{Places};
 ghost use Rattle.fronts.specs.Slots.{slots_of, AreThreadSlots, HoldsFirst, HoldsPlaces, HasPlaces};
 ghost use Rattle.fronts.specs.declared.members.Member.{Member};
-ghost use Rattle.fronts.specs.Members.{Each, IsMember, IsAhead, AreMoved, IsWithinCount, Advances, MovesTo, IsSettled};
+ghost use Rattle.fronts.specs.Members.{Each, IsMember, IsAhead, AreMoved, IsWithinCount, Advances, MovesTo, AreAdvanced};
 
 use crate::classes::Classes;
-use crate::demands::Goal;
+use crate::requirements::ThreadPrefix;
 use segments::PlacesOf;
 use trace_index::TraceIndex;
 use trace_model::Place;
 
-/// The place at which a member is, with its thread's slot and its number there.
+/// A member of a cycle: the places of its dependency, and the current one of them.
 #[derive(Drop)]
 pub struct Member<'a> {
     /// The places of its dependency.
     pub places: PlacesOf<'a>,
-    /// Which of these it is at.
+    /// The index of the current place in `places`.
     pub entry: usize,
-    /// The place at which it is.
+    /// The current place.
     pub place: Place,
     /// The slot of the place's thread.
     pub slot: u32,
-    /// The place's number in its thread.
+    /// The number of the place in its thread.
     pub number: u32,
 }
 
-/// The first member of the goal's slot that is at fewer places than it counts.
-fn behind(members: &[Member<'_>], goal: Goal) -> Option<usize>
+/// Returns the index of the first member of the prefix's thread whose place is in the prefix.
+fn behind(members: &[Member<'_>], prefix: ThreadPrefix) -> Option<usize>
     ensures some { IfSome result (λ k. (m : Member) × (slice_get members.now k ≡ Some m)
-        × (m.slot ≡ goal.slot) × (m.number < goal.count)) }
+        × (m.slot ≡ prefix.slot) × (m.number < prefix.count)) }
     ensures none { result ≡ None →
-        Each (λ m. m.slot ≡ goal.slot → goal.count ≤ m.number) members.now }
+        Each (λ m. m.slot ≡ prefix.slot → prefix.count ≤ m.number) members.now }
 {
     for (k, member) in members.iter().enumerate() {
-        if member.slot == goal.slot && member.number < goal.count {
+        if member.slot == prefix.slot && member.number < prefix.count {
             return Some(k);
         }
     }
@@ -43,7 +43,7 @@ fn behind(members: &[Member<'_>], goal: Goal) -> Option<usize>
 }
 
 impl<'a> Member<'a> {
-    /// Goes to the next place of the dependency; false where there is none.
+    /// Advances to the next place of the dependency. Returns `false` if there is none.
     fn advance(&mut self, index: &TraceIndex, threads: &Classes) -> bool
         requires slots { AreThreadSlots index.now.events threads.now }
         requires member { IsMember index.now.events (slots_of threads.now) self.old }
@@ -63,7 +63,8 @@ impl<'a> Member<'a> {
     }
 }
 
-/// Moves one of the members to its next place, and gives its number; none where there is none.
+/// Advances member `k` to its next place and returns that place's number in its thread, or `None`
+/// if there is no next place.
 fn move_one(
     index: &TraceIndex,
     threads: &Classes,
@@ -84,39 +85,40 @@ fn move_one(
     }
 }
 
-/// The greater of two.
+/// Returns the greater of two numbers.
 pub fn greater(a: u32, b: u32) -> u32
     ensures { result ≡ max a b }
 {
     if a < b { b } else { a }
 }
 
-/// Moves the members of the slot past the goal; gives the goal that has in all that stands before
-/// them. None where a member has no further place.
-pub(crate) fn settle(
+/// Advances the members of the prefix's thread until none of them is in the prefix. If a member
+/// advances, the prefix is extended to end before it. Returns the resulting prefix, or `None` if a
+/// member has no further place.
+pub(crate) fn advance_members(
     index: &TraceIndex,
     threads: &Classes,
     members: &mut [Member<'_>],
-    goal: Goal,
-) -> Option<Goal>
+    prefix: ThreadPrefix,
+) -> Option<ThreadPrefix>
     requires slots { AreThreadSlots index.now.events threads.now }
     requires members { Each (IsMember index.now.events (slots_of threads.now)) members.old }
-    requires within { Each (IsWithinCount goal.slot goal.count) members.old }
-    requires has { HasPlaces index.now.events (slots_of threads.now) goal }
+    requires within { Each (IsWithinCount prefix.slot prefix.count) members.old }
+    requires has { HasPlaces index.now.events (slots_of threads.now) prefix }
     ensures members { Each (IsMember index.now.events (slots_of threads.now)) members.new }
-    ensures moved { AreMoved goal.slot members.old members.new }
-    ensures settled { IfSome result
-        (IsSettled index.now.events (slots_of threads.now) goal members.new) }
+    ensures moved { AreMoved prefix.slot members.old members.new }
+    ensures advanced { IfSome result
+        (AreAdvanced index.now.events (slots_of threads.now) prefix members.new) }
     ensures ahead { (set : Places) → IsAhead index.now.events members.old set →
-        HoldsPlaces index.now.events (slots_of threads.now) goal set →
+        HoldsPlaces index.now.events (slots_of threads.now) prefix set →
         MatchOption result ⊥ (λ new. IsAhead index.now.events members.new set
-        × HoldsFirst index.now.events (slots_of threads.now) set goal.slot new.count) }
+        × HoldsFirst index.now.events (slots_of threads.now) set prefix.slot new.count) }
 {
-    let mut count = goal.count;
+    let mut count = prefix.count;
     while let Some(k) = behind(
         members,
-        Goal {
-            slot: goal.slot,
+        ThreadPrefix {
+            slot: prefix.slot,
             count,
         },
     ) {
@@ -125,8 +127,8 @@ pub(crate) fn settle(
         };
         count = greater(count, number);
     }
-    Some(Goal {
-        slot: goal.slot,
+    Some(ThreadPrefix {
+        slot: prefix.slot,
         count,
     })
 }

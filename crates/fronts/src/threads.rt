@@ -7,7 +7,7 @@ ghost use Rattle.fronts.specs.Threads.{IsLastOf};
 use trace_index::TraceIndex;
 use trace_model::Place;
 
-/// The last place of the thread.
+/// Returns the last place of `thread`, or `None` if it has no place.
 pub(crate) fn last_place(index: &TraceIndex, thread: u32) -> Option<Place>
     ensures { MatchOption result ((p : ℕ) → OfThread index.now.events p thread → ⊥)
         (IsLastOf index.now.events thread) }

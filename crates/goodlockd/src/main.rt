@@ -1,13 +1,13 @@
-//! An online deadlock predictor: its command line, its files and its sockets.
+//! The program `goodlockd`: reads the command line and runs its command. `serve` is implemented here;
+//! the other commands are in the crate `commands`.
 #![tactic(auto)]
 
 ghost use Rattle.command_line.specs.CommandLine.{IsInRange, IsLimit, IsWithin};
 
 use command_line::{Invocation, parse, tell, words_of};
-use commands::{offline_file, replay_files};
-use outcomes::{Status, arguments, ended};
-use question_server::{ServerFault, Service, Unheld, run_server};
-use scripts::script_file;
+use commands::{Status, arguments, final_status, offline_file, replay_files, script_file};
+use findings::NoHold;
+use question_server::{ServerFault, Service, run_server};
 use std::alloc::AllocError;
 use std::hash::RandomState;
 use std::io;
@@ -17,13 +17,13 @@ use std::sync::Wait;
 use std::thread::Threads;
 use std::time::Clock;
 
-/// Tells that there is no listening at the address.
+/// Reports on standard error that the address cannot be listened on.
 fn cannot_listen(rt: &HostRuntime, address: &str) -> io::Result<Status> {
     eprintln!(rt; "cannot listen on {address}")?;
-    Ok(Status::Failed)
+    Ok(Status::Error)
 }
 
-/// A listener at the address, or none where there is no listening, which is then told.
+/// Returns a listener at the address, or `None` after an error message if there is none.
 fn listen(rt: &HostRuntime, address: &str) -> io::Result<Option<TcpListener>> {
     match TcpListener::bind(rt, address) {
         Ok(listener) => Ok(Some(listener)),
@@ -35,7 +35,7 @@ fn listen(rt: &HostRuntime, address: &str) -> io::Result<Option<TcpListener>> {
     }
 }
 
-/// Serves those who come to the listener, and tells how many sessions there were.
+/// Runs the server, and prints the number of sessions at its end.
 fn serve<T: Threads + Wait + Clock + Copy + Send + Sync>(
     rt: &HostRuntime,
     threads: T,
@@ -47,7 +47,7 @@ fn serve<T: Threads + Wait + Clock + Copy + Send + Sync>(
     requires workers { IsWithin 1 16 service.workers }
 {
     let state = RandomState::new(rt)?;
-    match run_server(threads, rt.alloc(), state, listener, service, &Unheld) {
+    match run_server(threads, rt.alloc(), state, listener, service, &NoHold) {
         Ok(sessions) => {
             println!(rt; "served {sessions}")?;
             Ok(Status::Done)
@@ -57,7 +57,7 @@ fn serve<T: Threads + Wait + Clock + Copy + Send + Sync>(
     }
 }
 
-/// Serves at the address, once its own was told.
+/// Listens on the address, prints the local address, and runs the server.
 fn serve_at<T: Threads + Wait + Clock + Copy + Send + Sync>(
     rt: &HostRuntime,
     threads: T,
@@ -68,14 +68,14 @@ fn serve_at<T: Threads + Wait + Clock + Copy + Send + Sync>(
     requires workers { IsWithin 1 16 service.workers }
 {
     let Some(listener) = listen(rt, address)? else {
-        return Ok(Status::Failed);
+        return Ok(Status::Error);
     };
     let local = listener.local_addr()?;
     println!(rt; "listening {local}")?;
     serve(rt, threads, address, &listener, service)
 }
 
-/// Does what is asked for.
+/// Runs a parsed command.
 fn carry_out<T: Threads + Wait + Clock + Copy + Send + Sync>(
     rt: &HostRuntime,
     threads: T,
@@ -103,7 +103,7 @@ fn carry_out<T: Threads + Wait + Clock + Copy + Send + Sync>(
     }
 }
 
-/// Does what the words ask for.
+/// Parses the words and runs their command.
 fn run_words<T: Threads + Wait + Clock + Copy + Send + Sync>(
     rt: &HostRuntime,
     threads: T,
@@ -119,7 +119,7 @@ fn run_words<T: Threads + Wait + Clock + Copy + Send + Sync>(
     }
 }
 
-/// Does what the command line asks for.
+/// Runs the command line.
 fn run<T: Threads + Wait + Clock + Copy + Send + Sync>(
     rt: &HostRuntime,
     threads: T,
@@ -130,5 +130,5 @@ fn run<T: Threads + Wait + Clock + Copy + Send + Sync>(
 }
 
 fn main(rt: HostRuntime) -> ExitCode {
-    ExitCode::from(ended(&rt, run(&rt, rt)).code())
+    ExitCode::from(final_status(&rt, run(&rt, rt)).code())
 }

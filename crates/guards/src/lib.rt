@@ -1,4 +1,8 @@
-//! Which dependencies may stand in one cycle.
+//! Tests whether a dependency may join a cycle (guard sets; Bensalem and Havelund 2005).
+//!
+//! A cycle is a warning only if its members are from distinct threads and no two of them hold a
+//! common lock. A common lock is a gate lock: it excludes the deadlock. [`compatible`] decides this
+//! for one more member. Start reading there.
 #![tactic(auto)]
 
 ghost use Rattle.std.specs.Prelude.{◌<◌, ◌↔◌, length, IsTrue};
@@ -8,9 +12,12 @@ ghost use Rattle.guards.specs.Compatible.{AreApart, NumbersApart, IsCompatible};
 
 use dependencies::{DepTable, Dependency};
 
-/// Whether a dependency may join the members of a cycle: its thread differs from the threads of all
-/// members, and its held set meets none of theirs. `members` and `number` are numbers of
-/// dependencies of the table, in any order. It takes no memory.
+/// Returns whether the dependency `number` may join the cycle members `members`: its thread differs
+/// from the threads of all members, and its held set is disjoint from each of theirs. `members` and
+/// `number` are numbers of dependencies in `table`; the members may be in any order. Does not
+/// allocate.
+///
+/// The caller passes only numbers below `table.len()`.
 pub fn compatible(table: &DepTable, members: &[u32], number: u32) -> bool
     requires members { All (λ m. m < length (known table.now)) members.now }
     requires number { number < length (known table.now) }
@@ -24,7 +31,8 @@ pub fn compatible(table: &DepTable, members: &[u32], number: u32) -> bool
     true
 }
 
-/// Whether the dependencies of two numbers are apart.
+/// Returns whether the dependencies `first` and `second` are of distinct threads and have disjoint
+/// held sets.
 fn numbers_apart(table: &DepTable, first: u32, second: u32) -> bool
     requires first { first < length (known table.now) }
     requires second { second < length (known table.now) }
@@ -33,7 +41,7 @@ fn numbers_apart(table: &DepTable, first: u32, second: u32) -> bool
     are_apart(table.get(first), table.get(second))
 }
 
-/// Whether the two are of distinct threads and hold no lock in common.
+/// Returns whether the two dependencies are of distinct threads and have disjoint held sets.
 fn are_apart(first: &Dependency, second: &Dependency) -> bool
     ensures { IsTrue result ↔ AreApart first.now second.now }
 {

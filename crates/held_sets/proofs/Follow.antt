@@ -47,7 +47,7 @@ after_itself table e h = record {
       ];
 }
 
--- a table that shows the same follows the same
+-- a table with the same holdings follows the same trace
 pub follows_shown : (old new : Table) (s : Trace) (n : ℕ) → ((t : ℕ) → holding_in new t ≡ holding_in old t) → FollowsTrace old s n → FollowsTrace new s n
 follows_shown old new s n same f = record {
   held = λ t. ap locks_of (same t) ∙ f.held t;
@@ -57,14 +57,14 @@ follows_shown old new s n same f = record {
 pub tables_follow : TablesFollow
 tables_follow old new s n e f a = (follows_after old new s n e f a, λ h. follows_after old old s n e f a (after_itself old e h))
 
--- what the table has of the trace, it has of one with the same events before the place
+-- a table that follows a trace follows each trace with the same events before the place
 follows_agreeing : (table : Table) (s r : Trace) (n : ℕ) → Agree n r s → FollowsTrace table s n → FollowsTrace table r n
 follows_agreeing table s r n same f = record {
   held = λ u. f.held u ∙ sym (held-agree r s n u same);
   depth = λ u l. f.depth u l ∙ sym (depth-agree r s n u l same);
 }
 
--- and so of the longer one
+-- and so it follows the longer trace
 pub follows_longer : (table : Table) (s : Trace) (e : Event) → FollowsTrace table s (length s) → FollowsTrace table (s ++ e ∷ []) (length s)
 follows_longer table s e f = follows_agreeing table s (s ++ e ∷ []) (length s) (λ p l. get-append s (e ∷ []) p l) f
 

@@ -10,40 +10,40 @@ use Rattle.trace_model.specs.Theory.Held.{has, with_lock, without_lock}
 use Rattle.trace_model.proofs.Theory.HeldAscends.{Above, Ascends, above_lower}
 use Rattle.trace_model.proofs.Theory.Depths.{above_lacks, with-known}
 use Rattle.held_sets.specs.declared.holding.LockDepth.{LockDepth}
-use Rattle.held_sets.specs.Tables.{locks_of, depth_of, IsHolding, place_for, depth_at, HasDepth, IsHeldAfter}
+use Rattle.held_sets.specs.Tables.{locks_of, depth_of, IsHolding, index_for, depth_at, HasDepth, IsHeldAfter}
 use Rattle.held_sets.proofs.Locks.{ascends_from, with_increases}
 
--- ---- the place for a lock
+-- ---- the index of a lock
 
-pub place_most : (l : ℕ) (ds : List LockDepth) → place_for l ds ≤ length ds
-place_most l [] = omega arith
-place_most l (d ∷ ds) = go (place_most l ds) (leb l d.lock)
+pub index_most : (l : ℕ) (ds : List LockDepth) → index_for l ds ≤ length ds
+index_most l [] = omega arith
+index_most l (d ∷ ds) = go (index_most l ds) (leb l d.lock)
   where
-    go : place_for l ds ≤ length ds → (b : Bool) → cond b 0 (suc (place_for l ds)) ≤ suc (length ds)
+    go : index_for l ds ≤ length ds → (b : Bool) → cond b 0 (suc (index_for l ds)) ≤ suc (length ds)
     go more true = omega arith
     go more false = omega arith
 
--- an index that is not beyond the place: there it is, or further
-pub place_there : (l : ℕ) (ds : List LockDepth) (i : ℕ) (d : LockDepth) → slice_get ds i ≡ Some d → i ≤ place_for l ds →
-    (l ≤ d.lock → i ≡ place_for l ds) × (d.lock < l → suc i ≤ place_for l ds)
-place_there l [] i d at within = absurd (none-some d at)
-place_there l (x ∷ ds) zero d at within = go (leb l x.lock) refl
+-- an index that is at most that of the lock: the lock is there or further
+pub index_there : (l : ℕ) (ds : List LockDepth) (i : ℕ) (d : LockDepth) → slice_get ds i ≡ Some d → i ≤ index_for l ds →
+    (l ≤ d.lock → i ≡ index_for l ds) × (d.lock < l → suc i ≤ index_for l ds)
+index_there l [] i d at within = absurd (none-some d at)
+index_there l (x ∷ ds) zero d at within = go (leb l x.lock) refl
   where
     same : x ≡ d
     same = same_Some x d at
 
-    go : (b : Bool) → leb l x.lock ≡ b → (l ≤ d.lock → 0 ≡ cond b 0 (suc (place_for l ds))) × (d.lock < l → 1 ≤ cond b 0 (suc (place_for l ds)))
+    go : (b : Bool) → leb l x.lock ≡ b → (l ≤ d.lock → 0 ≡ cond b 0 (suc (index_for l ds))) × (d.lock < l → 1 ≤ cond b 0 (suc (index_for l ds)))
     go true e = ((λ _. refl), λ h. absurd (omega (arith, h, leb-true l x.lock e, ap (λ y. y.lock) same)))
     go false e = ((λ h. absurd (omega (arith, h, leb-false l x.lock e, ap (λ y. y.lock) same))), λ _. omega arith)
-place_there l (x ∷ ds) (suc i) d at within = go (leb l x.lock) within (λ w. place_there l ds i d at w)
+index_there l (x ∷ ds) (suc i) d at within = go (leb l x.lock) within (λ w. index_there l ds i d at w)
   where
-    go : (b : Bool) → suc i ≤ cond b 0 (suc (place_for l ds)) →
-        (i ≤ place_for l ds → (l ≤ d.lock → i ≡ place_for l ds) × (d.lock < l → suc i ≤ place_for l ds)) →
-        (l ≤ d.lock → suc i ≡ cond b 0 (suc (place_for l ds))) × (d.lock < l → suc (suc i) ≤ cond b 0 (suc (place_for l ds)))
+    go : (b : Bool) → suc i ≤ cond b 0 (suc (index_for l ds)) →
+        (i ≤ index_for l ds → (l ≤ d.lock → i ≡ index_for l ds) × (d.lock < l → suc i ≤ index_for l ds)) →
+        (l ≤ d.lock → suc i ≡ cond b 0 (suc (index_for l ds))) × (d.lock < l → suc (suc i) ≤ cond b 0 (suc (index_for l ds)))
     go true w more = absurd (omega (arith, w))
     go false w more = let m = more (omega (arith, w)) in ((λ h. ap suc (m.0 h)), λ h. omega (arith, m.1 h))
 
--- ---- a lock is in the list where its depth is above 0
+-- ---- a lock is in the list exactly if its depth is above 0
 
 abbrev pub AreHeld : List LockDepth → Type 0
 AreHeld ds = AllByRecursion (λ d. 0 < d.depth) ds
@@ -75,7 +75,7 @@ pub without_none : (l : ℕ) (ks : List ℕ) → has l ks ≡ false → without_
 without_none l [] h = refl
 without_none l (k ∷ ks) h = let r = or_parts (k == l) (has l ks) h in rw r.0 (ap (λ xs. k ∷ xs) (without_none l ks r.1))
 
--- ---- how a lock stands to another
+-- ---- comparison of two locks
 
 abbrev Before : ℕ → ℕ → Type 0
 Before l k = (leb l k ≡ true) × (ltb l k ≡ true) × ((l == k) ≡ false) × ((k == l) ≡ false) × (l < k)
@@ -95,23 +95,23 @@ compared l k = elim (cases_lt l k) [
   ]
 ]
 
-pub at_place : (l : ℕ) (ds : List LockDepth) → Ascends (locks_of ds) → depth_at l ds (place_for l ds) ≡ depth_of ds l
-at_place l [] up = refl
-at_place l (d ∷ ds) up = elim (compared l d.lock) [
+pub at_index : (l : ℕ) (ds : List LockDepth) → Ascends (locks_of ds) → depth_at l ds (index_for l ds) ≡ depth_of ds l
+at_index l [] up = refl
+at_index l (d ∷ ds) up = elim (compared l d.lock) [
   | inl h ↦ rw (h.0, h.3) (sym (zero_below l ds (above_lower l d.lock (locks_of ds) h.4 up.0) up.1))
   | inr (inl h) ↦ rw (h.0, h.3) refl
-  | inr (inr h) ↦ rw (h.0, h.3) (at_place l ds up.1)
+  | inr (inr h) ↦ rw (h.0, h.3) (at_index l ds up.1)
 ]
 
 not_before : (l : ℕ) (d : LockDepth) (ds : List LockDepth) → Ascends (locks_of (d ∷ ds)) → 0 < depth_of (d ∷ ds) l → Before l d.lock → ⊥
 not_before l d ds up h b = omega (arith, h, zero_below l (d ∷ ds) b.4 up)
 
-pub place_within : (l : ℕ) (ds : List LockDepth) → Ascends (locks_of ds) → 0 < depth_of ds l → place_for l ds < length ds
-place_within l [] up h = absurd (omega (arith, h))
-place_within l (d ∷ ds) up h = elim (compared l d.lock) [
+pub index_within : (l : ℕ) (ds : List LockDepth) → Ascends (locks_of ds) → 0 < depth_of ds l → index_for l ds < length ds
+index_within l [] up h = absurd (omega (arith, h))
+index_within l (d ∷ ds) up h = elim (compared l d.lock) [
   | inl c ↦ absurd (not_before l d ds up h c)
   | inr (inl c) ↦ rw c.0 (omega arith)
-  | inr (inr c) ↦ let more = place_within l ds up.1 (rw c.3 at h) in rw c.0 (omega arith)
+  | inr (inr c) ↦ let more = index_within l ds up.1 (rw c.3 at h) in rw c.0 (omega arith)
 ]
 
 -- ---- a held lock at another depth
@@ -126,7 +126,7 @@ abbrev pub at_depth : ℕ → ℕ → LockDepth
 at_depth l n = record { lock = l; depth = n }
 
 pub set_locks : (l n : ℕ) (ds : List LockDepth) → Ascends (locks_of ds) → 0 < depth_of ds l →
-    locks_of (slice_set ds (place_for l ds) (at_depth l n)) ≡ locks_of ds
+    locks_of (slice_set ds (index_for l ds) (at_depth l n)) ≡ locks_of ds
 set_locks l n [] up h = refl
 set_locks l n (d ∷ ds) up h = elim (compared l d.lock) [
   | inl c ↦ absurd (not_before l d ds up h c)
@@ -134,7 +134,7 @@ set_locks l n (d ∷ ds) up h = elim (compared l d.lock) [
   | inr (inr c) ↦ rw c.0 (ap (λ ks. d.lock ∷ ks) (set_locks l n ds up.1 (rw c.3 at h)))
 ]
 
--- two of the tests on a third lock are not both met
+-- a third lock does not equal both
 apart : (l k m : ℕ) (a b x : ℕ) → k < l → cond (k == m) a (cond (l == m) b x) ≡ cond (l == m) b (cond (k == m) a x)
 apart l k m a b x less = go (k == m) refl (l == m) refl
   where
@@ -144,7 +144,7 @@ apart l k m a b x less = go (k == m) refl (l == m) refl
     go false e q f = refl
 
 pub set_depths : (l n : ℕ) (ds : List LockDepth) → Ascends (locks_of ds) → 0 < depth_of ds l → (m : ℕ) →
-    depth_of (slice_set ds (place_for l ds) (at_depth l n)) m ≡ cond (l == m) n (depth_of ds m)
+    depth_of (slice_set ds (index_for l ds) (at_depth l n)) m ≡ cond (l == m) n (depth_of ds m)
 set_depths l n [] up h m = absurd (omega (arith, h))
 set_depths l n (d ∷ ds) up h m = elim (compared l d.lock) [
   | inl c ↦ absurd (not_before l d ds up h c)
@@ -161,9 +161,9 @@ set_held x [] i p h = h
 set_held x (d ∷ ds) zero p h = (p, h.1)
 set_held x (d ∷ ds) (suc i) p h = (h.0, set_held x ds i p h.1)
 
--- ---- a lock comes in
+-- ---- a lock is inserted
 
-pub insert_locks : (l n : ℕ) (ds : List LockDepth) → has l (locks_of ds) ≡ false → locks_of (insert ds (place_for l ds) (at_depth l n)) ≡ with_lock l (locks_of ds)
+pub insert_locks : (l n : ℕ) (ds : List LockDepth) → has l (locks_of ds) ≡ false → locks_of (insert ds (index_for l ds) (at_depth l n)) ≡ with_lock l (locks_of ds)
 insert_locks l n [] h = refl
 insert_locks l n (d ∷ ds) h = let r = or_parts (d.lock == l) (has l (locks_of ds)) h in elim (compared l d.lock) [
   | inl c ↦ rw (c.0, c.1) refl
@@ -171,7 +171,7 @@ insert_locks l n (d ∷ ds) h = let r = or_parts (d.lock == l) (has l (locks_of 
   | inr (inr c) ↦ rw (c.0, c.1, c.2) (ap (λ ks. d.lock ∷ ks) (insert_locks l n ds r.1))
 ]
 
-pub insert_depths : (l n : ℕ) (ds : List LockDepth) (m : ℕ) → depth_of (insert ds (place_for l ds) (at_depth l n)) m ≡ cond (l == m) n (depth_of ds m)
+pub insert_depths : (l n : ℕ) (ds : List LockDepth) (m : ℕ) → depth_of (insert ds (index_for l ds) (at_depth l n)) m ≡ cond (l == m) n (depth_of ds m)
 insert_depths l n [] m = refl
 insert_depths l n (d ∷ ds) m = elim (cases_lt d.lock l) [
   | inl less ↦ rw (lt-leb l d.lock less) (ap (cond (d.lock == m) d.depth) (insert_depths l n ds m) ∙ apart l d.lock m d.depth n (depth_of ds m) less)
@@ -184,9 +184,9 @@ insert_held x [] (suc i) p h = (p, h)
 insert_held x (d ∷ ds) zero p h = (p, h)
 insert_held x (d ∷ ds) (suc i) p h = (h.0, insert_held x ds i p h.1)
 
--- ---- a lock goes out
+-- ---- a lock is removed
 
-pub remove_locks : (l : ℕ) (ds : List LockDepth) → Ascends (locks_of ds) → 0 < depth_of ds l → locks_of (remove ds (place_for l ds)) ≡ without_lock l (locks_of ds)
+pub remove_locks : (l : ℕ) (ds : List LockDepth) → Ascends (locks_of ds) → 0 < depth_of ds l → locks_of (remove ds (index_for l ds)) ≡ without_lock l (locks_of ds)
 remove_locks l [] up h = refl
 remove_locks l (d ∷ ds) up h = elim (compared l d.lock) [
   | inl c ↦ absurd (not_before l d ds up h c)
@@ -195,7 +195,7 @@ remove_locks l (d ∷ ds) up h = elim (compared l d.lock) [
 ]
 
 pub remove_depths : (l : ℕ) (ds : List LockDepth) → Ascends (locks_of ds) → 0 < depth_of ds l → (m : ℕ) →
-    depth_of (remove ds (place_for l ds)) m ≡ cond (l == m) 0 (depth_of ds m)
+    depth_of (remove ds (index_for l ds)) m ≡ cond (l == m) 0 (depth_of ds m)
 remove_depths l [] up h m = absurd (omega (arith, h))
 remove_depths l (d ∷ ds) up h m = elim (compared l d.lock) [
   | inl c ↦ absurd (not_before l d ds up h c)
@@ -221,20 +221,20 @@ stays_depths l ds z m = go (l == m) refl
     go true e = ap (depth_of ds) (sym (eqb-true l m e)) ∙ z
     go false e = refl
 
--- ---- a lock so deep, and all else as before
+-- ---- the depth of one lock is set, and the others are unchanged
 
--- what is found at the place
-pub found : (l : ℕ) (ds xs : List LockDepth) (i r : ℕ) → xs ≡ ds → IsHolding ds → i ≡ place_for l xs → r ≡ depth_at l xs i →
-    (i ≡ place_for l ds) × (r ≡ depth_of ds l)
+-- the depth that is found at the index
+pub found : (l : ℕ) (ds xs : List LockDepth) (i r : ℕ) → xs ≡ ds → IsHolding ds → i ≡ index_for l xs → r ≡ depth_at l xs i →
+    (i ≡ index_for l ds) × (r ≡ depth_of ds l)
 found l ds xs i r same is at has_it =
-    let there : i ≡ place_for l ds = at ∙ ap (place_for l) same in
-    (there, has_it ∙ ap (λ ys. depth_at l ys i) same ∙ ap (depth_at l ds) there ∙ at_place l ds (ascends_from _ is.ascends))
+    let there : i ≡ index_for l ds = at ∙ ap (index_for l) same in
+    (there, has_it ∙ ap (λ ys. depth_at l ys i) same ∙ ap (depth_at l ds) there ∙ at_index l ds (ascends_from _ is.ascends))
 
 abbrev Changed : ℕ → ℕ → List LockDepth → List LockDepth → Type 0
 Changed l n ds new = HasDepth ds l n new × IsHolding new
 
 pub changed_set : (l n : ℕ) (ds new : List LockDepth) → IsHolding ds → 0 < n → 0 < depth_of ds l →
-    new ≡ slice_set ds (place_for l ds) (at_depth l n) → Changed l n ds new
+    new ≡ slice_set ds (index_for l ds) (at_depth l n) → Changed l n ds new
 changed_set l n ds new is some deep e =
     let up = ascends_from _ is.ascends in
     let same : locks_of new ≡ locks_of ds = ap locks_of e ∙ set_locks l n ds up deep in (
@@ -243,11 +243,11 @@ changed_set l n ds new is some deep e =
         depths = λ m. ap (λ ys. depth_of ys m) e ∙ set_depths l n ds up deep m;
         same = λ _ _. same;
       },
-      record { ascends = subst IsStrictlyIncreasing (sym same) is.ascends; some = subst AreHeld (sym e) (set_held (at_depth l n) ds (place_for l ds) some is.some) },
+      record { ascends = subst IsStrictlyIncreasing (sym same) is.ascends; some = subst AreHeld (sym e) (set_held (at_depth l n) ds (index_for l ds) some is.some) },
     )
 
 pub changed_insert : (l n : ℕ) (ds new : List LockDepth) → IsHolding ds → 0 < n → depth_of ds l ≡ 0 →
-    new ≡ insert ds (place_for l ds) (at_depth l n) → Changed l n ds new
+    new ≡ insert ds (index_for l ds) (at_depth l n) → Changed l n ds new
 changed_insert l n ds new is some none e =
     let more : locks_of new ≡ with_lock l (locks_of ds) = ap locks_of e ∙ insert_locks l n ds (none_at_zero l ds is.some none) in (
       record {
@@ -257,12 +257,12 @@ changed_insert l n ds new is some none e =
       },
       record {
         ascends = subst IsStrictlyIncreasing (sym more) (with_increases l (locks_of ds) is.ascends);
-        some = subst AreHeld (sym e) (insert_held (at_depth l n) ds (place_for l ds) some is.some);
+        some = subst AreHeld (sym e) (insert_held (at_depth l n) ds (index_for l ds) some is.some);
       },
     )
 
 pub changed_remove : (l n : ℕ) (ds new : List LockDepth) → IsHolding ds → n ≡ 0 → 0 < depth_of ds l →
-    new ≡ remove ds (place_for l ds) → Changed l n ds new
+    new ≡ remove ds (index_for l ds) → Changed l n ds new
 changed_remove l n ds new is none deep e =
     let up = ascends_from _ is.ascends in
     let less : locks_of new ≡ without_lock l (locks_of ds) = ap locks_of e ∙ remove_locks l ds up deep in
@@ -274,7 +274,7 @@ changed_remove l n ds new is none deep e =
       },
       record {
         ascends = subst IsStrictlyIncreasing (sym less) (IsStrictlyIncreasing-filter (λ k. not (k == l)) (locks_of ds) is.ascends);
-        some = subst AreHeld (sym e) (remove_held ds (place_for l ds) is.some);
+        some = subst AreHeld (sym e) (remove_held ds (index_for l ds) is.some);
       },
     )
 
@@ -288,7 +288,7 @@ changed_nothing l n ds is none lacks = subst (λ k. HasDepth ds l k ds) (sym non
 pub seen : (ds base new : List LockDepth) (l n : ℕ) → ds ≡ base → HasDepth ds l n new → HasDepth base l n new
 seen ds base new l n same h = subst (λ old. HasDepth old l n new) same h
 
--- an acquire puts 1 on
+-- an acquire adds 1
 pub acquired : (ds new : List LockDepth) (l n : ℕ) → n ≡ suc (depth_of ds l) → HasDepth ds l n new → IsHeldAfter ds (Acquire l) new
 acquired ds new l n more h = record {
   locks = h.locks ∙ ap (λ c. cond c (without_lock l (locks_of ds)) (with_lock l (locks_of ds))) (ne_eqb n 0 (λ none. omega (arith, none, more)));
@@ -299,7 +299,7 @@ acquired ds new l n more h = record {
     one m true e = more ∙ ap (λ k. suc (depth_of ds k)) (eqb-true l m e)
     one m false e = refl
 
--- a release takes 1 off
+-- a release takes 1
 pub released : (ds new : List LockDepth) (l n : ℕ) → n ≡ depth_of ds l - 1 → HasDepth ds l n new → IsHeldAfter ds (Release l) new
 released ds new l n less h = record {
   locks = out (leb (depth_of ds l) 1) refl;

@@ -1,25 +1,26 @@
--- What a thread holds, written anew.
-use Rattle.std.proofs.Common.{◌≡◌, ℕ, Bool, true, false, cond, nat_eq, ◌==◌, ◌-◌, List, [], Option, Some, None, unwrap_or, refl, sym, ap, subst, ◌∙◌}
+-- Tables in which the holding of one thread is replaced.
+use Rattle.std.proofs.Common.{◌≡◌, ℕ, Bool, true, false, cond, nat_eq, ◌==◌, ◌-◌, List, [], Option, Some, IsSome, unwrap_or, refl, sym, ap, subst, ◌∙◌}
 use Rattle.std.proofs.lemmas.Bool.{eqb-true}
+use Rattle.std.proofs.lemmas.Map.{lookup-set_value}
+use Rattle.std.specs.Cmp.{nat_eq_equiv}
+use Rattle.std.specs.Map.{lookup, set_value}
 use Rattle.trace_model.specs.declared.traces.event.Op.{Op}
 use Rattle.trace_model.specs.declared.traces.event.Op.TheVariants.{Release}
 use Rattle.trace_model.specs.Theory.Held.{held_after, depth_after}
 use Rattle.held_sets.specs.declared.holding.LockDepth.{LockDepth}
-use Rattle.held_sets.specs.Tables.{Table, locks_of, depth_of, IsHeldAfter, holding_in, held_in, depth_in, IsAfter}
+use Rattle.held_sets.specs.Tables.{Table, locks_of, depth_of, IsHeldAfter, holding_in, held_in, depth_in, HasEntry, IsAfter}
 
-pub written : (t u : ℕ) (o : Option (List LockDepth)) (x : List LockDepth) → unwrap_or (cond (nat_eq t u) (Some x) o) [] ≡ cond (nat_eq t u) x (unwrap_or o [])
+written : (t u : ℕ) (o : Option (List LockDepth)) (x : List LockDepth) → unwrap_or (cond (nat_eq t u) (Some x) o) [] ≡ cond (nat_eq t u) x (unwrap_or o [])
 written t u o x = elim (nat_eq t u) as (λ b. unwrap_or (cond b (Some x) o) [] ≡ cond b x (unwrap_or o [])) [ true ↦ refl | false ↦ refl ]
 
--- an entry with no lock shows as none does
-pub still_empty : (t u : ℕ) (before after : Option (List LockDepth)) (x : List LockDepth) → x ≡ [] → (nat_eq t u ≡ true → before ≡ None) → after ≡ cond (nat_eq t u) (Some x) before →
-    unwrap_or after [] ≡ unwrap_or before []
-still_empty t u before after x empty none is = ap (λ o. unwrap_or o []) is ∙ shows (nat_eq t u) refl
-  where
-    shows : (b : Bool) → nat_eq t u ≡ b → unwrap_or (cond b (Some x) before) [] ≡ unwrap_or before []
-    shows true e = empty ∙ ap (λ o. unwrap_or o []) (sym (none e))
-    shows false e = refl
+-- a table in which the holding of one thread, which has an entry, is set
+pub holding_set : (table : Table) (t : ℕ) (x : List LockDepth) → HasEntry table t → (u : ℕ) →
+    holding_in (set_value (nat_eq t) table x) u ≡ cond (nat_eq t u) x (holding_in table u)
+holding_set table t x there u =
+    ap (λ o. unwrap_or o []) (lookup-set_value nat_eq_equiv (nat_eq t) (λ k m h. ap (λ n. nat_eq n m) (eqb-true t k h)) u x table there)
+    ∙ written t u (lookup (nat_eq u) table) x
 
--- a table in which one thread's holding is the old one after the thread did this
+-- a table in which the holding of one thread is the old one after an operation
 pub after_from : (old base new : Table) (t : ℕ) (o : Op) (x : List LockDepth) → old ≡ base → ((u : ℕ) → holding_in new u ≡ cond (nat_eq t u) x (holding_in old u)) →
     IsHeldAfter (holding_in old t) o x → IsAfter base t o new
 after_from old base new t o x seen h is = subst (λ table. IsAfter table t o new) seen (record {
@@ -47,3 +48,10 @@ after_nothing table t l none = after_from table table table t (Release l) [] ref
     same : (u : ℕ) (b : Bool) → nat_eq t u ≡ b → holding_in table u ≡ cond b [] (holding_in table u)
     same u true e = subst (λ v. holding_in table v ≡ []) (eqb-true t u e) none
     same u false e = refl
+
+-- the same for a thread that has an entry, by a write of its value
+pub after_set : (table base : Table) (t : ℕ) (o : Op) (was x : List LockDepth) → table ≡ base → Some was ≡ lookup (nat_eq t) table → IsHeldAfter was o x →
+    IsAfter base t o (set_value (nat_eq t) table x)
+after_set table base t o was x seen found is = after_from table base (set_value (nat_eq t) table x) t o x seen
+    (holding_set table t x (subst IsSome found refl))
+    (subst (λ ds. IsHeldAfter ds o x) (ap (λ h. unwrap_or h []) found) is)

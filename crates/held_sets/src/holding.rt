@@ -1,23 +1,23 @@
-//! One held lock.
+//! The held locks of one thread, with their depths.
 
 ghost use Rattle.std.specs.Prelude.{◌≡◌, ◌<◌, ◌≤◌, ◌==◌, [], length, zero, if◌then◌else◌};
 ghost use Rattle.trace_model.specs.declared.traces.event.Op.TheVariants.{Acquire, Release};
 ghost use Rattle.trace_model.specs.declared.limits.TheConstants.{MAX_HELD, MAX_DEPTH};
-ghost use Rattle.held_sets.specs.Tables.{locks_of, depth_of, place_for, depth_at, HasDepth, IsHeldAfter};
+ghost use Rattle.held_sets.specs.Tables.{locks_of, depth_of, index_for, depth_at, HasDepth, IsHeldAfter};
 
 use crate::set::HeldSet;
 use arrayvec::ArrayVec;
 use std::marker::Model;
 use trace_model::MAX_HELD;
 
-/// A lock that a thread holds, and how deep: how many acquires of it are not yet released.
+/// A held lock and its depth: the acquires of it less its releases.
 #[derive(Clone, Copy, Default)]
 pub(crate) struct LockDepth {
     pub(crate) lock: u32,
     pub(crate) depth: u8,
 }
 
-/// The locks that a thread holds, ascending, each once: at most as many as a thread may hold.
+/// The locks that a thread holds, ascending, each once with its depth: at most `MAX_HELD`.
 #[derive(Drop)]
 pub(crate) struct Holding {
     locks: ArrayVec<LockDepth, MAX_HELD>,
@@ -36,7 +36,7 @@ impl Model for Holding {
 }
 
 impl Holding {
-    /// No lock.
+    /// Returns the holding without locks.
     pub(crate) fn new() -> Holding
         ensures { result ≡ [] }
     {
@@ -45,14 +45,14 @@ impl Holding {
         }
     }
 
-    /// The locks.
+    /// Returns the locks.
     pub(crate) fn locks(&self) -> HeldSet
         ensures { result ≡ locks_of self.now }
     {
         HeldSet::of(self.locks.as_slice())
     }
 
-    /// How deep a lock is held: 0 where it is not.
+    /// Returns the depth of `lock`, 0 if it is not held.
     pub(crate) fn depth(&self, lock: u32) -> u8
         ensures { result ≡ depth_of self.now lock }
     {
@@ -60,7 +60,7 @@ impl Holding {
         found_depth(locks, index_for(locks, lock), lock)
     }
 
-    /// One acquire of a lock more.
+    /// Adds one to the depth of `lock`.
     pub(crate) fn acquire(&mut self, lock: u32)
         requires nested { depth_of self.old lock < MAX_DEPTH }
         requires room { depth_of self.old lock ≡ 0 → length (locks_of self.old) < MAX_HELD }
@@ -70,7 +70,7 @@ impl Holding {
         self.set_depth(lock, depth + 1);
     }
 
-    /// One release of a lock more. One that is not held changes nothing.
+    /// Takes one from the depth of `lock`. A lock that is not held stays so.
     pub(crate) fn release(&mut self, lock: u32)
         ensures { IsHeldAfter self.old (Release lock) self.new }
     {
@@ -78,7 +78,7 @@ impl Holding {
         self.set_depth(lock, depth.saturating_sub(1));
     }
 
-    /// Holds a lock so deep: not at all at depth 0.
+    /// Sets the depth of `lock`. At depth 0 the lock is removed.
     fn set_depth(&mut self, lock: u32, depth: u8)
         requires room { 0 < depth → depth_of self.old lock ≡ 0 →
             length (locks_of self.old) < MAX_HELD }
@@ -99,9 +99,9 @@ impl Holding {
     }
 }
 
-/// The index of a lock, or the one at which it comes in.
+/// Returns the index of `lock`, or the index at which it is to be inserted.
 fn index_for(locks: &[LockDepth], lock: u32) -> usize
-    ensures { result ≡ place_for lock locks.now }
+    ensures { result ≡ index_for lock locks.now }
 {
     for (index, held) in locks.iter().enumerate() {
         if lock <= held.lock {
@@ -111,7 +111,7 @@ fn index_for(locks: &[LockDepth], lock: u32) -> usize
     locks.len()
 }
 
-/// How deep a lock is held, if it stands at this index: 0 if not.
+/// Returns the depth of `lock` if it is at `index`, else 0.
 fn found_depth(locks: &[LockDepth], index: usize, lock: u32) -> u8
     ensures { result ≡ depth_at lock locks.now index }
 {

@@ -1,14 +1,15 @@
-//! How a table of held sets keeps in step with a trace.
+//! Laws: a table of held locks that is updated at each event follows the trace.
 
 ghost use Rattle.held_sets.specs.Tables.{TablesFollow, TablesGrow, AcquiresFit, LawfulAcquiresFit};
 
-/// A table that is changed with each acquire and release has what each thread holds, and how deep.
+/// States that a table that records each acquire and release has the held locks and depths of each
+/// thread after the trace.
 pub fn held_follows()
     ensures follow { TablesFollow }
     ensures grow { TablesGrow }
 {}
 
-/// A lawful acquire is one that a table may make.
+/// States that each lawful acquire meets what `HeldTable::record` requires.
 pub fn acquires_fit()
     ensures placed { AcquiresFit }
     ensures next { LawfulAcquiresFit }

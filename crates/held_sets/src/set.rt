@@ -1,4 +1,4 @@
-//! A held set: locks, ascending, each with its depth.
+//! Held sets: ascending sets of locks.
 
 ghost use Rattle.std.specs.Prelude.{◌≡◌, ℕ, ◌<◌, ◌≤◌, ◌↔◌, ◌==◌, [], length, false, slice_index, IsTrue};
 ghost use Rattle.std.specs.List.{list_any};
@@ -12,7 +12,8 @@ use arrayvec::ArrayVec;
 use std::marker::Model;
 use trace_model::MAX_HELD;
 
-/// Some locks in ascending order, each once: at most as many as a thread may hold.
+/// A set of locks, ascending: at most `MAX_HELD`, the limit of a thread. Contracts see the list of
+/// the locks.
 #[derive(Debug, Drop, Clone, PartialEq, Eq, Hash)]
 pub struct HeldSet {
     locks: ArrayVec<u32, MAX_HELD>,
@@ -32,7 +33,7 @@ impl Model for HeldSet {
 }
 
 impl HeldSet {
-    /// No lock.
+    /// Returns the empty set.
     pub fn new() -> HeldSet
         ensures { result ≡ [] }
     {
@@ -41,7 +42,7 @@ impl HeldSet {
         }
     }
 
-    /// The locks of a holding.
+    /// Returns the locks of a holding.
     pub(crate) fn of(holding: &[LockDepth]) -> HeldSet
         requires ascends { IsStrictlyIncreasing (locks_of holding.now) }
         requires few { length holding.now ≤ MAX_HELD }
@@ -54,7 +55,7 @@ impl HeldSet {
         HeldSet { locks }
     }
 
-    /// The locks, ascending.
+    /// Returns the locks, ascending.
     pub fn locks(&self) -> &[u32]
         ensures value { result.now ≡ self.now }
         ensures ascends { IsStrictlyIncreasing result.now }
@@ -63,14 +64,14 @@ impl HeldSet {
         self.locks.as_slice()
     }
 
-    /// Whether the lock is one of them.
+    /// Returns whether `lock` is in the set.
     pub fn contains(&self, lock: u32) -> bool
         ensures { result ≡ has lock self.now }
     {
         self.locks().contains(&lock)
     }
 
-    /// Whether the two sets have no lock in common.
+    /// Returns whether the two sets have no lock in common.
     pub fn is_disjoint(&self, other: &HeldSet) -> bool
         ensures { IsTrue result ↔ AreDisjoint self.now other.now }
     {
@@ -82,7 +83,7 @@ impl HeldSet {
         true
     }
 
-    /// The same locks. It takes no memory.
+    /// Returns a copy of the set. Does not allocate.
     pub fn copied(&self) -> HeldSet
         ensures { result ≡ self.now }
     {
@@ -92,7 +93,9 @@ impl HeldSet {
         copy
     }
 
-    /// Puts a lock in, which must be a new one, with fewer than `MAX_HELD` there before.
+    /// Adds `lock`, which must not be in the set. The set must have fewer than `MAX_HELD` locks.
+    ///
+    /// Part of the public API; not called by the program.
     pub fn insert(&mut self, lock: u32)
         requires new { has lock self.old ≡ false }
         requires room { length self.old < MAX_HELD }
@@ -103,7 +106,7 @@ impl HeldSet {
     }
 }
 
-/// The index of the first lock above this one, or the length if none is.
+/// Returns the index of the first lock above `lock`, or the length if there is none.
 fn index_above(locks: &[u32], lock: u32) -> usize
     ensures within { result ≤ length locks.now }
     ensures below { (k : ℕ) → k < result → slice_index locks.now k ≤ lock }

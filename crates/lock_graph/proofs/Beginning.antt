@@ -1,4 +1,4 @@
--- What stands below a number in the lists of a graph.
+-- The numbers below a total in the lists of a graph.
 use Rattle.std.proofs.Common.{◌≡◌, ℕ, zero, suc, ◌<◌, ◌≤◌, ltb, true, false, cond, List, [], ◌∷◌, length, take, get_or, slice_get, Some, inl, inr, refl, sym, ap, subst, ◌∙◌, arith}
 use Rattle.std.proofs.lemmas.Bool.{cases_lt}
 use Rattle.std.proofs.lemmas.List.{length-take-le}
@@ -13,7 +13,7 @@ use Rattle.dependencies.proofs.Parts.{below_exact}
 use Rattle.lock_graph.specs.declared.graph.LockGraph.{LockGraph}
 use Rattle.lock_graph.specs.Graph.{HoldsLock, IsGraphOf, HasGraphOf, holders, holders_below}
 
--- a graph serves each beginning of its dependencies
+-- a graph contains the graph of each prefix of its dependencies
 pub graphs_begin : (all : List Dependency) (g : LockGraph) (total : ℕ) → IsGraphOf all (holders g) → total ≤ length all → HasGraphOf (take total all) g
 graphs_begin all g total is within = record {
   below = record {
@@ -37,7 +37,7 @@ graphs_begin all g total is within = record {
         (below_exact (length (take total all)) (holders g lock) n).1
         (less, (is.exact lock n).1 (d, sym (get-take total all n (get-take_past total all n d at)) ∙ at, held))
 
--- the first of ascending numbers, as many as are below the total
+-- the numbers below a total are a prefix of ascending numbers
 first_below : (total : ℕ) (xs : List ℕ) (i : ℕ) → ((k x : ℕ) → k < i → slice_get xs k ≡ Some x → ltb x total ≡ true) → ((k x : ℕ) → i ≤ k → slice_get xs k ≡ Some x → ltb x total ≡ false) →
     take i xs ≡ filter (λ n. ltb n total) xs
 first_below total [] zero low high = refl
@@ -49,7 +49,7 @@ first_below total (x ∷ xs) (suc i) low high =
     ap (λ ys. x ∷ ys) (first_below total xs i (λ k y l h. low (suc k) y (omega arith) h) (λ k y l h. high (suc k) y (omega arith) h))
     ∙ sym (ap (λ b. cond b (x ∷ filter (λ n. ltb n total) xs) (filter (λ n. ltb n total) xs)) (low 0 x (omega arith) refl))
 
--- the same, by the point where a search by halves ends
+-- the same, by the index that a binary search finds
 pub part_below : (total : ℕ) (xs : List ℕ) (i : ℕ) → IsPartitionPoint (λ n. ltb n total ≡ true) (λ n. ltb n total ≡ false) xs i → take i xs ≡ filter (λ n. ltb n total) xs
 part_below total xs i at = first_below total xs i
     (λ k x l h. subst (λ n. ltb n total ≡ true) (get_or_from_slice_get xs k x x h) (at.0 k x (omega arith) l))

@@ -1,4 +1,4 @@
--- One more lock of the list.
+-- One more lock of a list of locks.
 use Rattle.std.proofs.Common.{◌≡◌, ◌≢◌, ℕ, ◌+◌, ◌<◌, List, [], ◌∷◌, ◌++◌, length, get_or, take, refl, sym, ap, ◌∙◌, arith, eqb-true, length-take}
 use Rattle.std.specs.Prelude.{Bool, true, false, cond, ◌||◌, nat_eq, Some, slice_get}
 use Rattle.std.proofs.lemmas.Option.{slice_get_read, get_or_from_slice_get}
@@ -13,7 +13,7 @@ or-false : (b : Bool) → (b || false) ≡ b
 or-false true = refl
 or-false false = refl
 
--- locks at different places differ
+-- locks at different indices differ
 pub apart : (locks : List ℕ) (i j : ℕ) → IsStrictlyIncreasing locks → i < j → j < length locks → get_or locks i 0 ≢ get_or locks j 0
 apart locks i j up l w e = let below = AllPairs-from_increasing locks up i j 0 l w in omega (arith, below, e)
 

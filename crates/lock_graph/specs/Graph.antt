@@ -1,4 +1,4 @@
--- Which dependencies hold which lock.
+-- The lock graph as a reverse index: the dependencies that hold each lock (Havelund 2000).
 use Rattle.std.specs.Prelude.{◌≡◌, ℕ, ◌↔◌, List, length, slice_get, nat_lt, Some, Contains}
 use Rattle.std.specs.List.{filter}
 use Rattle.std.specs.List.Sorted.{IsStrictlyIncreasing}
@@ -6,28 +6,28 @@ use Rattle.trace_model.specs.Theory.Dependencies.{Dependency}
 use Rattle.lock_graph.specs.declared.graph.LockGraph.{LockGraph}
 use Rattle.lock_graph.specs.Lists.{listed, HaveRoom}
 
--- what the graph has for a lock
+-- The numbers that the graph has for the lock.
 abbrev pub holders : LockGraph → ℕ → List ℕ
 holders g lock = listed g.lists lock
 
--- each of the locks has room for one more number
+-- Memory is reserved for one more number at each of the locks.
 abbrev pub HasRoom : LockGraph → List ℕ → Type 0
 HasRoom g locks = HaveRoom g.lists locks
 
--- the dependency with the number holds the lock
+-- The dependency with this number holds the lock.
 abbrev pub HoldsLock : List Dependency → ℕ → ℕ → Type 0
 HoldsLock ds number lock = (d : Dependency) × (slice_get ds number ≡ Some d) × Contains d.held lock
 
--- the graph has, for each lock, exactly the dependencies that hold it, ascending
+-- For each lock the graph has exactly the numbers of the dependencies that hold it, ascending.
 pub record IsGraphOf (ds : List Dependency) (graph : ℕ → List ℕ) : Type 0 where
   pub exact : (lock number : ℕ) → Contains (graph lock) number ↔ HoldsLock ds number lock
   pub ascends : (lock : ℕ) → IsStrictlyIncreasing (graph lock)
 
--- what the graph has for a lock below a total
+-- The numbers below `total` that the graph has for the lock.
 abbrev pub holders_below : LockGraph → ℕ → ℕ → List ℕ
 holders_below g total lock = filter (λ n. nat_lt n total) (holders g lock)
 
--- the graph is that of these dependencies, or of more that begin with them
+-- The graph is that of these dependencies, or of a list of which these are a prefix.
 pub record HasGraphOf (ds : List Dependency) (g : LockGraph) : Type 0 where
   pub below : IsGraphOf ds (holders_below g (length ds))
   pub ascends : (lock : ℕ) → IsStrictlyIncreasing (holders g lock)

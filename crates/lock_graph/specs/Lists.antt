@@ -1,22 +1,22 @@
--- What a table of lists shows.
+-- Lists of numbers by lock.
 use Rattle.std.specs.Prelude.{ℕ, ◌<◌, List, [], ◌∷◌, ◌++◌, nat_eq, IsSomeAnd, vec_len, vec_capacity, length, slice_index, if◌then◌else◌}
 use Rattle.std.specs.Option.{option_map_or}
 use Rattle.trace_model.specs.Theory.Held.{has}
 use Rattle.std.specs.HashMap.{get, HashMap}
 use Rattle.std.specs.Global.{Vec}
 
--- the numbers that the table has for a lock; a missing entry shows as none
+-- The numbers of the lock. A lock without an entry has none.
 abbrev pub listed : {S : Type 0} → HashMap ℕ (Vec ℕ) S → ℕ → List ℕ
 listed m lock = option_map_or (λ v. v.items) (get nat_eq m lock) []
 
--- the lock's list has room for one more
+-- The list of the lock has spare capacity.
 abbrev pub HasRoomAt : {S : Type 0} → HashMap ℕ (Vec ℕ) S → ℕ → Type 0
 HasRoomAt m lock = IsSomeAnd (get nat_eq m lock) (λ v. vec_len v < vec_capacity v)
 
--- each of the locks has room
+-- The list of each of the locks has spare capacity.
 abbrev pub HaveRoom : {S : Type 0} → HashMap ℕ (Vec ℕ) S → List ℕ → Type 0
 HaveRoom m locks = (k : ℕ) → k < length locks → HasRoomAt m (slice_index locks k)
 
--- the number is added at each of the locks, and nowhere else
+-- The numbers of the lock after `number` was added at each of the locks.
 abbrev pub listed_with : List ℕ → ℕ → ℕ → List ℕ → List ℕ
 listed_with locks number lock numbers = if has lock locks then numbers ++ number ∷ [] else numbers

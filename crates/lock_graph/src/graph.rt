@@ -1,4 +1,4 @@
-//! Which dependencies hold a lock.
+//! The reverse index from locks to the dependencies that hold them.
 
 ghost use Rattle.std.specs.Prelude.{◌≡◌, ℕ, List, [], ◌∷◌, ◌++◌, length, IfOk, OnOk, OnErr};
 ghost use Rattle.std.specs.List.Sorted.{IsStrictlyIncreasing};
@@ -13,20 +13,15 @@ use std::alloc::Global;
 use std::collections::hash_map::RandomState;
 use trace_model::NoMemory;
 
-/// For each lock the numbers of the dependencies that hold it.
+/// For each lock, the numbers of the dependencies that hold it, ascending.
+#[derive(Drop)]
 pub struct LockGraph {
     lists: Lists,
     alloc: Global,
 }
 
-impl Drop for LockGraph {
-    fn drop(self) {
-        let LockGraph { lists: _, alloc: _ } = self;
-    }
-}
-
 impl LockGraph {
-    /// No dependency. It takes no memory.
+    /// Returns the graph without dependencies. Does not allocate.
     pub fn new(alloc: Global, state: RandomState) -> LockGraph
         ensures graph { IsGraphOf [] (holders result) }
         ensures empty { (lock : ℕ) → holders result lock ≡ [] }
@@ -37,12 +32,12 @@ impl LockGraph {
         }
     }
 
-    /// Adds a dependency at each lock that it holds. Dependencies are to be added by number, from 0
-    /// on.
+    /// Adds a dependency at each lock that it holds. Dependencies must be added in the order of
+    /// their numbers, from 0.
     ///
     /// # Errors
     ///
-    /// `NoMemory` where a growth was refused. What each lock has is then as before.
+    /// `NoMemory` if an allocation fails. The successors of each lock do not change.
     pub fn add(&mut self, number: u32, dependency: &Dependency) -> Result<(), NoMemory>
         ensures lists { OnOk result ((lock : ℕ) →
             holders self.new lock ≡ listed_with dependency.now.held number lock
@@ -52,25 +47,26 @@ impl LockGraph {
             IsGraphOf (ds ++ dependency.now ∷ []) (holders self.new)) }
         ensures err { OnErr result ((lock : ℕ) → holders self.new lock ≡ holders self.old lock) }
     {
-        self.reserve(number, dependency)?;
+        self.reserve(dependency)?;
         self.record(number, dependency);
         Ok(())
     }
 
-    /// Makes room for one more number at each lock that the dependency holds. What each lock has
-    /// stays as it was.
+    /// Reserves memory for one more number at each lock that `dependency` holds. The successors of
+    /// each lock do not change.
     ///
     /// # Errors
     ///
-    /// `NoMemory` where a growth was refused.
-    pub fn reserve(&mut self, _number: u32, dependency: &Dependency) -> Result<(), NoMemory>
+    /// `NoMemory` if an allocation fails.
+    pub fn reserve(&mut self, dependency: &Dependency) -> Result<(), NoMemory>
         ensures shown { (lock : ℕ) → holders self.new lock ≡ holders self.old lock }
         ensures ok { OnOk result (HasRoom self.new dependency.now.held) }
     {
         reserve(&mut self.lists, self.alloc, dependency.held.locks())
     }
 
-    /// Adds a dependency at each lock that it holds, where there is room. It takes no memory.
+    /// Adds a dependency at each lock that it holds, as `add` does. Memory must be reserved. Does
+    /// not allocate.
     pub fn record(&mut self, number: u32, dependency: &Dependency)
         requires { HasRoom self.old dependency.now.held }
         ensures lists { (lock : ℕ) →
@@ -82,7 +78,7 @@ impl LockGraph {
         record(&mut self.lists, dependency.held.locks(), number);
     }
 
-    /// The numbers of the dependencies that hold the lock, ascending. It takes no memory.
+    /// Returns the numbers of the dependencies that hold `lock`, ascending. Does not allocate.
     pub fn successors(&self, lock: u32) -> &[u32]
         ensures { result.now ≡ holders self.now lock }
     {
@@ -92,8 +88,9 @@ impl LockGraph {
         }
     }
 
-    /// Those of them that are below the total: what the graph had when it had so many dependencies.
-    /// They are a beginning of the list, found by halves. It takes no memory.
+    /// Returns the numbers below `total` of the dependencies that hold `lock`, ascending: the
+    /// successors when the graph had `total` dependencies. They are a prefix of the list, found by
+    /// binary search. Does not allocate.
     pub fn successors_below(&self, lock: u32, total: usize) -> &[u32]
         requires { IsStrictlyIncreasing (holders self.now lock) }
         ensures { result.now ≡ holders_below self.now total lock }
@@ -102,11 +99,11 @@ impl LockGraph {
         &numbers[..numbers.partition_point(|number| (*number as usize) < total)]
     }
 
-    /// The same graph once more.
+    /// Returns a copy of the graph.
     ///
     /// # Errors
     ///
-    /// `NoMemory` where a growth was refused.
+    /// `NoMemory` if an allocation fails.
     pub fn copied(&self) -> Result<LockGraph, NoMemory>
         ensures { IfOk result (λ copy. (lock : ℕ) → holders copy lock ≡ holders self.now lock) }
     {

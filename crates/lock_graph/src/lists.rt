@@ -5,14 +5,15 @@ ghost use Rattle.std.specs.HashMap.{get};
 ghost use Rattle.std.specs.List.Sorted.{IsStrictlyIncreasing};
 ghost use Rattle.lock_graph.specs.Lists.{listed, listed_with, HasRoomAt, HaveRoom};
 
-use slots::NumberTable;
+use indexmap::IndexMap;
 use std::alloc::Global;
+use std::collections::hash_map::RandomState;
 use trace_model::NoMemory;
 
-/// The numbers listed for each lock.
-pub(crate) type Lists = NumberTable<Vec<u32>>;
+/// The list of numbers of each lock.
+pub(crate) type Lists = IndexMap<u32, Vec<u32>, RandomState>;
 
-/// Makes room for one more number at each of the locks.
+/// Reserves memory for one more number at each of the locks.
 pub(crate) fn reserve(lists: &mut Lists, alloc: Global, locks: &[u32]) -> Result<(), NoMemory>
     ensures shown { (other : ℕ) → listed lists.new other ≡ listed lists.old other }
     ensures ok { OnOk result (HaveRoom lists.new locks.now) }
@@ -23,7 +24,7 @@ pub(crate) fn reserve(lists: &mut Lists, alloc: Global, locks: &[u32]) -> Result
     Ok(())
 }
 
-/// Adds a number at each of the locks, which ascend and have room.
+/// Adds a number at each of the locks, which must ascend and have memory reserved.
 pub(crate) fn record(lists: &mut Lists, locks: &[u32], number: u32)
     requires room { HaveRoom lists.old locks.now }
     requires ascends { IsStrictlyIncreasing locks.now }
@@ -35,7 +36,7 @@ pub(crate) fn record(lists: &mut Lists, locks: &[u32], number: u32)
     }
 }
 
-/// Makes room for one more number at a lock.
+/// Reserves memory for one more number at a lock.
 fn reserve_one(lists: &mut Lists, alloc: Global, lock: u32) -> Result<(), NoMemory>
     ensures shown { (other : ℕ) → listed lists.new other ≡ listed lists.old other }
     ensures ok { OnOk result (HasRoomAt lists.new lock) }
@@ -50,7 +51,7 @@ fn reserve_one(lists: &mut Lists, alloc: Global, lock: u32) -> Result<(), NoMemo
     Ok(())
 }
 
-/// Adds a number at a lock, whose list has room.
+/// Adds a number at a lock, whose list must have spare capacity.
 fn record_one(lists: &mut Lists, lock: u32, number: u32)
     requires { HasRoomAt lists.old lock }
     ensures shown { (other : ℕ) →

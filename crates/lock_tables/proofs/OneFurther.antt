@@ -1,4 +1,4 @@
--- One event further, and a graph that has a beginning of the dependencies.
+-- One more event, and a graph of a prefix of the dependencies.
 use Rattle.std.proofs.Common.{Result, Ok, Err, OnOk, ◌≡◌, ℕ, zero, suc, ◌+◌, ◌<◌, ◌≤◌, ◌↔◌, inl, inr, true, false, cond, List, [], ◌∷◌, ◌++◌, length, take, slice_get, Option, Some, None, refl, sym, ap, subst, ◌∙◌, arith}
 use Rattle.std.proofs.lemmas.Bool.{cases_lt}
 use Rattle.std.proofs.lemmas.List.{length-take-le}
@@ -9,7 +9,7 @@ use Rattle.trace_model.specs.declared.traces.event.Op.TheVariants.{Fork, Join, A
 use Rattle.trace_model.specs.Theory.Dependencies.{Dependency, same_dependency, with_new}
 use Rattle.trace_model.proofs.Lists.{length-push, take-take_below, take_next}
 use Rattle.held_sets.specs.Tables.{keeps_locks}
-use Rattle.dependencies.specs.Tables.{Rows, named}
+use Rattle.dependencies.specs.Tables.{Listing, named}
 use Rattle.lock_graph.specs.declared.graph.LockGraph.{LockGraph}
 use Rattle.lock_graph.specs.Graph.{HoldsLock, IsGraphOf, HasGraphOf, holders}
 use Rattle.lock_graph.proofs.Beginning.{graphs_begin}
@@ -22,14 +22,14 @@ keeps (Join l) a r = refl
 keeps (Read l) a r = refl
 keeps (Write l) a r = refl
 
--- lists that are the same are the graph of the same dependencies
+-- equal lists are the graph of the same dependencies
 pub graph_same : (ds : List Dependency) (g h : ℕ → List ℕ) → ((lock : ℕ) → h lock ≡ g lock) → IsGraphOf ds g → IsGraphOf ds h
 graph_same ds g h same is = record {
   exact = λ lock n. subst (λ (xs : List ℕ). Contains xs n ↔ HoldsLock ds n lock) (sym (same lock)) (is.exact lock n);
   ascends = λ lock. subst IsStrictlyIncreasing (sym (same lock)) (is.ascends lock);
 }
 
--- the graph of one more of the dependencies
+-- the graph with one more of the dependencies
 pub graph_next : (all : List Dependency) (k number : ℕ) (d : Dependency) (g h : ℕ → List ℕ) → number ≡ k → slice_get all number ≡ Some d → k < length all →
     ((ds : List Dependency) → number ≡ length ds → IsGraphOf ds g → IsGraphOf (ds ++ d ∷ []) h) → IsGraphOf (take k all) g → IsGraphOf (take (k + 1) all) h
 graph_next all k number d g h same at within more is =
@@ -49,13 +49,13 @@ take_first n k all l = elim (cases_lt n k) [
     again (suc n) [] = refl
     again (suc n) (x ∷ xs) = ap (λ ys. x ∷ ys) (again n xs)
 
--- a graph of some serves for fewer
+-- a graph of dependencies contains the graph of a prefix
 pub graph_part : (all : List Dependency) (n k : ℕ) (g : LockGraph) → IsGraphOf (take k all) (holders g) → n ≤ k → k ≤ length all → HasGraphOf (take n all) g
 graph_part all n k g is fewer within =
     let len = length-take-le k all within in
     subst (λ ds. HasGraphOf ds g) (take_first n k all fewer) (graphs_begin (take k all) g n is (omega arith))
 
--- a new dependency comes after those that are there
+-- a new dependency is after the known ones
 pub grown : (ds : List Dependency) (o : Option Dependency) (k : ℕ) → k ≤ length ds → (k ≤ length (with_new ds o)) × (take k (with_new ds o) ≡ take k ds)
 grown ds None k l = (l, refl)
 grown ds (Some d) k l = elim (list_any (same_dependency d) ds) as (λ b. (k ≤ length (cond b ds (ds ++ d ∷ []))) × (take k (cond b ds (ds ++ d ∷ [])) ≡ take k ds)) [
@@ -68,11 +68,11 @@ grown ds (Some d) k l = elim (list_any (same_dependency d) ds) as (λ b. (k ≤ 
     pushed (suc k) [] d l = absurd (omega arith)
     pushed (suc k) (x ∷ xs) d l = ap (λ ys. x ∷ ys) (pushed k xs d (omega arith))
 
-pub named_length : (rows : Rows) → length (named rows) ≡ length rows
+pub named_length : (listing : Listing) → length (named listing) ≡ length listing
 named_length [] = refl
-named_length (row ∷ rows) = ap suc (named_length rows)
+named_length (row ∷ listing) = ap suc (named_length listing)
 
--- what an Ok brings, carried on
+-- a fact of an `Ok` value implies another
 pub on_ok_then : {E A B : Type 0} (r : Result Unit E) → OnOk r A → (A → B) → OnOk r B
 on_ok_then (Ok u) a f = f a
 on_ok_then (Err e) a f = tt

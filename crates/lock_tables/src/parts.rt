@@ -1,12 +1,12 @@
-//! The tables of locks, each of the notion that it keeps.
+//! The parts of the lock tables that a snapshot has.
 
 use dependencies::DepTable;
 use lock_graph::LockGraph;
 use std::alloc::Global;
 use std::sync::Arc;
 
-/// The dependencies of the first events of a trace with their places, and a graph that has these
-/// dependencies, and maybe later ones.
+/// The dependencies of a prefix of a trace with their places, and a graph of these dependencies and
+/// perhaps later ones.
 #[derive(Drop)]
 pub struct LockParts {
     pub dependencies: DepTable,

@@ -1,4 +1,4 @@
-//! One event further, for each of the tables.
+//! One more event, for each of the tables.
 
 ghost use Rattle.std.specs.Prelude.{◌≡◌, ℕ, ◌++◌, ◌∷◌, [], length, OnOk};
 ghost use Rattle.trace_model.specs.declared.traces.event.Op.TheVariants.{Acquire};
@@ -13,51 +13,51 @@ use held_sets::HeldTable;
 use held_sets::laws::held_follows;
 use trace_model::{Event, NoMemory, Op, Place};
 
-/// Makes an entry for the thread of the event, if it acquires a lock.
+/// Reserves an entry for the thread of the event, if it acquires a lock.
 pub(crate) fn reserve_locks(held: &mut HeldTable, event: &Event) -> Result<(), NoMemory>
     ensures shown { (t : ℕ) → Held.holding_in held.new t ≡ Held.holding_in held.old t }
     ensures ok { OnOk result (HasEntryFor held.new event.now) }
 {
     match event.op {
-        Op::Acquire(lock) => held.reserve(event.thread, lock),
+        Op::Acquire(_) => held.reserve(event.thread),
         _ => Ok(()),
     }
 }
 
-/// Makes room for the place of the event, if it may have a dependency.
+/// Reserves memory for the place of the event, if it may have a dependency.
 pub(crate) fn reserve_place(table: &mut DepTable, event: &Event) -> Result<(), NoMemory>
     ensures shown { table.new.shown ≡ table.old.shown }
     ensures ok { OnOk result ((held : Held.Table) → HasPlaceFor table.new held event.now) }
 {
     match event.op {
-        Op::Acquire(_) => table.make_room(),
+        Op::Acquire(_) => table.reserve(),
         _ => Ok(()),
     }
 }
 
-/// Notes the place of the event, if it has a dependency.
-pub(crate) fn note_place(table: &mut DepTable, held: &HeldTable, event: &Event, place: Place)
+/// Records the place of the event, if it has a dependency.
+pub(crate) fn record_place(table: &mut DepTable, held: &HeldTable, event: &Event, place: Place)
     requires room { HasPlaceFor table.old held.now event.now }
     requires below { AllBelow table.old place }
     ensures { (s : Trace) → place ≡ length s → Held.FollowsTrace held.now s (length s) →
         FollowsTrace table.old s (length s)
         → FollowsTrace table.new (s ++ event.now ∷ []) (length (s ++ event.now ∷ [])) }
 {
-    tables_follow();
+    tables_follow(); // for the proof
     if let Some(dependency) = next_dependency(held, *event) {
         table.record(place, dependency);
     }
 }
 
-/// What the event does to the held locks.
-pub(crate) fn follow_locks(held: &mut HeldTable, event: &Event)
+/// Records the event in the held locks.
+pub(crate) fn record_locks(held: &mut HeldTable, event: &Event)
     requires entry { HasEntryFor held.old event.now }
     requires fits { (lock : ℕ) → event.now.op ≡ Acquire lock →
         Held.Fits held.old event.now.thread lock }
     ensures { (s : Trace) → Held.FollowsTrace held.old s (length s) →
         Held.FollowsTrace held.new (s ++ event.now ∷ []) (length (s ++ event.now ∷ [])) }
 {
-    held_follows();
+    held_follows(); // for the proof
     match event.op {
         Op::Acquire(lock) => held.record(event.thread, lock),
         Op::Release(lock) => held.release(event.thread, lock),

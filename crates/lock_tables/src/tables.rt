@@ -1,4 +1,4 @@
-//! Held sets, dependencies and the graph of a trace that grows, event by event.
+//! The lock tables of a trace that grows.
 
 ghost use Rattle.std.specs.Prelude.{◌≡◌, ℕ, ◌+◌, ◌<◌, ◌≤◌, ◌++◌, ◌∷◌, [], List, length, take, slice_get, true, Some, IfOk, OnOk, OnErr};
 ghost use Rattle.std.specs.Arc.{arc_value};
@@ -10,7 +10,7 @@ ghost use Rattle.lock_graph.specs.Graph.{IsGraphOf, HasGraphOf, holders};
 ghost use Rattle.lock_tables.specs.Tables.{shared_holders, FollowTrace, HasRoomFor, IsLawfulNext, HasTotal, CountsBelow, ArePartsOf};
 
 use crate::parts::LockParts;
-use crate::steps::{follow_locks, note_place, reserve_locks, reserve_place};
+use crate::steps::{record_locks, record_place, reserve_locks, reserve_place};
 use dependencies::laws::tables_follow;
 use dependencies::{DepTable, Dependency};
 use held_sets::HeldTable;
@@ -21,40 +21,27 @@ use std::collections::hash_map::RandomState;
 use std::sync::Arc;
 use trace_model::{Event, NoMemory, Place};
 
-/// What each thread holds, which dependencies there are and where, and which of them hold which
-/// lock.
+/// The held locks of each thread, the dependencies with their places, and the graph of the
+/// dependencies.
 ///
-/// Snapshots share the graph. So a new dependency comes into it with the growths for the next
-/// event, into a copy where it is shared: at most one copy for each snapshot.
+/// Snapshots share the graph. Therefore a new dependency is added to it when memory for the next
+/// event is reserved, in a copy if the graph is shared: at most one copy for each snapshot.
+#[derive(Drop)]
 pub struct LockTables {
     alloc: Global,
     state: RandomState,
     held: HeldTable,
     dependencies: DepTable,
-    /// None as long as it has no dependency.
+    /// `None` as long as the graph has no dependency.
     graph: Option<Arc<LockGraph, Global>>,
-    /// How many of the dependencies the graph has.
+    /// The number of dependencies in the graph.
     graphed: usize,
-    /// How many events there were.
+    /// The number of events.
     events: u32,
 }
 
-impl Drop for LockTables {
-    fn drop(self) {
-        let LockTables {
-            alloc: _,
-            state: _,
-            held: _,
-            dependencies: _,
-            graph: _,
-            graphed: _,
-            events: _,
-        } = self;
-    }
-}
-
 impl LockTables {
-    /// The tables of the empty trace. It takes no memory.
+    /// Returns the tables of the empty trace. Does not allocate.
     pub fn new(alloc: Global, state: RandomState) -> LockTables
         ensures { FollowTrace result [] }
     {
@@ -69,11 +56,11 @@ impl LockTables {
         }
     }
 
-    /// The tables of a well-formed trace, made in one pass over its events.
+    /// Returns the tables of a well-formed trace, made in one pass over its events.
     ///
     /// # Errors
     ///
-    /// `NoMemory` where a growth was refused.
+    /// `NoMemory` if an allocation fails.
     pub fn of(alloc: Global, state: RandomState, events: &[Event]) -> Result<LockTables, NoMemory>
         requires { IsWellFormed events.now }
         ensures { IfOk result (λ tables. FollowTrace tables events.now) }
@@ -88,54 +75,54 @@ impl LockTables {
         }
     }
 
-    /// How many dependencies there are. It takes no memory.
+    /// Returns the number of dependencies. Does not allocate.
     pub fn len(&self) -> usize
         ensures { result ≡ length (known self.now.dependencies) }
     {
         self.dependencies.len()
     }
 
-    /// Makes every growth for the event. The trace of the tables stays as it was.
+    /// Reserves memory for `event`. The trace of the tables does not change.
     ///
     /// # Errors
     ///
-    /// `NoMemory` where a growth was refused.
+    /// `NoMemory` if an allocation fails.
     pub fn reserve(&mut self, event: &Event) -> Result<(), NoMemory>
         ensures follow { (s : Trace) → FollowTrace self.old s → FollowTrace self.new s }
         ensures ok { OnOk result (HasRoomFor self.new event.now) }
     {
-        tables_follow();
+        tables_follow(); // for the proof
         self.catch_up()?;
         reserve_locks(&mut self.held, event)?;
         reserve_place(&mut self.dependencies, event)
     }
 
-    /// Goes on to the event, which must be lawful next, and for which room was made. It takes no
-    /// memory.
+    /// Records `event`, which must be the next lawful event. Memory must be reserved for it. Does
+    /// not allocate.
     pub fn record(&mut self, event: &Event)
         requires room { HasRoomFor self.old event.now }
         requires lawful { IsLawfulNext self.old event.now }
         ensures { (s : Trace) → FollowTrace self.old s →
             FollowTrace self.new (s ++ event.now ∷ []) }
     {
-        tables_follow();
-        acquires_fit();
-        note_place(
+        tables_follow(); // for the proof
+        acquires_fit(); // for the proof
+        record_place(
             &mut self.dependencies,
             &self.held,
             event,
             Place::new(self.events),
         );
-        follow_locks(&mut self.held, event);
+        record_locks(&mut self.held, event);
         self.events += 1;
     }
 
-    /// Brings the dependencies that are new into the graph. The trace of the tables stays as it
-    /// was. After it `share` copies no graph until the next event.
+    /// Adds new dependencies to the graph. The trace of the tables does not change. After this
+    /// call, `share` copies no graph until the next event.
     ///
     /// # Errors
     ///
-    /// `NoMemory` where a growth was refused.
+    /// `NoMemory` if an allocation fails.
     pub fn catch_up(&mut self) -> Result<(), NoMemory>
         ensures follow { (s : Trace) → FollowTrace self.old s → FollowTrace self.new s }
         ensures all { OnOk result (length (known self.new.dependencies) ≤ self.new.graphed) }
@@ -146,19 +133,21 @@ impl LockTables {
         Ok(())
     }
 
-    /// The tables of the first events, which have so many dependencies: what came later is left
-    /// out. It takes time for each full segment of dependencies and of places, and for at most
-    /// 4,096 of either; a graph that lacks the last of these dependencies is copied.
+    /// Returns the dependencies and the graph of the first `events` events, which have `total`
+    /// dependencies.
+    ///
+    /// Copies at most 4,096 dependencies and 4,096 places, and shares the full segments. Copies the
+    /// graph only if it lacks one of these dependencies.
     ///
     /// # Errors
     ///
-    /// `NoMemory` where a growth was refused.
+    /// `NoMemory` if an allocation fails.
     pub fn share(&self, total: u32, events: u32) -> Result<LockParts, NoMemory>
         requires { HasTotal self.now total events }
         ensures { IfOk result (λ parts. (s : Trace) → FollowTrace self.now s →
             CountsBelow s total events → ArePartsOf parts (take events s)) }
     {
-        tables_follow();
+        tables_follow(); // for the proof
         let dependencies = self.dependencies.share(total, events)?;
         let graph = graph_of(
             self.alloc,
@@ -174,11 +163,11 @@ impl LockTables {
         })
     }
 
-    /// The tables of the whole trace, by value.
+    /// Returns the dependencies and the graph of the whole trace.
     ///
     /// # Errors
     ///
-    /// `NoMemory` where a growth was refused.
+    /// `NoMemory` if an allocation fails.
     pub fn into_parts(self) -> Result<LockParts, NoMemory>
         ensures { IfOk result (λ parts. (s : Trace) → FollowTrace self s → ArePartsOf parts s) }
     {
@@ -192,7 +181,7 @@ impl LockTables {
         }
     }
 
-    /// The dependencies, and the graph that has all of them.
+    /// Returns the dependencies and the graph, which must have all of them.
     fn parts(self) -> Result<LockParts, NoMemory>
         requires { length (known self.dependencies) ≤ self.graphed }
         ensures { IfOk result (λ parts. (s : Trace) → FollowTrace self s → ArePartsOf parts s) }
@@ -219,7 +208,7 @@ impl LockTables {
         }
     }
 
-    /// Goes on from the empty trace to all of these events.
+    /// Records all of `events` from the empty trace.
     fn record_all(&mut self, events: &[Event]) -> Result<(), NoMemory>
         requires lawful { IsWellFormed events.now }
         requires empty { FollowTrace self.old [] }
@@ -233,14 +222,14 @@ impl LockTables {
         Ok(())
     }
 
-    /// Brings the next dependency into the graph.
+    /// Adds the next dependency to the graph.
     fn graph_next(&mut self) -> Result<(), NoMemory>
         requires { self.old.graphed < length (known self.old.dependencies) }
         ensures follow { (s : Trace) → FollowTrace self.old s → FollowTrace self.new s }
         ensures ok { OnOk result (self.new.graphed ≡ self.old.graphed + 1) }
         ensures dependencies { self.new.dependencies ≡ self.old.dependencies }
     {
-        let _total = self.dependencies.len();
+        let _total = self.dependencies.len(); // for the proof: bounds the numbers
         let number = self.graphed as u32;
         let dependency = self.dependencies.get(number);
         add_to(self.alloc, self.state, &mut self.graph, number, dependency)?;
@@ -249,7 +238,7 @@ impl LockTables {
     }
 }
 
-/// The graph, or a new one where there is none.
+/// Returns the graph, or a new one if there is none.
 fn graph_or_new(
     alloc: Global,
     state: RandomState,
@@ -264,7 +253,7 @@ fn graph_or_new(
     }
 }
 
-/// A graph of its own with the same dependencies.
+/// Returns a copy of the graph.
 fn copy_of(
     alloc: Global,
     state: RandomState,
@@ -278,7 +267,7 @@ fn copy_of(
     }
 }
 
-/// Adds a dependency to the graph, or to a copy where it is shared.
+/// Adds a dependency to the graph, or to a copy of it if it is shared.
 fn add_to(
     alloc: Global,
     state: RandomState,
@@ -304,8 +293,8 @@ fn add_to(
     Ok(())
 }
 
-/// A graph that has so many of the dependencies: the present one, or a copy with those that it
-/// lacks.
+/// Returns a graph with the first `total` dependencies: the present one, or a copy with those that
+/// it lacks.
 fn graph_of(
     alloc: Global,
     state: RandomState,
@@ -331,14 +320,14 @@ fn graph_of(
     Ok(Arc::new(alloc, copy)?)
 }
 
-/// Adds to a graph of the first dependencies the next ones.
+/// Adds the dependencies from number `from` up to `to` to the graph.
 fn extend(graph: &mut LockGraph, table: &DepTable, from: usize, to: usize) -> Result<(), NoMemory>
     requires order { from ≤ to }
     requires within { to ≤ length (known table.now) }
     requires graph { IsGraphOf (take from (known table.now)) (holders graph.old) }
     ensures { OnOk result (IsGraphOf (take to (known table.now)) (holders graph.new)) }
 {
-    let _total = table.len();
+    let _total = table.len(); // for the proof: bounds the numbers
     for number in from..to {
         let number = number as u32;
         graph.add(number, table.get(number))?;

@@ -1,4 +1,4 @@
--- What was collected of all tasks.
+-- The results collected from all tasks.
 use Rattle.std.proofs.Common.{◌≡◌, ℕ, zero, suc, ◌<◌, List, [], ◌∷◌, map, length, get_or, slice_get, Some, Contains, ap, ◌∙◌, Result, Ok, Err, MatchResult, refl, sym, subst, arith}
 use Rattle.std.specs.Global.{Vec}
 use Rattle.std.specs.List.{AllZip, range_with_len}
@@ -7,12 +7,12 @@ use Rattle.std.proofs.lemmas.Option.{none-some, same_Some, slice_get_within}
 use Rattle.trace_model.specs.Theory.Trace.{Trace}
 use Rattle.reports.specs.Printed.{Printed}
 use Rattle.snapshots.specs.Found.{AreRowsOf}
-use Rattle.offline_report.specs.Offline.{AreComputed, IsNotComputed, IsTask, Tells}
+use Rattle.offline_report.specs.Offline.{AreComputed, IsNotComputed, IsTask, IsPartOf}
 use Rattle.offline_report.specs.declared.parts.Part.{Part}
 use Rattle.offline_report.specs.declared.refused.OfflineRefused.{OfflineRefused}
 
 module _ (s : Trace) (bound : ℕ) where
-  -- the rows that the parts tell
+  -- The rows of the parts.
   abbrev rows_told : (js : List ℕ) (parts : List Part) → AllZip (IsTask s bound) js (map Ok parts) → List (List Printed)
   rows_told [] [] h = []
   rows_told [] (p ∷ parts) h = absurd h
@@ -25,7 +25,7 @@ module _ (s : Trace) (bound : ℕ) where
   length_told (j ∷ js) [] h = absurd h
   length_told (j ∷ js) (p ∷ parts) h = ap suc (length_told js parts h.1)
 
-  all_told : (js : List ℕ) (parts : List Part) (h : AllZip (IsTask s bound) js (map Ok parts)) → AllZip Tells (rows_told js parts h) parts
+  all_told : (js : List ℕ) (parts : List Part) (h : AllZip (IsTask s bound) js (map Ok parts)) → AllZip IsPartOf (rows_told js parts h) parts
   all_told [] [] h = tt
   all_told [] (p ∷ parts) h = absurd h
   all_told (j ∷ js) [] h = absurd h
@@ -46,7 +46,7 @@ module _ (s : Trace) (bound : ℕ) where
   one_err (j ∷ js) (x ∷ xs) e zero h lt is = subst (IsTask s bound j) is h.0
   one_err (j ∷ js) (x ∷ xs) e (suc k) h lt is = one_err js xs e k h.1 (omega arith) is
 
-  -- what the report has of all tasks, in their order, or what one of them refused
+  -- The parts of all tasks in their order, or the error of one of them.
   pub collected : (n : ℕ) (js : List ℕ) (xs : List (Result Part OfflineRefused)) (v : Result (Vec Part) OfflineRefused) → js ≡ range_with_len 0 n → AllZip (IsTask s bound) js xs
       → MatchResult v (λ c. (ys : List Part) × (xs ≡ map Ok ys) × (c.items ≡ ys)) (λ e. Contains xs (Err e))
       → MatchResult v (λ c. (tasks : List (List Printed)) × AreComputed s bound n tasks c.items) (IsNotComputed s bound)
@@ -62,7 +62,7 @@ module _ (s : Trace) (bound : ℕ) where
               let within : task < n = subst (λ m. task < m) total (slice_get_within tasks task rows got) in
               let at : get_or (range_with_len 0 n) task 0 ≡ task = omega (arith, get_or-range_with_len 0 n task 0 within) in
               subst (λ j. AreRowsOf s bound j rows) at (each_told (range_with_len 0 n) parts all task 0 rows got);
-          told = subst (AllZip Tells tasks) (sym h.2) (all_told (range_with_len 0 n) parts all);
+          written = subst (AllZip IsPartOf tasks) (sym h.2) (all_told (range_with_len 0 n) parts all);
         },
       )
   collected n js xs (Err e) is zip h = one_err js xs e h.0 zip h.1 h.2

@@ -14,20 +14,20 @@ added text xs x = flat_map-append text xs (x ∷ []) ∙ ap (λ l. flat_map text
 abbrev shown : Vec ℕ → List ℕ
 shown piece = piece.items
 
--- one more piece
+-- One more piece.
 pub pushed : (pieces : List (Vec ℕ)) (piece : Vec ℕ) → whole (pieces ++ piece ∷ []) ≡ whole pieces ++ piece.items
 pushed pieces piece = added shown pieces piece
 
--- one more piece of a text
+-- One more piece of a text.
 pub one_more : (pieces : List (Vec ℕ)) (i : ℕ) (piece : Vec ℕ) (before after : List ℕ) → i < length pieces → piece ≡ get_or pieces i piece →
     before ≡ whole (take i pieces) → after ≡ before ++ piece.items → after ≡ whole (take (i + 1) pieces)
 one_more pieces i piece before after within is b a =
     let all = ap whole (take_more pieces i piece within ∙ ap (λ p. take i pieces ++ p ∷ []) (sym is)) ∙ pushed (take i pieces) piece in
     a ∙ (ap (λ l. l ++ piece.items) b ∙ sym all)
 
--- the text of one more part, after the head and those of the parts before it
-pub part_told : (head : List ℕ) (told : List Part) (part : Part) (before after text : List ℕ) → before ≡ head ++ flat_map text_of told → text_of part ≡ text →
-    after ≡ before ++ text → after ≡ head ++ flat_map text_of (told ++ part ∷ [])
-part_told head told part before after text b is a =
-    let last = added text_of told part ∙ ap (λ l. flat_map text_of told ++ l) is in
-    a ∙ (ap (λ l. l ++ text) b ∙ (append_assoc head (flat_map text_of told) text ∙ ap (λ l. head ++ l) (sym last)))
+-- The text of one more part, after the head and the texts of earlier parts.
+pub part_told : (head : List ℕ) (written : List Part) (part : Part) (before after text : List ℕ) → before ≡ head ++ flat_map text_of written → text_of part ≡ text →
+    after ≡ before ++ text → after ≡ head ++ flat_map text_of (written ++ part ∷ [])
+part_told head written part before after text b is a =
+    let last = added text_of written part ∙ ap (λ l. flat_map text_of written ++ l) is in
+    a ∙ (ap (λ l. l ++ text) b ∙ (append_assoc head (flat_map text_of written) text ∙ ap (λ l. head ++ l) (sym last)))

@@ -1,4 +1,4 @@
--- The report on all tasks, from what its parts tell.
+-- The report on all tasks, from their parts.
 use Rattle.std.proofs.Common.{◌≡◌, ℕ, ◌+◌, ◌<◌, ◌≤◌, List, ◌++◌, length, flat_map, sum_by, sym, ap, ◌∙◌, arith, length-append, append_assoc}
 use Rattle.std.specs.List.{AllZip}
 use Rattle.std.proofs.lemmas.List.Concat.{length-flat_map}
@@ -6,12 +6,12 @@ use Rattle.trace_model.specs.declared.limits.TheConstants.{MAX_REPORT}
 use Rattle.reports.specs.Printed.{Printed}
 use Rattle.reports.specs.Text.{about, counts, is_confirmed}
 use Rattle.reports.proofs.Counting.{count_by-flat_map, confirmed_within, report_by_tasks, rows_within}
-use Rattle.offline_report.specs.Offline.{Tells, size_of, tasks_report, tasks_text, text_of}
+use Rattle.offline_report.specs.Offline.{IsPartOf, size_of, tasks_report, tasks_text, text_of}
 use Rattle.offline_report.specs.declared.parts.Part.{Part}
 use Rattle.offline_report.proofs.Sizes.{confirmed_are, cycles_are, sizes_are, sizes_over, texts_are}
 
-module _ (events bound : ℕ) (tasks : List (List Printed)) (parts : List Part) (told : AllZip Tells tasks parts) where
-  -- what stands before the rows
+module _ (events bound : ℕ) (tasks : List (List Printed)) (parts : List Part) (written : AllZip IsPartOf tasks parts) where
+  -- The text before the rows.
   abbrev head : List ℕ
   head = about 0 events bound ++ counts (sum_by (λ part. part.cycles) parts) (sum_by (λ part. part.confirmed) parts)
 
@@ -19,8 +19,8 @@ module _ (events bound : ℕ) (tasks : List (List Printed)) (parts : List Part) 
   unfolding tasks_report
   report_is =
       let rows : List Printed → List Printed = λ rows. rows in
-      let cycles = cycles_are tasks parts told ∙ sym (length-flat_map rows tasks) in
-      let confirmed = confirmed_are tasks parts told ∙ sym (count_by-flat_map is_confirmed rows tasks) in
+      let cycles = cycles_are tasks parts written ∙ sym (length-flat_map rows tasks) in
+      let confirmed = confirmed_are tasks parts written ∙ sym (count_by-flat_map is_confirmed rows tasks) in
       report_by_tasks 0 events bound rows tasks
       ∙ (λ i. about 0 events bound ++ (counts (sym cycles i) (sym confirmed i) ++ tasks_text tasks))
       ∙ sym (append_assoc (about 0 events bound) (counts (sum_by (λ part. part.cycles) parts) (sum_by (λ part. part.confirmed) parts)) (tasks_text tasks))
@@ -28,24 +28,24 @@ module _ (events bound : ℕ) (tasks : List (List Printed)) (parts : List Part) 
   length_is : length (tasks_report events bound tasks) ≡ length head + length (tasks_text tasks)
   length_is = ap length report_is ∙ length-append head (tasks_text tasks)
 
-  -- the texts of the rows are too long
+  -- The texts of the rows are too long.
   pub over_rows : MAX_REPORT < sum_by size_of parts → MAX_REPORT < length (tasks_report events bound tasks)
-  over_rows over = omega (arith, length_is, sizes_over tasks parts told over)
+  over_rows over = omega (arith, length_is, sizes_over tasks parts written over)
 
-  -- there is no room for what stands before them
+  -- There is no room for the text before them.
   pub over_head : (text : List ℕ) (rest : ℕ) → text ≡ head → rest + sum_by size_of parts ≡ MAX_REPORT → rest < length text → MAX_REPORT < length (tasks_report events bound tasks)
-  over_head text rest is left short = omega (arith, length_is, left, short, ap length is, sizes_are tasks parts told (omega (arith, left)))
+  over_head text rest is left short = omega (arith, length_is, left, short, ap length is, sizes_are tasks parts written (omega (arith, left)))
 
   pub is_told : (text : List ℕ) (rest : ℕ) → text ≡ head → rest + sum_by size_of parts ≡ MAX_REPORT → text ++ flat_map text_of parts ≡ tasks_report events bound tasks
   is_told text rest is left =
-      let size = sizes_are tasks parts told (omega (arith, left)) in
-      (λ i. is i ++ texts_are tasks parts told (omega (arith, left, size)) i) ∙ sym report_is
+      let size = sizes_are tasks parts written (omega (arith, left)) in
+      (λ i. is i ++ texts_are tasks parts written (omega (arith, left, size)) i) ∙ sym report_is
 
-  -- there are no more rows than bytes
+  -- There are at most as many rows as bytes.
   pub cycles_within : (rest : ℕ) → rest + sum_by size_of parts ≡ MAX_REPORT → sum_by (λ part. part.cycles) parts ≤ MAX_REPORT
   cycles_within rest left =
-      omega (arith, left, sizes_are tasks parts told (omega (arith, left)), cycles_are tasks parts told, rows_within (λ rows. rows) tasks)
+      omega (arith, left, sizes_are tasks parts written (omega (arith, left)), cycles_are tasks parts written, rows_within (λ rows. rows) tasks)
 
   pub confirmed_few : (rest : ℕ) → rest + sum_by size_of parts ≡ MAX_REPORT → sum_by (λ part. part.confirmed) parts ≤ MAX_REPORT
   confirmed_few rest left =
-      omega (arith, left, sizes_are tasks parts told (omega (arith, left)), confirmed_are tasks parts told, confirmed_within is_confirmed (λ rows. rows) tasks)
+      omega (arith, left, sizes_are tasks parts written (omega (arith, left)), confirmed_are tasks parts written, confirmed_within is_confirmed (λ rows. rows) tasks)

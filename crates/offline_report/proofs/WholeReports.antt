@@ -16,7 +16,7 @@ use Rattle.offline_report.specs.declared.parts.Part.{Part}
 use Rattle.offline_report.specs.declared.refused.OfflineRefused.{OfflineRefused}
 use Rattle.offline_report.specs.declared.refused.OfflineRefused.TheVariants.{Unlawful, TooLong, TooManyCycles, NoMemory}
 
--- the rows of a task, and of each task, without the dependencies that they name
+-- The rows of a task, and of each task, without their dependencies.
 abbrev pub plain : List Printed → List Row
 plain rows = map (λ p. p.row) rows
 
@@ -42,7 +42,7 @@ named_tasks ds (v ∷ tasks) h =
     ∙ (λ i. first i ++ rest i)
     ∙ sym (flat_map-cons (λ (rows : List Printed). rows) v tasks)
 
--- the text on what was computed is that on its rows
+-- The text on the computed parts is that on their rows.
 pub report_is : (s : Trace) (bound n len : ℕ) (tasks : List (List Printed)) (parts : List Part) → AreComputed s bound n tasks parts → len ≡ length s →
     tasks_report len bound tasks ≡ report_of s bound (all_plain tasks)
 unfolding report_of tasks_report

@@ -17,24 +17,24 @@ use Rattle.offline_report.specs.declared.parts.Part.{Part}
 use Rattle.offline_report.specs.declared.refused.OfflineRefused.{OfflineRefused}
 use Rattle.offline_report.specs.declared.refused.OfflineRefused.TheVariants.{Unlawful, TooLong, TooManyCycles, NoMemory}
 
--- of each task its rows, in the order of the tasks
+-- The rows of each task, in the order of the tasks.
 pub record AreTasks (s : Trace) (bound : ℕ) (tasks : List (List Row)) : Type 0 where
   pub total : length tasks ≡ length (dependencies s)
   pub each : (task : ℕ) (rows : List Row) → slice_get tasks task ≡ Some rows →
       AreRows s bound task rows
 
--- the report of question 0 about all events, on these tasks
+-- The report of question 0 on all events, with these tasks.
 unfoldable pub report_of : Trace → ℕ → List (List Row) → List ℕ
 report_of s bound tasks =
     report 0 (length s) bound
     (map (with_dependencies (dependencies s)) (flat_map (λ rows. rows) tasks))
 
--- the report on exactly the rows
+-- The text is the report with exactly the rows of the trace.
 abbrev pub IsReport : Trace → ℕ → List ℕ → Type 0
 IsReport s bound text = IsWellFormed s
     × ((tasks : List (List Row)) × AreTasks s bound tasks × (text ≡ report_of s bound tasks))
 
--- there is rightly no report
+-- The reason for which there is no report applies.
 abbrev pub IsRefused : Trace → ℕ → OfflineRefused → Type 0
 IsRefused s bound (Unlawful first) = IsFirstUnlawful s first
 IsRefused s bound TooLong = IsWellFormed s
@@ -46,12 +46,14 @@ IsRefused s bound NoMemory = Unit {0}
 
 -- ---- the parts
 
+-- The reason for which events are not admitted applies.
 abbrev pub IsNotAdmitted : Trace → OfflineRefused → Type 0
 IsNotAdmitted s (Unlawful first) = IsFirstUnlawful s first
 IsNotAdmitted s TooLong = ⊥
 IsNotAdmitted s TooManyCycles = ⊥
 IsNotAdmitted s NoMemory = Unit {0}
 
+-- The reason for which a task is not computed applies.
 abbrev pub IsNotComputed : Trace → ℕ → OfflineRefused → Type 0
 IsNotComputed s bound (Unlawful first) = ⊥
 IsNotComputed s bound TooLong = ⊥
@@ -59,29 +61,29 @@ IsNotComputed s bound TooManyCycles = (task : ℕ)
     × MoreThan (CycleFrom (dependencies s) bound task) MAX_CYCLES
 IsNotComputed s bound NoMemory = Unit {0}
 
--- what a report has of these rows: their text, or none where that alone is too long, and how many
--- they are
-pub record Tells (rows : List Printed) (part : Part) : Type 0 where
+-- The part of these rows in a report: their text, or `None` if that alone is too long, and their
+-- numbers.
+pub record IsPartOf (rows : List Printed) (part : Part) : Type 0 where
   pub text : MatchOption part.text (MAX_REPORT < length (flat_map row_text rows))
       (λ text. text.items ≡ flat_map row_text rows)
   pub cycles : part.cycles ≡ length rows
   pub confirmed : part.confirmed ≡ count_by is_confirmed rows
 
--- what a report has of a task, or rightly none
+-- The part of a task, or a reason that applies.
 abbrev pub IsTask : Trace → ℕ → ℕ → Result Part OfflineRefused → Type 0
 IsTask s bound task result =
     MatchResult result (λ part. (rows : List Printed) × AreRowsOf s bound task rows
-    × Tells rows part) (IsNotComputed s bound)
+    × IsPartOf rows part) (IsNotComputed s bound)
 
--- the rows of the first n tasks, with what a report has of them
+-- The rows of the first `n` tasks, with their parts.
 pub record AreComputed (s : Trace) (bound n : ℕ) (tasks : List (List Printed))
     (parts : List Part) : Type 0 where
   pub total : length tasks ≡ n
   pub each : (task : ℕ) (rows : List Printed) → slice_get tasks task ≡ Some rows →
       AreRowsOf s bound task rows
-  pub told : AllZip Tells tasks parts
+  pub written : AllZip IsPartOf tasks parts
 
--- what the first n tasks give, in their order, or why one of them gave nothing
+-- The results of the first `n` tasks in their order, or the error of one of them.
 abbrev pub AreGathered : {Given : Type 0} (may_give : ℕ → Result Given OfflineRefused → Type 0)
     (n : ℕ) → Result (Vec Given) OfflineRefused → Type 0
 AreGathered {Given} may_give n result =
@@ -89,32 +91,33 @@ AreGathered {Given} may_give n result =
     × MatchResult result (λ all. (ys : List Given) × (given ≡ map Ok ys) × (all.items ≡ ys))
     (λ refused. Contains given (Err refused))
 
--- what a report has of all tasks, or rightly none
+-- The parts of all tasks, or a reason that applies.
 abbrev pub AreAllParts : Trace → ℕ → Result (Vec Part) OfflineRefused → Type 0
 AreAllParts s bound result =
     MatchResult result (λ parts. (tasks : List (List Printed))
     × AreComputed s bound (length (dependencies s)) tasks parts.items) (IsNotComputed s bound)
 
--- the text of all rows of the tasks
+-- The text of all rows of the tasks.
 abbrev pub tasks_text : List (List Printed) → List ℕ
 tasks_text tasks = flat_map (λ rows. flat_map row_text rows) tasks
 
--- the report of question 0 on the rows of all tasks
+-- The report of question 0 with the rows of all tasks.
 unfoldable pub tasks_report : ℕ → ℕ → List (List Printed) → List ℕ
 tasks_report events bound tasks = report 0 events bound (flat_map (λ rows. rows) tasks)
 
--- how long the part's text is, longer than any report where there is none
+-- The length of the part's text, or more than that of any report if there is none.
 abbrev pub size_of : Part → ℕ
 size_of part = option_map_or (λ text. length text.items) part.text (suc MAX_REPORT)
 
--- the text of a part, and the pieces of a text one after another
+-- The text of a part.
 abbrev pub text_of : Part → List ℕ
 text_of part = option_map_or (λ text. text.items) part.text []
 
+-- The concatenation of the pieces.
 abbrev pub whole : List (Vec ℕ) → List ℕ
 whole pieces = flat_map (λ piece. piece.items) pieces
 
--- the pieces of this text, or none where it is too long
-abbrev pub IsToldAs : List ℕ → Option (Vec (Vec ℕ)) → Type 0
-IsToldAs text told = MatchOption told (MAX_REPORT < length text)
+-- The pieces of this text, or `None` if it is too long.
+abbrev pub ArePiecesOf : List ℕ → Option (Vec (Vec ℕ)) → Type 0
+ArePiecesOf text written = MatchOption written (MAX_REPORT < length text)
     (λ pieces. whole pieces.items ≡ text)

@@ -1,4 +1,4 @@
-//! What is gathered of all tasks, by as many threads as there are processors.
+//! Runs the tasks on a thread pool.
 ghost use Rattle.std.specs.Prelude.{ℕ, Result, IfOk};
 ghost use Rattle.offline_report.specs.Offline.{AreGathered};
 ghost use Rattle.offline_report.specs.declared.refused.OfflineRefused.{OfflineRefused};
@@ -8,21 +8,21 @@ use rayon::prelude::*;
 use std::alloc::{AllocError, Global};
 use std::thread::Threads;
 
-/// With fewer tasks than two such pieces no thread is started: a piece makes anew what its tasks
-/// keep from one to the next.
+/// The least number of tasks of a piece. A piece computes anew the tables that its tasks share, so
+/// fewer than two such pieces run on one thread.
 const LEAST_PIECE: usize = 16;
 
-/// What computes tasks, for threads that share it.
+/// Computes tasks, from several threads.
 pub(crate) trait Computes: Sync {
-    /// What the tasks of one piece keep from one to the next.
+    /// What the tasks of one piece share.
     type Piece: Send + Drop;
-    /// What a task gives.
+    /// The result of a task.
     type Given: Send + Drop;
 
-    /// A task may give this.
+    /// The results that a task may have.
     ghost may_give: { ℕ → Result Self.Given OfflineRefused → Type 0 };
 
-    /// A piece of which nothing is computed.
+    /// Returns a piece of which no task is computed.
     fn piece(&self) -> Self::Piece;
 
     /// Computes a task of the piece.
@@ -30,7 +30,10 @@ pub(crate) trait Computes: Sync {
         ensures { may_give task result };
 }
 
-/// What so many tasks give, in their order, or why one of them gave nothing.
+/// Returns the results of `tasks` tasks, in their order, or the error of one of them.
+///
+/// # Errors
+/// `AllocError` if an allocation fails.
 pub(crate) fn gather<R: Threads + Sync, C: Computes>(
     rt: &R,
     alloc: Global,

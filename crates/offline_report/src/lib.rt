@@ -1,5 +1,8 @@
-//! The report on a whole list of events, without a book: gate and tables are made in one pass each,
-//! and the rows of the tasks by as many threads as there are processors.
+//! The report on a whole list of events, computed without a book.
+//!
+//! [`offline`] returns exactly the report that a book would give for question 0 on all events. One
+//! pass tests that the trace is well formed, one builds the tables, and the tasks are computed by
+//! as many threads as there are processors. Start reading at `opening.rt`.
 #![tactic(auto)]
 
 mod gathering;

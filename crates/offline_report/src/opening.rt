@@ -1,4 +1,4 @@
-//! Events that passed the gate, with their tables.
+//! A well-formed list of events with its tables.
 ghost use Rattle.std.specs.Prelude.{◌≡◌, length, IfOk, IfErr, OnOk};
 ghost use Rattle.std.specs.Arc.{arc_value};
 ghost use Rattle.trace_model.specs.Theory.Dependencies.{dependencies};
@@ -17,8 +17,8 @@ use std::thread::Threads;
 use trace_model::{Bound, Event, NoMemory};
 use wellformed::first_unlawful;
 
-/// Well-formed events with the tables that the tasks of a question with a bound are computed from.
-/// Contracts see it as that question, number 0.
+/// Well-formed events with the tables from which the tasks of a question are computed. Contracts
+/// see it as that question, number 0.
 #[derive(Drop)]
 pub struct Offline {
     pub(crate) alloc: Global,
@@ -36,12 +36,12 @@ impl Model for Offline {
 }
 
 impl Offline {
-    /// Passes the events through a gate, in their order, and makes their tables, by two threads.
+    /// Tests that each event is lawful after those before it, and builds the tables with two
+    /// threads.
     ///
     /// # Errors
-    ///
-    /// `Unlawful` with the first event that is not lawful, where there is one, and `NoMemory` where a
-    /// growth was refused.
+    /// - `Unlawful` with the first event that is not lawful, if there is one.
+    /// - `NoMemory` if an allocation fails.
     pub fn open<R: Threads>(
         rt: &R,
         alloc: Global,
@@ -65,21 +65,22 @@ impl Offline {
         })
     }
 
-    /// How many tasks there are: as many as the events have dependencies. It takes no memory.
+    /// Returns the number of tasks: the number of dependencies of the events. Does not allocate.
     pub fn tasks(&self) -> u32
         ensures { result ≡ length (dependencies self.now.events) }
     {
         self.snapshot.tasks()
     }
 
-    /// The report, exactly as a book would give it, in pieces one after another. Its tasks are
-    /// computed, and their texts written, by as many threads as there are processors; each calls
-    /// the hold, with question 0, once its rows are there.
+    /// Returns the report in pieces: their concatenation is exactly the report that a book would
+    /// give. As many threads as there are processors compute the tasks and write their texts. Each
+    /// task calls the hold, with question 0, when its rows are computed.
     ///
     /// # Errors
-    ///
-    /// `TooManyCycles` where a task has too many, `TooLong` where the text is, and `NoMemory` where
-    /// a growth was refused; where several tasks fail, what one of them refused.
+    /// If several tasks fail, the error is that of one of them.
+    /// - `TooManyCycles` if a task has too many cycles.
+    /// - `TooLong` if the text is too long.
+    /// - `NoMemory` if an allocation fails.
     pub fn pieces<R: Threads + Sync, H: Hold + Sync>(
         &self,
         rt: &R,
@@ -98,11 +99,10 @@ impl Offline {
         }
     }
 
-    /// The report as one text: see `pieces`.
+    /// Returns the report as one text. See [`Offline::pieces`].
     ///
     /// # Errors
-    ///
-    /// As of `pieces`.
+    /// Those of [`Offline::pieces`].
     pub fn report<R: Threads + Sync, H: Hold + Sync>(
         &self,
         rt: &R,
@@ -119,7 +119,11 @@ impl Offline {
     }
 }
 
-/// Passes the events through a gate.
+/// Tests that each event is lawful after those before it.
+///
+/// # Errors
+/// - `Unlawful` with the first event that is not lawful, if there is one.
+/// - `NoMemory` if an allocation fails.
 fn admit(alloc: Global, state: RandomState, events: &[Event]) -> Result<(), OfflineRefused>
     ensures ok { OnOk result (IsWellFormed events.now) }
     ensures refused { IfErr result (IsNotAdmitted events.now) }
@@ -131,6 +135,10 @@ fn admit(alloc: Global, state: RandomState, events: &[Event]) -> Result<(), Offl
     }
 }
 
+/// Returns a shared snapshot of the events.
+///
+/// # Errors
+/// `NoMemory` if an allocation fails.
 fn share<R: Threads>(
     rt: &R,
     alloc: Global,

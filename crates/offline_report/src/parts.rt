@@ -1,17 +1,17 @@
-//! What the report has of each task.
+//! The part of each task in the report.
 ghost use Rattle.std.specs.Prelude.{◌≡◌, ◌+◌, ◌<◌, ◌≤◌, ◌^◌, ◌++◌, List, sum_by, IfErr, IfOk, MatchOption};
 ghost use Rattle.std.specs.List.{AllZip, flat_map};
 ghost use Rattle.trace_model.specs.declared.limits.TheConstants.{MAX_REPORT};
 ghost use Rattle.reports.specs.Printed.{Printed};
-ghost use Rattle.offline_report.specs.Offline.{IsToldAs, Tells, size_of, tasks_report, text_of, whole};
+ghost use Rattle.offline_report.specs.Offline.{ArePiecesOf, IsPartOf, size_of, tasks_report, text_of, whole};
 
 use crate::refused::OfflineRefused;
-use reports::{Page, Row, TextRefused, confirmed_in, head_text, rows_text};
+use reports::{Row, TextBuffer, TextRefused, confirmed_in, head_text, rows_text};
 use std::alloc::Global;
 use trace_model::{Bound, MAX_REPORT, NoMemory};
 
-/// What the report has of a task: the text of its rows, none where that alone is too long for a
-/// report; how many rows there are, and how many confirmed ones.
+/// The part of a task in the report: the text of its rows, or `None` if that alone is too long for
+/// a report; and the numbers of rows and of confirmed rows.
 #[derive(Drop)]
 pub(crate) struct Part {
     pub(crate) text: Option<Vec<u8>>,
@@ -19,12 +19,15 @@ pub(crate) struct Part {
     pub(crate) confirmed: u64,
 }
 
-/// What the report has of these rows, or that a growth was refused.
-pub(crate) fn part_of(page: &mut Page, rows: &[Row]) -> Result<Part, OfflineRefused>
-    ensures part { IfOk result (Tells rows.now) }
+/// Returns the part of these rows.
+///
+/// # Errors
+/// `NoMemory` if an allocation fails.
+pub(crate) fn part_of(buffer: &mut TextBuffer, rows: &[Row]) -> Result<Part, OfflineRefused>
+    ensures part { IfOk result (IsPartOf rows.now) }
     ensures refused { IfErr result (λ refused. refused ≡ OfflineRefused.NoMemory) }
 {
-    let text = match rows_text(page, rows) {
+    let text = match rows_text(buffer, rows) {
         Ok(text) => Some(text),
         Err(TextRefused::TooLong) => None,
         Err(TextRefused::NoMemory) => return Err(OfflineRefused::NoMemory),
@@ -36,7 +39,7 @@ pub(crate) fn part_of(page: &mut Page, rows: &[Row]) -> Result<Part, OfflineRefu
     })
 }
 
-/// What is left after the part's text.
+/// Subtracts the length of the part's text from `left`. Returns `None` if the text is longer.
 fn after_part(left: u64, part: &Part) -> Option<u64>
     requires { left ≤ MAX_REPORT }
     ensures { MatchOption result (left < size_of part.now)
@@ -48,7 +51,7 @@ fn after_part(left: u64, part: &Part) -> Option<u64>
     }
 }
 
-/// What is left of `MAX_REPORT` bytes after the texts of the parts.
+/// Returns what the texts of the parts leave of `MAX_REPORT` bytes, or `None` if they are longer.
 fn after_parts(parts: &[Part]) -> Option<u64>
     ensures { MatchOption result (MAX_REPORT < sum_by size_of parts.now)
         (λ rest. rest + sum_by size_of parts.now ≡ MAX_REPORT) }
@@ -60,7 +63,7 @@ fn after_parts(parts: &[Part]) -> Option<u64>
     Some(left)
 }
 
-/// How many rows the parts have.
+/// Returns the number of rows of the parts.
 fn cycles_in(parts: &[Part]) -> u64
     requires { sum_by (λ part. part.cycles) parts.now < 2 ^ 64 }
     ensures { result ≡ sum_by (λ part. part.cycles) parts.now }
@@ -68,7 +71,7 @@ fn cycles_in(parts: &[Part]) -> u64
     parts.iter().map(|part| part.cycles).sum()
 }
 
-/// How many of them are confirmed.
+/// Returns the number of confirmed rows of the parts.
 fn confirmed_among(parts: &[Part]) -> u64
     requires { sum_by (λ part. part.confirmed) parts.now < 2 ^ 64 }
     ensures { result ≡ sum_by (λ part. part.confirmed) parts.now }
@@ -76,7 +79,10 @@ fn confirmed_among(parts: &[Part]) -> u64
     parts.iter().map(|part| part.confirmed).sum()
 }
 
-/// The head and the texts of the parts, one after another.
+/// Returns the head and the texts of the parts, in order.
+///
+/// # Errors
+/// `NoMemory` if an allocation fails.
 fn in_pieces(alloc: Global, head: Vec<u8>, parts: Vec<Part>) -> Result<Vec<Vec<u8>>, NoMemory>
     ensures { IfOk result (λ pieces. whole pieces.items ≡ head.items ++
         flat_map text_of parts.items) }
@@ -91,21 +97,21 @@ fn in_pieces(alloc: Global, head: Vec<u8>, parts: Vec<Part>) -> Result<Vec<Vec<u
     Ok(pieces)
 }
 
-/// The text of the report of question 0 with this bound about so many events on the rows of all
-/// tasks, in pieces one after another; none where it has more than `MAX_REPORT` bytes.
+/// Returns the report of question 0 with this bound on the first `events` events, in pieces, or
+/// `None` if it has more than `MAX_REPORT` bytes.
 ///
 /// # Errors
-///
-/// `NoMemory` where a growth was refused.
+/// `NoMemory` if an allocation fails.
 pub(crate) fn report_pieces(
     alloc: Global,
     events: u32,
     bound: Bound,
     parts: Vec<Part>,
 ) -> Result<Option<Vec<Vec<u8>>>, NoMemory>
-    requires { (tasks : List (List Printed)) × AllZip Tells tasks parts.items }
-    ensures { IfOk result (λ told. (tasks : List (List Printed)) → AllZip Tells tasks parts.items →
-        IsToldAs (tasks_report events bound tasks) told) }
+    requires { (tasks : List (List Printed)) × AllZip IsPartOf tasks parts.items }
+    ensures { IfOk result
+        (λ written. (tasks : List (List Printed)) → AllZip IsPartOf tasks parts.items →
+        ArePiecesOf (tasks_report events bound tasks) written) }
 {
     let Some(rest) = after_parts(&parts) else {
         return Ok(None);
@@ -125,7 +131,10 @@ pub(crate) fn report_pieces(
     Ok(Some(pieces))
 }
 
-/// The pieces as one text.
+/// Returns the pieces as one text.
+///
+/// # Errors
+/// `NoMemory` if an allocation fails.
 pub(crate) fn joined(alloc: Global, pieces: &[Vec<u8>]) -> Result<Vec<u8>, NoMemory>
     ensures { IfOk result (λ text. text.items ≡ whole pieces.now) }
 {

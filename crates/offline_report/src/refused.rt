@@ -9,13 +9,13 @@ pub enum OfflineRefused {
     /// An event is not lawful after those before it.
     #[error("an event is not lawful")]
     Unlawful(FirstUnlawful),
-    /// The text has more bytes than `MAX_REPORT`.
+    /// The text has more than `MAX_REPORT` bytes.
     #[error("the report is too long")]
     TooLong,
-    /// A task has more cycles than `MAX_CYCLES`.
+    /// A task has more than `MAX_CYCLES` cycles.
     #[error("too many cycles")]
     TooManyCycles,
-    /// A growth was refused.
+    /// An allocation failed.
     #[error("no memory")]
     NoMemory,
 }

@@ -4,27 +4,22 @@ ghost use Rattle.offline_report.specs.Offline.{IsRefused, IsReport};
 
 use crate::opening::Offline;
 use crate::refused::OfflineRefused;
-use findings::Hold;
+use findings::{Hold, NoHold};
 use std::alloc::Global;
 use std::hash::RandomState;
 use std::thread::Threads;
 use trace_model::{Bound, Event};
 
-/// Keeps no task.
-struct Unheld;
-
-impl Hold for Unheld {
-    fn hold(&self, _question: u32, _task: u32) {}
-}
-
-/// The report of question 0 with this bound about all events: see `Offline::open` and
-/// `Offline::report`. Each task calls the hold, with question 0, once its rows are there.
+/// Returns the report of question 0 with this bound on all events. See [`Offline::open`] and
+/// [`Offline::report`]. Each task calls the hold, with question 0, when its rows are computed. Part
+/// of the public API; not called by the program.
 ///
 /// # Errors
-///
-/// `Unlawful` with the first event that is not lawful, where there is one; `TooManyCycles` where a task
-/// has too many, `TooLong` where the text is, and `NoMemory` where a growth was refused. Where
-/// several tasks fail, what one of them refused.
+/// If several tasks fail, the error is that of one of them.
+/// - `Unlawful` with the first event that is not lawful, if there is one.
+/// - `TooManyCycles` if a task has too many cycles.
+/// - `TooLong` if the text is too long.
+/// - `NoMemory` if an allocation fails.
 pub fn offline_with<R: Threads + Sync, H: Hold + Sync>(
     rt: &R,
     alloc: Global,
@@ -39,11 +34,11 @@ pub fn offline_with<R: Threads + Sync, H: Hold + Sync>(
     Offline::open(rt, alloc, state, events, bound)?.report(rt, hold)
 }
 
-/// The report of question 0 with this bound about all events, with no hold: see `offline_with`.
+/// Returns the report of question 0 with this bound on all events, without a hold. See
+/// [`offline_with`]. Part of the public API; not called by the program.
 ///
 /// # Errors
-///
-/// As of `offline_with`.
+/// Those of [`offline_with`].
 pub fn offline<R: Threads + Sync>(
     rt: &R,
     alloc: Global,
@@ -54,5 +49,5 @@ pub fn offline<R: Threads + Sync>(
     ensures text { IfOk result (λ text. IsReport events.items bound text.items) }
     ensures refused { IfErr result (IsRefused events.items bound) }
 {
-    offline_with(rt, alloc, state, events, bound, &Unheld)
+    offline_with(rt, alloc, state, events, bound, &NoHold)
 }

@@ -1,4 +1,4 @@
-//! What the report has of all tasks.
+//! Computes the parts of all tasks.
 ghost use Rattle.std.specs.Prelude.{◌≡◌, ℕ, [], IfOk, IfSome, MatchResult};
 ghost use Rattle.std.specs.Arc.{arc_value};
 ghost use Rattle.std.proofs.Props.{props};
@@ -10,17 +10,17 @@ use crate::gathering::{Computes, gather};
 use crate::parts::{Part, part_of};
 use crate::refused::OfflineRefused;
 use findings::{ComputeRefused, Hold, Job, Snapshot};
-use reports::{Page, Row};
+use reports::{Row, TextBuffer};
 use std::alloc::{AllocError, Global};
 use std::marker::{Brand, PhantomData};
 use std::sync::Arc;
 use std::thread::Threads;
 use trace_model::Bound;
 
-/// The number of the one question that is asked about a file.
+/// The number of the question that is asked about a file.
 const QUESTION: u32 = 0;
 
-/// Names the events and the bound of a question, in proofs alone.
+/// The events and the bound of a question, as ghost members. Only proofs read them.
 pub trait About {
     ghost events: { Trace };
 
@@ -33,20 +33,20 @@ impl About for Brand {
     ghost bound = { 0 };
 }
 
-/// What the tasks of one piece keep from one to the next: their job, if there is one, which by this
-/// type is about the named question, whichever thread has it, and a page for their texts.
+/// What the tasks of one piece share: their job, if there is one, and a buffer for their texts. The
+/// type says that the job is for the named question.
 #[derive(Drop)]
 struct Piece<A: About> {
     job: Option<Job>,
-    page: Page,
+    buffer: TextBuffer,
     name: PhantomData<A>,
     ghost about: { IfSome job (λ job. (job.events ≡ A.events)
         × (job.bound ≡ A.bound)) } by { Prim.hlevel props },
 }
 
 impl<A: About> Piece<A> {
-    /// A piece of which nothing is computed, without a job where the snapshot is not shared once
-    /// more.
+    /// Returns a piece of which no task is computed. It has no job if the snapshot cannot be shared
+    /// once more.
     fn new(alloc: Global, snapshot: &Arc<Snapshot, Global>, bound: Bound) -> Piece<A>
         requires events { arc_value snapshot.now ≡ A.events }
         requires bound { bound ≡ A.bound }
@@ -57,12 +57,16 @@ impl<A: About> Piece<A> {
         };
         Piece {
             job,
-            page: Page::new(alloc),
+            buffer: TextBuffer::new(alloc),
             name: PhantomData,
         }
     }
 
-    /// The rows of a task.
+    /// Returns the rows of a task.
+    ///
+    /// # Errors
+    /// - `TooManyCycles` if the task has too many cycles.
+    /// - `NoMemory` if an allocation fails, or the piece has no job.
     fn rows(&mut self, task: u32) -> Result<Vec<Row>, OfflineRefused>
         ensures { MatchResult result (λ rows. AreRowsOf A.events A.bound task rows.items)
             (IsNotComputed A.events A.bound) }
@@ -78,7 +82,10 @@ impl<A: About> Piece<A> {
     }
 }
 
-/// What the report has of a task, by its piece. Calls the hold once its rows are there.
+/// Returns the part of a task. Calls the hold when its rows are computed.
+///
+/// # Errors
+/// Those of [`Piece::rows`].
 fn part_by<A: About, H: Hold>(
     piece: &mut Piece<A>,
     hold: &H,
@@ -88,12 +95,12 @@ fn part_by<A: About, H: Hold>(
 {
     let rows = piece.rows(task)?;
     hold.hold(QUESTION, task);
-    let part = part_of(&mut piece.page, &rows);
+    let part = part_of(&mut piece.buffer, &rows);
     drop(rows);
     part
 }
 
-/// The named question, about a snapshot.
+/// The named question, on a snapshot.
 #[derive(Drop)]
 struct Question<'a, A: About, H: Hold> {
     alloc: Global,
@@ -121,7 +128,10 @@ impl<'a, A: About + Send + Sync, H: Hold + Sync> Computes for Question<'a, A, H>
     }
 }
 
-/// What the report has of all tasks of the named question, in the order of the tasks.
+/// Returns the parts of all tasks of the named question, in the order of the tasks.
+///
+/// # Errors
+/// `AllocError` if an allocation fails.
 fn compute_all<A: About + Send + Sync, R: Threads + Sync, H: Hold + Sync>(
     rt: &R,
     alloc: Global,
@@ -143,8 +153,12 @@ fn compute_all<A: About + Send + Sync, R: Threads + Sync, H: Hold + Sync>(
     gather(rt, alloc, snapshot.tasks(), &question)
 }
 
-/// What the report has of all tasks of a question with this bound about the snapshot's events, in
-/// the order of the tasks. Each task calls the hold once its rows are there.
+/// Returns the parts of all tasks of a question with this bound on the snapshot's events, in the
+/// order of the tasks. Each task calls the hold when its rows are computed.
+///
+/// # Errors
+/// - `TooManyCycles` if a task has too many cycles.
+/// - `NoMemory` if an allocation fails.
 pub(crate) fn parts_of<R: Threads + Sync, H: Hold + Sync>(
     rt: &R,
     alloc: Global,

@@ -1,4 +1,4 @@
-//! Sessions over sockets.
+//! A session over a socket.
 use sequencer::Calls;
 use sessions::{Ended, ReadSource, WriteSink, serve};
 use std::alloc::Global;
@@ -6,14 +6,14 @@ use std::io::Read;
 use std::net::{Shutdown, TcpStream};
 use std::sync::Wait;
 
-/// How many bytes are dropped at a time.
+/// The number of bytes dropped per read.
 const PIECE: usize = 4096;
 
-/// How many times bytes are dropped at most.
+/// The largest number of such reads.
 const PIECES: usize = 1024;
 
-/// Reads and drops what the peer still sends, up to a bound, so that what was written reaches it
-/// before the socket is closed.
+/// Closes the write side, and reads and drops what the peer still sends, up to 4 MiB. Without this the
+/// close could reset the connection before the peer has read the last reply.
 fn linger(stream: &TcpStream) {
     if stream.shutdown(Shutdown::Write).is_err() {
         return;
@@ -27,9 +27,9 @@ fn linger(stream: &TcpStream) {
     }
 }
 
-/// Answers the requests that come over the stream, until it ends or a fault comes.
+/// Answers the requests of the stream until it ends or has a fault.
 pub fn converse<R: Wait, C: Calls>(rt: &R, alloc: Global, stream: &TcpStream, calls: &mut C) {
-    // Without it replies are late, and still right.
+    // If this fails replies are delayed, but right.
     let _ = stream.set_nodelay(true);
     let mut source = ReadSource::new(stream);
     let mut sink = WriteSink::new(stream);

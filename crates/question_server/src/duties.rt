@@ -1,8 +1,8 @@
-//! What the threads of a server do.
+//! The work of the server's threads.
 use crate::connections::converse;
 use crate::rest::Rest;
 use crate::spares::Spares;
-use board::{Naming, Shown};
+use board::{HistoryId, Shown};
 use desk::{Client, Desk, Turn, Worker};
 use findings::Hold;
 use std::alloc::Global;
@@ -11,30 +11,30 @@ use std::sync::atomic::{AtomicU64, Ordering};
 use std::sync::{Arc, Mutex, Wait};
 use std::time::Clock;
 
-/// What the threads of a server do. They share it.
+/// The work of the server's threads, which share it.
 pub trait Duties: Sync {
-    /// Has a worker take turns until the workers are to stop.
+    /// Lets a worker take turns until the workers must stop.
     fn work(&self);
 
-    /// Holds a session over the stream.
+    /// Serves a session over the stream.
     fn hold_session(&self, stream: TcpStream);
 }
 
-/// The duties at a desk.
+/// The work at a desk.
 #[derive(Drop)]
-pub struct DeskDuties<'a, N: Naming, R: Wait + Copy, H: Hold> {
+pub struct DeskDuties<'a, N: HistoryId, R: Wait + Copy, H: Hold> {
     pub rt: R,
     pub alloc: Global,
     pub desk: &'a Arc<Desk<N, R, Shown<N>>>,
     pub spares: &'a Mutex<Spares<N>>,
     pub hold: &'a H,
-    /// Whether the workers are to stop: 0 until then.
+    /// Nonzero once the workers must stop.
     pub stop: &'a AtomicU64,
 }
 
-impl<'a, N: Naming + Send + Sync, R: Wait + Clock + Copy + Send + Sync, H: Hold + Sync> Duties
+impl<'a, N: HistoryId + Send + Sync, R: Wait + Clock + Copy + Send + Sync, H: Hold + Sync> Duties
     for DeskDuties<'a, N, R, H> {
-    /// It rests while its turns deliver nothing.
+    /// The worker sleeps while its turns deliver nothing.
     fn work(&self) {
         let Ok(desk) = Arc::try_clone(self.desk) else {
             return;

@@ -1,4 +1,6 @@
-//! The server: sessions over sockets and workers, each in a thread of its own, over one desk.
+//! The server: one desk, a thread for each session over a TCP socket, and a thread for each worker. The
+//! crate is also the specified home of the session loop, the client and the offline report, which it
+//! re-exports. Start reading at [`run_server`].
 #![tactic(auto)]
 
 mod connections;
@@ -8,5 +10,9 @@ mod service;
 mod serving;
 mod spares;
 
-pub use service::{ServerFault, Service, Unheld};
+pub use desk::Client;
+pub use offline_report::{offline, offline_with};
+pub use sequencer::Calls;
+pub use service::{ServerFault, Service};
 pub use serving::run_server;
+pub use sessions::{Ended, ServeFault, Sink, Source, serve};

@@ -1,39 +1,38 @@
-//! How a worker rests while it finds nothing to do.
+//! How an idle worker waits.
 ghost use Rattle.std.specs.Prelude.{◌≡◌, ◌-◌};
 ghost use Rattle.question_server.specs.declared.rest.TheConstants.{AWAKE};
 
 use std::thread;
 use std::time::{Clock, Duration};
 
-/// How many turns in succession that deliver nothing a worker takes awake.
+/// The number of successive idle turns before a worker sleeps.
 const AWAKE: u32 = 64;
 
-/// How many milliseconds it sleeps after each further one.
+/// The sleep after each further idle turn, in milliseconds.
 const SLEEP_MILLIS: u64 = 2;
 
-/// How many turns that deliver nothing a worker still takes awake.
+/// The number of idle turns left before the worker sleeps.
 #[derive(Clone, Copy)]
 pub struct Rest {
     awake: u32,
 }
 
 impl Rest {
-    /// Of a worker that begins.
+    /// Returns the state of a new worker.
     pub fn new() -> Rest
         ensures { result.awake ≡ AWAKE }
     {
         Rest { awake: AWAKE }
     }
 
-    /// After a turn that delivered something: it begins anew.
+    /// Resets the count after a turn that delivered something.
     pub fn delivered(&mut self)
         ensures { self.new.awake ≡ AWAKE }
     {
         self.awake = AWAKE;
     }
 
-    /// After a turn that delivered nothing: another thread may go on first, and later the worker
-    /// sleeps.
+    /// Counts an idle turn: yields to another thread, or sleeps if the count has run out.
     pub fn after_nothing(&mut self, clock: &impl Clock)
         ensures { self.new.awake ≡ self.old.awake - 1 }
     {

@@ -1,27 +1,19 @@
-//! What a server is asked for, and how it may end early.
-use findings::Hold;
+//! The parameters of a server, and how it may end early.
 
 /// Why a server ended early.
 #[derive(Clone, Copy, Debug, PartialEq, Eq)]
 pub enum ServerFault {
     /// An accept failed.
     Listen,
-    /// The desk, the claimants or the threads of the workers were not made.
+    /// The desk, the claimants or the worker threads could not be created.
     NotMade,
 }
 
-/// How many workers a server has, how many sessions it takes (0: without end), and how many events
-/// its book accepts at most.
+/// The number of workers (1 to 16), the number of sessions to take (0: no end), and the largest number
+/// of events that the book accepts.
 #[derive(Clone, Copy)]
 pub struct Service {
     pub workers: u32,
     pub sessions: u32,
     pub limit: u32,
-}
-
-/// Keeps no worker.
-pub struct Unheld;
-
-impl Hold for Unheld {
-    fn hold(&self, _question: u32, _task: u32) {}
 }

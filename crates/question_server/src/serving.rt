@@ -1,4 +1,4 @@
-//! The server: sessions over TCP and workers, each in a thread of its own, over one desk.
+//! The server's threads.
 ghost use Rattle.std.specs.Prelude.{◌≡◌};
 ghost use Rattle.sequencer.specs.Book.{IsLimit};
 ghost use Rattle.question_server.specs.Service.{IsWorkers};
@@ -6,7 +6,7 @@ ghost use Rattle.question_server.specs.Service.{IsWorkers};
 use crate::duties::{DeskDuties, Duties};
 use crate::service::{ServerFault, Service};
 use crate::spares::Spares;
-use board::{Naming, Opened, Shown};
+use board::{HistoryId, NewHistory, Shown};
 use desk::Desk;
 use findings::Hold;
 use std::alloc::Global;
@@ -19,11 +19,11 @@ use std::thread;
 use std::thread::Threads;
 use std::time::Clock;
 
-/// The most sessions at a time.
+/// The largest number of sessions at a time.
 const MAX_SEATS: u64 = 16;
 
-/// Takes sessions, each in a thread of its own, up to so many, and answers how many they were once
-/// they have ended. A connection for which there is no seat or no thread is closed and not counted.
+/// Serves up to `most` sessions, each in its own thread, and returns their number once they have ended.
+/// A connection beyond `MAX_SEATS` or without a thread is closed and not counted.
 fn take_sessions<R: Threads + Wait, D: Duties>(
     rt: &R,
     listener: &TcpListener,
@@ -59,8 +59,7 @@ fn take_sessions<R: Threads + Wait, D: Duties>(
     })
 }
 
-/// Runs the workers and takes sessions, and sets the flag that stops the workers once the sessions
-/// have ended.
+/// Runs the workers and serves sessions. Stops the workers once the sessions have ended.
 fn run_threads<R: Threads + Wait, D: Duties>(
     rt: &R,
     listener: &TcpListener,
@@ -81,9 +80,9 @@ fn run_threads<R: Threads + Wait, D: Duties>(
     })
 }
 
-/// Serves the desk by its workers and by the sessions that come.
+/// Runs workers and sessions at a desk.
 fn serve_desk<
-    N: Naming + Send + Sync,
+    N: HistoryId + Send + Sync,
     R: Threads + Wait + Clock + Copy + Send + Sync,
     H: Hold + Sync,
 >(
@@ -107,21 +106,21 @@ fn serve_desk<
     run_threads(&rt, listener, service, &stop, &duties)
 }
 
-/// Makes the desk of this history, and serves it.
+/// Creates the desk over this history, and runs workers and sessions at it.
 fn serve_named<
-    N: Naming + Send + Sync,
+    N: HistoryId + Send + Sync,
     R: Threads + Wait + Clock + Copy + Send + Sync,
     H: Hold + Sync,
 >(
     rt: R,
     alloc: Global,
     state: RandomState,
-    opened: Opened,
+    history: NewHistory,
     listener: &TcpListener,
     service: Service,
     hold: &H,
 ) -> Result<u64, ServerFault>
-    requires book { opened.seen.book ≡ N.book }
+    requires book { history.seen.book ≡ N.book }
     requires limit { service.limit ≡ N.limit }
     requires workers { IsWorkers service.workers }
 {
@@ -130,7 +129,7 @@ fn serve_named<
         alloc,
         state,
         rt,
-        opened,
+        history,
         service.limit,
         count,
     ) else {
@@ -153,17 +152,16 @@ fn serve_named<
     served
 }
 
-/// Serves the connections of the listener over one desk with its workers: a thread for each
-/// session, at most `MAX_SEATS` at a time, and one for each worker. A further connection, or one
-/// for which no thread can be made, is closed without a reply and not counted. Once `sessions` were
-/// taken it accepts nothing more; once they have ended it stops the workers, and answers how many
-/// sessions there were. A worker that found nothing to do for some turns sleeps from then on, and
-/// looks for a question every two milliseconds.
+/// Serves the connections of the listener over one desk: one thread for each session, at most 16 at a
+/// time, and one for each worker. A further connection, or one without a thread, is closed without a
+/// reply and not counted. After `service.sessions` sessions it accepts no more. Once all have ended it
+/// stops the workers and returns the number of sessions. Each worker calls `hold` once per computed
+/// task. An idle worker looks for a question every two milliseconds.
 ///
 /// # Errors
 ///
-/// `Listen` where an accept failed, once the open sessions have ended; `NotMade` where the desk,
-/// the claimants or the threads of the workers were not made.
+/// - `Listen` if an accept failed, once the open sessions have ended.
+/// - `NotMade` if the desk, the claimants or the worker threads could not be created.
 pub fn run_server<R: Threads + Wait + Clock + Copy + Send + Sync, H: Hold + Sync>(
     rt: R,
     alloc: Global,
@@ -175,5 +173,5 @@ pub fn run_server<R: Threads + Wait + Clock + Copy + Send + Sync, H: Hold + Sync
     requires limit { IsLimit service.limit }
     requires workers { IsWorkers service.workers }
 {
-    serve_named::<Brand, R, H>(rt, alloc, state, Opened::new(), listener, service, hold)
+    serve_named::<Brand, R, H>(rt, alloc, state, NewHistory::new(), listener, service, hold)
 }

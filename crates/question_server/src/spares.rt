@@ -1,18 +1,18 @@
-//! What workers and sessions take part by.
+//! Claimants and board readers that no thread uses.
 ghost use Rattle.question_server.specs.Service.{IsWorkers};
 
 use crate::service::ServerFault;
-use board::{BoardReader, Naming};
+use board::{BoardReader, HistoryId};
 use claims::{Claimant, claimants};
 use std::alloc::Global;
 
-/// The claimants that no worker has, and the readers that no worker and no session has.
-pub struct Spares<N: Naming> {
+/// The claimants that no worker uses, and the readers that no worker or session uses.
+pub struct Spares<N: HistoryId> {
     claimants: Vec<Claimant>,
     readers: Vec<BoardReader<N>>,
 }
 
-impl<N: Naming> Drop for Spares<N> {
+impl<N: HistoryId> Drop for Spares<N> {
     fn drop(self) {
         let Spares {
             claimants: _,
@@ -21,8 +21,8 @@ impl<N: Naming> Drop for Spares<N> {
     }
 }
 
-impl<N: Naming> Spares<N> {
-    /// A claimant for each worker, and these readers.
+impl<N: HistoryId> Spares<N> {
+    /// Creates a claimant for each worker, next to these readers.
     pub fn new(
         alloc: Global,
         workers: u32,
@@ -39,21 +39,21 @@ impl<N: Naming> Spares<N> {
         }
     }
 
-    /// What a worker is made of.
+    /// Takes a claimant and a reader for a worker.
     pub fn take_for_worker(&mut self) -> Option<(Claimant, BoardReader<N>)> {
         let claimant = self.claimants.pop()?;
         let reader = self.readers.pop()?;
         Some((claimant, reader))
     }
 
-    /// The reader for a session.
+    /// Takes a reader for a session.
     pub fn take_reader(&mut self) -> Option<BoardReader<N>> {
         self.readers.pop()
     }
 
     /// Gives back the reader of a session.
     pub fn give_back(&mut self, reader: BoardReader<N>) {
-        // The readers were all here once, so that there is room for each.
+        // The list once held all readers, so it has memory for this one.
         let _ = self.readers.push(reader);
     }
 }

@@ -1,4 +1,4 @@
--- What a test on the lock on which a section begins decides.
+-- Tests on the lock on which a section begins.
 use Rattle.std.proofs.Common.{◌≡◌, ℕ, Bool, true, false, Some, None, sym, subst, ◌∙◌}
 use Rattle.std.proofs.lemmas.Bool.{false≢true}
 use Rattle.std.proofs.lemmas.Option.{none-some, same_Some}
@@ -6,7 +6,7 @@ use Rattle.trace_model.specs.Theory.Trace.{Trace}
 use Rattle.trace_model.specs.Theory.Held.{BeginsOn, begun}
 use Rattle.trace_model.proofs.Theory.Begun.{begun_so, begun_from}
 
--- a test on the lock on which a section begins decides what is said of it
+-- A test on the lock on which a section begins decides a property of the place.
 pub begun_decided : (P : ℕ → Type 0) (s : Trace) (q : ℕ) (b : Bool) (x : ℕ) → begun s q ≡ Some x → (b ≡ true → P x) × (P x → b ≡ true) →
     (b ≡ true → (y : ℕ) × BeginsOn s q y × P y) × ((y : ℕ) × BeginsOn s q y × P y → b ≡ true)
 begun_decided P s q b x is h =

@@ -1,11 +1,11 @@
--- What the passes over the trace keep, and what the tests take from it.
+-- What the passes over the trace keep, and what the tests use of it.
 use Rattle.std.proofs.Common.{◌≡◌, ℕ, zero, suc, ◌+◌, ◌<◌, Bool, true, false, not, cond, ◌==◌, List, ◌∷◌, [], ◌++◌, length, slice_get, Option, Some, None, refl, sym, ap, subst, ◌∙◌, inl, inr, add-one, arith}
 use Rattle.std.specs.Option.{option_and_then, option_map_or}
 use Rattle.std.specs.List.{Contains}
 use Rattle.std.proofs.lemmas.Bool.{cases_lt, eqb-true, eq-eqb, false≢true}
 use Rattle.trace_model.specs.declared.traces.event.Event.{Event}
 use Rattle.trace_model.specs.declared.traces.event.Op.{Op}
-use Rattle.trace_model.specs.declared.traces.event.Op.TheVariants.{Read, Write}
+use Rattle.trace_model.specs.declared.traces.event.Op.TheVariants.{Fork, Read, Write}
 use Rattle.trace_model.specs.Theory.Trace.{Trace, event, OfThread, does, last_place}
 use Rattle.trace_model.specs.Theory.Lookups.{writer_of, writer}
 use Rattle.trace_model.specs.Theory.Walk.{Walks}
@@ -17,11 +17,15 @@ use Rattle.replay.specs.Tests.{MissesPlace, MissesEarlier}
 use Rattle.replay.proofs.Lists.{one_thread}
 use Rattle.replay.proofs.LastPlaces.{IsPrevious, missed_by_previous}
 
+-- An event for places past the end, which no proof reads.
+abbrev pub no_event : Event
+no_event = record { thread = 0; op = Fork 0 }
+
 pub length-each : {X : Type 0} (f : ℕ → X) (n : ℕ) → length (each f n) ≡ n
 length-each f zero = refl
 length-each f (suc n) = length-push (each f n) (f n) ∙ ap suc (length-each f n)
 
--- so a list that is made so far is as long
+-- So a list that is built so far has this length.
 pub has_each : {X : Type 0} (f : ℕ → X) (n : ℕ) (xs : List X) → xs ≡ each f n → length xs ≡ n
 has_each f n xs is = ap length is ∙ length-each f n
 
@@ -75,7 +79,7 @@ is_previous s t n p e =
     let k = last_place_some (is_of s t) n p e in
     (of_thread s t p (slice_get s p) refl k.1, k.0, λ u a b o. k.2 u a b (is_of_from s t u o))
 
--- a place of the thread below n is missed exactly where the last one is
+-- A place of the thread below `n` is missing if and only if the last one is.
 pub missed_by_last : (s : Trace) (passed : List ℕ) → Walks s passed → (t n p : ℕ) (b : Bool) → last_place (is_of s t) n ≡ Some p →
     (b ≡ true → Contains passed p) × (Contains passed p → b ≡ true) →
     (not b ≡ true → MissesPlace s passed t n) × (MissesPlace s passed t n → not b ≡ true)

@@ -1,5 +1,5 @@
--- What a table of the walk has to keep: in a list that is walked, one place stands for the others
--- of its thread, or of its lock.
+-- What the tables of a walk determine: in a walked list, one place decides for the others of its
+-- thread, or of its lock.
 use Rattle.std.proofs.Common.{◌≡◌, ℕ, zero, suc, ◌+◌, ◌<◌, ◌≤◌, inl, inr, Bool, true, false, not, cond, ◌==◌, List, [], ◌∷◌, ◌++◌, length, take, slice_get, get_or, set, nat_eq, replicate, ◌⊎◌, Option, Some, None, MatchOption, refl, sym, ◌∙◌, ap, subst, arith}
 use Rattle.std.proofs.lemmas.Bool.{cases_lt, cases_eq, eqb-true, eq-eqb, false≢true}
 use Rattle.std.proofs.lemmas.Option.{none-some, same_Some, slice_get_within}
@@ -29,15 +29,15 @@ use Rattle.replay.specs.Tests.{NoWriteIn, MissesPlace, IsClosedIn, LeavesOpen, H
 pub passed_in : (passed : List ℕ) (k p : ℕ) → Contains (take k passed) p → Contains passed p
 passed_in passed k p c = let r = front_so passed k p c in contains_at passed p r.0 r.2
 
--- with a place its earlier ones are in
+-- With a place, the list contains its earlier ones.
 pub walked_threads : (s : Trace) (passed : List ℕ) → Walks s passed → (u p : ℕ) → Contains passed p → EarlierInThread s u p → Contains passed u
 walked_threads s passed w u p c e = let (k, h) = place_of passed p c in passed_in passed k u ((w k p h).threads u e)
 
--- the place before q in its thread
+-- The previous place of the thread.
 abbrev pub IsPrevious : Trace → ℕ → ℕ → ℕ → Type 0
 IsPrevious s t q p = OfThread s p t × (p < q) × ((u : ℕ) → p < u → u < q → OfThread s u t → ⊥)
 
--- where it is in, all places of the thread below q are
+-- If the list contains it, it contains all places of the thread below `q`.
 pub previous_stands : (s : Trace) (passed : List ℕ) → Walks s passed → (t q p : ℕ) → IsPrevious s t q p → Contains passed p →
     MissesPlace s passed t q → ⊥
 previous_stands s passed w t q p (o, l, none) c (u, m, k, n) =
@@ -49,11 +49,11 @@ previous_stands s passed w t q p (o, l, none) c (u, m, k, n) =
       ]
     ]
 
--- the last place of the list that begins a section on the lock
+-- The last place of the list that begins a section on the lock.
 abbrev pub IsLastAcquire : Trace → List ℕ → ℕ → ℕ → Type 0
 IsLastAcquire s passed l z = IsLastOf passed (λ u. BeginsOn s u l) z
 
--- every other one has its release, and is an earlier place
+-- Every other one has its release, and is an earlier place.
 pub others_closed : (s : Trace) (passed : List ℕ) → Walks s passed → (l z p : ℕ) → IsLastAcquire s passed l z → Contains passed p → BeginsOn s p l →
     (p ≡ z → ⊥) → IsClosedIn s passed p × (p < z)
 others_closed s passed w l z p (i, e, b, none) c d other =
@@ -69,7 +69,7 @@ others_closed s passed w l z p (i, e, b, none) c d other =
       ]
     ]
 
--- so the lock is open exactly where the last acquire is
+-- So the lock is open if and only if the last acquire is.
 pub last_open : (s : Trace) (passed : List ℕ) → Walks s passed → (l z : ℕ) → IsLastAcquire s passed l z → LeavesOpen s passed l → IsClosedIn s passed z → ⊥
 last_open s passed w l z last (p, c, (d, n)) closed =
     elim (cases_lt p z) [
@@ -83,7 +83,7 @@ last_open s passed w l z last (p, c, (d, n)) closed =
 pub open_last : (s : Trace) (passed : List ℕ) (l z : ℕ) → IsLastAcquire s passed l z → (IsClosedIn s passed z → ⊥) → LeavesOpen s passed l
 open_last s passed l z (i, e, b, none) n = (z, contains_at passed z i e, (b, n))
 
--- and a later one stands in the list exactly where the last is later
+-- The list contains a later one if and only if the last one is later.
 pub last_later : (s : Trace) (passed : List ℕ) → Walks s passed → (l z q : ℕ) → IsLastAcquire s passed l z → HasLater s passed q l → q < z
 last_later s passed w l z q last (p, c, d, m) =
     elim (cases_lt p z) [
@@ -105,7 +105,7 @@ take_more (suc k) (x ∷ xs) q e =
     let up : suc k + 1 ≡ suc (k + 1) = omega arith in
     rw up (ap (λ ys. x ∷ ys) more)
 
--- a table goes on to one more place
+-- A table after one more place.
 pub keeps_push : (passed : List ℕ) (P : ℕ → ℕ → Type 0) (test : ℕ → Bool) (q : ℕ) (table : ℕ → Option ℕ) → ((key : ℕ) → Decides (test key) (P key q)) →
     Keeps passed P table → Keeps (passed ++ q ∷ []) P (λ key. cond (test key) (Some q) (table key))
 keeps_push passed P test q table decides keeps key = go (test key) refl (table key) (keeps key)
@@ -130,7 +130,7 @@ keeps_push passed P test q table decides keeps key = go (test key) refl (table k
     go false e None m = λ u d c. let r = place_of (passed ++ q ∷ []) u c in m u d (contains_at passed u r.0 (older e r.0 u r.1 d))
     go false e (Some z) m = (m.0, get-push_kept passed q m.0 z m.1, m.2, λ j u l g d. m.3 j u l (older e j u g d) d)
 
--- an operation at a place is of the kind exactly where the test says so
+-- The test decides whether an operation is of the kind.
 op_decides : (s : Trace) (kind : ℕ → Op) (done : Op) (q : ℕ) → Does s q done → (key : ℕ) → Decides (op_eq done (kind key)) (Does s q (kind key))
 op_decides s kind done q (t, h) key =
     ((λ e. (t, h ∙ ap (λ x. Some (event t x)) (op_eq_same done (kind key) e))), λ d. sym same ∙ does_from s (kind key) q d)
@@ -138,7 +138,7 @@ op_decides s kind done q (t, h) key =
     same : does s (kind key) q ≡ op_eq done (kind key)
     same = ap (λ r. option_map_or (λ e. op_eq e.op (kind key)) r false) h
 
--- and begins a section on the lock exactly where that is the lock on which one begins
+-- The test decides whether a section on the lock begins.
 begun_decides : (s : Trace) (q : ℕ) (o : Option ℕ) → begun s q ≡ o → (key : ℕ) → Decides (option_map_or (λ l. l == key) o false) (BeginsOn s q key)
 begun_decides s q None e key = ((λ h. absurd (false≢true h)), λ b. absurd (none-some key (sym e ∙ begun_from s q key b)))
 begun_decides s q (Some l) e key = (
@@ -146,14 +146,14 @@ begun_decides s q (Some l) e key = (
   λ b. eq-eqb l key (same_Some l key (sym e ∙ begun_from s q key b)),
 )
 
--- a place of the thread below q is missed exactly where the last one is
+-- A place of the thread below `q` is missing if and only if the last one is.
 pub missed_by_previous : (s : Trace) (passed : List ℕ) → Walks s passed → (t q p : ℕ) (b : Bool) → IsPrevious s t q p →
     (b ≡ true → Contains passed p) × (Contains passed p → b ≡ true) →
     (not b ≡ true → MissesPlace s passed t q) × (MissesPlace s passed t q → not b ≡ true)
 missed_by_previous s passed w t q p true is h = (λ e. absurd (false≢true e), λ m. absurd (previous_stands s passed w t q p is (h.0 refl) m))
 missed_by_previous s passed w t q p false is h = (λ _. (p, is.1, is.0, λ c. false≢true (h.1 c)), λ _. refl)
 
--- what a table has under a key
+-- The entry of a key in a table.
 pub kept_some : (passed : List ℕ) (P : ℕ → ℕ → Type 0) (table : ℕ → Option ℕ) → Keeps passed P table → (key z : ℕ) → Some z ≡ table key → IsLastOf passed (P key) z
 kept_some passed P table k key z e =
     subst (λ o. MatchOption o ((u : ℕ) → P key u → Contains passed u → ⊥) (IsLastOf passed (P key))) (sym e) (k key)
@@ -163,7 +163,7 @@ pub kept_none : (passed : List ℕ) (P : ℕ → ℕ → Type 0) (table : ℕ �
 kept_none passed P table k key e =
     subst (λ o. MatchOption o ((u : ℕ) → P key u → Contains passed u → ⊥) (IsLastOf passed (P key))) (sym e) (k key)
 
--- the last write of the table is the last write in the list
+-- The last write of the table is the last write in the list.
 pub kept_write : (s : Trace) (passed : List ℕ) → Walks s passed → (v : ℕ) (o : Option ℕ) →
     MatchOption o ((u : ℕ) → Does s u (Write v) → Contains passed u → ⊥) (IsLastOf passed (λ u. Does s u (Write v))) →
     MatchOption o (NoWriteIn s passed v) (λ w. LastIn s passed v w × Does s w (Write v))
@@ -182,7 +182,7 @@ take_whole : (xs : List ℕ) → take (length xs) xs ≡ xs
 take_whole [] = refl
 take_whole (x ∷ xs) = ap (λ ys. x ∷ ys) (take_whole xs)
 
--- the walk goes on to one more place
+-- The walk after one more place.
 pub walks_push : (s : Trace) (passed : List ℕ) (q : ℕ) → Walks s passed → Follows s passed q → Walks s (passed ++ q ∷ [])
 walks_push s passed q w f j u e = elim (get-push passed q j u e) [
   | inl a ↦ subst (λ xs. Follows s xs u) (sym (take_passed j passed q (omega (arith, slice_get_within passed j u a)))) (w j u a)
@@ -219,7 +219,7 @@ keeps_as : (passed : List ℕ) (P : ℕ → ℕ → Type 0) (f g : ℕ → Optio
 keeps_as passed P f g e k key =
     subst (λ o. MatchOption o ((u : ℕ) → P key u → Contains passed u → ⊥) (IsLastOf passed (P key))) (sym (e key)) (k key)
 
--- a table of an operation
+-- A table of an operation.
 keeps_op : (s : Trace) (passed : List ℕ) (q : ℕ) (kind : ℕ → Op) (done : Op) (f g : ℕ → Option ℕ) → Does s q done →
     Keeps passed (λ key u. Does s u (kind key)) f → ((key : ℕ) → g key ≡ noted kind done q key (f key)) →
     Keeps (passed ++ q ∷ []) (λ key u. Does s u (kind key)) g
@@ -227,7 +227,7 @@ keeps_op s passed q kind done f g d k e =
     let P : ℕ → ℕ → Type 0 = λ key u. Does s u (kind key) in
     keeps_as (passed ++ q ∷ []) P _ g e (keeps_push passed P (λ key. op_eq done (kind key)) q f (op_decides s kind done q d) k)
 
--- or of the sections
+-- A table of the sections.
 keeps_begun : (s : Trace) (passed : List ℕ) (q : ℕ) (b : Option ℕ) (f g : ℕ → Option ℕ) → begun s q ≡ b →
     Keeps passed (λ key u. BeginsOn s u key) f → ((key : ℕ) → g key ≡ noted_begun b q key (f key)) →
     Keeps (passed ++ q ∷ []) (λ key u. BeginsOn s u key) g
@@ -235,7 +235,7 @@ keeps_begun s passed q b f g is k e =
     let P : ℕ → ℕ → Type 0 = λ key u. BeginsOn s u key in
     keeps_as (passed ++ q ∷ []) P _ g e (keeps_push passed P (λ key. option_map_or (λ l. l == key) b false) q f (begun_decides s q b is) k)
 
--- the tables go on to one more place
+-- The tables after one more place.
 pub walked_push : (s : Trace) (passed : List ℕ) (q : ℕ) (done : Op) (b : Option ℕ) (old new : Walked) → IsWalked s passed old → Follows s passed q → Does s q done → begun s q ≡ b →
     new.inside.items ≡ set old.inside.items q true →
     ((key : ℕ) → get nat_eq new.forks key ≡ noted Fork done q key (get nat_eq old.forks key)) →
@@ -257,7 +257,7 @@ none_inside zero p = refl
 none_inside (suc n) zero = refl
 none_inside (suc n) (suc p) = none_inside n p
 
--- the tables at the start
+-- The tables at the start.
 pub walked_empty : (s : Trace) (t : Walked) → t.inside.items ≡ replicate (length s) false → ((key : ℕ) → get nat_eq t.forks key ≡ None) →
     ((key : ℕ) → get nat_eq t.writes key ≡ None) → ((key : ℕ) → get nat_eq t.acquires key ≡ None) → IsWalked s [] t
 walked_empty s t i x y z = record {
@@ -275,7 +275,7 @@ walked_empty s t i x y z = record {
     empty : (o : Option ℕ) (P : ℕ → Type 0) → o ≡ None → MatchOption o ((u : ℕ) → P u → Contains [] u → ⊥) (IsLastOf [] P)
     empty o P e = subst (λ r. MatchOption r ((u : ℕ) → P u → Contains [] u → ⊥) (IsLastOf [] P)) (sym e) (λ u d c. none-some u (place_of [] u c).1)
 
--- the tables of the next passed
+-- The tables of the longer list.
 pub walked_next : (s : Trace) → IsWellFormed s → (order : List ℕ) (k q : ℕ) (done : Op) (b : Option ℕ) (old new : Walked) → slice_get order k ≡ Some q →
     IsWalked s (take k order) old → IsFirst order_tests s (take k order) q None → Does s q done → begun s q ≡ b →
     new.inside.items ≡ set old.inside.items q true →

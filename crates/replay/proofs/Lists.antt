@@ -8,7 +8,7 @@ use Rattle.trace_model.specs.declared.traces.event.Op.{Op}
 use Rattle.trace_model.specs.Theory.Trace.{Trace, event, Does, OfThread}
 use Rattle.trace_model.proofs.Theory.Ascending.{listed, listed_contains, contains_listed}
 
--- it is in the list or not
+-- It is in the list or not.
 pub in_cases : (passed : List ℕ) (q : ℕ) → Contains passed q ⊎ (Contains passed q → ⊥)
 in_cases passed q = go (listed passed q) refl
   where
@@ -16,11 +16,11 @@ in_cases passed q = go (listed passed q) refl
     go true e = inl (listed_contains passed q e)
     go false e = inr (λ c. false≢true (sym e ∙ contains_listed passed q c))
 
--- where it is not so that it is not in the list, it is
+-- Double negation of membership in a list.
 pub in_unless : (passed : List ℕ) (q : ℕ) → ((Contains passed q → ⊥) → ⊥) → Contains passed q
 in_unless passed q h = elim (in_cases passed q) [ inl a ↦ a | inr b ↦ absurd (h b) ]
 
--- a test on the operation at a place decides what is said of it
+-- A test on the operation at a place decides a property of the place.
 pub op_decided : (P : ℕ → Type 0) (o : ℕ → Op) → ((x y : ℕ) → o x ≡ o y → x ≡ y) → (s : Trace) (q : ℕ) (e : Event) (b : Bool) (x : ℕ) →
     slice_get s q ≡ Some e → e.op ≡ o x → (b ≡ true → P x) × (P x → b ≡ true) →
     (b ≡ true → (y : ℕ) × Does s q (o y) × P y) × ((y : ℕ) × Does s q (o y) × P y → b ≡ true)
@@ -34,7 +34,7 @@ pub op_undone : (P : ℕ → Type 0) (o : ℕ → Op) (s : Trace) (q : ℕ) (e :
 op_undone P o s q e at n =
     (λ h. absurd (false≢true h), λ (y, (t, k), m). absurd (n y (ap (λ z. z.op) (same_Some e (event t (o y)) (sym at ∙ k)))))
 
--- there is one thread at a place
+-- A place has one thread.
 pub one_thread : (s : Trace) (q : ℕ) (e : Event) (t : ℕ) → slice_get s q ≡ Some e → OfThread s q t → e.thread ≡ t
 one_thread s q e t at (o, h) = ap (λ z. z.thread) (same_Some e (event t o) (sym at ∙ h))
 
@@ -42,6 +42,6 @@ pub not_decided : (b : Bool) (P : Type 0) → (b ≡ true → P) × (P → b ≡
 not_decided true P h = (λ e. absurd (false≢true e), λ n. absurd (n (h.0 refl)))
 not_decided false P h = (λ _ p. false≢true (h.1 p), λ _. refl)
 
--- what a table has for a place
+-- The entry of a place in a table.
 pub entry_is : (table items : List (Option ℕ)) (q : ℕ) (found want : Option ℕ) → table ≡ items → slice_get table q ≡ Some found → slice_get items q ≡ Some want → want ≡ found
 entry_is table items q found want e f g = same_Some want found (sym g ∙ subst (λ xs. slice_get xs q ≡ Some found) e f)

@@ -1,4 +1,4 @@
--- The pass over the trace keeps the sections that are open.
+-- The pass over the trace keeps the open sections.
 use Rattle.std.proofs.Common.{◌≡◌, ◌≢◌, ℕ, zero, suc, ◌-◌, ◌<◌, inl, inr, Bool, true, false, cond, ◌==◌, ltb, leb, List, replicate, length, take, slice_get, Option, Some, None, refl, sym, ap, subst, ◌∙◌, arith}
 use Rattle.std.specs.Prelude.{IfSome}
 use Rattle.std.specs.Option.{option_and_then}
@@ -25,7 +25,7 @@ use Rattle.trace_model.proofs.Theory.Sections.{depth-take, others_lack, released
 use Rattle.replay.specs.declared.sections.Open.{Open}
 use Rattle.replay.specs.OpenSections.{deeper, shallower, open_after, begun_if, begun_by, ended_if, ended_by, with_end}
 
--- the section that is open on the lock right before the place; none where nobody holds it
+-- The section that is open on the lock right before the place, or `None` if no thread holds it.
 abbrev pub IsOpen : Trace → ℕ → ℕ → Option Open → Type 0
 IsOpen s n l None = (t : ℕ) → depth s n t l ≡ 0
 IsOpen s n l (Some o) =
@@ -37,7 +37,7 @@ AreOpen s n table = (l : ℕ) → IsOpen s n l (table l)
 open_holds : (s : Trace) (n l : ℕ) (o : Open) (is : IsOpen s n l (Some o)) → Holds s n is.0 l
 open_holds s n l o (t, below, begins, none, deep) = section_holds s n t l (o.acquire, below, begins, none)
 
--- two threads do not hold one lock
+-- Two threads do not hold one lock.
 owner_alone : (o : Option _) (t u : ℕ) → 0 < depth_by o t → 0 < depth_by o u → t ≡ u
 owner_alone None t u a b = absurd (omega (arith, a))
 owner_alone (Some x) t u a b = go (x.thread == t) refl (x.thread == u) refl a b
@@ -72,7 +72,7 @@ module _ (s : Trace) (w : IsWellFormed s) (n : ℕ) (e : Event) (at : At s n e) 
   same_op : (t : ℕ) (o : Op) → At s n (event t o) → (e.thread ≡ t) × (e.op ≡ o)
   same_op t o h = let same = same_Some e (event t o) (sym at ∙ h) in (ap (λ x. x.thread) same, ap (λ x. x.op) same)
 
-  -- an event that is neither an acquire of the lock nor a release of it
+  -- An event that neither acquires nor releases the lock.
   unmoved : (l t : ℕ) → (e.op ≡ Acquire l → ⊥) → (e.op ≡ Release l → ⊥) → depth s (suc n) t l ≡ depth s n t l
   unmoved l t a r = elim (depth_cases (slice_get s n) t l (depth s n t l)) [
     | inl x ↦ absurd (a (same_op t (Acquire l) x.0).1)
@@ -100,7 +100,7 @@ module _ (s : Trace) (w : IsWellFormed s) (n : ℕ) (e : Event) (at : At s n e) 
     ]
   ]
 
-  -- the section stays open where the thread does not end it here
+  -- The section stays open if the thread does not end it here.
   stays : (l : ℕ) (o : Open) (d : ℕ) (is : IsOpen s n l (Some o)) → (Ends s n is.0 l → ⊥) → depth s (suc n) is.0 l ≡ d →
       IsOpen s (suc n) l (Some (record { acquire = o.acquire; depth = d }))
   stays l o d (t, below, begins, none, deep) open_yet f = (
@@ -119,7 +119,7 @@ module _ (s : Trace) (w : IsWellFormed s) (n : ℕ) (e : Event) (at : At s n e) 
   kept l (Some o) a r is =
       stays l o o.depth is (λ ends. r (same_op is.0 (Release l) ends.0).1) (unmoved l is.0 a r ∙ is.4)
 
-  -- the thread that acquires or releases a held lock is the one that holds it
+  -- A thread that acquires or releases a held lock is its holder.
   acquirer : (l : ℕ) (o : Open) (is : IsOpen s n l (Some o)) → e.op ≡ Acquire l → is.0 ≡ e.thread
   acquirer l o is f = elim (cases_eq is.0 e.thread) [
     | inl same ↦ same
@@ -166,7 +166,7 @@ module _ (s : Trace) (w : IsWellFormed s) (n : ℕ) (e : Event) (at : At s n e) 
             ]
       ]
 
-  -- the sections that are open right after the place
+  -- The sections that are open right after the place.
   pub open_more : (table : ℕ → Option Open) → AreOpen s n table → AreOpen s (suc n) (open_after e.op n table)
   open_more table are l = go e.op refl
     where
@@ -192,7 +192,7 @@ module _ (s : Trace) (w : IsWellFormed s) (n : ℕ) (e : Event) (at : At s n e) 
       go (Read m) f = kept l (table l) (λ h. (let k : Read m ≡ Acquire l = sym f ∙ h in cc)) (λ h. (let k : Read m ≡ Release l = sym f ∙ h in cc)) (are l)
       go (Write m) f = kept l (table l) (λ h. (let k : Write m ≡ Acquire l = sym f ∙ h in cc)) (λ h. (let k : Write m ≡ Release l = sym f ∙ h in cc)) (are l)
 
-  -- a lock that is acquired is not too deep
+  -- An acquired lock is not too deep.
   pub has_room : (table : ℕ → Option Open) → AreOpen s n table → (l : ℕ) → e.op ≡ Acquire l → IfSome (table l) (λ o. o.depth < MAX_DEPTH)
   has_room table are l f = go (table l) (are l)
     where
@@ -202,7 +202,7 @@ module _ (s : Trace) (w : IsWellFormed s) (n : ℕ) (e : Event) (at : At s n e) 
           let h : At s n (event is.0 (Acquire l)) = subst (λ t. At s n (event t (Acquire l))) (sym (acquirer l o is f)) (at_op (Acquire l) f) in
           omega (arith, depth_shallow s w is.0 (suc n) l, acquired l is.0 h, is.4)
 
-  -- a section begins where none is open
+  -- A section begins if none is open.
   pub begun_seen : (table : ℕ → Option Open) → AreOpen s n table → begun_by table e.op ≡ begun s n
   begun_seen table are = go e.op refl ∙ sym (ap (option_and_then (λ x. begun_of s n x.thread x.op)) at)
     where
@@ -225,7 +225,7 @@ module _ (s : Trace) (w : IsWellFormed s) (n : ℕ) (e : Event) (at : At s n e) 
       go (Read l) f = refl
       go (Write l) f = refl
 
-  -- what ends here is the section of the acquire whose release this is
+  -- The section that ends here is that of the acquire with this release.
   pub ended_so : (table : ℕ → Option Open) → AreOpen s n table → (a : ℕ) → ended_by table e.op ≡ Some a → release s a ≡ Some n
   ended_so table are a = go e.op refl
     where
@@ -250,7 +250,7 @@ module _ (s : Trace) (w : IsWellFormed s) (n : ℕ) (e : Event) (at : At s n e) 
       go (Read l) f h = absurd (none-some a h)
       go (Write l) f h = absurd (none-some a h)
 
--- a release ends one section
+-- A release ends one section.
 release_once : (s : Trace) → IsWellFormed s → (p q r : ℕ) → release s p ≡ Some r → release s q ≡ Some r → p ≡ q
 release_once s w p q r a b = go (release_so s p r a) (release_so s q r b)
   where
@@ -270,7 +270,7 @@ release_once s w p q r a b = go (release_so s p r a) (release_so s q r b)
           ]
         ]
 
--- the acquire whose release is the place has the open section that ends there
+-- The acquire with this release has the open section that ends there.
 pub ended_from : (s : Trace) → IsWellFormed s → (n : ℕ) (e : Event) → At s n e → (table : ℕ → Option Open) → AreOpen s n table →
     (q : ℕ) → release s q ≡ Some n → ended_by table e.op ≡ Some q
 ended_from s w n e at table are q h = go (release_so s q n h)
@@ -291,7 +291,7 @@ ended_from s w n e at table are q h = go (release_so s q n h)
 
 -- ---- the releases so far
 
--- a release that lies below n
+-- A release below `n`.
 abbrev pub so_far : ℕ → Option ℕ → Option ℕ
 so_far n None = None
 so_far n (Some r) = cond (ltb r n) (Some r) None

@@ -24,7 +24,7 @@ use Rattle.replay.specs.Laws.{InTrace}
 use Rattle.replay.specs.Verdict.{order_tests, instance_tests, IsFirst, Passes, StopsAt, OrderPasses, IsVerdict}
 use Rattle.replay.proofs.Lists.{in_unless}
 
--- where none is first, each of the tests passes
+-- If no test is the first that fails, each test passes.
 pub none_of : (fs : List Fault) (s : Trace) (passed : List ℕ) (q : ℕ) → IsFirst fs s passed q None →
     (k : ℕ) (f : Fault) → slice_get fs k ≡ Some f → Breaks f s passed q → ⊥
 none_of [] s passed q h k f e b = none-some f e
@@ -33,7 +33,7 @@ none_of (g ∷ fs) s passed q h zero f e b =
 none_of (g ∷ fs) s passed q h (suc k) f e b =
     elim h [ inl a ↦ none-some g a.1 | inr a ↦ none_of fs s passed q a.1 k f e b ]
 
--- a read sees its writer where it is not so that it does not
+-- Double negation of seeing the writer.
 seen_unless : (s : Trace) (passed : List ℕ) (v : ℕ) (o : Option ℕ) →
     ((MatchOption o ((u : ℕ) → Does s u (Write v) → Contains passed u → ⊥) (LastIn s passed v) → ⊥) → ⊥) →
     MatchOption o ((u : ℕ) → Does s u (Write v) → Contains passed u → ⊥) (LastIn s passed v)
@@ -44,7 +44,7 @@ pub closed_unless : (s : Trace) (passed : List ℕ) (p : ℕ) (o : Option ℕ) �
 closed_unless s passed p None e h = absurd (h (λ (r, m, j). none-some r (sym e ∙ m)))
 closed_unless s passed p (Some r) e h = (r, e, in_unless passed r (λ n. h (λ (u, m, j). n (subst (Contains passed) (same_Some u r (sym m ∙ e)) j))))
 
--- the place may come next after those before it, exactly where no test of the list fails
+-- The place may follow those before it if and only if no test of the list fails.
 pub follows_so : (s : Trace) → IsWellFormed s → (passed : List ℕ) (q : ℕ) → IsFirst order_tests s passed q None → Follows s passed q
 follows_so s wf passed q h =
     let passes : (k : ℕ) (f : Fault) → slice_get order_tests k ≡ Some f → Breaks f s passed q → ⊥ = none_of order_tests s passed q h in
@@ -107,14 +107,14 @@ follows_from s wf passed q f =
       ),
     )
 
--- all places of the list pass exactly where it is walked
+-- All places of the list pass if and only if it is walked.
 pub walks_so : (s : Trace) → IsWellFormed s → (order : List ℕ) → OrderPasses s order → Walks s order
 walks_so s wf order h k q e = follows_so s wf (take k order) q (h k q (slice_get_within order k q e) e)
 
 pub walks_from : (s : Trace) → IsWellFormed s → (order : List ℕ) → Walks s order → OrderPasses s order
 walks_from s wf order h k q l e = follows_from s wf (take k order) q (h k q e)
 
--- all places of the instance pass exactly where the list reaches them
+-- All places of the instance pass if and only if the list reaches them.
 pub reaches_so : (s : Trace) (order places : List ℕ) → Passes instance_tests s (λ _. order) places (length places) →
     reordering.Reaches s order places × InTrace s places
 reaches_so s order places h = (
@@ -142,7 +142,7 @@ reaches_law s wf order places = (
   λ (o, r, i). (walks_from s wf order (reordering_walks s order o), reaches_from s order places r i),
 )
 
--- there is one first test
+-- There is at most one first test.
 first_unique : (fs : List Fault) (s : Trace) (passed : List ℕ) (q : ℕ) (a b : Option Fault) → IsFirst fs s passed q a → IsFirst fs s passed q b → a ≡ b
 first_unique [] s passed q a b x y = x ∙ sym y
 first_unique (f ∷ fs) s passed q a b x y =
@@ -211,7 +211,7 @@ last_unique s passed v w u a b x y =
       ]
     ]
 
--- the last write is the writer exactly where the read sees it
+-- The last write is the writer if and only if the read sees it.
 pub sees_decided : (s : Trace) (passed : List ℕ) (v : ℕ) (last writer : Option ℕ) →
     MatchOption last (NoWriteIn s passed v) (λ w. LastIn s passed v w × Does s w (Write v)) → ((w : ℕ) → writer ≡ Some w → Does s w (Write v)) →
     Decides (option_eq eqb last writer) (MatchOption writer (NoWriteIn s passed v) (LastIn s passed v))
@@ -220,7 +220,7 @@ sees_decided s passed v None (Some w) h d = (λ e. absurd (false≢true e), λ l
 sees_decided s passed v (Some w) None h d = (λ e. absurd (false≢true e), λ n. absurd (n w h.1 h.0.0))
 sees_decided s passed v (Some w) (Some u) h d = (λ e. subst (LastIn s passed v) (eqb-true w u e) h.0, λ l. eq-eqb w u (last_unique s passed v w u h.1 (d u refl) h.0 l))
 
--- one more place passes
+-- One more place passes.
 pub passes_more : (fs : List Fault) (s : Trace) (passed : ℕ → List ℕ) (places : List ℕ) (n q : ℕ) → Passes fs s passed places n →
     slice_get places n ≡ Some q → IsFirst fs s (passed n) q None → Passes fs s passed places (n + 1)
 passes_more fs s passed places n q h e x k p l d =

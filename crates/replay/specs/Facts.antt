@@ -1,4 +1,4 @@
--- What the trace alone says of each of its places.
+-- Facts about each place of the trace.
 use Rattle.std.specs.Prelude.{◌≡◌, ℕ, zero, suc, ◌<◌, Bool, false, ◌==◌, List, [], ◌∷◌, ◌++◌, length, slice_get, nat_eq, Option, Some, None}
 use Rattle.std.specs.HashMap.{get}
 use Rattle.std.specs.Option.{option_and_then, option_map_or}
@@ -9,24 +9,25 @@ use Rattle.trace_model.specs.Theory.Held.{begun}
 use Rattle.trace_model.specs.Theory.Lookups.{writer, release}
 use Rattle.replay.specs.declared.facts.Facts.{Facts}
 
--- the place is one of the thread, as a test
+-- The place is one of the thread, as a test.
 abbrev pub is_of : Trace → ℕ → ℕ → Bool
 is_of s t p = option_map_or (λ e. e.thread == t) (slice_get s p) false
 
--- the place before it in its thread
+-- The previous place of its thread.
 abbrev pub previous : Trace → ℕ → Option ℕ
 previous s q = option_and_then (λ e. last_place (is_of s e.thread) q) (slice_get s q)
 
--- what a function gives for each number below n
+-- The values of a function for each number below `n`.
 abbrev pub each : {X : Type 0} → (ℕ → X) → ℕ → List X
 each f zero = []
 each f (suc n) = each f n ++ f n ∷ []
 
--- what stands under the variable of a read
+-- The table's entry for the variable of a read.
 abbrev pub of_read : (ℕ → Option ℕ) → Op → Option ℕ
 of_read table (Read v) = table v
 of_read table _ = None
 
+-- The tables are those of the trace.
 pub record AreFacts (s : Trace) (f : Facts) : Type 0 where
   pub previous : (q : ℕ) → q < length s → slice_get f.previous.items q ≡ Some (previous s q)
   pub writers : (q : ℕ) → q < length s → slice_get f.writers.items q ≡ Some (writer s q)

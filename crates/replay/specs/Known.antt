@@ -3,6 +3,6 @@ use Rattle.replay.specs.declared.order_rules.Known.{Known}
 use Rattle.replay.specs.Facts.{AreFacts}
 use Rattle.replay.specs.Walking.{IsWalked}
 
--- the facts are those of the trace, and the walk went along the places before
+-- The facts are those of the trace, and the walk passed the places before.
 abbrev pub IsKnown : Known → Type 0
 IsKnown k = AreFacts k.trace.now k.facts.now × IsWalked k.trace.now k.passed.now k.walked.now

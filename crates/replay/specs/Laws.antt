@@ -9,21 +9,23 @@ use Rattle.replay.specs.declared.verdict.Verdict.{Verdict}
 use Rattle.replay.specs.declared.verdict.Verdict.TheVariants.{Reaches}
 use Rattle.replay.specs.Verdict.{IsVerdict}
 
+-- The places are in the trace.
 abbrev pub InTrace : Trace → List ℕ → Type 0
 InTrace s places = (p : ℕ) → Contains places p → p < length s
 
--- the list is a reordering of the trace that reaches the places, which are in the trace
+-- The list is a sync-preserving reordering of the trace that reaches the places, which are in the
+-- trace.
 abbrev pub IsWitnessFor : Trace → List ℕ → List ℕ → Type 0
 IsWitnessFor s order instance = IsReordering s order × reordering.Reaches s order instance ×
     InTrace s instance
 
--- no test fails exactly where it is so
+-- No test fails exactly if the list is such a witness.
 abbrev pub ReachesIsReordering : Type 0
 ReachesIsReordering =
     (s : Trace) → IsWellFormed s → (order instance : List ℕ) →
     IsVerdict s order instance Reaches ↔ IsWitnessFor s order instance
 
--- there is one verdict
+-- There is exactly one verdict.
 abbrev pub VerdictIsUnique : Type 0
 VerdictIsUnique =
     (s : Trace) (order instance : List ℕ) (v w : Verdict) → IsVerdict s order instance v →

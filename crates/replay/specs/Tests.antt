@@ -1,6 +1,6 @@
--- When each test of the checker fails: at the place q of the trace, with the places of `passed`
+-- When each test of the checker fails: at the place `q` of the trace, with the places of `passed`
 -- before it in the list.
-use Rattle.std.specs.Prelude.{◌≡◌, ◌≢◌, ℕ, ◌<◌, ◌≤◌, ◌⊎◌, List, length, slice_get, Some, MatchOption, codes}
+use Rattle.std.specs.Prelude.{◌≡◌, ◌≢◌, ℕ, ◌<◌, ◌≤◌, ◌⊎◌, List, length, Some, MatchOption, codes}
 use Rattle.std.specs.List.{Contains}
 use Rattle.trace_model.specs.declared.traces.event.Op.TheVariants.{Fork, Join, Read, Write}
 use Rattle.trace_model.specs.Theory.Trace.{Trace, Does, OfThread, EarlierInThread}
@@ -10,50 +10,48 @@ use Rattle.trace_model.specs.Theory.Walk.{LastIn}
 use Rattle.replay.specs.declared.verdict.Fault.{Fault}
 use Rattle.replay.specs.declared.verdict.Fault.TheVariants.{OutOfTrace, Repeated, ThreadOrder, ForkOrder, JoinOrder, WrongWriter, Overlap, LockOrder, TooFar, NotReached}
 
--- no fork of the thread stands before it
+-- No fork of the thread was passed.
 abbrev pub NoForkIn : Trace → List ℕ → ℕ → Type 0
 NoForkIn s passed t = (p : ℕ) → Contains passed p → Does s p (Fork t) → ⊥
 
--- no write of the variable stands before it
+-- No write to the variable was passed.
 abbrev pub NoWriteIn : Trace → List ℕ → ℕ → Type 0
 NoWriteIn s passed v = (u : ℕ) → Does s u (Write v) → Contains passed u → ⊥
 
--- a place of the thread below the end is not before it
+-- A place of the thread below the end was not passed.
 abbrev pub MissesPlace : Trace → List ℕ → ℕ → ℕ → Type 0
 MissesPlace s passed t end = (p : ℕ) × (p < end) × OfThread s p t × (Contains passed p → ⊥)
 
-abbrev pub IsDistinctList : List ℕ → Type 0
-IsDistinctList xs = (i j q : ℕ) → slice_get xs i ≡ Some q → slice_get xs j ≡ Some q → i ≡ j
-
--- an earlier place of its thread is not before it
+-- An earlier place of its thread was not passed.
 abbrev pub MissesEarlier : Trace → List ℕ → ℕ → Type 0
 MissesEarlier s passed q = (p : ℕ) × EarlierInThread s p q × (Contains passed p → ⊥)
 
--- the fork of the thread or a place of it is not before it
+-- The fork of the thread or a place of it was not passed.
 abbrev pub MissesThread : Trace → List ℕ → ℕ → Type 0
 MissesThread s passed c = NoForkIn s passed c ⊎ ((p : ℕ) × OfThread s p c × (Contains passed p → ⊥))
 
--- the last write to the variable before it is its writer, and there is none where it has none
+-- The last passed write to the variable is the writer of the read, or neither exists.
 abbrev pub SeesWriter : Trace → List ℕ → ℕ → ℕ → Type 0
 SeesWriter s passed q v =
     MatchOption (writer s q) (NoWriteIn s passed v) (LastIn s passed v)
 
--- the acquire's release stands before it
+-- The acquire's release was passed.
 abbrev pub IsClosedIn : Trace → List ℕ → ℕ → Type 0
 IsClosedIn s passed p = (r : ℕ) × (release s p ≡ Some r) × Contains passed r
 
--- it begins a section on the lock, and its release does not stand before it
+-- A section on the lock begins at the place, and its release was not passed.
 abbrev pub IsOpenIn : Trace → List ℕ → ℕ → ℕ → Type 0
 IsOpenIn s passed l p = BeginsOn s p l × (IsClosedIn s passed p → ⊥)
 
--- an outermost acquire of the lock stands before it without that acquire's release
+-- An outermost acquire of the lock was passed without its release.
 abbrev pub LeavesOpen : Trace → List ℕ → ℕ → Type 0
 LeavesOpen s passed l = (p : ℕ) × Contains passed p × IsOpenIn s passed l p
 
--- a later outermost acquire of the lock in the trace stands before it
+-- A later outermost acquire of the lock was passed.
 abbrev pub HasLater : Trace → List ℕ → ℕ → ℕ → Type 0
 HasLater s passed q l = (p : ℕ) × Contains passed p × BeginsOn s p l × (q < p)
 
+-- The test fails at the place.
 abbrev pub Breaks : Fault → Trace → List ℕ → ℕ → Type 0
 Breaks OutOfTrace s passed q = length s ≤ q
 Breaks Repeated s passed q = Contains passed q
@@ -66,7 +64,7 @@ Breaks LockOrder s passed q = (l : ℕ) × BeginsOn s q l × HasLater s passed q
 Breaks TooFar s passed q = Contains passed q
 Breaks NotReached s passed q = MissesEarlier s passed q
 
--- how a test is printed
+-- The printed name of a test.
 abbrev pub name_of : Fault → List ℕ
 name_of OutOfTrace = codes "OutOfTrace"
 name_of Repeated = codes "Repeated"

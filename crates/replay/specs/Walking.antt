@@ -1,5 +1,4 @@
--- What a walk along the list keeps: which places were met, and the last one that does something, by
--- what it is done to.
+-- The state of a walk along the list: which places were passed, and the last one of each kind.
 use Rattle.std.specs.Prelude.{◌≡◌, ℕ, ◌<◌, ◌==◌, List, length, slice_get, Option, Some, MatchOption, slice_index_or, nat_eq, false, if◌then◌else◌}
 use Rattle.std.specs.Bool.{Decides}
 use Rattle.std.specs.HashMap.{get}
@@ -12,28 +11,28 @@ use Rattle.trace_model.specs.Theory.Walk.{Walks}
 use Rattle.replay.specs.declared.walked.Walked.{Walked}
 use Rattle.trace_model.specs.Theory.Trace.{Trace, Does, op_eq}
 
--- what a table has under the key after a place that does `done`
+-- The table's entry of the key after a place with operation `done`.
 abbrev pub noted : (ℕ → Op) → Op → ℕ → ℕ → Option ℕ → Option ℕ
 noted kind done place key before = if op_eq done (kind key) then Some place else before
 
--- or after a place that begins a section on a lock, if on any
+-- The table's entry of the key after a place at which a section may begin.
 abbrev pub noted_begun : Option ℕ → ℕ → ℕ → Option ℕ → Option ℕ
 noted_begun begun place key before =
     if option_map_or (λ l. l == key) begun false then Some place else before
 
--- z is the last place of the list of which it holds
+-- The last place of the list with the property.
 abbrev pub IsLastOf : List ℕ → (ℕ → Type 0) → ℕ → Type 0
 IsLastOf passed P z =
     (i : ℕ) × (slice_get passed i ≡ Some z) × P z
     × ((j u : ℕ) → i < j → slice_get passed j ≡ Some u → P u → ⊥)
 
--- the table has for each key the last place of the list of which it holds
+-- The table has for each key the last place of the list with the property.
 abbrev pub Keeps : List ℕ → (ℕ → ℕ → Type 0) → (ℕ → Option ℕ) → Type 0
 Keeps passed P table =
     (key : ℕ) →
     MatchOption (table key) ((u : ℕ) → P key u → Contains passed u → ⊥) (IsLastOf passed (P key))
 
--- the tables are those of the walked list
+-- The tables are those of the passed list.
 pub record IsWalked (s : Trace) (passed : List ℕ) (t : Walked) : Type 0 where
   pub walked : Walks s passed
   pub sized : length t.inside.items ≡ length s

@@ -1,4 +1,4 @@
-//! The check of a list of places against a trace.
+//! Checks a list of places against a trace.
 
 ghost use Rattle.std.specs.Prelude.{◌≡◌, ◌↔◌, [], IfOk};
 ghost use Rattle.trace_model.specs.Theory.Lawful.{IsWellFormed};
@@ -16,18 +16,18 @@ use std::alloc::Global;
 use std::collections::hash_map::RandomState;
 use trace_model::{Event, Instance, NoMemory, Place};
 
-/// Walks the list over the trace, and then the places of the instance: the first test that fails,
-/// with its place, or `Reaches`.
+/// Walks along the list `order`, and then along the places of `instance`. Returns the first test
+/// that fails, with its place, or `Reaches`.
 ///
-/// `order` is the list of places to check, in its order and with whatever numbers; `instance` has
-/// the places that it is to reach. The trace must be well formed. `Reaches` is answered exactly
-/// where the list is a sync-preserving reordering of the trace that reaches the instance, whose
-/// places are in the trace. Some passes over the trace and one over the list; its time grows with
-/// both lengths alone.
+/// `order` is the list to check, in its order; it may contain any numbers. `Reaches` is returned
+/// exactly if the list is a sync-preserving reordering of the trace that reaches the instance, and
+/// the places of the instance are in the trace. Takes a few passes over the trace and one over the
+/// list; the time depends only on both lengths.
 ///
 /// # Errors
+/// `NoMemory` if an allocation fails.
 ///
-/// `NoMemory` where a growth was refused.
+/// The caller passes a well-formed trace.
 pub fn check(
     alloc: Global,
     state: RandomState,
@@ -45,7 +45,10 @@ pub fn check(
     walk(trace, order, instance, &facts, &mut walked)
 }
 
-/// The verdict, by one walk along the list, which has not begun.
+/// Returns the verdict, by one walk along the list from its start.
+///
+/// # Errors
+/// `NoMemory` if an allocation fails.
 fn walk(
     trace: &[Event],
     order: &[Place],
@@ -75,7 +78,8 @@ fn walk(
     Ok(check_instance(trace, order, facts, walked, instance))
 }
 
-/// The first test that fails at a place of the instance, once the list was walked to its end.
+/// Returns the first test that fails at a place of the instance, after the walk to the end of the
+/// list, or `Reaches`.
 fn check_instance(
     trace: &[Event],
     order: &[Place],

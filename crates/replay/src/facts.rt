@@ -1,4 +1,4 @@
-//! What each place of the trace needs, by some passes over the trace.
+//! Facts about each place of the trace, computed by a few passes over it.
 
 ghost use Rattle.std.specs.Prelude.{◌≡◌, ℕ, ◌≤◌, length, nat_eq, IfOk};
 ghost use Rattle.std.specs.HashMap.{get};
@@ -9,17 +9,17 @@ ghost use Rattle.trace_model.specs.Theory.Lookups.{writer};
 ghost use Rattle.replay.specs.Facts as facts_words;
 ghost use Rattle.replay.specs.Facts.{is_of, each, of_read, AreFacts};
 
-use crate::latest::{Latest, last, note_thread, note_write};
+use crate::last_places::{LastPlaces, last, note_thread, note_write};
 use crate::sections::{Sections, sections_of};
 use std::alloc::Global;
 use std::collections::HashMap;
 use std::collections::hash_map::RandomState;
 use trace_model::{Event, NoMemory, Op, Place};
 
-/// What the trace says of each of its places.
+/// Facts about each place of the trace.
 #[derive(Drop)]
 pub(crate) struct Facts {
-    /// The place before it in its thread.
+    /// The previous place of its thread.
     pub(crate) previous: Vec<Option<Place>>,
     /// The writer of a read.
     pub(crate) writers: Vec<Option<Place>>,
@@ -28,10 +28,13 @@ pub(crate) struct Facts {
     /// The release of an outermost acquire.
     pub(crate) releases: Vec<Option<Place>>,
     /// The last place of each thread.
-    pub(crate) lasts: Latest,
+    pub(crate) lasts: LastPlaces,
 }
 
-/// What the trace says of each of its places.
+/// Returns the facts about each place of the trace.
+///
+/// # Errors
+/// `NoMemory` if an allocation fails.
 pub(crate) fn facts_of(
     alloc: Global,
     state: RandomState,
@@ -52,19 +55,22 @@ pub(crate) fn facts_of(
     })
 }
 
-/// Of each place the one before it in its thread, and the last place of each thread.
+/// Returns for each place the previous one of its thread, and the last place of each thread.
+///
+/// # Errors
+/// `NoMemory` if an allocation fails.
 fn previous_places(
     alloc: Global,
     state: RandomState,
     trace: &[Event],
-) -> Result<(Vec<Option<Place>>, Latest), NoMemory>
+) -> Result<(Vec<Option<Place>>, LastPlaces), NoMemory>
     requires { length trace.now ≤ MAX_EVENTS }
     ensures previous { IfOk result (λ made. made.0.items ≡
         each (facts_words.previous trace.now) (length trace.now)) }
     ensures lasts { IfOk result (λ made. (t : ℕ) →
         get nat_eq made.1 t ≡ last_place (is_of trace.now t) (length trace.now)) }
 {
-    let mut lasts: Latest = HashMap::with_hasher(alloc, state);
+    let mut lasts: LastPlaces = HashMap::with_hasher(alloc, state);
     let mut previous = Vec::with_capacity(alloc, trace.len())?;
     for index in 0..trace.len() {
         let thread = trace[index].thread;
@@ -75,8 +81,8 @@ fn previous_places(
     Ok((previous, lasts))
 }
 
-/// What stands under the variable of a read.
-fn last_of_read(writes: &Latest, op: Op) -> Option<Place>
+/// Returns the last write to the variable of a read, or `None` for another operation.
+fn last_of_read(writes: &LastPlaces, op: Op) -> Option<Place>
     ensures { result ≡ of_read (get nat_eq writes.now) op }
 {
     match op {
@@ -85,7 +91,10 @@ fn last_of_read(writes: &Latest, op: Op) -> Option<Place>
     }
 }
 
-/// Of each read its writer.
+/// Returns the writer of each read.
+///
+/// # Errors
+/// `NoMemory` if an allocation fails.
 fn writers_of(
     alloc: Global,
     state: RandomState,
@@ -94,7 +103,7 @@ fn writers_of(
     requires { length trace.now ≤ MAX_EVENTS }
     ensures { IfOk result (λ made. made.items ≡ each (writer trace.now) (length trace.now)) }
 {
-    let mut writes: Latest = HashMap::with_hasher(alloc, state);
+    let mut writes: LastPlaces = HashMap::with_hasher(alloc, state);
     let mut writers = Vec::with_capacity(alloc, trace.len())?;
     for index in 0..trace.len() {
         let op = trace[index].op;

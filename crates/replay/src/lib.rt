@@ -1,14 +1,15 @@
-//! A checker of witnesses that trusts nothing but the trace.
+//! Checks a witness against a trace, and trusts nothing else.
 //!
-//! It reads the trace, a list of places and the places of an instance, and says whether the list is
-//! a sync-preserving reordering of the trace that reaches the instance, or which test fails first,
-//! and where. It knows nothing of closures or indexes: whoever is handed a witness needs to trust
-//! this crate alone.
+//! [`check`] reads a trace, a list of places and the places of an instance. It returns `Reaches`
+//! exactly if the list is a sync-preserving reordering of the trace that reaches the instance, else
+//! the first test that fails, with its place. It uses neither closures nor the trace index: the
+//! reader of a witness needs to trust only this crate. Start reading at `order_rules.rt`, which has
+//! the tests.
 #![tactic(auto)]
 
 mod checking;
 mod facts;
-mod latest;
+mod last_places;
 pub mod laws;
 mod order_rules;
 mod sections;

@@ -1,5 +1,4 @@
-//! The rules of a reordering at a place of the list, each tested against what is known of the
-//! places before it.
+//! The tests of a sync-preserving reordering, at one place of the list.
 
 ghost use Rattle.std.specs.Prelude.{◌≡◌, ◌<◌, ◌↔◌, length, slice_get, IsTrue, Some};
 ghost use Rattle.std.specs.List.{Contains};
@@ -12,22 +11,22 @@ ghost use Rattle.replay.specs.Tests.{NoForkIn, MissesPlace, MissesEarlier, Misse
 ghost use Rattle.replay.specs.Verdict.{IsFirst, order_tests, instance_tests};
 
 use crate::facts::Facts;
-use crate::latest::last;
+use crate::last_places::last;
 use crate::verdict::Fault;
 use crate::walked::Walked;
 use trace_model::{Event, Op, Place};
 
-/// The places that stand before one in the list, and what is known of them and of the trace.
+/// The places before the tested one in the list, with the facts about them and about the trace.
 #[derive(Drop)]
 pub(crate) struct Known<'a> {
     pub(crate) trace: &'a [Event],
-    /// The places before it, which stand here for what is said of them.
+    /// The places before the tested one. Only contracts read them; the code reads `walked`.
     pub(crate) passed: &'a [Place],
     pub(crate) facts: &'a Facts,
     pub(crate) walked: &'a Walked,
 }
 
-/// What the table has for the place.
+/// Returns the entry of the place in a table.
 fn entry(table: &[Option<Place>], place: Place) -> Option<Place>
     requires { place < length table.now }
     ensures { slice_get table.now place ≡ Some result }
@@ -36,7 +35,7 @@ fn entry(table: &[Option<Place>], place: Place) -> Option<Place>
 }
 
 impl<'a> Known<'a> {
-    /// The event at the place.
+    /// Returns the event at the place.
     fn event(&self, place: Place) -> Event
         requires { place < length self.now.trace.now }
         ensures { slice_get self.now.trace.now place ≡ Some result }
@@ -44,7 +43,7 @@ impl<'a> Known<'a> {
         self.trace[place.get() as usize]
     }
 
-    /// The lock on which a section begins at the place.
+    /// Returns the lock on which a section begins at the place.
     pub(crate) fn begun(&self, place: Place) -> Option<u32>
         requires known { IsKnown self.now }
         requires in_trace { place < length self.now.trace.now }
@@ -53,8 +52,8 @@ impl<'a> Known<'a> {
         self.facts.begins[place.get() as usize]
     }
 
-    /// Whether the place stands before.
-    fn stands(&self, place: Place) -> bool
+    /// Returns whether the place is before the tested one in the list.
+    fn is_passed(&self, place: Place) -> bool
         requires known { IsKnown self.now }
         requires in_trace { place < length self.now.trace.now }
         ensures { IsTrue result ↔ Contains self.now.passed.now place }
@@ -62,31 +61,31 @@ impl<'a> Known<'a> {
         self.walked.has(place)
     }
 
-    /// Whether an earlier place of its thread is missing before it.
+    /// Returns whether an earlier place of its thread is missing.
     fn misses_earlier(&self, place: Place) -> bool
         requires known { IsKnown self.now }
         requires in_trace { place < length self.now.trace.now }
         ensures { IsTrue result ↔ MissesEarlier self.now.trace.now self.now.passed.now place }
     {
         match entry(&self.facts.previous, place) {
-            Some(previous) => !self.stands(previous),
+            Some(previous) => !self.is_passed(previous),
             None => false,
         }
     }
 
-    /// Whether a place of the thread is missing.
+    /// Returns whether a place of the thread is missing.
     fn misses_last(&self, thread: u32) -> bool
         requires { IsKnown self.now }
         ensures { IsTrue result ↔ MissesPlace self.now.trace.now self.now.passed.now thread
             (length self.now.trace.now) }
     {
         match last(&self.facts.lasts, thread) {
-            Some(place) => !self.stands(place),
+            Some(place) => !self.is_passed(place),
             None => false,
         }
     }
 
-    /// Whether no fork of the thread stands before.
+    /// Returns whether the fork of the thread is missing.
     fn misses_fork(&self, thread: u32) -> bool
         requires { IsKnown self.now }
         ensures { IsTrue result ↔ NoForkIn self.now.trace.now self.now.passed.now thread }
@@ -97,7 +96,7 @@ impl<'a> Known<'a> {
         }
     }
 
-    /// Whether the fork of the thread or a place of it is missing.
+    /// Returns whether the fork or a place of the thread is missing.
     fn misses_thread(&self, thread: u32) -> bool
         requires { IsKnown self.now }
         ensures { IsTrue result ↔ MissesThread self.now.trace.now self.now.passed.now thread }
@@ -105,20 +104,20 @@ impl<'a> Known<'a> {
         self.misses_fork(thread) || self.misses_last(thread)
     }
 
-    /// Whether the release of the outermost acquire stands before.
+    /// Returns whether the release of the outermost acquire was passed.
     fn is_closed(&self, place: Place) -> bool
         requires known { IsKnown self.now }
         requires in_trace { place < length self.now.trace.now }
         ensures { IsTrue result ↔ IsClosedIn self.now.trace.now self.now.passed.now place }
     {
         match entry(&self.facts.releases, place) {
-            Some(release) => self.stands(release),
+            Some(release) => self.is_passed(release),
             None => false,
         }
     }
 
-    /// Whether an outermost acquire of the lock stands before without its release: if so, the last
-    /// one does.
+    /// Returns whether an outermost acquire of the lock was passed without its release. If so, the
+    /// last one was.
     fn leaves_open(&self, lock: u32) -> bool
         requires { IsKnown self.now }
         ensures { IsTrue result ↔ LeavesOpen self.now.trace.now self.now.passed.now lock }
@@ -129,7 +128,8 @@ impl<'a> Known<'a> {
         }
     }
 
-    /// Whether a later outermost acquire of the lock stands before: if so, the last one is later.
+    /// Returns whether a later outermost acquire of the lock was passed. If so, the last one is
+    /// later.
     fn has_later(&self, place: Place, lock: u32) -> bool
         requires { IsKnown self.now }
         ensures { IsTrue result ↔ HasLater self.now.trace.now self.now.passed.now place lock }
@@ -140,7 +140,7 @@ impl<'a> Known<'a> {
         }
     }
 
-    /// Whether the last write before the read is its writer.
+    /// Returns whether the last passed write to the variable is the writer of the read.
     fn sees_writer(&self, place: Place, variable: u32) -> bool
         requires known { IsKnown self.now }
         requires reads { Does self.now.trace.now place (Op.Read variable) }
@@ -149,6 +149,7 @@ impl<'a> Known<'a> {
         last(&self.walked.writes, variable) == entry(&self.facts.writers, place)
     }
 
+    /// Returns whether the test `ForkOrder` fails.
     fn breaks_fork_order(&self, place: Place) -> bool
         requires known { IsKnown self.now }
         requires in_trace { place < length self.now.trace.now }
@@ -159,6 +160,7 @@ impl<'a> Known<'a> {
         thread != 0 && self.misses_fork(thread)
     }
 
+    /// Returns whether the test `JoinOrder` fails.
     fn breaks_join_order(&self, place: Place) -> bool
         requires known { IsKnown self.now }
         requires in_trace { place < length self.now.trace.now }
@@ -171,6 +173,7 @@ impl<'a> Known<'a> {
         }
     }
 
+    /// Returns whether the test `WrongWriter` fails.
     fn breaks_writer(&self, place: Place) -> bool
         requires known { IsKnown self.now }
         requires in_trace { place < length self.now.trace.now }
@@ -183,6 +186,7 @@ impl<'a> Known<'a> {
         }
     }
 
+    /// Returns whether the test `Overlap` fails.
     fn breaks_sections(&self, place: Place) -> bool
         requires known { IsKnown self.now }
         requires in_trace { place < length self.now.trace.now }
@@ -195,6 +199,7 @@ impl<'a> Known<'a> {
         }
     }
 
+    /// Returns whether the test `LockOrder` fails.
     fn breaks_lock_order(&self, place: Place) -> bool
         requires known { IsKnown self.now }
         requires in_trace { place < length self.now.trace.now }
@@ -207,7 +212,7 @@ impl<'a> Known<'a> {
         }
     }
 
-    /// The first test that fails at the next place of the list.
+    /// Returns the first test that fails at the next place of the list.
     pub(crate) fn order_fault(&self, place: Place) -> Option<Fault>
         requires { IsKnown self.now }
         ensures { IsFirst order_tests self.now.trace.now self.now.passed.now place result }
@@ -215,7 +220,7 @@ impl<'a> Known<'a> {
         if place.get() as usize >= self.trace.len() {
             return Some(Fault::OutOfTrace);
         }
-        if self.stands(place) {
+        if self.is_passed(place) {
             return Some(Fault::Repeated);
         }
         if self.misses_earlier(place) {
@@ -239,7 +244,7 @@ impl<'a> Known<'a> {
         None
     }
 
-    /// The first test that fails at a place of the instance, after the whole list.
+    /// Returns the first test that fails at a place of the instance, after the whole list.
     pub(crate) fn instance_fault(&self, place: Place) -> Option<Fault>
         requires { IsKnown self.now }
         ensures { IsFirst instance_tests self.now.trace.now self.now.passed.now place result }
@@ -247,7 +252,7 @@ impl<'a> Known<'a> {
         if place.get() as usize >= self.trace.len() {
             return Some(Fault::OutOfTrace);
         }
-        if self.stands(place) {
+        if self.is_passed(place) {
             return Some(Fault::TooFar);
         }
         if self.misses_earlier(place) {

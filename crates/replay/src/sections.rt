@@ -1,4 +1,4 @@
-//! One pass over the trace for its critical sections: where each begins, and where it ends.
+//! The critical sections of the trace, found in one pass.
 
 ghost use Rattle.std.specs.Prelude.{◌≡◌, ℕ, ◌<◌, length, slice_get, nat_eq, None, Some, IfOk, IfSome, OnOk, if◌then◌else◌};
 ghost use Rattle.std.specs.HashMap.{get};
@@ -15,35 +15,35 @@ use std::collections::HashMap;
 use std::collections::hash_map::RandomState;
 use trace_model::{Event, NoMemory, Op, Place};
 
-/// A critical section that did not end yet.
+/// A critical section that has not ended.
 #[derive(Clone, Copy)]
 pub(crate) struct Open {
-    /// The outermost acquire, which begins it.
+    /// The outermost acquire, which begins the section.
     acquire: Place,
-    /// How many acquires of its lock are not yet released.
+    /// The number of acquires of its lock that are not released.
     depth: u8,
 }
 
-/// The open section on each lock that is held.
+/// The open section on each held lock.
 type OpenSections = HashMap<u32, Open, RandomState>;
 
-/// What the trace says of its critical sections.
+/// The critical sections of the trace.
 #[derive(Drop)]
 pub(crate) struct Sections {
-    /// Of each place the lock on which a section begins there.
+    /// For each place the lock on which a section begins there.
     pub(crate) begins: Vec<Option<u32>>,
-    /// Of each outermost acquire the release that ends its section.
+    /// For each outermost acquire the release that ends its section.
     pub(crate) releases: Vec<Option<Place>>,
 }
 
-/// The open section on the lock.
+/// Returns the open section on the lock.
 fn section(opened: &OpenSections, lock: u32) -> Option<Open>
     ensures { result ≡ get nat_eq opened.now lock }
 {
     opened.get(&lock).copied()
 }
 
-/// The section after one more acquire of its lock, at the place.
+/// Returns the section after one more acquire of its lock at `place`.
 fn deeper(section: Option<Open>, place: Place) -> Open
     requires { IfSome section (λ o. o.depth < MAX_DEPTH) }
     ensures { result ≡ words.deeper place section }
@@ -60,7 +60,7 @@ fn deeper(section: Option<Open>, place: Place) -> Open
     }
 }
 
-/// The section after one release of its lock: none where this ends it.
+/// Returns the section after one release of its lock, or `None` if that ends it.
 fn shallower(section: Option<Open>) -> Option<Open>
     ensures { result ≡ words.shallower section }
 {
@@ -74,7 +74,10 @@ fn shallower(section: Option<Open>) -> Option<Open>
     })
 }
 
-/// The lock has this open section, or none.
+/// Sets or removes the open section on the lock.
+///
+/// # Errors
+/// `NoMemory` if an allocation fails.
 fn put(opened: &mut OpenSections, lock: u32, section: Option<Open>) -> Result<(), NoMemory>
     ensures { OnOk result ((key : ℕ) →
         get nat_eq opened.new key ≡
@@ -91,7 +94,10 @@ fn put(opened: &mut OpenSections, lock: u32, section: Option<Open>) -> Result<()
     Ok(())
 }
 
-/// The open sections after an operation at the place.
+/// Updates the open sections for an operation at `place`.
+///
+/// # Errors
+/// `NoMemory` if an allocation fails.
 fn note(opened: &mut OpenSections, op: Op, place: Place) -> Result<(), NoMemory>
     requires { (lock : ℕ) → op ≡ Acquire lock →
         IfSome (get nat_eq opened.old lock) (λ o. o.depth < MAX_DEPTH) }
@@ -111,7 +117,7 @@ fn note(opened: &mut OpenSections, op: Op, place: Place) -> Result<(), NoMemory>
     }
 }
 
-/// The lock on which the operation begins a section: an acquire of a lock that is not held.
+/// Returns the lock on which the operation begins a section: an acquired lock that is not held.
 fn begun_by(opened: &OpenSections, op: Op) -> Option<u32>
     ensures { result ≡ words.begun_by (get nat_eq opened.now) op }
 {
@@ -122,7 +128,7 @@ fn begun_by(opened: &OpenSections, op: Op) -> Option<u32>
     }
 }
 
-/// The acquire whose section the operation ends.
+/// Sets the release of the acquire, if one is given, to `place`.
 fn ended_by(opened: &OpenSections, op: Op) -> Option<Place>
     ensures { result ≡ words.ended_by (get nat_eq opened.now) op }
 {
@@ -145,7 +151,10 @@ fn end(releases: &mut Vec<Option<Place>>, acquire: Option<Place>, place: Place)
     }
 }
 
-/// Where each section of the trace begins, and where it ends.
+/// Returns the critical sections of the trace.
+///
+/// # Errors
+/// `NoMemory` if an allocation fails.
 pub(crate) fn sections_of(
     alloc: Global,
     state: RandomState,

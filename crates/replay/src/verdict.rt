@@ -1,14 +1,14 @@
-//! What a check says.
+//! The result of a check.
 
 use trace_model::Place;
 
-/// A test that a place can fail. The first eight are made at each place of the list, in this order;
-/// then the first and the last two at each place of the instance.
+/// A test that fails at a place. The first eight are made at each place of the list, in this order.
+/// Then the first and the last two are made at each place of the instance.
 #[derive(Clone, Copy, Debug, PartialEq, Eq)]
 pub enum Fault {
     /// The place is not in the trace.
     OutOfTrace,
-    /// It stands earlier in the list.
+    /// The place occurs earlier in the list.
     Repeated,
     /// An earlier place of its thread is not before it in the list.
     ThreadOrder,
@@ -16,14 +16,14 @@ pub enum Fault {
     ForkOrder,
     /// It is a join, and the fork or a place of the joined thread is not before it.
     JoinOrder,
-    /// It is a read, and the last write to its variable before it in the list is not its writer, or
-    /// there is one and it has no writer.
+    /// It is a read, and the last write to its variable before it in the list is not its writer; or
+    /// there is such a write, and the read has no writer.
     WrongWriter,
-    /// It is an outermost acquire, and an outermost acquire of the same lock stands before it
-    /// without that acquire's release.
+    /// It is an outermost acquire, and an outermost acquire of the same lock is before it in the
+    /// list without its release.
     Overlap,
-    /// It is an outermost acquire, and a later outermost acquire of the same lock in the trace
-    /// stands before it.
+    /// It is an outermost acquire, and an outermost acquire of the same lock that is later in the
+    /// trace is before it in the list.
     LockOrder,
     /// The place of the instance is in the list.
     TooFar,
@@ -35,7 +35,7 @@ impl Fault {
     ghost use Rattle.std.specs.Prelude.{◌≡◌};
     ghost use Rattle.replay.specs.Tests.{name_of};
 
-    /// The name of the test, as it is printed.
+    /// Returns the name of the test, as it is printed.
     pub fn name(self) -> &'static str
         ensures { result.now ≡ name_of self }
     {
@@ -54,10 +54,10 @@ impl Fault {
     }
 }
 
-/// What the checker found.
+/// The result of a check.
 #[derive(Clone, Copy, Debug, PartialEq, Eq)]
 pub enum Verdict {
-    /// The list is a reordering of the trace that reaches the instance.
+    /// The list is a sync-preserving reordering of the trace that reaches the instance.
     Reaches,
     /// The first test that fails, and the place at which it fails.
     Fails(Fault, Place),

@@ -1,4 +1,4 @@
-//! What a walk along the list knows of the places before.
+//! What is known of the places that a walk along the list has passed.
 
 ghost use Rattle.std.specs.Prelude.{◌≡◌, ℕ, ◌<◌, ◌↔◌, length, slice_set, slice_index_or, nat_eq, replicate, false, true, IsTrue, IfOk, Option};
 ghost use Rattle.std.specs.HashMap.{get};
@@ -7,27 +7,30 @@ ghost use Rattle.std.specs.Result.{OnOk};
 ghost use Rattle.trace_model.specs.declared.traces.event.Op.{Op};
 ghost use Rattle.replay.specs.Walking.{noted, noted_begun};
 
-use crate::latest::{Latest, note_begun, note_fork, note_write};
+use crate::last_places::{LastPlaces, note_begun, note_fork, note_write};
 use std::alloc::Global;
 use std::collections::HashMap;
 use std::collections::hash_map::RandomState;
 use trace_model::{NoMemory, Op, Place};
 
-/// What a walk along the list knows of the places before.
+/// The passed places of a walk along the list.
 #[derive(Drop)]
 pub(crate) struct Walked {
-    /// Of each place of the trace, whether it was met.
+    /// For each place of the trace, whether it was passed.
     pub(crate) inside: Vec<bool>,
-    /// The last fork that was met, by its thread.
-    pub(crate) forks: Latest,
-    /// The last write that was met, by its variable.
-    pub(crate) writes: Latest,
-    /// The last outermost acquire that was met, by its lock.
-    pub(crate) acquires: Latest,
+    /// The last passed fork of each thread.
+    pub(crate) forks: LastPlaces,
+    /// The last passed write to each variable.
+    pub(crate) writes: LastPlaces,
+    /// The last passed outermost acquire of each lock.
+    pub(crate) acquires: LastPlaces,
 }
 
 impl Walked {
-    /// Nothing was met, of a trace with so many places.
+    /// Returns the state at the start of the list, for a trace with `places` places.
+    ///
+    /// # Errors
+    /// `NoMemory` if an allocation fails.
     pub(crate) fn new(alloc: Global, state: RandomState, places: usize) -> Result<Walked, NoMemory>
         ensures inside { IfOk result (λ w. w.inside.items ≡ replicate places false) }
         ensures forks { IfOk result (λ w. (key : ℕ) → get nat_eq w.forks key ≡ Option.None) }
@@ -42,8 +45,10 @@ impl Walked {
         })
     }
 
-    /// The walk goes on to the place, at which the operation stands, and at which a section begins
-    /// on the lock, if on any.
+    /// Passes `place`. Its operation is `op`, and a section begins there on the lock `begun`, if any.
+    ///
+    /// # Errors
+    /// `NoMemory` if an allocation fails.
     pub(crate) fn push(&mut self, place: Place, op: Op, begun: Option<u32>) -> Result<(), NoMemory>
         requires { place < length self.old.inside.items }
         ensures inside { OnOk result (self.new.inside.items ≡
@@ -65,7 +70,7 @@ impl Walked {
         Ok(())
     }
 
-    /// Whether the place was met.
+    /// Returns whether the place was passed.
     pub(crate) fn has(&self, place: Place) -> bool
         requires { place < length self.now.inside.items }
         ensures { result ≡ slice_index_or self.now.inside.items place false }

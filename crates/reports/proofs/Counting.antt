@@ -1,4 +1,4 @@
--- What a report counts, task by task.
+-- The counts of a report, task by task.
 use Rattle.std.proofs.Common.{◌≡◌, ℕ, ◌+◌, ◌≤◌, ◌<◌, Bool, List, [], ◌∷◌, ◌++◌, length, get_or, take, flat_map, count_by, sum_by, refl, sym, ap, ◌∙◌, ◌-◌, arith, length-append, cond}
 use Rattle.std.proofs.lemmas.List.Concat.{flat_map-append, flat_map-cons}
 use Rattle.std.proofs.lemmas.List.{take_all}
@@ -7,13 +7,13 @@ use Rattle.std.proofs.lemmas.List.Concat.{length-flat_map}
 use Rattle.reports.specs.Printed.{Printed}
 use Rattle.reports.specs.Text.{row_text, about, counts, report, is_confirmed, IsPlan}
 
--- pieces of pieces
+-- Nested pieces.
 pub flat_map-flat_map : {X Y : Type 0} (f : Y → List ℕ) (g : X → List Y) (xs : List X) → flat_map f (flat_map g xs) ≡ flat_map (λ x. flat_map f (g x)) xs
 flat_map-flat_map f g [] = refl
 flat_map-flat_map f g (x ∷ xs) = ap (flat_map f) (flat_map-cons g x xs) ∙ flat_map-append f (g x) (flat_map g xs)
     ∙ ap (λ ys. flat_map f (g x) ++ ys) (flat_map-flat_map f g xs) ∙ sym (flat_map-cons (λ y. flat_map f (g y)) x xs)
 
--- counts of pieces
+-- Counts of pieces.
 pub sum_by-flat_map : {X Y : Type 0} (f : Y → ℕ) (g : X → List Y) (xs : List X) → sum_by f (flat_map g xs) ≡ sum_by (λ x. sum_by f (g x)) xs
 sum_by-flat_map f g [] = refl
 sum_by-flat_map f g (x ∷ xs) = ap (sum_by f) (flat_map-cons g x xs) ∙ sum_by-append f (g x) (flat_map g xs)
@@ -22,19 +22,19 @@ sum_by-flat_map f g (x ∷ xs) = ap (sum_by f) (flat_map-cons g x xs) ∙ sum_by
 pub count_by-flat_map : {X Y : Type 0} (p : Y → Bool) (g : X → List Y) (xs : List X) → count_by p (flat_map g xs) ≡ sum_by (λ x. count_by p (g x)) xs
 count_by-flat_map p g xs = sum_by-flat_map (λ y. cond (p y) 1 0) g xs
 
--- a text is no shorter than it has rows
+-- A text has at least as many bytes as rows.
 pub rows-le : (rows : List Printed) → length rows ≤ length (flat_map row_text rows)
 rows-le [] = omega arith
 rows-le (r ∷ rows) = omega (arith, rows-le rows, ap length (flat_map-cons row_text r rows) ∙ length-append (row_text r) (flat_map row_text rows))
 
--- there are no more rows, and no more confirmed ones, than the text has bytes
+-- The numbers of rows and of confirmed rows are at most the length of the text.
 pub rows_within : {X : Type 0} (g : X → List Printed) (xs : List X) → sum_by (λ x. length (g x)) xs ≤ length (flat_map (λ x. flat_map row_text (g x)) xs)
 rows_within g xs = omega (arith, rows-le (flat_map g xs), length-flat_map g xs, ap length (flat_map-flat_map row_text g xs))
 
 pub confirmed_within : {X : Type 0} (p : Printed → Bool) (g : X → List Printed) (xs : List X) → sum_by (λ x. count_by p (g x)) xs ≤ length (flat_map (λ x. flat_map row_text (g x)) xs)
 confirmed_within p g xs = omega (arith, rows-le (flat_map g xs), count_by-le-length p (flat_map g xs), count_by-flat_map p g xs, ap length (flat_map-flat_map row_text g xs))
 
--- a count that grows piece by piece: with one piece more, with no more than all, and with all
+-- A count that grows piece by piece: with one more piece, at most the total, and the total.
 module _ {X : Type 0} (f : X → ℕ) (xs : List X) (i n : ℕ) where
   pub counted_more : (x : X) (m : ℕ) → i < length xs → x ≡ get_or xs i x → n ≡ sum_by f (take i xs) → m ≡ f x → n + m ≡ sum_by f (take (i + 1) xs)
   counted_more x m l is so e = (λ j. so j + (e ∙ ap f is) j) ∙ sym (sum_by_more f xs i x l)
@@ -45,7 +45,7 @@ module _ {X : Type 0} (f : X → ℕ) (xs : List X) (i n : ℕ) where
   pub counted_all : length xs ≤ i → n ≡ sum_by f (take i xs) → n ≡ sum_by f xs
   counted_all l so = so ∙ ap (sum_by f) (take_all i xs l)
 
--- the report, task by task
+-- The report, task by task.
 pub report_by_tasks : {X : Type 0} (question events bound : ℕ) (g : X → List Printed) (xs : List X) →
     report question events bound (flat_map g xs) ≡ about question events bound ++ (counts (length (flat_map g xs)) (count_by is_confirmed (flat_map g xs)) ++ flat_map (λ x. flat_map row_text (g x)) xs)
 report_by_tasks question events bound g xs =
@@ -61,7 +61,7 @@ length-report question events bound g xs cycles confirmed e f =
     ap length (report_by_tasks question events bound g xs) ∙ sum3 (about question events bound) (counts (length (flat_map g xs)) (count_by is_confirmed (flat_map g xs))) (flat_map (λ x. flat_map row_text (g x)) xs)
     ∙ (λ i. length (about question events bound) + (length (counts (sym e i) (sym f i)) + length (flat_map (λ x. flat_map row_text (g x)) xs)))
 
--- where the text is too long, as it is measured: its rows, what it is about, and what it counts
+-- The text is too long, as it is measured: its rows, and the two parts of its first line.
 module _ {X : Type 0} (question events bound : ℕ) (g : X → List Printed) (xs : List X) where
   pub over_rows : (most : ℕ) → most + 1 ≤ length (flat_map (λ x. flat_map row_text (g x)) xs) → most < length (report question events bound (flat_map g xs))
   over_rows most h = omega (arith, h, length-report question events bound g xs _ _ refl refl)
@@ -73,19 +73,19 @@ module _ {X : Type 0} (question events bound : ℕ) (g : X → List Printed) (xs
   length-measured : (cycles confirmed : ℕ) → cycles ≡ sum_by (λ x. length (g x)) xs → confirmed ≡ sum_by (λ x. count_by is_confirmed (g x)) xs →
       length (flat_map (λ x. flat_map row_text (g x)) xs ++ about question events bound ++ counts cycles confirmed) ≡ length (report question events bound (flat_map g xs))
   length-measured cycles confirmed e f =
-      let told = flat_map (λ x. flat_map row_text (g x)) xs in
+      let written = flat_map (λ x. flat_map row_text (g x)) xs in
       omega (
         arith,
         length-report question events bound g xs cycles confirmed (e ∙ sym (length-flat_map g xs)) (f ∙ sym (count_by-flat_map is_confirmed g xs)),
-        length-append told (about question events bound),
-        length-append (told ++ about question events bound) (counts cycles confirmed),
+        length-append written (about question events bound),
+        length-append (written ++ about question events bound) (counts cycles confirmed),
       )
 
   pub over_counts : (most cycles confirmed : ℕ) → cycles ≡ sum_by (λ x. length (g x)) xs → confirmed ≡ sum_by (λ x. count_by is_confirmed (g x)) xs →
       most + 1 ≤ length (flat_map (λ x. flat_map row_text (g x)) xs ++ about question events bound ++ counts cycles confirmed) → most < length (report question events bound (flat_map g xs))
   over_counts most cycles confirmed e f h = omega (arith, h, length-measured cycles confirmed e f)
 
-  -- the plan of a text that is not
+  -- The plan of a text that is not too long.
   pub planned : (most left cycles confirmed : ℕ) → cycles ≡ sum_by (λ x. length (g x)) xs → confirmed ≡ sum_by (λ x. count_by is_confirmed (g x)) xs →
       left + length (flat_map (λ x. flat_map row_text (g x)) xs ++ about question events bound ++ counts cycles confirmed) ≡ most →
       IsPlan question events bound (flat_map g xs) (record { length = most - left; cycles = cycles; confirmed = confirmed }) × (most - left ≤ most)

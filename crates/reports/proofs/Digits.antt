@@ -1,4 +1,4 @@
--- How many digits a number has.
+-- The number of digits of a number.
 use Rattle.std.proofs.Common.{◌≡◌, ℕ, ◌+◌, ◌*◌, ◌/◌, ◌%◌, ◌<◌, ◌≤◌, ◌^◌, length, decimal, ap, ◌∙◌, arith, length-append, lit<, [], ◌∷◌}
 use Rattle.std.proofs.lemmas.Fmt.{length-decimal-le, decimal_step, decimal_digit}
 
@@ -14,7 +14,7 @@ digits_one n h = ap length (decimal_digit n h)
 pub decade_first : (x : ℕ) → 0 ≤ x → x < 10 → 1 + length (decimal x) ≡ 2
 decade_first x l h = omega (arith, digits_one x h)
 
--- numbers with one digit more
+-- Numbers with one more digit.
 pub decade_next : (low high width : ℕ) → 10 * low ≤ high → 10 ≤ high → high < 2 ^ 32 → ((x : ℕ) → low ≤ x → x < high → 1 + length (decimal x) ≡ width) →
     (x : ℕ) → high ≤ x → x < high * 10 → 1 + length (decimal x) ≡ width + 1
 decade_next low high width l t few is x above below =

@@ -14,7 +14,7 @@ pair_more xs ys i x y l m e f = let long = length-zip xs ys in
 pub at_place : (ys : List ℕ) (i y : ℕ) → slice_get ys i ≡ Some y → y ≡ get_or ys i y
 at_place ys i y h = sym (get_or_from_slice_get ys i y y h)
 
--- the pieces of one element more, and of all
+-- The pieces of one more element, and of all.
 pub flat_more : {X : Type 0} (f : X → List ℕ) (xs : List X) (i : ℕ) (x : X) → i < length xs → x ≡ get_or xs i x →
     flat_map f (take (i + 1) xs) ≡ flat_map f (take i xs) ++ f x
 flat_more f xs i x l e = ap (flat_map f) (take_more xs i x l) ∙ flat_map-append f (take i xs) (get_or xs i x ∷ [])

@@ -1,4 +1,4 @@
--- Numbers that follow one another, in decimal.
+-- Consecutive numbers in decimal.
 use Rattle.std.proofs.Common.{◌≡◌, ℕ, zero, suc, ◌+◌, ◌*◌, ◌-◌, ◌<◌, ◌≤◌, List, [], ◌∷◌, ◌++◌, length, codes, decimal, take, drop, get_or, max, refl, ap, sym, ◌∙◌, arith, append-nil, append_assoc, length-append, length-drop}
 use Rattle.std.proofs.lemmas.List.{ext_get_or, get_or-take, get_or-drop, length-take, take-append-drop}
 use Rattle.std.proofs.lemmas.List.Concat.{flat_map-append, flat_map-cons}
@@ -23,11 +23,11 @@ run_split a m n = ap spaced (range_split a m n) ∙ flat_map-append piece (range
 run_one : (a : ℕ) → run_text a 1 ≡ piece a
 run_one a = flat_map-cons piece a [] ∙ append-nil (piece a)
 
--- one number more
+-- One more number.
 pub run_more : (a n : ℕ) → run_text a (n + 1) ≡ run_text a n ++ (codes " " ++ decimal (a + n))
 run_more a n = run_split a n 1 ∙ ap (λ t. run_text a n ++ t) (run_one (a + n))
 
--- numbers that are equally long
+-- Numbers of the same length.
 pub run_level : (a n w : ℕ) → ((x : ℕ) → a ≤ x → x < a + n → 1 + length (decimal x) ≡ w) → length (run_text a n) ≡ n * w
 run_level a zero w each = omega arith
 run_level a (suc n) w each =
@@ -35,7 +35,7 @@ run_level a (suc n) w each =
     let long : length (run_text a (suc n)) ≡ length (piece a) + length (run_text (a + 1) n) = length-append (piece a) (run_text (a + 1) n) in
     omega (arith, rest, long, each a (omega arith) (omega arith), length-append (codes " ") (decimal a))
 
--- numbers, and those after them that are equally long
+-- Numbers, followed by numbers of the same length.
 pub run_longer : (first next past w bytes : ℕ) → first ≤ next → next ≤ past → bytes ≡ length (run_text first (next - first)) →
     ((x : ℕ) → next ≤ x → x < past → 1 + length (decimal x) ≡ w) → bytes + (past - next) * w ≡ length (run_text first (past - first))
 run_longer first next past w bytes l m are each =
@@ -47,13 +47,13 @@ run_longer first next past w bytes l m are each =
     let split : run_text first (past - first) ≡ run_text first n ++ run_text next k = ap (run_text first) e ∙ run_split first n k ∙ ap (λ a. run_text first n ++ run_text a k) f in
     omega (arith, are, level, ap length split, length-append (run_text first n) (run_text next k))
 
--- a text of numbers, and one more
+-- A text of numbers, and one more number.
 pub run_pushed : (before text all : List ℕ) (a n number : ℕ) → a + n ≡ number → text ≡ before ++ run_text a n → all ≡ text ++ (codes " " ++ decimal number) → all ≡ before ++ run_text a (n + 1)
 run_pushed before text all a n number e is whole =
     whole ∙ (λ i. is i ++ (codes " " ++ decimal (sym e i))) ∙ append_assoc before (run_text a n) (codes " " ++ decimal (a + n))
     ∙ ap (λ t. before ++ t) (sym (run_more a n))
 
--- the first numbers, as many as are known or as are wanted
+-- The first numbers, known or wanted.
 pub run_up_to : (text all : List ℕ) (known count : ℕ) → text ≡ run_text 0 known → all ≡ text ++ run_text known (count - known) → all ≡ run_text 0 (max known count)
 run_up_to text all known count is whole =
     let e : known + (count - known) ≡ max known count = omega arith in
@@ -61,7 +61,7 @@ run_up_to text all known count is whole =
     whole ∙ ap (λ t. t ++ run_text known (count - known)) is ∙ ap (λ n. run_text 0 known ++ run_text n (count - known)) (sym f)
     ∙ sym (run_split 0 known (count - known)) ∙ ap (run_text 0) e
 
--- a part of the first numbers
+-- A part of the first numbers.
 module _ (all first count : ℕ) (within : first + count ≤ all) where
   rest : ℕ
   rest = all - (first + count)
@@ -91,7 +91,7 @@ module _ (all first count : ℕ) (within : first + count ≤ all) where
       ∙ ap (take (length a + length b - length a)) (drop-append_seam a (b ++ c))
       ∙ ap (λ n. take n (b ++ c)) e ∙ take-append_seam b c
 
--- places that follow one another
+-- Consecutive places.
 pub run_is : (xs : List ℕ) (at count : ℕ) → at + count ≤ length xs → IsRun xs at count → take count (drop at xs) ≡ range_with_len (get_or xs at 0) count
 run_is xs at count within run =
     let first = get_or xs at 0 in
@@ -108,7 +108,7 @@ take_both xs at count l =
     ap (λ n. take n xs) e ∙ ap (take (length (take at xs) + count)) (sym (take-append-drop at xs))
     ∙ take-append-add (take at xs) (drop at xs) count
 
--- the text of the places up to the end of a run
+-- The text of the places up to the end of a run
 pub spaced_both : (xs : List ℕ) (at count : ℕ) → at + count ≤ length xs → IsRun xs at count → spaced (take (at + count) xs) ≡ spaced (take at xs) ++ run_text (get_or xs at 0) count
 spaced_both xs at count within run =
     ap spaced (take_both xs at count (omega arith) ∙ ap (λ ys. take at xs ++ ys) (run_is xs at count within run))
@@ -122,7 +122,7 @@ spaced_within xs n =
       length-append (spaced (take n xs)) (spaced (drop n xs)),
     )
 
--- is no longer than that of all places
+-- It is not longer than that of all places.
 pub run_within : (xs : List ℕ) (at count : ℕ) → at + count ≤ length xs → IsRun xs at count → length (spaced (take at xs)) + length (run_text (get_or xs at 0) count) ≤ length (spaced xs)
 run_within xs at count within run =
     omega (

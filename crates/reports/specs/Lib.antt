@@ -1,4 +1,4 @@
 pub mod Printed
 pub mod Text
 pub mod Decades
-pub mod Taking
+pub mod Sinks

@@ -1,17 +1,22 @@
-//! Rows of a report: the cycle, its members' dependencies, and for a confirmed one the instance
-//! with its witness; and the report's text.
+//! The rows of a report and its text.
+//!
+//! A [`Row`] is a cycle with the dependencies of its members and, if it is confirmed, the instance
+//! and its witness. [`report_text`] returns the text of a report, or `TooLong` exactly if the text
+//! has more than `MAX_REPORT` bytes. One walk over the rows (`write.rt`) serves both to measure the
+//! text and to write it, so the text is written into memory of exactly its size. Start reading at
+//! `report.rt`.
 #![tactic(auto)]
 
+mod buffer;
 mod measure;
-mod numerals;
-mod page;
+mod numeral_cache;
 mod report;
 mod row;
-mod ruler;
-mod taker;
+mod run_measure;
+mod sink;
 mod write;
 
+pub use buffer::TextBuffer;
 pub use measure::confirmed_in;
-pub use page::Page;
 pub use report::{TextRefused, head_text, report_text, rows_text};
 pub use row::{Found, Row};

@@ -1,42 +1,41 @@
-//! How long a text will be, and how many rows it counts, before it is written.
+//! Measures a text before it is written.
 
 ghost use Rattle.std.specs.Prelude.{◌≡◌, ◌<◌, ◌≤◌, ◌^◌, ◌+◌, length, [], count_by, sum_by, MatchResult};
 ghost use Rattle.trace_model.specs.declared.limits.TheConstants.{MAX_REPORT};
 ghost use Rattle.reports.specs.Text.{is_confirmed};
 
 use crate::row::Row;
-use crate::ruler::{Ruler, digits};
-use crate::taker::Taker;
+use crate::run_measure::{RunMeasure, digits};
+use crate::sink::Sink;
 use trace_model::MAX_REPORT;
 
-/// The text has more bytes than `MAX_REPORT`.
+/// The text has more than `MAX_REPORT` bytes.
 #[derive(Drop)]
 pub(crate) struct TooLong;
 
-/// Counts the bytes of a text, of which it takes at most `MAX_REPORT`.
+/// A sink that counts the bytes of a text, up to `MAX_REPORT`.
 #[derive(Drop)]
 pub(crate) struct Counter {
     pub(crate) left: u64,
-    ruler: Ruler,
+    run_measure: RunMeasure,
     ghost within: { left ≤ MAX_REPORT },
 }
 
 impl Counter {
-    /// One that took nothing.
+    /// Returns a counter of an empty text.
     pub(crate) fn new() -> Counter
-        ensures { ⟦<Counter as Taker>⟧.room.has result [] }
+        ensures { ⟦<Counter as Sink>⟧.room.has result [] }
     {
         Counter {
             left: MAX_REPORT as u64,
-            ruler: Ruler::new(),
+            run_measure: RunMeasure::new(),
         }
     }
 
-    /// Counts so many bytes.
+    /// Counts `bytes` more bytes.
     ///
     /// # Errors
-    ///
-    /// `TooLong` exactly where fewer are left, which then stay left.
+    /// `TooLong` exactly if fewer are left; the count is unchanged.
     fn count(&mut self, bytes: u64) -> Result<(), TooLong>
         ensures { MatchResult result (λ _. self.new.left + bytes ≡ self.old.left)
             (λ _. (self.old.left < bytes) × (self.new.left ≡ self.old.left)) }
@@ -46,32 +45,32 @@ impl Counter {
     }
 }
 
-impl Taker for Counter {
+impl Sink for Counter {
     ghost use Rattle.std.specs.Prelude.{◌≡◌, ◌+◌, length};
     ghost use Rattle.trace_model.specs.declared.limits.TheConstants.{MAX_REPORT};
 
     type Refused = TooLong;
 
     ghost room = { record {
-      has = λ c told. c.left + length told ≡ MAX_REPORT;
+      has = λ c written. c.left + length written ≡ MAX_REPORT;
       least = MAX_REPORT + 1;
     } };
 
-    fn take(&mut self, bytes: &[u8]) -> Result<(), TooLong> {
+    fn put(&mut self, bytes: &[u8]) -> Result<(), TooLong> {
         self.count(bytes.len() as u64)
     }
 
-    fn take_number(&mut self, before: &[u8], number: u64) -> Result<(), TooLong> {
+    fn put_number(&mut self, before: &[u8], number: u64) -> Result<(), TooLong> {
         self.count(before.len() as u64 + digits(number))
     }
 
-    fn take_run(&mut self, first: u32, count: usize) -> Result<(), TooLong> {
-        let bytes = self.ruler.run(first, count);
+    fn put_run(&mut self, first: u32, count: usize) -> Result<(), TooLong> {
+        let bytes = self.run_measure.run(first, count);
         self.count(bytes)
     }
 }
 
-/// How many of the rows are confirmed.
+/// Returns the number of confirmed rows.
 pub fn confirmed_in(rows: &[Row]) -> usize
     ensures { result ≡ count_by is_confirmed rows.now }
 {
@@ -82,6 +81,7 @@ pub fn confirmed_in(rows: &[Row]) -> usize
     count
 }
 
+/// Returns the number of rows of all tasks.
 pub(crate) fn count_rows(tasks: &[Vec<Row>]) -> usize
     requires { sum_by (λ task. length task.items) tasks.now < 2 ^ 64 }
     ensures { result ≡ sum_by (λ task. length task.items) tasks.now }
@@ -93,6 +93,7 @@ pub(crate) fn count_rows(tasks: &[Vec<Row>]) -> usize
     count
 }
 
+/// Returns the number of confirmed rows of all tasks.
 pub(crate) fn count_confirmed(tasks: &[Vec<Row>]) -> usize
     requires { sum_by (λ task. count_by is_confirmed task.items) tasks.now < 2 ^ 64 }
     ensures { result ≡ sum_by (λ task. count_by is_confirmed task.items) tasks.now }

@@ -4,8 +4,8 @@ ghost use Rattle.std.specs.Prelude.{◌≡◌, ℕ, ◌<◌, ◌≤◌, ◌+◌,
 ghost use Rattle.trace_model.specs.declared.limits.TheConstants.{MAX_REPORT};
 ghost use Rattle.reports.specs.Text.{report, about, counts, row_text, IsPlan};
 
+use crate::buffer::TextBuffer;
 use crate::measure::{Counter, TooLong, count_confirmed, count_rows};
-use crate::page::Page;
 use crate::row::Row;
 use crate::write::{write_about, write_counts, write_rows, write_tasks};
 use std::alloc::Global;
@@ -15,10 +15,10 @@ use trace_model::{Bound, MAX_REPORT, NoMemory};
 /// Why a text is not written.
 #[derive(Debug, Drop, PartialEq, Eq, Error)]
 pub enum TextRefused {
-    /// The text has more bytes than `MAX_REPORT`.
+    /// The text has more than `MAX_REPORT` bytes.
     #[error("the report is too long")]
     TooLong,
-    /// A growth was refused.
+    /// An allocation failed.
     #[error("no memory")]
     NoMemory,
 }
@@ -45,7 +45,7 @@ impl From<NoMemory> for TextRefused {
     }
 }
 
-/// What is known of a report before it is written.
+/// The length of a report's text and the numbers in its first line.
 #[derive(Drop)]
 struct Plan {
     length: u64,
@@ -53,11 +53,10 @@ struct Plan {
     confirmed: u64,
 }
 
-/// How long the text will be, and what it counts.
+/// Measures the text and counts its rows.
 ///
 /// # Errors
-///
-/// `TooLong` exactly where the text has more than `MAX_REPORT` bytes.
+/// `TooLong` exactly if the text has more than `MAX_REPORT` bytes.
 fn plan_of(question: u32, events: u32, bound: u8, tasks: &[Vec<Row>]) -> Result<Plan, TooLong>
     ensures { MatchResult result
         (λ plan. IsPlan question events bound (flat_map (λ task. task.items) tasks.now) plan
@@ -78,13 +77,13 @@ fn plan_of(question: u32, events: u32, bound: u8, tasks: &[Vec<Row>]) -> Result<
     })
 }
 
-/// The text of the report of a question on the rows of its tasks, in the order of the tasks: of the
-/// question with this number and bound, about the first `events` events.
+/// Returns the text of the report for question `question` with this bound on the first `events`
+/// events. `tasks` has the rows of each task, in the order of the tasks.
 ///
 /// # Errors
-///
-/// `TooLong` exactly where the text has more than `MAX_REPORT` bytes, which is known before any of
-/// it is written. `NoMemory` where a growth was refused; what was written is dropped.
+/// - `TooLong` exactly if the text has more than `MAX_REPORT` bytes. This is known before any of it
+///   is written.
+/// - `NoMemory` if an allocation fails.
 pub fn report_text(
     alloc: Global,
     question: u32,
@@ -101,22 +100,22 @@ pub fn report_text(
 {
     let most = bound.get();
     let plan = plan_of(question, events, most, tasks)?;
-    let mut page = Page::new(alloc);
-    page.begin(plan.length as usize)?;
-    write_about(&mut page, question, events, most)?;
-    write_counts(&mut page, plan.cycles, plan.confirmed)?;
-    write_tasks(&mut page, tasks)?;
-    Ok(page.finish())
+    let mut buffer = TextBuffer::new(alloc);
+    buffer.begin(plan.length as usize)?;
+    write_about(&mut buffer, question, events, most)?;
+    write_counts(&mut buffer, plan.cycles, plan.confirmed)?;
+    write_tasks(&mut buffer, tasks)?;
+    Ok(buffer.finish())
 }
 
-/// What the text of a report has of these rows: the text of a report is its head with this of all
-/// its rows. What the page keeps from one text to the next serves for any rows.
+/// Returns the part of a report's text for these rows. The text of a report is its head, followed
+/// by this text of all its rows. The same buffer may be used for any rows.
 ///
 /// # Errors
-///
-/// `TooLong` exactly where that alone has more than `MAX_REPORT` bytes, which is known before any
-/// of it is written. `NoMemory` where a growth was refused; what was written is dropped.
-pub fn rows_text(page: &mut Page, rows: &[Row]) -> Result<Vec<u8>, TextRefused>
+/// - `TooLong` exactly if this part alone has more than `MAX_REPORT` bytes. This is known before
+///   any of it is written.
+/// - `NoMemory` if an allocation fails.
+pub fn rows_text(buffer: &mut TextBuffer, rows: &[Row]) -> Result<Vec<u8>, TextRefused>
     ensures text { IfOk result (λ text. text.items ≡ flat_map row_text rows.now) }
     ensures too_long { IsErrOf result TextRefused.TooLong ↔
         (MAX_REPORT < length (flat_map row_text rows.now)) }
@@ -124,17 +123,16 @@ pub fn rows_text(page: &mut Page, rows: &[Row]) -> Result<Vec<u8>, TextRefused>
     let mut counter = Counter::new();
     write_rows(&mut counter, rows)?;
     let room = MAX_REPORT as u64 - counter.left;
-    page.begin(room as usize)?;
-    write_rows(page, rows)?;
-    Ok(page.finish())
+    buffer.begin(room as usize)?;
+    write_rows(buffer, rows)?;
+    Ok(buffer.finish())
 }
 
-/// How the text of a report begins, before its rows: with the number, the length and the bound of
-/// its question, and how many rows and confirmed ones it has.
+/// Returns the first line of a report: the number, length and bound of its question, and the
+/// numbers of rows and of confirmed rows.
 ///
 /// # Errors
-///
-/// `NoMemory` where a growth was refused; what was written is dropped.
+/// `NoMemory` if an allocation fails.
 pub fn head_text(
     alloc: Global,
     question: u32,
@@ -146,8 +144,8 @@ pub fn head_text(
     ensures { IfOk result (λ text. text.items ≡ about question events bound ++
         counts cycles confirmed) }
 {
-    let mut page = Page::new(alloc);
-    write_about(&mut page, question, events, bound.get())?;
-    write_counts(&mut page, cycles, confirmed)?;
-    Ok(page.finish())
+    let mut buffer = TextBuffer::new(alloc);
+    write_about(&mut buffer, question, events, bound.get())?;
+    write_counts(&mut buffer, cycles, confirmed)?;
+    Ok(buffer.finish())
 }

@@ -1,11 +1,11 @@
-//! What a report says of a cycle.
+//! The rows of a report.
 
 use dependencies::Dependency;
 use std::marker::Model;
 use trace_model::{Cycle, Instance, Place};
 
-/// The reached instance of a confirmed cycle, a place for each member, and the witness: the places
-/// of the least reordering that reaches it, ascending.
+/// The least reached instance of a confirmed cycle, one place for each member, and its witness: the
+/// places of the least reordering that reaches it, ascending.
 #[derive(Drop)]
 pub struct Found {
     pub places: Instance,
@@ -20,8 +20,7 @@ impl Model for Found {
     ghost view = { λ f. record { places = f.places; witness = f.witness.items } };
 }
 
-/// A cycle, the dependencies that its numbers name, in its order, and what was found if it is
-/// confirmed.
+/// A cycle, the dependencies of its members in its order, and the instance if it is confirmed.
 pub struct Row {
     pub cycle: Cycle,
     pub dependencies: Vec<Dependency>,

@@ -1,4 +1,4 @@
--- What the marks say of the tasks.
+-- The tasks by their marks.
 use Rattle.std.proofs.Common.{◌≡◌, ℕ, zero, suc, ◌+◌, ◌^◌, inl, inr, replicate, ◌<◌, ◌≤◌, Bool, true, false, List, [], ◌∷◌, ◌++◌, length, get_or, map, nat_lt, slice_get, slice_set, Option, Some, None, is_some, count_by, refl, sym, ap, ◌∙◌, subst, cond, arith, add-one}
 use Rattle.std.proofs.lemmas.List.Sums.{sum_by-cons}
 use Rattle.std.proofs.lemmas.List.Folds.{sum_by-replicate}
@@ -135,7 +135,7 @@ opened n ms rs e f l = subst (λ xs. IsInOrder xs rs 0 0) (sym e) (record {
   first = λ h. head_of n (omega (arith, length-replicate n false));
 })
 
--- the same, where the marks stand in a list of their own
+-- The same, for marks in a separate list.
 pub marked_at : {X : Type 0} (g : X → List Printed) (ms : List Bool) (rs : List X) (n m i last : ℕ) (r : X) (now : List Bool) → IsInOrder ms (map g rs) n m → slice_get ms i ≡ Some false →
     now ≡ slice_set ms i true → (m ≤ last) × (last ≤ length now) → ((k : ℕ) → m ≤ k → k < last → slice_get now k ≡ Some true) →
     (last < length now → slice_get now last ≡ Some false) → IsInOrder (slice_set ms i true) (map g (slice_set rs i r)) (n + 1) last
@@ -146,7 +146,7 @@ marked_at g ms rs n m i last r now order h e w b f = marked_more g ms rs n m i l
 
 -- ---- marks
 
--- one more that is not set
+-- One more mark that is not set.
 pub marks_more : (n : ℕ) (ms : List Bool) → ms ≡ replicate n false → ms ++ false ∷ [] ≡ replicate (n + 1) false
 marks_more n ms is = rw add-one (ap (λ xs. xs ++ false ∷ []) is ∙ go n)
   where
@@ -154,7 +154,7 @@ marks_more n ms is = rw add-one (ap (λ xs. xs ++ false ∷ []) is ∙ go n)
     go zero = refl
     go (suc k) = ap (λ xs. false ∷ xs) (go k)
 
--- one more that is set
+-- One more mark that is set.
 pub set_more : (ms : List Bool) (from place : ℕ) → place < length ms → get_or ms place false ≡ true → ((k : ℕ) → from ≤ k → k < place → slice_get ms k ≡ Some true) →
     (k : ℕ) → from ≤ k → k < place + 1 → slice_get ms k ≡ Some true
 set_more ms from place within at before k low high = elim (cases_lt k place) [
@@ -164,7 +164,7 @@ set_more ms from place within at before k low high = elim (cases_lt k place) [
       subst (λ n. slice_get ms n ≡ Some true) same (slice_get-get_or ms place false within ∙ ap (λ (b : Bool). Some b) at)
 ]
 
--- the mark that a look-up lends
+-- The mark of a lookup.
 pub copied_of : (ms : List Bool) (k : ℕ) (lent : Option (Bor Bool)) → IsItemAt ms k lent → option_copied lent ≡ slice_get ms k
 copied_of ms k None h = sym (slice_get_past ms k (not_below k (length ms) h.0))
   where

@@ -1,4 +1,4 @@
-//! The rows of a question's tasks.
+//! A ledger of delivered tasks.
 
 ghost use Rattle.std.specs.Prelude.{◌≡◌, ℕ, ◌<◌, ◌≤◌, ◌^◌, Some, None, replicate, length, map, slice_get, slice_set, is_some, count_by, true, false, IfOk, MatchResult, MatchOption};
 
@@ -8,7 +8,7 @@ use std::marker::Model;
 use thiserror::Error;
 use trace_model::NoMemory;
 
-/// Why the rows of a task are not taken.
+/// Why the rows of a task are refused.
 #[derive(Clone, Copy, Debug, PartialEq, Eq, Error)]
 pub enum LedgerRefused {
     /// The question has no task with this number.
@@ -19,17 +19,16 @@ pub enum LedgerRefused {
     Double,
 }
 
-/// The tasks of a question, numbered from 0, with the rows of those that are delivered.
-///
-/// All its room is made by `open`; no other call takes memory.
+/// The tasks of a question, numbered from 0, with the rows of those that are delivered. Only `open`
+/// allocates.
 pub struct Ledger {
-    // the rows of each task, none where it is not delivered
+    /// The rows of each task; empty if it is not delivered.
     rows: Vec<Vec<Row>>,
-    // whether each task is delivered
+    /// Whether each task is delivered.
     marks: Vec<bool>,
-    // how many are
+    /// The number of delivered tasks.
     delivered: u32,
-    // the least that is not, or how many tasks there are
+    /// The least task that is not delivered, or the number of tasks.
     missing: u32,
 }
 
@@ -60,11 +59,10 @@ impl Model for Ledger {
 impl Ledger {
     ghost use Rattle.result_ledger.specs.Tasks.{IsMissing, IsLeastMissing, IsRefused};
 
-    /// A ledger of so many tasks, none of them delivered.
+    /// Returns a ledger of `total` tasks, none of them delivered.
     ///
     /// # Errors
-    ///
-    /// `NoMemory` where a growth was refused.
+    /// `NoMemory` if an allocation fails.
     pub fn open(alloc: Global, total: u32) -> Result<Ledger, NoMemory>
         ensures { IfOk result (λ ledger. ledger ≡ replicate total None) }
     {
@@ -82,11 +80,12 @@ impl Ledger {
         })
     }
 
-    /// What `accept` would answer for rows of the task.
+    /// Returns what `accept` would return for rows of the task, without storing anything. Does not
+    /// allocate.
     ///
     /// # Errors
-    ///
-    /// Those of `accept`.
+    /// - `NoSuchTask` if the question has no such task.
+    /// - `Double` if the task was delivered before.
     pub fn test(&self, task: u32) -> Result<(), LedgerRefused>
         ensures { MatchResult result (λ _. IsMissing self.now task) (IsRefused self.now task) }
     {
@@ -97,14 +96,14 @@ impl Ledger {
         }
     }
 
-    /// How many tasks are delivered.
+    /// Returns the number of delivered tasks. Does not allocate.
     pub fn delivered(&self) -> u32
         ensures { result ≡ count_by is_some self.now }
     {
         self.delivered
     }
 
-    /// The least task that is not delivered; none where all are.
+    /// Returns the least task that is not delivered, or `None` if all are. Does not allocate.
     pub fn missing(&self) -> Option<u32>
         ensures { MatchOption result ((task : ℕ) → IsMissing self.now task → ⊥)
             (IsLeastMissing self.now) }
@@ -116,7 +115,8 @@ impl Ledger {
         }
     }
 
-    /// The rows of each task, in the order of the tasks, once none is missing.
+    /// Returns the rows of each task in the order of the tasks, or `None` if a task is missing.
+    /// Does not allocate.
     pub fn settled(&self) -> Option<&[Vec<Row>]>
         ensures { MatchOption result ((task : ℕ) × IsMissing self.now task)
             (λ rows. self.now ≡ map (λ task. Some task.items) rows.now) }
@@ -128,12 +128,12 @@ impl Ledger {
         }
     }
 
-    /// Takes the rows of a task.
+    /// Stores the rows of a task. Does not allocate.
     ///
     /// # Errors
-    ///
-    /// `NoSuchTask` where there is no such task, `Double` where it was delivered before. The rows are
-    /// handed back, and nothing changed.
+    /// The rows are returned with the reason, and the ledger is unchanged.
+    /// - `NoSuchTask` if the question has no such task.
+    /// - `Double` if the task was delivered before.
     pub fn accept(&mut self, task: u32, rows: Vec<Row>) -> Result<(), (LedgerRefused, Vec<Row>)>
         ensures { MatchResult result
             (λ _. IsMissing self.old task × (self.new ≡ slice_set self.old task (Some rows.items)))
@@ -153,7 +153,8 @@ impl Ledger {
     }
 }
 
-/// The first mark from this place on that is not set, or how many there are.
+/// Returns the index of the first unset mark from `from` on, or the number of marks if there is
+/// none.
 fn first_false(marks: &[bool], from: u32) -> u32
     requires from { from ≤ length marks.now }
     requires long { length marks.now < 2 ^ 32 }
@@ -168,6 +169,7 @@ fn first_false(marks: &[bool], from: u32) -> u32
     place
 }
 
+/// Returns the mark of a task, or `None` if there is no such task.
 fn mark_of(marks: &[bool], task: u32) -> Option<bool>
     ensures { result ≡ slice_get marks.now task }
 {

@@ -1,4 +1,4 @@
--- How many entries below a bound pass, and which they are.
+-- The entries below a bound that pass, and their count.
 use Rattle.std.proofs.Common.{◌≡◌, ℕ, zero, suc, ◌<◌, ◌≤◌, inl, inr, Bool, true, false, cond, [], ◌∷◌, ◌++◌, length, slice_get, Some, None, refl, sym, ap, ◌∙◌, arith}
 use Rattle.std.proofs.lemmas.Bool.{cases_eq}
 use Rattle.std.proofs.lemmas.Option.{none-some, same_Some, slice_get_within}
@@ -37,7 +37,7 @@ pub count-agree : (f g : Places) (n : ℕ) → ((p : ℕ) → p < n → f p ≡ 
 count-agree f g zero h = refl
 count-agree f g (suc n) h = rw (h n (omega arith), count-agree f g n (λ p l. h p (omega arith))) refl
 
--- as many places are listed as pass
+-- the length of the list of passing places is their count
 pub length_ascending : (test : Places) (n : ℕ) → length (ascending test n) ≡ count_below test n
 length_ascending test zero = refl
 length_ascending test (suc n) = go (length_ascending test n) (test n)
@@ -47,7 +47,7 @@ length_ascending test (suc n) = go (length_ascending test n) (test n)
     go more true = length-push (ascending test n) n ∙ ap suc more
     go more false = more
 
--- a place that passes stands in the list of them where its count says
+-- a passing place is in the list of them at the index that its count gives
 pub nth : (test : Places) (n p : ℕ) → p < n → test p ≡ true → slice_get (ascending test n) (count_below test p) ≡ Some p
 nth test zero p l h = absurd (omega arith)
 nth test (suc n) p l h = elim (cases_eq p n) [

@@ -1,4 +1,4 @@
--- What a link says, and links of entries that come next.
+-- Links of entries, and of the next entry.
 use Rattle.std.proofs.Common.{◌≡◌, ℕ, suc, ◌+◌, ◌<◌, ◌≤◌, inl, inr, true, Option, Some, None, refl, sym, ap, subst, ◌∙◌, arith}
 use Rattle.std.proofs.lemmas.Bool.{cases_lt}
 use Rattle.std.specs.Option.{option_map_or, IsSomeAnd}
@@ -31,7 +31,7 @@ jump_ok test p link is h = elim (cases_lt link.jump p) [
   | inr l ↦ let w = is.jump_within in let same : p ≡ link.jump = omega arith in ap test (sym same) ∙ h
 ]
 
--- it depends on the entries before it alone
+-- a link depends only on the entries before it
 pub link-agree : (f g : Places) (p : ℕ) (link : Link) → ((u : ℕ) → u < p → f u ≡ g u) → IsLink f p link → IsLink g p link
 link-agree f g p link each is = record {
   number_is = is.number_is ∙ count-agree f g p each;
@@ -40,7 +40,7 @@ link-agree f g p link each is = record {
   jump_passes = λ l. sym (each link.jump l) ∙ is.jump_passes l;
 }
 
--- ---- the link of the entry that comes next
+-- ---- the link of the next entry
 
 pub first_link : (test : Places) (p : ℕ) (link : Link) → last_place test p ≡ None → link.number ≡ 0 → link.earlier ≡ None → link.jump ≡ p → IsLink test p link
 first_link test p link none number earlier jump = record {
@@ -80,7 +80,7 @@ none_last test n h = go (last_place test n) refl
     go None e = refl
     go (Some p) e = let s = last_place_some test n p e in absurd (h p s.0 s.1)
 
--- going on to an earlier entry
+-- a step to an earlier entry
 pub falls : (at earlier : Option ℕ) (index : ℕ) → at ≡ Some index → ((i : ℕ) → earlier ≡ Some i → i < index) → option_map_or (λ i. suc i) earlier 0 < option_map_or (λ i. suc i) at 0
 falls at earlier index is below = subst (λ o. option_map_or (λ i. suc i) earlier 0 < option_map_or (λ i. suc i) o 0) (sym is) (go earlier refl)
   where

@@ -1,4 +1,4 @@
--- Notes by number, one note further, and what the list of a number has.
+-- Notes by number: one more note, and the linked list of a number.
 use Rattle.std.proofs.Common.{◌≡◌, ℕ, zero, suc, ◌+◌, ◌<◌, ◌≤◌, ◌==◌, nat_eq, inl, inr, Bool, true, false, cond, List, [], ◌∷◌, ◌++◌, length, take, map, slice_get, Option, Some, None, refl, sym, ap, subst, ◌∙◌, arith}
 use Rattle.std.proofs.lemmas.Bool.{cases_lt, cases_eq, eqb-true}
 use Rattle.std.proofs.lemmas.List.{length-take-le}
@@ -65,7 +65,7 @@ list_length (e ∷ notes) m = go (e.0 == m) (list_length notes m) ∙ sym (cons_
 pub length_in : (notes : List Note) (m : ℕ) → length (places_in (pairs_of notes) m) ≡ count_below (is_of (pairs_of notes) m) (length notes)
 length_in notes m = list_length (pairs_of notes) m ∙ ap (count_below (is_of (pairs_of notes) m)) (length_pairs notes)
 
--- a note of the number stands in its list where its count says
+-- a note of the number is in its list at the index that its count gives
 pub nth_in : (notes : List (ℕ × ℕ)) (m i : ℕ) (e : ℕ × ℕ) → slice_get notes i ≡ Some e → is_of notes m i ≡ true → slice_get (places_in notes m) (count_below (is_of notes m) i) ≡ Some e.1
 nth_in [] m i e h t = absurd (none-some e h)
 nth_in (y ∷ notes) m zero e h t =
@@ -77,7 +77,7 @@ nth_in (y ∷ notes) m (suc i) e h t = ap (slice_get (places_in (y ∷ notes) m)
     go true k = k
     go false k = k
 
--- ---- what is said of a note depends on the notes up to it alone
+-- ---- facts of a note depend only on the notes up to it
 
 link_same : (s r : List (ℕ × ℕ)) (m i : ℕ) (link : Link) → ((u : ℕ) → u < i → slice_get s u ≡ slice_get r u) → IsLink (is_of s m) i link → IsLink (is_of r m) i link
 link_same s r m i link same is = link-agree (is_of s m) (is_of r m) i link (λ u l. ap (λ o. option_map_or (λ e. e.0 == m) o false) (same u l)) is
@@ -126,7 +126,7 @@ no_index {X} [] i h = refl
 no_index {X} (x ∷ xs) zero h = absurd (omega arith)
 no_index {X} (x ∷ xs) (suc i) h = no_index xs i (omega arith)
 
--- ---- the invariant, one note further and of the first notes
+-- ---- the invariant after one more note, and of a prefix
 
 pub numbered_push : (notes new : List Note) (x : Note) (heads heads' : List (Option ℕ)) (k : ℕ) → AreNumbered notes heads → new ≡ notes ++ x ∷ [] → k ≡ length notes →
     IsLink (is_of (pairs_of notes) x.number) k x.link → ((m : ℕ) → option_flatten (slice_get heads' m) ≡ cond (nat_eq x.number m) (Some k) (option_flatten (slice_get heads m))) →

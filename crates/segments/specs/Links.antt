@@ -1,11 +1,12 @@
--- How an index, or none, is kept.
+-- Optional indices as numbers.
 use Rattle.std.specs.Prelude.{ℕ, zero, suc, Option, None, Some}
 
--- 0 for none, else one more than the index
+-- The optional index that a number encodes: none for 0, else one less than the number.
 abbrev pub index_of : ℕ → Option ℕ
 index_of zero = None
 index_of (suc n) = Some n
 
+-- The number that encodes an optional index.
 abbrev pub code_of : Option ℕ → ℕ
 code_of None = zero
 code_of (Some n) = suc n

@@ -1,4 +1,5 @@
-//! Lists of which some entries pass, each with a link to those before it.
+//! Linked lists through a longer list: the entries that pass a test, each with a link to earlier
+//! ones.
 mod link;
 mod next;
 mod walk;

@@ -1,9 +1,8 @@
-//! Indices that may be none.
+//! Optional indices in four bytes.
 
 use std::marker::Model;
 
-/// An index, or none, in four bytes: what links between items are made of. Contracts see an
-/// `Option`.
+/// An optional index in four bytes, as links store it. Contracts see an `Option`.
 #[derive(Clone, Copy)]
 pub struct MaybeIndex(u32);
 
@@ -21,14 +20,14 @@ impl Model for MaybeIndex {
 impl MaybeIndex {
     ghost use Rattle.std.specs.Prelude.{◌≡◌, ◌<◌, None, Some};
 
-    /// No index.
+    /// Returns no index.
     pub fn none() -> MaybeIndex
         ensures { result ≡ None }
     {
         MaybeIndex(0)
     }
 
-    /// This index, which is below 4,294,967,295.
+    /// Returns this index, which must be below 4,294,967,295.
     pub fn at(index: u32) -> MaybeIndex
         requires { index < 4294967295 }
         ensures { result ≡ Some index }
@@ -36,7 +35,7 @@ impl MaybeIndex {
         MaybeIndex(index + 1)
     }
 
-    /// The index, if there is one.
+    /// Returns the index, or `None`.
     pub fn get(self) -> Option<u32>
         ensures { result ≡ self }
     {

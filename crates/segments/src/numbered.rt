@@ -1,8 +1,8 @@
-//! Places by number, in segments that are shared.
+//! The places of each number, in shared segments.
 mod heads;
 mod list;
 mod note;
-mod notes_of;
+mod number_list;
 mod share;
 
 ghost use Rattle.std.specs.Prelude.{◌≡◌, ◌≤◌, ◌<◌, ◌+◌, ◌++◌, ◌∷◌, [], ℕ, length, take, true, nat_eq, OnOk, IfOk, if◌then◌else◌};
@@ -14,29 +14,21 @@ use crate::links::link_after;
 use heads::{head, set_head};
 pub use list::PlacesOf;
 use note::Note;
-use notes_of::NotesOf;
+use number_list::NumberList;
 use share::{copy_notes, count_below, heads_below};
 use std::alloc::Global;
 use std::marker::Model;
 use trace_model::{NoMemory, Place};
 
-/// Places of numbers from 0 on, noted in ascending order.
+/// The places of numbers 0, 1, .., recorded in ascending order of places.
 ///
-/// Contracts see the notes, each a number with a place, and whether there is room for one more.
+/// Contracts see the notes, which are pairs of a number and a place, the count of numbers, and
+/// whether memory is reserved for one more note.
+#[derive(Drop)]
 pub struct NumberedPlaces {
     alloc: Global,
     notes: Segments<Note>,
     heads: Vec<Option<u32>>,
-}
-
-impl Drop for NumberedPlaces {
-    fn drop(self) {
-        let NumberedPlaces {
-            alloc: _,
-            notes: _,
-            heads: _,
-        } = self;
-    }
 }
 
 impl Model for NumberedPlaces {
@@ -55,7 +47,7 @@ impl Model for NumberedPlaces {
 }
 
 impl NumberedPlaces {
-    /// No note.
+    /// Returns the empty table. Does not allocate.
     pub fn new(alloc: Global) -> NumberedPlaces
         ensures notes { result.notes ≡ [] }
         ensures numbers { result.numbers ≡ 0 }
@@ -67,11 +59,11 @@ impl NumberedPlaces {
         }
     }
 
-    /// Makes room for one note. A full segment is sealed here.
+    /// Reserves memory for one note. Seals a full segment.
     ///
     /// # Errors
     ///
-    /// `NoMemory` where a growth was refused. What is shown stays.
+    /// `NoMemory` if an allocation fails. The notes do not change.
     pub fn reserve(&mut self) -> Result<(), NoMemory>
         ensures notes { self.new.notes ≡ self.old.notes }
         ensures numbers { self.new.numbers ≡ self.old.numbers }
@@ -82,7 +74,8 @@ impl NumberedPlaces {
         Ok(())
     }
 
-    /// Adds a place of a number that is there or comes next.
+    /// Adds a place of `number`, which is a known number or the next one. Memory must be reserved.
+    /// Does not allocate.
     pub fn record(&mut self, number: u32, place: Place)
         requires room { self.old.room ≡ true }
         requires number { number ≤ self.old.numbers }
@@ -92,7 +85,7 @@ impl NumberedPlaces {
             (if nat_eq number self.old.numbers then self.old.numbers + 1 else self.old.numbers) }
     {
         let index = self.notes.len() as u32;
-        let list = NotesOf {
+        let list = NumberList {
             notes: &self.notes,
             number,
         };
@@ -105,12 +98,12 @@ impl NumberedPlaces {
         set_head(&mut self.heads, number, index);
     }
 
-    /// The places of a number, which ascend.
+    /// Returns the places of `number`, which must ascend.
     pub fn places(&self, number: u32) -> PlacesOf<'_>
         requires { IsStrictlyIncreasing (places_in self.now.notes number) }
         ensures { result ≡ places_in self.now.notes number }
     {
-        let list = NotesOf {
+        let list = NumberList {
             notes: &self.notes,
             number,
         };
@@ -120,12 +113,12 @@ impl NumberedPlaces {
         }
     }
 
-    /// The notes of places below the bound, where places ascend from note to note. Full segments
-    /// are shared, at most one is copied, and each number's last note is found.
+    /// Returns the table of the places below `bound`. Sealed segments are shared, and at most one
+    /// segment is copied. Takes one look-up for each number.
     ///
     /// # Errors
     ///
-    /// `NoMemory` where a growth was refused.
+    /// `NoMemory` if an allocation fails.
     pub fn share(&self, bound: u32) -> Result<NumberedPlaces, NoMemory>
         requires { Ascend self.now.notes }
         ensures notes { IfOk result (λ part. part.notes ≡ notes_below bound self.now.notes) }

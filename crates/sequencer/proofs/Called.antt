@@ -1,4 +1,4 @@
--- What a book answers to a request is the machine's reply, or tells a want of memory.
+-- A book's reply is the machine's, or reports a failed allocation.
 use Rattle.std.proofs.Common.{◌≡◌, ◌⊎◌, ℕ, ◌≤◌, nat_le, if◌then◌else◌, Bool, true, false, List, length, take, slice_get, is_some, Option, Some, None, inl, inr, refl, sym, ap, subst, ◌∙◌, arith}
 use Rattle.std.proofs.lemmas.Bool.{false≢true}
 use Rattle.std.proofs.lemmas.Bool.Decides.{nat_tests}
@@ -32,14 +32,14 @@ past events n none = elim (slice_get_cases events n).1 [
   | inr beyond ↦ beyond.0
 ]
 
--- the machine's reply to a batch of which so many events are taken
+-- the machine's reply to a batch of which this number of events is accepted
 told : (s : State) (events : List Event) (n : ℕ) (o : Option Refusal) → IsLongest s.limit s.accepted events (n, o) →
     step printing s (Batch events) ≡ (replies.Batched n o (length s.accepted), with_events s (take n events))
 told s events n o h =
     ap (λ (taken : ℕ × Option Refusal). (replies.Batched taken.0 taken.1 (length s.accepted), with_events s (take taken.0 events)))
     (longest_is s.limit s.accepted events n o h)
 
--- so many lawful events alone are all taken
+-- a batch of lawful events is accepted whole
 told_all : (s : State) (events : List Event) (n : ℕ) → n ≤ length events → AreLawful s.limit s.accepted (take n events) →
     step printing s (Batch (take n events)) ≡ (replies.Batched n None (length s.accepted), with_events s (take n events))
 told_all s events n within lawful =
@@ -150,12 +150,12 @@ step_fits s (Answer number) = answer_fits s number (slice_get s.questions number
 step_fits s (Status number) = status_fits s number (slice_get s.questions number)
 step_fits s (Batch events) = tt
 
--- ---- where no want of memory is told
+-- ---- replies without a failed allocation
 
-told_lack : (A : Type 0) (reply lacking : Reply) → lacks_memory lacking ≡ true → lacks_memory reply ≡ false → reply ≡ lacking → A
-told_lack A reply lacking lacks none is = absurd (false≢true (sym none ∙ (ap lacks_memory is ∙ lacks)))
+not_lacking : (A : Type 0) (reply lacking : Reply) → lacks_memory lacking ≡ true → lacks_memory reply ≡ false → reply ≡ lacking → A
+not_lacking A reply lacking lacks none is = absurd (false≢true (sym none ∙ (ap lacks_memory is ∙ lacks)))
 
--- where no want of memory is told, the reply is the machine's
+-- if no failed allocation is reported, the reply is the machine's
 pub steps_exactly : (s next : State) (request : Request) (reply : Reply) → StepsOrMemory s request reply next → lacks_memory reply ≡ false →
     step printing s request ≡ (reply, next)
 steps_exactly s next (Offer e) reply (inl is) none = is
@@ -163,9 +163,9 @@ steps_exactly s next (Ask bound) reply (inl is) none = is
 steps_exactly s next (Answer number) reply (inl is) none = is
 steps_exactly s next (Status number) reply (inl is) none = is
 steps_exactly s next (Batch events) reply (inl is) none = is
-steps_exactly s next (Offer e) reply (inr lacks) none = told_lack _ reply (replies.Refused NoMemory) refl none lacks.0
-steps_exactly s next (Ask bound) reply (inr lacks) none = told_lack _ reply (replies.Refused NoMemory) refl none lacks.0
-steps_exactly s next (Answer number) reply (inr lacks) none = told_lack _ reply (replies.Refused NoMemory) refl none lacks.0
-steps_exactly s next (Status number) reply (inr lacks) none = told_lack _ reply (replies.Refused NoMemory) refl none lacks.0
+steps_exactly s next (Offer e) reply (inr lacks) none = not_lacking _ reply (replies.Refused NoMemory) refl none lacks.0
+steps_exactly s next (Ask bound) reply (inr lacks) none = not_lacking _ reply (replies.Refused NoMemory) refl none lacks.0
+steps_exactly s next (Answer number) reply (inr lacks) none = not_lacking _ reply (replies.Refused NoMemory) refl none lacks.0
+steps_exactly s next (Status number) reply (inr lacks) none = not_lacking _ reply (replies.Refused NoMemory) refl none lacks.0
 steps_exactly s next (Batch events) reply (inr ends) none =
-    told_lack _ reply (replies.Batched ends.accepted (Some NoMemory) (length s.accepted)) refl none ends.replies
+    not_lacking _ reply (replies.Batched ends.accepted (Some NoMemory) (length s.accepted)) refl none ends.replies

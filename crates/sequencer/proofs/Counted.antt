@@ -12,7 +12,7 @@ use Rattle.trace_model.proofs.Protocol.Summary.{sum_told}
 use Rattle.reports.specs.Printed.{Printed}
 use Rattle.reports.specs.Text as Text
 use Rattle.result_ledger.specs.Tasks.{Tasks}
-use Rattle.sequencer.specs.Asked.{Told, rows_in, IsCounted}
+use Rattle.sequencer.specs.QuestionState.{QuestionView, rows_in, IsCounted}
 
 -- ---- of each task what is printed, and the machine's rows
 
@@ -48,7 +48,7 @@ opened_counts n bound total = record { tasks = sym (length-replicate total None)
     none f zero z = refl
     none f (suc n) z = omega (arith, z, none f n z, sum_by-cons f None (map (option_map rows_in) (replicate n None)))
 
-pub told_counts : (told : Told) (total cycles confirmed task : ℕ) (rows : List Printed) → slice_get told.tasks task ≡ Some None → IsCounted told total cycles confirmed →
+pub told_counts : (told : QuestionView) (total cycles confirmed task : ℕ) (rows : List Printed) → slice_get told.tasks task ≡ Some None → IsCounted told total cycles confirmed →
     IsCounted (record told { tasks = slice_set told.tasks task (Some rows) }) total (cycles + length rows) (confirmed + count_by Text.is_confirmed rows)
 told_counts told total cycles confirmed task rows h c =
     let moved = map-set (option_map rows_in) told.tasks task (Some rows) in

@@ -1,4 +1,4 @@
--- A request takes bytes.
+-- A request frame is not empty.
 use Rattle.std.proofs.Common.{◌≡◌, ℕ, ◌<◌, List, ◌++◌, length, sym, subst, arith, length-append}
 use Rattle.trace_model.specs.declared.messages.session.Request.{Request}
 use Rattle.trace_model.specs.Protocol.Frames.{frame}

@@ -1,4 +1,4 @@
--- What a book keeps stays so.
+-- The invariant of a book is preserved.
 use Rattle.std.proofs.Common.{◌≡◌, ℕ, zero, suc, ◌+◌, ◌<◌, ◌≤◌, ◌^◌, inl, inr, false, nat_lt, List, [], ◌∷◌, ◌++◌, length, map, take, get_or, replicate, slice_get, slice_set, option_map, IfSome, Option, Some, None, refl, sym, ap, subst, ◌∙◌, arith}
 use Rattle.std.proofs.lemmas.Bool.{cases_eq}
 use Rattle.std.proofs.lemmas.Bool.Decides.{nat_tests}
@@ -22,66 +22,66 @@ use Rattle.trace_model.proofs.Lists.{get-push, get-set_other, get-set_same}
 use Rattle.trace_model.proofs.Protocol.Taking.{admitted, machine_steps, one_takes}
 use Rattle.reports.specs.Printed.{Printed}
 use Rattle.snapshots.specs.Found.{AreNamed, AreRowsOf, FoundRows}
-use Rattle.sequencer.specs.Asked.{Told, question_of, rows_in, TellsNamed}
-use Rattle.sequencer.specs.Book.{IsKept, state_of, fresh, findings_rows}
+use Rattle.sequencer.specs.QuestionState.{QuestionView, question_of, rows_in, HasNamedRows}
+use Rattle.sequencer.specs.Book.{IsBook, state_of, fresh, findings_rows}
 use Rattle.sequencer.proofs.Counted.{cycles_most, row_missing}
 
-pub kept_opening : (limit : ℕ) → limit ≤ MAX_EVENTS → IsKept limit limit [] []
+pub kept_opening : (limit : ℕ) → limit ≤ MAX_EVENTS → IsBook limit limit [] []
 kept_opening limit le = record { same_limit = refl; fits = opening_fits AreRows limit le; named = λ k told h. absurd (none-some told h) }
 
--- the same events and questions are kept again
-pub kept_again : (admitted again limit : ℕ) (events more : Trace) (asked told : List Told) → again ≡ admitted → more ≡ events → told ≡ asked → IsKept admitted limit events asked →
-    IsKept again limit more told
+-- the invariant holds again for equal events and questions
+pub kept_again : (admitted again limit : ℕ) (events more : Trace) (asked told : List QuestionView) → again ≡ admitted → more ≡ events → told ≡ asked → IsBook admitted limit events asked →
+    IsBook again limit more told
 kept_again admitted again limit events more asked told same_limit same_events same_asked kept = record {
   same_limit = same_limit ∙ kept.same_limit;
   fits = subst (StateFits AreRows) (λ i. state_of limit (sym same_events i) (sym same_asked i)) kept.fits;
-  named = λ k t h. subst (λ (s : Trace). TellsNamed (take t.length s) t) (sym same_events) (kept.named k t (ap (λ ts. slice_get ts k) (sym same_asked) ∙ h));
+  named = λ k t h. subst (λ (s : Trace). HasNamedRows (take t.length s) t) (sym same_events) (kept.named k t (ap (λ ts. slice_get ts k) (sym same_asked) ∙ h));
 }
 
--- what a check answers is what the machine refuses of an event
-pub checked : (o : Option Refusal) (admitted limit : ℕ) (events : Trace) (asked : List Told) (s : State) (e : Event) → o ≡ refusal_of admitted events e → admitted ≡ limit →
+-- the result of the check is the machine's refusal of the event
+pub checked : (o : Option Refusal) (admitted limit : ℕ) (events : Trace) (asked : List QuestionView) (s : State) (e : Event) → o ≡ refusal_of admitted events e → admitted ≡ limit →
     state_of limit events asked ≡ s → refusal_of s.limit s.accepted e ≡ o
 checked o admitted limit events asked s e is same shown =
     sym (is ∙ (ap (λ n. refusal_of n events e) same ∙ ap (λ (m : State). refusal_of m.limit m.accepted e) shown))
 
 -- ---- a question
 
-pub question_at : (asked : List Told) (k : ℕ) (told : Told) → slice_get asked k ≡ Some told → slice_get (map question_of asked) k ≡ Some (question_of told)
+pub question_at : (asked : List QuestionView) (k : ℕ) (told : QuestionView) → slice_get asked k ≡ Some told → slice_get (map question_of asked) k ≡ Some (question_of told)
 question_at asked k told h = slice_get-map question_of asked k ∙ ap (option_map question_of) h
 
-pub told_at : (asked : List Told) (k : ℕ) (q : Question) → slice_get (map question_of asked) k ≡ Some q → (told : Told) × (slice_get asked k ≡ Some told) × (question_of told ≡ q)
+pub told_at : (asked : List QuestionView) (k : ℕ) (q : Question) → slice_get (map question_of asked) k ≡ Some q → (told : QuestionView) × (slice_get asked k ≡ Some told) × (question_of told ≡ q)
 told_at asked k q h = go (slice_get asked k) refl
   where
-    go : (o : Option Told) → slice_get asked k ≡ o → (told : Told) × (slice_get asked k ≡ Some told) × (question_of told ≡ q)
+    go : (o : Option QuestionView) → slice_get asked k ≡ o → (told : QuestionView) × (slice_get asked k ≡ Some told) × (question_of told ≡ q)
     go None e = absurd (none-some q (sym (ap (option_map question_of) e) ∙ (sym (slice_get-map question_of asked k) ∙ h)))
     go (Some told) e = (told, e, same_Some (question_of told) q (sym (ap (option_map question_of) e) ∙ (sym (slice_get-map question_of asked k) ∙ h)))
 
-pub fits_at : (admitted limit : ℕ) (events : Trace) (asked : List Told) (k : ℕ) (told : Told) → IsKept admitted limit events asked → slice_get asked k ≡ Some told → QuestionFits AreRows events (question_of told)
+pub fits_at : (admitted limit : ℕ) (events : Trace) (asked : List QuestionView) (k : ℕ) (told : QuestionView) → IsBook admitted limit events asked → slice_get asked k ≡ Some told → QuestionFits AreRows events (question_of told)
 fits_at admitted limit events asked k told kept h = kept.fits.each k (question_of told) (question_at asked k told h)
 
--- the question that a look-up lends
-pub lent_at : (asked : List Told) (k : ℕ) (lent : Option (Bor Told)) → IsItemAt asked k lent → IfSome lent (λ told. slice_get asked k ≡ Some told.now)
+-- the question that a look-up borrows
+pub lent_at : (asked : List QuestionView) (k : ℕ) (lent : Option (Bor QuestionView)) → IsItemAt asked k lent → IfSome lent (λ told. slice_get asked k ≡ Some told.now)
 lent_at asked k None h = tt
 lent_at asked k (Some told) h = slice_get_read asked (length asked) k told.now refl h.3.0 h.1
 
 not_below : (a b : ℕ) → false ≡ nat_lt a b → b ≤ a
 not_below a b h = grind (arith, nat_tests)
 
-pub lent_value : (asked : List Told) (k : ℕ) (lent : Option (Bor Told)) → IsItemAt asked k lent → option_map (λ told. question_of told.now) lent ≡ slice_get (map question_of asked) k
+pub lent_value : (asked : List QuestionView) (k : ℕ) (lent : Option (Bor QuestionView)) → IsItemAt asked k lent → option_map (λ told. question_of told.now) lent ≡ slice_get (map question_of asked) k
 lent_value asked k None h = sym (slice_get-map question_of asked k ∙ ap (option_map question_of) (slice_get_past asked k (not_below k (length asked) h.0)))
 lent_value asked k (Some told) h = sym (question_at asked k told.now (lent_at asked k (Some told) h))
 
-pub lent_within : (admitted limit : ℕ) (events : Trace) (asked : List Told) (k : ℕ) (lent : Option (Bor Told)) → IsKept admitted limit events asked → IsItemAt asked k lent →
+pub lent_within : (admitted limit : ℕ) (events : Trace) (asked : List QuestionView) (k : ℕ) (lent : Option (Bor QuestionView)) → IsBook admitted limit events asked → IsItemAt asked k lent →
     IfSome lent (λ told. told.now.length ≤ length events)
 lent_within admitted limit events asked k None kept h = tt
 lent_within admitted limit events asked k (Some told) kept h = (fits_at admitted limit events asked k told.now kept (lent_at asked k (Some told) h)).within
 
-pub lent_named : (admitted limit : ℕ) (events : Trace) (asked : List Told) (k : ℕ) (lent : Option (Bor Told)) → IsKept admitted limit events asked → IsItemAt asked k lent →
-    IfSome lent (λ told. TellsNamed (take told.now.length events) told.now)
+pub lent_named : (admitted limit : ℕ) (events : Trace) (asked : List QuestionView) (k : ℕ) (lent : Option (Bor QuestionView)) → IsBook admitted limit events asked → IsItemAt asked k lent →
+    IfSome lent (λ told. HasNamedRows (take told.now.length events) told.now)
 lent_named admitted limit events asked k None kept h = tt
 lent_named admitted limit events asked k (Some told) kept h = kept.named k told.now (lent_at asked k (Some told) h)
 
-pub lent_total : (admitted limit : ℕ) (events : Trace) (asked : List Told) (k : ℕ) (lent : Option (Bor Told)) → IsKept admitted limit events asked → IsItemAt asked k lent →
+pub lent_total : (admitted limit : ℕ) (events : Trace) (asked : List QuestionView) (k : ℕ) (lent : Option (Bor QuestionView)) → IsBook admitted limit events asked → IsItemAt asked k lent →
     IfSome lent (λ told. length told.now.tasks ≡ length (dependencies (take told.now.length events)))
 lent_total admitted limit events asked k None kept h = tt
 lent_total admitted limit events asked k (Some told) kept h =
@@ -89,15 +89,15 @@ lent_total admitted limit events asked k (Some told) kept h =
 
 -- ---- an event more
 
-pub kept_event : (admitted limit : ℕ) (events : Trace) (asked : List Told) (e : Event) → refusal_of limit events e ≡ None → IsKept admitted limit events asked →
-    IsKept admitted limit (events ++ e ∷ []) asked
+pub kept_event : (admitted limit : ℕ) (events : Trace) (asked : List QuestionView) (e : Event) → refusal_of limit events e ≡ None → IsBook admitted limit events asked →
+    IsBook admitted limit (events ++ e ∷ []) asked
 kept_event admitted limit events asked e lawful kept =
     let s = state_of limit events asked in record {
       same_limit = kept.same_limit;
       fits = step_fits AreRows s (with_event s e) (Accept (e ∷ [])) (one_takes AreRows s (with_event s e) e lawful refl) kept.fits;
       named = λ k told h.
           let within = (fits_at admitted limit events asked k told kept h).within in
-          subst (λ front. TellsNamed front told) (sym (take-append-le told.length events (e ∷ []) within)) (kept.named k told h);
+          subst (λ front. HasNamedRows front told) (sym (take-append-le told.length events (e ∷ []) within)) (kept.named k told h);
     }
 
 -- ---- a question more
@@ -109,14 +109,14 @@ fresh_question s bound = ap (λ tasks. record { length = length s.accepted; boun
     none_each zero = refl
     none_each (suc n) = ap (λ tasks. None ∷ tasks) (none_each n)
 
--- a question without rows, for the dependencies of the events, and room for it
-pub opened_room : (s : State) (room : ℕ) (told : Told) (n bound total : ℕ) → 0 < room → told ≡ record { length = n; bound = bound; tasks = replicate total None } → n ≡ length s.accepted →
+-- a new question for the dependencies of the events, with memory reserved for it
+pub opened_room : (s : State) (room : ℕ) (told : QuestionView) (n bound total : ℕ) → 0 < room → told ≡ record { length = n; bound = bound; tasks = replicate total None } → n ≡ length s.accepted →
     total ≡ length (dependencies s.accepted) → (told.bound ≡ bound) × ((0 < room) × (told ≡ fresh s told.bound))
 opened_room s room told n bound total some is counted all =
-    let same : told.bound ≡ bound = ap (λ (t : Told). t.bound) is in
+    let same : told.bound ≡ bound = ap (λ (t : QuestionView). t.bound) is in
     (same, (some, is ∙ (λ i. record { length = counted i; bound = sym same i; tasks = replicate (all i) None })))
 
-pub with_fresh : (limit : ℕ) (events : Trace) (asked : List Told) (bound : ℕ) →
+pub with_fresh : (limit : ℕ) (events : Trace) (asked : List QuestionView) (bound : ℕ) →
     state_of limit events (asked ++ fresh (state_of limit events asked) bound ∷ []) ≡ with_question (state_of limit events asked) bound
 with_fresh limit events asked bound =
     let s = state_of limit events asked in
@@ -128,8 +128,8 @@ none_told zero k rows h = none-some (Some rows) h
 none_told (suc n) zero rows h = none-some rows (same_Some None (Some rows) h)
 none_told (suc n) (suc k) rows h = none_told n k rows h
 
-pub kept_question : (admitted limit : ℕ) (events : Trace) (asked : List Told) (bound : ℕ) → ask_refused (state_of limit events asked) bound ≡ None → IsKept admitted limit events asked →
-    IsKept admitted limit events (asked ++ fresh (state_of limit events asked) bound ∷ [])
+pub kept_question : (admitted limit : ℕ) (events : Trace) (asked : List QuestionView) (bound : ℕ) → ask_refused (state_of limit events asked) bound ≡ None → IsBook admitted limit events asked →
+    IsBook admitted limit events (asked ++ fresh (state_of limit events asked) bound ∷ [])
 kept_question admitted limit events asked bound allowed kept =
     let s = state_of limit events asked in record {
       same_limit = kept.same_limit;
@@ -137,29 +137,29 @@ kept_question admitted limit events asked bound allowed kept =
           (step_fits AreRows s (with_question s bound) (Open bound (length (dependencies events))) (allowed, refl, refl) kept.fits);
       named = λ k told h. elim (get-push asked (fresh s bound) k told h) [
         | inl old ↦ kept.named k told old
-        | inr new ↦ subst (λ t. TellsNamed (take t.length events) t) new.1 (λ task rows e. absurd (none_told (length (dependencies events)) task rows e))
+        | inr new ↦ subst (λ t. HasNamedRows (take t.length events) t) new.1 (λ task rows e. absurd (none_told (length (dependencies events)) task rows e))
       ];
     }
 
 -- ---- a task more
 
-abbrev pub told_with : Told → ℕ → List Printed → Told
+abbrev pub told_with : QuestionView → ℕ → List Printed → QuestionView
 told_with told task rows = record told { tasks = slice_set told.tasks task (Some rows) }
 
-pub question_with : (told : Told) (task : ℕ) (rows : List Printed) →
+pub question_with : (told : QuestionView) (task : ℕ) (rows : List Printed) →
     question_of (record told { tasks = slice_set told.tasks task (Some rows) }) ≡ record (question_of told) { tasks = slice_set (question_of told).tasks task (Some (rows_in rows)) }
 question_with told task rows =
     ap (λ tasks. record { length = told.length; bound = told.bound; tasks = tasks }) (map-set (option_map rows_in) told.tasks task (Some rows))
 
--- what is said of a finding that is admitted
-pub record IsAdmitted (s : State) (asked : List Told) (f : FoundRows) : Type 0 where
-  pub told : Told
+-- facts about an admitted finding
+pub record IsAdmitted (s : State) (asked : List QuestionView) (f : FoundRows) : Type 0 where
+  pub told : QuestionView
   pub known : slice_get asked f.question ≡ Some told
   pub same_bound : f.bound ≡ told.bound
   pub same_trace : f.events ≡ take told.length s.accepted
   pub missing : slice_get told.tasks f.task ≡ Some None
 
-pub is_admitted : (limit : ℕ) (events : Trace) (asked : List Told) (f : FoundRows) → deliver_refused (state_of limit events asked) f.question f.bound f.events f.task ≡ None →
+pub is_admitted : (limit : ℕ) (events : Trace) (asked : List QuestionView) (f : FoundRows) → deliver_refused (state_of limit events asked) f.question f.bound f.events f.task ≡ None →
     IsAdmitted (state_of limit events asked) asked f
 is_admitted limit events asked f h =
     let a = admitted (state_of limit events asked) f.question f.bound f.events f.task h in
@@ -171,22 +171,22 @@ is_admitted limit events asked f h =
       missing = row_missing told.tasks f.task (ap (λ q. slice_get q.tasks f.task) is ∙ a.missing);
     }
 
--- the question that its number finds
-pub own_question : (limit : ℕ) (events : Trace) (asked : List Told) (f : FoundRows) (own : Told) (number : ℕ) → deliver_refused (state_of limit events asked) f.question f.bound f.events f.task ≡ None →
+-- the question with its number
+pub own_question : (limit : ℕ) (events : Trace) (asked : List QuestionView) (f : FoundRows) (own : QuestionView) (number : ℕ) → deliver_refused (state_of limit events asked) f.question f.bound f.events f.task ≡ None →
     own ≡ get_or asked number own → number ≡ f.question → slice_get asked f.question ≡ Some own
 own_question limit events asked f own number h found same =
     let a = is_admitted limit events asked f h in
     let is : own ≡ a.told = found ∙ (ap (λ i. get_or asked i own) same ∙ get_or_from_slice_get asked f.question a.told own a.known) in
-    a.known ∙ ap (λ (t : Told). Some t) (sym is)
+    a.known ∙ ap (λ (t : QuestionView). Some t) (sym is)
 
 -- its task is missing
-pub own_missing : (limit : ℕ) (events : Trace) (asked : List Told) (f : FoundRows) (told : Told) → deliver_refused (state_of limit events asked) f.question f.bound f.events f.task ≡ None →
+pub own_missing : (limit : ℕ) (events : Trace) (asked : List QuestionView) (f : FoundRows) (told : QuestionView) → deliver_refused (state_of limit events asked) f.question f.bound f.events f.task ≡ None →
     slice_get asked f.question ≡ Some told → slice_get told.tasks f.task ≡ Some None
 own_missing limit events asked f told h at =
     let a = is_admitted limit events asked f h in
     subst (λ t. slice_get t.tasks f.task ≡ Some None) (same_Some a.told told (sym a.known ∙ at)) a.missing
 
-pub few_cycles : (adm limit : ℕ) (events : Trace) (asked : List Told) (f : FoundRows) (told : Told) → IsKept adm limit events asked → slice_get asked f.question ≡ Some told → AreRowsOf f.events f.bound f.task f.rows →
+pub few_cycles : (adm limit : ℕ) (events : Trace) (asked : List QuestionView) (f : FoundRows) (told : QuestionView) → IsBook adm limit events asked → slice_get asked f.question ≡ Some told → AreRowsOf f.events f.bound f.task f.rows →
     cycles_of (question_of told) + length f.rows < 2 ^ 64
 few_cycles adm limit events asked f told kept at exact =
     let q = question_of told in
@@ -195,7 +195,7 @@ few_cycles adm limit events asked f told kept at exact =
     let total = dependencies_few (take told.length events) (length (take told.length events)) in
     omega (arith, most, h.total, total, length-take told.length events, h.within, kept.fits.within, kept.fits.limit, exact.few)
 
-pub told_state : (limit : ℕ) (events : Trace) (asked : List Told) (f : FoundRows) (told : Told) →
+pub told_state : (limit : ℕ) (events : Trace) (asked : List QuestionView) (f : FoundRows) (told : QuestionView) →
     deliver_refused (state_of limit events asked) f.question f.bound f.events f.task ≡ None → slice_get asked f.question ≡ Some told →
     deliver (state_of limit events asked) f.question f.bound f.events f.task (findings_rows f)
     ≡ (None, state_of limit events (slice_set asked f.question (record told { tasks = slice_set told.tasks f.task (Some f.rows) })))
@@ -209,9 +209,9 @@ told_state limit events asked f told h at =
     ∙ ap (λ o. (None, with_rows s f.question o f.task rows)) (question_at asked f.question told at)
     ∙ ap (λ questions. (None, record { limit = limit; accepted = events; questions = questions })) (sym moved)
 
-pub kept_told : (adm limit : ℕ) (events : Trace) (asked : List Told) (f : FoundRows) (told : Told) →
-    deliver_refused (state_of limit events asked) f.question f.bound f.events f.task ≡ None → slice_get asked f.question ≡ Some told → AreRowsOf f.events f.bound f.task f.rows → IsKept adm limit events asked →
-    IsKept adm limit events (slice_set asked f.question (record told { tasks = slice_set told.tasks f.task (Some f.rows) }))
+pub kept_told : (adm limit : ℕ) (events : Trace) (asked : List QuestionView) (f : FoundRows) (told : QuestionView) →
+    deliver_refused (state_of limit events asked) f.question f.bound f.events f.task ≡ None → slice_get asked f.question ≡ Some told → AreRowsOf f.events f.bound f.task f.rows → IsBook adm limit events asked →
+    IsBook adm limit events (slice_set asked f.question (record told { tasks = slice_set told.tasks f.task (Some f.rows) }))
 kept_told adm limit events asked f told h at exact kept =
     let s = state_of limit events asked in
     let rows = findings_rows f in
@@ -228,13 +228,13 @@ kept_told adm limit events asked f told h at exact kept =
       named = λ k other e. elim (cases_eq f.question k) [
         | inl same ↦
             let is : next ≡ other = same_Some next other (sym (get-set_same asked f.question told next at) ∙ subst (λ z. slice_get (slice_set asked f.question next) z ≡ Some other) (sym same) e) in
-            subst (λ t. TellsNamed (take t.length events) t) is (named_with (take told.length events) told f.task f.rows missing named (kept.named f.question told at))
+            subst (λ t. HasNamedRows (take t.length events) t) is (named_with (take told.length events) told f.task f.rows missing named (kept.named f.question told at))
         | inr apart ↦ kept.named k other (sym (get-set_other asked f.question k next apart) ∙ e)
       ];
     }
   where
-    named_with : (front : Trace) (told : Told) (task : ℕ) (rows : List Printed) → slice_get told.tasks task ≡ Some None → AreNamed front rows → TellsNamed front told →
-        TellsNamed front (record told { tasks = slice_set told.tasks task (Some rows) })
+    named_with : (front : Trace) (told : QuestionView) (task : ℕ) (rows : List Printed) → slice_get told.tasks task ≡ Some None → AreNamed front rows → HasNamedRows front told →
+        HasNamedRows front (record told { tasks = slice_set told.tasks task (Some rows) })
     named_with front told task rows missing named before other more e = elim (cases_eq task other) [
       | inl same ↦
           let is : Some rows ≡ Some more = same_Some (Some rows) (Some more) (sym (get-set_same told.tasks task None (Some rows) missing) ∙ subst (λ z. slice_get (slice_set told.tasks task (Some rows)) z ≡ Some (Some more)) (sym same) e) in

@@ -1,4 +1,4 @@
--- What a recorder keeps while it makes room.
+-- The invariant of a recorder is preserved while it reserves memory.
 use Rattle.std.proofs.Common.{◌≡◌, ℕ, ◌≤◌, [], length, Option, Some, None, sym, subst, arith}
 use Rattle.std.proofs.lemmas.Option.{none-some, same_Some}
 use Rattle.trace_model.specs.declared.traces.event.Event.{Event}
@@ -22,7 +22,7 @@ recorded_none limit gate index tables small none gate_is tables_are = record {
   room = λ e h. absurd (none-some e h);
 }
 
--- gate, index and tables have grown, and what they show is as before
+-- gate, index and tables have more memory, and show the same
 pub recorded_same : (limit : ℕ) (gate grown : GateTables) (index more : Indexed) (tables longer : LockTables) (ready : Option Event) →
     ((s : Trace) → FollowEvents gate s → FollowEvents grown s) → more.events ≡ index.events → ((s : Trace) → FollowTrace tables s → FollowTrace longer s) → IsRecording limit gate index tables ready →
     IsRecording limit grown more longer None
@@ -34,7 +34,7 @@ recorded_same limit gate grown index more tables longer ready gates same follow 
   room = λ e h. absurd (none-some e h);
 }
 
--- all have room for the event
+-- memory is reserved for the event in all of them
 pub recorded_ready : (limit : ℕ) (gate : GateTables) (index : Indexed) (tables : LockTables) (e : Event) → HaveRoom gate index tables e → IsRecording limit gate index tables None →
     IsRecording limit gate index tables (Some e)
 recorded_ready limit gate index tables e room is = record {

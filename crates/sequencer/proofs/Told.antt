@@ -1,4 +1,4 @@
--- What is answered about a question, and which snapshots are of its events.
+-- Answers about questions, and snapshots of exactly their events.
 use Rattle.std.proofs.Common.{◌≡◌, ℕ, zero, suc, nat_le, if◌then◌else◌, ◌≤◌, ◌<◌, inl, inr, Bool, true, false, not, ◌==◌, ◌&&◌, Result, Ok, Err, List, [], ◌∷◌, ◌++◌, length, map, take, slice_get, is_some, option_map, MatchOption, Option, Some, None, refl, sym, ap, subst, ◌∙◌, arith}
 use Rattle.std.proofs.lemmas.Bool.{and_parts, cases_lt, false≢true, le-leb, lt-leb}
 use Rattle.std.proofs.lemmas.List.{length-map, map-append}
@@ -28,7 +28,7 @@ use Rattle.reports.specs.declared.report.TextRefused.TheVariants.{TooLong, NoMem
 use Rattle.snapshots.specs.Found.{AreNamed, FoundRows}
 use Rattle.result_ledger.specs.Tasks.{Tasks, IsMissing}
 use Rattle.result_ledger.specs.Tasks as Ledger
-use Rattle.sequencer.specs.Asked.{Told, question_of, rows_in, TellsNamed}
+use Rattle.sequencer.specs.QuestionState.{QuestionView, question_of, rows_in, HasNamedRows}
 use Rattle.sequencer.specs.declared.answering.Answer.{Answer as Answered}
 use Rattle.sequencer.specs.declared.answering.Answer.TheVariants.{Pending as AnswerPending, Settled}
 use Rattle.sequencer.specs.declared.answering.AnswerRefused.{AnswerRefused}
@@ -106,7 +106,7 @@ other_events s r n = go (same_events s r) refl
 abbrev pub is_at : Trace → Trace → ℕ → Bool
 is_at s r i = option_eq same_event (slice_get s i) (slice_get r i)
 
--- one place more is taken
+-- one more event
 take_more : (s : Trace) (i : ℕ) (e : Event) → i < length s → slice_get s i ≡ Some e → take (suc i) s ≡ take i s ++ e ∷ []
 take_more s i e l at = take-suc s i e l ∙ ap (λ x. take i s ++ x ∷ []) (get_or_from_slice_get s i e e at)
 
@@ -129,7 +129,7 @@ other_at s r i l h = other_events s r (λ e.
 pub same_all : (s r : Trace) → s ≡ r → true ≡ same_events s r
 same_all s r e = sym (ap (same_events s) (sym e) ∙ same_events_itself s)
 
--- a finding for another bound, or about other events
+-- a finding with another bound or other events
 pub other_bound : (s : State) (f : FoundRows) (q : Question) → Some q ≡ slice_get s.questions f.question → true ≡ not (f.bound == q.bound) → Some OtherBound ≡ finding_refused s f
 other_bound s f q found bound =
     let told : Some OtherBound ≡ deliver_refused_by s (Some q) f.bound f.events f.task =
@@ -143,7 +143,7 @@ other_trace s f q found bound same =
     λ i. if bound i then Some OtherBound else (if not (same i) then Some OtherTrace else task_refused (slice_get q.tasks f.task)) in
     told ∙ ap (λ o. deliver_refused_by s o f.bound f.events f.task) found
 
--- a finding about the events of its question is refused for its task alone
+-- a finding with its question's events and bound can only be refused for its task
 pub same_test : (s : State) (f : FoundRows) (q : Question) → Some q ≡ slice_get s.questions f.question → false ≡ not (f.bound == q.bound) → true ≡ same_events f.events (take q.length s.accepted) →
     task_refused (slice_get q.tasks f.task) ≡ finding_refused s f
 same_test s f q found bound same =
@@ -157,7 +157,7 @@ known_test s f q found bound known = same_test s f q found bound (same_all f.eve
 
 -- ---- the report
 
--- the rows of a task with the dependencies that their numbers name are those that are kept
+-- the rows of a task with the dependencies that they name are the recorded ones
 named_rows : (ds : List Dependency) (rows : List Printed) → All (λ p. p ≡ with_dependencies ds p.row) rows → map (with_dependencies ds) (rows_in rows) ≡ rows
 named_rows ds [] h = refl
 named_rows ds (p ∷ rows) h =
@@ -166,7 +166,7 @@ named_rows ds (p ∷ rows) h =
     let rest = named_rows ds rows (All-tail P p rows h) in
     λ i. sym first i ∷ rest i
 
--- the same of all tasks, once all are delivered
+-- the same for all tasks once all are delivered
 pub settled_rows : {X : Type 0} (g : X → List Printed) (s : Trace) (tasks : List X) →
     ((task : ℕ) (rows : List Printed) → slice_get (map (λ t. Some (g t)) tasks) task ≡ Some (Some rows) → AreNamed s rows) →
     map (with_dependencies (dependencies s)) (flat_map rows_of (map (option_map rows_in) (map (λ t. Some (g t)) tasks))) ≡ flat_map g tasks
@@ -190,7 +190,7 @@ not_settled (Some rows ∷ tasks) (suc task) h = not_settled tasks task h
 
 -- ---- the answer about a question
 
-pub pending : (s : State) (number : ℕ) (told : Told) (task : ℕ) → slice_get s.questions number ≡ Some (question_of told) → slice_get told.tasks task ≡ Some None →
+pub pending : (s : State) (number : ℕ) (told : QuestionView) (task : ℕ) → slice_get s.questions number ≡ Some (question_of told) → slice_get told.tasks task ≡ Some None →
     answer printing s number ≡ Pending number (delivered (question_of told)) (length told.tasks)
 pending s number told task at missing =
     let q = question_of told in
@@ -199,8 +199,8 @@ pending s number told task at missing =
     ∙ ap (λ (b : Bool). if b then (if nat_le (length text) MAX_REPORT then Report number text else Refused ReportTooLong) else Pending number (delivered q) (length q.tasks)) (not_settled told.tasks task missing)
     ∙ ap (Pending number (delivered q)) (length-map told.tasks (option_map rows_in))
 
-pub reported : {X : Type 0} (g : X → List Printed) (s : State) (number : ℕ) (told : Told) (tasks : List X) → slice_get s.questions number ≡ Some (question_of told) →
-    told.tasks ≡ map (λ t. Some (g t)) tasks → TellsNamed (take told.length s.accepted) told →
+pub reported : {X : Type 0} (g : X → List Printed) (s : State) (number : ℕ) (told : QuestionView) (tasks : List X) → slice_get s.questions number ≡ Some (question_of told) →
+    told.tasks ≡ map (λ t. Some (g t)) tasks → HasNamedRows (take told.length s.accepted) told →
     answer printing s number
     ≡ (if nat_le (length (report number told.length told.bound (flat_map g tasks))) MAX_REPORT then Report number (report number told.length told.bound (flat_map g tasks)) else Refused ReportTooLong)
 reported g s number told tasks at all named =
@@ -242,7 +242,7 @@ not_too_long h = absurd cc
 
 -- ---- the least missing task
 
-pub least_told : (told : Told) (found : Option ℕ) → MatchOption found ((task : ℕ) → IsMissing told.tasks task → ⊥) (Ledger.IsLeastMissing told.tasks) →
+pub least_told : (told : QuestionView) (found : Option ℕ) → MatchOption found ((task : ℕ) → IsMissing told.tasks task → ⊥) (Ledger.IsLeastMissing told.tasks) →
     MatchOption found ((other : ℕ) → slice_get (question_of told).tasks other ≡ Some None → ⊥) (IsLeastMissing (question_of told))
 least_told told None h = λ other m. h other (row_missing told.tasks other m)
 least_told told (Some task) h = (missing_row told.tasks task h.0, λ other m. h.1 other (row_missing told.tasks other m))

@@ -1,4 +1,4 @@
--- What a book keeps, and what it does with a request.
+-- The view of a book, and how it refuses requests (this project's profile).
 use Rattle.std.specs.Prelude.{◌≡◌, ℕ, ◌<◌, ◌≤◌, ◌⊎◌, List, length, map, replicate, slice_get, take, Option, Some, None, Result, Ok, Err}
 use Rattle.trace_model.specs.declared.traces.event.Event.{Event}
 use Rattle.trace_model.specs.declared.limits.TheConstants.{MAX_EVENTS}
@@ -15,7 +15,7 @@ use Rattle.trace_model.specs.Theory.Rows.{Row, AreRows}
 use Rattle.trace_model.specs.Protocol.Machine.{Question, State, ask_refused, answer, deliver_refused, step}
 use Rattle.trace_model.specs.Protocol.Bounds.{StateFits}
 use Rattle.snapshots.specs.Found.{FoundRows}
-use Rattle.sequencer.specs.Asked.{Told, question_of, rows_in, TellsNamed}
+use Rattle.sequencer.specs.QuestionState.{QuestionView, question_of, rows_in, HasNamedRows}
 use Rattle.sequencer.specs.Printing.{printing}
 use Rattle.sequencer.specs.declared.answering.Answer.{Answer}
 use Rattle.sequencer.specs.declared.answering.Answer.TheVariants.{Pending, Settled}
@@ -25,84 +25,83 @@ use Rattle.sequencer.specs.declared.asking.AskRefused.{AskRefused}
 use Rattle.sequencer.specs.declared.asking.AskRefused.TheVariants as NoOpening
 use Rattle.sequencer.specs.declared.asking.Opened.{Opened}
 use Rattle.sequencer.specs.declared.step.Change.{Change}
-use Rattle.sequencer.specs.declared.step.Change.TheVariants.{Accept, Open, Tell, Show}
+use Rattle.sequencer.specs.declared.step.Change.TheVariants.{Accept, Open, ReadAnswer, ReadStatus}
 
--- a book may be made with this limit
+-- a book may be created with this limit
 abbrev pub IsLimit : ℕ → Type 0
 IsLimit limit = (1 ≤ limit) × (limit ≤ MAX_EVENTS)
 
--- the state that replies show, the event that there is room for, and how many questions there is
--- room for
-pub record Kept : Type 0 where
+-- what contracts see of a book: the machine's state, the event that memory is reserved for, and the
+-- number of questions that memory is reserved for
+pub record BookView : Type 0 where
   pub state : State
   pub reserved : Option Event
   pub room : ℕ
 
--- the machine's state, of what a book keeps
-abbrev pub state_of : ℕ → Trace → List Told → State
+-- the machine's state, from the fields of a book
+abbrev pub state_of : ℕ → Trace → List QuestionView → State
 state_of limit events asked =
     record { limit = limit; accepted = events; questions = map question_of asked }
 
--- the events are lawful, and the rows of each question are those of its first events, with their
--- dependencies
-pub record IsKept (admitted limit : ℕ) (events : Trace) (asked : List Told) : Type 0 where
+-- the invariant of a book: the state is within its limits, and each question's rows have the
+-- dependencies that they name
+pub record IsBook (admitted limit : ℕ) (events : Trace) (asked : List QuestionView) : Type 0 where
   pub same_limit : admitted ≡ limit
   pub fits : StateFits AreRows (state_of limit events asked)
-  pub named : (k : ℕ) (told : Told) → slice_get asked k ≡ Some told →
-      TellsNamed (take told.length events) told
+  pub named : (k : ℕ) (told : QuestionView) → slice_get asked k ≡ Some told →
+      HasNamedRows (take told.length events) told
 
--- what a step adds, and the reply that it will get
+-- what contracts see of a step: its change and its reply
 pub record Planned : Type 0 where
   pub change : Change
   pub reply : Reply
 
--- the request that asks for a change
+-- the request of a change
 abbrev pub request_of : Change → Request
 request_of (Accept e) = Offer e
 request_of (Open asked) = Ask asked.bound
-request_of (Tell question) = AskAnswer question
-request_of (Show question) = AskStatus question
+request_of (ReadAnswer question) = AskAnswer question
+request_of (ReadStatus question) = AskStatus question
 
--- a question about the present events, none of whose tasks is delivered
-abbrev pub fresh : State → ℕ → Told
+-- a new question about the accepted events: all its tasks are missing
+abbrev pub fresh : State → ℕ → QuestionView
 fresh s bound = record {
   length = length s.accepted;
   bound = bound;
   tasks = replicate (length (dependencies s.accepted)) None;
 }
 
--- there is room for what the change adds, and it brings what was made for it
-abbrev pub HasRoom : Kept → Change → Type 0
+-- memory is reserved for the change
+abbrev pub HasRoom : BookView → Change → Type 0
 HasRoom b (Accept e) = b.reserved ≡ Some e
 HasRoom b (Open asked) = (0 < b.room) × (asked ≡ fresh b.state asked.bound)
 HasRoom b _ = Unit {0}
 
--- the reply does not refuse
+-- the reply is not a refusal
 abbrev pub IsAccepted : Reply → Type 0
 IsAccepted (Refused r) = ⊥
 IsAccepted _ = Unit {0}
 
--- memory may be wanted for what the reply tells: an event or a question is added, or a report is
--- printed
+-- the reply needs an allocation: it adds an event or a question, or prints a report
 abbrev pub TakesMemory : Reply → Type 0
 TakesMemory (PlacedReply place) = Unit {0}
 TakesMemory (OpenedReply question length total) = Unit {0}
 TakesMemory (Report question text) = Unit {0}
 TakesMemory _ = ⊥
 
--- the machine accepts the request with this reply, and there is room for what it adds
-pub record IsPrepared (b : Kept) (planned : Planned) : Type 0 where
+-- the machine accepts the request with this reply, and memory is reserved for its change
+pub record IsPrepared (b : BookView) (planned : Planned) : Type 0 where
   pub reply_is : (step printing b.state (request_of planned.change)).0 ≡ planned.reply
   pub accepted : IsAccepted planned.reply
   pub room : HasRoom b planned.change
 
--- the event is refused by the machine, or for want of memory where the machine accepts it
+-- the refusal is the machine's; or it is `NoMemory` and the machine accepts the event
 abbrev pub RefusesOffer : State → Event → Refusal → Type 0
 RefusesOffer s e r =
     (refusal_of s.limit s.accepted e ≡ Some r)
     ⊎ ((r ≡ NoMemory) × (refusal_of s.limit s.accepted e ≡ None))
 
--- the refusals of a question and of an answer, among all
+-- the refusal of each reason
 abbrev pub ask_refusal : AskRefused → Refusal
 ask_refusal NoOpening.BadBound = BadBound
 ask_refusal NoOpening.TooManyQuestions = TooManyQuestions
@@ -113,61 +112,61 @@ answer_refusal NoAnswer.NoSuchQuestion = NoSuchQuestion
 answer_refusal NoAnswer.ReportTooLong = ReportTooLong
 answer_refusal NoAnswer.NoMemory = NoMemory
 
--- the same of a question with this bound
+-- the refusal of a question with this bound: the machine's; or `NoMemory` if the machine accepts
 abbrev pub RefusesAsk : State → ℕ → AskRefused → Type 0
 RefusesAsk s bound r = (ask_refused s bound ≡ Some (ask_refusal r))
     ⊎ ((r ≡ NoOpening.NoMemory) × (ask_refused s bound ≡ None))
 
--- the same of an answer
+-- the refusal of an answer: the machine's; or `NoMemory` if the machine accepts
 abbrev pub RefusesAnswer : State → ℕ → AnswerRefused → Type 0
 RefusesAnswer s number r =
     (answer printing s number ≡ Refused (answer_refusal r))
     ⊎ ((r ≡ NoAnswer.NoMemory) × IsAccepted (answer printing s number))
 
--- the request is refused by the machine, or for want of memory where the machine accepts it
+-- the reply is the machine's refusal; or it is `NoMemory` and the machine accepts the request
 abbrev pub Refuses : State → Request → Reply → Type 0
 Refuses s request reply =
     (step printing s request ≡ (reply, s))
     ⊎ ((reply ≡ Refused NoMemory) × IsAccepted (step printing s request).0)
 
--- the reply is a refusal: the machine's, or for want of memory where the machine's reply takes some
+-- the reply is a refusal: the machine's; or `NoMemory` if the machine's reply needs an allocation
 abbrev pub IsRefusal : State → Request → Reply → Type 0
 IsRefusal s request reply =
     (refusal : Refusal) × (reply ≡ Refused refusal)
     × (((step printing s request).0 ≡ reply)
     ⊎ ((refusal ≡ NoMemory) × TakesMemory (step printing s request).0))
 
--- there is no such question, or no memory for what is asked of it
+-- the question is not open; or it is open and an allocation failed
 abbrev pub RefusesSnapshot : State → ℕ → Refusal → Type 0
 RefusesSnapshot s number r =
     ((r ≡ NoSuchQuestion) × (slice_get s.questions number ≡ None))
     ⊎ ((r ≡ NoMemory) × ((q : Question) × (slice_get s.questions number ≡ Some q)))
 
--- the events are those that the question with this number is about, where there is one
+-- if the question with this number is open, it covers exactly these events
 abbrev pub AreKnown : State → ℕ → Trace → Type 0
 AreKnown s number events = (q : Question) → slice_get s.questions number ≡ Some q →
     events ≡ take q.length s.accepted
 
--- what the machine refuses of a finding
+-- the machine's refusal of a finding, if any
 abbrev pub finding_refused : State → FoundRows → Option Refusal
 finding_refused s f = deliver_refused s f.question f.bound f.events f.task
 
--- the least task that is not delivered
+-- the least missing task of the question
 abbrev pub IsLeastMissing : Question → ℕ → Type 0
 IsLeastMissing q task =
     (slice_get q.tasks task ≡ Some None)
     × ((other : ℕ) → slice_get q.tasks other ≡ Some None → task ≤ other)
 
--- the reply that an opened question gets
+-- the reply for an opened question
 abbrev pub opened_reply : Opened → Reply
 opened_reply o = OpenedReply o.question o.length o.total
 
--- the reply that an answer about the question gets
+-- the reply for an answer about the question
 abbrev pub answer_reply : ℕ → Answer → Reply
 answer_reply question (Pending delivered total) = PendingReply question delivered total
 answer_reply question (Settled text) = Report question text
 
--- what refuses a finding, and the rows of a finding
+-- the refusal of an outcome, if any
 abbrev pub outcome : Result Unit (Refusal × FoundRows) → Option Refusal
 outcome (Ok u) = None
 outcome (Err refused) = Some refused.0

@@ -1,4 +1,4 @@
--- What a book answers to a request.
+-- The reply of a book to a request (this project's profile).
 use Rattle.std.specs.Prelude.{◌≡◌, ◌⊎◌, ℕ, Bool, true, false, List, [], ◌∷◌, ◌++◌, length, take, slice_get, Some, None}
 use Rattle.trace_model.specs.declared.traces.event.Event.{Event}
 use Rattle.trace_model.specs.declared.refusal.Refusal.TheVariants.{NoMemory}
@@ -12,13 +12,13 @@ use Rattle.trace_model.specs.Protocol.Machine.{State, step}
 use Rattle.sequencer.specs.Book.{IsAccepted, TakesMemory}
 use Rattle.sequencer.specs.Printing.{printing}
 
--- the request offers no events at once
+-- the request is not a batch
 abbrev pub IsSingle : Request → Type 0
 IsSingle (Batch events) = ⊥
 IsSingle request = Unit {0}
 
--- the batch ended for want of memory before an event that the machine accepts: the reply is the
--- machine's to the events that came in, but for its number
+-- an allocation failed before an event of the batch that the machine accepts: the reply is the
+-- machine's to the accepted events, but with the number of `NoMemory`
 pub record EndsForMemory (s : State) (events : List Event) (reply : Reply)
     (next : State) : Type 0 where
   pub accepted : ℕ
@@ -29,8 +29,8 @@ pub record EndsForMemory (s : State) (events : List Event) (reply : Reply)
       (Batched accepted None (length s.accepted), next)
   pub replies : reply ≡ Batched accepted (Some NoMemory) (length s.accepted)
 
--- the machine's reply; or one for want of memory where the machine accepts, and nothing changes but
--- by the events of a batch that came in before
+-- the reply and the next state are the machine's; or the reply is `NoMemory`, the machine accepts,
+-- and nothing changes except for the accepted events of a batch
 abbrev pub StepsOrMemory : State → Request → Reply → State → Type 0
 StepsOrMemory s (Batch events) reply next =
     (step printing s (Batch events) ≡ (reply, next)) ⊎ EndsForMemory s events reply next
@@ -38,13 +38,13 @@ StepsOrMemory s request reply next =
     (step printing s request ≡ (reply, next))
     ⊎ ((reply ≡ Refused NoMemory) × (next ≡ s) × IsAccepted (step printing s request).0)
 
--- a refusal for want of memory is told where the machine's reply takes some
+-- the reply is `NoMemory` only if the machine's reply needs an allocation
 abbrev pub WantsRightly : State → Request → Reply → Type 0
 WantsRightly s request reply =
     reply ≡ Refused NoMemory → ((step printing s request).0 ≡ reply)
     ⊎ TakesMemory (step printing s request).0
 
--- a growth was refused for the reply
+-- the reply reports a failed allocation
 abbrev pub lacks_memory : Reply → Bool
 lacks_memory (Refused NoMemory) = true
 lacks_memory (Batched accepted (Some NoMemory) len) = true
@@ -55,7 +55,7 @@ abbrev pub state_called : State → List Request → State
 state_called state [] = state
 state_called state (request ∷ requests) = state_called (step printing state request).1 requests
 
--- the frames of the replies to these requests
+-- the reply frames to these requests
 abbrev pub answer_to : State → List Request → List ℕ
 answer_to state [] = []
 answer_to state (request ∷ requests) = reply_frame (step printing state request).0 ++

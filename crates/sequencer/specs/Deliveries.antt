@@ -1,15 +1,15 @@
--- What becomes of a finding.
+-- The outcome of a finding (this project's profile).
 use Rattle.std.specs.Prelude.{Option, Some, None, Result, Ok, Err}
 use Rattle.trace_model.specs.declared.refusal.Refusal.{Refusal}
 use Rattle.trace_model.specs.Protocol.Machine.{State, deliver}
 use Rattle.snapshots.specs.Found.{FoundRows}
 use Rattle.sequencer.specs.Book.{findings_rows}
 
--- why the finding is not taken, and the machine after it
+-- the refusal of the finding, if any, and the machine after it
 abbrev pub delivery : State → FoundRows → Option Refusal × State
 delivery state f = deliver state f.question f.bound f.events f.task (findings_rows f)
 
--- it is taken, or refused and handed back
+-- the finding was taken, or refused and given back
 abbrev pub Delivered : Type 0
 Delivered = Result Unit (Refusal × FoundRows)
 

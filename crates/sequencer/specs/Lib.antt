@@ -1,7 +1,11 @@
 pub mod Recording
-pub mod Asked
+pub mod QuestionState
 pub mod Printing
 pub mod Book
 pub mod Batched
 pub mod Called
 pub mod Deliveries
+pub mod Sessions
+pub mod Exact
+pub mod Drains
+pub mod Played

@@ -1,4 +1,4 @@
--- What a recorder keeps of its events.
+-- The invariant of a recorder (this project's profile).
 use Rattle.std.specs.Prelude.{◌≡◌, ℕ, ◌≤◌, length, Option, Some}
 use Rattle.trace_model.specs.declared.traces.event.Event.{Event}
 use Rattle.trace_model.specs.declared.limits.TheConstants.{MAX_EVENTS}
@@ -8,15 +8,15 @@ use Rattle.trace_index.specs.Room.{Indexed}
 use Rattle.lock_tables.specs.Tables.{FollowTrace, HasRoomFor}
 use Rattle.lock_tables.specs.declared.tables.LockTables.{LockTables}
 
--- gate, index and tables have room for the event
+-- memory is reserved for the event in gate, index and tables
 pub record HaveRoom (gate : GateTables) (index : Indexed) (tables : LockTables)
     (e : Event) : Type 0 where
   pub in_gate : wellformed.HasRoomFor gate e
   pub in_index : index.reserved ≡ Some e
   pub in_tables : HasRoomFor tables e
 
--- gate and tables are those of the events in the index, and all have room for the event that is
--- ready
+-- Gate and tables agree with the events in the index. Memory is reserved for the event that is
+-- ready.
 pub record IsRecording (limit : ℕ) (gate : GateTables) (index : Indexed) (tables : LockTables)
     (ready : Option Event) : Type 0 where
   pub small : limit ≤ MAX_EVENTS

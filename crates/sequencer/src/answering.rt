@@ -1,4 +1,4 @@
-//! What a book tells of its questions.
+//! Answers and status of questions.
 
 ghost use Rattle.std.specs.Prelude.{◌≡◌, Err, IfErr, IfOk};
 ghost use Rattle.trace_model.specs.Protocol.Machine as machine;
@@ -12,14 +12,14 @@ use reports::{TextRefused, report_text};
 use thiserror::Error;
 use trace_model::{QuestionStatus, Refusal, ReportText};
 
-/// What is known of a question: how many of its tasks are delivered, or the report once all are.
+/// The answer to a question: the number of delivered tasks, or the report if all are delivered.
 #[derive(Debug, Drop)]
 pub enum Answer {
     Pending { delivered: u32, total: u32 },
     Settled(ReportText),
 }
 
-/// Why a question is not answered.
+/// Why a question was not answered.
 #[derive(Clone, Copy, Debug, PartialEq, Eq, Error)]
 pub enum AnswerRefused {
     #[error("no such question")]
@@ -31,7 +31,7 @@ pub enum AnswerRefused {
 }
 
 impl AnswerRefused {
-    /// Its place among all refusals.
+    /// Returns the refusal with this reason.
     pub fn refusal(self) -> Refusal
         ensures { result ≡ answer_refusal self }
     {
@@ -44,12 +44,13 @@ impl AnswerRefused {
 }
 
 impl Book {
-    /// The report on the question's first events once all tasks are delivered, else how many are.
+    /// Returns the report of a question if all its tasks are delivered, else how many are.
     ///
     /// # Errors
     ///
-    /// `NoSuchQuestion`, then `ReportTooLong` where the text has more than `MAX_REPORT` bytes, then
-    /// `NoMemory`, but not while tasks are missing.
+    /// - `NoSuchQuestion` if it is not open.
+    /// - `ReportTooLong` if the report has more than `MAX_REPORT` bytes.
+    /// - `NoMemory` if the report cannot be allocated; never while tasks are missing.
     pub fn answer(&self, question: u32) -> Result<Answer, AnswerRefused>
         ensures ok { IfOk result (λ told. machine.answer printing self.now.state question ≡
             answer_reply question told) }
@@ -57,7 +58,7 @@ impl Book {
         ensures wanting { result ≡ Err AnswerRefused.NoMemory →
             TakesMemory (machine.answer printing self.now.state question) }
     {
-        let Some(asked) = self.asked(question) else {
+        let Some(asked) = self.question(question) else {
             return Err(AnswerRefused::NoSuchQuestion);
         };
         let Some(tasks) = asked.settled() else {
@@ -73,24 +74,24 @@ impl Book {
         }
     }
 
-    /// The book and the question in numbers. It takes no memory.
+    /// Returns the counts of the book and of a question. Does not allocate.
     ///
     /// # Errors
     ///
-    /// `NoSuchQuestion`.
+    /// `NoSuchQuestion` if it is not open.
     pub fn status(&self, question: u32) -> Result<QuestionStatus, NoSuchQuestion>
         ensures ok { IfOk result (λ status. machine.status self.now.state question ≡
             Status status) }
         ensures refused { IfErr result (λ _. machine.status self.now.state question ≡
             Refused refusals.NoSuchQuestion) }
     {
-        let Some(asked) = self.asked(question) else {
+        let Some(asked) = self.question(question) else {
             return Err(NoSuchQuestion);
         };
         Ok(QuestionStatus {
             question,
-            accepted: self.length(),
-            opened: self.opened(),
+            accepted: self.accepted(),
+            opened: self.question_count(),
             length: asked.length(),
             bound: asked.bound(),
             total: asked.total(),

@@ -1,4 +1,4 @@
-//! Questions are opened, and handed out to be worked on.
+//! Opening questions.
 
 ghost use Rattle.std.specs.Prelude.{◌≡◌, ℕ, slice_get, IfErr, IfOk, MatchOption, Some, None};
 ghost use Rattle.trace_model.specs.Protocol.Machine.{Question, ask_refused, step};
@@ -7,12 +7,12 @@ ghost use Rattle.sequencer.specs.declared.step.Change.TheVariants.{Open};
 ghost use Rattle.sequencer.specs.Book.{HasRoom, IsLeastMissing, RefusesAsk, ask_refusal, fresh, opened_reply};
 ghost use Rattle.sequencer.specs.Printing.{printing};
 
-use crate::asked::Asked;
 use crate::book::{Book, NoSuchQuestion};
+use crate::question_state::QuestionState;
 use thiserror::Error;
 use trace_model::{Bound, MAX_QUESTIONS, NoMemory, Refusal};
 
-/// Why a question is not opened.
+/// Why a question was not opened.
 #[derive(Clone, Copy, Debug, PartialEq, Eq, Error)]
 pub enum AskRefused {
     #[error("the bound is not 2 to 8")]
@@ -24,7 +24,7 @@ pub enum AskRefused {
 }
 
 impl AskRefused {
-    /// Its place among all refusals.
+    /// Returns the refusal with this reason.
     pub fn refusal(self) -> Refusal
         ensures { result ≡ ask_refusal self }
     {
@@ -36,8 +36,8 @@ impl AskRefused {
     }
 }
 
-/// A question that was opened: its number from 0, how many events it is about, and how many tasks
-/// it has.
+/// An opened question: its number from 0, the number of events that it covers, and the number of its
+/// tasks.
 #[derive(Clone, Copy, Debug, PartialEq, Eq)]
 pub struct Opened {
     pub question: u32,
@@ -46,32 +46,33 @@ pub struct Opened {
 }
 
 impl Book {
-    /// Opens a question about the present events, with a bound on the members of its cycles.
+    /// Opens a question about the accepted events. Its cycles have at most `bound` members.
     ///
     /// # Errors
     ///
-    /// `BadBound` where the bound is not 2 to 8, then `TooManyQuestions` where there are
-    /// `MAX_QUESTIONS`, then `NoMemory`. Nothing has changed.
+    /// The first that applies. Nothing changes.
+    /// - `BadBound` if the bound is not 2 to 8.
+    /// - `TooManyQuestions` if `MAX_QUESTIONS` questions are open.
+    /// - `NoMemory` if an allocation fails.
     pub fn ask(&mut self, bound: u8) -> Result<Opened, AskRefused>
         ensures ok { IfOk result (λ opened. step printing self.old.state (Ask bound) ≡
             (opened_reply opened, self.new.state)) }
         ensures refused { IfErr result (λ refused. RefusesAsk self.old.state bound refused
             × (self.new.state ≡ self.old.state)) }
     {
-        let asked = self.open(bound)?;
-        let opened = self.opens(&asked);
-        self.add(asked);
+        let asked = self.reserve_question(bound)?;
+        let opened = self.preview(&asked);
+        self.record_question(asked);
         Ok(opened)
     }
 
-    /// Tests a bound, and makes a question about the present events, and room for it. What a reply
-    /// shows is unchanged.
+    /// Checks a bound, creates a question about the accepted events, and reserves memory for it. The
+    /// state does not change.
     ///
     /// # Errors
     ///
-    /// `BadBound` where the bound is not 2 to 8, then `TooManyQuestions` where there are
-    /// `MAX_QUESTIONS`, then `NoMemory`.
-    pub fn open(&mut self, bound: u8) -> Result<Asked, AskRefused>
+    /// As of `ask`.
+    pub fn reserve_question(&mut self, bound: u8) -> Result<QuestionState, AskRefused>
         ensures shown { self.new.state ≡ self.old.state }
         ensures ok { IfOk result (λ asked. (asked.bound ≡ bound) × HasRoom self.new (Open asked)) }
         ensures allowed { IfOk result (λ asked. ask_refused self.old.state bound ≡ None) }
@@ -80,17 +81,17 @@ impl Book {
         let Some(bound) = Bound::new(bound) else {
             return Err(AskRefused::BadBound);
         };
-        if self.opened() as usize >= MAX_QUESTIONS {
+        if self.question_count() as usize >= MAX_QUESTIONS {
             return Err(AskRefused::TooManyQuestions);
         }
-        match self.grow(bound) {
+        match self.new_question(bound) {
             Ok(asked) => Ok(asked),
             Err(_) => Err(AskRefused::NoMemory),
         }
     }
 
-    /// Makes room for a question about the present events.
-    fn grow(&mut self, bound: Bound) -> Result<Asked, NoMemory>
+    /// Creates a question about the accepted events, and reserves memory for it.
+    fn new_question(&mut self, bound: Bound) -> Result<QuestionState, NoMemory>
         ensures shown { self.new.state ≡ self.old.state }
         ensures ok { IfOk result (λ asked. (asked.bound ≡ bound) × HasRoom self.new (Open asked)) }
     {
@@ -98,29 +99,29 @@ impl Book {
         self.questions.reserve(1)?;
         let length = self.recorder.len() as u32;
         let total = self.recorder.dependencies() as u32;
-        Asked::open(self.alloc, length, bound, total)
+        QuestionState::new(self.alloc, length, bound, total)
     }
 
-    /// What is answered where this question, which `open` must have made for this book as it is, is
-    /// added next. It takes no memory.
-    pub fn opens(&self, asked: &Asked) -> Opened
+    /// Returns what `record_question` will open. `reserve_question` must have returned the question on
+    /// this state. Does not allocate.
+    pub fn preview(&self, asked: &QuestionState) -> Opened
         requires allowed { ask_refused self.now.state asked.now.bound ≡ None }
         requires fresh { asked.now ≡ fresh self.now.state asked.now.bound }
         ensures { (step printing self.now.state (Ask asked.now.bound)).0 ≡ opened_reply result }
     {
         Opened {
-            question: self.opened(),
+            question: self.question_count(),
             length: asked.length(),
             total: asked.total(),
         }
     }
 
-    /// The least task of the question that is not delivered; none where all are. It takes no
-    /// memory.
+    /// Returns the least missing task of the question, or `None` if all are delivered. Does not
+    /// allocate.
     ///
     /// # Errors
     ///
-    /// `NoSuchQuestion`.
+    /// `NoSuchQuestion` if it is not open.
     pub fn missing(&self, question: u32) -> Result<Option<u32>, NoSuchQuestion>
         ensures ok { IfOk result (λ task. (q : Question)
             × (slice_get self.now.state.questions question ≡ Some q)
@@ -128,7 +129,7 @@ impl Book {
             (IsLeastMissing q)) }
         ensures refused { IfErr result (λ _. slice_get self.now.state.questions question ≡ None) }
     {
-        let Some(asked) = self.asked(question) else {
+        let Some(asked) = self.question(question) else {
             return Err(NoSuchQuestion);
         };
         Ok(asked.missing())

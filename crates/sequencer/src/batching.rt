@@ -1,62 +1,61 @@
-//! Events that are offered at once.
+//! Batches: several events offered in one request.
 ghost use Rattle.std.specs.Prelude.{◌≡◌, ◌≤◌, length, slice_get, Some, None};
 ghost use Rattle.trace_model.specs.Protocol.Batches.{IsBatch};
 ghost use Rattle.trace_model.specs.Theory.Lawful.{refusal_of};
-ghost use Rattle.sequencer.specs.Batched.{IsBatched, FirstIsAdmitted};
+ghost use Rattle.sequencer.specs.Batched.{IsBatched, FirstIsReserved};
 
 use crate::book::Book;
 use trace_model::{Event, Refusal};
 
-/// What became of a batch.
+/// The outcome of a batch.
 #[derive(Clone, Copy, Debug, PartialEq, Eq)]
 pub struct Batched {
-    /// How many of its events were accepted, from the first on.
+    /// The number of accepted events, from the first one on.
     pub accepted: u8,
-    /// What refuses the next one, none where all were accepted.
+    /// The refusal of the next event, or `None` if all were accepted.
     pub refusal: Option<Refusal>,
-    /// How many events were accepted before the batch: the place of its first one.
+    /// The number of events accepted before the batch, which is the place of its first event.
     pub length: u32,
 }
 
 impl Book {
-    /// Accepts the events of a batch, of which there are 1 to `MAX_BATCH`, from the first on, up to
-    /// one that is not lawful after those before it, or for which a growth is refused. That one and
-    /// those after it change nothing.
+    /// Appends the events of a batch (1 to `MAX_BATCH`) up to the first one that is not lawful, or for
+    /// which an allocation fails. That event and those after it change nothing.
     pub fn offer_batch(&mut self, events: &[Event]) -> Batched
         requires { IsBatch events.now }
         ensures { IsBatched self.old.state events.now result self.new.state }
     {
-        match self.admit(&events[0]) {
-            Ok(()) => self.accept_batch(events),
+        match self.reserve_event(&events[0]) {
+            Ok(()) => self.record_batch(events),
             Err(refusal) => Batched {
                 accepted: 0,
                 refusal: Some(refusal),
-                length: self.length(),
+                length: self.accepted(),
             },
         }
     }
 
-    /// Does what `offer_batch` does with a batch whose first event `admit` has admitted to this
-    /// book as it is. That one is accepted, for which no memory is taken.
-    pub fn accept_batch(&mut self, events: &[Event]) -> Batched
+    /// Offers a batch like `offer_batch`. `reserve_event` must have succeeded for its first event on
+    /// this state, so that event is accepted without an allocation.
+    pub fn record_batch(&mut self, events: &[Event]) -> Batched
         requires batch { IsBatch events.now }
-        requires admitted { FirstIsAdmitted self.old events.now }
+        requires admitted { FirstIsReserved self.old events.now }
         ensures batched { IsBatched self.old.state events.now result self.new.state }
         ensures some { 1 ≤ result.accepted }
     {
-        let length = self.length();
-        self.accept(&events[0]);
+        let length = self.accepted();
+        self.record_event(&events[0]);
         let mut accepted = 1;
         while accepted < events.len() {
             let event = &events[accepted];
-            if let Err(refusal) = self.admit(event) {
+            if let Err(refusal) = self.reserve_event(event) {
                 return Batched {
                     accepted: accepted as u8,
                     refusal: Some(refusal),
                     length,
                 };
             }
-            self.accept(event);
+            self.record_event(event);
             accepted += 1;
         }
         Batched {

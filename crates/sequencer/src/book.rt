@@ -1,4 +1,4 @@
-//! The book: its events and its questions.
+//! The book and its events.
 
 ghost use Rattle.std.specs.Prelude.{◌≡◌, ◌<◌, ◌≤◌, ◌↔◌, length, take, nat_eq, slice_get, option_map, IfSome, IfErr, IfOk, IsOk, MatchOption, OnOk, Some, None};
 ghost use Rattle.trace_model.specs.Theory.Dependencies.{dependencies};
@@ -9,11 +9,11 @@ ghost use Rattle.trace_model.specs.Protocol.Bounds.{StateFits};
 ghost use Rattle.trace_model.specs.declared.messages.session.Request.TheVariants.{Offer};
 ghost use Rattle.trace_model.specs.declared.messages.session.Reply.TheVariants.{Placed};
 ghost use Rattle.sequencer.specs.declared.book.BookRefused.TheVariants.{BadLimit};
-ghost use Rattle.sequencer.specs.Asked.{question_of, TellsNamed};
+ghost use Rattle.sequencer.specs.QuestionState.{question_of, HasNamedRows};
 ghost use Rattle.sequencer.specs.Book.{IsLimit, RefusesOffer, fresh};
 ghost use Rattle.sequencer.specs.Printing.{printing};
 
-use crate::asked::Asked;
+use crate::question_state::QuestionState;
 use crate::recorder::Recorder;
 use std::alloc::Global;
 use std::hash::RandomState;
@@ -21,7 +21,7 @@ use std::marker::Model;
 use thiserror::Error;
 use trace_model::{Event, MAX_EVENTS, Place, Refusal};
 
-/// Why a book is not made.
+/// Why a book cannot be created.
 #[derive(Debug, Drop, PartialEq, Eq, Error)]
 pub enum BookRefused {
     #[error("the limit is not 1 to 1048576")]
@@ -35,12 +35,13 @@ pub enum BookRefused {
 #[error("no such question")]
 pub struct NoSuchQuestion;
 
-/// The accepted events, and the questions about their beginnings with the rows of their tasks.
+/// The accepted events, and the questions about prefixes of them with the rows of their tasks.
+/// Contracts see the machine's state, and what memory is reserved.
 pub struct Book {
     pub(crate) alloc: Global,
     pub(crate) limit: u32,
     pub(crate) recorder: Recorder,
-    pub(crate) questions: Vec<Asked>,
+    pub(crate) questions: Vec<QuestionState>,
 }
 
 impl Drop for Book {
@@ -56,9 +57,9 @@ impl Drop for Book {
 
 impl Model for Book {
     ghost use Rattle.std.specs.Prelude.{◌-◌, vec_len, vec_capacity};
-    ghost use Rattle.sequencer.specs.Book.{Kept, IsKept, state_of};
+    ghost use Rattle.sequencer.specs.Book.{BookView, IsBook, state_of};
 
-    ghost Value = { Kept };
+    ghost Value = { BookView };
 
     ghost view = { λ b. record {
       state = state_of b.limit b.recorder.events b.questions.items;
@@ -66,16 +67,16 @@ impl Model for Book {
       room = vec_capacity b.questions - vec_len b.questions;
     } };
 
-    ghost invariant = { λ b. IsKept b.recorder.limit b.limit b.recorder.events b.questions.items };
+    ghost invariant = { λ b. IsBook b.recorder.limit b.limit b.recorder.events b.questions.items };
 }
 
 impl Book {
-    /// A book without events and questions, which accepts at most `max_events` events.
+    /// Creates an empty book that accepts at most `max_events` events.
     ///
     /// # Errors
     ///
-    /// `BadLimit` where that is not 1 to `MAX_EVENTS`. An empty book takes no memory, so nothing
-    /// else is answered.
+    /// `BadLimit` if `max_events` is not 1 to `MAX_EVENTS`. An empty book allocates nothing, so
+    /// `NoMemory` does not occur.
     pub fn new(alloc: Global, state: RandomState, max_events: u32) -> Result<Book, BookRefused>
         ensures made { IfOk result (λ book. book.state ≡ opening max_events) }
         ensures limit { IsOk result ↔ IsLimit max_events }
@@ -92,45 +93,47 @@ impl Book {
         })
     }
 
-    /// How many events are accepted. The book's state is within its limits, and the rows that were
-    /// delivered are exactly those of the first events of their questions. It takes no memory.
+    /// Returns the number of accepted events. Does not allocate. Its contract also states that the
+    /// book's state is within its limits, and that all delivered rows are exactly those of their
+    /// tasks.
     pub fn len(&self) -> usize
         ensures value { result ≡ length self.now.state.accepted }
         ensures fits { StateFits AreRows self.now.state }
     {
-        let _ = &self.questions;
+        let _ = &self.questions; // for the proof
         self.recorder.len()
     }
 
-    /// Whether no event is accepted. It takes no memory.
+    /// Returns whether no event was accepted. Does not allocate.
     pub fn is_empty(&self) -> bool
         ensures { result ≡ nat_eq (length self.now.state.accepted) 0 }
     {
         self.len() == 0
     }
 
-    /// The accepted event at a place, or none. It takes no memory.
+    /// Returns the accepted event at a place, or `None` if the place is not in the trace. Does not
+    /// allocate.
     pub fn event(&self, place: Place) -> Option<Event>
         ensures { result ≡ slice_get self.now.state.accepted place }
     {
         self.recorder.event(place)
     }
 
-    /// How many questions were opened.
-    pub(crate) fn opened(&self) -> u32
+    /// Returns the number of open questions.
+    pub(crate) fn question_count(&self) -> u32
         ensures { result ≡ length self.now.state.questions }
     {
         self.questions.len() as u32
     }
 
-    /// The question with this number.
-    pub(crate) fn asked(&self, question: u32) -> Option<&Asked>
+    /// Returns the question with this number, or `None` if it is not open.
+    pub(crate) fn question(&self, question: u32) -> Option<&QuestionState>
         ensures value { option_map (λ asked. question_of asked.now) result ≡
             slice_get self.now.state.questions question }
         ensures within { IfSome result
             (λ asked. asked.now.length ≤ length self.now.state.accepted) }
         ensures named { IfSome result
-            (λ asked. TellsNamed (take asked.now.length self.now.state.accepted) asked.now) }
+            (λ asked. HasNamedRows (take asked.now.length self.now.state.accepted) asked.now) }
         ensures total { IfSome result
             (λ asked. length asked.now.tasks ≡
             length (dependencies (take asked.now.length self.now.state.accepted))) }
@@ -138,12 +141,12 @@ impl Book {
         self.questions.get(question as usize)
     }
 
-    /// Tests an event and makes room for it. What a reply shows is unchanged.
+    /// Checks an event and reserves memory for it. The state does not change.
     ///
     /// # Errors
     ///
-    /// The first refusal that applies, and `NoMemory` where none does.
-    pub fn admit(&mut self, event: &Event) -> Result<(), Refusal>
+    /// The first refusal that applies; `NoMemory` if none applies and an allocation fails.
+    pub fn reserve_event(&mut self, event: &Event) -> Result<(), Refusal>
         ensures shown { self.new.state ≡ self.old.state }
         ensures ok { OnOk result ((self.new.reserved ≡ Some event.now)
             × (refusal_of self.old.state.limit self.old.state.accepted event.now ≡ None)) }
@@ -156,16 +159,15 @@ impl Book {
         }
     }
 
-    /// How many events there are.
-    pub(crate) fn length(&self) -> u32
+    /// Returns the number of accepted events, which is also the next event's place.
+    pub(crate) fn accepted(&self) -> u32
         ensures { result ≡ length self.now.state.accepted }
     {
         self.recorder.len() as u32
     }
 
-    /// Accepts the event, which `admit` must have admitted to this book as it is. It takes no
-    /// memory.
-    pub fn accept(&mut self, event: &Event)
+    /// Appends the event. `reserve_event` must have succeeded for it on this state. Does not allocate.
+    pub fn record_event(&mut self, event: &Event)
         requires reserved { self.old.reserved ≡ Some event.now }
         requires lawful { refusal_of self.old.state.limit self.old.state.accepted event.now ≡ None }
         ensures { self.new.state ≡ with_event self.old.state event.now }
@@ -173,8 +175,8 @@ impl Book {
         self.recorder.record(event);
     }
 
-    /// Adds the question, which `open` must have made for this book as it is. It takes no memory.
-    pub fn add(&mut self, asked: Asked)
+    /// Adds the question. `reserve_question` must have returned it on this state. Does not allocate.
+    pub fn record_question(&mut self, asked: QuestionState)
         requires room { 0 < self.old.room }
         requires allowed { ask_refused self.old.state asked.bound ≡ None }
         requires fresh { asked ≡ fresh self.old.state asked.bound }
@@ -183,20 +185,21 @@ impl Book {
         self.questions.push_reserved(asked);
     }
 
-    /// Accepts the event if it is lawful, and answers its place.
+    /// Appends the event if it is lawful, and returns its place.
     ///
     /// # Errors
     ///
-    /// The first refusal that applies, and `NoMemory` where none does. Nothing has changed.
+    /// The first refusal that applies; `NoMemory` if none applies and an allocation fails. Nothing
+    /// changes.
     pub fn offer(&mut self, event: Event) -> Result<Place, Refusal>
         ensures ok { IfOk result (λ place. step printing self.old.state (Offer event) ≡
             (Placed place, self.new.state)) }
         ensures refused { IfErr result (λ refusal. RefusesOffer self.old.state event refusal
             × (self.new.state ≡ self.old.state)) }
     {
-        self.admit(&event)?;
-        let place = Place::new(self.length());
-        self.accept(&event);
+        self.reserve_event(&event)?;
+        let place = Place::new(self.accepted());
+        self.record_event(&event);
         Ok(place)
     }
 }

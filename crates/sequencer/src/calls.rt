@@ -1,4 +1,4 @@
-//! Who answers the requests of a session.
+//! The interface between a session and the book or desk that answers it.
 ghost use Rattle.trace_model.specs.Protocol.Replies.{IsReply};
 ghost use Rattle.trace_model.specs.declared.messages.session.Request.{Request};
 ghost use Rattle.trace_model.specs.declared.messages.session.Reply.{Reply};
@@ -7,9 +7,9 @@ ghost use Rattle.sequencer.specs.Called.{StepsOrMemory};
 use crate::book::Book;
 use trace_model::{Reply, Request};
 
-/// Who answers the requests of a session.
+/// Answers the requests of a session.
 pub trait Calls {
-    /// From the first state, the request may be given this reply, and the second state is left.
+    /// In the first state the request may get this reply, which leads to the second state.
     ghost steps: { Self → Request → Reply → Self → Type 0 };
 
     /// Answers a request.
@@ -18,8 +18,8 @@ pub trait Calls {
         ensures fits { IsReply result };
 }
 
-/// A book answers requests as the machine does. Where a growth is refused the reply tells
-/// `NoMemory`, and the book is as before, but for the events of a batch that came in before.
+/// A book replies as the machine does. If an allocation fails the reply is `NoMemory`, and the book
+/// does not change, except for the accepted events of a batch.
 impl Calls for Book {
     ghost steps = { λ old request reply new. StepsOrMemory old.state request reply new.state };
 

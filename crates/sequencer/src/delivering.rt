@@ -1,4 +1,4 @@
-//! Findings come in, from anyone.
+//! Delivering findings from any source.
 
 ghost use Rattle.std.specs.Prelude.{◌≡◌, ◌≤◌, length, take, slice_get, IfErr, OnOk, None};
 ghost use Rattle.std.specs.Result.{result_err};
@@ -12,15 +12,15 @@ use crate::recorder::Recorder;
 use snapshots::{Finding, Snapshot};
 use trace_model::{Place, Refusal};
 
-/// What became of a finding: it was taken, or refused and handed back.
+/// The outcome of a finding: taken, or refused and given back.
 pub type Delivered = Result<(), (Refusal, Finding)>;
 
 impl Book {
-    /// Takes the rows of a task of a question. It takes no memory.
+    /// Takes the rows of one task. Does not allocate.
     ///
     /// # Errors
     ///
-    /// What `admits` answers, with the finding handed back. Nothing has changed.
+    /// The refusal of `admits`, with the finding. Nothing changes.
     pub fn deliver(&mut self, finding: Finding) -> Delivered
         ensures machine { deliver self.old.state finding.question finding.bound finding.events
             finding.task (findings_rows finding) ≡ (outcome result, self.new.state) }
@@ -32,8 +32,8 @@ impl Book {
         self.take_if(admitted, finding)
     }
 
-    /// Does what `deliver` does with a finding about events that are known to be those of its
-    /// question, which are not compared. It takes no memory.
+    /// Delivers like `deliver`, without comparing the finding's events. The caller must know that they
+    /// are those of the question. Does not allocate.
     ///
     /// # Errors
     ///
@@ -50,17 +50,20 @@ impl Book {
         self.take_if(admitted, finding)
     }
 
-    /// Whether the finding may be taken. It takes no memory.
+    /// Checks whether the finding may be taken. Does not allocate.
     ///
     /// # Errors
     ///
-    /// The first that applies: `NoSuchQuestion`; `OtherBound`; `OtherTrace` where its events,
-    /// compared one by one, are not those that the question is about; `NoSuchTask`; `Double` where
-    /// the task was delivered.
+    /// The first that applies:
+    /// - `NoSuchQuestion` if its question is not open.
+    /// - `OtherBound` if its bound is not the question's.
+    /// - `OtherTrace` if its events, compared one by one, are not those of the question.
+    /// - `NoSuchTask` if its task is not below the question's total.
+    /// - `Double` if its task was delivered before.
     pub fn admits(&self, finding: &Finding) -> Result<(), Refusal>
         ensures { result_err result ≡ finding_refused self.now.state finding.now }
     {
-        let Some(asked) = self.asked(finding.question()) else {
+        let Some(asked) = self.question(finding.question()) else {
             return Err(Refusal::NoSuchQuestion);
         };
         if finding.bound() != asked.bound() {
@@ -69,29 +72,29 @@ impl Book {
         if !is_of(finding.snapshot(), &self.recorder, asked.length()) {
             return Err(Refusal::OtherTrace);
         }
-        asked.test(finding.task())
+        asked.check(finding.task())
     }
 
-    /// What `admits` answers for a finding about events that are known to be those of its question,
-    /// which are not compared. It takes no memory.
+    /// Checks like `admits`, without comparing the finding's events. The caller must know that they are
+    /// those of the question. Does not allocate.
     ///
     /// # Errors
     ///
-    /// As of `admits`, but for `OtherTrace`.
+    /// As of `admits`, except `OtherTrace`.
     pub fn admits_known(&self, finding: &Finding) -> Result<(), Refusal>
         requires known { AreKnown self.now.state finding.now.question finding.now.events }
         ensures { result_err result ≡ finding_refused self.now.state finding.now }
     {
-        let Some(asked) = self.asked(finding.question()) else {
+        let Some(asked) = self.question(finding.question()) else {
             return Err(Refusal::NoSuchQuestion);
         };
         if finding.bound() != asked.bound() {
             return Err(Refusal::OtherBound);
         }
-        asked.test(finding.task())
+        asked.check(finding.task())
     }
 
-    /// Takes a finding that `admits` answers Ok for. It takes no memory.
+    /// Takes a finding for which `admits` returns `Ok`. Does not allocate.
     pub fn take(&mut self, finding: Finding)
         requires { finding_refused self.old.state finding ≡ None }
         ensures machine { deliver self.old.state finding.question finding.bound finding.events
@@ -101,10 +104,10 @@ impl Book {
         let question = finding.question() as usize;
         let task = finding.task();
         let asked = &mut self.questions[question];
-        asked.accept(task, finding.into_rows());
+        asked.record(task, finding.into_rows());
     }
 
-    /// Takes the finding where it is admitted, and hands it back with its refusal where it is not.
+    /// Takes the finding if it was admitted, else gives it back with its refusal.
     fn take_if(&mut self, admitted: Result<(), Refusal>, finding: Finding) -> Delivered
         requires { result_err admitted ≡ finding_refused self.old.state finding }
         ensures machine { deliver self.old.state finding.question finding.bound finding.events
@@ -123,7 +126,7 @@ impl Book {
     }
 }
 
-/// Whether the snapshot is of the first so many recorded events, which are compared one by one.
+/// Returns whether the snapshot has exactly the first `count` recorded events, compared one by one.
 fn is_of(snapshot: &Snapshot, recorder: &Recorder, count: u32) -> bool
     requires { count ≤ length recorder.now.events }
     ensures { result ≡ same_events snapshot.now (take count recorder.now.events) }
@@ -139,7 +142,7 @@ fn is_of(snapshot: &Snapshot, recorder: &Recorder, count: u32) -> bool
     true
 }
 
-/// Whether both have the same event at this place, or none.
+/// Returns whether both have the same event at this place, or both have none.
 fn is_at(snapshot: &Snapshot, recorder: &Recorder, index: u32) -> bool
     ensures { result ≡ option_eq same_event (slice_get snapshot.now index)
         (slice_get recorder.now.events index) }

@@ -1,4 +1,4 @@
-//! What a book records of its trace.
+//! The recorded trace with its gate, index and lock tables.
 
 ghost use Rattle.std.specs.Prelude.{◌≡◌, ◌+◌, ◌≤◌, ◌<◌, [], ◌∷◌, ◌++◌, length, take, slice_get, Some, None, IfOk, OnOk};
 ghost use Rattle.std.specs.Arc.{arc_value};
@@ -19,8 +19,8 @@ use trace_index::{Copies, TraceIndex};
 use trace_model::{Event, NoMemory, Place, Refusal};
 use wellformed::GateTables;
 
-/// The accepted events, each lawful after those before it, with their index and their lock tables,
-/// and the event that there is room for. Contracts see what a gate shows.
+/// A well-formed trace with its gate tables, index and lock tables, and the event for which memory is
+/// reserved. Contracts see it as a gate.
 #[derive(Drop)]
 pub struct Recorder {
     alloc: Global,
@@ -43,7 +43,7 @@ impl Model for Recorder {
     ghost invariant = { λ r. IsRecording r.limit r.gate r.index r.tables r.ready };
 }
 
-/// Puts the event, for which there is room, into the index, with a count of its own.
+/// Records the event in the index, with a new count of copies. Memory must be reserved for it.
 fn record_in<L: Ledger>(index: &mut TraceIndex, event: &Event, blank: Blank)
     requires name { blank.name ≡ L.name }
     requires parts { blank.parts ≡ L.parts }
@@ -57,8 +57,8 @@ fn record_in<L: Ledger>(index: &mut TraceIndex, event: &Event, blank: Blank)
 }
 
 impl Recorder {
-    /// A recorder without events, which takes at most `max_events`. That is at most `MAX_EVENTS`.
-    /// It takes no memory.
+    /// Creates an empty recorder for at most `max_events` events (at most `MAX_EVENTS`). Does not
+    /// allocate.
     pub fn new(alloc: Global, state: RandomState, max_events: usize) -> Recorder
         requires { max_events ≤ MAX_EVENTS }
         ensures { result ≡ record { limit = max_events; events = []; reserved = None } }
@@ -74,7 +74,7 @@ impl Recorder {
         }
     }
 
-    /// Whether the event may follow the recorded ones. It takes no memory.
+    /// Checks whether the event is lawful after the recorded ones. Does not allocate.
     ///
     /// # Errors
     ///
@@ -85,7 +85,7 @@ impl Recorder {
         self.gate.check(self.limit, event)
     }
 
-    /// How many events are recorded. It takes no memory.
+    /// Returns the number of recorded events. Does not allocate.
     pub fn len(&self) -> usize
         ensures length { result ≡ length self.now.events }
         ensures well_formed { IsWellFormed self.now.events }
@@ -94,27 +94,27 @@ impl Recorder {
         self.index.len()
     }
 
-    /// The event at a place, or none. It takes no memory.
+    /// Returns the event at a place, or `None` if it is not in the trace. Does not allocate.
     pub fn event(&self, place: Place) -> Option<Event>
         ensures { result ≡ slice_get self.now.events place }
     {
         self.index.event(place)
     }
 
-    /// How many dependencies the recorded events have. It takes no memory.
+    /// Returns the number of dependencies of the recorded events. Does not allocate.
     pub fn dependencies(&self) -> usize
         ensures { result ≡ length (dependencies self.now.events) }
     {
-        let _ = &self.index;
+        let _ = &self.index; // for the proof
         self.tables.len()
     }
 
-    /// Makes every growth for this event, in gate, index and tables. Room that was made for another
-    /// is then given up.
+    /// Makes every allocation for this event, in gate, index and tables. An earlier reservation is
+    /// dropped.
     ///
     /// # Errors
     ///
-    /// `NoMemory`. No look-up has changed.
+    /// `NoMemory` if an allocation fails. No look-up changes.
     pub fn reserve(&mut self, event: &Event) -> Result<(), NoMemory>
         ensures events { (self.new.events ≡ self.old.events) × (self.new.limit ≡ self.old.limit) }
         ensures ok { OnOk result (self.new.reserved ≡ Some event.now) }
@@ -127,12 +127,12 @@ impl Recorder {
         Ok(())
     }
 
-    /// Brings all dependencies into the graph, so that no snapshot copies it before the next event.
-    /// Room that was made for an event is given up.
+    /// Adds all dependencies to the graph, so that snapshots share it until the next event. An earlier
+    /// reservation is dropped.
     ///
     /// # Errors
     ///
-    /// `NoMemory` where a growth was refused. No look-up has changed.
+    /// `NoMemory` if an allocation fails. No look-up changes.
     pub fn catch_up(&mut self) -> Result<(), NoMemory>
         ensures { (self.new.events ≡ self.old.events) × (self.new.limit ≡ self.old.limit) }
     {
@@ -140,8 +140,7 @@ impl Recorder {
         self.tables.catch_up()
     }
 
-    /// Records the event, which must be lawful, and the one that room was last made for. It takes
-    /// no memory.
+    /// Records the event. It must be lawful, and the last one reserved. Does not allocate.
     pub fn record(&mut self, event: &Event)
         requires reserved { self.old.reserved ≡ Some event.now }
         requires lawful { refusal_of self.old.limit self.old.events event.now ≡ None }
@@ -153,13 +152,12 @@ impl Recorder {
         self.gate.record(event);
     }
 
-    /// The first `count` events with what is needed to compute their rows, `total` being the number
-    /// of their dependencies. Full segments are shared, and at most one is copied; `copies` counts
-    /// the events in it.
+    /// Returns a snapshot of the first `count` events, which have `total` dependencies. Full segments
+    /// are shared, and at most one is copied; `copies` counts the copied events.
     ///
     /// # Errors
     ///
-    /// `NoMemory` where a growth was refused.
+    /// `NoMemory` if an allocation fails.
     pub fn snapshot<L: Ledger>(
         &self,
         count: u32,

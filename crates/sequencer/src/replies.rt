@@ -1,4 +1,4 @@
-//! What came of a request, as the reply that tells it.
+//! The reply for each outcome of a request.
 
 ghost use Rattle.std.specs.Prelude.{◌≡◌};
 ghost use Rattle.trace_model.specs.declared.messages.session.Reply.TheVariants as replies;
@@ -10,7 +10,7 @@ use crate::batching::Batched;
 use trace_model::Reply;
 
 impl Batched {
-    /// The reply that tells it.
+    /// Returns the reply with this outcome.
     pub fn reply(self) -> Reply
         ensures { result ≡ replies.Batched self.accepted self.refusal self.length }
     {
@@ -23,7 +23,7 @@ impl Batched {
 }
 
 impl Opened {
-    /// The reply that tells it.
+    /// Returns the reply with this outcome.
     pub fn reply(self) -> Reply
         ensures { result ≡ opened_reply self }
     {
@@ -36,7 +36,7 @@ impl Opened {
 }
 
 impl Answer {
-    /// The reply that tells it of the question with this number. It takes no memory.
+    /// Returns the reply about the question with this number. Does not allocate.
     pub fn reply(self, question: u32) -> Reply
         ensures { result ≡ answer_reply question self }
     {

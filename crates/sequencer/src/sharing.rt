@@ -1,4 +1,4 @@
-//! What a question is about is handed out to be worked on.
+//! Snapshots of the events that a question covers.
 
 ghost use Rattle.std.specs.Prelude.{◌≡◌, ◌+◌, ◌<◌, ◌≤◌, slice_get, take, IfErr, IfOk, Some};
 ghost use Rattle.std.specs.Arc.{arc_value};
@@ -15,27 +15,28 @@ use trace_index::Copies;
 use trace_model::Refusal;
 
 impl Book {
-    /// Exactly the events that the question is about, with what is needed to compute its tasks.
+    /// Returns a snapshot of exactly the events that the question covers, with what is needed to
+    /// compute its tasks.
     ///
     /// # Errors
     ///
-    /// `NoSuchQuestion`, or `NoMemory` where a growth was refused.
+    /// `NoSuchQuestion` if it is not open; `NoMemory` if an allocation fails.
     pub fn snapshot(&self, question: u32) -> Result<Arc<Snapshot, Global>, Refusal>
         ensures ok { IfOk result (λ shared. (q : Question)
             × (slice_get self.now.state.questions question ≡ Some q)
             × (arc_value shared ≡ take q.length self.now.state.accepted)) }
         ensures refused { IfErr result (RefusesSnapshot self.now.state question) }
     {
-        let _ = &self.recorder;
+        let _ = &self.recorder; // for the proof
         snapshot_of::<Brand>(self, question, Blank::new(1))
     }
 
-    /// The same, with a count of the events that are copied: at most 4,096, however many there are.
-    /// The others are shared.
+    /// Returns a snapshot like `snapshot`, and adds the number of copied events to `copies`: at most
+    /// 4,096. Full segments are shared.
     ///
     /// # Errors
     ///
-    /// Those of `snapshot`.
+    /// As of `snapshot`.
     pub fn snapshot_counted<L: Ledger>(
         &self,
         question: u32,
@@ -47,7 +48,7 @@ impl Book {
         ensures refused { IfErr result (RefusesSnapshot self.now.state question) }
         ensures copies { copies.new ≤ copies.old + 4096 }
     {
-        let Some(asked) = self.asked(question) else {
+        let Some(asked) = self.question(question) else {
             return Err(Refusal::NoSuchQuestion);
         };
         match self
@@ -60,7 +61,7 @@ impl Book {
     }
 }
 
-/// The snapshot of a question, with a count of its own.
+/// Returns the snapshot of a question, with a new count.
 fn snapshot_of<L: Ledger>(
     book: &Book,
     question: u32,

@@ -1,4 +1,4 @@
-//! A request in two parts: what may be refused, and what takes no memory.
+//! Requests in two phases: prepare, which may fail, and commit, which does not allocate.
 
 ghost use Rattle.std.specs.Prelude.{◌≡◌, IfErr, IfOk};
 ghost use Rattle.trace_model.specs.Protocol.Machine as machine;
@@ -8,21 +8,21 @@ ghost use Rattle.sequencer.specs.Book.{IsPrepared, IsRefusal, Refuses, request_o
 ghost use Rattle.sequencer.specs.Called.{IsSingle, StepsOrMemory, WantsRightly};
 ghost use Rattle.sequencer.specs.Printing.{printing};
 
-use crate::asked::Asked;
 use crate::book::Book;
+use crate::question_state::QuestionState;
 use std::marker::Model;
 use trace_model::{Event, Place, Refusal, Reply, Request};
 
-/// What a step does: it adds an event or a question, or tells of the question with this number.
+/// The change of a prepared request: a new event, a new question, or none.
 #[derive(Drop)]
 pub enum Change {
     Accept(Event),
-    Open(Asked),
-    Tell(u32),
-    Show(u32),
+    Open(QuestionState),
+    ReadAnswer(u32),
+    ReadStatus(u32),
 }
 
-/// A request that was tested and has its room, with the reply that it will get.
+/// A request that was checked and has its memory reserved, with its reply.
 #[derive(Drop)]
 pub struct Step {
     change: Change,
@@ -38,7 +38,7 @@ impl Model for Step {
 }
 
 impl Step {
-    /// The reply that the commit will give. It takes no memory.
+    /// Returns the reply that `commit` will give. Does not allocate.
     pub fn reply(&self) -> &Reply
         ensures { result.now ≡ self.now.reply }
     {
@@ -47,13 +47,13 @@ impl Step {
 }
 
 impl Book {
-    /// Tests a request, which must be no batch, and makes every growth for it. What a reply shows
-    /// is unchanged.
+    /// Checks a request, which must not be a batch, and makes every allocation for it. The state does
+    /// not change.
     ///
     /// # Errors
     ///
-    /// The reply that refuses the request. `NoMemory` comes after all tests passed, and only where
-    /// an event or a question would be added or a report printed.
+    /// The reply that refuses the request. It is `NoMemory` only if all checks passed, an allocation
+    /// failed, and the request would add an event or a question or print a report.
     pub fn prepare(&mut self, request: &Request) -> Result<Step, Reply>
         requires { IsSingle request.now }
         ensures shown { self.new.state ≡ self.old.state }
@@ -78,12 +78,12 @@ impl Book {
         ensures refused { IfErr result (Refuses self.old.state (requests.Offer event)) }
         ensures refusal { IfErr result (IsRefusal self.old.state (requests.Offer event)) }
     {
-        if let Err(refusal) = self.admit(&event) {
+        if let Err(refusal) = self.reserve_event(&event) {
             return Err(Reply::Refused(refusal));
         }
         Ok(Step {
             change: Change::Accept(event),
-            reply: Reply::Placed(Place::new(self.length())),
+            reply: Reply::Placed(Place::new(self.accepted())),
         })
     }
 
@@ -94,9 +94,9 @@ impl Book {
         ensures refused { IfErr result (Refuses self.old.state (requests.Ask bound)) }
         ensures refusal { IfErr result (IsRefusal self.old.state (requests.Ask bound)) }
     {
-        match self.open(bound) {
+        match self.reserve_question(bound) {
             Ok(asked) => {
-                let reply = self.opens(&asked).reply();
+                let reply = self.preview(&asked).reply();
                 Ok(Step {
                     change: Change::Open(asked),
                     reply,
@@ -114,7 +114,7 @@ impl Book {
     {
         match self.answer(question) {
             Ok(told) => Ok(Step {
-                change: Change::Tell(question),
+                change: Change::ReadAnswer(question),
                 reply: told.reply(question),
             }),
             Err(refused) => Err(Reply::Refused(refused.refusal())),
@@ -131,12 +131,12 @@ impl Book {
             return Err(Reply::Refused(Refusal::NoSuchQuestion));
         };
         Ok(Step {
-            change: Change::Show(question),
+            change: Change::ReadStatus(question),
             reply: Reply::Status(status),
         })
     }
 
-    /// Takes the step, which must have been prepared on this book as it is. It takes no memory.
+    /// Carries out a step that was prepared on this state, and returns its reply. Does not allocate.
     pub fn commit(&mut self, planned: Step) -> Reply
         requires { IsPrepared self.old planned }
         ensures { machine.step printing self.old.state (request_of planned.change) ≡
@@ -144,16 +144,15 @@ impl Book {
     {
         let Step { change, reply } = planned;
         match change {
-            Change::Accept(event) => self.accept(&event),
-            Change::Open(asked) => self.add(asked),
-            Change::Tell(_) | Change::Show(_) => {}
+            Change::Accept(event) => self.record_event(&event),
+            Change::Open(asked) => self.record_question(asked),
+            Change::ReadAnswer(_) | Change::ReadStatus(_) => {}
         }
         reply
     }
 
-    /// The reply to a request: a batch is offered, any other request is prepared and committed.
-    /// `Refusal::NoMemory` is told where a growth was refused: nothing has changed then, but for
-    /// the events of a batch that came in before.
+    /// Answers a request: offers a batch; prepares and commits any other request. If an allocation
+    /// fails the reply is `NoMemory`, and nothing changes except for the accepted events of a batch.
     pub fn call(&mut self, request: &Request) -> Reply
         ensures steps { StepsOrMemory self.old.state request.now result self.new.state }
         ensures wanting { WantsRightly self.old.state request.now result }

@@ -1,4 +1,4 @@
--- What the loop that answers all that a reader has keeps.
+-- The invariant of the loop that answers the requests of a reader.
 use Rattle.std.proofs.Common.{◌≡◌, ℕ, ◌<◌, Bool, List, [], ◌∷◌, ◌++◌, length, take, drop, Option, Some, None, Ok, Err, refl, sym, ap, subst, ◌∙◌, append_assoc, arith, length-append}
 use Rattle.std.specs.Io.KnownBytes.{Appends}
 use Rattle.std.proofs.lemmas.List.{append-nil, take-append-drop, map-append}
@@ -24,7 +24,7 @@ frames_push calls request reply = flat_map-append (λ (c : Call). reply_frame c.
 called_push : (calls : List Call) (request : Request) (reply : Reply) (more : List Request) → requests_called (calls ++ (request, reply) ∷ []) ++ more ≡ requests_called calls ++ (request ∷ more)
 called_push calls request reply more = ap (λ (x : List Request). x ++ more) (map-append (λ (c : Call). c.0) calls ((request, reply) ∷ [])) ∙ append_assoc (requests_called calls) (request ∷ []) more
 
--- what was called and what is left are all, and what was called is answered
+-- the called and the remaining requests are all requests, and the called ones are answered
 pub record IsAnswering {C : Type 0} (steps : C → Request → Reply → C → Type 0) (calls : C) (reader : Reading) (written : Option (List ℕ)) (failures : ℕ) (now : C) (left : Reading) (out : Option (List ℕ)) (counted : ℕ) : Type 0 where
   pub fresh : List Call
   pub chain : Chain steps calls fresh now
@@ -39,7 +39,7 @@ pub record IsAnswering {C : Type 0} (steps : C → Request → Reply → C → T
 pub begins : {C : Type 0} (steps : C → Request → Reply → C → Type 0) (calls : C) (reader : Reading) (written : Option (List ℕ)) (failures : ℕ) → reader.told ≡ None → IsAnswering steps calls reader written failures calls reader written failures
 begins steps calls reader written failures e = record { fresh = []; chain = refl; called = refl; put = put_none written; same = refl; untold = e; ended = refl; fault = refl; read = λ text given h. (given, h) }
 
--- the first request of what is left, and the rest
+-- the first remaining request, and the rest
 record IsNext (left : Reading) (request : Request) (after : Reading) : Type 0 where
   requests : requests_in left.rest ≡ request ∷ requests_in after.rest
   fault : fault_in left.rest left.ended ≡ fault_in after.rest left.ended
@@ -142,7 +142,7 @@ broken_fault steps calls reader written failures now left out counted fault afte
       put = put_then written out longer (frames_of d.fresh) (take n f) d.put p;
     }
 
--- a request takes bytes
+-- a request frame is not empty
 pub frame_positive : (text : List ℕ) (request : Request) (rest : List ℕ) → text ≡ frame request ++ rest → length rest < length text
 unfolding frame
 frame_positive text request rest e = subst (λ (t : List ℕ). length rest < length t) (sym e) (omega (arith, length-append (frame request) rest))

@@ -1,4 +1,4 @@
--- Where a fault stands in a text.
+-- The fault of a text.
 use Rattle.std.proofs.Common.{◌≡◌, ℕ, zero, suc, ◌/◌, ◌≤◌, eqb, drop, Bool, true, false, List, [], ◌∷◌, ◌++◌, length, Option, Some, None, refl, sym, arith}
 use Rattle.std.specs.Prelude.{cond}
 use Rattle.std.specs.Option.{option_or}
@@ -40,7 +40,7 @@ events_uncut n (count ∷ cells) e = either_cut (eqb count n) _ _ (cells_uncut n
 fields_uncut : (kind len : ℕ) (fields : List ℕ) → IsCut (fields_fault kind len fields) → ⊥
 fields_uncut kind len fields e = either_cut (eqb kind 10) _ _ (events_uncut (len / 9) fields) none_uncut e
 
--- what bytes show whatever follows them is no cut
+-- a fault that does not depend on what follows is not a truncation
 header_uncut : (rest : List ℕ) → IsCut (header_fault rest) → ⊥
 unfolding header_fault
 header_uncut [] e = none_uncut e
@@ -49,13 +49,13 @@ header_uncut (high ∷ low ∷ []) e = either_cut _ _ _ length_uncut none_uncut 
 header_uncut (high ∷ low ∷ kind ∷ fields) e =
     either_cut _ _ _ length_uncut (either_cut _ _ _ kind_uncut (either_cut _ _ _ length_uncut (fields_uncut kind _ fields))) e
 
--- a fault other than a cut stands before the end too
+-- a fault other than a truncation exists before the end too
 before_end : (o : Option Fault) (rest : List ℕ) (fault : Fault) → (fault ≡ Truncated → ⊥) → option_or o (cut_fault rest true) ≡ Some fault → option_or o (cut_fault rest false) ≡ Some fault
 before_end (Some shown) rest fault other e = e
 before_end None [] fault other e = e
 before_end None (byte ∷ rest) fault other e = absurd (other (cc e))
 
--- before the end no text is cut
+-- no text is truncated before its end
 not_cut : (o : Option Fault) (rest : List ℕ) → (IsCut o → ⊥) → IsCut (option_or o (cut_fault rest false)) → ⊥
 not_cut (Some shown) rest other e = other e
 not_cut None [] other e = absurd cc

@@ -4,8 +4,3 @@ pub mod Answering
 pub mod Faults
 pub mod SessionTurns
 pub mod Machines
-pub mod Drained
-pub mod Sent
-pub mod Taken
-pub mod Runs
-pub mod Exact

@@ -1,4 +1,4 @@
--- Bytes that are written or read one part after another.
+-- Bytes that are written or read in parts.
 use Rattle.std.proofs.Common.{◌≡◌, ℕ, ◌+◌, ◌-◌, ◌≤◌, List, [], ◌++◌, length, take, drop, Option, None, Some, refl, sym, ap, subst, ◌∙◌, append_assoc, arith}
 use Rattle.std.specs.Io.KnownBytes.{Consumes, Appends, Keeps, append_known}
 use Rattle.std.proofs.lemmas.List.{append-nil, take_all, length-drop, drop-take, take-append-drop}
@@ -68,7 +68,7 @@ nothing_put None new p = tt
 nothing_put (Some front) None p = absurd p
 nothing_put (Some front) (Some back) p = p ∙ append-nil front
 
--- so many of the bytes are written
+-- this number of bytes is written
 pub record IsPut (old now : Option (List ℕ)) (failures failures' : ℕ) (bytes : List ℕ) (n : ℕ) : Type 0 where
   pub within : n ≤ length bytes
   pub put : Appends old now (take n bytes)

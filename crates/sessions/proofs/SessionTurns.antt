@@ -1,4 +1,4 @@
--- What the loop of a session keeps.
+-- The invariant of the loop of a session.
 use Rattle.std.proofs.Common.{◌≡◌, ℕ, ◌<◌, ◌≤◌, Bool, true, false, List, [], ◌∷◌, ◌++◌, length, Option, Some, None, Result, Ok, Err, IfOk, IfErr, refl, sym, ap, subst, ◌∙◌, append_assoc}
 use Rattle.std.specs.Io.KnownBytes.{Consumes, Appends, Keeps, IsAtEnd}
 use Rattle.std.specs.Option.{option_to_list}
@@ -35,13 +35,13 @@ not_ended_at left ended n e = let both : true ≡ false = sym e ∙ n in absurd 
 
 -- ---- faults are counted
 
--- what came of sending the last bytes, where none failed before
+-- the outcome of sending the last bytes, if nothing failed before
 pub counted_end : (result : Result Ended ServeFault) (reads reads' writes before writes' : ℕ) → before ≡ writes → IfErr result (λ fault. (fault ≡ Write) × (before < writes')) → Counts result reads reads' writes writes'
 counted_end (Ok ended) reads reads' writes before writes' same h = tt
 counted_end (Err fault) reads reads' writes before writes' same h =
     subst (λ (f : ServeFault). Counts (Err f) reads reads' writes writes') (sym h.0) (subst (λ n. n < writes') same h.1)
 
--- what broke an answer off, where none failed before
+-- the fault that broke an answer off, if nothing failed before
 pub counted_broken : (fault : ServeFault) (reads reads' writes before writes' : ℕ) → before ≡ writes → IsCounted fault before writes' → Counts (Err fault) reads reads' writes writes'
 counted_broken Read reads reads' writes before writes' same h = absurd h
 counted_broken Write reads reads' writes before writes' same h = subst (λ n. n < writes') same h
@@ -49,7 +49,7 @@ counted_broken Memory reads reads' writes before writes' same h = tt
 
 -- ---- between two reads
 
--- all that was read is answered so far, and has no fault
+-- all requests read so far are answered, and there is no fault
 pub record IsServing {C : Type 0} (steps : C → Request → Reply → C → Type 0) (left written : Option (List ℕ)) (calls : C) (reads writes : ℕ) (reader : Reading) (left' written' : Option (List ℕ)) (calls' : C) (reads' writes' : ℕ) : Type 0 where
   pub text : List ℕ
   pub took : Consumes left left' text
@@ -70,11 +70,11 @@ serving_starts steps left written calls reads writes reader h t n =
 
 -- ---- what is owed
 
--- all that was called is answered, and a part of what is owed then was written
+-- all calls are answered, and a prefix of what is to be written next was written
 after_all : (done : List Call) (part rest owed : List ℕ) → part ++ rest ≡ owed → AreBegun done (frames_of done ++ part) owed
 after_all done part rest owed e = record { whole = done; last = None; called = sym (append-nil done); part = part; rest = rest; written = refl; goes_on = e }
 
--- what was answered before stands before what is answered now
+-- the earlier answers precede the present ones
 begun_then : (done fresh : List Call) (out owed : List ℕ) → AreBegun fresh out owed → AreBegun (done ++ fresh) (frames_of done ++ out) owed
 begun_then done fresh out owed b = record {
   whole = done ++ b.whole;
@@ -99,7 +99,7 @@ pub end_handed : (text : List ℕ) (given : List Request) (piece : List ℕ) (ol
 end_handed text given piece old v e h t n w = record { read = subst (λ (x : List ℕ). HasRead x given v) (sym (ap (λ (x : List ℕ). text ++ x) e ∙ append-nil text)) (w text given h); untold = ap (λ (x : Reading). x.told) n ∙ t }
 
 module _ {C : Type 0} (steps : C → Request → Reply → C → Type 0) (left written : Option (List ℕ)) (calls : C) (reads writes : ℕ) (reader : Reading) (left' written' : Option (List ℕ)) (calls' : C) (reads' writes' : ℕ) (s : IsServing steps left written calls reads writes reader left' written' calls' reads' writes') where
-  -- what was written is sent
+  -- the written bytes are sent
   pub sent_on : (written'' : Option (List ℕ)) (writes'' : ℕ) → Keeps written' written'' → writes'' ≡ writes' → IsServing steps left written calls reads writes reader left' written'' calls' reads' writes''
   sent_on written'' writes'' k w = record {
     text = s.text;
@@ -163,7 +163,7 @@ module _ {C : Type 0} (steps : C → Request → Reply → C → Type 0) (left w
         went = b;
       }
 
-  -- what was done before and now
+  -- the earlier and the present calls
   pub record IsAnsweredBy (text : List ℕ) (ended : Bool) (fault : Option Fault) (written'' : Option (List ℕ)) (calls'' : C) : Type 0 where
     pub done : List Call
     pub chain : Chain steps calls done calls''
@@ -182,7 +182,7 @@ module _ {C : Type 0} (steps : C → Request → Reply → C → Type 0) (left w
         put = subst (λ (x : List ℕ). Appends written written'' x) (sym (append_assoc (frames_of s.done) (frames_of a.fresh) (fault_frames fault)) ∙ ap (λ (x : List ℕ). x ++ fault_frames fault) (sym (frames_then s.done a.fresh))) (put_then written written' written'' (frames_of s.done) (frames_of a.fresh ++ fault_frames fault) s.put a.put);
       }
 
-  -- what is left to do once all is answered
+  -- what remains once all requests are answered
   all_begun : (text : List ℕ) (left'' : Option (List ℕ)) (ended : Bool) (fault : Option Fault) (written'' : Option (List ℕ)) (calls'' : C) (b : IsAnsweredBy text ended fault written'' calls'') → EndsOnlyAt ended left'' → Begins text left'' b.done (frames_of b.done ++ fault_frames fault)
   all_begun text left'' ended fault written'' calls'' b at = record {
     more = [];
@@ -192,7 +192,7 @@ module _ {C : Type 0} (steps : C → Request → Reply → C → Type 0) (left w
     begun = after_all b.done (fault_frames fault) [] (fault_frames (fault_in text ended)) (append-nil (fault_frames fault) ∙ ap fault_frames (sym b.stands));
   }
 
-  -- what came of sending the last bytes
+  -- the outcome of sending the last bytes
   pub record IsConcluded (ended : Ended) (result : Result Ended ServeFault) (sent written'' written''' : Option (List ℕ)) (m n : ℕ) : Type 0 where
     pub kept : Keeps written'' written'''
     pub ok : IfOk result (λ e. (e ≡ ended) × (sent ≡ written'''))

@@ -1,4 +1,4 @@
--- How a book answers a session.
+-- A session over a book (this project's profile).
 use Rattle.std.specs.Prelude.{◌≡◌, ℕ, false, List, Option, Result}
 use Rattle.std.specs.List.{All}
 use Rattle.trace_model.specs.Protocol.Machine.{State}
@@ -8,17 +8,17 @@ use Rattle.sessions.specs.Serving.{Call, requests_called, frames_of, Standing, S
 use Rattle.sessions.specs.declared.serving.Ended.{Ended}
 use Rattle.sessions.specs.declared.serving.ServeFault.{ServeFault}
 
--- no reply tells a want of memory
+-- no reply reports a failed allocation
 abbrev pub NoneLacksMemory : List Call → Type 0
 NoneLacksMemory calls = All (λ (call : Call). lacks_memory call.1 ≡ false) calls
 
--- the calls are those of the machine: its state after them, and the frames of its replies
+-- the calls are the machine's: its state after them, and its reply frames
 abbrev pub AreMachines : State → List Call → State → Type 0
 AreMachines old calls new =
     NoneLacksMemory calls → (new ≡ state_called old (requests_called calls))
     × (frames_of calls ≡ answer_to old (requests_called calls))
 
--- A text was read, its requests were called one after the other, and the machine's replies written.
+-- A text was read, its requests were called in order, and the machine's replies were written.
 pub record ServedByMachine (old new : Standing State) (sent : Option (List ℕ))
     (result : Result Ended ServeFault) : Type 0 where
   pub served : Served StepsOrMemory old new sent result

@@ -1,13 +1,13 @@
--- What a sink buffers.
+-- The buffer of a sink (this project's profile).
 use Rattle.std.specs.Prelude.{ℕ, List, take, drop, Option, Some, None, refl}
 use Rattle.std.specs.Io.KnownBytes.{append_known}
 use Rattle.sessions.specs.Serving.{IsBeginning}
 
--- the bytes of the buffer between these places
+-- the buffered bytes between two indices
 abbrev pub pending : List ℕ → ℕ → ℕ → List ℕ
 pending buffer start end = drop start (take end buffer)
 
--- what the writer has is a beginning of all that the sink took
+-- the bytes of the writer are a prefix of all bytes that the sink took
 pub sent_begins : (known : Option (List ℕ)) (held : List ℕ) →
     IsBeginning known (append_known known held)
 sent_begins None held = tt

@@ -1,4 +1,4 @@
--- What a session does to its ends.
+-- What a session reads, calls and writes (this project's profile).
 use Rattle.std.specs.Prelude.{◌≡◌, ℕ, ◌<◌, ◌≤◌, Bool, true, false, List, [], ◌∷◌, ◌++◌, length, map, Option, None, Some, Result, Ok, Err, option_to_list}
 use Rattle.std.specs.List.{flat_map}
 use Rattle.std.specs.Io.KnownBytes.{Consumes, Appends, IsAtEnd}
@@ -16,7 +16,7 @@ use Rattle.sessions.specs.declared.serving.ServeFault.{ServeFault}
 use Rattle.sessions.specs.declared.serving.ServeFault.TheVariants.{Read, Write, Memory}
 use Rattle.event_frames.specs.Reader.{Reading, HasRead}
 
--- the known bytes are a beginning of the others
+-- if both lists are known, the first is a prefix of the second
 abbrev pub IsBeginning : Option (List ℕ) → Option (List ℕ) → Type 0
 IsBeginning None whole = Unit {0}
 IsBeginning (Some front) None = ⊥
@@ -28,7 +28,7 @@ IsBeginning (Some front) (Some whole) = (rest : List ℕ) × (front ++ rest ≡ 
 abbrev pub Call : Type 0
 Call = Request × Reply
 
--- these calls lead from one state to the other, one after the other
+-- the calls, in order, lead from one state to the other
 abbrev pub Chain : {C : Type 0} → (C → Request → Reply → C → Type 0) → C → List Call → C → Type 0
 Chain steps old [] new = new ≡ old
 Chain {C} steps old (call ∷ calls) new = (mid : C)
@@ -44,19 +44,19 @@ abbrev pub fault_frames : Option Fault → List ℕ
 fault_frames None = []
 fault_frames (Some fault) = reply_frame (FaultReply fault)
 
--- the fault is owed once no request is left
+-- the fault is to be written once no request is left
 abbrev pub owed_fault : List Request → Option Fault → List ℕ
 owed_fault [] fault = fault_frames fault
 owed_fault (request ∷ requests) fault = []
 
 -- ---- a whole session
 
--- each request of the text was called
+-- exactly the requests of the text were called
 abbrev pub CallsAll : List ℕ → List Call → Type 0
 CallsAll text done = requests_called done ≡ requests_in text
 
--- Of the calls that these bytes answer, each but the last has its reply written whole; then comes a
--- part of what is owed next: the reply to the last call, and the fault if no request is left.
+-- All replies except the last are written whole. The rest of `out` is a prefix of what is to be
+-- written next: the last reply, and the fault if no request is left.
 pub record AreBegun (done : List Call) (out owed : List ℕ) : Type 0 where
   pub whole : List Call
   pub last : Option Call
@@ -66,11 +66,11 @@ pub record AreBegun (done : List Call) (out owed : List ℕ) : Type 0 where
   pub written : out ≡ frames_of whole ++ part
   pub goes_on : part ++ rest ≡ frames_of (option_to_list last) ++ owed
 
--- the text counts as ended only where nothing is left to read
+-- the text has ended only if nothing is left to read
 abbrev pub EndsOnlyAt : Bool → Option (List ℕ) → Type 0
 EndsOnlyAt ended left = ended ≡ true → IsAtEnd left
 
--- The calls and what was written are a beginning of what the text asks for.
+-- The calls and the written bytes are prefixes of what the text asks for.
 pub record Begins (text : List ℕ) (left : Option (List ℕ)) (done : List Call)
     (out : List ℕ) : Type 0 where
   pub more : List Request
@@ -79,15 +79,15 @@ pub record Begins (text : List ℕ) (left : Option (List ℕ)) (done : List Call
   pub at_end : EndsOnlyAt ended left
   pub begun : AreBegun done out (owed_fault more (fault_in text ended))
 
--- the fault stands in the text: a cut frame where nothing is left to read, any other whatever comes
--- next
+-- the text has this fault: a truncated frame only at the end of the input, any other fault
+-- regardless of what follows
 abbrev pub StandsIn : List ℕ → Option (List ℕ) → Fault → Type 0
 StandsIn text left Truncated = (fault_in text true ≡ Some Truncated) × IsAtEnd left
 StandsIn text left BadKind = fault_in text false ≡ Some BadKind
 StandsIn text left BadLength = fault_in text false ≡ Some BadLength
 StandsIn text left BadBatch = fault_in text false ≡ Some BadBatch
 
--- no fault stands in what was read before the last piece
+-- the text before the last piece has no fault
 pub record StopsAtFault (text : List ℕ) : Type 0 where
   pub before : List ℕ
   pub last : List ℕ
@@ -95,8 +95,8 @@ pub record StopsAtFault (text : List ℕ) : Type 0 where
   pub short : length last ≤ PIECE
   pub sound : fault_in before false ≡ None
 
--- how a session may end, by the text that was read, what is left to read, the calls and what was
--- written
+-- how a session ends: the text that was read, the bytes left to read, the calls, and the written
+-- bytes
 abbrev pub EndsAs : Result Ended ServeFault → List ℕ → Option (List ℕ) → List Call → List ℕ → Type 0
 EndsAs (Ok Input) text left done out = CallsAll text done × (fault_in text true ≡ None)
     × IsAtEnd left × (out ≡ frames_of done)
@@ -107,15 +107,15 @@ EndsAs (Err Read) text left done out = CallsAll text done × (fault_in text fals
 EndsAs (Err Write) text left done out = Begins text left done out
 EndsAs (Err Memory) text left done out = Begins text left done out
 
--- all that was written went out, or a beginning of it where the session broke off
+-- all written bytes were sent, or a prefix of them if the session broke off
 abbrev pub WentOut : Result Ended ServeFault → Option (List ℕ) → Option (List ℕ) → Type 0
 WentOut (Ok ended) sent written = sent ≡ written
 WentOut (Err Read) sent written = sent ≡ written
 WentOut (Err Write) sent written = IsBeginning sent written
 WentOut (Err Memory) sent written = IsBeginning sent written
 
--- a session at its begin or its end: what is left to read, what was written, and how its calls
--- stand
+-- a session at its begin or end: the bytes left to read, the written bytes, and the state of the
+-- calls
 pub record Standing (C : Type 0) : Type 0 where
   pub left : Option (List ℕ)
   pub written : Option (List ℕ)
@@ -124,8 +124,8 @@ pub record Standing (C : Type 0) : Type 0 where
 abbrev pub standing : {C : Type 0} → Option (List ℕ) → Option (List ℕ) → C → Standing C
 standing left written calls = record { left = left; written = written; calls = calls }
 
--- A text was read, up to its first fault; its requests were called one after the other, and their
--- replies written.
+-- A text was read up to its first fault, its requests were called in order, and their replies were
+-- written.
 pub record Served {C : Type 0} (steps : C → Request → Reply → C → Type 0) (old new : Standing C)
     (sent : Option (List ℕ)) (result : Result Ended ServeFault) : Type 0 where
   pub text : List ℕ
@@ -138,7 +138,7 @@ pub record Served {C : Type 0} (steps : C → Request → Reply → C → Type 0
   pub ends : EndsAs result text new.left done out
   pub went : WentOut result sent new.written
 
--- a fault of the source or the sink is answered only where its count rose
+-- a fault of the source or the sink is reported only if its count of failures rose
 abbrev pub Counts : Result Ended ServeFault → ℕ → ℕ → ℕ → ℕ → Type 0
 Counts (Err Read) reads reads' writes writes' = reads < reads'
 Counts (Err Write) reads reads' writes writes' = writes < writes'
@@ -147,7 +147,7 @@ Counts (Ok ended) reads reads' writes writes' = Unit {0}
 
 -- ---- what a reader has
 
--- a session between two reads: how its calls stand, what its reader has, and what was written
+-- a session between two reads: the state of the calls, the frame reader, and the written bytes
 pub record Between (C : Type 0) : Type 0 where
   pub calls : C
   pub reader : Reading
@@ -156,7 +156,7 @@ pub record Between (C : Type 0) : Type 0 where
 abbrev pub between : {C : Type 0} → C → Reading → Option (List ℕ) → Between C
 between calls reader written = record { calls = calls; reader = reader; written = written }
 
--- all that the reader had was called and answered, and then its fault was told
+-- all whole requests of the reader were called and answered, and then its fault was reported
 pub record Answered {C : Type 0} (steps : C → Request → Reply → C → Type 0) (old new : Between C)
     (fault : Option Fault) : Type 0 where
   pub fresh : List Call
@@ -169,7 +169,7 @@ pub record Answered {C : Type 0} (steps : C → Request → Reply → C → Type
   pub read : (text : List ℕ) (given : List Request) → HasRead text given old.reader →
       HasRead text (requests_in text) new.reader
 
--- a beginning of it was called, and a beginning of what was owed for that was written
+-- a prefix of the requests was called, and a prefix of what was to be written for them was written
 pub record Broken {C : Type 0} (steps : C → Request → Reply → C → Type 0) (old : Between C)
     (calls : C) (written : Option (List ℕ)) : Type 0 where
   pub fresh : List Call
@@ -180,7 +180,7 @@ pub record Broken {C : Type 0} (steps : C → Request → Reply → C → Type 0
   pub begun : AreBegun fresh out (owed_fault more (fault_in old.reader.rest old.reader.ended))
   pub put : Appends old.written written out
 
--- A write fault comes only where the count rose; a read fault doesn't come here.
+-- A write fault occurs only if the count of failures rose. A read fault does not occur here.
 abbrev pub IsCounted : ServeFault → ℕ → ℕ → Type 0
 IsCounted Write before after = before < after
 IsCounted Memory before after = Unit {0}

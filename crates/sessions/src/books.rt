@@ -9,12 +9,13 @@ use sequencer::Book;
 use std::alloc::Global;
 use std::sync::Wait;
 
-/// Serves a session over a book: what is written is the replies of the machine to the requests that
-/// were read, in their order, and then the fault if there is one.
+/// Serves a session over a book: what is written is the machine's replies to the requests that were
+/// read, in order, and then the fault if there is one. Part of the public API; not called by the
+/// program.
 ///
 /// # Errors
 ///
-/// Those of `serve`.
+/// As of `serve`.
 pub fn serve_book<R: Wait, S: Source, K: Sink>(
     rt: &R,
     alloc: Global,

@@ -1,10 +1,10 @@
-//! Counts of failures, which always rise.
+//! Counting failures.
 ghost use Rattle.std.specs.Prelude.{◌<◌};
 
 use std::sync::Wait;
 
-/// The count of an end's failures after one more. After 2^64 - 1 failures, which no run lives to
-/// see, it waits for ever.
+/// Returns the count after one more failure. Waits forever after 2^64 - 1 failures, which no run
+/// reaches.
 pub fn count_failure<R: Wait>(rt: &R, failures: u64) -> u64
     ensures { failures < result }
 {

@@ -1,4 +1,4 @@
-//! What a session reads from and writes to.
+//! The two ends of a session: a source of bytes and a sink.
 ghost use Rattle.std.specs.Prelude.{◌≡◌, ◌≤◌, ◌<◌, ℕ, List, [], length, take, Option, IfOk, OnOk, OnErr};
 ghost use Rattle.std.specs.Io.KnownBytes.{Consumes, Appends, Keeps, IsAtEnd};
 ghost use Rattle.sessions.specs.Serving.{IsBeginning};
@@ -9,23 +9,23 @@ use thiserror::Error;
 /// A read or a write failed.
 #[derive(Clone, Copy, Debug, PartialEq, Eq, Error)]
 #[error("a read or a write failed")]
-pub struct Failed;
+pub struct TransferFailed;
 
-/// Where the bytes of a session come from. It counts how often it failed.
+/// A source of bytes, which counts its failures.
 pub trait Source {
-    /// The bytes that are left, where it tells them.
+    /// The bytes left to read, if they are known.
     ghost left: { Self → Option (List ℕ) };
 
-    /// How often it failed.
+    /// The number of failures.
     ghost failures: { Self → ℕ };
 
-    /// Reads some bytes into the buffer, which must not be empty, and answers how many. None are
-    /// read only at the end. It may wait for bytes to come.
+    /// Reads some bytes into the buffer, which must not be empty, and returns their number. It is 0
+    /// only at the end of the input. May wait for bytes.
     ///
     /// # Errors
     ///
-    /// `Failed`. It is counted, and no byte was read.
-    fn read<R: Wait>(&mut self, rt: &R, buffer: &mut [u8]) -> Result<usize, Failed>
+    /// `TransferFailed` if the read fails. The failure is counted, and no byte is consumed.
+    fn read<R: Wait>(&mut self, rt: &R, buffer: &mut [u8]) -> Result<usize, TransferFailed>
         requires { 0 < length buffer.old }
         ensures count { IfOk result (λ n. n ≤ length buffer.new) }
         ensures bytes { IfOk result
@@ -36,24 +36,24 @@ pub trait Source {
         ensures err { OnErr result (Keeps (left self.old) (left self.new)) };
 }
 
-/// Where the bytes of a session go. It may buffer what it took until it is told to send it, and
-/// counts how often it failed.
+/// A sink of bytes, which may buffer them until `send`, and counts its failures.
 pub trait Sink {
-    /// The bytes that it took, where it tells them.
+    /// The bytes that it took, if they are known.
     ghost written: { Self → Option (List ℕ) };
 
-    /// Those of them that went out.
+    /// The bytes that it sent, if they are known.
     ghost sent: { Self → Option (List ℕ) };
 
-    /// How often it failed.
+    /// The number of failures.
     ghost failures: { Self → ℕ };
 
-    /// Takes some of the bytes, of which there must be one, and answers how many. It may wait.
+    /// Takes some of the bytes, at least one, and returns their number. `bytes` must not be empty. May
+    /// wait.
     ///
     /// # Errors
     ///
-    /// `Failed`. It is counted, and none of the bytes was taken.
-    fn write<R: Wait>(&mut self, rt: &R, bytes: &[u8]) -> Result<usize, Failed>
+    /// `TransferFailed` if the write fails. The failure is counted, and no byte is taken.
+    fn write<R: Wait>(&mut self, rt: &R, bytes: &[u8]) -> Result<usize, TransferFailed>
         requires { 0 < length bytes.now }
         ensures count { IfOk result (λ n. n ≤ length bytes.now) }
         ensures some { IfOk result (λ n. 0 < n) }
@@ -63,17 +63,17 @@ pub trait Sink {
         ensures failed { OnErr result (failures self.old < failures self.new) }
         ensures err { OnErr result (Keeps (written self.old) (written self.new)) };
 
-    /// Sends all that it took. It may wait.
+    /// Sends all bytes that it took. May wait.
     ///
     /// # Errors
     ///
-    /// `Failed`. It is counted, and what went out is a beginning of what it took.
-    fn send<R: Wait>(&mut self, rt: &R) -> Result<(), Failed>
+    /// `TransferFailed` if that fails. The failure is counted, and a prefix of the bytes was sent.
+    fn send<R: Wait>(&mut self, rt: &R) -> Result<(), TransferFailed>
         ensures all { OnOk result (sent self.new ≡ written self.new) }
         ensures kept { Keeps (written self.old) (written self.new) }
         ensures ok { OnOk result (failures self.new ≡ failures self.old) }
         ensures failed { OnErr result (failures self.old < failures self.new) };
 
-    /// What went out is a beginning of what it took.
+    /// The sent bytes are a prefix of the bytes that it took.
     ghost begins: { (sink : Self) → IsBeginning (sent sink) (written sink) };
 }

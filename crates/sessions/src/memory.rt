@@ -1,13 +1,13 @@
-//! Ends of a session over memory.
+//! A source and a sink over memory.
 ghost use Rattle.std.specs.Prelude.{◌≡◌, ◌≤◌, ℕ, List, [], drop, Some, vec_len};
 ghost use Rattle.std.proofs.lemmas.List.{append-nil};
 
 use crate::counting::count_failure;
-use crate::ends::{Failed, Sink, Source};
+use crate::ends::{Sink, Source, TransferFailed};
 use std::alloc::Global;
 use std::sync::Wait;
 
-/// Bytes in memory, read to their end. It never fails.
+/// A source of bytes in memory. It never fails.
 #[derive(Drop)]
 pub struct MemorySource {
     bytes: Vec<u8>,
@@ -16,7 +16,7 @@ pub struct MemorySource {
 }
 
 impl MemorySource {
-    /// A source of these bytes.
+    /// Creates a source of these bytes.
     pub fn new(bytes: Vec<u8>) -> MemorySource
         ensures { ⟦<MemorySource as Source>⟧.left result ≡ Some bytes.items }
     {
@@ -29,8 +29,8 @@ impl Source for MemorySource {
 
     ghost failures = { λ _. 0 };
 
-    fn read<R: Wait>(&mut self, rt: &R, buffer: &mut [u8]) -> Result<usize, Failed> {
-        let _ = rt;
+    fn read<R: Wait>(&mut self, rt: &R, buffer: &mut [u8]) -> Result<usize, TransferFailed> {
+        let _ = rt; // for the proof
         let len = buffer.len().min(self.bytes.len() - self.at);
         buffer[..len].copy_from_slice(&self.bytes[self.at..self.at + len]);
         self.at += len;
@@ -38,7 +38,7 @@ impl Source for MemorySource {
     }
 }
 
-/// Keeps in memory what is written. It fails where a growth is refused.
+/// A sink that keeps the written bytes in memory. It fails if an allocation fails.
 #[derive(Drop)]
 pub struct MemorySink {
     bytes: Vec<u8>,
@@ -46,7 +46,7 @@ pub struct MemorySink {
 }
 
 impl MemorySink {
-    /// A sink that took nothing.
+    /// Creates an empty sink.
     pub fn new(alloc: Global) -> MemorySink
         ensures written { ⟦<MemorySink as Sink>⟧.written result ≡ Some [] }
         ensures failures { ⟦<MemorySink as Sink>⟧.failures result ≡ 0 }
@@ -57,7 +57,7 @@ impl MemorySink {
         }
     }
 
-    /// The bytes that were written.
+    /// Returns the written bytes.
     pub fn bytes(&self) -> &[u8]
         ensures { ⟦<MemorySink as Sink>⟧.written self.now ≡ Some result.now }
     {
@@ -72,16 +72,16 @@ impl Sink for MemorySink {
 
     ghost failures = { λ s. s.failures };
 
-    fn write<R: Wait>(&mut self, rt: &R, bytes: &[u8]) -> Result<usize, Failed> {
+    fn write<R: Wait>(&mut self, rt: &R, bytes: &[u8]) -> Result<usize, TransferFailed> {
         if self.bytes.extend_from_slice(bytes).is_err() {
             self.failures = count_failure(rt, self.failures);
-            return Err(Failed);
+            return Err(TransferFailed);
         }
         Ok(bytes.len())
     }
 
-    fn send<R: Wait>(&mut self, rt: &R) -> Result<(), Failed> {
-        let _ = rt;
+    fn send<R: Wait>(&mut self, rt: &R) -> Result<(), TransferFailed> {
+        let _ = rt; // for the proof
         Ok(())
     }
 

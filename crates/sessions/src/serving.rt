@@ -5,7 +5,7 @@ ghost use Rattle.trace_model.specs.Protocol.Replies.{reply_frame, IsReply};
 ghost use Rattle.sessions.specs.Serving.{between, standing, Answered, Broken, IsCounted, Served, Counts};
 ghost use Rattle.sessions.specs.declared.serving.ServeFault.TheVariants.{Write};
 
-use crate::ends::{Failed, Sink, Source};
+use crate::ends::{Sink, Source, TransferFailed};
 use event_frames::{FrameReader, encode_reply};
 use sequencer::Calls;
 use std::alloc::Global;
@@ -13,10 +13,10 @@ use std::sync::Wait;
 use thiserror::Error;
 use trace_model::{Fault, Reply};
 
-/// How many bytes a session reads at a time.
+/// The largest number of bytes of one read.
 const PIECE: usize = 4096;
 
-/// How a session ended: its input did, or with this fault, which was sent.
+/// How a session ended: at the end of its input, or with this fault, which was sent.
 #[derive(Clone, Copy, Debug, PartialEq, Eq)]
 pub enum Ended {
     Input,
@@ -32,13 +32,13 @@ pub enum ServeFault {
     /// The sink failed.
     #[error("a write failed")]
     Write,
-    /// A growth was refused.
+    /// An allocation failed.
     #[error("no memory")]
     Memory,
 }
 
-/// Writes all of the bytes, or a beginning of them.
-fn write_all<R: Wait, K: Sink>(rt: &R, sink: &mut K, bytes: &[u8]) -> Result<(), Failed>
+/// Writes all bytes, or a prefix of them if a write fails.
+fn write_all<R: Wait, K: Sink>(rt: &R, sink: &mut K, bytes: &[u8]) -> Result<(), TransferFailed>
     ensures ok { OnOk result (Appends (K.written sink.old) (K.written sink.new) bytes.now) }
     ensures same { OnOk result (K.failures sink.new ≡ K.failures sink.old) }
     ensures failed { OnErr result (K.failures sink.old < K.failures sink.new) }
@@ -52,7 +52,8 @@ fn write_all<R: Wait, K: Sink>(rt: &R, sink: &mut K, bytes: &[u8]) -> Result<(),
     Ok(())
 }
 
-/// Writes a reply, or a beginning of it. Where there is no memory for it, those before it are sent.
+/// Writes a reply, or a prefix of it if a write fails. If it cannot be allocated, the earlier replies are
+/// sent.
 fn reply_with<R: Wait, K: Sink>(
     rt: &R,
     alloc: Global,
@@ -74,11 +75,11 @@ fn reply_with<R: Wait, K: Sink>(
     };
     match write_all(rt, sink, &bytes) {
         Ok(()) => Ok(()),
-        Err(Failed) => Err(ServeFault::Write),
+        Err(TransferFailed) => Err(ServeFault::Write),
     }
 }
 
-/// Calls for each request that is there, and writes the replies, and the fault if one is there.
+/// Calls each whole request of the reader and writes its reply, and then the fault if there is one.
 /// Each reply is written whole before the next request is called.
 fn answer_all<R: Wait, K: Sink, C: Calls>(
     rt: &R,
@@ -112,7 +113,7 @@ fn answer_all<R: Wait, K: Sink, C: Calls>(
     }
 }
 
-/// Sends what the sink still buffers, at the end of a session.
+/// Sends the bytes that the sink still buffers, at the end of a session.
 fn conclude<R: Wait, K: Sink>(rt: &R, sink: &mut K, ended: Ended) -> Result<Ended, ServeFault>
     ensures kept { Keeps (K.written sink.old) (K.written sink.new) }
     ensures ok { IfOk result (λ e. (e ≡ ended) × (K.sent sink.new ≡ K.written sink.new)) }
@@ -121,22 +122,23 @@ fn conclude<R: Wait, K: Sink>(rt: &R, sink: &mut K, ended: Ended) -> Result<Ende
 {
     match sink.send(rt) {
         Ok(()) => Ok(ended),
-        Err(Failed) => Err(ServeFault::Write),
+        Err(TransferFailed) => Err(ServeFault::Write),
     }
 }
 
-/// Serves a session: reads requests from the source, calls for each in its order, and writes the
-/// replies to the sink, until the input ends or a fault comes, which is written last. Each reply is
-/// written whole before the next request is called, and what the sink buffers is sent before each
-/// read, which may wait. Nothing is read after the piece, of at most 4,096 bytes, in which the
-/// first fault stands; a frame counts as cut only where the source is at its end.
+/// Serves a session: reads requests from the source, calls them in order, and writes the replies to the
+/// sink, until the input ends or has a fault. The fault is written last. Each reply is written whole
+/// before the next request is called. Buffered bytes are sent before each read, which may wait. A read
+/// takes at most 4,096 bytes, and nothing is read after the piece with the first fault. A frame is
+/// truncated only if the source is at its end.
 ///
 /// # Errors
 ///
-/// `Read` or `Write` where that end failed in this call, and `Memory` where a growth was refused.
-/// After `Read` what was read has no fault, and all replies to it were written and sent. After
-/// `Write` or `Memory` a beginning of them was, and at most one request was called whose reply is
-/// not whole. What was called stays so.
+/// Calls that were made are not undone.
+/// - `Read` if the source failed in this call. The bytes read so far have no fault, and all replies to
+///   them were written and sent.
+/// - `Write` if the sink failed in this call, `Memory` if an allocation failed. A prefix of the replies
+///   was written, and at most one request was called whose reply is not whole.
 pub fn serve<R: Wait, S: Source, K: Sink, C: Calls>(
     rt: &R,
     alloc: Global,

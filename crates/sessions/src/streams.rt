@@ -1,18 +1,22 @@
-//! Ends of a session over a reader and a writer.
+//! A source over a reader, and a sink over a writer.
 ghost use Rattle.std.specs.Prelude.{◌≡◌, ◌≤◌, ◌<◌, ◌++◌, length, take, drop, IfOk, OnOk, OnErr};
 ghost use Rattle.std.specs.Io.KnownBytes.{Consumes, Appends, Keeps, IsAtEnd, append_known};
 ghost use Rattle.sessions.specs.Pending.{pending, sent_begins};
 
 use crate::counting::count_failure;
-use crate::ends::{Failed, Sink, Source};
+use crate::ends::{Sink, Source, TransferFailed};
 use std::io::{ErrorKind, Read, Write};
 use std::sync::Wait;
 
-/// How many bytes a sink buffers at most.
+/// The largest number of buffered bytes.
 const BUFFER: usize = 4096;
 
-/// Reads once, and again where that was interrupted.
-fn read_some<R: Wait, I: Read>(rt: &R, reader: &mut I, buffer: &mut [u8]) -> Result<usize, Failed>
+/// Reads once. Tries again if the read was interrupted.
+fn read_some<R: Wait, I: Read>(
+    rt: &R,
+    reader: &mut I,
+    buffer: &mut [u8],
+) -> Result<usize, TransferFailed>
     requires { 0 < length buffer.old }
     ensures count { IfOk result (λ n. n ≤ length buffer.new) }
     ensures bytes { IfOk result
@@ -25,7 +29,7 @@ fn read_some<R: Wait, I: Read>(rt: &R, reader: &mut I, buffer: &mut [u8]) -> Res
             Ok(count) => return Ok(count),
             Err(error) => {
                 if error.kind() != ErrorKind::Interrupted {
-                    return Err(Failed);
+                    return Err(TransferFailed);
                 }
             }
         }
@@ -33,8 +37,12 @@ fn read_some<R: Wait, I: Read>(rt: &R, reader: &mut I, buffer: &mut [u8]) -> Res
     unreachable!()
 }
 
-/// Writes once, and again where that was interrupted. A write that takes nothing fails.
-fn write_some<R: Wait, O: Write>(rt: &R, writer: &mut O, bytes: &[u8]) -> Result<usize, Failed>
+/// Writes once. Tries again if the write was interrupted. A write of 0 bytes is a failure.
+fn write_some<R: Wait, O: Write>(
+    rt: &R,
+    writer: &mut O,
+    bytes: &[u8],
+) -> Result<usize, TransferFailed>
     ensures count { IfOk result (λ n. (0 < n) × (n ≤ length bytes.now)) }
     ensures bytes { IfOk result
         (λ n. Appends (O.contents writer.old) (O.contents writer.new) (take n bytes.now)) }
@@ -44,13 +52,13 @@ fn write_some<R: Wait, O: Write>(rt: &R, writer: &mut O, bytes: &[u8]) -> Result
         match writer.write(bytes) {
             Ok(count) => {
                 if count == 0 {
-                    return Err(Failed);
+                    return Err(TransferFailed);
                 }
                 return Ok(count);
             }
             Err(error) => {
                 if error.kind() != ErrorKind::Interrupted {
-                    return Err(Failed);
+                    return Err(TransferFailed);
                 }
             }
         }
@@ -58,13 +66,13 @@ fn write_some<R: Wait, O: Write>(rt: &R, writer: &mut O, bytes: &[u8]) -> Result
     unreachable!()
 }
 
-/// Writes once of the bytes from `start` on.
+/// Writes once, from the bytes from index `start` on.
 fn write_from<R: Wait, O: Write>(
     rt: &R,
     writer: &mut O,
     bytes: &[u8],
     start: usize,
-) -> Result<usize, Failed>
+) -> Result<usize, TransferFailed>
     requires { start ≤ length bytes.now }
     ensures count { IfOk result (λ n. (0 < n) × (n ≤ length (drop start bytes.now))) }
     ensures bytes { IfOk result
@@ -75,8 +83,8 @@ fn write_from<R: Wait, O: Write>(
     write_some(rt, writer, &bytes[start..])
 }
 
-/// Flushes once, and again where that was interrupted.
-fn flush_all<R: Wait, O: Write>(rt: &R, writer: &mut O) -> Result<(), Failed>
+/// Flushes once. Tries again if the flush was interrupted.
+fn flush_all<R: Wait, O: Write>(rt: &R, writer: &mut O) -> Result<(), TransferFailed>
     ensures { Keeps (O.contents writer.old) (O.contents writer.new) }
 {
     for _ in rt.forever() {
@@ -84,7 +92,7 @@ fn flush_all<R: Wait, O: Write>(rt: &R, writer: &mut O) -> Result<(), Failed>
             Ok(()) => return Ok(()),
             Err(error) => {
                 if error.kind() != ErrorKind::Interrupted {
-                    return Err(Failed);
+                    return Err(TransferFailed);
                 }
             }
         }
@@ -92,8 +100,7 @@ fn flush_all<R: Wait, O: Write>(rt: &R, writer: &mut O) -> Result<(), Failed>
     unreachable!()
 }
 
-/// The bytes that a reader gives. A read that was interrupted is made again; any other failure is
-/// counted.
+/// A source over a reader. An interrupted read is tried again; any other failure is counted.
 #[derive(Drop)]
 pub struct ReadSource<I: Read + Drop> {
     pub(crate) inner: I,
@@ -101,7 +108,7 @@ pub struct ReadSource<I: Read + Drop> {
 }
 
 impl<I: Read + Drop> ReadSource<I> {
-    /// A source of the bytes that the reader gives.
+    /// Creates a source over a reader.
     pub fn new(inner: I) -> ReadSource<I>
         ensures left { ⟦<ReadSource<I> as Source>⟧.left result ≡ I.remaining inner }
         ensures failures { ⟦<ReadSource<I> as Source>⟧.failures result ≡ 0 }
@@ -115,19 +122,19 @@ impl<I: Read + Drop> Source for ReadSource<I> {
 
     ghost failures = { λ s. s.failures };
 
-    fn read<R: Wait>(&mut self, rt: &R, buffer: &mut [u8]) -> Result<usize, Failed> {
+    fn read<R: Wait>(&mut self, rt: &R, buffer: &mut [u8]) -> Result<usize, TransferFailed> {
         match read_some(rt, &mut self.inner, buffer) {
             Ok(count) => Ok(count),
-            Err(Failed) => {
+            Err(TransferFailed) => {
                 self.failures = count_failure(rt, self.failures);
-                Err(Failed)
+                Err(TransferFailed)
             }
         }
     }
 }
 
-/// Bytes for a writer, of which up to 4,096 are buffered until they are sent. A write that was
-/// interrupted is made again; any other failure is counted, and so is a write that takes nothing.
+/// A sink over a writer, which buffers up to 4,096 bytes. An interrupted write is tried again; any other
+/// failure is counted, and so is a write of 0 bytes.
 #[derive(Drop)]
 pub struct WriteSink<O: Write + Drop> {
     pub(crate) inner: O,
@@ -140,7 +147,7 @@ pub struct WriteSink<O: Write + Drop> {
 }
 
 impl<O: Write + Drop> WriteSink<O> {
-    /// A sink that hands what it takes to the writer.
+    /// Creates a sink over a writer.
     pub fn new(inner: O) -> WriteSink<O>
         ensures written { Keeps (O.contents inner) (⟦<WriteSink<O> as Sink>⟧.written result) }
         ensures sent { ⟦<WriteSink<O> as Sink>⟧.sent result ≡ O.contents inner }
@@ -155,8 +162,8 @@ impl<O: Write + Drop> WriteSink<O> {
         }
     }
 
-    /// Hands some of the buffered bytes to the writer.
-    fn hand_on<R: Wait>(&mut self, rt: &R) -> Result<(), Failed>
+    /// Writes some of the buffered bytes.
+    fn hand_on<R: Wait>(&mut self, rt: &R) -> Result<(), TransferFailed>
         requires { self.old.start < self.old.end }
         ensures kept { Keeps (append_known (O.contents self.old.inner)
             (pending self.old.buffer self.old.start self.old.end))
@@ -172,15 +179,15 @@ impl<O: Write + Drop> WriteSink<O> {
                 self.start += count;
                 Ok(())
             }
-            Err(Failed) => {
+            Err(TransferFailed) => {
                 self.failures = count_failure(rt, self.failures);
-                Err(Failed)
+                Err(TransferFailed)
             }
         }
     }
 
-    /// Hands all buffered bytes to the writer.
-    fn empty<R: Wait>(&mut self, rt: &R) -> Result<(), Failed>
+    /// Writes all buffered bytes.
+    fn empty<R: Wait>(&mut self, rt: &R) -> Result<(), TransferFailed>
         ensures kept { Keeps (append_known (O.contents self.old.inner)
             (pending self.old.buffer self.old.start self.old.end))
             (append_known (O.contents self.new.inner)
@@ -197,8 +204,8 @@ impl<O: Write + Drop> WriteSink<O> {
         Ok(())
     }
 
-    /// Sees that a byte more can be buffered.
-    fn make_room<R: Wait>(&mut self, rt: &R) -> Result<(), Failed>
+    /// Ensures that the buffer is not full.
+    fn make_room<R: Wait>(&mut self, rt: &R) -> Result<(), TransferFailed>
         ensures kept { Keeps (append_known (O.contents self.old.inner)
             (pending self.old.buffer self.old.start self.old.end))
             (append_known (O.contents self.new.inner)
@@ -212,7 +219,7 @@ impl<O: Write + Drop> WriteSink<O> {
         self.empty(rt)
     }
 
-    /// Holds as many of the bytes as it can.
+    /// Buffers as many of the bytes as fit, and returns their number.
     fn buffer_some(&mut self, bytes: &[u8]) -> usize
         requires room { self.old.end < 4096 }
         requires some { 0 < length bytes.now }
@@ -236,18 +243,18 @@ impl<O: Write + Drop> Sink for WriteSink<O> {
 
     ghost failures = { λ s. s.failures };
 
-    fn write<R: Wait>(&mut self, rt: &R, bytes: &[u8]) -> Result<usize, Failed> {
+    fn write<R: Wait>(&mut self, rt: &R, bytes: &[u8]) -> Result<usize, TransferFailed> {
         self.make_room(rt)?;
         Ok(self.buffer_some(bytes))
     }
 
-    fn send<R: Wait>(&mut self, rt: &R) -> Result<(), Failed> {
+    fn send<R: Wait>(&mut self, rt: &R) -> Result<(), TransferFailed> {
         self.empty(rt)?;
         match flush_all(rt, &mut self.inner) {
             Ok(()) => Ok(()),
-            Err(Failed) => {
+            Err(TransferFailed) => {
                 self.failures = count_failure(rt, self.failures);
-                Err(Failed)
+                Err(TransferFailed)
             }
         }
     }

@@ -11,8 +11,8 @@ use std::marker::Model;
 use std::sync::Arc;
 use trace_model::Bound;
 
-/// The rows of a task of a question, exactly those of the snapshot's events: its type says so,
-/// whoever made it.
+/// The rows of one task of a question. They are exactly the rows of the snapshot's events, the
+/// bound and the task: each value of this type has this property.
 pub struct Finding {
     snapshot: Arc<Snapshot, Global>,
     question: u32,
@@ -51,9 +51,9 @@ impl Model for Finding {
 }
 
 impl Finding {
-    /// The finding of a task whose rows these are. It takes no memory.
+    /// Returns the finding of a task with these rows. Does not allocate.
     ///
-    /// The caller owes exactly the rows of the snapshot's events, the bound and the task.
+    /// The caller passes exactly the rows of the snapshot's events, the bound and the task.
     pub fn of(
         snapshot: Arc<Snapshot, Global>,
         question: u32,
@@ -79,36 +79,35 @@ impl Finding {
         }
     }
 
-    /// The number of the question that it was computed for. It takes no memory, and neither do the
-    /// others.
+    /// Returns the number of the question. Does not allocate.
     pub fn question(&self) -> u32
         ensures { result ≡ self.now.question }
     {
         self.question
     }
 
-    /// The bound that it was computed for.
+    /// Returns the bound of the question. Does not allocate.
     pub fn bound(&self) -> Bound
         ensures { result ≡ self.now.bound }
     {
         self.bound
     }
 
-    /// The task that it was computed for.
+    /// Returns the number of the task. Does not allocate.
     pub fn task(&self) -> u32
         ensures { result ≡ self.now.task }
     {
         self.task
     }
 
-    /// The snapshot that it was computed from.
+    /// Returns the snapshot from which the rows were computed. Does not allocate.
     pub fn snapshot(&self) -> &Snapshot
         ensures { result.now ≡ self.now.events }
     {
         &self.snapshot
     }
 
-    /// Its rows: exactly those of its events, bound and task.
+    /// Returns the rows: exactly those of the events, the bound and the task. Does not allocate.
     pub fn rows(&self) -> &[Row]
         ensures rows { result.now ≡ self.now.rows }
         ensures exact { AreRowsOf self.now.events self.now.bound self.now.task self.now.rows }
@@ -116,7 +115,7 @@ impl Finding {
         self.rows.as_slice()
     }
 
-    /// Its rows, by value.
+    /// Returns the rows by value. Does not allocate.
     pub fn into_rows(self) -> Vec<Row>
         ensures rows { result.items ≡ self.rows }
         ensures exact { AreRowsOf self.events self.bound self.task self.rows }

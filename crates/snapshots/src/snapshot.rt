@@ -1,4 +1,4 @@
-//! A snapshot of a trace, as a question has it.
+//! A trace with its tables.
 
 ghost use Rattle.std.specs.Prelude.{◌≡◌, ◌≤◌, length, slice_get, IfOk, MatchResult};
 ghost use Rattle.std.specs.Result.{IsErr};
@@ -20,7 +20,10 @@ use std::thread::{Threads, join};
 use trace_index::TraceIndex;
 use trace_model::{Event, NoMemory, Place};
 
-/// The snapshot of the index's trace, whose tables are given, unless either was refused.
+/// Returns the snapshot of the index's trace with these tables.
+///
+/// # Errors
+/// `NoMemory` if the index or the tables could not be allocated.
 fn assembled(
     state: RandomState,
     parts: Result<LockParts, NoMemory>,
@@ -44,7 +47,7 @@ fn assembled(
     }
 }
 
-/// A well-formed trace with its index, its dependencies and their graph, which agree by its type.
+/// A well-formed trace with its index, its dependencies and their graph, which agree by type.
 /// Contracts see it as the trace.
 pub struct Snapshot {
     state: RandomState,
@@ -77,12 +80,11 @@ impl Model for Snapshot {
 }
 
 impl Snapshot {
-    /// The snapshot of a well-formed trace, made in one pass over its events for the index and one
-    /// for the tables, side by side.
+    /// Builds the snapshot of a well-formed trace. One thread builds the index, another the tables;
+    /// each makes one pass over the events.
     ///
     /// # Errors
-    ///
-    /// `NoMemory` where a growth was refused.
+    /// `NoMemory` if an allocation fails.
     pub fn build<R: Threads>(
         rt: &R,
         alloc: Global,
@@ -106,8 +108,10 @@ impl Snapshot {
         assembled(state, parts, index)
     }
 
-    /// The snapshot of the index's trace, whose dependencies and graph are given. It takes no
-    /// memory.
+    /// Returns the snapshot of the index's trace with these dependencies and this graph. Does not
+    /// allocate.
+    ///
+    /// The caller passes the tables of the index's trace.
     pub fn of(state: RandomState, index: TraceIndex, parts: LockParts) -> Snapshot
         requires { ArePartsOf parts index.events }
         ensures { result ≡ index.events }
@@ -124,16 +128,16 @@ impl Snapshot {
         }
     }
 
-    /// How many dependencies its events have: the tasks of a question about them. It takes no
-    /// memory.
+    /// Returns the number of dependencies of the trace: the number of tasks of a question on it.
+    /// Does not allocate.
     pub fn tasks(&self) -> u32
         ensures { result ≡ length (dependencies self.now) }
     {
-        let _events = self.index.len();
+        let _events = self.index.len(); // for the proof
         self.dependencies.len() as u32
     }
 
-    /// How many events it has, at most `MAX_EVENTS`. It takes no memory.
+    /// Returns the number of events, at most `MAX_EVENTS`. Does not allocate.
     pub fn len(&self) -> usize
         ensures length { result ≡ length self.now }
         ensures well_formed { IsWellFormed self.now }
@@ -142,35 +146,35 @@ impl Snapshot {
         self.index.len()
     }
 
-    /// The event at the place, none past the end. It takes no memory.
+    /// Returns the event at `place`, or `None` past the end. Does not allocate.
     pub fn event(&self, place: Place) -> Option<Event>
         ensures { result ≡ slice_get self.now place }
     {
         self.index.event(place)
     }
 
-    /// The index of its trace. It takes no memory, and neither do the others.
+    /// Returns the index of the trace. Does not allocate.
     pub fn index(&self) -> &TraceIndex
         ensures { result.now.events ≡ self.now }
     {
         &self.index
     }
 
-    /// The dependencies of its trace, with their places.
+    /// Returns the dependencies of the trace, with their places. Does not allocate.
     pub fn table(&self) -> &DepTable
         ensures { FollowsTrace result.now self.now (length self.now) }
     {
         &self.dependencies
     }
 
-    /// Which of its dependencies hold a lock.
+    /// Returns the graph from each lock to the dependencies that hold it. Does not allocate.
     pub fn graph(&self) -> &LockGraph
         ensures { HasGraphOf (dependencies self.now) result.now }
     {
         &self.graph
     }
 
-    /// What tables about it hash with.
+    /// Returns the state with which tables on this trace are hashed.
     pub fn state(&self) -> RandomState {
         self.state
     }

@@ -1,4 +1,4 @@
--- Layers over one another, and how many places are in.
+-- Stacked overlays, and the number of included places.
 use Rattle.std.proofs.Common.{◌≡◌, ℕ, zero, suc, ◌+◌, ◌<◌, ◌≤◌, Bool, true, false, cond, ◌==◌, ◌&&◌, nat_lt, nat_le, length, Option, Some, None, Result, Ok, Err, OnOk, IfOk, IfSome, List, refl, sym, ap, subst, inl, inr, slice_get, ◌∙◌, arith}
 use Rattle.std.specs.Option.{option_map_or}
 use Rattle.std.proofs.lemmas.Bool.{eq-eqb, eqb-true, false≢true, and_parts}
@@ -14,50 +14,50 @@ use Rattle.trace_model.proofs.Theory.Stability.{closure_below}
 use Rattle.segments.specs.Linking.{count_below}
 use Rattle.segments.proofs.Counting.{count-agree}
 use Rattle.trace_index.specs.Numbers.{of_thread, number_at}
-use Rattle.fronts.specs.declared.demands.Goal.{Goal}
-use Rattle.fronts.specs.declared.demands.Item.{Item}
-use Rattle.fronts.specs.declared.demands.Section.{Section}
-use Rattle.fronts.specs.declared.demands.Demands.{Demands}
-use Rattle.fronts.specs.declared.layer.Layer.{Layer}
-use Rattle.fronts.specs.declared.work.Work.{Work}
-use Rattle.fronts.specs.Sheets.{at}
+use Rattle.fronts.specs.declared.requirements.ThreadPrefix.{ThreadPrefix}
+use Rattle.fronts.specs.declared.requirements.Item.{Item}
+use Rattle.fronts.specs.declared.requirements.Section.{Section}
+use Rattle.fronts.specs.declared.requirements.Requirements.{Requirements}
+use Rattle.fronts.specs.declared.overlay.Overlay.{Overlay}
+use Rattle.fronts.specs.declared.propagation.Propagation.{Propagation}
+use Rattle.fronts.specs.EpochArrays.{at}
 use Rattle.fronts.specs.declared.fronts.Fronts.{Fronts}
 use Rattle.fronts.specs.State.{count_of, places_in}
-use Rattle.fronts.specs.Slots.{slots_of, AreSlots, AreStands, HasFirst, among, front_test, in_front}
-use Rattle.fronts.specs.Layers.{front_of, done_of, last_of, first_some, IsEmpty}
-use Rattle.fronts.specs.Demands.{AreDemands}
-use Rattle.fronts.specs.Work.{State, IsFit, IsOnWay, sum_to}
+use Rattle.fronts.specs.Slots.{slots_of, AreSlots, ArePositions, HasFirst, among, front_test, in_front}
+use Rattle.fronts.specs.Overlays.{front_of, done_of, last_of, first_some, IsEmpty}
+use Rattle.fronts.specs.Requirements.{AreRequirements}
+use Rattle.fronts.specs.Propagation.{State, IsFit, IsConsistent, sum_to}
 use Rattle.sp_closure.specs.declared.closer.Closer.{Closer}
-use Rattle.sp_closure.specs.Closers.{leads_to, CountsBut, HasBase, Keeps, KeepsFor, KeepsNothing, kept, goal_at, total_over}
+use Rattle.sp_closure.specs.Closers.{leads_to, CountsBut, HasBase, Keeps, KeepsFor, KeepsNothing, kept, prefix_before, total_over}
 use Rattle.fronts.proofs.Counts.{count_le}
 use Rattle.fronts.proofs.FrontLemmas.{of_thread_from, of_thread_so, lt_true}
 use Rattle.fronts.proofs.ThreadLemmas.{place_below}
 use Rattle.fronts.proofs.SlotLemmas.{number_is}
 
--- an empty layer over an empty one
-pub front_none : (threads locks more less : ℕ) (under layer : Layer) → IsEmpty threads locks under → IsEmpty more less layer → (a : ℕ) → front_of under layer a ≡ 0
-front_none threads locks more less under layer u e a = rw (e.fronts.none a, u.fronts.none a) refl
+-- An empty overlay over an empty one.
+pub front_none : (threads locks more less : ℕ) (under overlay : Overlay) → IsEmpty threads locks under → IsEmpty more less overlay → (a : ℕ) → front_of under overlay a ≡ 0
+front_none threads locks more less under overlay u e a = rw (e.fronts.none a, u.fronts.none a) refl
 
--- an empty layer over another one is that one over an empty layer
-pub front_over : (threads locks more less : ℕ) (none base upper : Layer) → IsEmpty threads locks none → IsEmpty more less upper → (a : ℕ) → front_of base upper a ≡ front_of none base a
+-- An empty overlay over another one is that one over an empty overlay.
+pub front_over : (threads locks more less : ℕ) (none base upper : Overlay) → IsEmpty threads locks none → IsEmpty more less upper → (a : ℕ) → front_of base upper a ≡ front_of none base a
 front_over threads locks more less none base upper n e a = rw (e.fronts.none a, n.fronts.none a) refl
 
-pub done_over : (threads locks more less : ℕ) (none base upper : Layer) → IsEmpty threads locks none → IsEmpty more less upper → (a : ℕ) → done_of base upper a ≡ done_of none base a
+pub done_over : (threads locks more less : ℕ) (none base upper : Overlay) → IsEmpty threads locks none → IsEmpty more less upper → (a : ℕ) → done_of base upper a ≡ done_of none base a
 done_over threads locks more less none base upper n e a = rw (e.done.none a, n.done.none a) refl
 
-pub last_over : (threads locks more less : ℕ) (none base upper : Layer) → IsEmpty threads locks none → IsEmpty more less upper → (l : ℕ) → last_of base upper l ≡ last_of none base l
+pub last_over : (threads locks more less : ℕ) (none base upper : Overlay) → IsEmpty threads locks none → IsEmpty more less upper → (l : ℕ) → last_of base upper l ≡ last_of none base l
 last_over threads locks more less none base upper n e l = rw (e.last.none l, n.last.none l) (go (at base.last l))
   where
     go : (o : Option Section) → first_some None o ≡ first_some o None
     go None = refl
     go (Some c) = refl
 
--- the same state
-pub on_way_same : (items : ℕ → ℕ → Option Item) (x y : State) → IsOnWay items x → ((a : ℕ) → y.front a ≡ x.front a) → ((a : ℕ) → y.done a ≡ x.done a) → ((l : ℕ) → y.last l ≡ x.last l) →
-    y.pending ≡ x.pending → IsOnWay items y
+-- The same state.
+pub on_way_same : (items : ℕ → ℕ → Option Item) (x y : State) → IsConsistent items x → ((a : ℕ) → y.front a ≡ x.front a) → ((a : ℕ) → y.done a ≡ x.done a) → ((l : ℕ) → y.last l ≡ x.last l) →
+    y.pending ≡ x.pending → IsConsistent items y
 on_way_same items x y w f d l p =
     let same : x ≡ y = λ i. record { front = λ a. sym (f a) i; done = λ a. sym (d a) i; last = λ a. sym (l a) i; pending = sym p i } in
-    subst (IsOnWay items) same w
+    subst (IsConsistent items) same w
 
 pub sum_none : (f : ℕ → ℕ) (n : ℕ) → ((a : ℕ) → f a ≡ 0) → sum_to f n ≡ 0
 sum_none f zero h = refl
@@ -67,7 +67,7 @@ pub sum_equal : (f g : ℕ → ℕ) (n : ℕ) → ((a : ℕ) → f a ≡ g a) �
 sum_equal f g zero h = refl
 sum_equal f g (suc n) h = omega (arith, sum_equal f g n h, h n)
 
--- how many places are in, at most as many as there are
+-- The number of included places is at most the length of the trace.
 
 pub in_slot : (ℕ → Option ℕ) → ℕ → Places
 in_slot slots a p = option_map_or (λ b. b == a) (slots p) false
@@ -89,7 +89,7 @@ bool_same true b f g = sym (f refl)
 bool_same false true f g = g refl
 bool_same false false f g = refl
 
--- the places of a place's thread are those of its slot
+-- The places of a place's thread are those of its slot.
 pub same_thread : (s : Trace) (slots : ℕ → Option ℕ) (count p a t : ℕ) → AreSlots s slots count → slots p ≡ Some a → OfThread s p t → (q : ℕ) → of_thread s t q ≡ in_slot slots a q
 same_thread s slots count p a t known at o q = bool_same (of_thread s t q) (in_slot slots a q)
     (λ h. slot_from slots a q (known.alike p q a t at o (of_thread_so s t q h)))
@@ -161,11 +161,11 @@ at_most_all : (s : Trace) (slots : ℕ → Option ℕ) (count n : ℕ) (front : 
 at_most_all s slots count n front known has =
     omega (arith, sum_most front (λ a. count_below (in_slot slots a) (length s)) n (λ a. first_counted s slots count a (front a) known (has a)), sum_counts slots n (length s))
 
--- work that fits has no more in than there is
-pub total_most : (s : Trace) (d : Demands) (under : Layer) (w : Work) → AreDemands s d → IsFit s d under w → total_over under w d ≤ length s
-total_most s d under w known fits = at_most_all s (slots_of d.threads) d.threads.count d.threads.count (front_of under w.layer) known.slots fits.fronts
+-- A fit propagation includes at most the places of the trace.
+pub total_most : (s : Trace) (d : Requirements) (under : Overlay) (w : Propagation) → AreRequirements s d → IsFit s d under w → total_over under w d ≤ length s
+total_most s d under w known fits = at_most_all s (slots_of d.threads) d.threads.count d.threads.count (front_of under w.overlay) known.slots fits.fronts
 
--- fronts that agree below the count of slots hold the same places
+-- Fronts that agree below the number of slots include the same places.
 pub in_front_same : (s : Trace) (slots : ℕ → Option ℕ) (count : ℕ) (f g : ℕ → ℕ) → AreSlots s slots count → ((a : ℕ) → a < count → f a ≡ g a) →
     (p : ℕ) → in_front s slots f p ≡ in_front s slots g p
 in_front_same s slots count f g known same p = go (slots p) refl
@@ -186,12 +186,12 @@ if_ok_three (Err e) P Q R S f p q o = tt
 le_so : (a b : ℕ) → nat_le a b ≡ true → a ≤ b
 le_so a b h = grind (arith, nat_tests)
 
--- a goal that leads to another one
-pub leads_so : (base_of : Option Goal) (goal : Goal) → leads_to base_of goal ≡ true → (old : Goal) × (base_of ≡ Some old) × (old.slot ≡ goal.slot) × (old.count ≤ goal.count)
-leads_so None goal h = absurd (false≢true h)
-leads_so (Some old) goal h =
-    let (a, b) = and_parts (old.slot == goal.slot) (nat_le old.count goal.count) h in
-    (old, refl, eqb-true old.slot goal.slot a, le_so old.count goal.count b)
+-- A prefix that leads to another one.
+pub leads_so : (base_of : Option ThreadPrefix) (prefix : ThreadPrefix) → leads_to base_of prefix ≡ true → (old : ThreadPrefix) × (base_of ≡ Some old) × (old.slot ≡ prefix.slot) × (old.count ≤ prefix.count)
+leads_so None prefix h = absurd (false≢true h)
+leads_so (Some old) prefix h =
+    let (a, b) = and_parts (old.slot == prefix.slot) (nat_le old.count prefix.count) h in
+    (old, refl, eqb-true old.slot prefix.slot a, le_so old.count prefix.count b)
 
 pub by_ok : {X E : Type 0} (r : Result X E) (P : X → Type 0) → ((x : X) → r ≡ Ok x → P x) → IfOk r P
 by_ok (Ok x) P f = f x refl
@@ -213,19 +213,19 @@ pub on_ok_map : {X E A : Type 0} (r : Result X E) (P Q : X → Type 0) → ((x :
 on_ok_map (Ok x) P Q f a p = f x a p
 on_ok_map (Err e) P Q f a p = tt
 
--- a closer without a base keeps nothing
+-- A closer without a base keeps no places.
 no_base : (s : Trace) (c : Closer) (m k : ℕ) → KeepsNothing c → Keeps s c m k → k ≡ 0
 no_base s c m k none keeps = go keeps.has
   where
     nothing : keeps.of ≡ None → k ≡ 0
-    nothing e = keeps.count ∙ ap (λ b. kept b (goal_at s c keeps.p) keeps.places) e
+    nothing e = keeps.count ∙ ap (λ b. kept b (prefix_before s c keeps.p) keeps.places) e
 
     go : HasBase c keeps.of keeps.places → k ≡ 0
     go (inl e) = nothing e
     go (inr (inl e)) = nothing (e.0 ∙ none.0)
     go (inr (inr o)) = absurd (none-some o.other (ap (λ xs. slice_get xs o.index) (sym none.1) ∙ o.at))
 
--- a closer that keeps nothing counts all that is in
+-- A closer that keeps no places counts all included ones.
 pub counted_all : (s : Trace) (c : Closer) (numbers : List ℕ) (before after all : ℕ) → KeepsNothing c →
     CountsBut (KeepsFor s c numbers) before after all → after ≡ before + all
 counted_all s c numbers before after all none (k, (m, first, keeps), e) =
@@ -235,7 +235,7 @@ and_off : (b : Bool) → false ≡ (b && false)
 and_off true = refl
 and_off false = refl
 
--- the closure of places holds none that is not before the greatest of them
+-- The closure of places contains only places before the greatest of them.
 pub closure_cut : (s : Trace) (places : List ℕ) (set : Places) (end : ℕ) → IsWellFormed s → IsClosure s places set → ((p : ℕ) → Contains places p → p ≤ end) →
     (p : ℕ) → set p ≡ (nat_lt p end && set p)
 closure_cut s places set end w closure most p = go (set p) refl
@@ -244,35 +244,35 @@ closure_cut s places set end w closure most p = go (set p) refl
     go true e = rw (lt_true p end (closure_below s w places end p most ((closure p).0 e))) refl
     go false e = and_off (nat_lt p end)
 
--- a place that is not listed has no slot
-no_slot : (s : Trace) (slots : ℕ → Option ℕ) (count : ℕ) (stands : List Goal) → AreSlots s slots count → AreStands s slots stands → (p : ℕ) → slice_get stands p ≡ None → slots p ≡ None
-no_slot s slots count stands known are p none = go (slots p) refl
+-- A place that is not listed has no slot.
+no_slot : (s : Trace) (slots : ℕ → Option ℕ) (count : ℕ) (positions : List ThreadPrefix) → AreSlots s slots count → ArePositions s slots positions → (p : ℕ) → slice_get positions p ≡ None → slots p ≡ None
+no_slot s slots count positions known are p none = go (slots p) refl
   where
     go : (o : Option ℕ) → slots p ≡ o → o ≡ None
     go None e = refl
     go (Some a) e =
         let of = known.of_place p a e in
-        let there = at_index stands p (omega (arith, are.all, slice_get_within s p _ of.1.1)) in
+        let there = at_index positions p (omega (arith, are.all, slice_get_within s p _ of.1.1)) in
         absurd (none-some there.0 (sym none ∙ there.1))
 
--- of places that are listed so, those that are in front
-in_front_among : (s : Trace) (slots : ℕ → Option ℕ) (count : ℕ) (stands : List Goal) (front : ℕ → ℕ) → AreSlots s slots count → AreStands s slots stands → (p : ℕ) →
-    in_front s slots front p ≡ among stands front p
-in_front_among s slots count stands front known are p = go (slice_get stands p) refl
+-- The listed places that the fronts include.
+in_front_among : (s : Trace) (slots : ℕ → Option ℕ) (count : ℕ) (positions : List ThreadPrefix) (front : ℕ → ℕ) → AreSlots s slots count → ArePositions s slots positions → (p : ℕ) →
+    in_front s slots front p ≡ among positions front p
+in_front_among s slots count positions front known are p = go (slice_get positions p) refl
   where
-    go : (o : Option Goal) → slice_get stands p ≡ o → in_front s slots front p ≡ option_map_or (λ to. front_test front to.count to.slot) o false
-    go None e = ap (λ o. option_map_or (λ a. option_map_or (λ n. front_test front n a) (number_at s p) false) o false) (no_slot s slots count stands known are p e)
+    go : (o : Option ThreadPrefix) → slice_get positions p ≡ o → in_front s slots front p ≡ option_map_or (λ to. front_test front to.count to.slot) o false
+    go None e = ap (λ o. option_map_or (λ a. option_map_or (λ n. front_test front n a) (number_at s p) false) o false) (no_slot s slots count positions known are p e)
     go (Some to) e =
         let x = are.each p to e in
         ap (λ o. option_map_or (λ a. option_map_or (λ n. front_test front n a) (number_at s p) false) o false) x.slot
         ∙ ap (λ o. option_map_or (λ n. front_test front n to.slot) o false) x.number
 
--- fronts that agree with a closure below the count of slots, as far as the greatest of the places,
--- hold it
+-- Fronts that agree with a closure below the number of slots, up to the greatest of the places,
+-- contain it.
 pub set_of_fronts : (s : Trace) (places : List ℕ) (slots : ℕ → Option ℕ) (count : ℕ) (front : ℕ → ℕ) (fronts : Fronts) → IsWellFormed s → AreSlots s slots count →
-    AreStands s slots (arc_value fronts.stands).items → ((a : ℕ) → a < count → front a ≡ count_of fronts a) →
+    ArePositions s slots (arc_value fronts.positions).items → ((a : ℕ) → a < count → front a ≡ count_of fronts a) →
     ((p : ℕ) → Contains places p → p ≤ fronts.end) → IsClosure s places (in_front s slots front) → in_front s slots front ≡ places_in fronts
 set_of_fronts s places slots count front fronts w known are same most closure = λ i p.
     (closure_cut s places (in_front s slots front) fronts.end w closure most p
     ∙ ap (λ b. nat_lt p fronts.end && b) (in_front_same s slots count front (count_of fronts) known same p
-    ∙ in_front_among s slots count (arc_value fronts.stands).items (count_of fronts) known are p)) i
+    ∙ in_front_among s slots count (arc_value fronts.positions).items (count_of fronts) known are p)) i

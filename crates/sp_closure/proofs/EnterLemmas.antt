@@ -1,17 +1,17 @@
--- A member that enters.
+-- A member that is added.
 use Rattle.std.proofs.Common.{◌≡◌, ◌≢◌, ℕ, zero, suc, ◌≤◌, max, inl, inr, List, [], ◌∷◌, ◌++◌, length, take, Option, refl, sym, ap, subst, ◌∙◌, arith}
 use Rattle.std.specs.List.{Contains}
 use Rattle.std.proofs.lemmas.Bool.{cases_lt}
 use Rattle.trace_model.specs.Theory.Trace.{Trace}
 use Rattle.trace_model.specs.Theory.Closure.{Places}
 use Rattle.trace_model.proofs.Lists.{get-push}
-use Rattle.fronts.specs.declared.demands.Goal.{Goal}
-use Rattle.fronts.specs.declared.demands.Item.{Item}
+use Rattle.fronts.specs.declared.requirements.ThreadPrefix.{ThreadPrefix}
+use Rattle.fronts.specs.declared.requirements.Item.{Item}
 use Rattle.fronts.specs.declared.members.Member.{Member}
 use Rattle.fronts.specs.Slots.{AreSlots, HoldsFirst, HasFirst}
 use Rattle.fronts.specs.Members.{Each, IsMember, IsAhead, Stops, StopsIn, IsNotPast, lists}
 use Rattle.sp_closure.specs.Entering.{IsFirstMember}
-use Rattle.fronts.specs.Work.{State, IsOnWay, Raises, AreAtFront, AreUpTo, AreSame}
+use Rattle.fronts.specs.Propagation.{State, IsConsistent, Raises, AreAtFront, AreUpTo, AreSame}
 use Rattle.fronts.proofs.MemberLemmas.{holds_upto}
 use Rattle.fronts.proofs.SlotLemmas.{has_before}
 
@@ -21,14 +21,14 @@ each_push P xs y all new i z h = elim (get-push xs y i z h) [
   | inr last ↦ subst P last.1 new
 ]
 
-pub upto_pushed : (s : Trace) (slots : ℕ → Option ℕ) (front : ℕ → ℕ) (old new : List Member) (m : Member) (goal : Goal) → AreAtFront s slots front old → IsMember s slots m →
-    new ≡ old ++ m ∷ [] → goal.slot ≡ m.slot → goal.count ≡ max (front m.slot) m.number → AreUpTo s slots front goal new
-upto_pushed s slots front old new m goal b is e slot count =
-    subst (AreUpTo s slots front goal) (sym e)
+pub upto_pushed : (s : Trace) (slots : ℕ → Option ℕ) (front : ℕ → ℕ) (old new : List Member) (m : Member) (prefix : ThreadPrefix) → AreAtFront s slots front old → IsMember s slots m →
+    new ≡ old ++ m ∷ [] → prefix.slot ≡ m.slot → prefix.count ≡ max (front m.slot) m.number → AreUpTo s slots front prefix new
+upto_pushed s slots front old new m prefix b is e slot count =
+    subst (AreUpTo s slots front prefix) (sym e)
     (record {
       each = each_push (IsMember s slots) old m b.each is;
-      others = each_push (λ x. x.slot ≢ goal.slot → x.number ≡ front x.slot) old m (λ i x h n. b.at i x h) (λ n. absurd (n (sym slot)));
-      here = each_push (λ x. x.slot ≡ goal.slot → x.number ≤ goal.count) old m
+      others = each_push (λ x. x.slot ≢ prefix.slot → x.number ≡ front x.slot) old m (λ i x h n. b.at i x h) (λ n. absurd (n (sym slot)));
+      here = each_push (λ x. x.slot ≡ prefix.slot → x.number ≤ prefix.count) old m
           (λ i x h k. omega (arith, b.at i x h, ap front (k ∙ slot), count)) (λ k. omega (arith, count));
     })
 
@@ -36,7 +36,7 @@ pub reach_pushed : (s : Trace) (slots : ℕ → Option ℕ) (few : ℕ) (front :
     IsMember s slots m → n ≡ max (front m.slot) m.number → HasFirst s slots m.slot n
 reach_pushed s slots few front m n known has is e i l = elim (cases_lt i (front m.slot)) [
   | inl less ↦ has m.slot i less
-  | inr more ↦ has_before s slots few m.place m.slot m.number known is.stands i (omega (arith, l, e, more))
+  | inr more ↦ has_before s slots few m.place m.slot m.number known is.positions i (omega (arith, l, e, more))
 ]
 
 pub ahead_pushed : (s : Trace) (slots : ℕ → Option ℕ) (set : Places) (old new : List Member) (m : Member) (xs : List ℕ) → IsAhead s old set → IsFirstMember s slots xs m →
@@ -73,8 +73,8 @@ same_lists (x ∷ xs) (y ∷ ys) a =
 pub lists_entered : (old pushed new : List Member) (m : Member) (xs : List ℕ) → pushed ≡ old ++ m ∷ [] → m.places ≡ xs → AreSame pushed new → lists new ≡ lists old ++ xs ∷ []
 lists_entered old pushed new m xs e f a = same_lists pushed new a ∙ (ap lists e ∙ (lists_push old m ∙ ap (λ z. lists old ++ z ∷ []) f))
 
-pub on_way_raised : (items : ℕ → ℕ → Option Item) (k : ℕ) (goal : Goal) (x y : State) → IsOnWay items x → Raises k goal x y → IsOnWay items y
-on_way_raised items k goal x y w r = record {
+pub consistent_raised : (items : ℕ → ℕ → Option Item) (k : ℕ) (prefix : ThreadPrefix) (x y : State) → IsConsistent items x → Raises k prefix x y → IsConsistent items y
+consistent_raised items k prefix x y w r = record {
   inside = λ b j i h l. omega (arith, w.inside b j i h (omega (arith, l, r.growth.done b)), r.growth.grows b);
   reached = λ b j n g h l. omega (arith, w.reached b j n g h (omega (arith, l, r.growth.done b)), r.growth.grows g.slot);
   lasts = λ m c h.
@@ -89,16 +89,16 @@ on_way_raised items k goal x y w r = record {
           | inr z ↦ inr (z.0, omega (arith, z.1, r.growth.grows c.end.slot))
         ],
       );
-  owed = λ b j i h l. elim (r.growth.pended b) [
+  queued = λ b j i h l. elim (r.growth.enqueued b) [
     | inr c ↦ inr c
-    | inl same ↦ elim (w.owed b j i h (omega (arith, l, same))) [
+    | inl same ↦ elim (w.queued b j i h (omega (arith, l, same))) [
       | inl z ↦ inl (omega (arith, z, r.growth.done b))
       | inr c ↦ inr (r.growth.kept b c)
     ]
   ];
 }
 
--- a list written back over a vector of the same length
+-- A list that is written back to a vector of the same length.
 pub written : {X : Type 0} (n : ℕ) (xs ys : List X) → n ≡ length xs → take n (xs ++ ys) ≡ xs
 written zero [] ys e = refl
 written zero (x ∷ xs) ys e = absurd (omega (arith, e))

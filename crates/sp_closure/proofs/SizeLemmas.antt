@@ -1,4 +1,4 @@
--- The sum of the fronts is the number of places that are in.
+-- The sum of the fronts is the number of included places.
 use Rattle.std.proofs.Common.{◌≡◌, ◌≢◌, ℕ, zero, suc, ◌+◌, ◌<◌, ◌≤◌, inl, inr, List, min, Bool, true, false, ◌&&◌, cond, nat_lt, length, Option, refl, sym, ap, ◌∙◌, arith}
 use Rattle.std.proofs.lemmas.Bool.{cases_lt}
 use Rattle.std.proofs.lemmas.Option.{same_Some}
@@ -12,14 +12,14 @@ use Rattle.segments.proofs.Counting.{length_ascending, count-agree}
 use Rattle.trace_index.specs.Numbers.{of_thread}
 use Rattle.fronts.specs.declared.classes.Classes.{Classes}
 use Rattle.fronts.specs.declared.fronts.Fronts.{Fronts}
-use Rattle.fronts.specs.Slots.{slots_of, AreSlots, AreStands, AreThreadSlots, Stands, HasFirst, HasFronts, in_front}
+use Rattle.fronts.specs.Slots.{slots_of, AreSlots, ArePositions, AreThreadSlots, HasPosition, HasFirst, HasFronts, in_front}
 use Rattle.fronts.specs.State.{count_of, places_in, size_in}
-use Rattle.fronts.specs.Work.{sum_to}
+use Rattle.fronts.specs.Propagation.{sum_to}
 use Rattle.fronts.proofs.FrontLemmas.{lt_true, lt_false}
 use Rattle.fronts.proofs.SlotLemmas.{has_number, number_is, in_front_at, in_front_so}
 use Rattle.sp_closure.proofs.BaseLemmas.{in_slot, slot_so, slot_from, one_of, bit_off, same_thread, first_counted, count_step, set_of_fronts, sum_none, sum_plus, sum_equal}
 
--- the place is of the slot, and in
+-- The place is of the slot, and included.
 abbrev slot_in : Trace → (ℕ → Option ℕ) → (ℕ → ℕ) → ℕ → Places
 slot_in s slots front a p = in_slot slots a p && in_front s slots front p
 
@@ -33,13 +33,13 @@ step_off test n e = ap (λ b. cond b (suc (count_below test n)) (count_below tes
 step_on : (test : Places) (n : ℕ) → test n ≡ true → count_below test (suc n) ≡ suc (count_below test n)
 step_on test n e = ap (λ b. cond b (suc (count_below test n)) (count_below test n)) e
 
--- a place's number is how many of its slot stand before it
-slot_number : (s : Trace) (slots : ℕ → Option ℕ) (count p a m : ℕ) → AreSlots s slots count → Stands s slots p a m → count_below (in_slot slots a) p ≡ m
+-- The number of a place counts the earlier places of its slot.
+slot_number : (s : Trace) (slots : ℕ → Option ℕ) (count p a m : ℕ) → AreSlots s slots count → HasPosition s slots p a m → count_below (in_slot slots a) p ≡ m
 slot_number s slots count p a m known x =
     let (t, o) = known.of_place p a x.slot in
     sym (count-agree (of_thread s t) (in_slot slots a) p (λ q l. same_thread s slots count p a t known x.slot o q)) ∙ number_is s p t m o x.number
 
--- of a slot's places below n, as many are in as its front counts, if there are so many
+-- Of the slot's places below `n`, the front's count are included, if there are that many.
 slot_counted : (s : Trace) (slots : ℕ → Option ℕ) (count : ℕ) (front : ℕ → ℕ) (a n : ℕ) → AreSlots s slots count →
     count_below (slot_in s slots front a) n ≡ min (count_below (in_slot slots a) n) (front a)
 slot_counted s slots count front a zero known = omega arith
@@ -72,7 +72,7 @@ sum_single f a (suc n) l one others = elim (cases_lt a n) [
       omega (arith, sum_nothing f n (λ b m. others b (λ h. omega (arith, m, h, e))), ap f e, one)
 ]
 
--- a place that is in is of one slot
+-- An included place is of one slot.
 sum_in : (s : Trace) (slots : ℕ → Option ℕ) (count : ℕ) (front : ℕ → ℕ) (p : ℕ) → AreSlots s slots count →
     sum_to (λ a. one_of (slot_in s slots front a p)) count ≡ one_of (in_front s slots front p)
 unfolding one_of
@@ -105,7 +105,7 @@ sum_counted s slots count front (suc k) known =
       count_step (in_front s slots front) k,
     )
 
--- fronts that the trace has add up to how many places are in
+-- Fronts within the trace add up to the number of included places.
 pub fronts_size : (s : Trace) (slots : ℕ → Option ℕ) (count : ℕ) (front : ℕ → ℕ) → AreSlots s slots count → ((a : ℕ) → HasFirst s slots a (front a)) →
     sum_to front count ≡ length (ascending (in_front s slots front) (length s))
 fronts_size s slots count front known has =
@@ -113,13 +113,13 @@ fronts_size s slots count front known has =
     (λ a. omega (arith, slot_counted s slots count front a (length s) known, first_counted s slots count a (front a) known (has a)))
     ∙ (sum_counted s slots count front (length s) known ∙ sym (length_ascending (in_front s slots front) (length s)))
 
--- fronts that hold a closure of these fronts, and as many places
+-- Fronts that are a closure with these fronts, and have the same number of places.
 pub record AreGathered (s : Trace) (threads : Classes) (front : ℕ → ℕ) (fronts : Fronts) : Type 0 where
   pub set : in_front s (slots_of threads) front ≡ places_in fronts
   pub size : HasFronts s (slots_of threads) front → sum_to front threads.count ≡ size_in s fronts
 
 pub all_gathered : (s : Trace) (places : List ℕ) (threads : Classes) (front : ℕ → ℕ) (fronts : Fronts) → IsWellFormed s → AreThreadSlots s threads →
-    AreStands s (slots_of threads) (arc_value fronts.stands).items → ((a : ℕ) → a < threads.count → count_of fronts a ≡ front a) → ((p : ℕ) → Contains places p → p ≤ fronts.end) →
+    ArePositions s (slots_of threads) (arc_value fronts.positions).items → ((a : ℕ) → a < threads.count → count_of fronts a ≡ front a) → ((p : ℕ) → Contains places p → p ≤ fronts.end) →
     IsClosure s places (in_front s (slots_of threads) front) → AreGathered s threads front fronts
 all_gathered s places threads front fronts w known are same most closure =
     let set = set_of_fronts s places (slots_of threads) threads.count front fronts w known are (λ a l. sym (same a l)) most closure in

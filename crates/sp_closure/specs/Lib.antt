@@ -2,5 +2,5 @@ pub mod Pointers
 pub mod Entering
 pub mod Closers
 pub mod Reaching
-pub mod Pasts
+pub mod Timestamps
 pub mod Filling

@@ -1,8 +1,7 @@
--- How deep locks are held before each row.
+-- The depths of locks before each row.
 use Rattle.std.proofs.Common.{◌≡◌, ℕ, suc, ◌+◌, ◌-◌, ◌≤◌, nat_eq, inl, inr, Bool, true, false, cond, leb, List, [], ◌∷◌, ◌++◌, length, take, slice_get, Option, Some, None, refl, sym, ap, subst, ◌∙◌, arith}
 use Rattle.std.proofs.lemmas.Bool.{eqb-true, leb-true, cases_lt}
 use Rattle.std.proofs.lemmas.Option.{none-some, same_Some, slice_get_within}
-use Rattle.std.specs.HashMap.{HashMap}
 use Rattle.trace_model.specs.declared.traces.event.Event.{Event}
 use Rattle.trace_model.specs.declared.traces.event.Op.{Op}
 use Rattle.trace_model.specs.declared.traces.event.Op.TheVariants.{Fork, Join, Acquire, Release, Read, Write}
@@ -19,15 +18,15 @@ use Rattle.trace_model.proofs.Theory.OneMore.{lawful_op, lawful_acquire}
 use Rattle.trace_model.proofs.Theory.Owners.{owner-push, acquired_owned, released_owned}
 use Rattle.trace_model.proofs.Theory.Prefix.{Agree, depth-agree}
 use Rattle.trace_model.proofs.Theory.Sections.{depth-take}
-use Rattle.trace_index.specs.declared.row.Row.{Row}
-use Rattle.trace_index.specs.Depths.{depth_in, op_depth, event_depth, IsShallow, depth_noted, AreDeep, AreDepths}
+use Rattle.trace_index.specs.declared.row.IndexRow.{IndexRow}
+use Rattle.trace_index.specs.Depths.{DepthTable, depth_in, op_depth, event_depth, IsShallow, depth_noted, AreDeep, AreDepths}
 use Rattle.trace_index.specs.Links.{trace_of}
-use Rattle.trace_index.proofs.Chains.{length_trace, trace_push, trace_take}
+use Rattle.trace_index.proofs.KeyLists.{length_trace, trace_push, trace_take}
 use Rattle.segments.proofs.Lists.{take_one_more}
 
 -- ---- by owners and by threads
 
--- how deep each lock is held, by its owner
+-- the depth of each lock, by its owner
 abbrev pub owned_in : Trace → ℕ → ℕ
 owned_in s l = owned (owner s l)
 
@@ -39,7 +38,7 @@ op_depth-agree f g (Join l) h = refl
 op_depth-agree f g (Read l) h = refl
 op_depth-agree f g (Write l) h = refl
 
--- before a lawful event its lock is as deep as its thread holds it
+-- before a lawful event, the depth of its lock is the depth for its thread
 lawful_depth : (s : Trace) → IsWellFormed s → (t : ℕ) (o : Op) → op_refusal_of s t o ≡ None →
     op_depth (owned_in s) o ≡ op_depth (depth s (length s) t) o
 lawful_depth s w t (Acquire l) h = sym (acquired_owned s w t l h)
@@ -57,7 +56,7 @@ lawful_shallow s t (Join l) h = tt
 lawful_shallow s t (Read l) h = tt
 lawful_shallow s t (Write l) h = tt
 
--- the row of a lawful event has room for one more
+-- the row of a lawful acquire is below the limit
 pub next_shallow : (s : Trace) → IsWellFormed s → (e : Event) (d : ℕ) → refusal_of MAX_EVENTS s e ≡ None → d ≡ op_depth (owned_in s) e.op → IsShallow e.op d
 next_shallow s w e d lawful is =
     let op = lawful_op MAX_EVENTS s e lawful in
@@ -76,7 +75,7 @@ module _ (s : Trace) (w : IsWellFormed s) (p : ℕ) (e : Event) (at : At s p e) 
   pub shallow_there : IsShallow e.op (event_depth s p e)
   shallow_there = subst (IsShallow e.op) same (lawful_shallow (take p s) e.thread e.op there)
 
--- ---- one event further
+-- ---- one more event
 
 released_less : (o : Option Owner) → owned (released o) ≡ owned o - 1
 released_less None = refl
@@ -105,15 +104,15 @@ noted_is s t (Read v) l = refl
 noted_is s t (Write v) l = refl
 
 -- the depths after one more event
-pub depths_push : {S T : Type 0} (s : Trace) (e : Event) (d : ℕ) (old : HashMap ℕ ℕ S) (new : HashMap ℕ ℕ T) → ((l : ℕ) → depth_in old l ≡ owned_in s l) →
+pub depths_push : (s : Trace) (e : Event) (d : ℕ) (old : DepthTable) (new : DepthTable) → ((l : ℕ) → depth_in old l ≡ owned_in s l) →
     d ≡ op_depth (owned_in s) e.op → ((l : ℕ) → depth_in new l ≡ depth_noted e.op d l (depth_in old l)) →
     (l : ℕ) → depth_in new l ≡ owned_in (s ++ e ∷ []) l
 depths_push s e d old new are is more l =
     more l ∙ ap (depth_noted e.op d l) (are l) ∙ ap (λ k. depth_noted e.op k l (owned_in s l)) is
     ∙ noted_is s e.thread e.op l ∙ ap owned (sym (owner-push s e l))
 
--- the same where the event stands at the next place
-pub depths_next : {S T : Type 0} (s : Trace) → IsWellFormed s → (n : ℕ) (e : Event) (d : ℕ) (old : HashMap ℕ ℕ S) (new : HashMap ℕ ℕ T) → At s n e → d ≡ event_depth s n e →
+-- the same for the event at the next place
+pub depths_next : (s : Trace) → IsWellFormed s → (n : ℕ) (e : Event) (d : ℕ) (old : DepthTable) (new : DepthTable) → At s n e → d ≡ event_depth s n e →
     AreDepths s n old → ((l : ℕ) → depth_in new l ≡ depth_noted e.op d l (depth_in old l)) → AreDepths s (n + 1) new
 depths_next s w n e d old new at is are more l =
     depths_push (take n s) e d old new are (is ∙ sym (owned_there s w n e at)) more l ∙ ap (λ r. owned_in r l) (sym (take_one_more s n e (sym at)))
@@ -126,14 +125,14 @@ event_depth-agree s r p e same = op_depth-agree (depth s p e.thread) (depth r p 
 pub deep_none : AreDeep []
 deep_none p row h = absurd (none-some row h)
 
-pub deep_take : (n : ℕ) (rows : List Row) → AreDeep rows → AreDeep (take n rows)
+pub deep_take : (n : ℕ) (rows : List IndexRow) → AreDeep rows → AreDeep (take n rows)
 deep_take n rows are p row h =
     let below = get-take_past n rows p row h in
     are p row (sym (get-take n rows p below) ∙ h)
     ∙ event_depth-agree (trace_of rows) (take n (trace_of rows)) p row.event (λ u l. sym (get-take n (trace_of rows) u (omega arith)))
     ∙ ap (λ s. event_depth s p row.event) (sym (trace_take n rows))
 
-pub deep_push : (rows : List Row) (row : Row) → IsWellFormed (trace_of rows) → AreDeep rows → row.depth ≡ op_depth (owned_in (trace_of rows)) row.event.op →
+pub deep_push : (rows : List IndexRow) (row : IndexRow) → IsWellFormed (trace_of rows) → AreDeep rows → row.depth ≡ op_depth (owned_in (trace_of rows)) row.event.op →
     refusal_of MAX_EVENTS (trace_of rows) row.event ≡ None → AreDeep (rows ++ row ∷ [])
 deep_push rows row w are is lawful p x h = elim (cases_lt p (length rows)) [
   | inl l ↦

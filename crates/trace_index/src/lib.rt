@@ -1,17 +1,24 @@
-//! Look-ups in a trace: writers, releases, forks, and the places of a thread or of a lock.
+//! An index of a trace: writers of reads, releases of acquires, forks, and the places of a thread
+//! or of a lock.
+//!
+//! [`TraceIndex`] grows with the trace: `reserve` allocates for the next event, `record` adds it
+//! without allocating, and `share` returns the index of a prefix and copies at most one segment.
+//! Its contract: each look-up returns what the definition of the same name in `trace_model` says of
+//! the events. The events are rows in shared segments, and the rows of one key (a thread, a forked
+//! thread, a lock or a variable) are a linked list. Start reading at [`TraceIndex`].
 #![tactic(auto)]
 
-mod chain;
 mod copies;
 mod depths;
-mod ends;
 mod growing;
-mod guesses;
-mod latest;
-mod list;
-mod marks;
+mod key_cache;
+mod key_list;
+mod key_places;
+mod last_places;
 mod places;
+mod releases;
 mod row;
+mod segment_tables;
 mod share;
 
 ghost use Rattle.std.specs.Prelude.{◌≡◌, ℕ, ◌<◌, ◌≤◌, ◌↔◌, ◌++◌, ◌∷◌, [], length, take, slice_get, Some, IfOk};
@@ -25,34 +32,34 @@ ghost use Rattle.trace_model.specs.Theory.Lookups.{writer, release};
 ghost use Rattle.trace_index.specs.Numbers.{of_thread, number_at, thread_before, acquire_before};
 ghost use Rattle.trace_index.specs.Links.{passes, written_by, begun_by, taken_before};
 
-use chain::Chain;
 pub use copies::Copies;
 use depths::Depths;
-use latest::Latest;
-pub use list::PlacesOf;
-use marks::{Marks, ended_in, last_marked};
-use row::{Key, Ready, Row, index_of, place_of};
+use key_list::KeyList;
+pub use key_places::KeyPlaces;
+use last_places::LastPlaces;
+use number_map::PositionCache;
+use row::{IndexRow, Key, Ready, index_of, place_of};
+use segment_tables::{SegmentTables, last_in_segments, release_in_segments};
 use segments::Segments;
-use slots::Guesses;
 use std::alloc::Global;
 use std::collections::hash_map::RandomState;
 use std::marker::{Brand, Model};
 use std::sync::ledger::{Blank, Ledger};
 use trace_model::{Event, NoMemory, Op, Place};
 
-/// The writer that a row has: that of a read.
-fn writer_in(row: &Row) -> Option<Place>
-    ensures { result ≡ written_by row.now.event.op row.now.topic.earlier }
+/// Returns the writer in a row: that of a read.
+fn writer_in(row: &IndexRow) -> Option<Place>
+    ensures { result ≡ written_by row.now.event.op row.now.object.earlier }
 {
     if let Op::Read(_) = row.event.op {
-        place_of(row.topic.earlier)
+        place_of(row.object.earlier)
     } else {
         None
     }
 }
 
-/// The lock on which a section begins at a row: that of an outermost acquire.
-fn begun_in(row: &Row) -> Option<u32>
+/// Returns the lock on which a critical section begins at a row: that of an outermost acquire.
+fn begun_in(row: &IndexRow) -> Option<u32>
     ensures { result ≡ begun_by row.now.event.op row.now.depth }
 {
     match row.event.op {
@@ -61,17 +68,17 @@ fn begun_in(row: &Row) -> Option<u32>
     }
 }
 
-/// The outermost acquire before it that a row has: that of an outermost acquire.
-fn taken_in(row: &Row) -> Option<Place>
-    ensures { result ≡ taken_before row.now.event.op row.now.depth row.now.topic.earlier }
+/// Returns the previous outermost acquire of the lock in a row: that of an outermost acquire.
+fn taken_in(row: &IndexRow) -> Option<Place>
+    ensures { result ≡ taken_before row.now.event.op row.now.depth row.now.object.earlier }
 {
     match begun_in(row) {
-        Some(_) => place_of(row.topic.earlier),
+        Some(_) => place_of(row.object.earlier),
         None => None,
     }
 }
 
-/// The index of a trace, with a count of its events.
+/// Returns the index of a trace, and counts its events.
 fn build_counted<L: Ledger>(
     alloc: Global,
     state: RandomState,
@@ -93,35 +100,21 @@ fn build_counted<L: Ledger>(
     Ok(index)
 }
 
-/// A well-formed trace with links between its places, which grows by `reserve` and `record`.
-/// Look-ups take no memory, and answer none or an empty view for what is not in the trace. Full
-/// segments may be shared with other indices.
+/// An index of a well-formed trace, which grows by `reserve` and `record`. Look-ups do not
+/// allocate. For a place that is not in the trace they return `None` or an empty list. Indices may
+/// share full segments.
 ///
-/// Contracts see the events, and the event that is reserved.
+/// Contracts see the events, and the reserved event.
+#[derive(Drop)]
 pub struct TraceIndex {
     alloc: Global,
     state: RandomState,
-    rows: Segments<Row>,
-    marks: Marks,
-    latest: Latest,
+    rows: Segments<IndexRow>,
+    tables: SegmentTables,
+    last_places: LastPlaces,
     depths: Depths,
-    guesses: Guesses,
+    cache: PositionCache,
     next: Option<Ready>,
-}
-
-impl Drop for TraceIndex {
-    fn drop(self) {
-        let TraceIndex {
-            alloc: _,
-            state: _,
-            rows: _,
-            marks: _,
-            latest: _,
-            depths: _,
-            guesses: _,
-            next: _,
-        } = self;
-    }
 }
 
 impl Model for TraceIndex {
@@ -136,18 +129,17 @@ impl Model for TraceIndex {
       reserved = option_map (λ ready. ready.row.event) i.next;
     } };
 
-    ghost invariant = { λ i. IsWhole i.rows i.marks.sealed.items i.marks.tail
-        i.latest.places i.latest.noted i.depths.table i.depths.noted i.next };
+    ghost invariant = { λ i. IsWhole i.rows i.tables.sealed.items i.tables.tail
+        i.last_places.places i.last_places.noted i.depths.table i.depths.noted i.next };
 }
 
 impl TraceIndex {
-    /// The index of a trace, made in one pass over its events: each is reserved and then recorded.
-    ///
-    /// The caller owes a well-formed trace. `state` hashes the keys of the tables.
+    /// Returns the index of `events`, which must be a well-formed trace. `state` is the hash state
+    /// of the tables.
     ///
     /// # Errors
     ///
-    /// `NoMemory` where a growth was refused.
+    /// `NoMemory` if an allocation fails.
     pub fn build(
         alloc: Global,
         state: RandomState,
@@ -159,7 +151,7 @@ impl TraceIndex {
         build_counted::<Brand>(alloc, state, events, Blank::new(1))
     }
 
-    /// How many events the trace has: at most `MAX_EVENTS`, since it is well formed.
+    /// Returns the number of events, at most `MAX_EVENTS`.
     pub fn len(&self) -> usize
         ensures length { result ≡ length self.now.events }
         ensures well_formed { IsWellFormed self.now.events }
@@ -168,7 +160,7 @@ impl TraceIndex {
         self.rows.len()
     }
 
-    /// The event at a place.
+    /// Returns the event at `place`, or `None` if the trace has no such place.
     #[inline(always)]
     pub fn event(&self, place: Place) -> Option<Event>
         ensures { result ≡ slice_get self.now.events place }
@@ -179,8 +171,8 @@ impl TraceIndex {
         }
     }
 
-    /// The writer of a read: the last write to its variable before it, or none. None for any other
-    /// event.
+    /// Returns the writer of the read at `place`: the last write to its variable before it. Returns
+    /// `None` if there is none, or if the event is not a read.
     #[inline(always)]
     pub fn writer(&self, place: Place) -> Option<Place>
         ensures { result ≡ writer self.now.events place }
@@ -191,7 +183,8 @@ impl TraceIndex {
         }
     }
 
-    /// How many places of its thread stand before a place: its index in `thread_places`.
+    /// Returns the number of earlier events of the same thread, which is the index of `place` in
+    /// `thread_places`.
     #[inline(always)]
     pub fn number(&self, place: Place) -> Option<u32>
         ensures { result ≡ number_at self.now.events place }
@@ -202,7 +195,7 @@ impl TraceIndex {
         }
     }
 
-    /// The place before a place in its thread, or none.
+    /// Returns the previous place of the same thread, or `None`.
     #[inline(always)]
     pub fn thread_before(&self, place: Place) -> Option<Place>
         ensures { result ≡ thread_before self.now.events place }
@@ -213,8 +206,8 @@ impl TraceIndex {
         }
     }
 
-    /// The lock on which a critical section begins at a place: that of an outermost acquire. None
-    /// for any other event.
+    /// Returns the lock on which a critical section begins at `place`, or `None` unless the event
+    /// is an outermost acquire.
     #[inline(always)]
     pub fn begun(&self, place: Place) -> Option<u32>
         ensures { result ≡ begun self.now.events place }
@@ -225,8 +218,8 @@ impl TraceIndex {
         }
     }
 
-    /// Of an outermost acquire the last one of its lock before it, or none. None for any other
-    /// event.
+    /// Returns the previous outermost acquire of the same lock. Returns `None` if there is none, or
+    /// if the event is not an outermost acquire.
     #[inline(always)]
     pub fn acquire_before(&self, place: Place) -> Option<Place>
         ensures { result ≡ acquire_before self.now.events place }
@@ -237,8 +230,9 @@ impl TraceIndex {
         }
     }
 
-    /// The release of an outermost acquire: the next outermost release of its lock by its thread,
-    /// or none. None for any other event.
+    /// Returns the release that ends the critical section that begins at `place`: the next
+    /// outermost release of the lock by the same thread. Returns `None` if there is none, or if the
+    /// event is not an outermost acquire.
     #[inline(always)]
     pub fn release_of(&self, place: Place) -> Option<Place>
         ensures { result ≡ release self.now.events place }
@@ -247,42 +241,44 @@ impl TraceIndex {
             return None;
         };
         match begun_in(&row) {
-            Some(_) => ended_in(&self.marks.sealed, &self.marks.tail, place),
+            Some(_) => release_in_segments(&self.tables.sealed, &self.tables.tail, place),
             None => None,
         }
     }
 
-    /// The one fork of a thread; thread 0 has none.
+    /// Returns the place of the fork of `thread`, or `None` for thread 0 and for a thread that is
+    /// not forked.
     pub fn fork_of(&self, thread: u32) -> Option<Place>
         ensures { (p : ℕ) → (result ≡ Some p) ↔ Does self.now.events p (Fork thread) }
     {
-        last_marked(&self.marks.sealed, &self.marks.tail, Key::ForkOf(thread))
+        last_in_segments(&self.tables.sealed, &self.tables.tail, Key::ForkOf(thread))
     }
 
-    /// The places of a key, ascending.
-    fn places_of(&self, key: Key) -> PlacesOf<'_>
+    /// Returns the places of a key, ascending.
+    fn places_of(&self, key: Key) -> KeyPlaces<'_>
         ensures { result ≡ ascending (passes self.now.events key) (length self.now.events) }
     {
-        let chain = Chain {
+        let list = KeyList {
             rows: &self.rows,
             key,
         };
-        let last = index_of(last_marked(&self.marks.sealed, &self.marks.tail, key));
-        PlacesOf { chain, last }
+        let last = index_of(last_in_segments(&self.tables.sealed, &self.tables.tail, key));
+        KeyPlaces { list, last }
     }
 
-    /// The places of a thread, ascending.
-    pub fn thread_places(&self, thread: u32) -> PlacesOf<'_>
+    /// Returns the places of `thread`, ascending.
+    pub fn thread_places(&self, thread: u32) -> KeyPlaces<'_>
         ensures { result ≡ ascending (of_thread self.now.events thread) (length self.now.events) }
     {
         self.places_of(Key::OfThread(thread))
     }
 
-    /// The places of the outermost acquires of a lock, by whichever thread, ascending.
-    pub fn acquires(&self, lock: u32) -> PlacesOf<'_>
+    /// Returns the places of the outermost acquires of `lock` by any thread, ascending. Part of the
+    /// public API; not called by the program.
+    pub fn acquires(&self, lock: u32) -> KeyPlaces<'_>
         ensures { result ≡ ascending (begins_on self.now.events lock)
             (length self.now.events) }
     {
-        self.places_of(Key::Taking(lock))
+        self.places_of(Key::AcquireOf(lock))
     }
 }

@@ -68,7 +68,8 @@ read_needs_earlier_section (order, o, e) =
     let three = c.threads 3 6 six (1, (Acquire 20, refl), (Write 7, refl), omega arith) in
     (e 3 (0, omega arith, refl)).0 (listed_contains order 3 three)
 
--- both sections of lock 30 are in, so the first one's release is, which stands after the place
+-- the closure contains both sections of lock 30, so it contains the first release, which is after
+-- the place
 swapped_sections-not_found : Reached swapped_sections (4 ∷ 11 ∷ []) → ⊥
 swapped_sections-not_found (order, o, e) =
     let c = reordering_closes swapped_sections order o in
@@ -79,7 +80,7 @@ swapped_sections-not_found (order, o, e) =
     let four = c.threads 4 7 seven (1, (Acquire 20, refl), (Release 30, refl), omega arith) in
     (e 4 (0, omega arith, refl)).0 (listed_contains order 4 four)
 
--- the fork stands after the place
+-- the fork is after the place
 fork_orders_the_threads : Reached forked_after (1 ∷ 6 ∷ []) → ⊥
 fork_orders_the_threads (order, o, e) =
     let c = reordering_closes forked_after order o in

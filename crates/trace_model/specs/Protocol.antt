@@ -1,4 +1,5 @@
--- What is asked and answered, in bytes and by the machine, and runs of the machine.
+-- The protocol: requests and replies as bytes, the machine that answers them, and its runs. All of
+-- it is this project's profile.
 pub mod Refusals
 pub mod Frames
 pub mod FormerFrames

@@ -1,4 +1,4 @@
--- Traces and what is said of them: held locks, lawful events, reorderings, closures, cycles and
+-- The theory: traces, held locks, lawful events, reorderings, closures, dependencies, cycles and
 -- rows.
 pub mod Trace
 pub mod Held

@@ -1,4 +1,4 @@
-//! Laws of the definitions.
+//! The laws of the definitions: each function has a theorem as its contract, and no body.
 
 ghost use Rattle.trace_model.specs.Theory.Laws.{HeldIsHeld, HoldsInSection, WriterIsGreatest, ReleaseIsLeast, ClosureIsExistence, ClosureIsSmallest, ClosureIsBefore, ClosureIsStable, LesserIsReached, StandsIsStanding, HeldByOtherIsHeld, HeldAscends, DependenciesAreNumbered, ReachedIsDeadlocked, RowsAreUnique, RowsAreSound, ConfirmedStays, WellFormedGrows, ReorderingIsWalk, ClosureGrows, CaughtIsEarly, ThreadsAreForked, ThreadsAreForkedOnce, NothingFollowsJoin, ReleaseIsOwn, SectionsAreApart};
 ghost use Rattle.trace_model.specs.Theory.EventLaws.{OneMoreEvent, OwnerHolds, HeldAreFew, LawfulHigher};
@@ -7,7 +7,7 @@ ghost use Rattle.trace_model.specs.Protocol.Frames.{OneReading};
 ghost use Rattle.trace_model.specs.Protocol.FormerFrames.{FormerTextsKeep};
 ghost use Rattle.trace_model.specs.Protocol.Batches.{BatchesAreLongest};
 
-/// The look-ups are what their words say.
+/// States that held sets, writers and releases are what their definitions say.
 pub fn lookups_are_exact()
     ensures held { HeldIsHeld }
     ensures section { HoldsInSection }
@@ -15,84 +15,88 @@ pub fn lookups_are_exact()
     ensures release { ReleaseIsLeast }
 {}
 
-/// Places are reached by some reordering exactly where the closure holds none of them.
+/// States that some reordering reaches the places exactly if the closure contains none of them, and
+/// that the closure is then the smallest such reordering.
 pub fn closure_is_existence()
     ensures existence { ClosureIsExistence }
     ensures smallest { ClosureIsSmallest }
 {}
 
-/// What is reached stays so in a longer trace.
+/// States that the closure is before the given places, and does not change as the trace grows.
 pub fn closure_is_stable()
     ensures before { ClosureIsBefore }
     ensures stable { ClosureIsStable }
 {}
 
-/// Of two reached instances the lesser of the two is reached.
+/// States that the index-wise lesser of two reached instances is reached.
 pub fn lesser_is_reached()
     ensures { LesserIsReached }
 {}
 
-/// The gate's tests and the held locks are what their words say.
+/// States that the tests of the gate decide what is in the trace and what is held, and that held
+/// sets ascend.
 pub fn held_is_exact()
     ensures stands { StandsIsStanding }
     ensures other { HeldByOtherIsHeld }
     ensures ascends { HeldAscends }
 {}
 
-/// Dependencies are numbered by first appearance.
+/// States that dependencies are numbered by first appearance.
 pub fn dependencies_are_numbered()
     ensures { DependenciesAreNumbered }
 {}
 
-/// What reaches an instance of a cycle leaves it deadlocked.
+/// States that a reordering that reaches an instance of a cycle leaves it deadlocked.
 pub fn reached_is_deadlocked()
     ensures { ReachedIsDeadlocked }
 {}
 
-/// There is one list of rows, and they are sound.
+/// States that a task has one list of exact rows, and that these rows are sound.
 pub fn rows_are_unique()
     ensures unique { RowsAreUnique }
     ensures sound { RowsAreSound }
 {}
 
-/// A confirmed row stays as the trace grows: its cycle's numbers, its instance and its witness are
-/// the same.
+/// States that a confirmed row stays as the trace grows: its cycle, its instance and its witness do
+/// not change.
 pub fn confirmed_stays()
     ensures { ConfirmedStays }
 {}
 
-/// A trace stays well formed.
+/// States that a prefix of a well-formed trace is well formed, and so is a well-formed trace with
+/// one more lawful event.
 pub fn well_formed_grows()
     ensures { WellFormedGrows }
 {}
 
-/// What the gate's tests give of a well-formed trace: its threads were forked, each once, before
-/// their events; nothing of a thread follows its join.
+/// States that in a well-formed trace each thread is forked once, before its events, and has no
+/// event after its join.
 pub fn threads_are_ordered()
     ensures forked { ThreadsAreForked }
     ensures once { ThreadsAreForkedOnce }
     ensures joined { NothingFollowsJoin }
 {}
 
-/// In a well-formed trace a critical section is ended by its own thread, before the next one of its
-/// lock.
+/// States that in a well-formed trace the thread of a critical section ends it, before the next
+/// section on the same lock begins.
 pub fn sections_are_apart()
     ensures own { ReleaseIsOwn }
     ensures apart { SectionsAreApart }
 {}
 
-/// A list is a reordering exactly where each place may come next after those before it.
+/// States that a list is a reordering exactly if each place may come next after the places before
+/// it.
 pub fn reordering_is_walk()
     ensures { ReorderingIsWalk }
 {}
 
-/// Why moving one pointer at a time finds the least reached instance.
+/// States why moving one pointer forward at a time finds the least reached instance.
 pub fn pointers_move_forward()
     ensures grows { ClosureGrows }
     ensures caught { CaughtIsEarly }
 {}
 
-/// What gates and tables need of one more event.
+/// States how one more event changes the values that gates and tables store.
 pub fn one_more_event()
     ensures more { OneMoreEvent }
     ensures owner { OwnerHolds }
@@ -100,13 +104,14 @@ pub fn one_more_event()
     ensures higher { LawfulHigher }
 {}
 
-/// The summary of a run is that of the state after it, and both are within the limits.
+/// States that the summary of a run is that of the state after it, and that both are within the
+/// limits.
 pub fn summary_is_state()
     ensures state { SummariesAreStates }
     ensures fits { RunsFit }
 {}
 
-/// How runs go on.
+/// States how runs are split and continued, and that the machine takes their steps.
 pub fn runs_go_on()
     ensures split { RunsSplit }
     ensures takes { MachineTakesSteps }
@@ -116,17 +121,18 @@ pub fn runs_go_on()
     ensures status { StatusesAreShown }
 {}
 
-/// A batch is taken up to its first event that is not lawful after those before it.
+/// States that a batch is accepted up to its first event that is not lawful after the events before
+/// it.
 pub fn batches_are_longest()
     ensures { BatchesAreLongest }
 {}
 
-/// Each text of bytes has one reading.
+/// States that each text of bytes has exactly one reading.
 pub fn one_reading()
     ensures { OneReading }
 {}
 
-/// A text without a batch is read as it was before there were batches.
+/// States that a text without a batch is read as in the protocol without batches.
 pub fn former_texts_keep()
     ensures { FormerTextsKeep }
 {}

@@ -1,7 +1,10 @@
-//! The events of a traced program, and what is said of them: held locks, lawful events,
-//! reorderings, closures, dependencies, cycles and rows, with the laws that say that these are what
-//! they should be; what a session asks and is answered, with the bytes of both, and the machine
-//! that answers.
+//! The vocabulary of the product: events, places, held locks, dependencies, cycles, and the
+//! requests and replies of a session.
+//!
+//! The definitions are in `specs/Theory` (traces, sync-preserving reorderings, closures, cycles,
+//! rows) and `specs/Protocol` (frames, the machine, its runs). The functions of [`laws`] state the
+//! main theorems about them; each has the laws as its contract and no body. Start reading at
+//! `specs/Theory/Trace.antt`, then at `laws`.
 #![tactic(auto)]
 
 pub mod laws;

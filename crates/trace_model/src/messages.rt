@@ -1,4 +1,4 @@
-//! What a session asks and is answered, batches, reports, and the steps that a board shows.
+//! Requests, replies, batches, reports, and the steps that a board publishes.
 
 pub(crate) mod batch;
 pub(crate) mod report;

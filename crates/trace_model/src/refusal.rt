@@ -3,58 +3,58 @@
 use std::alloc::AllocError;
 use thiserror::Error;
 
-/// Why something is refused.
+/// Why a request, an event or a finding is refused.
 #[derive(Clone, Copy, Debug, PartialEq, Eq)]
 pub enum Refusal {
-    /// The trace has as many events as the limit.
+    /// The trace has as many events as its limit allows.
     Full,
-    /// The event's thread is not 0, and no fork of it is in the trace.
+    /// The thread of the event is not 0, and the trace has no fork of it.
     Unforked,
-    /// A join of the event's thread is in the trace.
+    /// The trace has a join of the thread of the event.
     Ended,
-    /// A fork of thread 0, or of a thread whose fork is in the trace.
+    /// A fork of thread 0, or of a thread that the trace has a fork of.
     AlreadyForked,
     /// A fork, and the trace has `MAX_FORKS` forks.
     TooManyThreads,
-    /// A thread joins itself.
+    /// A join of the thread itself.
     JoinsItself,
-    /// A join of thread 0, or of a thread whose fork is not in the trace.
+    /// A join of thread 0, or of a thread that the trace has no fork of.
     JoinUnknown,
-    /// A join of a thread whose join is in the trace.
+    /// A join of a thread that the trace has a join of.
     JoinedTwice,
     /// An acquire of a lock that the thread holds at depth `MAX_DEPTH`.
     TooNested,
     /// An acquire of a lock that another thread holds.
     HeldByOther,
-    /// An outermost acquire while the thread holds `MAX_HELD` locks.
+    /// An outermost acquire, and the thread holds `MAX_HELD` locks.
     TooDeep,
     /// A release of a lock that the thread does not hold.
     NotHeld,
-    /// A growth was refused where nothing else was.
+    /// An allocation failed, and no other refusal applies.
     NoMemory,
-    /// An ask whose bound is not `MIN_BOUND` to `MAX_BOUND`.
+    /// An ask with a bound outside `MIN_BOUND` to `MAX_BOUND`.
     BadBound,
-    /// An ask where there are as many questions as the limit.
+    /// An ask, and the book has `MAX_QUESTIONS` questions.
     TooManyQuestions,
-    /// There is no question with this number.
+    /// No question has this number.
     NoSuchQuestion,
-    /// The text of a report would have more than `MAX_REPORT` bytes.
+    /// The text of the report would have more than `MAX_REPORT` bytes.
     ReportTooLong,
     /// A finding of a task that its question does not have.
     NoSuchTask,
     /// A finding of a task whose finding was delivered.
     Double,
-    /// A finding with another bound than its question's.
+    /// A finding with another bound than its question.
     OtherBound,
-    /// A finding over another trace than its question's.
+    /// A finding over another trace than its question.
     OtherTrace,
-    /// A status, and the board was not to be read.
+    /// A status, and the board could not be read.
     BoardBusy,
     /// A task has more than `MAX_CYCLES` cycles.
     TooManyCycles,
 }
 
-/// A growth was refused. What the allocator answers becomes this by `?`.
+/// An allocation failed. `?` converts an `AllocError` to it.
 #[derive(Debug, Drop, PartialEq, Eq, Error)]
 #[error("no memory")]
 pub struct NoMemory(#[from(alloc)] AllocError);
@@ -63,7 +63,7 @@ impl Refusal {
     ghost use Rattle.std.specs.Prelude.{◌≡◌};
     ghost use Rattle.trace_model.specs.Protocol.Refusals.{number_of};
 
-    /// Its number.
+    /// Returns the number of the refusal.
     pub fn number(self) -> u8
         ensures { result ≡ number_of self }
     {
@@ -98,7 +98,7 @@ impl Refusal {
 ghost use Rattle.std.specs.Prelude.{◌≡◌, option_map};
 ghost use Rattle.trace_model.specs.Protocol.Refusals.{refusal_name};
 
-/// The name of the refusal with this number, none for a number that no refusal has.
+/// Returns the name of the refusal with this number, or `None` if no refusal has it.
 pub fn refusal_name(number: u8) -> Option<&'static str>
     ensures { option_map (λ s. s.now) result ≡ refusal_name number }
 {

@@ -1,4 +1,4 @@
-//! Traces: events, places, owners of locks, cycles, their instances and bounds.
+//! Events, places, owners of locks, cycles, instances and bounds.
 
 pub(crate) mod bound;
 pub(crate) mod cycle;

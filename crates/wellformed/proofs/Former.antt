@@ -1,4 +1,4 @@
--- In a trace whose acquires are outermost, the former definitions say what the present ones say.
+-- On a flat trace, the definitions without inner acquires agree with the present ones.
 pub mod Held
 pub mod Lawful
 pub mod Lookups

@@ -1,4 +1,4 @@
--- In a trace whose acquires are outermost, a lock is held where its last event is an acquire.
+-- In a flat trace, a lock is held exactly if its last event is an acquire.
 use Rattle.std.proofs.Common.{◌≡◌, ℕ, zero, suc, ◌<◌, ◌≤◌, inl, inr, Bool, true, false, cond, ltb, [], ◌∷◌, ◌++◌, length, take, slice_get, Option, Some, None, refl, sym, ap, subst, ◌∙◌, arith}
 use Rattle.std.proofs.lemmas.Bool.{false≢true, cases_lt, ltb-true, ltb-false, lt-ltb, le-leb}
 use Rattle.std.proofs.lemmas.List.Sums.{fold-append}
@@ -44,7 +44,7 @@ flat_whole s flat p t l at = flat p t l (slice_get_within s p (event t (Acquire 
 pub flat_below : (s : Trace) (n : ℕ) → IsFlat s → IsFlatBelow s n
 flat_below s n flat p t l below at = flat p t l at
 
--- a beginning of it
+-- a prefix of a flat trace is flat
 pub flat_take : (s : Trace) (n : ℕ) → IsFlatBelow s n → IsFlat (take n s)
 flat_take s n flat p t l at =
     let below = get-take_past n s p (event t (Acquire l)) at in
@@ -62,7 +62,7 @@ flat-front s e flat p t l at =
 pub taken-push : (s : Trace) (e : Event) (l : ℕ) → taken (s ++ e ∷ []) l ≡ taken_after l (taken s l) e
 taken-push s e l = fold-append (taken_after l) false s (e ∷ [])
 
--- a lock that is owned once is free after one release
+-- a lock at depth 1 is free after one release
 once : (o : Option Owner) → owned o ≤ 1 → owned (released o) ≡ 0
 once None h = refl
 once (Some x) h = rw (le-leb x.depth 1 h) refl
@@ -83,7 +83,7 @@ module _ (s : Trace) (w : IsWellFormed s) (flat : IsFlat s) (e : Event) (lawful 
       go false true k = rw (once (owner s l) (owned_once (op_eq_same e.op (Release l) k))) refl
       go false false k = was
 
--- in such a trace a lock has an owner exactly where its last event is an acquire
+-- in a flat trace a lock has an owner exactly if its last event is an acquire
 pub taken-owned : (s : Trace) → IsWellFormed s → IsFlat s → (l : ℕ) → taken s l ≡ ltb 0 (owned (owner s l))
 taken-owned = by_pushes (λ s. IsWellFormed s → IsFlat s → (l : ℕ) → taken s l ≡ ltb 0 (owned (owner s l)))
     (λ w flat l. refl)
@@ -94,7 +94,7 @@ taken-owned = by_pushes (λ s. IsWellFormed s → IsFlat s → (l : ℕ) → tak
     ∙ taken_next s front flat-s e (lawful_op MAX_EVENTS s e (well_formed-last s e w)) l (known front flat-s l)
     ∙ ap (λ o. ltb 0 (owned o)) (sym (owner-push s e l)))
 
--- an acquire is an inner one exactly where the last event on its lock before it is an acquire
+-- an acquire is inner exactly if the last event on its lock before it is an acquire
 pub taken-depth : (s : Trace) → IsWellFormed s → (q t l : ℕ) → IsFlatBelow s q → At s q (event t (Acquire l)) →
     taken (take q s) l ≡ ltb 0 (depth s q t l)
 taken-depth s w q t l flat at =
@@ -106,7 +106,7 @@ taken-depth s w q t l flat at =
 -- ---- one more event
 
 module _ (s : Trace) (w : IsWellFormed s) (q : ℕ) (flat : IsFlatBelow s q) where
-  -- it acquires a lock that its thread holds
+  -- the next event acquires a lock that its thread holds, so the trace is not flat
   pub not_flat : (t : ℕ) (o : Op) → At s q (event t o) → acquires_taken (take q s) o ≡ true → IsFlat s → ⊥
   not_flat t (Acquire l) at h whole =
       let deep = ltb-true 0 (depth s q t l) (sym (taken-depth s w q t l flat at) ∙ h) in omega (arith, deep, whole q t l at)
@@ -116,7 +116,7 @@ module _ (s : Trace) (w : IsWellFormed s) (q : ℕ) (flat : IsFlatBelow s q) whe
   not_flat t (Read l) at h whole = false≢true h
   not_flat t (Write l) at h whole = false≢true h
 
-  -- or it doesn't
+  -- or it does not, so the longer prefix is flat
   pub flat_more : (e : Event) → At s q e → acquires_taken (take q s) e.op ≡ false → IsFlatBelow s (suc q)
   flat_more e at h p t l below acquires = elim (cases_lt p q) [
     | inl z ↦ flat p t l z acquires

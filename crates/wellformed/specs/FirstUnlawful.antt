@@ -6,14 +6,15 @@ use Rattle.trace_model.specs.Theory.Trace.{Trace, At}
 use Rattle.trace_model.specs.Theory.Lawful.{refusal_of, IsWellFormed}
 use Rattle.wellformed.specs.declared.whole_lists.FirstUnlawful.{FirstUnlawful}
 
--- the event at the index has this refusal after those before it, and these are well formed
+-- The events before the index are well formed, and the event at the index has this refusal after
+-- them.
 abbrev pub IsFirstUnlawful : Trace → FirstUnlawful → Type 0
 IsFirstUnlawful s first =
     IsWellFormed (take first.index s)
     × ((e : Event) × At s first.index e
     × (refusal_of MAX_EVENTS (take first.index s) e ≡ Some first.refusal))
 
--- the first unlawful event, or none where all are lawful
+-- The result is the first unlawful event of the trace, or none if the trace is well formed.
 abbrev pub IsPassage : Trace → Option FirstUnlawful → Type 0
 IsPassage s None = IsWellFormed s
 IsPassage s (Some first) = IsFirstUnlawful s first

@@ -1,4 +1,5 @@
--- Traces without inner acquires, of which the former definitions say what the present ones say.
+-- Traces without inner acquires. On them, the definitions without inner acquires (`Former`) agree
+-- with the present ones.
 use Rattle.std.specs.Prelude.{◌≡◌, ℕ, ◌↔◌, Bool, true, false, List, fold, if◌then◌else◌}
 use Rattle.trace_model.specs.declared.traces.event.Event.{Event}
 use Rattle.trace_model.specs.declared.traces.event.Op.{Op}
@@ -13,26 +14,27 @@ use Rattle.wellformed.specs.Former.Dependencies as former_dependencies
 use Rattle.wellformed.specs.Former.Reordering as former_reordering
 use Rattle.wellformed.specs.Former.Rows as former_rows
 
--- every acquire is outermost
+-- Each acquire of the trace is outermost.
 abbrev pub IsFlat : Trace → Type 0
 IsFlat s = (p t l : ℕ) → At s p (event t (Acquire l)) → depth s p t l ≡ 0
 
--- the last event on the lock is an acquire of it
+-- The last event on lock l is an acquire, after event e, if it was b before.
 abbrev pub taken_after : ℕ → Bool → Event → Bool
 taken_after l b e =
     if op_eq e.op (Acquire l) then true
     else (if op_eq e.op (Release l) then false
     else b)
 
+-- The last event on lock l is an acquire.
 abbrev pub taken : Trace → ℕ → Bool
 taken s l = fold (taken_after l) false s
 
--- the operation acquires a lock whose last event is an acquire
+-- The operation acquires a lock whose last event is an acquire.
 abbrev pub acquires_taken : Trace → Op → Bool
 acquires_taken s (Acquire l) = taken s l
 acquires_taken s _ = false
 
--- what is said of the trace is what the former definitions say of it
+-- The definitions without inner acquires agree with the present ones on the trace.
 pub record AgreesWithFormer (s : Trace) : Type 0 where
   pub well_formed : former_lawful.IsWellFormed s
   pub reorderings : (order : List ℕ) → former_reordering.IsReordering s order ↔ IsReordering s order

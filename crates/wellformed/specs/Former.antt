@@ -1,5 +1,5 @@
--- The definitions that knew no inner acquires: a thread could not acquire a lock that it held.
--- What they said as it is said now is not repeated.
+-- The definitions without inner acquires, under which a thread cannot acquire a lock that it holds.
+-- Definitions that are the same in both are not repeated.
 pub mod Held
 pub mod Lawful
 pub mod Lookups

@@ -1,4 +1,4 @@
--- What the gate's tables have to do with the recorded events.
+-- The tables of the gate and the events that they follow.
 use Rattle.std.specs.Prelude.{◌≡◌, ℕ, ◌<◌, ◌≤◌, length, Option, Some, None}
 use Rattle.trace_model.specs.declared.traces.event.Event.{Event}
 use Rattle.trace_model.specs.declared.traces.event.Op.{Op}
@@ -12,7 +12,8 @@ use Rattle.wellformed.specs.declared.tables.GateTables.{GateTables}
 use Rattle.wellformed.specs.Owners.{OwnerTable, owner_in, HasLock}
 use Rattle.wellformed.specs.Threads.{ThreadTable, thread_in, HasThread}
 
--- the tables say of each thread and lock what the events say
+-- The tables have the state of each thread, the owner of each lock, and the number of forks of the
+-- events.
 pub record AreTables (events : Trace) (threads : ThreadTable) (owners : OwnerTable)
     (forked : ℕ) : Type 0 where
   pub forked_is : (t : ℕ) → (thread_in threads t).forked ≡ stands events (Fork t)
@@ -21,39 +22,39 @@ pub record AreTables (events : Trace) (threads : ThreadTable) (owners : OwnerTab
   pub owner_is : (lock : ℕ) → owner_in owners lock ≡ owner events lock
   pub forks_is : forked ≡ forks events
 
--- there is an entry for the thread that the operation names, if it names one
+-- The thread that the operation names, if any, has an entry.
 abbrev pub HasOpThread : ThreadTable → Op → Type 0
 HasOpThread m (Fork c) = HasThread m c
 HasOpThread m (Join c) = HasThread m c
 HasOpThread m _ = Unit {0}
 
--- there is an entry for the lock that the operation names, if it names one
+-- The lock that the operation names, if any, has an entry.
 abbrev pub HasOpLock : OwnerTable → Op → Type 0
 HasOpLock m (Acquire l) = HasLock m l
 HasOpLock m (Release l) = HasLock m l
 HasOpLock m _ = Unit {0}
 
--- there are entries for all that the event names
+-- Each thread and lock that the event names has an entry.
 pub record HasEntries (threads : ThreadTable) (owners : OwnerTable) (e : Event) : Type 0 where
   pub own : HasThread threads e.thread
   pub other : HasOpThread threads e.op
   pub lock : HasOpLock owners e.op
 
--- there is room for the event
+-- Memory is reserved for the event.
 abbrev pub HasRoomFor : GateTables → Event → Type 0
 HasRoomFor tables e = HasEntries tables.threads tables.owners e
 
--- the tables are those of the events, which are well formed
+-- The events are well formed, and the tables are those of the events.
 pub record FollowEvents (tables : GateTables) (events : Trace) : Type 0 where
   pub counted : tables.count ≡ length events
   pub well_formed : IsWellFormed events
   pub shown : AreTables events tables.threads tables.owners tables.forks
 
--- the tables are those of events after which the event is lawful
+-- The tables are those of some events after which event e is lawful.
 abbrev pub IsLawfulNext : GateTables → Event → Type 0
 IsLawfulNext tables e = (s : Trace) × FollowEvents tables s × (refusal_of MAX_EVENTS s e ≡ None)
 
--- what a gate keeps, whose list has so many events and room for so many
+-- The invariant of a gate. `list` is the length and the capacity of its list of events.
 pub record IsKept (limit : ℕ) (events : Trace) (reserved : Option Event) (list : ℕ × ℕ)
     (tables : GateTables) : Type 0 where
   pub within : length events ≤ limit

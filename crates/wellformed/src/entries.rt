@@ -1,4 +1,4 @@
-//! What one more event changes in the tables, and the entries that it needs.
+//! The changes of one event in the tables, and the entries that it needs.
 ghost use Rattle.std.specs.Prelude.{◌≡◌, ◌+◌, ◌<◌, ◌^◌, ℕ, OnErr, OnOk};
 ghost use Rattle.wellformed.specs.Owners.{owner_in, op_owner};
 ghost use Rattle.wellformed.specs.Threads.{thread_in, thread_after, HasThread};
@@ -6,11 +6,11 @@ ghost use Rattle.wellformed.specs.Tables.{HasOpThread, HasOpLock};
 ghost use Rattle.trace_model.specs.Theory.Holders.{owner_after, owned, released};
 ghost use Rattle.trace_model.specs.declared.limits.TheConstants.{MAX_DEPTH};
 
-use crate::owners::{Owners, owner_of, reserve_owner, set_owner};
-use crate::threads::{ThreadEntry, Threads, known, reserve_thread, set_thread};
+use crate::owners::{Owners, owner_of};
+use crate::threads::{ThreadEntry, Threads, UNKNOWN, thread_entry};
 use trace_model::{Event, NoMemory, Op, Owner};
 
-/// The owner of the lock that the operation names, none if it names none.
+/// Returns the owner of the lock that the operation names, or `None` if it names none.
 #[inline(always)]
 pub fn owner_of_op(owners: &Owners, op: Op) -> Option<Owner>
     ensures { result ≡ op_owner owners.now op }
@@ -21,7 +21,7 @@ pub fn owner_of_op(owners: &Owners, op: Op) -> Option<Owner>
     }
 }
 
-/// How deep a lock is held by its owner.
+/// Returns the depth of the owner, 0 for a free lock.
 pub fn depth_of(owner: Option<Owner>) -> u8
     ensures { result ≡ owned owner }
 {
@@ -31,7 +31,7 @@ pub fn depth_of(owner: Option<Owner>) -> u8
     }
 }
 
-/// The owner after one release.
+/// Returns the owner after one release.
 fn released_once(owner: Option<Owner>) -> Option<Owner>
     ensures { result ≡ released owner }
 {
@@ -44,9 +44,9 @@ fn released_once(owner: Option<Owner>) -> Option<Owner>
     }
 }
 
-/// Notes the event in the table of locks. Its lock was owned so.
+/// Records the event in the table of locks. `was` is the owner of its lock before it.
 #[inline(always)]
-pub fn note_lock(owners: &mut Owners, event: &Event, was: Option<Owner>)
+pub fn record_lock(owners: &mut Owners, event: &Event, was: Option<Owner>)
     requires entry { HasOpLock owners.old event.now.op }
     requires was { was ≡ op_owner owners.old event.now.op }
     requires room { (lock : ℕ) → event.now.op ≡ Op.Acquire lock → owned was < MAX_DEPTH }
@@ -59,18 +59,18 @@ pub fn note_lock(owners: &mut Owners, event: &Event, was: Option<Owner>)
                 thread: event.thread,
                 depth: depth_of(was) + 1,
             };
-            set_owner(owners, lock, Some(owner));
+            owners.set(lock, Some(owner));
         }
-        Op::Release(lock) => set_owner(owners, lock, released_once(was)),
+        Op::Release(lock) => owners.set(lock, released_once(was)),
         _ => {}
     }
 }
 
-/// Makes the entries that the event needs in the table of locks.
+/// Reserves the entry that the event needs in the table of locks. The owners do not change.
 ///
 /// # Errors
 ///
-/// `NoMemory` where a growth was refused. What the table shows stays.
+/// `NoMemory` if an allocation fails, which happens only if the lock has no entry.
 #[inline(always)]
 pub fn reserve_lock(owners: &mut Owners, event: &Event) -> Result<(), NoMemory>
     ensures shown { (lock : ℕ) → owner_in owners.new lock ≡ owner_in owners.old lock }
@@ -79,15 +79,16 @@ pub fn reserve_lock(owners: &mut Owners, event: &Event) -> Result<(), NoMemory>
     ensures wanting { OnErr result (¬ HasOpLock owners.old event.now.op) }
 {
     match event.op {
-        Op::Acquire(lock) | Op::Release(lock) => reserve_owner(owners, lock),
-        _ => Ok(()),
+        Op::Acquire(lock) | Op::Release(lock) => owners.reserve(lock, None)?,
+        _ => {}
     }
+    Ok(())
 }
 
-/// Notes the event in the table of threads. Its lock was so deep: a thread holds one lock more, or
-/// one less, only after an outermost acquire or release.
+/// Records the event in the table of threads. `depth` is the depth of its lock before it: the
+/// number of held locks changes only at an outermost acquire or release.
 #[inline(always)]
-pub fn note_thread(threads: &mut Threads, event: &Event, depth: u8)
+pub fn record_thread(threads: &mut Threads, event: &Event, depth: u8)
     requires own { HasThread threads.old event.now.thread }
     requires other { HasOpThread threads.old event.now.op }
     requires few { (thread_in threads.old event.now.thread).held + 1 < 2 ^ 32 }
@@ -96,9 +97,8 @@ pub fn note_thread(threads: &mut Threads, event: &Event, depth: u8)
 {
     match event.op {
         Op::Fork(child) => {
-            let was = known(threads, child);
-            set_thread(
-                threads,
+            let was = thread_entry(threads, child);
+            threads.set(
                 child,
                 ThreadEntry {
                     forked: true,
@@ -107,9 +107,8 @@ pub fn note_thread(threads: &mut Threads, event: &Event, depth: u8)
             );
         }
         Op::Join(child) => {
-            let was = known(threads, child);
-            set_thread(
-                threads,
+            let was = thread_entry(threads, child);
+            threads.set(
                 child,
                 ThreadEntry {
                     joined: true,
@@ -118,24 +117,24 @@ pub fn note_thread(threads: &mut Threads, event: &Event, depth: u8)
             );
         }
         Op::Acquire(_) if depth == 0 => {
-            let was = known(threads, event.thread);
+            let was = thread_entry(threads, event.thread);
             let held = was.held + 1;
-            set_thread(threads, event.thread, ThreadEntry { held, ..was });
+            threads.set(event.thread, ThreadEntry { held, ..was });
         }
         Op::Release(_) if depth <= 1 => {
-            let was = known(threads, event.thread);
+            let was = thread_entry(threads, event.thread);
             let held = was.held.saturating_sub(1);
-            set_thread(threads, event.thread, ThreadEntry { held, ..was });
+            threads.set(event.thread, ThreadEntry { held, ..was });
         }
         Op::Acquire(_) | Op::Release(_) | Op::Read(_) | Op::Write(_) => {}
     }
 }
 
-/// Makes the entries that the event needs in the table of threads.
+/// Reserves the entries that the event needs in the table of threads. The states do not change.
 ///
 /// # Errors
 ///
-/// `NoMemory` where a growth was refused. What the table shows stays.
+/// `NoMemory` if an allocation fails, which happens only if some thread has no entry.
 #[inline(always)]
 pub fn reserve_threads(threads: &mut Threads, event: &Event) -> Result<(), NoMemory>
     ensures shown { (t : ℕ) → thread_in threads.new t ≡ thread_in threads.old t }
@@ -146,9 +145,10 @@ pub fn reserve_threads(threads: &mut Threads, event: &Event) -> Result<(), NoMem
     ensures wanting { OnErr result (HasThread threads.old event.now.thread →
         HasOpThread threads.old event.now.op → ⊥) }
 {
-    reserve_thread(threads, event.thread)?;
+    threads.reserve(event.thread, UNKNOWN)?;
     match event.op {
-        Op::Fork(child) | Op::Join(child) => reserve_thread(threads, child),
-        _ => Ok(()),
+        Op::Fork(child) | Op::Join(child) => threads.reserve(child, UNKNOWN)?,
+        _ => {}
     }
+    Ok(())
 }

@@ -1,16 +1,18 @@
-//! Traces without an inner acquire.
+//! Traces without inner acquires.
 ghost use Rattle.std.specs.Prelude.{◌≡◌, ◌↔◌, IsTrue};
 ghost use Rattle.trace_model.specs.Theory.Lawful.{IsWellFormed};
 ghost use Rattle.wellformed.specs.Flat.{acquires_taken, taken, AgreesWithFormer, IsFlat};
 
 use trace_model::{Event, Op};
 
-/// Whether each acquire among the events, which must be well formed, is outermost: no thread
-/// acquires a lock that it holds. Where it answers true, the definitions that knew no inner
-/// acquires say the same of the events as those that do: that they are well formed, which lists are
-/// reorderings, and what the dependencies and the rows are.
+/// Returns whether each acquire of a well-formed trace is outermost: no thread acquires a lock that
+/// it holds.
 ///
-/// It takes no memory. From each acquire it looks back to the last event on the same lock.
+/// If it returns true, then the definitions without inner acquires agree with the present ones on
+/// the trace: well-formedness, reorderings, dependencies and rows.
+///
+/// Does not allocate. For each acquire it looks back to the last event on the same lock. Part of
+/// the public API; not called by the program.
 pub fn flat(events: &[Event]) -> bool
     requires { IsWellFormed events.now }
     ensures exact { IsTrue result ↔ IsFlat events.now }
@@ -24,7 +26,7 @@ pub fn flat(events: &[Event]) -> bool
     true
 }
 
-/// Whether the operation acquires a lock that is taken after these events.
+/// Returns whether the operation acquires a lock whose last event before it is an acquire.
 fn acquires_taken(before: &[Event], op: Op) -> bool
     ensures { result ≡ acquires_taken before.now op }
 {
@@ -34,8 +36,8 @@ fn acquires_taken(before: &[Event], op: Op) -> bool
     }
 }
 
-/// Whether the last event on the lock is an acquire of it. Read from the end, since it mostly
-/// stands near there.
+/// Returns whether the last event on the lock is an acquire. Searches from the end, since the event
+/// is mostly near it.
 fn is_taken(before: &[Event], lock: u32) -> bool
     ensures { result ≡ taken before.now lock }
 {

@@ -1,4 +1,4 @@
-//! The gate: which events are lawful, one after the other.
+//! The gate with its list of events.
 
 ghost use Rattle.std.specs.Prelude.{◌≡◌, ◌≢◌, ◌≤◌, length, None, Some, [], OnErr, OnOk};
 ghost use Rattle.std.specs.Result.{result_err};
@@ -12,23 +12,15 @@ use std::hash::RandomState;
 use std::marker::Model;
 use trace_model::{Event, NoMemory, Refusal};
 
-/// The recorded events, each lawful after those before it, and the event that there is room for.
+/// The recorded events, each lawful after the events before it, and the reserved event.
+///
+/// Contracts see the limit, the events and the reserved event.
+#[derive(Drop)]
 pub struct Gate {
     limit: usize,
     events: Vec<Event>,
     reserved: Option<Event>,
     tables: GateTables,
-}
-
-impl Drop for Gate {
-    fn drop(self) {
-        let Gate {
-            limit: _,
-            events: _,
-            reserved: _,
-            tables: _,
-        } = self;
-    }
 }
 
 impl Model for Gate {
@@ -49,7 +41,8 @@ impl Model for Gate {
 }
 
 impl Gate {
-    /// A gate without events, which takes at most `max_events`. That is at most `MAX_EVENTS`.
+    /// Returns a gate without events that accepts at most `max_events`, which is at most
+    /// `MAX_EVENTS`. Does not allocate.
     pub fn new(alloc: Global, state: RandomState, max_events: usize) -> Gate
         requires { max_events ≤ MAX_EVENTS }
         ensures { result ≡ record { limit = max_events; events = []; reserved = None } }
@@ -62,7 +55,7 @@ impl Gate {
         }
     }
 
-    /// Whether the event may follow the recorded ones. It takes no memory.
+    /// Tests whether `event` may follow the recorded events. Does not allocate.
     ///
     /// # Errors
     ///
@@ -73,7 +66,7 @@ impl Gate {
         self.tables.check(self.limit, event)
     }
 
-    /// The recorded events.
+    /// Returns the recorded events.
     pub fn events(&self) -> &[Event]
         ensures value { result.now ≡ self.now.events }
         ensures well_formed { IsWellFormed self.now.events }
@@ -82,12 +75,12 @@ impl Gate {
         &self.events
     }
 
-    /// Makes room for this event. Room that was made for another is then given up.
+    /// Reserves memory for `event`, instead of an event that was reserved before.
     ///
     /// # Errors
     ///
-    /// `NoMemory`, but not where there is room for this very event. Nothing has changed: an earlier
-    /// reservation stays.
+    /// `NoMemory` if an allocation fails, which does not happen if this event is reserved already.
+    /// The gate is unchanged, and so is an earlier reservation.
     pub fn reserve(&mut self, event: &Event) -> Result<(), NoMemory>
         ensures events { (self.new.events ≡ self.old.events) × (self.new.limit ≡ self.old.limit) }
         ensures ok { OnOk result (self.new.reserved ≡ Some event.now) }
@@ -100,8 +93,7 @@ impl Gate {
         Ok(())
     }
 
-    /// Records the event, which must be lawful, and the one that room was last made for. It takes
-    /// no memory.
+    /// Records `event`. The event must be lawful and must be the reserved one. Does not allocate.
     pub fn record(&mut self, event: &Event)
         requires reserved { self.old.reserved ≡ Some event.now }
         requires lawful { refusal_of self.old.limit self.old.events event.now ≡ None }

@@ -1,5 +1,9 @@
-//! The gate: which events may follow the recorded ones, and which of a list is the first that may
-//! not. And a test for traces without inner acquires.
+//! The gate: decides which events may follow the recorded ones.
+//!
+//! [`Gate`] records events, and [`GateTables`] is the gate without the list of events. `check`
+//! returns exactly the first refusal that applies, `reserve` allocates for an event, and `record`
+//! adds it without allocating. [`first_unlawful`] checks a whole list, and [`flat`] tests that a
+//! trace has no inner acquire. Start reading at [`Gate`].
 #![tactic(auto)]
 
 mod entries;

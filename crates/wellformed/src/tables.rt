@@ -1,4 +1,4 @@
-//! What the gate keeps of the trace.
+//! The tables of the gate.
 
 ghost use Rattle.std.specs.Prelude.{◌≡◌, ◌+◌, ◌<◌, ◌^◌, cond, length, None, [], ◌∷◌, ◌++◌, OnErr, OnOk};
 ghost use Rattle.std.specs.Result.{result_err};
@@ -11,24 +11,27 @@ ghost use Rattle.trace_model.specs.Theory.Lawful.{is_fork, held_by_other, op_ref
 ghost use Rattle.wellformed.specs.Tables.{FollowEvents, HasRoomFor, IsLawfulNext};
 
 use crate::entries::{
-    depth_of, note_lock, note_thread, owner_of_op, reserve_lock, reserve_threads,
+    depth_of, owner_of_op, record_lock, record_thread, reserve_lock, reserve_threads,
 };
-use crate::owners::{Owners, no_owners, owner_of};
-use crate::threads::{Threads, known, no_threads};
+use crate::owners::{Owners, owner_of};
+use crate::threads::{Threads, thread_entry};
+use number_map::NumberMap;
 use std::alloc::Global;
 use std::hash::RandomState;
 use trace_model::{Event, MAX_DEPTH, MAX_FORKS, MAX_HELD, NoMemory, Op, Owner, Refusal};
 
-/// How deep a thread holds a lock, and whether another holds it.
+/// The depth at which a thread holds a lock, and whether another thread holds the lock.
 #[derive(Clone, Copy)]
 struct Holder {
     depth: u8,
     other: bool,
 }
 
-/// What the gate has to know of the recorded events: how many they are and how many of them fork a
-/// thread, what is known of each thread, and who owns each lock and how deep. The events themselves
-/// are kept by whoever has them anyway.
+/// The facts of the recorded events that the gate needs: the number of events and of forks, the
+/// state of each thread, and the owner of each lock.
+///
+/// The events themselves are not stored here.
+#[derive(Drop)]
 pub struct GateTables {
     count: usize,
     forks: usize,
@@ -36,32 +39,21 @@ pub struct GateTables {
     owners: Owners,
 }
 
-impl Drop for GateTables {
-    fn drop(self) {
-        let GateTables {
-            count: _,
-            forks: _,
-            threads: _,
-            owners: _,
-        } = self;
-    }
-}
-
 impl GateTables {
-    /// The tables of no event. It takes no memory.
+    /// Returns the tables of the empty trace. Does not allocate.
     pub fn new(alloc: Global, state: RandomState) -> GateTables
         ensures { FollowEvents result [] }
     {
         GateTables {
             count: 0,
             forks: 0,
-            threads: no_threads(alloc, state),
-            owners: no_owners(alloc, state),
+            threads: NumberMap::new(alloc, state),
+            owners: NumberMap::new(alloc, state),
         }
     }
 
-    /// Whether the event may follow the recorded ones, of which there may be `limit`. It takes no
-    /// memory.
+    /// Tests whether `event` may follow the recorded events. `limit` is the greatest number of
+    /// events. Does not allocate.
     ///
     /// # Errors
     ///
@@ -74,7 +66,7 @@ impl GateTables {
         if self.count >= limit {
             return Err(Refusal::Full);
         }
-        let own = known(&self.threads, event.thread);
+        let own = thread_entry(&self.threads, event.thread);
         if event.thread != 0 && !own.forked {
             return Err(Refusal::Unforked);
         }
@@ -90,11 +82,12 @@ impl GateTables {
         }
     }
 
+    /// Tests a fork of `child` by `thread`.
     fn check_fork(&self, thread: u32, child: u32) -> Result<(), Refusal>
         ensures { (s : Trace) → FollowEvents self.now s →
             result_err result ≡ op_refusal_of s thread (Op.Fork child) }
     {
-        if child == 0 || known(&self.threads, child).forked {
+        if child == 0 || thread_entry(&self.threads, child).forked {
             return Err(Refusal::AlreadyForked);
         }
         if self.forks >= MAX_FORKS {
@@ -103,6 +96,7 @@ impl GateTables {
         Ok(())
     }
 
+    /// Tests a join of `child` by `thread`.
     fn check_join(&self, thread: u32, child: u32) -> Result<(), Refusal>
         ensures { (s : Trace) → FollowEvents self.now s →
             result_err result ≡ op_refusal_of s thread (Op.Join child) }
@@ -110,7 +104,7 @@ impl GateTables {
         if child == thread {
             return Err(Refusal::JoinsItself);
         }
-        let joined = known(&self.threads, child);
+        let joined = thread_entry(&self.threads, child);
         if child == 0 || !joined.forked {
             return Err(Refusal::JoinUnknown);
         }
@@ -120,6 +114,7 @@ impl GateTables {
         Ok(())
     }
 
+    /// Tests an acquire of `lock` by `thread`, which holds `count` locks.
     fn check_acquire(&self, thread: u32, lock: u32, count: u32) -> Result<(), Refusal>
         ensures { (s : Trace) → FollowEvents self.now s →
             count ≡ length (held s (length s) thread) →
@@ -138,6 +133,7 @@ impl GateTables {
         Ok(())
     }
 
+    /// Tests a release of `lock` by `thread`.
     fn check_release(&self, thread: u32, lock: u32) -> Result<(), Refusal>
         ensures { (s : Trace) → FollowEvents self.now s →
             result_err result ≡ op_refusal_of s thread (Op.Release lock) }
@@ -148,6 +144,7 @@ impl GateTables {
         Ok(())
     }
 
+    /// Returns how `thread` and others hold `lock`.
     fn holder(&self, thread: u32, lock: u32) -> Holder
         ensures depth { (s : Trace) → FollowEvents self.now s →
             result.depth ≡ depth s (length s) thread lock }
@@ -157,12 +154,12 @@ impl GateTables {
         holder_of(owner_of(&self.owners, lock), thread)
     }
 
-    /// Makes room for this event. The events stay those that they were.
+    /// Reserves memory for `event`. The recorded events do not change. Reservations for other
+    /// events stay.
     ///
     /// # Errors
     ///
-    /// `NoMemory`, but not where there is room for this very event. Room that was made for another
-    /// event stays.
+    /// `NoMemory` if an allocation fails, which does not happen if this event is reserved already.
     #[inline(always)]
     pub fn reserve(&mut self, event: &Event) -> Result<(), NoMemory>
         ensures follow { (s : Trace) → FollowEvents self.old s → FollowEvents self.new s }
@@ -174,7 +171,8 @@ impl GateTables {
         reserve_lock(&mut self.owners, event)
     }
 
-    /// Records the event, which must be lawful, and for which room was made. It takes no memory.
+    /// Records `event`. The event must be lawful, and memory must be reserved for it. Does not
+    /// allocate.
     #[inline(always)]
     pub fn record(&mut self, event: &Event)
         requires room { HasRoomFor self.old event.now }
@@ -183,13 +181,14 @@ impl GateTables {
             FollowEvents self.new (s ++ event.now ∷ []) }
     {
         let was = owner_of_op(&self.owners, event.op);
-        note_thread(&mut self.threads, event, depth_of(was));
-        note_lock(&mut self.owners, event, was);
+        record_thread(&mut self.threads, event, depth_of(was));
+        record_lock(&mut self.owners, event, was);
         self.forks = forks_after(self.forks, event);
         self.count += 1;
     }
 }
 
+/// Returns how `thread` and others hold a lock with this owner.
 fn holder_of(owner: Option<Owner>, thread: u32) -> Holder
     ensures depth { result.depth ≡ depth_by owner thread }
     ensures other { result.other ≡ is_other_owner owner thread }
@@ -210,6 +209,7 @@ fn holder_of(owner: Option<Owner>, thread: u32) -> Holder
     }
 }
 
+/// Returns the number of forks after the event.
 fn forks_after(forks: usize, event: &Event) -> usize
     requires { forks + 1 < 2 ^ 64 }
     ensures { result ≡ forks + cond (is_fork event.now.op) 1 0 }

@@ -8,21 +8,21 @@ use std::alloc::Global;
 use std::hash::RandomState;
 use trace_model::{Event, MAX_EVENTS, NoMemory, Refusal};
 
-/// The first event of a list that is not lawful after those before it.
+/// The first event of a list that is not lawful after the events before it.
 #[derive(Clone, Copy, Debug, PartialEq, Eq)]
 pub struct FirstUnlawful {
-    /// How many events stand before it.
+    /// The 0-based index of the event.
     pub index: usize,
     /// The first refusal that applies to it.
     pub refusal: Refusal,
 }
 
-/// The first of the events that is not lawful after those before it, of which there may be
-/// `MAX_EVENTS`; none where all are lawful.
+/// Returns the first of `events` that is not lawful after the events before it, or `None` if all
+/// are lawful. At most `MAX_EVENTS` events are lawful.
 ///
 /// # Errors
 ///
-/// `NoMemory` where a growth of the gate's tables was refused.
+/// `NoMemory` if an allocation fails.
 pub fn first_unlawful(
     alloc: Global,
     state: RandomState,

@@ -1,4 +1,4 @@
-//! The witness of an instance, from the fronts of its closure.
+//! Writes the witness of an instance from the fronts of its closure.
 
 ghost use Rattle.std.specs.Prelude.{◌≡◌, List, ℕ, length, IfOk};
 ghost use Rattle.trace_model.specs.Theory.Closure.{IsClosure, ascending};
@@ -11,15 +11,14 @@ use std::alloc::Global;
 use trace_index::TraceIndex;
 use trace_model::{NoMemory, Place};
 
-/// The places of the fronts, ascending. Where the fronts are the closure of what reached places
-/// need, this is a reordering that reaches them, and its places are in every other one. It looks at
-/// no place past the greatest of those that were to be reached.
-///
-/// The caller owes the index of the trace that the fronts were made over.
+/// Returns the places of the fronts, ascending. If the fronts are the closure of reached places,
+/// the result is a sync-preserving reordering that reaches them, and its places are in every other
+/// one. It does not visit places after the greatest of the reached places.
 ///
 /// # Errors
+/// `NoMemory` if an allocation fails.
 ///
-/// `NoMemory` where a growth was refused; what was written is dropped.
+/// The caller passes the index of the trace over which the fronts were made.
 pub fn write_witness(
     alloc: Global,
     index: &TraceIndex,

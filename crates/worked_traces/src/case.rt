@@ -4,7 +4,7 @@ use std::alloc::{AllocError, Global};
 use std::io::{self, ErrorKind};
 use std::{fs, str};
 
-/// A case: its folder, which names the command, and its name there.
+/// A case: its folder, which is the name of the command, and its name in this folder.
 #[derive(Clone, Copy)]
 pub struct Case<'a> {
     pub folder: &'a str,
@@ -12,14 +12,15 @@ pub struct Case<'a> {
 }
 
 impl Case<'_> {
-    /// The path of its file with this ending.
+    /// Returns the path of the file of the case with this ending.
     pub(crate) fn path(&self, alloc: Global, ending: &str) -> Result<String, AllocError> {
         let folder = self.folder;
         let name = self.name;
         format!(in alloc; "{folder}/{name}.{ending}")
     }
 
-    /// What its file with this ending holds; nothing where there is none.
+    /// Returns the contents of the file of the case with this ending, empty if there is no such
+    /// file.
     pub(crate) fn bytes(&self, rt: &HostRuntime, ending: &str) -> io::Result<Vec<u8>> {
         let path = self.path(rt.alloc(), ending)?;
         match fs::read(rt, path.as_str()) {
@@ -28,7 +29,7 @@ impl Case<'_> {
         }
     }
 
-    /// The words of its command line up to its files.
+    /// Returns the words of the command line up to the file names, without the arguments.
     fn command(&self, alloc: Global) -> Result<Vec<String>, AllocError> {
         let endings: &[&str] = match self.folder {
             "replay" => &["trace", "witness"],
@@ -43,7 +44,7 @@ impl Case<'_> {
         Ok(words)
     }
 
-    /// The words of its command line.
+    /// Returns the words of the command line: program, command, files, and arguments.
     pub(crate) fn words(&self, rt: &HostRuntime) -> Result<Vec<String>> {
         let arguments = self.bytes(rt, "args")?;
         let mut words = self.command(rt.alloc())?;
@@ -52,7 +53,7 @@ impl Case<'_> {
     }
 }
 
-/// Adds the words of a text.
+/// Adds the words of a text, which are separated by white space.
 fn push_words(alloc: Global, words: &mut Vec<String>, text: &[u8]) -> Result<()> {
     let text = str::from_utf8(text).ok().context("arguments in text")?;
     for word in text.split_ascii_whitespace() {
@@ -61,7 +62,8 @@ fn push_words(alloc: Global, words: &mut Vec<String>, text: &[u8]) -> Result<()>
     Ok(())
 }
 
-/// The names of the cases in a folder, ascending: of each there is a file with its exit status.
+/// Returns the names of the cases in a folder, ascending. Each case has a file `NAME.status` with
+/// its exit status.
 pub(crate) fn names_in(rt: &HostRuntime, folder: &str) -> io::Result<Vec<String>> {
     let mut names = Vec::new(rt.alloc());
     for entry in fs::read_dir(rt, folder)? {

@@ -1,13 +1,14 @@
-//! Runs the worked traces in its folder of data by the program's own calls, and compares what they
-//! print with what must be printed. Each script is also run as one session with findings, and each
-//! witness of a report is handed to the checker.
+//! Runs the worked traces in its folder `data` by the functions of the commands, and compares their
+//! exit status and output with the expected files. It also runs each script as one session with
+//! findings, which must give the same text, and passes each witness of a report to the replay
+//! checker. Each folder of `data` is a command; `sessions` is a run of sessions. Start with `main`.
 #![tactic(auto)]
 
 ghost use Rattle.command_line.specs.CommandLine.{IsInRange};
 
 mod case;
+mod command_runs;
 mod replies;
-mod running;
 mod script_runs;
 mod session_cases;
 mod witnesses;
@@ -15,68 +16,74 @@ mod witnesses;
 use anyhow::Result;
 use case::{Case, names_in};
 use command_line::{Invocation, parse};
-use outcomes::Status;
-use running::{Told, run};
-use script_runs::played;
+use command_runs::{Outcome, run};
+use commands::Status;
+use script_runs::play_script;
 use session_cases::run_sessions;
 use std::fs;
 use std::process::ExitCode;
 use std::thread::Threads;
 use witnesses::are_accepted;
 
-/// What is wrong with what the commands told, if anything is.
-fn fault_of(rt: &HostRuntime, case: Case<'_>, told: &Told) -> Result<Option<&'static str>> {
+/// Returns what differs between the outcome and the expected files of the case, or `None` if
+/// nothing does.
+fn difference_in(
+    rt: &HostRuntime,
+    case: Case<'_>,
+    outcome: &Outcome,
+) -> Result<Option<&'static str>> {
     let status = case.bytes(rt, "status")?;
-    let code = told.status.code();
+    let code = outcome.status.code();
     if status.trim_ascii() != format!(in rt.alloc(); "{code}")?.as_bytes() {
         return Ok(Some("its exit status"));
     }
-    if told.out != case.bytes(rt, "out")? {
+    if outcome.out != case.bytes(rt, "out")? {
         return Ok(Some("its output"));
     }
-    if told.err != case.bytes(rt, "err")? {
+    if outcome.err != case.bytes(rt, "err")? {
         return Ok(Some("its errors"));
     }
     Ok(None)
 }
 
-/// What is wrong with the other ways to the same answer, if anything is.
-fn other_fault_of(
+/// Checks a second way to the same answer: of a script, its run as a session; of a report, its
+/// witnesses. Returns what is wrong, or `None` if nothing is.
+fn fault_in_other_ways(
     rt: &HostRuntime,
     invocation: &Invocation<'_>,
-    told: &Told,
+    outcome: &Outcome,
 ) -> Result<Option<&'static str>>
     requires { IsInRange invocation.now }
 {
     match invocation {
-        Invocation::Script { file, limit } if told.status == Status::Done => {
+        Invocation::Script { file, limit } if outcome.status == Status::Done => {
             let bytes = fs::read(rt, *file)?;
-            let whole = played(rt, &bytes, *limit, 11)?;
-            let cut = played(rt, &bytes, *limit, 1)?;
-            let is_same = whole == told.out && cut == told.out;
+            let whole = play_script(rt, &bytes, *limit, 11)?;
+            let cut = play_script(rt, &bytes, *limit, 1)?;
+            let is_same = whole == outcome.out && cut == outcome.out;
             Ok((!is_same).then_some("its run as a session"))
         }
-        Invocation::Offline { file, .. } if told.status == Status::Done => {
-            let is_right = are_accepted(rt, &fs::read(rt, *file)?, &told.out)?;
+        Invocation::Offline { file, .. } if outcome.status == Status::Done => {
+            let is_right = are_accepted(rt, &fs::read(rt, *file)?, &outcome.out)?;
             Ok((!is_right).then_some("a witness"))
         }
         _ => Ok(None),
     }
 }
 
-/// Runs a case of sessions. It answers what is wrong, if anything is.
-fn judged_sessions(rt: &HostRuntime, case: Case<'_>) -> Result<Option<&'static str>> {
+/// Runs a case of sessions. Returns what is wrong, or `None` if nothing is.
+fn fault_in_sessions(rt: &HostRuntime, case: Case<'_>) -> Result<Option<&'static str>> {
     let out = run_sessions(rt, &case.bytes(rt, "in")?)?;
-    let told = Told {
+    let outcome = Outcome {
         status: Status::Done,
         out,
         err: Vec::new(rt.alloc()),
     };
-    fault_of(rt, case, &told)
+    difference_in(rt, case, &outcome)
 }
 
-/// Runs what a command line asks for. It answers what is wrong, if anything is.
-fn judged_invocation<T: Threads + Sync>(
+/// Runs a parsed command line. Returns what is wrong, or `None` if nothing is.
+fn fault_in_invocation<T: Threads + Sync>(
     rt: &HostRuntime,
     threads: &T,
     case: Case<'_>,
@@ -84,41 +91,41 @@ fn judged_invocation<T: Threads + Sync>(
 ) -> Result<Option<&'static str>>
     requires { IsInRange invocation.now }
 {
-    let told = run(rt, threads, invocation)?;
-    match fault_of(rt, case, &told)? {
+    let outcome = run(rt, threads, invocation)?;
+    match difference_in(rt, case, &outcome)? {
         Some(fault) => Ok(Some(fault)),
-        None => other_fault_of(rt, invocation, &told),
+        None => fault_in_other_ways(rt, invocation, &outcome),
     }
 }
 
-/// Runs a case of a command by the words of its command line. It answers what is wrong, if anything
-/// is.
-fn judged_command<T: Threads + Sync>(
+/// Runs a case of a command by the words of its command line. Returns what is wrong, or `None` if
+/// nothing is.
+fn fault_in_command<T: Threads + Sync>(
     rt: &HostRuntime,
     threads: &T,
     case: Case<'_>,
-    given: &[String],
+    line: &[String],
 ) -> Result<Option<&'static str>> {
     let mut words = Vec::new(rt.alloc());
-    for word in given {
+    for word in line {
         words.push(word.as_str())?;
     }
-    judged_invocation(rt, threads, case, &parse(rt.alloc(), &words)?)
+    fault_in_invocation(rt, threads, case, &parse(rt.alloc(), &words)?)
 }
 
-fn judged<T: Threads + Sync>(
+fn fault_in_case<T: Threads + Sync>(
     rt: &HostRuntime,
     threads: &T,
     case: Case<'_>,
 ) -> Result<Option<&'static str>> {
     if case.folder == "sessions" {
-        judged_sessions(rt, case)
+        fault_in_sessions(rt, case)
     } else {
-        judged_command(rt, threads, case, &case.words(rt)?)
+        fault_in_command(rt, threads, case, &case.words(rt)?)
     }
 }
 
-/// How many cases were run, and how many of them were wrong.
+/// The number of cases that were run, and the number of wrong ones.
 #[derive(Clone, Copy)]
 struct Counts {
     cases: u32,
@@ -126,7 +133,7 @@ struct Counts {
 }
 
 impl Counts {
-    /// Runs a case, and prints what came of it.
+    /// Runs a case, and prints whether it is right.
     fn run<T: Threads + Sync>(
         &mut self,
         rt: &HostRuntime,
@@ -135,7 +142,7 @@ impl Counts {
     ) -> Result<()> {
         let Case { folder, name } = case;
         self.cases = self.cases.saturating_add(1);
-        match judged(rt, threads, case)? {
+        match fault_in_case(rt, threads, case)? {
             None => println!(rt; "{folder}/{name} ok")?,
             Some(fault) => {
                 self.wrong = self.wrong.saturating_add(1);
@@ -145,7 +152,7 @@ impl Counts {
         Ok(())
     }
 
-    /// Runs the cases of a folder.
+    /// Runs the cases of a folder, in the order of their names.
     fn run_folder<T: Threads + Sync>(
         &mut self,
         rt: &HostRuntime,

@@ -1,14 +1,15 @@
-//! What a script prints of reply frames, read from their bytes.
+//! Prints reply frames as a script prints the replies. It decodes the frames itself, so that it
+//! does not depend on the encoder.
 use anyhow::{Context, Result, bail};
 use std::io::Write;
 use trace_model::refusal_name;
 
-/// Bytes that are read from their front.
+/// Bytes that are read from the front.
 #[derive(Drop)]
 pub struct Bytes<'a>(pub &'a [u8]);
 
 impl<'a> Bytes<'a> {
-    /// The next bytes, as many as the array has.
+    /// Reads the next `N` bytes.
     fn array<const N: usize>(&mut self) -> Result<[u8; N]> {
         let (first, rest) = self.0.split_first_chunk().context("a reply is cut")?;
         self.0 = rest;
@@ -27,7 +28,7 @@ impl<'a> Bytes<'a> {
         Ok(u64::from_be_bytes(self.array()?))
     }
 
-    /// The body of the next frame.
+    /// Reads the body of the next frame.
     fn body(&mut self) -> Result<Bytes<'a>> {
         let length = self.number()? as usize;
         if length > self.0.len() {
@@ -39,14 +40,15 @@ impl<'a> Bytes<'a> {
     }
 }
 
-/// Prints a refusal by its number.
+/// Prints the refusal with this number.
 pub(crate) fn print_refusal(text: &mut Vec<u8>, number: u8) -> Result<()> {
     let name = refusal_name(number).context("a refusal without a name")?;
     writeln!(text, "refused {number} {name}")?;
     Ok(())
 }
 
-/// Prints the first numbers of a status.
+/// Prints the question, the number of accepted events, the number of opened questions, and the
+/// question's length.
 fn print_lengths(text: &mut Vec<u8>, body: &mut Bytes<'_>) -> Result<()> {
     let question = body.number()?;
     let accepted = body.number()?;
@@ -59,7 +61,7 @@ fn print_lengths(text: &mut Vec<u8>, body: &mut Bytes<'_>) -> Result<()> {
     Ok(())
 }
 
-/// Prints what a status says of the question's tasks.
+/// Prints the bound, the number of tasks, and the number of delivered tasks.
 fn print_tasks(text: &mut Vec<u8>, body: &mut Bytes<'_>) -> Result<()> {
     let bound = body.byte()?;
     let total = body.number()?;
@@ -68,7 +70,7 @@ fn print_tasks(text: &mut Vec<u8>, body: &mut Bytes<'_>) -> Result<()> {
     Ok(())
 }
 
-/// Prints what a status says of the question's cycles.
+/// Prints the numbers of cycles and of confirmed cycles.
 fn print_cycles(text: &mut Vec<u8>, body: &mut Bytes<'_>) -> Result<()> {
     let cycles = body.wide()?;
     let confirmed = body.wide()?;
@@ -118,7 +120,7 @@ fn print_pending(text: &mut Vec<u8>, body: &mut Bytes<'_>) -> Result<()> {
     Ok(())
 }
 
-/// Prints the report that comes after the number of its question.
+/// Prints the report, which is after the number of its question.
 fn print_report(text: &mut Vec<u8>, body: &mut Bytes<'_>) -> Result<()> {
     body.number()?;
     text.extend_from_slice(body.0)?;
@@ -126,7 +128,7 @@ fn print_report(text: &mut Vec<u8>, body: &mut Bytes<'_>) -> Result<()> {
     Ok(())
 }
 
-/// Prints a reply of this kind.
+/// Prints the body of a reply of this kind.
 fn print_kind(text: &mut Vec<u8>, kind: u8, body: &mut Bytes<'_>) -> Result<()> {
     match kind {
         65 => print_placed(text, body),
@@ -141,6 +143,9 @@ fn print_kind(text: &mut Vec<u8>, kind: u8, body: &mut Bytes<'_>) -> Result<()> 
 }
 
 /// Prints the next reply.
+///
+/// # Errors
+/// Fails if a reply is cut or too long, its kind or its refusal is unknown, or an allocation fails.
 pub(crate) fn print_reply(text: &mut Vec<u8>, sent: &mut Bytes<'_>) -> Result<()> {
     let mut body = sent.body()?;
     let kind = body.byte()?;

@@ -1,33 +1,32 @@
-//! Scripts by one run of a session and of findings.
+//! Runs a script as one session with findings between its requests.
 ghost use Rattle.sequencer.specs.Book.{IsLimit};
 
 use crate::replies::{Bytes, print_refusal, print_reply};
 use anyhow::{Context, Result, bail};
+use commands::{Command, read_script};
 use event_frames::{answer_frame, ask_frame, batch_frame, offer_frame, status_frame};
 use findings::Job;
-use script_lines::{Command, read_script};
-use sequencer::Book;
-use sessions::{Input, Played, Session, play};
+use sequencer::{Book, Input, Played, Session, play};
 use std::alloc::Global;
 use std::hash::RandomState;
 use std::io::Write;
 use trace_model::Refusal;
 
-/// What a run is to print of a command.
+/// What to print for a command after the run.
 #[derive(Clone, Copy)]
-enum Awaited {
+enum Expected {
     /// The next reply.
     Reply,
-    /// What became of the next finding, which is about this task.
+    /// The outcome of the next finding, which is of this task.
     Delivery(u32),
-    /// How many of the next findings, so many, were taken.
+    /// The outcome of this number of next findings.
     Deliveries(u32),
-    /// This refusal: nothing could be sent.
+    /// This refusal: no input was sent.
     Refused(Refusal),
 }
 
-/// Who sends what a script says. Findings are computed over a book of its own, which is told the
-/// same.
+/// Turns the commands of a script into the inputs of a run. It computes findings over a second
+/// book, to which it offers the same events and findings.
 #[derive(Drop)]
 struct Sender {
     alloc: Global,
@@ -38,7 +37,7 @@ struct Sender {
 }
 
 impl Sender {
-    fn send(&mut self, command: &Command) -> Result<Awaited> {
+    fn send(&mut self, command: &Command) -> Result<Expected> {
         match command {
             Command::Offer(event) => {
                 let _ = self.book.offer(*event);
@@ -56,38 +55,39 @@ impl Sender {
             Command::Answer(question) => self.request(&answer_frame(*question)),
             Command::Status(question) => self.request(&status_frame(*question)),
             Command::Deliver { question, task } => match self.deliver(*question, *task)? {
-                Some(refusal) => Ok(Awaited::Refused(refusal)),
-                None => Ok(Awaited::Delivery(*task)),
+                Some(refusal) => Ok(Expected::Refused(refusal)),
+                None => Ok(Expected::Delivery(*task)),
             },
             Command::Work(question) => self.work(*question),
         }
     }
 
-    /// Sends the commands, one after another. It answers what the run is to print of each.
-    fn send_all(&mut self, commands: &[Command]) -> Result<Vec<Awaited>> {
-        let mut awaited = Vec::new(self.alloc);
+    /// Sends the commands in order. Returns what to print for each.
+    fn send_all(&mut self, commands: &[Command]) -> Result<Vec<Expected>> {
+        let mut expected = Vec::new(self.alloc);
         for command in commands {
-            awaited.push(self.send(command)?)?;
+            expected.push(self.send(command)?)?;
         }
-        Ok(awaited)
+        Ok(expected)
     }
 
-    /// What was sent.
+    /// Returns the inputs, and drops the book.
     fn into_inputs(self) -> Vec<Input> {
         let Sender { book, inputs, .. } = self;
         drop(book);
         inputs
     }
 
-    fn request(&mut self, frame: &[u8]) -> Result<Awaited> {
+    fn request(&mut self, frame: &[u8]) -> Result<Expected> {
         for piece in frame.chunks(self.piece.max(1)) {
             let bytes = Vec::from_slice(self.alloc, piece)?;
             self.inputs.push(Input::Piece(self.session, bytes))?;
         }
-        Ok(Awaited::Reply)
+        Ok(Expected::Reply)
     }
 
-    /// A job for a question; the outer result is of the run, the inner of the book.
+    /// Returns a job for a question. The outer error is one of this program, the inner error is a
+    /// refusal of the book.
     fn job(&self, question: u32) -> Result<Result<Job, Refusal>> {
         let snapshot = match self.book.snapshot(question) {
             Ok(snapshot) => snapshot,
@@ -97,7 +97,7 @@ impl Sender {
         Ok(Ok(Job::new(self.alloc, snapshot, question, bound)))
     }
 
-    /// Delivers a task, unless there is no such question.
+    /// Delivers a task. Returns the refusal if the book gives no snapshot of the question.
     fn deliver(&mut self, question: u32, task: u32) -> Result<Option<Refusal>> {
         match self.job(question)? {
             Ok(mut job) => {
@@ -110,7 +110,7 @@ impl Sender {
         }
     }
 
-    /// Computes a task twice, for the book and for the run.
+    /// Computes a task twice: for the book, and for the run.
     fn send_finding(&mut self, job: &mut Job, task: u32) -> Result<()> {
         let own = job.compute(task)?;
         let _ = self.book.deliver(own);
@@ -119,22 +119,22 @@ impl Sender {
         Ok(())
     }
 
-    fn work(&mut self, question: u32) -> Result<Awaited> {
+    fn work(&mut self, question: u32) -> Result<Expected> {
         match self.job(question)? {
             Ok(mut job) => {
                 let worked = self.work_by(&mut job, question);
                 drop(job);
                 worked
             }
-            Err(refusal) => Ok(Awaited::Refused(refusal)),
+            Err(refusal) => Ok(Expected::Refused(refusal)),
         }
     }
 
-    /// Delivers all tasks that are missing.
-    fn work_by(&mut self, job: &mut Job, question: u32) -> Result<Awaited> {
+    /// Delivers all missing tasks.
+    fn work_by(&mut self, job: &mut Job, question: u32) -> Result<Expected> {
         for worked in 0..u32::MAX {
             let Ok(Some(task)) = self.book.missing(question) else {
-                return Ok(Awaited::Deliveries(worked));
+                return Ok(Expected::Deliveries(worked));
             };
             self.send_finding(job, task)?;
         }
@@ -142,7 +142,8 @@ impl Sender {
     }
 }
 
-/// Prints what became of the next deliveries, so many of which were taken, as the words say.
+/// Prints the outcome of `count` deliveries from index `from` on: the first refusal, else their
+/// number.
 fn print_deliveries(text: &mut Vec<u8>, run: &Played, from: usize, count: u32) -> Result<()> {
     for index in 0..count as usize {
         let delivered = run.deliveries().get(from.saturating_add(index));
@@ -166,23 +167,28 @@ fn print_delivery(text: &mut Vec<u8>, run: &Played, index: usize, task: u32) -> 
     }
 }
 
-/// Prints what the run answered, command by command.
-fn printed(alloc: Global, run: &Played, session: Session, awaited: &[Awaited]) -> Result<Vec<u8>> {
+/// Returns the text of the run, command by command.
+fn printed(
+    alloc: Global,
+    run: &Played,
+    session: Session,
+    expected: &[Expected],
+) -> Result<Vec<u8>> {
     let mut text = Vec::new(alloc);
     let mut sent = Bytes(run.sent(session));
     let mut delivered = 0usize;
-    for step in awaited {
+    for step in expected {
         match step {
-            Awaited::Reply => print_reply(&mut text, &mut sent)?,
-            Awaited::Delivery(task) => {
+            Expected::Reply => print_reply(&mut text, &mut sent)?,
+            Expected::Delivery(task) => {
                 print_delivery(&mut text, run, delivered, *task)?;
                 delivered = delivered.saturating_add(1);
             }
-            Awaited::Deliveries(count) => {
+            Expected::Deliveries(count) => {
                 print_deliveries(&mut text, run, delivered, *count)?;
                 delivered = delivered.saturating_add(*count as usize);
             }
-            Awaited::Refused(refusal) => print_refusal(&mut text, refusal.number())?,
+            Expected::Refused(refusal) => print_refusal(&mut text, refusal.number())?,
         }
     }
     if !sent.0.is_empty() {
@@ -191,14 +197,14 @@ fn printed(alloc: Global, run: &Played, session: Session, awaited: &[Awaited]) -
     Ok(text)
 }
 
-/// What a run is given of these commands, and what it is to print of each.
+/// Returns the inputs of a run of these commands, and what to print for each.
 fn inputs_of(
     alloc: Global,
     book: Book,
     session: Session,
     commands: &[Command],
     piece: usize,
-) -> Result<(Vec<Input>, Vec<Awaited>)> {
+) -> Result<(Vec<Input>, Vec<Expected>)> {
     let mut sender = Sender {
         alloc,
         session,
@@ -207,7 +213,7 @@ fn inputs_of(
         piece,
     };
     match sender.send_all(commands) {
-        Ok(awaited) => Ok((sender.into_inputs(), awaited)),
+        Ok(expected) => Ok((sender.into_inputs(), expected)),
         Err(error) => {
             drop(sender);
             Err(error)
@@ -215,10 +221,18 @@ fn inputs_of(
     }
 }
 
-/// What the script in these bytes prints, by one run of `play`: the requests are the bytes of one
-/// session, in pieces of at most so many, and the findings of `work` and `deliver` come between
-/// them.
-pub(crate) fn played(rt: &HostRuntime, file: &[u8], limit: u32, piece: usize) -> Result<Vec<u8>>
+/// Runs the script in `file` by one call of `play`, and returns the text that the script prints.
+/// The requests are the bytes of one session, in pieces of at most `piece` bytes. The findings of
+/// `work` and `deliver` are inputs between them.
+///
+/// # Errors Fails if the script is not understood, an allocation fails, or the run does not give
+/// one reply for each request.
+pub(crate) fn play_script(
+    rt: &HostRuntime,
+    file: &[u8],
+    limit: u32,
+    piece: usize,
+) -> Result<Vec<u8>>
     requires { IsLimit limit }
 {
     let alloc = rt.alloc();
@@ -228,9 +242,9 @@ pub(crate) fn played(rt: &HostRuntime, file: &[u8], limit: u32, piece: usize) ->
         bail!("a script that is not understood");
     };
     let book = Book::new(alloc, state, limit)?;
-    let (inputs, awaited) = inputs_of(alloc, book, session, &commands, piece)?;
+    let (inputs, expected) = inputs_of(alloc, book, session, &commands, piece)?;
     let run = play(alloc, state, limit, inputs)?;
-    let text = printed(alloc, &run, session, &awaited);
+    let text = printed(alloc, &run, session, &expected);
     drop(run);
     text
 }

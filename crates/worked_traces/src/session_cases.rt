@@ -1,10 +1,9 @@
-//! Cases of sessions: pieces of bytes, ends of sessions, and findings, in one run.
+//! Runs cases of sessions: pieces of bytes, ends of sessions, and findings in one run.
 use crate::replies::print_refusal;
 use anyhow::{Context, Result, bail};
 use event_files::{event, lines_of, number, words_of};
 use findings::{Finding, Snapshot};
-use sequencer::Book;
-use sessions::{Input, Played, Session, play};
+use sequencer::{Book, Input, Played, Session, play};
 use std::alloc::Global;
 use std::hash::RandomState;
 use std::io::Write;
@@ -12,13 +11,13 @@ use std::str;
 use std::sync::Arc;
 use trace_model::{Bound, MAX_EVENTS};
 
-/// The session of a number from 0 to 63.
+/// Returns the session with this number, 0 to 63.
 fn session_of(word: &[u8]) -> Result<Session> {
     let index = u8::try_from(number(word).context("a number")?)?;
     Session::new(index).context("a session is 0 to 63")
 }
 
-/// The bytes that two digits each stand for.
+/// Decodes bytes from pairs of hexadecimal digits.
 fn bytes_of(alloc: Global, digits: &[u8]) -> Result<Vec<u8>> {
     let mut bytes = Vec::new(alloc);
     for pair in digits.chunks(2) {
@@ -28,7 +27,7 @@ fn bytes_of(alloc: Global, digits: &[u8]) -> Result<Vec<u8>> {
     Ok(bytes)
 }
 
-/// The book accepts the event of a word.
+/// Offers the event of a word to the book. Fails if the book refuses it.
 fn offer_word(book: &mut Book, word: &[u8]) -> Result<()> {
     let event = event(word).context("an event")?;
     if book.offer(event).is_err() {
@@ -37,8 +36,8 @@ fn offer_word(book: &mut Book, word: &[u8]) -> Result<()> {
     Ok(())
 }
 
-/// The book accepts the events of the words, and has a question about them.
-fn ask_about(book: &mut Book, words: &[&[u8]]) -> Result<()> {
+/// Offers the events of the words to the book, and asks a question with the bound 2 over them.
+fn ask_over(book: &mut Book, words: &[&[u8]]) -> Result<()> {
     for word in words {
         offer_word(book, word)?;
     }
@@ -46,32 +45,32 @@ fn ask_about(book: &mut Book, words: &[&[u8]]) -> Result<()> {
     Ok(())
 }
 
-/// The events of the words, as this book shares them.
+/// Returns a snapshot of the events of the words, which are added to the empty book.
 fn share(book: &mut Book, words: &[&[u8]]) -> Result<Arc<Snapshot, Global>> {
-    ask_about(book, words)?;
+    ask_over(book, words)?;
     book.snapshot(0).ok().context("a snapshot")
 }
 
-/// These events, as a book of its own shares them.
+/// Returns a snapshot of these events from a new book.
 fn snapshot_of(rt: &HostRuntime, words: &[&[u8]]) -> Result<Arc<Snapshot, Global>> {
     let state = RandomState::new(rt)?;
     let mut book = Book::new(rt.alloc(), state, MAX_EVENTS as u32)?;
     let shared = share(&mut book, words);
-    // What is big is dropped by a call: to drop it in place is long to prove.
+    // A large value is dropped by a call: a drop in place makes the proof long.
     drop(book);
     shared
 }
 
-/// The rows of a task, computed by someone who has these events.
-fn finding_of(rt: &HostRuntime, about: [u32; 3], words: &[&[u8]]) -> Result<Finding> {
-    let [question, bound, task] = about;
+/// Returns the finding with this question, bound and task, computed from these events.
+fn finding_of(rt: &HostRuntime, key: [u32; 3], words: &[&[u8]]) -> Result<Finding> {
+    let [question, bound, task] = key;
     let bound = Bound::new(u8::try_from(bound)?).context("a bound")?;
     let snapshot = snapshot_of(rt, words)?;
     let finding = findings::compute(rt.alloc(), snapshot, question, bound, task)?;
     Ok(finding)
 }
 
-/// A piece of bytes: its session and its bytes.
+/// Reads a piece: its session and its bytes.
 fn piece_in(alloc: Global, words: &[&[u8]]) -> Result<Input> {
     let [session, bytes] = words else {
         bail!("a piece has a session and bytes");
@@ -79,7 +78,7 @@ fn piece_in(alloc: Global, words: &[&[u8]]) -> Result<Input> {
     Ok(Input::Piece(session_of(session)?, bytes_of(alloc, bytes)?))
 }
 
-/// The end of a session.
+/// Reads the end of a session.
 fn end_in(words: &[&[u8]]) -> Result<Input> {
     let [session] = words else {
         bail!("an end has a session");
@@ -87,19 +86,19 @@ fn end_in(words: &[&[u8]]) -> Result<Input> {
     Ok(Input::End(session_of(session)?))
 }
 
-/// A finding: its question, bound and task, and the events that it is about.
+/// Reads a finding: its question, its bound, its task, and the events that it covers.
 fn finding_in(rt: &HostRuntime, words: &[&[u8]]) -> Result<Input> {
     let [question, bound, task, events @ ..] = words else {
         bail!("a finding has a question, a bound and a task");
     };
-    let mut about = [0u32; 3];
-    about[0] = number(question).context("a question")?;
-    about[1] = number(bound).context("a bound")?;
-    about[2] = number(task).context("a task")?;
-    Ok(Input::Finding(finding_of(rt, about, events)?))
+    let mut key = [0u32; 3];
+    key[0] = number(question).context("a question")?;
+    key[1] = number(bound).context("a bound")?;
+    key[2] = number(task).context("a task")?;
+    Ok(Input::Finding(finding_of(rt, key, events)?))
 }
 
-/// What a line of these words brings.
+/// Returns the input of a line.
 fn input_of(rt: &HostRuntime, words: &[&[u8]]) -> Result<Input> {
     let (keyword, rest) = words.split_first().context("a word")?;
     match str::from_utf8(keyword).ok() {
@@ -110,7 +109,7 @@ fn input_of(rt: &HostRuntime, words: &[&[u8]]) -> Result<Input> {
     }
 }
 
-/// Prints what a session was sent, if it was sent anything.
+/// Prints the bytes that were sent to a session, if any.
 fn print_sent(text: &mut Vec<u8>, run: &Played, number: u8) -> Result<()> {
     let session = Session::new(number).context("a session is 0 to 63")?;
     let sent = run.sent(session);
@@ -125,7 +124,7 @@ fn print_sent(text: &mut Vec<u8>, run: &Played, number: u8) -> Result<()> {
     Ok(())
 }
 
-/// What the lines of a file bring, in their order.
+/// Returns the inputs of the lines of a file, in order.
 fn inputs_of(rt: &HostRuntime, file: &[u8]) -> Result<Vec<Input>> {
     let alloc = rt.alloc();
     let mut inputs = Vec::new(alloc);
@@ -138,7 +137,8 @@ fn inputs_of(rt: &HostRuntime, file: &[u8]) -> Result<Vec<Input>> {
     Ok(inputs)
 }
 
-/// Prints what each session was sent, a line each, and then what became of each finding.
+/// Prints the bytes that were sent to each session, one line for each, and then the outcome of each
+/// finding.
 fn print_run(text: &mut Vec<u8>, run: &Played) -> Result<()> {
     for number in 0..64u8 {
         print_sent(text, run, number)?;
@@ -152,8 +152,9 @@ fn print_run(text: &mut Vec<u8>, run: &Played) -> Result<()> {
     Ok(())
 }
 
-/// Runs the inputs of a file, a line each: `piece S BYTES`, `end S`, or `finding Q K J EVENTS`. It
-/// prints what each session was sent, and what became of the findings.
+/// Runs the inputs of a file, one per line: `piece S BYTES`, `end S`, or `finding Q K J EVENTS`,
+/// with a session S, a question Q, a bound K and a task J. Returns the text with the bytes sent to
+/// each session and the outcomes of the findings.
 pub(crate) fn run_sessions(rt: &HostRuntime, file: &[u8]) -> Result<Vec<u8>> {
     let alloc = rt.alloc();
     let state = RandomState::new(rt)?;

@@ -1,12 +1,11 @@
-//! The witnesses of a report, handed to the checker.
+//! Passes the witnesses of a report to the replay checker.
 use anyhow::{Context, Result};
-use commands::{Files, Names, run_replay};
-use outcomes::Status;
+use commands::{Files, Names, Status, run_replay};
 use std::alloc::Global;
 use std::hash::RandomState;
 use std::str;
 
-/// Whether the checker accepts this witness of the trace.
+/// Returns whether the checker accepts this witness of the trace.
 fn is_accepted(rt: &HostRuntime, trace: &[u8], reach: &str, order: &str) -> Result<bool> {
     let alloc = rt.alloc();
     let state = RandomState::new(rt)?;
@@ -25,7 +24,7 @@ fn is_accepted(rt: &HostRuntime, trace: &[u8], reach: &str, order: &str) -> Resu
     Ok(status == Status::Done && out.as_slice() == b"reaches\n".as_slice())
 }
 
-/// Adds the place of a member's line, if it has one.
+/// Adds the place at the end of a member's line to `reach`, if there is one.
 fn push_place(alloc: Global, reach: &mut String, line: &str) -> Result<()> {
     if let Some((_, place)) = line.rsplit_once(" place ") {
         reach.push_str(&format!(in alloc; " {place}")?)?;
@@ -33,7 +32,7 @@ fn push_place(alloc: Global, reach: &mut String, line: &str) -> Result<()> {
     Ok(())
 }
 
-/// Whether the checker accepts each witness that the report on the trace prints.
+/// Returns whether the checker accepts each witness in the report on the trace.
 pub(crate) fn are_accepted(rt: &HostRuntime, trace: &[u8], report: &[u8]) -> Result<bool> {
     let alloc = rt.alloc();
     let report = str::from_utf8(report).ok().context("a report in text")?;

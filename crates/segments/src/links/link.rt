@@ -1,10 +1,9 @@
-//! A link, and what has links.
+//! Links, and lists with links.
 
 use crate::MaybeIndex;
 
-/// Where an entry stands among those that pass: how many of them stand before it, the last of
-/// these, and one of them that is further off (the entry itself where there is none), by their
-/// indices.
+/// The link of an entry that passes: the number of earlier entries that pass, the index of the last
+/// of them, and the index of one further back. The first entry that passes jumps to itself.
 #[derive(Clone, Copy)]
 pub struct Link {
     pub number: u32,
@@ -12,18 +11,18 @@ pub struct Link {
     pub jump: u32,
 }
 
-/// A list of which some entries pass, each with its link.
+/// A list of which some entries pass a test. Each of these has a link.
 pub trait Linked {
     ghost use Rattle.std.specs.Prelude.{◌≡◌, ◌<◌, ℕ, Bool, true};
     ghost use Rattle.segments.specs.Linking.{IsLink};
 
-    /// Which entries pass.
+    /// The test that entries pass.
     ghost passes: { Self → ℕ → Bool };
 
-    /// How many entries there are.
+    /// The number of entries.
     ghost size: { Self → ℕ };
 
-    /// The link of an entry that passes.
+    /// Returns the link of an entry that passes.
     fn link_at(&self, index: u32) -> Link
         requires within { index < size self.now }
         requires passing { passes self.now index ≡ true }

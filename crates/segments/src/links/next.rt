@@ -1,4 +1,4 @@
-//! The link of an entry that comes next.
+//! The link of the next entry.
 
 ghost use Rattle.std.specs.Prelude.{◌≡◌, ◌<◌, ◌≤◌, true};
 ghost use Rattle.trace_model.specs.Theory.Trace.{last_place};
@@ -7,9 +7,9 @@ ghost use Rattle.segments.specs.Linking.{IsLink};
 use crate::MaybeIndex;
 use crate::links::link::{Link, Linked};
 
-/// The entry to which the next one that passes jumps, where `number` pass before that one, of which
-/// `index` is the last: it goes back to the number without its last binary one, so a way of jumps
-/// has few steps.
+/// Returns the entry to which the next passing entry jumps. `number` entries pass before it, and
+/// the last of them is at `index`. The jump goes back to `number` without its lowest binary one, so
+/// a path of jumps has few steps.
 fn further<L: Linked>(list: &L, index: u32, link: Link, number: u32) -> u32
     requires within { index < L.size list.now }
     requires passing { L.passes list.now index ≡ true }
@@ -28,7 +28,8 @@ fn further<L: Linked>(list: &L, index: u32, link: Link, number: u32) -> u32
     jump
 }
 
-/// The link of the entry that comes next, if it passes, after the last one that does.
+/// Returns the link of the next entry, if it passes. `last` is the last entry that passes, and
+/// `index` is the length of the list.
 #[inline(always)]
 pub fn link_after<L: Linked>(list: &L, last: Option<u32>, index: u32) -> Link
     requires last { last ≡ last_place (L.passes list.now) (L.size list.now) }

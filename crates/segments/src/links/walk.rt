@@ -1,4 +1,4 @@
-//! From one entry that passes to others.
+//! Look-ups along the links.
 
 ghost use Rattle.std.specs.Prelude.{◌≡◌, ◌<◌, ◌≤◌, true};
 ghost use Rattle.trace_model.specs.Theory.Trace.{last_place};
@@ -6,7 +6,8 @@ ghost use Rattle.segments.specs.Linking.{count_below};
 
 use crate::links::link::Linked;
 
-/// The entry before which that many pass, found from a later one.
+/// Returns the passing entry that `number` passing entries precede. `from` is that entry or a later
+/// one.
 fn entry_before<L: Linked>(list: &L, from: u32, number: u32) -> u32
     requires within { from < L.size list.now }
     requires passing { L.passes list.now from ≡ true }
@@ -33,7 +34,8 @@ fn entry_before<L: Linked>(list: &L, from: u32, number: u32) -> u32
     index
 }
 
-/// The entry before which that many pass, found from the last one.
+/// Returns the passing entry that `number` passing entries precede. `last` is the last passing
+/// entry.
 pub fn entry_at<L: Linked>(list: &L, last: Option<u32>, number: usize) -> u32
     requires last { last ≡ last_place (L.passes list.now) (L.size list.now) }
     requires number { number < count_below (L.passes list.now) (L.size list.now) }
@@ -46,7 +48,7 @@ pub fn entry_at<L: Linked>(list: &L, last: Option<u32>, number: usize) -> u32
     entry_before(list, from, number as u32)
 }
 
-/// How many entries pass, of which this is the last one.
+/// Returns the number of passing entries. `last` is the last of them.
 pub fn count_passing<L: Linked>(list: &L, last: Option<u32>) -> usize
     requires { last ≡ last_place (L.passes list.now) (L.size list.now) }
     ensures { result ≡ count_below (L.passes list.now) (L.size list.now) }
@@ -57,7 +59,8 @@ pub fn count_passing<L: Linked>(list: &L, last: Option<u32>) -> usize
     }
 }
 
-/// The last entry that passes with an index below a bound, found from the last one of all.
+/// Returns the last passing entry with an index below `bound`. `last` is the last passing entry of
+/// all.
 pub fn last_below<L: Linked>(list: &L, last: Option<u32>, bound: usize) -> Option<u32>
     requires last { last ≡ last_place (L.passes list.now) (L.size list.now) }
     requires within { bound ≤ L.size list.now }

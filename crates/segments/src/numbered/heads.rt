@@ -1,9 +1,9 @@
-//! The last note of each number.
+//! The heads: the last note of each number, from which its linked list goes back.
 
 ghost use Rattle.std.specs.Prelude.{◌≡◌, ◌<◌, ◌≤◌, ◌+◌, ℕ, Some, slice_get, nat_eq, vec_len, vec_capacity, if◌then◌else◌};
 ghost use Rattle.std.specs.Option.{option_flatten};
 
-/// The last note of a number.
+/// Returns the index of the last note of `number`, or `None` if it has none.
 pub(crate) fn head(heads: &[Option<u32>], number: u32) -> Option<u32>
     ensures { result ≡ option_flatten (slice_get heads.now number) }
 {
@@ -13,7 +13,7 @@ pub(crate) fn head(heads: &[Option<u32>], number: u32) -> Option<u32>
     }
 }
 
-/// A note is the last one of its number, which is there or comes next.
+/// Sets the last note of `number`, which is a known number or the next one. Does not allocate.
 pub(crate) fn set_head(heads: &mut Vec<Option<u32>>, number: u32, index: u32)
     requires number { number ≤ vec_len heads.old }
     requires room { vec_len heads.old < vec_capacity heads.old }

@@ -1,15 +1,14 @@
 //! The places of a number, read by index.
 
 use crate::links::{count_passing, entry_at};
-use crate::numbered::notes_of::NotesOf;
+use crate::numbered::number_list::NumberList;
 use std::marker::Model;
 use trace_model::Place;
 
-/// The places of a number, ascending, to be read by index. A reading follows links, from the last
-/// on.
+/// The places of a number, ascending, read by index. A read follows links back from the last place.
 #[derive(Drop)]
 pub struct PlacesOf<'a> {
-    pub(crate) list: NotesOf<'a>,
+    pub(crate) list: NumberList<'a>,
     pub(crate) last: Option<u32>,
 }
 
@@ -28,7 +27,7 @@ impl<'a> PlacesOf<'a> {
     ghost use Rattle.std.specs.Prelude.{◌≡◌, ◌<◌, Some, length, nat_eq, slice_get};
     ghost use Rattle.std.specs.List.Sorted.{IsStrictlyIncreasing};
 
-    /// How many places there are.
+    /// Returns the number of places.
     pub fn len(&self) -> usize
         ensures length { result ≡ length self.now }
         ensures ascends { IsStrictlyIncreasing self.now }
@@ -36,14 +35,14 @@ impl<'a> PlacesOf<'a> {
         count_passing(&self.list, self.last)
     }
 
-    /// Whether there is none.
+    /// Returns whether there is no place.
     pub fn is_empty(&self) -> bool
         ensures { result ≡ nat_eq (length self.now) 0 }
     {
         self.len() == 0
     }
 
-    /// The place with this index, which must be below the length.
+    /// Returns the place at the 0-based `index`, which must be below the length.
     pub fn get(&self, index: usize) -> Place
         requires { index < length self.now }
         ensures { slice_get self.now index ≡ Some result }

@@ -1,9 +1,9 @@
-//! The number of one more place.
+//! Notes: entries of the list of places.
 
 use crate::links::Link;
 use trace_model::Place;
 
-/// A place of a number, with its link to those of that number. A note never changes.
+/// One place of a number, with the link to earlier notes of that number. A note never changes.
 #[derive(Clone, Copy)]
 pub(crate) struct Note {
     pub(crate) number: u32,

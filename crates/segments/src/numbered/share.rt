@@ -1,4 +1,4 @@
-//! The notes and the last notes of a snapshot.
+//! Prefixes of the notes and of the heads.
 
 ghost use Rattle.std.specs.Prelude.{◌≡◌, ◌≤◌, ◌<◌, ℕ, length, take, slice_get, IfOk};
 ghost use Rattle.std.specs.Option.{option_flatten};
@@ -9,11 +9,11 @@ use crate::Segments;
 use crate::links::last_below;
 use crate::numbered::heads::head;
 use crate::numbered::note::Note;
-use crate::numbered::notes_of::NotesOf;
+use crate::numbered::number_list::NumberList;
 use std::alloc::Global;
 use trace_model::NoMemory;
 
-/// How many notes have a place below the bound, found by halves.
+/// Returns the number of notes with a place below `bound`, by binary search.
 pub(crate) fn count_below(notes: &Segments<Note>, bound: u32) -> usize
     requires ascend { Ascend (pairs_of notes.now.0) }
     requires few { length notes.now.0 ≤ 4294967296 }
@@ -36,7 +36,7 @@ pub(crate) fn count_below(notes: &Segments<Note>, bound: u32) -> usize
     low
 }
 
-/// The first notes. Full segments are shared, and at most one is copied.
+/// Returns the first `count` notes. Sealed segments are shared, and at most one segment is copied.
 pub(crate) fn copy_notes(all: &Segments<Note>, count: usize) -> Result<Segments<Note>, NoMemory>
     requires within { count ≤ length all.now.0 }
     requires short { length all.now.0 ≤ 4294967296 }
@@ -53,7 +53,7 @@ pub(crate) fn copy_notes(all: &Segments<Note>, count: usize) -> Result<Segments<
     Ok(part)
 }
 
-/// The last note of each number among the first ones.
+/// Returns the last note of each number among the first `count` notes.
 pub(crate) fn heads_below(
     alloc: Global,
     notes: &Segments<Note>,
@@ -70,7 +70,7 @@ pub(crate) fn heads_below(
 {
     let mut below = Vec::with_capacity(alloc, heads.len())?;
     for number in 0..heads.len() {
-        let list = NotesOf {
+        let list = NumberList {
             notes,
             number: number as u32,
         };

@@ -8,13 +8,13 @@ use Rattle.trace_model.specs.Theory.Trace.{Trace}
 use Rattle.trace_model.specs.Theory.Lawful.{IsWellFormed, refusal_of}
 use Rattle.trace_index.proofs.build_counted.Goals as goal
 
--- the next event is lawful after those that the index has
+-- the next event is lawful after the events of the index
 lawful : (events before : Trace) (i : ℕ) (d : Event) → IsWellFormed events → i < length events → before ≡ take i events →
     refusal_of MAX_EVENTS before (get_or events i d) ≡ None
 lawful events before i d well within is =
     ap (λ s. refusal_of MAX_EVENTS s (get_or events i d)) is ∙ well i (get_or events i d) (slice_get-get_or events i d within)
 
--- one event more
+-- one more event
 one_more : (events before after : Trace) (i : ℕ) (d : Event) → i < length events → before ≡ take i events → after ≡ before ++ get_or events i d ∷ [] →
     after ≡ take (i + 1) events
 one_more events before after i d within is added = added ∙ ap (λ s. s ++ get_or events i d ∷ []) is ∙ sym (take_more events i d within)

@@ -39,7 +39,7 @@ cell_again e rest (t, o) =
     ∙ ap (λ (n : ℕ). record { thread = e.thread; op = op_of (kind_of e.op) n }) (word_again (object_of e.op) o)
     ∙ ap (λ (op : Op). record { thread = e.thread; op = op }) (op_again e.op)
 
--- the cells of these events, whatever follows them
+-- the bytes of these events, in any continuation
 pub record AreAgain (es : List Event) (rest : List ℕ) : Type 0 where
   pub events : events_of (length es) (flat_map event_bytes es ++ rest) ≡ es
   pub after : drop (9 * length es) (flat_map event_bytes es ++ rest) ≡ rest
@@ -81,7 +81,7 @@ eight_cells fields =
     ∙ ap (λ (t : List ℕ). take 4 fields ++ t) (take-append-drop 4 (drop 4 fields))
     ∙ take-append-drop 4 fields
 
--- a cell whose kind is one of an event
+-- nine bytes whose kind is that of an event
 cell_takes : (kind : ℕ) (cells : List ℕ) → 1 ≤ kind → kind ≤ 6 → 8 ≤ length cells → IsBytes cells →
     IsInRange (event_of (kind ∷ cells)) × (event_bytes (event_of (kind ∷ cells)) ++ drop 8 cells ≡ kind ∷ cells)
 cell_takes kind cells low high long bytes =
@@ -94,7 +94,7 @@ cell_takes kind cells low high long bytes =
       (λ i. (o.0 i ∷ (t i ++ (ap (to_be_bytes w32) o.1 ∙ u) i)) ++ drop 8 cells) ∙ ap (λ (x : List ℕ). kind ∷ x) (eight_cells cells),
     )
 
--- so many cells without a fault, and the events that are read from them
+-- n events of nine bytes without a fault, and the events that are read from them
 pub record AreTaken (n : ℕ) (cells : List ℕ) : Type 0 where
   pub ranges : AllByRecursion IsInRange (events_of n cells)
   pub count : length (events_of n cells) ≡ n
@@ -156,7 +156,7 @@ batch_length_of n low high =
     let c : eqb ((2 + 9 * n) % 9) 2 ≡ true = ap (λ (k : ℕ). eqb k 2) rest in
     ((λ i. a i && b i && c i), omega arith)
 
--- ---- a fault that stands, stands whatever follows
+-- ---- a fault stays in any continuation
 
 cells_stay : (n : ℕ) (cells more : List ℕ) (fault : Fault) → cells_fault n cells ≡ Some fault → cells_fault n (cells ++ more) ≡ Some fault
 cells_stay zero cells more fault e = absurd cc

@@ -1,4 +1,4 @@
--- Events that come in together.
+-- Lemmas of batches.
 use Rattle.std.proofs.Common.{◌≡◌, ℕ, zero, suc, ◌≤◌, inl, inr, List, [], ◌∷◌, ◌++◌, length, take, Option, None, Some, refl, sym, ap, subst, ◌∙◌, append_assoc, arith}
 use Rattle.std.specs.Prelude.{MatchOption, slice_get}
 use Rattle.std.proofs.lemmas.List.{append-nil, take-append-le}
@@ -40,7 +40,7 @@ lawful_parts limit s xs e all = (
 abbrev Grows : ℕ → Trace → List Event → Type 0
 Grows limit s es = AreLawful limit s es → IsWellFormed (s ++ es) × (length (s ++ es) ≤ limit)
 
--- a well-formed trace with lawful events more is well formed, and within its limit
+-- a well-formed trace with more lawful events is well formed, and within its limit
 pub well_formed_more : (limit : ℕ) (s : Trace) (es : List Event) → limit ≤ MAX_EVENTS → length s ≤ limit → IsWellFormed s → AreLawful limit s es →
     IsWellFormed (s ++ es) × (length (s ++ es) ≤ limit)
 well_formed_more limit s es most within w = by_pushes (Grows limit s) none more es
@@ -66,7 +66,7 @@ lawful_first limit s e es now later zero x h =
     rw (append-nil s, ← is) now
 lawful_first limit s e es now later (suc k) x h = subst (λ (r : Trace). refusal_of limit r x ≡ None) (append_assoc s (e ∷ []) (take k es)) (later k x h)
 
--- what ends the others ends all
+-- the refusal of the rest is the refusal of all
 ends_later : (limit : ℕ) (s : Trace) (e : Event) (es : List Event) (n : ℕ) (o : Option Refusal) → IsLongest limit (s ++ e ∷ []) es (n, o) → refusal_of limit s e ≡ None →
     IsLongest limit s (e ∷ es) (suc n, o)
 ends_later limit s e es n None h now = record { lawful = lawful_first limit s e (take n es) now h.lawful; ends = ap suc h.ends }
@@ -84,7 +84,7 @@ is_longest limit s (e ∷ es) = first (refusal_of limit s e) refl (is_longest li
     first (Some r) is others = record { lawful = lawful_nil limit s; ends = (e, refl, rw (append-nil s) is) }
     first None is others = ends_later limit s e es (taken_of limit (s ++ e ∷ []) es).0 (taken_of limit (s ++ e ∷ []) es).1 others is
 
--- of the others, what ends all
+-- the refusal of all is the refusal of the rest
 ends_others : (limit : ℕ) (s : Trace) (e : Event) (es : List Event) (n : ℕ) (o : Option Refusal) → IsLongest limit s (e ∷ es) (suc n, o) → IsLongest limit (s ++ e ∷ []) es (n, o)
 ends_others limit s e es n o h = record {
   lawful = λ k x at. subst (λ (r : Trace). refusal_of limit r x ≡ None) (sym (append_assoc s (e ∷ []) (take k (take n es)))) (h.lawful (suc k) x at);

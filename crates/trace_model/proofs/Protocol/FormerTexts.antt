@@ -1,4 +1,4 @@
--- What was read before there were batches is read so.
+-- A text without batches is read as in the protocol without batches.
 use Rattle.std.proofs.Common.{◌≡◌, ℕ, ◌+◌, ◌*◌, ◌/◌, not, Bool, true, false, cond, eqb, List, [], ◌∷◌, ◌++◌, length, slice_get, Option, Some, None, refl, sym, ap, subst, ◌∙◌, arith}
 use Rattle.std.specs.Option.{option_or}
 use Rattle.std.specs.Int.{w16, from_be_bytes, to_be_bytes}
@@ -21,7 +21,7 @@ is_request (Answer question) h = h
 is_request (Status question) h = h
 is_request (Batch events) h = absurd h
 
--- a batch was a fault for its kind
+-- a batch was an unknown kind
 batch_was_fault : (events : List Event) (rest : List ℕ) → IsRequest (Batch events) →
     (former_header_fault (frame (Batch events) ++ rest) ≡ Some BadKind) × (slice_get (frame (Batch events) ++ rest) 2 ≡ Some 10)
 unfolding former_header_fault frame
@@ -40,7 +40,7 @@ begins_none text ended fault none is other (Batch events) rest h t =
     let was = batch_was_fault events rest h in
     other (is ∙ ap (λ (f : Option Fault). option_or f (cut_fault text ended)) (ap former_header_fault t ∙ was.0)) (ap (λ (x : List ℕ). slice_get x 2) t ∙ was.1)
 
--- the tests of a header of another kind are as before
+-- the tests of a header of another kind are the same in both protocols
 other_tests : (kind len : ℕ) (fields : List ℕ) → eqb kind 10 ≡ false →
     cond (eqb len 0) (Some BadLength) (cond (not (is_former_kind kind)) (Some BadKind) (cond (not (eqb len (length_of kind))) (Some BadLength) None))
     ≡ cond (eqb len 0) (Some BadLength) (cond (not (is_kind kind)) (Some BadKind) (cond (not (is_length_of kind len)) (Some BadLength) (fields_fault kind len fields)))

@@ -11,7 +11,7 @@ use Rattle.trace_model.proofs.Protocol.Leading.{leading_found, no_header_fault, 
 drop_shorter : (n : ℕ) (fields rest : List ℕ) → drop n fields ≡ rest → length rest ≤ length fields
 drop_shorter n fields rest e = rw (← e) (omega (arith, length-drop n fields))
 
--- a request takes bytes
+-- a frame has at least one byte
 pub leading_shorter : (text : List ℕ) (request : Request) (rest : List ℕ) → leading_of text ≡ Ok (Some (request, rest)) → length rest < length text
 unfolding whole_frame
 leading_shorter [] request rest e = let f = leading_found [] (Some (request, rest)) e in absurd cc

@@ -10,7 +10,7 @@ use Rattle.trace_model.proofs.Protocol.Leading.{leading_takes, leading_found}
 use Rattle.trace_model.proofs.Protocol.Written.{leading_again}
 use Rattle.trace_model.proofs.Protocol.LeadingSizes.{leading_shorter, few_by}
 
--- ---- enough turns
+-- ---- enough rounds
 
 same_then : (n m : ℕ) (text : List ℕ) → length text ≤ suc n → length text ≤ suc m → ((t : List ℕ) → length t ≤ n → length t ≤ m → split_up_to n t ≡ split_up_to m t) → (r : Result (Option (Request × List ℕ)) Fault) → leading_of text ≡ r → split_then (split_up_to n) text r ≡ split_then (split_up_to m) text r
 same_then n m text p q again (Err fault) e = refl
@@ -45,13 +45,13 @@ split_turn text r e = same_up_to (length text) (suc (length text)) text (omega a
         let s = leading_shorter text found.0 found.1 e in
         ap (λ (x : List Request × List ℕ). (found.0 ∷ x.0, x.1)) (same_up_to (length text) (length found.1) found.1 (omega arith) (omega arith))
 
--- ---- one turn
+-- ---- one round
 
 pub record IsTurn (text : List ℕ) (request : Request) (rest : List ℕ) : Type 0 where
   pub requests : requests_in text ≡ request ∷ requests_in rest
   pub after : rest_in text ≡ rest_in rest
 
--- where a request stands first
+-- if a request is at the start
 pub found_turn : (text : List ℕ) (request : Request) (rest : List ℕ) → leading_of text ≡ Ok (Some (request, rest)) → IsTurn text request rest
 unfolding requests_in rest_in
 found_turn text request rest e =
@@ -62,7 +62,7 @@ found_turn text request rest e =
 pub frame_turn : (request : Request) (rest : List ℕ) → IsRequest request → IsTurn (frame request ++ rest) request rest
 frame_turn request rest h = found_turn (frame request ++ rest) request rest (leading_again request rest h)
 
--- where no frame stands first
+-- if no frame is at the start
 pub record IsStop (text : List ℕ) : Type 0 where
   pub requests : requests_in text ≡ []
   pub after : rest_in text ≡ text

@@ -16,7 +16,7 @@ use Rattle.trace_model.specs.Protocol.Runs.{Good, TakesStep, IsRun, Shown, Summa
 use Rattle.trace_model.proofs.Theory.Places.{op_eq_same, op_eq_itself}
 use Rattle.trace_model.proofs.Lists.{at_index, get-push, get-set_other, get-set_same}
 
--- a sum over the tasks when a missing one comes in
+-- a sum over the tasks when a missing one is delivered
 pub sum_told : (f : Option (List Row) → ℕ) (tasks : List (Option (List Row))) (task : ℕ) (rows : List Row) → f None ≡ 0 →
     slice_get tasks task ≡ Some None → sum_by f (slice_set tasks task (Some rows)) ≡ sum_by f tasks + f (Some rows)
 sum_told f tasks task rows zero_at h =

@@ -1,4 +1,4 @@
--- How runs go on, and which steps the machine takes.
+-- How runs continue, and which steps the machine takes.
 use Rattle.std.proofs.Common.{◌≡◌, ℕ, ◌≤◌, not, ◌==◌, List, [], ◌∷◌, ◌++◌, length, take, slice_get, Option, Some, None, refl, sym, ap, subst, ◌∙◌, arith}
 use Rattle.std.proofs.lemmas.Bool.{eqb-true, not-false}
 use Rattle.std.proofs.lemmas.List.{length-take}
@@ -66,7 +66,7 @@ pub record Admits (s : State) (number bound : ℕ) (events : Trace) (task : ℕ)
   pub same_trace : events ≡ take question.length s.accepted
   pub missing : slice_get question.tasks task ≡ Some None
 
--- what no refusal says
+-- the facts that no refusal gives
 pub admitted : (s : State) (number bound : ℕ) (events : Trace) (task : ℕ) → deliver_refused s number bound events task ≡ None → Admits s number bound events task
 admitted s number bound events task h = go (slice_get s.questions number) refl h
   where
@@ -165,7 +165,7 @@ run_raised good more s last (step ∷ steps) le (mid, takes, run) =
 pub run_legal : (limit : ℕ) (last : State) (steps : List BoardStep) → limit ≤ MAX_EVENTS → IsRun AreRows (opening limit) steps last → IsLegal steps
 run_legal limit last steps le run = (raised MAX_EVENTS last, run_raised AreRows MAX_EVENTS (opening limit) last steps le run)
 
--- ---- the status that is read off the board
+-- ---- the status computed from the board
 
 pub status_shown : (b : Summary) (s : State) (number : ℕ) → ShowsState b s → shown_status b number ≡ status s number
 status_shown b s number (a, l, each) = go (slice_get b.questions number) refl (slice_get s.questions number) refl

@@ -1,4 +1,4 @@
--- A text that goes on.
+-- A text that continues.
 use Rattle.std.proofs.Common.{◌≡◌, ℕ, Bool, true, false, not, cond, List, [], ◌∷◌, ◌++◌, Option, Some, None, Result, Ok, Err, refl, sym, ap, ◌∙◌, append_assoc}
 use Rattle.std.specs.Int.{w16, from_be_bytes}
 use Rattle.std.specs.List.{flat_map, AllByRecursion}
@@ -30,7 +30,7 @@ cond_stays : (b : Bool) (y : Option Fault) (fault : Fault) → cond b (Some BadL
 cond_stays true y fault e = e
 cond_stays false y fault e = absurd cc
 
--- a fault of the tests of a header stays where the last of them keeps it
+-- a fault of the tests of a header stays if the last of them keeps it
 tests_stay : (a b c : Bool) (f g : Option Fault) (fault : Fault) → (f ≡ Some fault → g ≡ Some fault) →
     cond a (Some BadLength) (cond (not b) (Some BadKind) (cond (not c) (Some BadLength) f)) ≡ Some fault →
     cond a (Some BadLength) (cond (not b) (Some BadKind) (cond (not c) (Some BadLength) g)) ≡ Some fault
@@ -69,6 +69,6 @@ stays_by text more ended fault none f (Ok (Some found)) e =
     let t = (found_turn text found.0 found.1 e).requests in
     absurd cc
 
--- a fault that stands before the end stays, whatever follows
+-- a fault before the end stays in any continuation
 pub fault_stays : (text more : List ℕ) (ended : Bool) (fault : Fault) → requests_in text ≡ [] → fault_in text false ≡ Some fault → IsFaulty (text ++ more) ended fault
 fault_stays text more ended fault none f = stays_by text more ended fault none f (leading_of text) refl

@@ -76,7 +76,7 @@ module _ (s more : Trace) where
       member : (i : ℕ) (a : Dependency) → Member (dependencies (s ++ more)) numbers i a → Member (dependencies s) numbers i a
       member i a (m, x, y) = (m, x, dependency_shorter m a (c.known m (contains_at numbers m i x)) y)
 
--- ---- so does its least instance
+-- ---- its least instance stays
 
 length-lesser : (xs ys : List ℕ) → length xs ≡ length ys → length (lesser xs ys) ≡ length xs
 length-lesser [] ys e = refl
@@ -150,7 +150,7 @@ module _ (s more : Trace) (v : IsWellFormed s) (w : IsWellFormed (s ++ more)) (b
           let (x, y, hx, hy, least) = lesser_at places other k p at in
           omega (arith, low x (contains_at places x k hx))
 
--- ---- and its witness
+-- ---- its witness stays
 
 -- a witness is the closure of its places
 witness_closure : (s : Trace) → IsWellFormed s → (places order : List ℕ) → IsWitness s places order → IsClosure s places (listed order)
@@ -196,7 +196,7 @@ witness_longer s more v w places order low h = subst (λ list. IsWitness (s ++ m
         has_contained (ascending (listed order) (length (s ++ more))) x (contains_ascending (listed order) (length (s ++ more)) x
         (omega (arith, h.reorders.in_trace x here, length-append s more)) (contains_listed order x here)))
 
--- ---- so the row stays
+-- ---- the row stays
 
 row_longer : (s more : Trace) → IsWellFormed s → IsWellFormed (s ++ more) → (bound : ℕ) (numbers : List ℕ) (found : Option Found) → IsCycle (dependencies s) bound numbers →
     IsSome found → IsRow s (record { cycle = numbers; found = found }) → IsRow (s ++ more) (record { cycle = numbers; found = found })

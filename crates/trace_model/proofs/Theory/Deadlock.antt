@@ -1,4 +1,4 @@
--- What reaches an instance of a cycle leaves it deadlocked.
+-- A reordering that reaches an instance of a cycle leaves it deadlocked.
 use Rattle.std.proofs.Common.{◌≡◌, ℕ, suc, ◌<◌, inl, inr, ◌==◌, List, [], length, take, get_or, slice_get, if◌then◌else◌, Some, sym, ap, subst, ◌∙◌, arith}
 use Rattle.std.proofs.lemmas.Bool.{cases_lt, ltb-true}
 use Rattle.std.proofs.lemmas.Option.{same_Some, slice_get_within, slice_get-get_or}
@@ -25,8 +25,8 @@ releaser_holds s w r u l h =
     let within : r < length s = slice_get_within s r (event u (Release l)) h in
     ltb-true 0 (depth s r u l) (sym (held_by-take s r u l within) ∙ passes_not (held_by (take r s) u l) NotHeld (passed s w r u (Release l) h).2)
 
--- what the thread holds right before a place that is first missing from a reordering, it still
--- holds there
+-- a lock that the thread holds right before its first missing place is still held after the
+-- reordering
 pub still_held : (s : Trace) → IsWellFormed s → (order : List ℕ) → IsReordering s order → (q u l : ℕ) → OfThread s q u →
     FirstMissing s order q → (Ends s q u l → ⊥) → Holds s q u l → StillHolds s order u l
 still_held s w order o q u l at (out, before) no_end holds =

@@ -17,7 +17,7 @@ use Rattle.trace_model.proofs.Theory.Held.{held_from}
 use Rattle.trace_model.proofs.Theory.Prefix.{Agree, held-agree}
 use Rattle.trace_model.proofs.Lists.{get-push, get-push_kept, get-push_last}
 
--- what a place's dependency says of it
+-- the event at a place with a dependency
 pub dependency_so : (s : Trace) (p : ℕ) (d : Dependency) → dependency_at s p ≡ Some d →
     Begins s p d.thread d.lock × (d.held ≡ held s p d.thread) × (0 < length d.held)
 dependency_so s p d h = go (slice_get s p) refl h
@@ -80,7 +80,7 @@ known_from d (e ∷ ds) zero h =
     or_left (same_dependency d e) (list_any (same_dependency d) ds) (subst (λ x. same_dependency d x ≡ true) (sym (same_Some e d h)) (same_dependency_itself d))
 known_from d (e ∷ ds) (suc m) h = or_right (same_dependency d e) (list_any (same_dependency d) ds) (known_from d ds m h)
 
--- what holds of the dependencies of the first n events
+-- an invariant of the dependencies of the first n events
 pub record Numbered (s : Trace) (n : ℕ) (ds : List Dependency) : Type 0 where
   pub distinct : (i j : ℕ) (d : Dependency) → slice_get ds i ≡ Some d → slice_get ds j ≡ Some d → i ≡ j
   pub complete : (p : ℕ) (d : Dependency) → p < n → dependency_at s p ≡ Some d → (m : ℕ) × (slice_get ds m ≡ Some d)
@@ -172,7 +172,7 @@ numbered s zero = record {
 }
 numbered s (suc n) = with_new_numbered s n (dependencies_below s n) (dependency_at s n) refl (numbered s n)
 
--- the dependencies of a beginning
+-- the dependencies of a prefix
 pub dependency_at-agree : (s r : Trace) (p : ℕ) → Agree (suc p) s r → dependency_at s p ≡ dependency_at r p
 dependency_at-agree s r p h = rw (h p (omega arith)) (go (slice_get r p))
   where

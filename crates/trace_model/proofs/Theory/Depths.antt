@@ -1,4 +1,4 @@
--- How many locks a thread holds, and how deep.
+-- Limits of the number and depth of held locks.
 use Rattle.std.proofs.Common.{◌≡◌, ℕ, zero, suc, ◌+◌, ◌-◌, ◌<◌, ◌≤◌, inl, inr, Bool, true, false, cond, not, ltb, leb, ◌==◌, ◌&&◌, List, [], ◌∷◌, ◌++◌, length, take, slice_get, Option, Some, None, refl, sym, ap, subst, ◌∙◌, arith}
 use Rattle.std.proofs.lemmas.Bool.{eqb-true, eq-eqb, false≢true, or_cases, or_left, or_parts, ne_eqb, ltb-true}
 use Rattle.std.proofs.lemmas.List.{length-take-le}
@@ -52,7 +52,7 @@ length-without l (k ∷ ks) a h = go (length-without l ks a.1) (k == l) refl h
       | inr later ↦ ap suc (more later)
     ]
 
--- a lock that is in the list comes in no second time
+-- a lock that is in the list is not added twice
 pub with-known : (l : ℕ) (ks : List ℕ) → Ascends ks → has l ks ≡ true → with_lock l ks ≡ ks
 with-known l [] a h = absurd (false≢true h)
 with-known l (k ∷ ks) a h = go (with-known l ks a.1) (ltb l k) refl (l == k) refl
@@ -66,10 +66,10 @@ with-known l (k ∷ ks) a h = go (with-known l ks a.1) (ltb l k) refl (l == k) r
       | inr later ↦ ap (λ xs. k ∷ xs) (more later)
     ]
 
--- ---- few, and none too deep
+-- ---- the limits of held locks
 
 module _ (s : Trace) (w : IsWellFormed s) (t : ℕ) where
-  -- what the event at a place of the thread passed
+  -- the tests that the event at a place of the thread passed
   at_place : (p : ℕ) (o : Op) → At s p (event t o) → op_refusal_of (take p s) t o ≡ None
   at_place p o at = (passed s w p t o at).2
 
@@ -116,7 +116,7 @@ module _ (s : Trace) (w : IsWellFormed s) (t : ℕ) where
   held_op p (Read v) at le = le
   held_op p (Write v) at le = le
 
-  -- a thread holds at most so many locks at any place
+  -- a thread holds at most MAX_HELD locks at any place
   pub held_shallow : (p : ℕ) → length (held s p t) ≤ MAX_HELD
   held_shallow zero = omega arith
   held_shallow (suc p) = go (held_shallow p) (slice_get s p) refl
@@ -146,7 +146,7 @@ module _ (s : Trace) (w : IsWellFormed s) (t : ℕ) where
   depth_op p l (Read v) at le = le
   depth_op p l (Write v) at le = le
 
-  -- and none too deep
+  -- and none deeper than MAX_DEPTH
   pub depth_shallow : (p l : ℕ) → depth s p t l ≤ MAX_DEPTH
   depth_shallow zero l = omega arith
   depth_shallow (suc p) l = go (depth_shallow p l) (slice_get s p) refl
@@ -180,7 +180,7 @@ event_count : (b : Bool) (o : Op) (l n a r : ℕ) → (b ≡ true → o ≡ Rele
 event_count true o l n a r mine e = op_count o l n a r (mine refl) e
 event_count false o l n a r mine e = omega arith
 
--- a lock is as deep as the thread has acquires of it beyond its releases
+-- the depth of a lock is the number of acquires less the number of releases
 pub depth_count : (s : Trace) → IsWellFormed s → (t l : ℕ) →
     count_by (is_acquire_by t l) s ≡ count_by (is_release_by t l) s + depth s (length s) t l
 depth_count = by_pushes (λ s. IsWellFormed s → (t l : ℕ) → count_by (is_acquire_by t l) s ≡ count_by (is_release_by t l) s + depth s (length s) t l)

@@ -1,4 +1,4 @@
--- IsClosed sets and reorderings are the same thing.
+-- Closed sets and reorderings correspond.
 use Rattle.std.proofs.Common.{◌≡◌, ℕ, ◌<◌, ◌⊎◌, inl, inr, true, List, length, slice_get, Option, Some, None, MatchOption, IsTrue, ◌↔◌, refl, sym, subst, ◌∙◌, arith}
 use Rattle.std.proofs.lemmas.Bool.{cases_lt}
 use Rattle.std.proofs.lemmas.Option.{same_Some, slice_get_within}
@@ -15,7 +15,7 @@ use Rattle.trace_model.proofs.Theory.Sections.{released_between}
 use Rattle.trace_model.proofs.Theory.Lookups.{writer_so, no_writer_so, writer_of_read}
 use Rattle.trace_model.proofs.Theory.Ascending.{place_of, before_left, before_right, ascending_distinct, ascending_contains, contains_ascending, ascending_before, before_ascending, listed, listed_contains, contains_listed}
 
--- what a place needs by fork and join stands before it
+-- the fork or join that a place needs is before it
 pub needed_before : (s : Trace) → IsWellFormed s → (p q : ℕ) → ForkOrJoin s p q → p < q
 needed_before s w p q (inl (t, o, f)) = fork_before s w p q t f o
 needed_before s w p q (inr (c, j, inl f)) = fork_before_join s w p q c f j
@@ -67,7 +67,7 @@ closed_reaches s places set holds none p within = (
   λ q e. contains_ascending set (length s) q (slice_get_within s q _ e.1.1) (holds p q within e),
 )
 
--- of two places of a list, one stands before the other
+-- of two places of a list, one is before the other
 pub either_before : (order : List ℕ) (p q : ℕ) → Contains order p → Contains order q → (p ≡ q → ⊥) →
     Before order p q ⊎ Before order q p
 either_before order p q a b other =
@@ -111,7 +111,7 @@ reordering_closes s order r = record {
 pub reaching_holds : (s : Trace) (order places : List ℕ) → Reaches s order places → HoldsPredecessors s places (listed order)
 reaching_holds s order places r p q h e = contains_listed order q ((r p h).1 q e)
 
--- what lies in the closure lies in every reordering that reaches the places
+-- every reordering that reaches the places contains the closure
 pub closure_in_every : (s : Trace) (places : List ℕ) (q : ℕ) → InClosure s places q →
     (order : List ℕ) → IsReordering s order → Reaches s order places → Contains order q
 closure_in_every s places q h order r e =
@@ -129,7 +129,7 @@ closure_closes s places set is = record {
 pub closure_holds : (s : Trace) (places : List ℕ) (set : Places) → IsClosure s places set → HoldsPredecessors s places set
 closure_holds s places set is p q h e = (is q).1 (λ z c d. d p q h e)
 
--- the closure holds none of the places exactly where some reordering reaches them
+-- the closure holds none of the places exactly if some reordering reaches them
 pub existence : (s : Trace) → IsWellFormed s → (places : List ℕ) (set : Places) → IsClosure s places set →
     (((p : ℕ) → Contains places p → IsTrue (set p) → ⊥) ↔ Reached s places)
 existence s w places set is = (
@@ -141,8 +141,7 @@ existence s w places set is = (
   λ (order, r, e) p h k. (e p h).0 (closure_in_every s places p ((is p).0 k) order r e),
 )
 
--- a closed set that holds the predecessors, and nothing but what lies in the closure, is the
--- closure
+-- a closed set that contains the predecessors, and only places of the closure, is the closure
 pub is_closure_from : (s : Trace) (places : List ℕ) (set : Places) → IsClosed s set → HoldsPredecessors s places set →
     ((q : ℕ) → IsTrue (set q) → InClosure s places q) → IsClosure s places set
 is_closure_from s places set c d inside q = (inside q, λ h. h set c d)

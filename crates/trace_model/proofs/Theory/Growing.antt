@@ -9,7 +9,7 @@ use Rattle.trace_model.specs.Theory.Trace.{Trace}
 use Rattle.trace_model.specs.Theory.Lawful.{refusal_of, IsWellFormed}
 use Rattle.trace_model.proofs.Lists.{get-push, get-take, get-take_past, take-take_below}
 
--- a beginning of a well-formed trace is well formed
+-- a prefix of a well-formed trace is well formed
 pub well_formed_take : (s : Trace) (n : ℕ) → IsWellFormed s → IsWellFormed (take n s)
 well_formed_take s n w p e h =
     let below = get-take_past n s p e h in

@@ -74,7 +74,7 @@ has_without_kept l m (k ∷ ks) n h = go (has_without_kept l m ks n) (k == l) re
 
 -- ---- the list and the depths
 
--- the list has the lock where the depth is above 0, and only there
+-- the list contains the lock exactly if the depth is above 0
 abbrev pub Fits : ℕ → List ℕ → ℕ → Type 0
 Fits l ks n = (has l ks ≡ true → 0 < n) × (0 < n → has l ks ≡ true)
 
@@ -122,7 +122,7 @@ pub held_fits : (s : Trace) (p t l : ℕ) → Fits l (held s p t) (depth s p t l
 held_fits s zero t l = ((λ k. absurd (false≢true k)), λ k. absurd (omega arith))
 held_fits s (suc p) t l = step_fits (depth s p t) (slice_get s p) t l (held s p t) (held_fits s p t l)
 
--- the list holds the lock exactly where the thread does
+-- the list contains the lock exactly if the thread holds it
 pub held_so : (s : Trace) (p t l : ℕ) → has l (held s p t) ≡ true → Holds s p t l
 held_so s p t l = (held_fits s p t l).0
 

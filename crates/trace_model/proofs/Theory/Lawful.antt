@@ -1,4 +1,4 @@
--- What well-formed traces have.
+-- Facts of well-formed traces.
 use Rattle.std.proofs.Common.{◌≡◌, ℕ, ◌<◌, ◌⊎◌, inl, inr, Bool, true, false, cond, not, ◌==◌, leb, ◌&&◌, ◌||◌, length, take, slice_get, Option, Some, None, refl, sym, ap, subst, ◌∙◌, arith}
 use Rattle.std.proofs.lemmas.Bool.{eqb-true, eqb-false, false≢true, or_parts, and_cases, cases_lt, not-false}
 use Rattle.std.proofs.lemmas.Option.{none-some, same_Some}
@@ -12,7 +12,7 @@ use Rattle.trace_model.specs.Theory.Lawful.{op_refusal_of, refusal_of, IsWellFor
 use Rattle.trace_model.proofs.Theory.Places.{stands_so, stands_from}
 use Rattle.trace_model.proofs.Lists.{get-take, get-take_past}
 
--- a refusal that does not apply leaves the tests behind it
+-- if a refusal does not apply, then the later tests decide
 pub passes : (b : Bool) (x : Refusal) (o : Option Refusal) → cond b (Some x) o ≡ None → (b ≡ false) × (o ≡ None)
 passes true x o e = absurd (none-some x (sym e))
 passes false x o e = (refl, e)
@@ -21,7 +21,7 @@ pub passes_not : (b : Bool) (x : Refusal) → cond b None (Some x) ≡ None → 
 passes_not true x e = refl
 passes_not false x e = absurd (none-some x (sym e))
 
--- the fork of a thread but 0 stands in the trace, its join doesn't, and the event's own tests pass
+-- the thread is 0 or its fork is in the trace, its join is not, and the tests of the operation pass
 pub lawful_parts : (limit : ℕ) (s : Trace) (t : ℕ) (o : Op) → refusal_of limit s (event t o) ≡ None →
     ((t ≡ 0) ⊎ (stands s (Fork t) ≡ true)) × (stands s (Join t) ≡ false) × (op_refusal_of s t o ≡ None)
 lawful_parts limit s t o h =
@@ -36,7 +36,7 @@ lawful_parts limit s t o h =
       c.1,
     )
 
--- before the place p there is a place that does it
+-- some place before p has the operation
 pub before_so : (s : Trace) (p : ℕ) (o : Op) → stands (take p s) o ≡ true → (q : ℕ) × (q < p) × Does s q o
 before_so s p o h =
     let (q, (t, k)) = stands_so (take p s) o h in
@@ -49,17 +49,17 @@ before_from s p o q below (t, k) = stands_from (take p s) o q (t, get-take p s q
 pub no_before : (s : Trace) (p : ℕ) (o : Op) → stands (take p s) o ≡ false → (q : ℕ) → q < p → Does s q o → ⊥
 no_before s p o h q below d = false≢true (sym h ∙ before_from s p o q below d)
 
--- what the event at a place passed
+-- the tests that the event at a place passed
 pub passed : (s : Trace) → IsWellFormed s → (q t : ℕ) (o : Op) → At s q (event t o) →
     ((t ≡ 0) ⊎ (stands (take q s) (Fork t) ≡ true)) × (stands (take q s) (Join t) ≡ false) × (op_refusal_of (take q s) t o ≡ None)
 passed s w q t o h = lawful_parts MAX_EVENTS (take q s) t o (w q (event t o) h)
 
--- a thread but 0 is forked before each of its places
+-- a thread other than 0 is forked before each of its places
 pub forked : (s : Trace) → IsWellFormed s → (q t : ℕ) → OfThread s q t →
     (t ≡ 0) ⊎ ((f : ℕ) × (f < q) × Does s f (Fork t))
 forked s w q t (o, h) = elim (passed s w q t o h).0 [ inl a ↦ inl a | inr b ↦ inr (before_so s q (Fork t) b) ]
 
--- no place of a thread stands after its join
+-- no place of a thread is after its join
 pub no_join_before : (s : Trace) → IsWellFormed s → (j q t : ℕ) → Does s j (Join t) → OfThread s q t → j < q → ⊥
 no_join_before s w j q t d (o, h) below = no_before s q (Join t) (passed s w q t o h).1 j below d
 
@@ -81,14 +81,14 @@ fork_once s w f g c d e =
       ]
     ]
 
--- a fork stands before each place of its thread
+-- a fork is before each place of its thread
 pub fork_before : (s : Trace) → IsWellFormed s → (f q t : ℕ) → Does s f (Fork t) → OfThread s q t → f < q
 fork_before s w f q t d o = elim (forked s w q t o) [
   | inl a ↦ absurd ((fork_first s w f t d).0 a)
   | inr g ↦ subst (λ x. x < q) (fork_once s w g.0 f t g.2 d) g.1
 ]
 
--- what a join passed
+-- the tests that a join passed
 pub join_passed : (s : Trace) → IsWellFormed s → (j c t : ℕ) → At s j (event t (Join c)) →
     (c ≡ t → ⊥) × ((f : ℕ) × (f < j) × Does s f (Fork c)) × ((i : ℕ) → i < j → Does s i (Join c) → ⊥)
 join_passed s w j c t h =

@@ -1,4 +1,4 @@
--- The writer and the release in the words of the subject.
+-- The writer and the release as greatest and least places.
 use Rattle.std.proofs.Common.{◌≡◌, ℕ, suc, ◌-◌, ◌<◌, Bool, true, false, cond, ◌==◌, ◌&&◌, length, slice_get, Option, Some, None, refl, sym, ap, ◌∙◌, arith}
 use Rattle.std.proofs.lemmas.Bool.{eqb-true, eq-eqb, false≢true, and_parts, and_from}
 use Rattle.std.proofs.lemmas.Option.{none-some, slice_get_within}
@@ -91,7 +91,7 @@ release_is s p t l r h (after, d, none) =
     release_computes s p t l h
     ∙ first_place_is (ends_of s t l) (suc p) (length s - suc p) r (after, omega arith, ends_from s t l r d, λ u a b k. none u a b (ends_so s t l u k))
 
--- what has a release begins a section
+-- a place with a release begins a section
 pub release_so : (s : Trace) (p r : ℕ) → release s p ≡ Some r → (t : ℕ) × (l : ℕ) × Begins s p t l × LeastRelease s t l p r
 release_so s p r h = go (slice_get s p) refl h
   where

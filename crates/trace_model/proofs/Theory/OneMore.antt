@@ -82,7 +82,7 @@ length_well_formed = by_pushes (λ s. IsWellFormed s → length s ≤ MAX_EVENTS
 pub lawful_op : (limit : ℕ) (s : Trace) (e : Event) → refusal_of limit s e ≡ None → op_refusal_of s e.thread e.op ≡ None
 lawful_op limit s e h = (lawful_parts limit s e.thread e.op h).2
 
--- what an acquire passed
+-- the tests that an acquire passed
 pub lawful_acquire : (s : Trace) (t l : ℕ) → op_refusal_of s t (Acquire l) ≡ None →
     (depth s (length s) t l < MAX_DEPTH) × (held_by_other s t l ≡ false) × (held_by s t l ≡ false → length (held s (length s) t) < MAX_HELD)
 lawful_acquire s t l h =

@@ -19,13 +19,13 @@ use Rattle.trace_model.proofs.Lists.{by_pushes, same_bool}
 pub owner-push : (s : Trace) (e : Event) (l : ℕ) → owner (s ++ e ∷ []) l ≡ owner_after l (owner s l) e
 owner-push s e l = fold-append (owner_after l) None s (e ∷ [])
 
--- what the trace shows of a lock: an owner is no owner of none, and each thread holds it as deep as
--- the owner says
+-- the owner of a lock has a depth above 0, and each thread holds the lock at the depth that the owner
+-- says
 pub record IsOwner (s : Trace) (l : ℕ) (o : Option Owner) : Type 0 where
   pub deep : (x : Owner) → o ≡ Some x → 0 < x.depth
   pub each : (t : ℕ) → depth s (length s) t l ≡ depth_by o t
 
--- an event that has to do with the lock
+-- an event on the lock
 op_cases : (o : Op) (l n : ℕ) → op_eq o (Acquire l) ≡ false → op_eq o (Release l) ≡ false → depth_after o l n ≡ n
 op_cases (Acquire m) l n a r = rw a refl
 op_cases (Release m) l n a r = rw r refl
@@ -66,7 +66,7 @@ releases_so (Join c) l a = absurd (false≢true a)
 releases_so (Read v) l a = absurd (false≢true a)
 releases_so (Write v) l a = absurd (false≢true a)
 
--- a lock that no other thread holds is held by this one as deep as its owner says
+-- if no other thread holds the lock, then this thread holds it at the depth of its owner
 alone : (o : Option Owner) (u : ℕ) → is_other_owner o u ≡ false → depth_by o u ≡ owned o
 alone None u h = refl
 alone (Some x) u h = go (x.thread == u) h
@@ -166,7 +166,7 @@ module _ (s : Trace) (e : Event) (l : ℕ) (lawful : op_refusal_of s e.thread e.
       go false f true g = of_release g
       go false f false g = of_other f g
 
--- another thread holds the lock exactly where another one is the owner
+-- another thread holds the lock exactly if another one is the owner
 other_is : (s : Trace) (l : ℕ) → IsOwner s l (owner s l) → (t : ℕ) → held_by_other s t l ≡ is_other_owner (owner s l) t
 other_is s l is t = same_bool _ _
     (λ h. let (u, apart, holds) = other_so s t l h in of_owner (owner s l) u (subst (λ n. 0 < n) (is.each u) holds) apart)
@@ -199,14 +199,14 @@ owner_is = by_pushes (λ s. IsWellFormed s → (l : ℕ) → IsOwner s l (owner 
       each = λ t. depth-push s e t l ∙ next.1 t ∙ ap (λ o. depth_by o t) (sym (owner-push s e l));
     })
 
--- a thread holds a lock as deep as the owner says
+-- a thread holds a lock at the depth that its owner says
 pub depth-owner : (s : Trace) → IsWellFormed s → (t l : ℕ) → depth s (length s) t l ≡ depth_by (owner s l) t
 depth-owner s w t l = (owner_is s w l).each t
 
 pub held_by_other-owner : (s : Trace) → IsWellFormed s → (t l : ℕ) → held_by_other s t l ≡ is_other_owner (owner s l) t
 held_by_other-owner s w t l = other_is s l (owner_is s w l) t
 
--- ---- a lawful event's lock is as deep as its owner holds it
+-- ---- the lock of a lawful event has the depth of its owner
 
 pub acquired_owned : (s : Trace) → IsWellFormed s → (t l : ℕ) → op_refusal_of s t (Acquire l) ≡ None → depth s (length s) t l ≡ owned (owner s l)
 acquired_owned s w t l h =

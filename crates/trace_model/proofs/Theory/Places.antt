@@ -1,5 +1,5 @@
 -- The greatest or least place that passes a test; operations at places.
-use Rattle.std.proofs.Common.{◌≡◌, ℕ, zero, suc, ◌+◌, ◌-◌, ◌<◌, ◌≤◌, ◌⊎◌, inl, inr, Bool, true, false, cond, [], ◌∷◌, slice_get, Option, Some, None, refl, sym, ap, ◌∙◌, arith}
+use Rattle.std.proofs.Common.{◌≡◌, ℕ, zero, suc, ◌+◌, ◌<◌, ◌≤◌, ◌⊎◌, inl, inr, Bool, true, false, cond, [], ◌∷◌, slice_get, Option, Some, None, refl, sym, ap, ◌∙◌, arith}
 use Rattle.std.proofs.lemmas.Bool.{eqb-true, eq-eqb, false≢true, or_cases, or_left, or_right, cases_lt}
 use Rattle.std.proofs.lemmas.Option.{none-some, same_Some}
 use Rattle.std.specs.Option.{option_map_or}
@@ -128,7 +128,7 @@ does_so s o p h = go (slice_get s p) refl h
 pub does_from : (s : Trace) (o : Op) (p : ℕ) → Does s p o → does s o p ≡ true
 does_from s o p (t, h) = rw h (op_eq_itself o)
 
--- `stands` decides that some place does it
+-- `stands` decides that some place has the operation
 pub stands_so : (s : Trace) (o : Op) → stands s o ≡ true → (p : ℕ) × Does s p o
 stands_so [] o h = absurd (false≢true h)
 stands_so (e ∷ s) o h =

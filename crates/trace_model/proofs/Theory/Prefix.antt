@@ -1,4 +1,4 @@
--- What is said of places depends only on the events up to them.
+-- Definitions at a place depend only on the events up to it.
 use Rattle.std.proofs.Common.{◌≡◌, ℕ, zero, suc, ◌<◌, Bool, false, cond, ◌==◌, ◌&&◌, List, slice_get, Option, Some, None, refl, ap, ◌∙◌, arith}
 use Rattle.std.specs.Option.{option_map_or, option_and_then}
 use Rattle.trace_model.specs.declared.traces.event.Event.{Event}

@@ -18,7 +18,7 @@ use Rattle.trace_model.proofs.Theory.Lawful.{passes, passed}
 use Rattle.trace_model.proofs.Lists.{get-take, none_passes, passes_some, some_passes}
 use Rattle.trace_model.proofs.Theory.Lookups.{ends_so, ends_from, release_is}
 
--- the test on the trace before q is what is held right before q
+-- the test on the trace before q decides what is held right before q
 pub depth-take : (s : Trace) (q t l : ℕ) → q < length s → depth (take q s) (length (take q s)) t l ≡ depth s q t l
 depth-take s q t l below =
     rw (length-take-le q s (omega arith), depth-agree (take q s) s q t l (λ p k. get-take q s p k)) refl
@@ -38,7 +38,7 @@ others_lack s w p q t u l o below e h other held_there =
     none_passes (λ x. not (x.thread == u) && held_by (take q s) x.thread l) (take q s) p (event t o) b.0 (get-take q s p below ∙ e) in
     false≢true (sym c ∙ rw (ne_eqb t u other, is_held) refl)
 
--- nobody holds the lock right before a section on it begins
+-- no thread holds the lock right before a section on it begins
 pub nobody_holds : (s : Trace) → IsWellFormed s → (p q t u l : ℕ) (o : Op) →
     p < q → At s p (event t o) → Begins s q u l → Holds s q t l → ⊥
 nobody_holds s w p q t u l o below e h held_there = elim (cases_eq t u) [

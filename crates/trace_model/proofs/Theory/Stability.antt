@@ -1,4 +1,4 @@
--- What is reached stays so as the trace grows; reached instances have a least one.
+-- Reached places stay reached as the trace grows; reached instances have a least one.
 use Rattle.std.proofs.Common.{◌≡◌, ℕ, ◌<◌, ◌≤◌, inl, inr, true, ltb, ◌&&◌, List, ◌++◌, length, Some, ◌↔◌, sym, ap, subst, ◌∙◌, arith}
 use Rattle.std.proofs.lemmas.Bool.{and_parts, and_from, ltb-true, lt-ltb}
 use Rattle.std.proofs.lemmas.Option.{same_Some, slice_get_within}
@@ -19,7 +19,7 @@ use Rattle.trace_model.proofs.Theory.Ascending.{listed, listed_contains}
 use Rattle.trace_model.proofs.Theory.Existence.{needed_before, closed_reorders, closed_reaches, reordering_closes, reaching_holds}
 use Rattle.trace_model.proofs.Lists.{get-append}
 
--- the release of the earlier of two acquires stands before the later
+-- the release of the earlier of two acquires is before the later
 pub release_before : (s : Trace) → IsWellFormed s → (p q r l : ℕ) → p < q → BeginsOn s p l → BeginsOn s q l →
     release s p ≡ Some r → r < q
 release_before s w p q r l below a b e =
@@ -35,13 +35,13 @@ below_closed s w m = record {
   sections = λ p q r l below a b h k e. lt-ltb r m (omega (arith, ltb-true q m k, release_before s w p q r l below a b e));
 }
 
--- what the closure holds lies before the greatest given place
+-- the closure is before the greatest given place
 pub closure_below : (s : Trace) → IsWellFormed s → (places : List ℕ) (m q : ℕ) →
     ((p : ℕ) → Contains places p → p ≤ m) → InClosure s places q → q < m
 closure_below s w places m q bound h =
     ltb-true q m (h (λ x. ltb x m) (below_closed s w m) (λ p u c e. lt-ltb u m (omega (arith, e.3, bound p c))))
 
--- what two closed sets share is closed
+-- the intersection of two closed sets is closed
 pub both_closed : (s : Trace) (a b : Places) → IsClosed s a → IsClosed s b → IsClosed s (λ x. a x && b x)
 both_closed s a b c d = record {
   threads = λ p q h e. let k = and_parts (a q) (b q) h in and_from (a p) (b p) (c.threads p q k.0 e) (d.threads p q k.1 e);
@@ -53,7 +53,7 @@ both_closed s a b c d = record {
       and_from (a r) (b r) (c.sections p q r l below x y i.0 j.0 e) (d.sections p q r l below x y i.1 j.1 e);
 }
 
--- the same event stands in the longer trace, and in the shorter one
+-- the same event is in the longer trace, and in the shorter one
 pub at_longer : (s r : Trace) (p : ℕ) (e : Event) → At s p e → At (s ++ r) p e
 at_longer s r p e h = get-append s r p (slice_get_within s p e h) ∙ h
 
@@ -131,7 +131,7 @@ closed_shorter s r set c = record {
 abbrev pub within : Trace → Places → Places
 within s set x = set x && ltb x (length s)
 
--- what a closed set of the shorter trace holds of it is closed in the longer one
+-- the part of a closed set that is in the shorter trace is closed in the longer one
 pub closed_longer : (s r : Trace) → IsWellFormed s → IsWellFormed (s ++ r) → (set : Places) → IsClosed s set → IsClosed (s ++ r) (within s set)
 closed_longer s r v w set c = record {
   threads = λ p q h e. let k = parts q h in
@@ -160,7 +160,7 @@ closed_longer s r v w set c = record {
     join : (q : ℕ) → set q ≡ true → q < length s → within s set q ≡ true
     join q h l = and_from (set q) (ltb q (length s)) h (lt-ltb q (length s) l)
 
--- the closure stays as it is when the trace grows
+-- the closure is unchanged when the trace grows
 pub closure_longer : (s r : Trace) → IsWellFormed s → IsWellFormed (s ++ r) → (places : List ℕ) →
     ((p : ℕ) → Contains places p → p < length s) → (q : ℕ) → InClosure s places q ↔ InClosure (s ++ r) places q
 closure_longer s r v w places low q = (

@@ -1,4 +1,4 @@
--- A list is a reordering exactly where each of its places may come next after those before it.
+-- A list is a reordering exactly if each of its places may come next after those before it.
 use Rattle.std.proofs.Common.{◌≡◌, ℕ, ◌<◌, inl, inr, List, take, slice_get, Option, Some, None, MatchOption, sym, ◌∙◌, arith}
 use Rattle.std.proofs.lemmas.Bool.{cases_lt}
 use Rattle.std.specs.List.{Contains}

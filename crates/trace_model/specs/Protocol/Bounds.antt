@@ -1,4 +1,4 @@
--- What is so of every state after a run, and how great its numbers can be.
+-- Facts of every state that a run reaches, and bounds of its numbers.
 use Rattle.std.specs.Prelude.{◌≡◌, ℕ, ◌*◌, ◌≤◌, List, length, take, slice_get, Some}
 use Rattle.trace_model.specs.declared.limits.TheConstants.{MAX_EVENTS, MAX_QUESTIONS, MAX_CYCLES, MIN_BOUND, MAX_BOUND}
 use Rattle.trace_model.specs.declared.messages.step.BoardStep.{BoardStep}
@@ -9,7 +9,8 @@ use Rattle.trace_model.specs.Theory.Rows.{Row}
 use Rattle.trace_model.specs.Protocol.Machine.{Question, State, opening}
 use Rattle.trace_model.specs.Protocol.Runs.{Good, IsRun, Shown, Summary, summary}
 
--- a question about a beginning of the trace
+-- A question covers a prefix of the trace, has a valid bound and one task for each dependency, and
+-- each delivered task has good rows.
 pub record QuestionFits (good : Good) (s : Trace) (q : Question) : Type 0 where
   pub within : q.length ≤ length s
   pub at_least : MIN_BOUND ≤ q.bound
@@ -18,6 +19,7 @@ pub record QuestionFits (good : Good) (s : Trace) (q : Question) : Type 0 where
   pub told : (task : ℕ) (rows : List Row) → slice_get q.tasks task ≡ Some (Some rows) →
       good (take q.length s) q.bound task rows × (length rows ≤ MAX_CYCLES)
 
+-- The state is within the limits, and its trace is well formed.
 pub record StateFits (good : Good) (s : State) : Type 0 where
   pub limit : s.limit ≤ MAX_EVENTS
   pub well_formed : IsWellFormed s.accepted
@@ -26,6 +28,7 @@ pub record StateFits (good : Good) (s : State) : Type 0 where
   pub each : (k : ℕ) (q : Question) → slice_get s.questions k ≡ Some q →
       QuestionFits good s.accepted q
 
+-- The counts of one question on the board are within the limits.
 pub record ShownFits (b : Summary) (shown : Shown) : Type 0 where
   pub before : shown.before ≤ b.accepted
   pub at_least : MIN_BOUND ≤ shown.bound
@@ -35,11 +38,13 @@ pub record ShownFits (b : Summary) (shown : Shown) : Type 0 where
   pub cycles : shown.cycles ≤ MAX_CYCLES * shown.total
   pub confirmed : shown.confirmed ≤ shown.cycles
 
+-- The counts of the board are within the limits.
 pub record SummaryFits (b : Summary) : Type 0 where
   pub accepted : b.accepted ≤ MAX_EVENTS
   pub opened : length b.questions ≤ MAX_QUESTIONS
   pub each : (k : ℕ) (shown : Shown) → slice_get b.questions k ≡ Some shown → ShownFits b shown
 
+-- The state after each run, and its summary, are within the limits.
 abbrev pub RunFits : Good → Type 0
 RunFits good =
     (limit : ℕ) (steps : List BoardStep) (last : State) → limit ≤ MAX_EVENTS →

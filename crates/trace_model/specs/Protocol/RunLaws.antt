@@ -14,24 +14,25 @@ use Rattle.trace_model.specs.Protocol.Machine.{State, opening, is_confirmed, off
 use Rattle.trace_model.specs.Protocol.Runs.{Good, TakesStep, IsRun, IsLegal, SummaryIsState, Summary, ShowsState, shown_status}
 use Rattle.trace_model.specs.Protocol.Bounds.{RunFits}
 
--- the board's summary of a run is that of the state after it, whichever rows may be delivered
+-- The summary of a run is the summary of the state after it, for exact and for sound rows.
 abbrev pub SummariesAreStates : Type 0
 SummariesAreStates = SummaryIsState AreRows × SummaryIsState AreSound
 
--- the state after a run and its summary are within the limits
+-- The state after a run and its summary are within the limits, for exact and for sound rows.
 abbrev pub RunsFit : Type 0
 RunsFit = RunFits AreRows × RunFits AreSound
 
--- a run is one that goes on from the state after its beginning
+-- A run of two lists of steps is a run of the first list, followed by a run of the second.
 abbrev pub RunSplits : Good → Type 0
 RunSplits good = (s last : State) (steps more : List BoardStep) →
     IsRun good s (steps ++ more) last ↔
     ((mid : State) × IsRun good s steps mid × IsRun good mid more last)
 
+-- `RunSplits`, for exact and for sound rows.
 abbrev pub RunsSplit : Type 0
 RunsSplit = RunSplits AreRows × RunSplits AreSound
 
--- where the machine refuses nothing it takes a step
+-- If the machine refuses nothing, then it takes a step.
 pub record MachineSteps (good : Good) : Type 0 where
   pub offers : (s : State) (e : Event) → refusal_of s.limit s.accepted e ≡ None →
       TakesStep good s (Accept (e ∷ [])) (offer s e).1
@@ -47,25 +48,26 @@ pub record MachineSteps (good : Good) : Type 0 where
       TakesStep good s (Deliver number task (length rows) (count_by is_confirmed rows))
       (deliver s number bound events task rows).1
 
+-- `MachineSteps`, for exact and for sound rows.
 abbrev pub MachineTakesSteps : Type 0
 MachineTakesSteps = MachineSteps AreRows × MachineSteps AreSound
 
--- there is one state after a run that delivers exactly the rows
+-- A run that delivers exact rows has one last state.
 abbrev pub RunsAreUnique : Type 0
 RunsAreUnique = (s a b : State) (steps : List BoardStep) → IsRun AreRows s steps a →
     IsRun AreRows s steps b → a ≡ b
 
--- a status that is read off the board is the machine's
+-- A status computed from the board is the status of the machine.
 abbrev pub StatusesAreShown : Type 0
 StatusesAreShown = (b : Summary) (s : State) (number : ℕ) → ShowsState b s →
     shown_status b number ≡ status s number
 
--- a run that delivers exactly the rows delivers sound ones
+-- A run that delivers exact rows delivers sound rows.
 abbrev pub RunsAreSound : Type 0
 RunsAreSound = (s last : State) (steps : List BoardStep) → IsRun AreRows s steps last →
     IsRun AreSound s steps last
 
--- what a book with a lower limit takes is a legal run
+-- A run of a machine with a lower limit is legal.
 abbrev pub RunsAreLegal : Type 0
 RunsAreLegal = (limit : ℕ) (last : State) (steps : List BoardStep) → limit ≤ MAX_EVENTS →
     IsRun AreRows (opening limit) steps last → IsLegal steps

@@ -1,4 +1,4 @@
--- Lists of steps that the machine can take, and what a board shows of them.
+-- Runs: lists of steps that the machine can take, and what a board shows of them.
 use Rattle.std.specs.Prelude.{◌≡◌, ℕ, ◌+◌, ◌≤◌, List, [], ◌∷◌, ◌++◌, length, take, slice_get, slice_set, Option, Some, None}
 use Rattle.std.specs.List.{count_by}
 use Rattle.trace_model.specs.declared.limits.TheConstants.{MAX_EVENTS, MAX_CYCLES}
@@ -13,11 +13,11 @@ use Rattle.trace_model.specs.declared.messages.session.Reply.{Reply}
 use Rattle.trace_model.specs.declared.messages.session.Reply.TheVariants.{Refused, Status}
 use Rattle.trace_model.specs.declared.refusal.Refusal.TheVariants.{NoSuchQuestion}
 
--- which rows may be delivered: the sound ones, or exactly the rows
+-- Which rows of a task may be delivered, such as `AreRows` or `AreSound`.
 abbrev pub Good : Type 1
 Good = Trace → ℕ → ℕ → List Row → Type 0
 
--- the machine accepts the step where it stands
+-- The machine accepts the step in state s and is then in state `next`.
 abbrev pub TakesStep : Good → State → BoardStep → State → Type 0
 TakesStep good s (Accept events) next =
     IsBatch events × AreLawful s.limit s.accepted events × (next ≡ with_events s events)
@@ -31,19 +31,21 @@ TakesStep good s (Deliver number task cycles confirmed) next =
     × (length rows ≤ MAX_CYCLES) × (cycles ≡ length rows) × (confirmed ≡ count_by is_confirmed rows)
     × (next ≡ with_task s number q task rows)
 
+-- The machine takes the steps, from state s to state `last`.
 abbrev pub IsRun : Good → State → List BoardStep → State → Type 0
 IsRun good s [] last = last ≡ s
 IsRun good s (step ∷ steps) last = (mid : State) × TakesStep good s step mid
     × IsRun good mid steps last
 
+-- The machine takes the steps from the empty state with limit MAX_EVENTS.
 abbrev pub IsLegalRun : Good → List BoardStep → Type 0
 IsLegalRun good steps = (last : State) × IsRun good (opening MAX_EVENTS) steps last
 
--- a legal run that delivers exactly the rows of its tasks
+-- The steps are a legal run that delivers exact rows.
 abbrev pub IsLegal : List BoardStep → Type 0
 IsLegal steps = IsLegalRun AreRows steps
 
--- what is counted of one question
+-- The counts of one question.
 pub record Shown : Type 0 where
   pub before : ℕ
   pub bound : ℕ
@@ -52,10 +54,12 @@ pub record Shown : Type 0 where
   pub cycles : ℕ
   pub confirmed : ℕ
 
+-- The number of accepted events, and the counts of each question.
 pub record Summary : Type 0 where
   pub accepted : ℕ
   pub questions : List Shown
 
+-- The counts of all questions after a delivery to the question with this number.
 abbrev pub add_delivery : List Shown → Option Shown → ℕ → ℕ → ℕ → List Shown
 add_delivery shown None number cycles confirmed = shown
 add_delivery shown (Some q) number cycles confirmed =
@@ -66,6 +70,7 @@ add_delivery shown (Some q) number cycles confirmed =
     } in
     slice_set shown number more
 
+-- The summary after one more step.
 abbrev pub count_step : Summary → BoardStep → Summary
 count_step b (Accept events) = record b { accepted = b.accepted + length events }
 count_step b (Open bound total) =
@@ -84,21 +89,23 @@ count_step b (Deliver number task cycles confirmed) =
           (slice_get b.questions number) number cycles confirmed;
     }
 
+-- The summary after more steps.
 abbrev pub count_steps : Summary → List BoardStep → Summary
 count_steps b [] = b
 count_steps b (step ∷ steps) = count_steps (count_step b step) steps
 
--- what the board shows of a run
+-- The summary of a run: what a board shows of it.
 abbrev pub summary : List BoardStep → Summary
 summary steps = count_steps (record { accepted = 0; questions = [] }) steps
 
--- the board's summary of a run is that of the state after it
+-- The counts are those of the question.
 abbrev pub ShowsQuestion : Shown → Question → Type 0
 ShowsQuestion shown q =
     (shown.before ≡ q.length) × (shown.bound ≡ q.bound) × (shown.total ≡ length q.tasks)
     × (shown.delivered ≡ delivered q) × (shown.cycles ≡ cycles_of q)
     × (shown.confirmed ≡ confirmed_of q)
 
+-- The summary is that of the state.
 abbrev pub ShowsState : Summary → State → Type 0
 ShowsState b s =
     (b.accepted ≡ length s.accepted) × (length b.questions ≡ length s.questions)
@@ -106,6 +113,7 @@ ShowsState b s =
     slice_get s.questions k ≡ Some q →
     ShowsQuestion shown q)
 
+-- The status computed from the counts of this question, if there is one.
 abbrev pub shown_status_of : Summary → ℕ → Option Shown → Reply
 shown_status_of b number None = Refused NoSuchQuestion
 shown_status_of b number (Some q) =
@@ -121,10 +129,11 @@ shown_status_of b number (Some q) =
       confirmed = q.confirmed;
     })
 
--- the reply to a status that is read off the board
+-- The status of the question with this number, computed from the summary.
 abbrev pub shown_status : Summary → ℕ → Reply
 shown_status b number = shown_status_of b number (slice_get b.questions number)
 
+-- The summary of a run is that of the state after it.
 abbrev pub SummaryIsState : Good → Type 0
 SummaryIsState good = (limit : ℕ) (steps : List BoardStep) (last : State) →
     IsRun good (opening limit) steps last → ShowsState (summary steps) last

@@ -1,4 +1,4 @@
--- IsClosed sets of places, and the least one that holds what an instance needs.
+-- Closed sets of places, and the sync-preserving closure of Tunç et al. 2023.
 use Rattle.std.specs.Prelude.{◌≡◌, ℕ, zero, suc, ◌<◌, ◌↔◌, Bool, IsTrue, List, [], ◌∷◌, ◌++◌, Some, if◌then◌else◌}
 use Rattle.std.specs.List.{Contains}
 use Rattle.trace_model.specs.Theory.Trace.{Trace, EarlierInThread}
@@ -6,10 +6,13 @@ use Rattle.trace_model.specs.Theory.Held.{BeginsOn}
 use Rattle.trace_model.specs.Theory.Lookups.{writer, release}
 use Rattle.trace_model.specs.Theory.Reordering.{ForkOrJoin}
 
--- a set of places, as a test
+-- A set of places, as a test.
 abbrev pub Places : Type 0
 Places = ℕ → Bool
 
+-- The set is closed under thread order, forks and joins, reads-from, and releases: of two critical
+-- sections on one lock that begin in the set, it contains the release of the earlier one. This is
+-- the closure condition of Tunç et al. 2023.
 pub record IsClosed (s : Trace) (set : Places) : Type 0 where
   pub threads : (p q : ℕ) → IsTrue (set q) → EarlierInThread s p q → IsTrue (set p)
   pub forks_joins : (p q : ℕ) → IsTrue (set q) → ForkOrJoin s p q → IsTrue (set p)
@@ -17,21 +20,22 @@ pub record IsClosed (s : Trace) (set : Places) : Type 0 where
   pub sections : (p q r l : ℕ) → p < q → BeginsOn s p l → BeginsOn s q l →
       IsTrue (set p) → IsTrue (set q) → release s p ≡ Some r → IsTrue (set r)
 
--- the set holds all thread predecessors of the places
+-- The set contains every earlier place of the threads of the given places.
 abbrev pub HoldsPredecessors : Trace → List ℕ → Places → Type 0
 HoldsPredecessors s places set =
     (p q : ℕ) → Contains places p → EarlierInThread s q p → IsTrue (set q)
 
--- the place lies in every closed set that holds all thread predecessors of the places
+-- Place q is in every closed set that contains the thread predecessors of the given places.
 abbrev pub InClosure : Trace → List ℕ → ℕ → Type 0
 InClosure s places q =
     (set : Places) → IsClosed s set → HoldsPredecessors s places set → IsTrue (set q)
 
--- the set is the closure of the thread predecessors of the places
+-- The set is the sync-preserving closure of the thread predecessors of the given places (Tunç et
+-- al. 2023).
 abbrev pub IsClosure : Trace → List ℕ → Places → Type 0
 IsClosure s places set = (q : ℕ) → IsTrue (set q) ↔ InClosure s places q
 
--- the places below n that are in the set, ascending
+-- The places below n that are in the set, ascending.
 abbrev pub ascending : Places → ℕ → List ℕ
 ascending set zero = []
 ascending set (suc n) = if set n then ascending set n ++ n ∷ [] else ascending set n

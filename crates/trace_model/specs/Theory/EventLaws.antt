@@ -10,7 +10,7 @@ use Rattle.trace_model.specs.Theory.Lawful.{is_fork, forks, held_by_other, refus
 use Rattle.trace_model.specs.Theory.Holders.{owner, owner_after, depth_by, is_other_owner, is_acquire_by, is_release_by}
 use Rattle.trace_model.specs.Theory.Dependencies.{dependency_of, with_new, dependencies}
 
--- what is read off a trace, after one more event
+-- How each value computed from a trace changes with one more event.
 pub record OneMoreEvent : Type 0 where
   pub stands_more : (s : Trace) (e : Event) (o : Op) →
       stands (s ++ e ∷ []) o ≡ (stands s o || op_eq e.op o)
@@ -28,15 +28,15 @@ pub record OneMoreEvent : Type 0 where
       dependencies (s ++ e ∷ []) ≡ with_new (dependencies s)
       (dependency_of e.thread e.op (held s (length s) e.thread))
 
--- in a well-formed trace a thread holds a lock as deep as its owner says, and another one holds it
--- exactly where another one is the owner
+-- In a well-formed trace the owner of a lock says at which depth each thread holds it, and whether
+-- another thread holds it.
 abbrev pub OwnerHolds : Type 0
 OwnerHolds = (s : Trace) → IsWellFormed s → (t l : ℕ) →
     (depth s (length s) t l ≡ depth_by (owner s l) t)
     × (held_by_other s t l ≡ is_other_owner (owner s l) t)
 
--- a thread holds few locks, none too deep, and each as deep as it has acquires of it beyond its
--- releases
+-- In a well-formed trace a thread holds at most MAX_HELD locks, each at most at MAX_DEPTH, and the
+-- depth is the number of acquires less the number of releases.
 abbrev pub HeldAreFew : Type 0
 HeldAreFew = (s : Trace) → IsWellFormed s → (t : ℕ) →
     ((p : ℕ) → length (held s p t) ≤ MAX_HELD)
@@ -44,7 +44,7 @@ HeldAreFew = (s : Trace) → IsWellFormed s → (t : ℕ) →
     × ((l : ℕ) → count_by (is_acquire_by t l) s ≡ count_by (is_release_by t l) s +
     depth s (length s) t l)
 
--- what is lawful at a limit has room, and is lawful at a higher one
+-- An event that is lawful at a limit fits below it, and is lawful at a higher limit.
 abbrev pub LawfulHigher : Type 0
 LawfulHigher = (limit more : ℕ) (s : Trace) (e : Event) → limit ≤ more →
     refusal_of limit s e ≡ None →

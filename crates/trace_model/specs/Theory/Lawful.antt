@@ -1,4 +1,5 @@
--- Which events may come next, and why not.
+-- Lawful events and well-formed traces. Well-formedness (lock and fork/join semantics) is the usual
+-- assumption of Tunç et al. 2023; the limits and the order of the tests are this project's profile.
 use Rattle.std.specs.Prelude.{◌≡◌, ℕ, Bool, true, false, not, ◌==◌, ◌&&◌, ◌||◌, nat_le, nat_lt, length, take, Option, Some, None, if◌then◌else◌}
 use Rattle.std.specs.List.{list_any, count_by}
 use Rattle.trace_model.specs.declared.traces.event.Event.{Event}
@@ -10,22 +11,24 @@ use Rattle.trace_model.specs.declared.limits.TheConstants.{MAX_EVENTS, MAX_FORKS
 use Rattle.trace_model.specs.Theory.Trace.{Trace, At, stands}
 use Rattle.trace_model.specs.Theory.Held.{depth, held}
 
+-- The operation is a fork.
 abbrev pub is_fork : Op → Bool
 is_fork (Fork c) = true
 is_fork _ = false
 
--- how many forks the trace has
+-- The number of forks in the trace.
 abbrev pub forks : Trace → ℕ
 forks s = count_by (λ e. is_fork e.op) s
 
--- after the trace the thread holds the lock, or another one does
+-- Thread t holds lock l after the trace.
 abbrev pub held_by : Trace → ℕ → ℕ → Bool
 held_by s t l = nat_lt 0 (depth s (length s) t l)
 
+-- A thread other than t holds lock l after the trace.
 abbrev pub held_by_other : Trace → ℕ → ℕ → Bool
 held_by_other s t l = list_any (λ e. not (e.thread == t) && held_by s e.thread l) s
 
--- the first refusal that applies to what the thread does
+-- The first refusal that applies to operation o of thread t after the trace, or none.
 abbrev pub op_refusal_of : Trace → ℕ → Op → Option Refusal
 op_refusal_of s t (Fork c) =
     if c == 0 || stands s (Fork c) then Some AlreadyForked
@@ -45,7 +48,8 @@ op_refusal_of s t (Release l) = if held_by s t l then None else Some NotHeld
 op_refusal_of s t (Read v) = None
 op_refusal_of s t (Write v) = None
 
--- none where the event is lawful after the trace, or the first refusal that applies
+-- The first refusal that applies to event e after the trace, or none if e is lawful. `limit` is the
+-- greatest length of the trace.
 abbrev pub refusal_of : ℕ → Trace → Event → Option Refusal
 refusal_of limit s e =
     if nat_le limit (length s) then Some Full
@@ -53,6 +57,6 @@ refusal_of limit s e =
     else (if stands s (Join e.thread) then Some Ended
     else op_refusal_of s e.thread e.op))
 
--- each event is lawful after those before it
+-- Each event of the trace is lawful after the events before it.
 abbrev pub IsWellFormed : Trace → Type 0
 IsWellFormed s = (p : ℕ) (e : Event) → At s p e → refusal_of MAX_EVENTS (take p s) e ≡ None

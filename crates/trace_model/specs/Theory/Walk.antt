@@ -1,4 +1,4 @@
--- A reordering, place by place.
+-- A sync-preserving reordering, checked place by place from the front (this project's profile).
 use Rattle.std.specs.Prelude.{◌≡◌, ℕ, ◌<◌, List, length, take, slice_get, Some, MatchOption}
 use Rattle.std.specs.List.{Contains}
 use Rattle.trace_model.specs.declared.traces.event.Op.TheVariants.{Read, Write}
@@ -7,11 +7,11 @@ use Rattle.trace_model.specs.Theory.Held.{BeginsOn}
 use Rattle.trace_model.specs.Theory.Lookups.{writer, release}
 use Rattle.trace_model.specs.Theory.Reordering.{Before, ForkOrJoin}
 
--- w is the last write to the variable in the list
+-- Place w is the last write to variable v in the list.
 abbrev pub LastIn : Trace → List ℕ → ℕ → ℕ → Type 0
 LastIn s front v w = Contains front w × ((u : ℕ) → Does s u (Write v) → Before front w u → ⊥)
 
--- the place may come next after these
+-- Place q may come next after the list `front`.
 pub record Follows (s : Trace) (front : List ℕ) (q : ℕ) : Type 0 where
   pub in_trace : q < length s
   pub new : Contains front q → ⊥
@@ -24,6 +24,6 @@ pub record Follows (s : Trace) (front : List ℕ) (q : ℕ) : Type 0 where
       (r : ℕ) × (release s p ≡ Some r) × Contains front r
   pub lock_order : (p l : ℕ) → BeginsOn s p l → BeginsOn s q l → Contains front p → p < q
 
--- each place may come next after those before it
+-- Each place of the list may come next after the places before it.
 abbrev pub Walks : Trace → List ℕ → Type 0
 Walks s order = (k q : ℕ) → slice_get order k ≡ Some q → Follows s (take k order) q

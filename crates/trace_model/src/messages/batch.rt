@@ -1,4 +1,4 @@
-//! Events that are offered at once.
+//! Batches: events that one request offers.
 
 ghost use Rattle.std.specs.Prelude.{◌≡◌, ◌<◌, ◌≤◌, ◌↔◌, ◌∷◌, ◌++◌, [], IfSome, IsSome, length, take};
 
@@ -7,18 +7,19 @@ use arrayvec::ArrayVec;
 use std::marker::Model;
 use std::slice;
 
-/// The most events that are offered at once.
+/// The greatest number of events in a batch.
 pub const MAX_BATCH: usize = 64;
 
-/// One event, or two and more. What is offered is a single one most often, which fills no room for
-/// others.
+/// The events of a batch. Most batches have one event, which is stored without the array.
 #[derive(Debug, Drop, PartialEq, Eq)]
 enum Events {
     One(Event),
     Many(ArrayVec<Event, MAX_BATCH>),
 }
 
-/// 1 to `MAX_BATCH` events that are offered at once.
+/// A batch: 1 to `MAX_BATCH` events that one request offers.
+///
+/// Contracts see the list of the events.
 #[derive(Debug, Drop, PartialEq, Eq)]
 pub struct EventBatch {
     events: Events,
@@ -43,7 +44,7 @@ impl Model for EventBatch {
 }
 
 impl EventBatch {
-    /// The batch of this event alone.
+    /// Returns the batch of one event.
     pub fn of(event: Event) -> EventBatch
         ensures { result ≡ event ∷ [] }
     {
@@ -52,7 +53,7 @@ impl EventBatch {
         }
     }
 
-    /// The batch of these events, if they are 1 to `MAX_BATCH`.
+    /// Returns the batch of `events`, or `None` if there are none or more than `MAX_BATCH`.
     pub fn new(events: &[Event]) -> Option<EventBatch>
         ensures value { IfSome result (λ batch. batch ≡ events.now) }
         ensures in_range { IsSome result ↔ ((1 ≤ length events.now) × (length events.now ≤ 64)) }
@@ -72,7 +73,7 @@ impl EventBatch {
         }
     }
 
-    /// Puts an event after the others, of which there must be fewer than `MAX_BATCH`.
+    /// Adds an event at the end. The batch must have fewer than `MAX_BATCH` events.
     pub fn push(&mut self, event: Event)
         requires { length self.old < 64 }
         ensures { self.new ≡ self.old ++ event ∷ [] }
@@ -88,7 +89,7 @@ impl EventBatch {
         }
     }
 
-    /// Keeps the events before this place, which is not 0, and drops the others.
+    /// Keeps the first `len` events, at least one, and drops the others.
     pub fn truncate(&mut self, len: usize)
         requires { 1 ≤ len }
         ensures { self.new ≡ take len self.old }
@@ -103,7 +104,7 @@ impl EventBatch {
         }
     }
 
-    /// The events.
+    /// Returns the events, in order.
     pub fn events(&self) -> &[Event]
         ensures value { result.now ≡ self.now }
         ensures some { 1 ≤ length result.now }

@@ -1,4 +1,4 @@
-//! What a session asks, and what it is answered.
+//! The requests and the replies of a session.
 
 use crate::messages::batch::EventBatch;
 use crate::messages::report::ReportText;
@@ -7,18 +7,18 @@ use crate::refusal::Refusal;
 use crate::traces::event::Event;
 use crate::traces::place::Place;
 
-/// What a session asks.
+/// A request of a session.
 #[derive(Debug, Drop)]
 pub enum Request {
-    /// Offers this event.
+    /// Offers one event.
     Offer(Event),
-    /// Asks for the cycles of the trace as it is, with at most so many members.
+    /// Asks for the cycles of the present trace with at most this many members.
     Ask(u8),
     /// Asks for the report of the question with this number.
     Answer(u32),
-    /// Asks how the question with this number stands.
+    /// Asks for the status of the question with this number.
     Status(u32),
-    /// Offers these events at once.
+    /// Offers several events.
     Batch(EventBatch),
 }
 
@@ -27,57 +27,57 @@ pub enum Request {
 pub enum Fault {
     /// No request has this kind.
     BadKind,
-    /// The length is none that a request of this kind can have.
+    /// No request of this kind has this length.
     BadLength,
     /// The bytes end within a frame.
     Truncated,
-    /// The events of a batch are not as many as its length says, or one has no kind.
+    /// The count of a batch differs from its length, or one of its events has an unknown kind.
     BadBatch,
 }
 
-/// What a session is answered.
+/// A reply to a session.
 #[derive(Debug, Drop)]
 pub enum Reply {
-    /// The event was accepted, and stands at this place.
+    /// The event was accepted, at this place.
     Placed(Place),
     /// The request was refused, and changed nothing.
     Refused(Refusal),
     /// A question was opened.
     Opened {
-        /// Its number.
+        /// The number of the question.
         question: u32,
-        /// How many events the trace had.
+        /// The number of events that the question covers.
         length: u32,
-        /// How many tasks it has.
+        /// The number of tasks of the question.
         total: u32,
     },
-    /// The question has tasks whose findings are not delivered.
+    /// Some task of the question has no delivered finding.
     Pending {
-        /// Its number.
+        /// The number of the question.
         question: u32,
-        /// How many findings were delivered.
+        /// The number of delivered findings.
         delivered: u32,
-        /// How many tasks it has.
+        /// The number of tasks of the question.
         total: u32,
     },
-    /// The question is settled.
+    /// Every task of the question has a delivered finding.
     Report {
-        /// Its number.
+        /// The number of the question.
         question: u32,
-        /// Its cycles, a line for each.
+        /// The report: one line for each cycle.
         text: ReportText,
     },
-    /// How a question stands.
+    /// The status of a question.
     Status(QuestionStatus),
-    /// The bytes are no requests from here on: the session's last reply.
+    /// The bytes are not a request. This is the last reply of the session.
     Fault(Fault),
-    /// What became of a batch.
+    /// The result of a batch.
     Batched {
-        /// How many of its events were accepted, from the first on.
+        /// The number of accepted events, counted from the first event of the batch.
         accepted: u8,
-        /// What refuses the next one, none where all were accepted.
+        /// The refusal of the next event, or `None` if all events were accepted.
         refusal: Option<Refusal>,
-        /// How many events were accepted before the batch: the place of its first one.
+        /// The number of accepted events before the batch, which is the place of its first event.
         length: u32,
     },
 }

@@ -1,26 +1,26 @@
-//! How a question stands.
+//! The status of a question.
 
 use crate::traces::bound::Bound;
 
-/// The trace and one question about it, in numbers.
+/// The counts of the trace and of one question.
 #[derive(Clone, Copy, Debug, PartialEq, Eq)]
 pub struct QuestionStatus {
-    /// The question's number.
+    /// The number of the question.
     pub question: u32,
-    /// How many events the trace has.
+    /// The number of accepted events.
     pub accepted: u32,
-    /// How many questions there are.
+    /// The number of questions.
     pub opened: u32,
-    /// How many events the trace had when the question was opened.
+    /// The number of events that the question covers.
     pub length: u32,
-    /// How many members its cycles may have.
+    /// The greatest number of members of its cycles.
     pub bound: Bound,
-    /// How many tasks it has.
+    /// The number of its tasks.
     pub total: u32,
-    /// How many of their findings were delivered.
+    /// The number of delivered findings.
     pub delivered: u32,
-    /// How many cycles these have.
+    /// The number of cycles in the delivered findings.
     pub cycles: u64,
-    /// How many of these are confirmed.
+    /// The number of confirmed cycles in the delivered findings.
     pub confirmed: u64,
 }

@@ -1,29 +1,29 @@
-//! The steps of the machine that are published.
+//! The steps of the machine that a board publishes.
 
 use crate::messages::batch::EventBatch;
 use crate::traces::bound::Bound;
 
-/// What one commit publishes.
+/// The step that one commit publishes.
 #[derive(Debug, Drop, PartialEq, Eq)]
 pub enum BoardStep {
-    /// These events, which were offered at once.
+    /// These events were accepted.
     Accept(EventBatch),
-    /// A question about the trace as it is.
+    /// A question about the present trace was opened.
     Open {
-        /// How many members its cycles may have.
+        /// The greatest number of members of its cycles.
         bound: Bound,
-        /// How many tasks it has: one for each dependency of the trace.
+        /// The number of its tasks: one for each dependency of the trace.
         total: u32,
     },
-    /// The finding of a task that had none.
+    /// The finding of a task was delivered.
     Deliver {
         /// The number of its question.
         question: u32,
-        /// The number of the task, which is that of a dependency.
+        /// The number of the task, which is the number of a dependency.
         task: u32,
-        /// How many cycles have this dependency as their least member.
+        /// The number of cycles whose least member is this dependency.
         cycles: u32,
-        /// How many of them are confirmed.
+        /// The number of confirmed ones among them.
         confirmed: u32,
     },
 }

@@ -1,9 +1,9 @@
-//! How many members the cycles of a question may have.
+//! The bound of a question.
 
 use crate::limits::{MAX_BOUND, MIN_BOUND};
 use std::marker::Model;
 
-/// The most members that a question's cycles may have.
+/// The greatest number of members of the cycles of a question: `MIN_BOUND` to `MAX_BOUND`.
 #[derive(Clone, Copy, Debug, PartialEq, Eq)]
 pub struct Bound(u8);
 
@@ -23,7 +23,7 @@ impl Bound {
     ghost use Rattle.std.specs.Prelude.{◌≡◌, ◌≤◌, ◌↔◌, IfSome, IsSome};
     ghost use Rattle.trace_model.specs.declared.limits.TheConstants.{MIN_BOUND, MAX_BOUND};
 
-    /// The bound, if it is 2 to 8.
+    /// Returns the bound `most`, or `None` unless it is 2 to 8.
     pub fn new(most: u8) -> Option<Bound>
         ensures value { IfSome result (λ b. b ≡ most) }
         ensures in_range { IsSome result ↔ ((MIN_BOUND ≤ most) × (most ≤ MAX_BOUND)) }
@@ -35,14 +35,14 @@ impl Bound {
         }
     }
 
-    /// The least one.
+    /// Returns the least bound, `MIN_BOUND`.
     pub fn least() -> Bound
         ensures { result ≡ MIN_BOUND }
     {
         Bound(MIN_BOUND)
     }
 
-    /// The number.
+    /// Returns the bound as a number.
     pub fn get(self) -> u8
         ensures value { result ≡ self }
         ensures low { MIN_BOUND ≤ result }

@@ -1,4 +1,4 @@
-//! A cycle: two to eight numbers of dependencies.
+//! Cycles of dependencies.
 
 ghost use Rattle.std.specs.Prelude.{◌≡◌, ◌≤◌, ◌↔◌, List, length, ℕ, IfSome, IsSome, slice_get};
 
@@ -6,7 +6,8 @@ use crate::limits::MAX_MEMBERS;
 use arrayvec::ArrayVec;
 use std::marker::Model;
 
-/// The numbers of a cycle's dependencies, the least first: two to eight.
+/// A cycle: the numbers of its 2 to 8 dependencies, the least number first. Each member acquires a
+/// lock that the next member holds.
 #[derive(Debug, Drop, Clone, PartialEq, Eq)]
 pub struct Cycle {
     numbers: ArrayVec<u32, MAX_MEMBERS>,
@@ -23,7 +24,7 @@ impl Model for Cycle {
 }
 
 impl Cycle {
-    /// The cycle with these numbers, if they are two to eight. It takes no memory.
+    /// Returns the cycle with these numbers, or `None` unless there are 2 to 8. Does not allocate.
     pub fn new(numbers: &[u32]) -> Option<Cycle>
         ensures value { IfSome result (λ c. c ≡ numbers.now) }
         ensures in_range { IsSome result ↔ ((2 ≤ length numbers.now) × (length numbers.now ≤ 8)) }
@@ -38,7 +39,7 @@ impl Cycle {
         }
     }
 
-    /// Its numbers, the least first. It takes no memory.
+    /// Returns the numbers of the dependencies, the least first. Does not allocate.
     pub fn numbers(&self) -> &[u32]
         ensures value { result.now ≡ self.now }
         ensures low { 2 ≤ length self.now }

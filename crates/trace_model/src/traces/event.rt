@@ -1,15 +1,15 @@
-//! Events, and what they do.
+//! Events and their operations.
 
-/// What an event does.
+/// The operation of an event.
 #[derive(Clone, Copy, Debug, PartialEq, Eq)]
 pub enum Op {
     /// Starts the thread with this number.
     Fork(u32),
     /// Waits for the end of the thread with this number.
     Join(u32),
-    /// Takes the lock with this number, once more where the thread holds it.
+    /// Acquires the lock with this number. The thread may hold it already.
     Acquire(u32),
-    /// Gives the lock with this number back, once.
+    /// Releases the lock with this number once.
     Release(u32),
     /// Reads the variable with this number.
     Read(u32),
@@ -20,13 +20,13 @@ pub enum Op {
 /// One event of the traced program.
 #[derive(Clone, Copy, Debug, PartialEq, Eq)]
 pub struct Event {
-    /// The number of the thread whose event it is.
+    /// The number of the thread.
     pub thread: u32,
-    /// What the thread does.
+    /// The operation.
     pub op: Op,
 }
 
-/// The event that fills what is unused of a list of a fixed size.
+/// The event that fills the unused part of a list of a fixed size.
 impl Default for Event {
     fn default() -> Event {
         Event {

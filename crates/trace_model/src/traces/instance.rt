@@ -1,11 +1,11 @@
-//! An instance of a cycle: a place for each member.
+//! Instances of cycles.
 
 use crate::limits::MAX_MEMBERS;
 use crate::traces::place::Place;
 use arrayvec::ArrayVec;
 use std::marker::Model;
 
-/// Two to eight places, one for each member of a cycle.
+/// An instance of a cycle: 2 to 8 places, the acquire of each member in the order of the cycle.
 #[derive(Drop)]
 pub struct Instance {
     places: ArrayVec<Place, MAX_MEMBERS>,
@@ -25,7 +25,7 @@ impl Model for Instance {
 impl Instance {
     ghost use Rattle.std.specs.Prelude.{◌≡◌, ◌≤◌, ◌↔◌, IfSome, IsSome, length, slice_get};
 
-    /// The instance of these places, if they are 2 to 8.
+    /// Returns the instance of these places, or `None` unless there are 2 to 8.
     pub fn new(places: &[Place]) -> Option<Instance>
         ensures value { IfSome result (λ i. i ≡ places.now) }
         ensures in_range { IsSome result ↔ ((2 ≤ length places.now) × (length places.now ≤ 8)) }
@@ -40,7 +40,7 @@ impl Instance {
         }
     }
 
-    /// How many places it has.
+    /// Returns the number of places, 2 to 8.
     pub fn len(&self) -> usize
         ensures value { result ≡ length self.now }
         ensures low { 2 ≤ result }
@@ -49,7 +49,8 @@ impl Instance {
         self.places.len()
     }
 
-    /// The place of the member, if there is one.
+    /// Returns the place of the member with this 0-based index, or `None` if there is no such
+    /// member.
     pub fn get(&self, member: usize) -> Option<Place>
         ensures { result ≡ slice_get self.now member }
     {

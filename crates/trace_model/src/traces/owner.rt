@@ -1,10 +1,10 @@
 //! The owner of a lock.
 
-/// Which thread holds a lock, and how deep: how many acquires of it are not yet released.
+/// The thread that holds a lock, and the depth: its acquires of the lock less its releases.
 #[derive(Clone, Copy, Debug, PartialEq, Eq)]
 pub struct Owner {
-    /// The thread.
+    /// The number of the thread.
     pub thread: u32,
-    /// 1 to `MAX_DEPTH`.
+    /// The depth, 1 to `MAX_DEPTH`.
     pub depth: u8,
 }

@@ -1,8 +1,8 @@
-//! Places of a trace, and lists of them.
+//! Places of a trace, and lists of places.
 
 use std::marker::Model;
 
-/// An index into a trace.
+/// A place: a 0-based index into a trace.
 #[derive(Clone, Copy, Debug, Default, PartialEq, Eq, PartialOrd, Ord, Hash)]
 pub struct Place(u32);
 
@@ -19,14 +19,14 @@ impl Model for Place {
 impl Place {
     ghost use Rattle.std.specs.Prelude.{◌≡◌};
 
-    /// The place with this index.
+    /// Returns the place with this index.
     pub fn new(index: u32) -> Place
         ensures { result ≡ index }
     {
         Place(index)
     }
 
-    /// The index.
+    /// Returns the index.
     pub fn get(self) -> u32
         ensures { result ≡ self }
     {
@@ -34,7 +34,7 @@ impl Place {
     }
 }
 
-/// Some places of a trace, ascending, to be read by index.
+/// A list of places, ascending, that is read by index.
 #[derive(Drop)]
 pub struct PlaceList<'a> {
     places: &'a [Place],
@@ -55,7 +55,7 @@ impl<'a> PlaceList<'a> {
     ghost use Rattle.std.specs.Prelude.{◌≡◌, ◌<◌, [], Some, length, nat_eq, slice_get};
     ghost use Rattle.std.specs.List.Sorted.{IsStrictlyIncreasing};
 
-    /// These places, which must ascend.
+    /// Returns the list of these places, which must ascend.
     pub fn new(places: &'a [Place]) -> PlaceList<'a>
         requires { IsStrictlyIncreasing places.now }
         ensures { result ≡ places.now }
@@ -63,14 +63,14 @@ impl<'a> PlaceList<'a> {
         PlaceList { places }
     }
 
-    /// No place.
+    /// Returns the empty list.
     pub fn none() -> PlaceList<'a>
         ensures { result ≡ [] }
     {
         PlaceList { places: &[] }
     }
 
-    /// How many places there are.
+    /// Returns the number of places.
     pub fn len(&self) -> usize
         ensures length { result ≡ length self.now }
         ensures ascends { IsStrictlyIncreasing self.now }
@@ -78,14 +78,14 @@ impl<'a> PlaceList<'a> {
         self.places.len()
     }
 
-    /// Whether there is none.
+    /// Returns whether the list is empty.
     pub fn is_empty(&self) -> bool
         ensures { result ≡ nat_eq (length self.now) 0 }
     {
         self.places.is_empty()
     }
 
-    /// The place with this index, which must be below the length.
+    /// Returns the place with this 0-based index, which must be below the length.
     pub fn get(&self, index: usize) -> Place
         requires { index < length self.now }
         ensures { slice_get self.now index ≡ Some result }

@@ -1,4 +1,4 @@
--- The held locks and the dependencies of a trace whose acquires are outermost are the former ones.
+-- Held sets and dependencies of a flat trace agree in both definitions.
 use Rattle.std.proofs.Common.{◌≡◌, ℕ, zero, suc, ◌≤◌, Bool, true, false, cond, ◌==◌, List, [], ◌∷◌, length, slice_get, Option, Some, None, refl, sym, ap, ◌∙◌, arith}
 use Rattle.std.proofs.lemmas.Bool.{le-leb}
 use Rattle.std.specs.Option.{option_and_then}

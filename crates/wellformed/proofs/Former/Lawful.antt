@@ -1,4 +1,4 @@
--- A well-formed trace whose acquires are outermost was well formed.
+-- A well-formed flat trace is well formed in the definition without inner acquires.
 use Rattle.std.proofs.Common.{◌≡◌, ℕ, ◌<◌, false, not, ltb, leb, ◌==◌, ◌&&◌, length, take, Some, None, refl, ap, ◌∙◌}
 use Rattle.std.proofs.lemmas.Bool.{lt-leb, lt-ltb, ltb-true}
 use Rattle.std.proofs.lemmas.Option.{slice_get_within}
@@ -21,7 +21,7 @@ use Rattle.wellformed.specs.Former.Lawful as former
 use Rattle.wellformed.proofs.Taken.{flat_below, flat_take}
 use Rattle.wellformed.proofs.Former.Held.{held_is}
 
--- one more event after such a trace
+-- one more event after a flat trace
 module _ (s : Trace) (flat : IsFlat s) (t : ℕ) where
   by_is : (u l : ℕ) → former.held_by s u l ≡ held_by s u l
   by_is u l =

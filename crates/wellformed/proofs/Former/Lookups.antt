@@ -1,4 +1,4 @@
--- The release of an outermost acquire is the least later release of its lock.
+-- In a flat trace, the release of an acquire is the first later release of its lock.
 use Rattle.std.proofs.Common.{◌≡◌, ℕ, suc, ◌-◌, ◌<◌, inl, inr, true, length, slice_get, Option, Some, None, refl, sym, ap, subst, ◌∙◌, arith}
 use Rattle.std.proofs.lemmas.Bool.{cases_eq, cases_lt}
 use Rattle.std.proofs.lemmas.Option.{same_Some}
@@ -24,7 +24,7 @@ module _ (s : Trace) (w : IsWellFormed s) (flat : IsFlat s) where
   abbrev NoneBetween : ℕ → ℕ → ℕ → Type 0
   NoneBetween p r l = (x : ℕ) → p < x → x < r → Does s x (Release l) → ⊥
 
-  -- another thread is in no section on the lock where the next release of it stands
+  -- at the next release of the lock, another thread is in no section on it
   not_other : (p r t u l : ℕ) → Begins s p t l → p < r → NoneBetween p r l → (u ≡ t → ⊥) → InSection s r u l → ⊥
   not_other p r t u l begins after none other (a, below, theirs, unended) = elim (cases_lt a p) [
     | inl z ↦ others_lack s w a p u t l (Acquire l) z theirs.0 begins.0 other

@@ -1,4 +1,4 @@
--- Reorderings and rows of a well-formed trace whose acquires are outermost are the former ones.
+-- Reorderings and rows of a well-formed flat trace agree in both definitions.
 use Rattle.std.proofs.Common.{◌≡◌, ℕ, List, map, slice_get, Option, Some, None, MatchOption, sym, subst, ◌∙◌}
 use Rattle.std.proofs.lemmas.List.Elements.{All-weaker}
 use Rattle.trace_model.specs.Theory.Trace.{Trace}

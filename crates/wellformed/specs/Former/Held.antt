@@ -1,4 +1,4 @@
--- The locks that a thread holds.
+-- Held locks, without inner acquires.
 use Rattle.std.specs.Prelude.{ℕ, zero, suc, List, [], slice_get, Option, Some, None, ◌==◌, if◌then◌else◌}
 use Rattle.trace_model.specs.declared.traces.event.Event.{Event}
 use Rattle.trace_model.specs.declared.traces.event.Op.{Op}
@@ -6,20 +6,22 @@ use Rattle.trace_model.specs.declared.traces.event.Op.TheVariants.{Acquire, Rele
 use Rattle.trace_model.specs.Theory.Trace.{Trace, Does}
 use Rattle.trace_model.specs.Theory.Held.{with_lock, without_lock}
 
--- some thread begins a critical section on the lock at the place: it acquires it
+-- Some thread acquires lock l at place p, which begins a critical section.
 abbrev pub BeginsOn : Trace → ℕ → ℕ → Type 0
 BeginsOn s p l = Does s p (Acquire l)
 
+-- The held set after operation o, if it was ks before.
 abbrev pub held_after : Op → List ℕ → List ℕ
 held_after (Acquire l) ks = with_lock l ks
 held_after (Release l) ks = without_lock l ks
 held_after _ ks = ks
 
+-- The held set of thread t after one more event, or after none.
 abbrev pub held_step : Option Event → ℕ → List ℕ → List ℕ
 held_step None t ks = ks
 held_step (Some e) t ks = if e.thread == t then held_after e.op ks else ks
 
--- the locks that the thread holds right before the place, ascending
+-- The held set of thread t right before place p, ascending.
 abbrev pub held : Trace → ℕ → ℕ → List ℕ
 held s zero t = []
 held s (suc p) t = held_step (slice_get s p) t (held s p t)

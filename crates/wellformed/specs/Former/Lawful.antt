@@ -1,4 +1,4 @@
--- Which events may come next, and why not.
+-- Lawful events and well-formed traces, without inner acquires.
 use Rattle.std.specs.Prelude.{◌≡◌, ℕ, Bool, not, ◌==◌, ◌&&◌, nat_le, length, take, Option, Some, None, if◌then◌else◌}
 use Rattle.std.specs.List.{list_any}
 use Rattle.trace_model.specs.declared.traces.event.Event.{Event}
@@ -12,15 +12,16 @@ use Rattle.trace_model.specs.Theory.Held.{has}
 use Rattle.trace_model.specs.Theory.Lawful as present
 use Rattle.wellformed.specs.Former.Held.{held}
 
--- after the trace the thread holds the lock, or another one does
+-- Thread t holds lock l after the trace.
 abbrev pub held_by : Trace → ℕ → ℕ → Bool
 held_by s t l = has l (held s (length s) t)
 
+-- A thread other than t holds lock l after the trace.
 abbrev pub held_by_other : Trace → ℕ → ℕ → Bool
 held_by_other s t l = list_any (λ e. not (e.thread == t) && held_by s e.thread l) s
 
--- the first refusal that applies to what the thread does: a lock that it holds is nested too deep
--- at once
+-- The first refusal that applies to operation o of thread t. An acquire of a held lock is refused
+-- as too nested.
 abbrev pub op_refusal_of : Trace → ℕ → Op → Option Refusal
 op_refusal_of s t (Acquire l) =
     if held_by s t l then Some TooNested
@@ -30,7 +31,7 @@ op_refusal_of s t (Acquire l) =
 op_refusal_of s t (Release l) = if held_by s t l then None else Some NotHeld
 op_refusal_of s t op = present.op_refusal_of s t op
 
--- none where the event is lawful after the trace, or the first refusal that applies
+-- The first refusal that applies to event e after the trace, or none if e is lawful.
 abbrev pub refusal_of : ℕ → Trace → Event → Option Refusal
 refusal_of limit s e =
     if nat_le limit (length s) then Some Full
@@ -38,6 +39,6 @@ refusal_of limit s e =
     else (if stands s (Join e.thread) then Some Ended
     else op_refusal_of s e.thread e.op))
 
--- each event is lawful after those before it
+-- Each event of the trace is lawful after the events before it.
 abbrev pub IsWellFormed : Trace → Type 0
 IsWellFormed s = (p : ℕ) (e : Event) → At s p e → refusal_of MAX_EVENTS (take p s) e ≡ None

@@ -1,4 +1,4 @@
--- Lists of places that the program could have run.
+-- Sync-preserving reorderings, without inner acquires.
 use Rattle.std.specs.Prelude.{◌≡◌, ℕ, ◌<◌, List, length, slice_get, Some, MatchOption}
 use Rattle.std.specs.List.{Contains}
 use Rattle.trace_model.specs.declared.traces.event.Op.TheVariants.{Read, Write}
@@ -8,6 +8,7 @@ use Rattle.trace_model.specs.Theory.Reordering.{Before, ForkOrJoin, LastWrite, R
 use Rattle.wellformed.specs.Former.Held.{BeginsOn}
 use Rattle.wellformed.specs.Former.Lookups.{release}
 
+-- The list is a sync-preserving correct reordering of the trace (Tunç et al. 2023).
 pub record IsReordering (s : Trace) (order : List ℕ) : Type 0 where
   pub in_trace : (q : ℕ) → Contains order q → q < length s
   pub distinct : (i j q : ℕ) → slice_get order i ≡ Some q → slice_get order j ≡ Some q → i ≡ j
@@ -21,6 +22,6 @@ pub record IsReordering (s : Trace) (order : List ℕ) : Type 0 where
       (r : ℕ) × (release s p ≡ Some r) × Before order p r × Before order r q
   pub lock_order : (p q l : ℕ) → BeginsOn s p l → BeginsOn s q l → Before order p q → p < q
 
--- some reordering reaches the places
+-- Some sync-preserving reordering reaches the places.
 abbrev pub Reached : Trace → List ℕ → Type 0
 Reached s places = (order : List ℕ) × IsReordering s order × Reaches s order places

@@ -5,15 +5,15 @@ use Rattle.std.proofs.lemmas.Result.{err_from_is_err_and}
 use Rattle.std.specs.List.{Contains}
 use Rattle.trace_model.specs.Theory.Dependencies.{Dependency}
 use Rattle.dependencies.specs.Tables.{known}
-use Rattle.cycle_search.specs.Search.{IsPath, AboveFirst, LinksTo, TakesBack, CycleOver, IsAmong, AreSome, AreAll, Adds, Exceeds, CycleBeyond, CycleThrough, HasWays}
-use Rattle.cycle_search.specs.Takers.{IsNext}
-use Rattle.cycle_search.specs.Ways.{AreWaysBack}
+use Rattle.cycle_search.specs.Search.{IsPath, AboveFirst, LinksTo, ClosesBack, CycleOver, IsAmong, AreSome, AreAll, Adds, Exceeds, CycleBeyond, CycleThrough, HasDistances}
+use Rattle.cycle_search.specs.Acquirers.{IsNext}
+use Rattle.cycle_search.specs.Distances.{AreDistances}
 use Rattle.trace_model.proofs.Lists.{length-push, get-push_kept}
 use Rattle.cycle_search.proofs.Listing.{append-nil, all-none, popped}
 use Rattle.cycle_search.proofs.Turns.{adds-more, adds-end, exceeds-more, closers-begin, closers-more, closers-exceed, closers-end, rejected, closed, one-closed, deeper, deeper-some, full}
 use Rattle.cycle_search.proofs.Paths.{path-tested}
-use Rattle.cycle_search.proofs.Ranked.{other-rank}
-use Rattle.cycle_search.proofs.WaysBack.{too-far}
+use Rattle.cycle_search.proofs.ComponentLemmas.{other-component}
+use Rattle.cycle_search.proofs.DistanceLemmas.{too-far}
 use Rattle.cycle_search.proofs.search.+search.Goals as goal
 use Rattle.cycle_search.proofs.search.+search.Goals.{visit-then-is_cycle+else-len-search+in_ok-push, visit-else-is_cycle+then-len-search-2+in_ok-extend, visit-else-is_cycle+else-len-search-2}
 
@@ -26,7 +26,7 @@ extend-visit-requires t c =
     let here : Contains items m = (i, c.loop-next-test.true, get_or_default_zero items i m c.loop-next-test.true) in
     let same = sym c.loop-next.invariant.same in
     let shorter = ap (λ (p : List ℕ). length p) same in
-    (omega (arith, shorter), (subst (λ p. IsPath c.args.search.now.searched.now p) same c.requires.path, (subst (λ (p : List ℕ). length p < c.args.search.now.members) same c.requires.room, (record { members = c.requires.limits.members; cycles = c.loop-next.invariant.few }, (subst (λ p. HasWays c.args.search.now p) same c.requires.ways, (n.known m here, (subst (λ p. AboveFirst p m) same (n.above m here), subst (λ p. LinksTo c.args.search.now.searched.now p m) same (n.linked m here))))))))
+    (omega (arith, shorter), (subst (λ p. IsPath c.args.search.now.searched.now p) same c.requires.path, (subst (λ (p : List ℕ). length p < c.args.search.now.members) same c.requires.room, (record { members = c.requires.limits.members; cycles = c.loop-next.invariant.few }, (subst (λ p. HasDistances c.args.search.now p) same c.requires.distances, (n.known m here, (subst (λ p. AboveFirst p m) same (n.above m here), subst (λ p. LinksTo c.args.search.now.searched.now p m) same (n.linked m here))))))))
 
 pub extend-returns-in_err-visit-clause-too_many : goal.extend-returns-in_err-visit-clause-too_many
 extend-returns-in_err-visit-clause-too_many t c e =
@@ -44,7 +44,7 @@ extend-close-requires t c =
     let room = c.requires.room in
     let len = c.len.ensures.value in
     let full = c.if-len-search.true in
-    (omega arith, (c.requires.path, (omega arith, (c.requires.limits, c.requires.ways))))
+    (omega arith, (c.requires.path, (omega arith, (c.requires.limits, c.requires.distances))))
 
 pub extend-returns-then-search-nexts : goal.extend-returns-then-search-nexts
 extend-returns-then-search-nexts t c = record {
@@ -86,11 +86,11 @@ extend-returns t c = record {
   too_many = λ e. cc;
 }
 
--- what the search for the next closer answers, of the path as it was
+-- The result of the search for the next closing member, for the unchanged path.
 closer-of : (ds : List Dependency) (path path' : List ℕ) (last : ℕ) (found answer : Option ℕ) → path' ≡ path → found ≡ answer →
-    IsNext last (TakesBack ds path') found → IsNext last (TakesBack ds path) answer
+    IsNext last (ClosesBack ds path') found → IsNext last (ClosesBack ds path) answer
 closer-of ds path path' last found answer same is least =
-    subst (IsNext last (TakesBack ds path)) is (subst (λ p. IsNext last (TakesBack ds p) found) same least)
+    subst (IsNext last (ClosesBack ds path)) is (subst (λ p. IsNext last (ClosesBack ds p) found) same least)
 
 pub close-loop-next-init : goal.close-loop-next-init
 close-loop-next-init t c =
@@ -122,7 +122,7 @@ close-visit-requires t c =
     let shorter = ap (λ (p : List ℕ). length p) same in
     let head = ap (λ (p : List ℕ). get_or p 0 0) same in
     let begun = λ (first : ℕ) (at : slice_get c.loop-next.path.items 0 ≡ Some first). get_or_from_slice_get c.loop-next.path.items 0 first 0 at in
-    (omega (arith, shorter, c.requires.room), (subst (λ p. IsPath c.args.search.now.searched.now p) same c.requires.path, (omega (arith, shorter, c.requires.room), (record { members = c.requires.limits.members; cycles = c.loop-next.invariant.few }, (subst (λ p. HasWays c.args.search.now p) same c.requires.ways, (slice_get_within c.args.search.now.searched.now c.in-Some.next more.1.1 more.1.3, (λ first at. omega (arith, head, more.0, begun first at, c.loop-next.invariant.first), c.links.ensures.0 c.if-links.true)))))))
+    (omega (arith, shorter, c.requires.room), (subst (λ p. IsPath c.args.search.now.searched.now p) same c.requires.path, (omega (arith, shorter, c.requires.room), (record { members = c.requires.limits.members; cycles = c.loop-next.invariant.few }, (subst (λ p. HasDistances c.args.search.now p) same c.requires.distances, (slice_get_within c.args.search.now.searched.now c.in-Some.next more.1.1 more.1.3, (λ first at. omega (arith, head, more.0, begun first at, c.loop-next.invariant.first), c.links.ensures.0 c.if-links.true)))))))
 
 pub close-returns-in_err-visit-clause-too_many : goal.close-returns-in_err-visit-clause-too_many
 close-returns-in_err-visit-clause-too_many t c e =
@@ -133,7 +133,7 @@ close-returns-in_err-visit-clause-too_many t c e =
     c.args.search.now.cycles _ _ c.loop-next.invariant.added
     (subst (λ p. Exceeds (CycleThrough c.args.search.now.searched.now c.args.search.now.members p c.in-Some.next) c.args.search.now.cycles c.loop-next.found.items) c.loop-next.invariant.same q)
 
-smaller : (ds : List Dependency) (path : List ℕ) (last next : ℕ) → (last < next) × TakesBack ds path next → length ds - next < length ds - last
+smaller : (ds : List Dependency) (path : List ℕ) (last next : ℕ) → (last < next) × ClosesBack ds path next → length ds - next < length ds - last
 smaller ds path last next (more, (first, d, head, at, takes)) = omega (arith, more, slice_get_within ds next d at)
 
 pub close-loop-next-smaller-in_ok-visit : goal.close-loop-next-smaller-in_ok-visit
@@ -178,12 +178,12 @@ close-returns t c = record {
   too_many = λ e. cc;
 }
 
-pub visit-same_rank-requires : goal.visit-same_rank-requires
-visit-same_rank-requires t c =
+pub visit-same_component-requires : goal.visit-same_component-requires
+visit-same_component-requires t c =
     let path = c.requires.path in
     let first = path.known 0 0 path.begun in
     let next = c.requires.known in
-    let each = c.searched.invariant.ranks.each in
+    let each = c.searched.invariant.components.each in
     let same = ap length c.searched.view_is in
     record { begun = path.begun; first = omega arith; next = omega arith }
 
@@ -221,22 +221,22 @@ visit-returns-then-is_too_far t c = record {
   all = (
     [],
     sym (append-nil c.args.found.now.items),
-    too-far c.args.search.now.searched.now c.args.search.now.members c.args.path.now.items c.args.next c.args.search.now.ways.now
-        c.requires.path.begun c.requires.ways c.requires.known (c.is_too_far.ensures c.if-is_too_far.true),
+    too-far c.args.search.now.searched.now c.args.search.now.members c.args.path.now.items c.args.next c.args.search.now.distances.now
+        c.requires.path.begun c.requires.distances c.requires.known (c.is_too_far.ensures c.if-is_too_far.true),
   );
   few = c.requires.limits.cycles;
   too_many = λ e. cc;
 }
 
-pub visit-returns-then-not-same_rank : goal.visit-returns-then-not-same_rank
-visit-returns-then-not-same_rank t c = record {
+pub visit-returns-then-not-same_component : goal.visit-returns-then-not-same_component
+visit-returns-then-not-same_component t c = record {
   path = refl;
   all = (
     [],
     sym (append-nil c.args.found.now.items),
     subst (λ ds. AreAll (CycleThrough ds c.args.search.now.members c.args.path.now.items c.args.next) []) c.searched.view_is
-        (other-rank (known c.searched.inside.table.now) c.args.search.now.members c.args.path.now.items c.args.next c.searched.inside.ranks.now
-        c.searched.invariant.ranks c.requires.path.begun (λ e. true≢false (sym (c.same_rank.ensures.1 e) ∙ c.if-not-same_rank.true))),
+        (other-component (known c.searched.inside.table.now) c.args.search.now.members c.args.path.now.items c.args.next c.searched.inside.components.now
+        c.searched.invariant.components c.requires.path.begun (λ e. true≢false (sym (c.same_component.ensures.1 e) ∙ c.if-not-same_component.true))),
   );
   few = c.requires.limits.cycles;
   too_many = λ e. cc;
@@ -267,10 +267,10 @@ visit-extend-requires t c = let d = c.decreases in (
       omega arith,
       (
         c.requires.limits,
-        subst (λ first. AreWaysBack c.args.search.now.searched.now first c.args.search.now.ways.now)
+        subst (λ first. AreDistances c.args.search.now.searched.now first c.args.search.now.distances.now)
             (sym (get_or_from_slice_get c.push.new.self.items 0 (get_or c.args.path.now.items 0 0) 0
             (ap (λ (xs : List ℕ). slice_get xs 0) c.push.ensures.items
-            ∙ get-push_kept c.args.path.now.items c.args.next 0 (get_or c.args.path.now.items 0 0) (slice_get-get_or c.args.path.now.items 0 0 c.requires.path.begun)))) c.requires.ways,
+            ∙ get-push_kept c.args.path.now.items c.args.next 0 (get_or c.args.path.now.items 0 0) (slice_get-get_or c.args.path.now.items 0 0 c.requires.path.begun)))) c.requires.distances,
       ),
     ),
   ),

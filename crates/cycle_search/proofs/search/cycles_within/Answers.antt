@@ -2,22 +2,22 @@ use Rattle.std.proofs.Common.{◌≡◌, ◌∙◌, [], ◌∷◌, ◌++◌, Lis
 use Rattle.std.proofs.lemmas.Result.{err_from_is_err_and}
 use Rattle.cycle_search.specs.declared.refused.SearchRefused.TheVariants.{TooMany}
 use Rattle.cycle_search.specs.Search.{IsPath}
-use Rattle.cycle_search.specs.Ways.{AreWaysBack}
+use Rattle.cycle_search.specs.Distances.{AreDistances}
 use Rattle.cycle_search.proofs.Paths.{path-one}
 use Rattle.cycle_search.proofs.Turns.{cycles-made, too-many-made}
 use Rattle.cycle_search.proofs.search.cycles_within.Goals as goal
 
--- the path is the root alone
+-- The path is the root alone.
 begins : (root : ℕ) (new pushed : List ℕ) → new ≡ [] → pushed ≡ new ++ root ∷ [] → pushed ≡ root ∷ []
 begins root new pushed none more = more ∙ ap (λ xs. xs ++ root ∷ []) none
 
-pub ways_of-requires : goal.ways_of-requires
-ways_of-requires c =
+pub distances_of-requires : goal.distances_of-requires
+distances_of-requires c =
     let one = begins c.args.root _ _ c.new-path.ensures c.push.ensures.items in
     subst (IsPath c.args.searched.now) (sym one) (path-one c.args.searched.now c.args.root c.requires.root)
 
-pub returns-in_err-ways-clause-too_many : goal.returns-in_err-ways-clause-too_many
-returns-in_err-ways-clause-too_many c e =
+pub returns-in_err-distances-clause-too_many : goal.returns-in_err-distances-clause-too_many
+returns-in_err-distances-clause-too_many c e =
     let p = err_from_is_err_and c.from_residual.result c.from_residual.ensures.1 in
     let q = sym e ∙ p.1 ∙ ap Err p.2 in cc
 
@@ -30,7 +30,7 @@ extend-requires c =
       path = subst (IsPath c.args.searched.now) (sym one) (path-one c.args.searched.now c.args.root c.requires.root);
       room = omega (arith, len, c.get.ensures.low);
       limits = record { members = c.get.ensures.high; cycles = omega (arith, none) };
-      ways = subst (AreWaysBack c.args.searched.now (slice_index c.push.new.self.items 0)) (sym c.deref.ensures.value) c.in_ok-ways.ensures;
+      distances = subst (AreDistances c.args.searched.now (slice_index c.push.new.self.items 0)) (sym c.deref.ensures.value) c.in_ok-distances.ensures;
     }
 
 pub returns-in_err-extend-clause-too_many : goal.returns-in_err-extend-clause-too_many

@@ -1,7 +1,7 @@
 use Rattle.std.proofs.Common.{◌+◌, Some, take, drop, get_or, decimal, sym, ap, ◌∙◌, ◌≡◌, subst}
 use Rattle.std.proofs.lemmas.List.Quantifiers.{position-Some}
 use Rattle.std.proofs.lemmas.Option.{none-some, same_Some}
-use Rattle.event_frames.proofs.Turns.{rest_is}
+use Rattle.trace_model.proofs.Lists.{take-drop_rest}
 use Rattle.trace_model.specs.Protocol.Frames.{object_of}
 use Rattle.std.specs.Prelude.{IfSome}
 use Rattle.event_files.specs.EventFile.{is_no_digit, event_word}
@@ -25,14 +25,14 @@ pub returns-in_err-object-clause-complete : goal.returns-in_err-object-clause-co
 returns-in_err-object-clause-complete c = λ e fits is.
     let t = taken_apart c.args.word.now e fits.0 is in
     let at = same_Some _ _ (sym c.in_ok-place.was ∙ c.letter_place.ensures ∙ t.found) in
-    let object = c.number-2.ensures.complete (object_of e.op) fits.1 (rest_is c.args.word.now (c.in_ok-place.place + 1) ∙ ap (λ k. drop (k + 1) c.args.word.now) at ∙ t.object) in
+    let object = c.number-2.ensures.complete (object_of e.op) fits.1 (take-drop_rest c.args.word.now (c.in_ok-place.place + 1) ∙ ap (λ k. drop (k + 1) c.args.word.now) at ∙ t.object) in
     absurd (none-some _ (sym c.in_err-object.was ∙ object))
 
 pub returns-in_err-op-clause-complete : goal.returns-in_err-op-clause-complete
 returns-in_err-op-clause-complete c = λ e fits is.
     let t = taken_apart c.args.word.now e fits.0 is in
     let at = same_Some _ _ (sym c.in_ok-place.was ∙ c.letter_place.ensures ∙ t.found) in
-    let object = c.number-2.ensures.complete (object_of e.op) fits.1 (rest_is c.args.word.now (c.in_ok-place.place + 1) ∙ ap (λ k. drop (k + 1) c.args.word.now) at ∙ t.object) in
+    let object = c.number-2.ensures.complete (object_of e.op) fits.1 (take-drop_rest c.args.word.now (c.in_ok-place.place + 1) ∙ ap (λ k. drop (k + 1) c.args.word.now) at ∙ t.object) in
     let value = same_Some _ _ (sym c.in_ok-object.was ∙ object) in
     let op = c.op_of.ensures.complete e.op (ap (λ k. get_or c.args.word.now k 0) at ∙ t.letter) (sym value) in
     absurd (none-some _ (sym c.in_err-op.was ∙ op))
@@ -42,7 +42,7 @@ returns-clause-complete c = λ e fits is.
     let t = taken_apart c.args.word.now e fits.0 is in
     let at = same_Some _ _ (sym c.in_ok-place.was ∙ c.letter_place.ensures ∙ t.found) in
     let thread = same_Some _ _ (sym c.in_ok-thread.was ∙ c.number.ensures.complete e.thread fits.0 (ap (λ k. take k c.args.word.now) at ∙ t.thread)) in
-    let object = c.number-2.ensures.complete (object_of e.op) fits.1 (rest_is c.args.word.now (c.in_ok-place.place + 1) ∙ ap (λ k. drop (k + 1) c.args.word.now) at ∙ t.object) in
+    let object = c.number-2.ensures.complete (object_of e.op) fits.1 (take-drop_rest c.args.word.now (c.in_ok-place.place + 1) ∙ ap (λ k. drop (k + 1) c.args.word.now) at ∙ t.object) in
     let value = same_Some _ _ (sym c.in_ok-object.was ∙ object) in
     let op = same_Some _ _ (sym c.in_ok-op.was ∙ c.op_of.ensures.complete e.op (ap (λ k. get_or c.args.word.now k 0) at ∙ t.letter) (sym value)) in
     λ i. Some (record { thread = thread i; op = op i })
@@ -64,5 +64,5 @@ returns-clause-sound c =
     let word = c.args.word.now in
     let place = c.in_ok-place.place in
     let within = (position-Some is_no_digit word place 0 (sym c.letter_place.ensures ∙ c.in_ok-place.was)).0 in
-    let object = sym (rest_is word (place + 1)) ∙ c.in_ok-object.ensures.sound ∙ ap decimal (sym c.in_ok-op.ensures.sound.1) in
+    let object = sym (take-drop_rest word (place + 1)) ∙ c.in_ok-object.ensures.sound ∙ ap decimal (sym c.in_ok-op.ensures.sound.1) in
     word_is word (record { thread = c.in_ok-thread.thread; op = c.in_ok-op.op }) place within c.in_ok-thread.ensures.sound c.in_ok-op.ensures.sound.0 object

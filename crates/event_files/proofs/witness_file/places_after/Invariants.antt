@@ -1,7 +1,7 @@
 use Rattle.std.proofs.Common.{◌≡◌, ◌≤◌, length, vec_capacity, vec_len}
 use Rattle.event_files.proofs.witness_file.places_after.Given as goal
 
--- there is room for the places of all words
+-- the capacity suffices for the places of all words
 abbrev pub invariant-loop-word : goal.invariant-loop-word
 invariant-loop-word l = record {
   counted : vec_len l.places ≡ l.word-index;

@@ -1,6 +1,6 @@
 use Rattle.std.proofs.Common.{◌≡◌, unwrap_or, ap, ◌∙◌, arith}
 use Rattle.trace_model.proofs.Lists.{at_index}
-use Rattle.fronts.specs.Layers.{front_of}
+use Rattle.fronts.specs.Overlays.{front_of}
 use Rattle.fronts.proofs.BuildLemmas.{each_pushed, length_pushed}
 use Rattle.fronts.proofs.fronts.gathered.Goals as goal
 
@@ -13,7 +13,7 @@ loop-slot-preserved c =
     let inv = c.loop-slot.invariant in
     record {
       count = length_pushed counts more slot c.front.result pushed inv.count;
-      fronts = each_pushed (λ a n. n ≡ front_of c.args.under.now c.args.layer.now a) counts more slot c.front.result pushed inv.count inv.fronts c.front.ensures;
+      fronts = each_pushed (λ a n. n ≡ front_of c.args.under.now c.args.overlay.now a) counts more slot c.front.result pushed inv.count inv.fronts c.front.ensures;
     }
 
 pub returns-clause-fronts : goal.returns-clause-fronts

@@ -15,7 +15,7 @@ loop-part-init c =
     let first = c.push_reserved.ensures in
     let all = c.into_iter-part-iterator.ensures.into_iter_gives.0 in
     record {
-      told = ap whole (first.items ∙ ap (λ l. l ++ c.args.head ∷ []) made.items) ∙ flat_map-cons (λ piece. piece.items) c.args.head [];
+      written = ap whole (first.items ∙ ap (λ l. l ++ c.args.head ∷ []) made.items) ∙ flat_map-cons (λ piece. piece.items) c.args.head [];
       room = omega (arith, made.len, made.capacity, first.len, first.capacity, c.len.ensures, ap length all);
       rest = all;
     }
@@ -32,7 +32,7 @@ loop-part-preserved-in-Some-text c =
     let more = c.push_reserved-in-Some-text.ensures in
     let items = rw c.in-Some-text.is at more.items in
     record {
-      told = part_told c.args.head.items c.loop-part.yielded part (whole pieces) _ c.in-Some-text.text.items v.told (ap (λ t. option_map_or (λ text. text.items) t []) c.in-Some-text.is)
+      written = part_told c.args.head.items c.loop-part.yielded part (whole pieces) _ c.in-Some-text.text.items v.written (ap (λ t. option_map_or (λ text. text.items) t []) c.in-Some-text.is)
           (ap whole items ∙ pushed pieces c.in-Some-text.text);
       room = omega (arith, v.room, ap length step, more.len, more.capacity);
       rest = append_assoc c.loop-part.yielded (part ∷ []) c.next.new.self.rest.items ∙ (ap (λ l. c.loop-part.yielded ++ l) (sym step) ∙ v.rest);
@@ -45,7 +45,7 @@ loop-part-preserved c =
     let part = c.in-Some.part in
     let step = c.in-Some.ensures.steps.0 in
     record {
-      told = part_told c.args.head.items c.loop-part.yielded part before before [] v.told (ap (λ t. option_map_or (λ text. text.items) t []) c.in_default.is) (sym (append-nil before));
+      written = part_told c.args.head.items c.loop-part.yielded part before before [] v.written (ap (λ t. option_map_or (λ text. text.items) t []) c.in_default.is) (sym (append-nil before));
       room = omega (arith, v.room, ap length step);
       rest = append_assoc c.loop-part.yielded (part ∷ []) c.next.new.self.rest.items ∙ (ap (λ l. c.loop-part.yielded ++ l) (sym step) ∙ v.rest);
     }

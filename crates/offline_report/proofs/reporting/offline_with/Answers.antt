@@ -17,9 +17,9 @@ returns-in_err-open g c =
 
 pub returns : goal.returns
 returns g c =
-    let told = c.report-2.result in
+    let written = c.report-2.result in
     let asked = c.in_ok-open.ensures.asked in
     record {
-      text = subst (λ (q : Asked). IfOk told (λ text. IsReport q.events q.bound text.items)) asked c.report-2.ensures.text;
-      refused = subst (λ (q : Asked). IfErr told (IsRefused q.events q.bound)) asked c.report-2.ensures.refused;
+      text = subst (λ (q : Asked). IfOk written (λ text. IsReport q.events q.bound text.items)) asked c.report-2.ensures.text;
+      refused = subst (λ (q : Asked). IfErr written (IsRefused q.events q.bound)) asked c.report-2.ensures.refused;
     }

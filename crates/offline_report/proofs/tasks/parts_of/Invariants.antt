@@ -1,6 +1,6 @@
 use Rattle.std.specs.Arc.{arc_value}
 use Rattle.offline_report.proofs.tasks.parts_of.Given as goal
 
--- the question that is computed
+-- The question that is computed.
 abbrev pub ghosts-compute_all : goal.ghosts-compute_all
 ghosts-compute_all g a = record { events = arc_value a.snapshot.now; bound = a.bound }

@@ -1,16 +1,12 @@
 use Rattle.std.proofs.Common.{◌≡◌, ℕ, ◌<◌, inl, length, take, get_or, slice_get, Some, ap, sym, subst, ◌∙◌, arith}
 use Rattle.std.proofs.lemmas.Option.{slice_get-get_or}
-use Rattle.trace_model.specs.declared.traces.event.Event.{Event}
-use Rattle.trace_model.specs.declared.traces.event.Op.TheVariants.{Fork}
 use Rattle.trace_model.specs.Theory.Trace.{Does}
 use Rattle.std.proofs.lemmas.Result.{IfOk-from_err}
 use Rattle.replay.specs.Verdict.{order_tests}
+use Rattle.replay.proofs.FactLists.{no_event}
 use Rattle.replay.proofs.Verdicts.{follows_so, passes_more}
 use Rattle.replay.proofs.LastPlaces.{walked_next}
 use Rattle.replay.proofs.checking.walk.Goals as goal
-
-abbrev nothing : Event
-nothing = record { thread = 0; op = Fork 0 }
 
 pub loop-k-init : goal.loop-k-init
 loop-k-init c =
@@ -40,9 +36,9 @@ loop-k-preserved c =
     let at : slice_get order k ≡ Some p = slice_get-get_or order k p c.loop-k-test.true ∙ ap Some (sym c.index-order-k.is) in
     let fine = c.in_default.ensures in
     let within : p < length s = (follows_so s c.requires.well_formed (take k order) p fine).in_trace in
-    let o = (get_or s c.get.result nothing).op in
-    let does : Does s p o = subst (λ (q : ℕ). Does s p (get_or s q nothing).op) (sym c.get.ensures)
-    ((get_or s p nothing).thread, slice_get-get_or s p nothing within) in
+    let o = (get_or s c.get.result no_event).op in
+    let does : Does s p o = subst (λ (q : ℕ). Does s p (get_or s q no_event).op) (sym c.get.ensures)
+    ((get_or s p no_event).thread, slice_get-get_or s p no_event within) in
     let e = c.in_ok-push.ensures in
     record {
       passes = passes_more order_tests s (λ k. take k order) order k p c.loop-k.invariant.passes at fine;

@@ -1,22 +1,17 @@
 use Rattle.std.proofs.Common.{◌≡◌, ◌≤◌, get_or, length, ap, sym, subst, ◌∙◌, arith}
 use Rattle.std.proofs.lemmas.Option.{slice_get-get_or}
-use Rattle.trace_model.specs.declared.traces.event.Event.{Event}
-use Rattle.trace_model.specs.declared.traces.event.Op.TheVariants.{Fork}
 use Rattle.std.proofs.lemmas.Result.{IfOk-from_err}
 use Rattle.trace_model.specs.Theory.Trace.{last_place}
 use Rattle.replay.specs.Facts.{previous, each, is_of}
-use Rattle.replay.proofs.FactLists.{each_more, has_each, thread_more, previous_is}
+use Rattle.replay.proofs.FactLists.{no_event, each_more, has_each, thread_more, previous_is}
 use Rattle.replay.proofs.facts.previous_places.Goals as goal
-
-abbrev nothing : Event
-nothing = record { thread = 0; op = Fork 0 }
 
 pub loop-index-preserved : goal.loop-index-preserved
 loop-index-preserved c =
     let s = c.args.trace.now in
     let n = c.loop-index.index in
-    let e = get_or s n nothing in
-    let at = slice_get-get_or s n nothing c.loop-index-test.true in
+    let e = get_or s n no_event in
+    let at = slice_get-get_or s n no_event c.loop-index-test.true in
     let h = c.loop-index.invariant in
     let before = c.last-before.ensures ∙ h.lasts e.thread ∙ sym (previous_is s n e at) in
     record {

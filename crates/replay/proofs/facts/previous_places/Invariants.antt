@@ -4,7 +4,7 @@ use Rattle.trace_model.specs.Theory.Trace.{last_place}
 use Rattle.replay.specs.Facts.{previous, is_of, each}
 use Rattle.replay.proofs.facts.previous_places.Given as goal
 
--- of each place so far the one before it, and the last one of each thread
+-- For each place so far the previous one, and the last one of each thread.
 abbrev pub invariant-loop-index : goal.invariant-loop-index
 invariant-loop-index l = record {
   previous : l.previous.items ≡ each (previous l.trace) l.index;

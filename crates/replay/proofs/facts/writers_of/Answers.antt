@@ -1,23 +1,19 @@
 use Rattle.std.proofs.Common.{◌≡◌, ◌≤◌, get_or, nat_eq, length, ap, sym, subst, ◌∙◌, arith}
 use Rattle.std.specs.HashMap.{get}
 use Rattle.std.proofs.lemmas.Option.{slice_get-get_or}
-use Rattle.trace_model.specs.declared.traces.event.Event.{Event}
-use Rattle.trace_model.specs.declared.traces.event.Op.TheVariants.{Fork, Write}
+use Rattle.trace_model.specs.declared.traces.event.Op.TheVariants.{Write}
 use Rattle.trace_model.specs.Theory.Lookups.{writer}
 use Rattle.std.proofs.lemmas.Result.{IfOk-from_err}
 use Rattle.replay.specs.Facts.{each}
-use Rattle.replay.proofs.FactLists.{each_more, has_each, does_more, writer_seen}
+use Rattle.replay.proofs.FactLists.{no_event, each_more, has_each, does_more, writer_seen}
 use Rattle.replay.proofs.facts.writers_of.Goals as goal
-
-abbrev nothing : Event
-nothing = record { thread = 0; op = Fork 0 }
 
 pub loop-index-preserved : goal.loop-index-preserved
 loop-index-preserved c =
     let s = c.args.trace.now in
     let n = c.loop-index.index in
-    let e = get_or s n nothing in
-    let at = slice_get-get_or s n nothing c.loop-index-test.true in
+    let e = get_or s n no_event in
+    let at = slice_get-get_or s n no_event c.loop-index-test.true in
     let h = c.loop-index.invariant in
     let seen = c.last_of_read-writer.ensures ∙ writer_seen s n e (get nat_eq c.loop-index.writes) at h.writes in
     record {

@@ -6,7 +6,7 @@ use Rattle.trace_model.specs.Theory.Lookups.{writer}
 use Rattle.replay.specs.Facts.{each}
 use Rattle.replay.proofs.facts.writers_of.Given as goal
 
--- the writers so far, and the last write of each variable
+-- The writers so far, and the last write to each variable.
 abbrev pub invariant-loop-index : goal.invariant-loop-index
 invariant-loop-index l = record {
   writers : l.writers.items ≡ each (writer l.trace) l.index;

@@ -3,20 +3,15 @@ use Rattle.std.specs.HashMap.{get}
 use Rattle.std.specs.Map.{lookup}
 use Rattle.std.proofs.lemmas.Option.{slice_get-get_or}
 use Rattle.std.proofs.Math.ListN.{length-replicate}
-use Rattle.trace_model.specs.declared.traces.event.Event.{Event}
-use Rattle.trace_model.specs.declared.traces.event.Op.TheVariants.{Fork}
 use Rattle.trace_model.specs.Theory.Lookups.{release}
 use Rattle.trace_model.proofs.Theory.OneMore.{length_well_formed}
 use Rattle.trace_model.specs.Theory.Held.{begun}
 use Rattle.std.proofs.lemmas.Result.{IfOk-from_err}
 use Rattle.replay.specs.Facts.{each}
 use Rattle.replay.specs.OpenSections.{open_after, ended_by, with_end}
-use Rattle.replay.proofs.FactLists.{each_more, has_each}
+use Rattle.replay.proofs.FactLists.{no_event, each_more, has_each}
 use Rattle.replay.proofs.OpenSections.{IsOpen, so_far, so_far_all, none_so_far, none_open, open_more, has_room, begun_seen, ended_so, ended_from, releases_more, length-with_end}
 use Rattle.replay.proofs.sections.sections_of.Goals as goal
-
-abbrev nothing : Event
-nothing = record { thread = 0; op = Fork 0 }
 
 none_or_some : (o : Option ℕ) → (o ≡ None) ⊎ ((x : ℕ) × (o ≡ Some x))
 none_or_some None = inl refl
@@ -44,14 +39,14 @@ pub note-requires : goal.note-requires
 note-requires c =
     let s = c.args.trace.now in
     let n = c.loop-index.index in
-    has_room s c.requires n (get_or s n nothing) (slice_get-get_or s n nothing c.loop-index-test.true) (get nat_eq c.loop-index.opened) c.loop-index.invariant.sections
+    has_room s c.requires n (get_or s n no_event) (slice_get-get_or s n no_event c.loop-index-test.true) (get nat_eq c.loop-index.opened) c.loop-index.invariant.sections
 
 pub loop-index-preserved : goal.loop-index-preserved
 loop-index-preserved c =
     let s = c.args.trace.now in
     let n = c.loop-index.index in
-    let e = get_or s n nothing in
-    let at = slice_get-get_or s n nothing c.loop-index-test.true in
+    let e = get_or s n no_event in
+    let at = slice_get-get_or s n no_event c.loop-index-test.true in
     let h = c.loop-index.invariant in
     let table = get nat_eq c.loop-index.opened in
     let up : suc n ≡ n + 1 = omega arith in

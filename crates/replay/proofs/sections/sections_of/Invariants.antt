@@ -6,7 +6,7 @@ use Rattle.replay.specs.Facts.{each}
 use Rattle.replay.proofs.OpenSections.{AreOpen, so_far}
 use Rattle.replay.proofs.sections.sections_of.Given as goal
 
--- what begins at the places so far, the releases so far, and what is open now
+-- The sections that begin at the places so far, the releases so far, and the open sections.
 abbrev pub invariant-loop-index : goal.invariant-loop-index
 invariant-loop-index l = record {
   begins : l.begins.items ≡ each (begun l.trace) l.index;

@@ -8,7 +8,7 @@ as_byte : (c : goal.After-from-count) (b : Bool) → c.is_some.result ≡ b → 
 as_byte c true e = rw e at c.from-count.ensures
 as_byte c false e = rw e at c.from-count.ensures
 
--- what the row adds
+-- The count of one row.
 one : (c : goal.After-from-count) → c.from-count.result ≡ cond (is_confirmed c.row-item.result) 1 0
 one c = as_byte c (is_confirmed c.row-item.result) (c.is_some.ensures ∙ ap is_confirmed c.row.view_is)
 

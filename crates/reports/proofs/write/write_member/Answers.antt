@@ -5,11 +5,11 @@ use Rattle.reports.proofs.write.write_member.Goals as goal
 pub returns : goal.returns
 returns g c = grind (arith, common_steps)
 
-pub returns-in_err-take : goal.returns-in_err-take
-returns-in_err-take g c = grind (arith, common_steps)
+pub returns-in_err-put : goal.returns-in_err-put
+returns-in_err-put g c = grind (arith, common_steps)
 
-pub returns-in_err-take_number : goal.returns-in_err-take_number
-returns-in_err-take_number g c = grind (arith, common_steps)
+pub returns-in_err-put_number : goal.returns-in_err-put_number
+returns-in_err-put_number g c = grind (arith, common_steps)
 
-pub returns-in_err-take_number-2 : goal.returns-in_err-take_number-2
-returns-in_err-take_number-2 g c = grind (arith, common_steps)
+pub returns-in_err-put_number-2 : goal.returns-in_err-put_number-2
+returns-in_err-put_number-2 g c = grind (arith, common_steps)

@@ -8,7 +8,7 @@ use Rattle.trace_model.proofs.Lists.{get-take}
 use Rattle.sequencer.proofs.Told.{is_at, other_events, other_at, same_at, same_all}
 use Rattle.sequencer.proofs.delivering.is_of.Goals as goal
 
--- among the first n events there is the same one at a place
+-- the first n events have the same event at the place
 at_first : (s all : Trace) (n i : ℕ) → i < n → option_eq same_event (slice_get s i) (slice_get all i) ≡ is_at s (take n all) i
 at_first s all n i l = ap (option_eq same_event (slice_get s i)) (sym (get-take n all i l))
 

@@ -8,27 +8,28 @@ use Rattle.trace_model.specs.Theory.Closure.{Places, IsClosed}
 use Rattle.dependencies.specs.Tables.{places_of}
 use Rattle.fronts.specs.Slots.{slots_of}
 use Rattle.fronts.specs.Members.{lists}
-use Rattle.fronts.specs.Ground.{Bounds, AreBehind, fronts, slots, state, items, inside}
-use Rattle.fronts.proofs.WayLemmas.{done_closes}
+use Rattle.fronts.specs.Context.{fronts, slots, state, items, inside, events_of}
+use Rattle.fronts.proofs.InvariantLemmas.{done_closes}
 use Rattle.sp_closure.specs.Reaching.{AllStop, IsLeastWith}
 use Rattle.sp_closure.proofs.BaseLemmas.{by_ok}
 use Rattle.sp_closure.proofs.EnterLemmas.{same_lists, written}
 use Rattle.sp_closure.proofs.LeastLemmas.{AreReached, bound_alone, none_confirmed, stops_in, map_push, least_found, closure_found}
 use Rattle.sp_closure.proofs.reach.reach.Goals as goal
+use Rattle.fronts.specs.Propagation.{AreAtFront, IsBound}
 
 pub loop-number-init : goal.loop-number-init
 loop-number-init g c =
-    let gr = c.args.ground.now in
+    let gr = c.args.context.now in
     let none = c.requires.nobody in
     record {
-      fits = c.requires.rest.fits;
-      going = c.requires.rest.going;
-      pending = λ a k. let (i, l, e) = subst (λ z. Contains z a) c.requires.rest.nothing k in absurd (omega (arith, l));
-      behind = subst (AreBehind gr c.args.work.now) (sym none) (record { each = λ i x h. absurd (none-some x h); at = λ i x h. absurd (none-some x h) });
+      fits = c.requires.fixpoint.fits;
+      consistent = c.requires.fixpoint.consistent;
+      pending = λ a k. let (i, l, e) = subst (λ z. Contains z a) c.requires.fixpoint.nothing k in absurd (omega (arith, l));
+      behind = subst (AreAtFront (events_of gr) (slots gr) (fronts gr c.args.propagation.now)) (sym none) (record { each = λ i x h. absurd (none-some x h); at = λ i x h. absurd (none-some x h) });
       listed = ap lists none;
       steps = refl;
-      bound = λ set d h. subst (λ ms. Bounds gr c.args.work.now ms set) (sym none)
-          (bound_alone gr.index.now.events (slots gr) (fronts gr c.args.work.now) set d (c.requires.within set d h));
+      bound = λ set d h. subst (λ ms. IsBound (events_of gr) (slots gr) (fronts gr c.args.propagation.now) ms set) (sym none)
+          (bound_alone gr.index.now.events (slots gr) (fronts gr c.args.propagation.now) set d (c.requires.within set d h));
     }
 
 pub enter-requires : goal.enter-requires
@@ -38,8 +39,8 @@ enter-requires g c =
     let i = c.loop-number.number-index in
     let m = get_or xs i 0 in
     record {
-      ready = record { sound = c.requires.rest.sound; fits = inv.fits; behind = inv.behind };
-      going = inv.going;
+      ready = record { sound = c.requires.fixpoint.sound; fits = inv.fits; behind = inv.behind };
+      consistent = inv.consistent;
       pending = inv.pending;
       one_trace = c.requires.one_trace;
       known = subst (λ ds. m < length ds) (sym c.requires.one_trace.0) (c.requires.known i m (slice_get-get_or xs i 0 c.loop-number-test.true));
@@ -50,11 +51,11 @@ run-requires g c =
     let inv = c.loop-number.invariant in
     record {
       ready = record {
-        sound = c.requires.rest.sound;
+        sound = c.requires.fixpoint.sound;
         fits = inv.fits;
-        behind = subst (AreBehind c.args.ground.now c.loop-number.work) (sym c.as_mut_slice.ensures.value) inv.behind;
+        behind = subst (AreAtFront (events_of c.args.context.now) (slots c.args.context.now) (fronts c.args.context.now c.loop-number.propagation)) (sym c.as_mut_slice.ensures.value) inv.behind;
       };
-      going = inv.going;
+      consistent = inv.consistent;
       known = inv.pending;
     }
 
@@ -70,7 +71,7 @@ returns-in_err-enter g c =
 
 pub returns-then-not-branch : goal.returns-then-not-branch
 returns-then-not-branch g c =
-    let s = c.args.ground.now.index.now.events in
+    let s = c.args.context.now.index.now.events in
     let xs = c.args.numbers.now in
     let i = c.loop-number.number-index in
     let m = get_or xs i 0 in
@@ -85,7 +86,7 @@ returns-then-not-branch g c =
 
 pub loop-number-preserved : goal.loop-number-preserved
 loop-number-preserved g c =
-    let gr = c.args.ground.now in
+    let gr = c.args.context.now in
     let s = gr.index.now.events in
     let inv = c.loop-number.invariant in
     let xs = c.args.numbers.now in
@@ -96,7 +97,7 @@ loop-number-preserved g c =
     let goes = c.if-not-branch.false in
     record {
       fits = c.enter.ensures.fits;
-      going = e.going goes;
+      consistent = e.consistent goes;
       pending = e.pending goes;
       behind = e.behind goes;
       listed = e.lists ∙ (ap (λ z. z ++ f m ∷ []) inv.listed ∙ (sym (map_push f (take i xs) m) ∙ ap (map f) (sym (take_more xs i 0 c.loop-number-test.true))));
@@ -107,9 +108,9 @@ loop-number-preserved g c =
 
 pub returns : goal.returns
 returns g c =
-    let gr = c.args.ground.now in
+    let gr = c.args.context.now in
     let s = gr.index.now.events in
-    let d = gr.demands.now in
+    let d = gr.requirements.now in
     let inv = c.loop-number.invariant in
     let xs = c.args.numbers.now in
     let table = c.args.table.now in
@@ -117,8 +118,8 @@ returns g c =
     let new = c.run.new.self in
     let ms = c.run.new.members in
     let value = c.as_mut_slice.ensures.value in
-    let bounds : (set : Places) → IsClosed s set → AllStop s xs set → Bounds gr c.loop-number.work c.as_mut_slice.result.now set =
-    λ set k stop. subst (λ zs. Bounds gr c.loop-number.work zs set) (sym value) (inv.bound set k stop) in
+    let bounds : (set : Places) → IsClosed s set → AllStop s xs set → IsBound (events_of gr) (slots gr) (fronts gr c.loop-number.propagation) c.as_mut_slice.result.now set =
+    λ set k stop. subst (λ zs. IsBound (events_of gr) (slots gr) (fronts gr c.loop-number.propagation) zs set) (sym value) (inv.bound set k stop) in
     record {
       fits = ran.carries.fits;
       steps = omega (arith, inv.steps, ran.carries.steps);
@@ -127,11 +128,11 @@ returns g c =
       least = by_ok c.run.result _ (λ goes ok is.
           let whole : take c.loop-number.number-index xs ≡ xs = take_all c.loop-number.number-index xs (omega arith) in
           let reached : AreReached s (slots gr) d.threads.count table xs (fronts gr new) ms = record {
-            known = c.requires.rest.sound.slots;
+            known = c.requires.fixpoint.sound.slots;
             follows = c.requires.one_trace;
             numbers_known = c.requires.known;
-            closed = done_closes s (slots gr) (slots_of d.locks) d.threads.count d.locks.count (items gr) (state gr new) c.requires.rest.sound.slots c.requires.rest.sound.locks c.requires.rest.sound.items
-                (IfOk-at_ok _ ok ran.going is) (IfOk-at_ok _ ok ran.nothing is);
+            closed = done_closes s (slots gr) (slots_of d.locks) d.threads.count d.locks.count (items gr) (state gr new) c.requires.fixpoint.sound.slots c.requires.fixpoint.sound.locks c.requires.fixpoint.sound.items
+                (IfOk-at_ok _ ok ran.consistent is) (IfOk-at_ok _ ok ran.nothing is);
             behind = IfOk-at_ok _ ok ran.carries.behind is;
             listed = same_lists c.as_mut_slice.result.now ms ran.carries.same ∙ (ap lists value ∙ (inv.listed ∙ ap (map (places_of table)) whole));
             bound = λ set k stop. (IfOk-at_ok _ ok ran.carries.bound set (bounds set k stop) tt).1;

@@ -3,22 +3,22 @@ use Rattle.std.proofs.Math.Facts.{Fits-below}
 use Rattle.std.proofs.lemmas.Option.{same_Some}
 use Rattle.std.specs.Option.{option_map}
 use Rattle.trace_index.specs.Links.{trace_of}
-use Rattle.trace_index.proofs.Chains.{trace_push}
+use Rattle.trace_index.proofs.KeyLists.{trace_push}
 use Rattle.trace_index.proofs.Deep.{next_shallow}
 use Rattle.trace_index.proofs.OneFurther.{rows_short, lawful_ready, recorded_all, deep_pushed}
 use Rattle.trace_index.proofs.TraceIndex.record.Goals as goal
 
-pub note-requires-clause-slots : goal.note-requires-clause-slots
-note-requires-clause-slots g c = (c.self.invariant.index.ready c.in-Some.ready c.in-Some.is).slots_are
+pub record-requires-clause-positions : goal.record-requires-clause-positions
+record-requires-clause-positions g c = (c.self.invariant.index.ready c.in-Some.ready c.in-Some.is).positions_are
 
-pub note-requires-clause-room : goal.note-requires-clause-room
-note-requires-clause-room g c = (c.self.invariant.index.ready c.in-Some.ready c.in-Some.is).marks_room
+pub record-requires-clause-room : goal.record-requires-clause-room
+record-requires-clause-room g c = (c.self.invariant.index.ready c.in-Some.ready c.in-Some.is).table_room
 
 pub put_row-requires : goal.put_row-requires
 put_row-requires g c = (c.self.invariant.index.ready c.in-Some.ready c.in-Some.is).row_room
 
-pub note-requires-2 : goal.note-requires-2
-note-requires-2 g c =
+pub record-requires-2 : goal.record-requires-2
+record-requires-2 g c =
     let i = c.self.inside in
     let r = c.in-Some.ready in
     let deep = c.self.invariant.deep in
@@ -36,12 +36,12 @@ invariant_of-self g c =
     let i = c.self.inside in
     let deep = c.self.invariant.deep in
     record {
-      index = (recorded_all i.rows c.put_row.new.rows i.next c.in-Some.ready i.marks.sealed.items i.marks.tail c.note.new.self i.latest.places i.latest.noted c.new-place.result
+      index = (recorded_all i.rows c.put_row.new.rows i.next c.in-Some.ready i.tables.sealed.items i.tables.tail c.record.new.self i.last_places.places i.last_places.noted c.new-place.result
           c.args.self.now c.args.event.now c.self.invariant.index c.in-Some.is (sym (ap (λ v. v.events) c.self.view_is)) (sym (ap (λ v. v.reserved) c.self.view_is))
           c.requires.reserved c.requires.lawful (c.new-place.ensures ∙ c.len.ensures) c.put_row.ensures.rows (deep.ready c.in-Some.ready c.in-Some.is)
-          (record { last = c.note.ensures.last; ends = c.note.ensures.ends })).0;
-      deep = deep_pushed i.rows.0 c.put_row.new.rows.0 i.depths.table c.note-2.new.self.table i.depths.noted c.note-2.new.self.noted i.next c.in-Some.ready deep c.in-Some.is
-          c.put_row.ensures.rows c.note-2.ensures.depths c.note-2.ensures.noted;
+          (record { last = c.record.ensures.last; releases = c.record.ensures.releases })).0;
+      deep = deep_pushed i.rows.0 c.put_row.new.rows.0 i.depths.table c.record-2.new.self.table i.depths.noted c.record-2.new.self.noted i.next c.in-Some.ready deep c.in-Some.is
+          c.put_row.ensures.rows c.record-2.ensures.depths c.record-2.ensures.noted;
     }
 
 pub returns-clause-events : goal.returns-clause-events

@@ -3,12 +3,12 @@ use Rattle.std.proofs.Common.{◌≡◌, ◌*◌, length, refl, sym, ap, subst, 
 use Rattle.std.proofs.Math.Facts.{Fits-below}
 use Rattle.trace_model.specs.Theory.Trace.{Trace}
 use Rattle.trace_index.specs.Depths.{depth_in, op_depth, HasOpEntry}
-use Rattle.trace_index.specs.Links.{trace_of, AreLatest}
-use Rattle.trace_index.specs.Marks.{AreAllMarks}
+use Rattle.trace_index.specs.Links.{trace_of, AreLastPlaces}
+use Rattle.trace_index.specs.SegmentTables.{AreAllTables}
 use Rattle.trace_index.proofs.Deep.{owned_in, op_depth-agree}
-use Rattle.trace_index.proofs.Marking.{last_of_all}
-use Rattle.trace_index.specs.Slots.{AreSlots}
-use Rattle.trace_index.specs.declared.row.Row.{Row}
+use Rattle.trace_index.proofs.SegmentTables.{last_of_all}
+use Rattle.trace_index.specs.Positions.{ArePositions}
+use Rattle.trace_index.specs.declared.row.IndexRow.{IndexRow}
 use Rattle.trace_index.specs.Room.{Indexed, IsIndex}
 use Rattle.trace_index.proofs.OneFurther.{rows_short, still_none, followed, ready_next, deep_still, deep_entered, depths_of_all}
 use Rattle.trace_index.proofs.TraceIndex.reserve.Goals as goal
@@ -21,8 +21,8 @@ invariant_of-self c =
     let i = c.self.inside in
     let is = c.self.invariant in
     record {
-      index = still_none i.rows c.reserve.new.self i.marks.sealed.items i.marks.sealed.items i.marks.tail i.marks.tail i.latest.places i.latest.places i.latest.noted i.latest.noted i.next is.index
-          c.in_err-reserve.ensures.shown is.index.latest_are is.index.noted_within (λ s are. are);
+      index = still_none i.rows c.reserve.new.self i.tables.sealed.items i.tables.sealed.items i.tables.tail i.tables.tail i.last_places.places i.last_places.places i.last_places.noted i.last_places.noted i.next is.index
+          c.in_err-reserve.ensures.shown is.index.last_places_are is.index.noted_within (λ s are. are);
       deep = deep_still i.rows.0 c.reserve.new.self.0 i.depths.table i.depths.noted is.deep.depths_are is.deep.within c.in_err-reserve.ensures.shown;
     }
 
@@ -34,9 +34,9 @@ invariant_of-self-in_err-reserve-2 c =
     let more = c.in_err-reserve-2.ensures.more in
     let noted = is.index.noted_within in
     record {
-      index = still_none i.rows c.reserve.new.self i.marks.sealed.items m.sealed.items i.marks.tail m.tail i.latest.places i.latest.places i.latest.noted i.latest.noted i.next is.index
-          c.in_ok-reserve.ensures.shown is.index.latest_are (omega arith)
-          (subst (λ (n : ℕ). (s : Trace) → AreAllMarks s n i.marks.sealed.items i.marks.tail → AreAllMarks s n m.sealed.items m.tail) c.len-len.ensures c.in_err-reserve-2.ensures.same);
+      index = still_none i.rows c.reserve.new.self i.tables.sealed.items m.sealed.items i.tables.tail m.tail i.last_places.places i.last_places.places i.last_places.noted i.last_places.noted i.next is.index
+          c.in_ok-reserve.ensures.shown is.index.last_places_are (omega arith)
+          (subst (λ (n : ℕ). (s : Trace) → AreAllTables s n i.tables.sealed.items i.tables.tail → AreAllTables s n m.sealed.items m.tail) c.len-len.ensures c.in_err-reserve-2.ensures.same);
       deep = deep_still i.rows.0 c.reserve.new.self.0 i.depths.table i.depths.noted is.deep.depths_are is.deep.within c.in_ok-reserve.ensures.shown;
     }
 
@@ -54,10 +54,10 @@ invariant_of-self-in_err-follow c =
     let l = c.follow.new.self in
     let m = c.reserve-2.new.self in
     record {
-      index = followed i.rows c.reserve.new.self i.marks.sealed.items m.sealed.items c.deref.result.now i.marks.tail m.tail i.latest.places l.places i.latest.noted l.noted i.next is.index
+      index = followed i.rows c.reserve.new.self i.tables.sealed.items m.sealed.items c.deref.result.now i.tables.tail m.tail i.last_places.places l.places i.last_places.noted l.noted i.next is.index
           c.in_ok-reserve.ensures.shown c.deref.ensures.value
-          (subst (λ (n : ℕ). (s : Trace) → AreAllMarks s n i.marks.sealed.items i.marks.tail → AreAllMarks s n m.sealed.items m.tail) c.len-len.ensures c.in_ok-reserve-2.ensures.same)
-          c.in_err-follow.ensures.latest c.in_err-follow.ensures.within;
+          (subst (λ (n : ℕ). (s : Trace) → AreAllTables s n i.tables.sealed.items i.tables.tail → AreAllTables s n m.sealed.items m.tail) c.len-len.ensures c.in_ok-reserve-2.ensures.same)
+          c.in_err-follow.ensures.last_places c.in_err-follow.ensures.within;
       deep = deep_still i.rows.0 c.reserve.new.self.0 i.depths.table i.depths.noted is.deep.depths_are is.deep.within c.in_ok-reserve.ensures.shown;
     }
 
@@ -74,10 +74,10 @@ follow-requires-2 c =
     let same = c.in_ok-reserve.ensures.shown in
     let is = (let l = c.follow.new.self in
     let m = c.reserve-2.new.self in
-    followed i.rows c.reserve.new.self i.marks.sealed.items m.sealed.items c.deref.result.now i.marks.tail m.tail i.latest.places l.places i.latest.noted l.noted i.next c.self.invariant.index
+    followed i.rows c.reserve.new.self i.tables.sealed.items m.sealed.items c.deref.result.now i.tables.tail m.tail i.last_places.places l.places i.last_places.noted l.noted i.next c.self.invariant.index
     c.in_ok-reserve.ensures.shown c.deref.ensures.value
-    (subst (λ (n : ℕ). (s : Trace) → AreAllMarks s n i.marks.sealed.items i.marks.tail → AreAllMarks s n m.sealed.items m.tail) c.len-len.ensures c.in_ok-reserve-2.ensures.same)
-    c.in_ok-follow.ensures.latest c.in_ok-follow.ensures.within) in
+    (subst (λ (n : ℕ). (s : Trace) → AreAllTables s n i.tables.sealed.items i.tables.tail → AreAllTables s n m.sealed.items m.tail) c.len-len.ensures c.in_ok-reserve-2.ensures.same)
+    c.in_ok-follow.ensures.last_places c.in_ok-follow.ensures.within) in
     record {
       well_formed = is.shown.well_formed;
       rows = is.shown.depths_are;
@@ -94,10 +94,10 @@ invariant_of-self-in_err-follow-2 c =
     record {
       index = (let l = c.follow.new.self in
           let m = c.reserve-2.new.self in
-          followed i.rows c.reserve.new.self i.marks.sealed.items m.sealed.items c.deref.result.now i.marks.tail m.tail i.latest.places l.places i.latest.noted l.noted i.next c.self.invariant.index
+          followed i.rows c.reserve.new.self i.tables.sealed.items m.sealed.items c.deref.result.now i.tables.tail m.tail i.last_places.places l.places i.last_places.noted l.noted i.next c.self.invariant.index
           c.in_ok-reserve.ensures.shown c.deref.ensures.value
-          (subst (λ (n : ℕ). (s : Trace) → AreAllMarks s n i.marks.sealed.items i.marks.tail → AreAllMarks s n m.sealed.items m.tail) c.len-len.ensures c.in_ok-reserve-2.ensures.same)
-          c.in_ok-follow.ensures.latest c.in_ok-follow.ensures.within);
+          (subst (λ (n : ℕ). (s : Trace) → AreAllTables s n i.tables.sealed.items i.tables.tail → AreAllTables s n m.sealed.items m.tail) c.len-len.ensures c.in_ok-reserve-2.ensures.same)
+          c.in_ok-follow.ensures.last_places c.in_ok-follow.ensures.within);
       deep = deep_still c.reserve.new.self.0 c.reserve.new.self.0 d.table d.noted deep.depths deep.within refl;
     }
 
@@ -108,10 +108,10 @@ invariant_of-self-in_err-reserve-3 c =
     record {
       index = (let l = c.follow.new.self in
           let m = c.reserve-2.new.self in
-          followed i.rows c.reserve.new.self i.marks.sealed.items m.sealed.items c.deref.result.now i.marks.tail m.tail i.latest.places l.places i.latest.noted l.noted i.next c.self.invariant.index
+          followed i.rows c.reserve.new.self i.tables.sealed.items m.sealed.items c.deref.result.now i.tables.tail m.tail i.last_places.places l.places i.last_places.noted l.noted i.next c.self.invariant.index
           c.in_ok-reserve.ensures.shown c.deref.ensures.value
-          (subst (λ (n : ℕ). (s : Trace) → AreAllMarks s n i.marks.sealed.items i.marks.tail → AreAllMarks s n m.sealed.items m.tail) c.len-len.ensures c.in_ok-reserve-2.ensures.same)
-          c.in_ok-follow.ensures.latest c.in_ok-follow.ensures.within);
+          (subst (λ (n : ℕ). (s : Trace) → AreAllTables s n i.tables.sealed.items i.tables.tail → AreAllTables s n m.sealed.items m.tail) c.len-len.ensures c.in_ok-reserve-2.ensures.same)
+          c.in_ok-follow.ensures.last_places c.in_ok-follow.ensures.within);
       deep = deep_entered c.reserve.new.self.0 c.follow-2.new.self.table d.table c.follow-2.new.self.noted d.noted c.in_ok-follow-2.ensures.depths c.in_ok-follow-2.ensures.within
           c.in_err-reserve-3.ensures.shown c.in_err-reserve-3.ensures.noted;
     }
@@ -121,10 +121,10 @@ is_index c =
     let i = c.self.inside in
     let l = c.follow.new.self in
     let m = c.reserve-2.new.self in
-    followed i.rows c.reserve.new.self i.marks.sealed.items m.sealed.items c.deref.result.now i.marks.tail m.tail i.latest.places l.places i.latest.noted l.noted i.next c.self.invariant.index
+    followed i.rows c.reserve.new.self i.tables.sealed.items m.sealed.items c.deref.result.now i.tables.tail m.tail i.last_places.places l.places i.last_places.noted l.noted i.next c.self.invariant.index
     c.in_ok-reserve.ensures.shown c.deref.ensures.value
-    (subst (λ (n : ℕ). (s : Trace) → AreAllMarks s n i.marks.sealed.items i.marks.tail → AreAllMarks s n m.sealed.items m.tail) c.len-len.ensures c.in_ok-reserve-2.ensures.same)
-    c.in_ok-follow.ensures.latest c.in_ok-follow.ensures.within
+    (subst (λ (n : ℕ). (s : Trace) → AreAllTables s n i.tables.sealed.items i.tables.tail → AreAllTables s n m.sealed.items m.tail) c.len-len.ensures c.in_ok-reserve-2.ensures.same)
+    c.in_ok-follow.ensures.last_places c.in_ok-follow.ensures.within
 
 pub ready_for-ready-requires-clause-rows : goal.ready_for-ready-requires-clause-rows
 ready_for-ready-requires-clause-rows c = (is_index c).shown.rows_are
@@ -134,8 +134,8 @@ ready_for-ready-requires-clause-last c =
     let is = is_index c in
     let s = trace_of c.reserve.new.self.0 in
     let all : c.follow.new.self.noted ≡ length c.reserve-2.new.self.sealed.items = c.in_ok-follow.ensures.ok ∙ ap length c.deref.ensures.value in
-    last_of_all s (length c.reserve.new.self.0) c.reserve-2.new.self.sealed.items c.reserve-2.new.self.tail c.follow.new.self.places is.shown.marks_are
-    (subst (λ n. AreLatest s (4096 * n) c.follow.new.self.places) all is.latest_are)
+    last_of_all s (length c.reserve.new.self.0) c.reserve-2.new.self.sealed.items c.reserve-2.new.self.tail c.follow.new.self.places is.shown.tables_are
+    (subst (λ n. AreLastPlaces s (4096 * n) c.follow.new.self.places) all is.last_places_are)
 
 pub ready_for-ready-requires-clause-place : goal.ready_for-ready-requires-clause-place
 ready_for-ready-requires-clause-place c = c.new-place.ensures ∙ c.len-len.ensures ∙ sym (ap length c.in_ok-reserve.ensures.shown)
@@ -161,16 +161,16 @@ invariant_of-self-2 c =
       index = ready_next c.reserve.new.self m.sealed.items m.tail l.places l.noted r
           (let l = c.follow.new.self in
           let m = c.reserve-2.new.self in
-          followed i.rows c.reserve.new.self i.marks.sealed.items m.sealed.items c.deref.result.now i.marks.tail m.tail i.latest.places l.places i.latest.noted l.noted i.next c.self.invariant.index
+          followed i.rows c.reserve.new.self i.tables.sealed.items m.sealed.items c.deref.result.now i.tables.tail m.tail i.last_places.places l.places i.last_places.noted l.noted i.next c.self.invariant.index
           c.in_ok-reserve.ensures.shown c.deref.ensures.value
-          (subst (λ (n : ℕ). (s : Trace) → AreAllMarks s n i.marks.sealed.items i.marks.tail → AreAllMarks s n m.sealed.items m.tail) c.len-len.ensures c.in_ok-reserve-2.ensures.same)
-          c.in_ok-follow.ensures.latest c.in_ok-follow.ensures.within)
+          (subst (λ (n : ℕ). (s : Trace) → AreAllTables s n i.tables.sealed.items i.tables.tail → AreAllTables s n m.sealed.items m.tail) c.len-len.ensures c.in_ok-reserve-2.ensures.same)
+          c.in_ok-follow.ensures.last_places c.in_ok-follow.ensures.within)
           (record {
             row_is = c.ready_for-ready.ensures.row;
-            slots_are = subst (λ e. AreSlots m.tail.last e r.slots) (sym c.ready_for-ready.ensures.event) c.ready_for-ready.ensures.slots;
+            positions_are = subst (λ e. ArePositions m.tail.last e r.positions) (sym c.ready_for-ready.ensures.event) c.ready_for-ready.ensures.positions;
             row_room = c.in_ok-reserve.ensures.ok;
-            marks_room = c.in_ok-reserve-2.ensures.room;
-            marks_fit = omega arith;
+            table_room = c.in_ok-reserve-2.ensures.room;
+            tables_fit = omega arith;
           });
       deep = record {
         depths_are = still.depths_are;
@@ -184,8 +184,8 @@ invariant_of-self-2 c =
       };
     }
 
--- the events are as they were
-same_events : (rows rows' : List Row) (shown : Indexed) → rows' ≡ rows → trace_of rows ≡ shown.events → trace_of rows' ≡ shown.events
+-- the events do not change
+same_events : (rows rows' : List IndexRow) (shown : Indexed) → rows' ≡ rows → trace_of rows ≡ shown.events → trace_of rows' ≡ shown.events
 same_events rows rows' shown same are = ap trace_of same ∙ are
 
 pub returns-in_err-reserve-clause-events : goal.returns-in_err-reserve-clause-events

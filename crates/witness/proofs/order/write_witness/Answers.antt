@@ -10,7 +10,7 @@ false_from : (b : Bool) → (b ≡ true → ⊥) → b ≡ false
 false_from true h = absurd (h refl)
 false_from false h = refl
 
--- where no place from m on is in the set
+-- If the set contains no place from `m` on.
 ascending_cut : (set : Places) (m n : ℕ) → m ≤ n → ((p : ℕ) → m ≤ p → p < n → set p ≡ false) → ascending set n ≡ ascending set m
 ascending_cut set m zero l out = let e : m ≡ 0 = omega (arith, l) in rw e refl
 ascending_cut set m (suc n) l out = elim (cases_lt m (suc n)) [

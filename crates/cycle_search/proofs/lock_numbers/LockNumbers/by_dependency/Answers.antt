@@ -4,7 +4,7 @@ use Rattle.std.proofs.Math.Numerals.{add-one}
 use Rattle.trace_model.specs.Theory.Dependencies.{Dependency}
 use Rattle.dependencies.specs.Tables.{known}
 use Rattle.cycle_search.specs.LockNumbers.{number_in}
-use Rattle.cycle_search.proofs.Ranked.{map-more}
+use Rattle.cycle_search.proofs.ComponentLemmas.{map-more}
 use Rattle.cycle_search.proofs.lock_numbers.LockNumbers.by_dependency.Goals as goal
 
 pub loop-number-preserved : goal.loop-number-preserved

@@ -1,7 +1,7 @@
 use Rattle.std.proofs.Common.{◌≡◌, ◌<◌, ◌≤◌, ℕ, Fits, w32, sym, arith}
 use Rattle.std.proofs.Math.Facts.{Fits-below}
 use Rattle.std.proofs.lemmas.Option.{slice_get_within}
-use Rattle.dependencies.specs.Entries.{rows_of}
+use Rattle.dependencies.specs.Entries.{listing_of}
 use Rattle.dependencies.proofs.Noting.{number_small}
 use Rattle.dependencies.proofs.Shown.{at_position, unlisted, length_from, few_notes, known_noted, new_noted, kept_known, kept_new}
 use Rattle.dependencies.proofs.entries.Entries.record.Goals as goal
@@ -15,14 +15,14 @@ overflow_cast-number c =
     let at = at_position c.args.dependency e.keys.keys c.in-Some.number (sym c.in-Some.ensures) in
     let within = slice_get_within e.keys.keys c.in-Some.number c.args.dependency at in
     let len = length_from 0 e.keys.keys e.places.notes in
-    fits c.in-Some.number c.args.place c.get-index.result (number_small (rows_of e) c.args.place c.in-Some.number c.requires.rows c.requires.below (omega arith)) c.get-index.ensures c.get-index.type_inv
+    fits c.in-Some.number c.args.place c.get-index.result (number_small (listing_of e) c.args.place c.in-Some.number c.requires.listing c.requires.below (omega arith)) c.get-index.ensures c.get-index.type_inv
 
 pub overflow_cast-number-in-None : goal.overflow_cast-number-in-None
 overflow_cast-number-in-None c =
     let e = c.args.self.now in
     let len = length_from 0 e.keys.keys e.places.notes in
     let n = c.len-number.ensures in
-    fits c.len-number.result c.args.place c.get-index.result (number_small (rows_of e) c.args.place c.len-number.result c.requires.rows c.requires.below (omega arith)) c.get-index.ensures c.get-index.type_inv
+    fits c.len-number.result c.args.place c.get-index.result (number_small (listing_of e) c.args.place c.len-number.result c.requires.listing c.requires.below (omega arith)) c.get-index.ensures c.get-index.type_inv
 
 pub returns-in-Some-clause-noted : goal.returns-in-Some-clause-noted
 returns-in-Some-clause-noted c =
@@ -71,5 +71,5 @@ pub len-number-requires : goal.len-number-requires
 len-number-requires c =
     let e = c.args.self.now in
     let len = length_from 0 e.keys.keys e.places.notes in
-    let few = c.requires.rows.few in
+    let few = c.requires.listing.few in
     omega arith

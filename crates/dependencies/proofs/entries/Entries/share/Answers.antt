@@ -2,7 +2,7 @@ use Rattle.std.proofs.Common.{sym, subst, arith}
 use Rattle.std.proofs.lemmas.Result.{IfOk-from_err}
 use Rattle.dependencies.specs.Entries.{IsKeptOf}
 use Rattle.dependencies.proofs.Shown.{length_from}
-use Rattle.dependencies.proofs.Parts.{part_is, part_rows, part_kept}
+use Rattle.dependencies.proofs.Parts.{part_is, part_listing, part_kept}
 use Rattle.dependencies.proofs.entries.Entries.share.Goals as goal
 
 pub share-requires-clause-within : goal.share-requires-clause-within
@@ -16,33 +16,33 @@ pub share-requires-clause-few : goal.share-requires-clause-few
 share-requires-clause-few c =
     let e = c.args.self.now in
     let len = length_from 0 e.keys.keys e.places.notes in
-    let few = c.requires.rows.few in
+    let few = c.requires.listing.few in
     omega arith
 
 pub returns-clause-part : goal.returns-clause-part
 returns-clause-part c =
     let e = c.args.self.now in
     part_is e.keys.keys c.in_ok-share.field-0.keys e.places.notes c.in_ok-share-2.field-0.notes e.places.numbers c.args.total c.args.bound
-    c.requires.kept c.requires.rows c.requires.total c.in_ok-share.ensures c.in_ok-share-2.ensures.notes
+    c.requires.kept c.requires.listing c.requires.total c.in_ok-share.ensures c.in_ok-share-2.ensures.notes
 
-pub returns-clause-rows : goal.returns-clause-rows
-returns-clause-rows c =
+pub returns-clause-listing : goal.returns-clause-listing
+returns-clause-listing c =
     let e = c.args.self.now in
-    part_rows e.keys.keys c.in_ok-share.field-0.keys e.places.notes c.in_ok-share-2.field-0.notes e.places.numbers c.args.total c.args.bound
-    c.requires.kept c.requires.rows c.requires.total c.in_ok-share.ensures c.in_ok-share-2.ensures.notes
+    part_listing e.keys.keys c.in_ok-share.field-0.keys e.places.notes c.in_ok-share-2.field-0.notes e.places.numbers c.args.total c.args.bound
+    c.requires.kept c.requires.listing c.requires.total c.in_ok-share.ensures c.in_ok-share-2.ensures.notes
 
 pub returns-clause-kept : goal.returns-clause-kept
 returns-clause-kept c =
     let e = c.args.self.now in
     subst (IsKeptOf c.in_ok-share.field-0.keys c.in_ok-share-2.field-0.notes) (sym c.in_ok-share-2.ensures.numbers)
     (part_kept e.keys.keys c.in_ok-share.field-0.keys e.places.notes c.in_ok-share-2.field-0.notes e.places.numbers c.args.total c.args.bound
-    c.requires.kept c.requires.rows c.requires.total c.in_ok-share.ensures c.in_ok-share-2.ensures.notes)
+    c.requires.kept c.requires.listing c.requires.total c.in_ok-share.ensures c.in_ok-share-2.ensures.notes)
 
 pub returns-in_err-share-clause-part : goal.returns-in_err-share-clause-part
 returns-in_err-share-clause-part c = IfOk-from_err c.from_residual.result _ c.from_residual.ensures.0
 
-pub returns-in_err-share-clause-rows : goal.returns-in_err-share-clause-rows
-returns-in_err-share-clause-rows c = IfOk-from_err c.from_residual.result _ c.from_residual.ensures.0
+pub returns-in_err-share-clause-listing : goal.returns-in_err-share-clause-listing
+returns-in_err-share-clause-listing c = IfOk-from_err c.from_residual.result _ c.from_residual.ensures.0
 
 pub returns-in_err-share-clause-kept : goal.returns-in_err-share-clause-kept
 returns-in_err-share-clause-kept c = IfOk-from_err c.from_residual.result _ c.from_residual.ensures.0
@@ -50,8 +50,8 @@ returns-in_err-share-clause-kept c = IfOk-from_err c.from_residual.result _ c.fr
 pub returns-in_err-share-2-clause-part : goal.returns-in_err-share-2-clause-part
 returns-in_err-share-2-clause-part c = IfOk-from_err c.from_residual-in_err-share-2.result _ c.from_residual-in_err-share-2.ensures.0
 
-pub returns-in_err-share-2-clause-rows : goal.returns-in_err-share-2-clause-rows
-returns-in_err-share-2-clause-rows c = IfOk-from_err c.from_residual-in_err-share-2.result _ c.from_residual-in_err-share-2.ensures.0
+pub returns-in_err-share-2-clause-listing : goal.returns-in_err-share-2-clause-listing
+returns-in_err-share-2-clause-listing c = IfOk-from_err c.from_residual-in_err-share-2.result _ c.from_residual-in_err-share-2.ensures.0
 
 pub returns-in_err-share-2-clause-kept : goal.returns-in_err-share-2-clause-kept
 returns-in_err-share-2-clause-kept c = IfOk-from_err c.from_residual-in_err-share-2.result _ c.from_residual-in_err-share-2.ensures.0

@@ -1,15 +1,15 @@
 use Rattle.std.proofs.Common.{◌≡◌, ◌<◌, ◌≤◌, ℕ, Fits, w32, sym, ap, subst, arith}
 use Rattle.std.proofs.Math.Facts.{Fits-below}
-use Rattle.dependencies.specs.Tables.{Rows, EndBelow}
-use Rattle.dependencies.specs.Entries.{rows_of}
+use Rattle.dependencies.specs.Tables.{Listing, EndBelow}
+use Rattle.dependencies.specs.Entries.{listing_of}
 use Rattle.dependencies.proofs.Noting.{noted_table, noted_small}
 use Rattle.dependencies.proofs.table.DepTable.record.Goals as goal
 
-below : (c : goal.After-record) → EndBelow (rows_of c.self.inside.entries) c.args.place
-below c = subst (λ (rows : Rows). EndBelow rows c.args.place) (sym (ap (λ t. t.shown) c.self.view_is)) c.requires.below
+below : (c : goal.After-record) → EndBelow (listing_of c.self.inside.entries) c.args.place
+below c = subst (λ (listing : Listing). EndBelow listing c.args.place) (sym (ap (λ t. t.shown) c.self.view_is)) c.requires.below
 
 pub record-requires-clause-below : goal.record-requires-clause-below
-record-requires-clause-below c = subst (λ (rows : Rows). EndBelow rows c.args.place) (sym (ap (λ t. t.shown) c.self.view_is)) c.requires.below
+record-requires-clause-below c = subst (λ (listing : Listing). EndBelow listing c.args.place) (sym (ap (λ t. t.shown) c.self.view_is)) c.requires.below
 
 fits : (n p q : ℕ) → n ≤ p → q ≡ p → q < 4294967296 → Fits w32 n
 fits n p q l e h = Fits-below {w = w32} {m = n} {n = 4294967295} tt (omega arith)

@@ -5,9 +5,9 @@ use Rattle.desk.proofs.client.Client.answer.Goals as goal
 pub returns-in-Ok-clause-told : goal.returns-in-Ok-clause-told
 returns-in-Ok-clause-told g c =
     let told = c.answer-told.result in
-    told_answer g.N.Naming.limit told.1 c.learn.new.self c.args.question told.0 c.in-Ok.told c.reply.result c.learn.ensures.seen (sym c.learn.ensures.answer ∙ c.in-Ok.is) c.reply.ensures c.answer-told.ensures.told
+    told_answer g.N.HistoryId.limit told.1 c.learn.new.self c.args.question told.0 c.in-Ok.told c.reply.result c.learn.ensures.seen (sym c.learn.ensures.answer ∙ c.in-Ok.is) c.reply.ensures c.answer-told.ensures.told
 
 pub returns-in-Err-clause-told : goal.returns-in-Err-clause-told
 returns-in-Err-clause-told g c =
     let told = c.answer-told.result in
-    told_no_answer g.N.Naming.limit told.1 c.learn.new.self c.args.question told.0 c.in-Err.refused c.refusal.result c.learn.ensures.seen (sym c.learn.ensures.answer ∙ c.in-Err.is) c.refusal.ensures c.answer-told.ensures.refused
+    told_no_answer g.N.HistoryId.limit told.1 c.learn.new.self c.args.question told.0 c.in-Err.refused c.refusal.result c.learn.ensures.seen (sym c.learn.ensures.answer ∙ c.in-Err.is) c.refusal.ensures c.answer-told.ensures.refused

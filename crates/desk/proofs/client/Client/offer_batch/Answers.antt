@@ -12,5 +12,5 @@ returns-clause-told g c =
     let told = c.offer_batch-told.result in
     let reply : replies.Batched told.0.accepted told.0.refusal told.0.length ≡ c.reply.result =
     ap (λ (b : Batched). replies.Batched b.accepted b.refusal b.length) (sym c.learn.ensures.answer) ∙ sym c.reply.ensures in
-    subst (λ (r : Reply). IsTold g.N.Naming.limit (Batch c.args.events.now) r c.learn.new.self) reply
-    (told_batch g.N.Naming.limit told.1 c.learn.new.self c.args.events.now told.0 c.requires c.learn.ensures.seen c.offer_batch-told.ensures.batched)
+    subst (λ (r : Reply). IsTold g.N.HistoryId.limit (Batch c.args.events.now) r c.learn.new.self) reply
+    (told_batch g.N.HistoryId.limit told.1 c.learn.new.self c.args.events.now told.0 c.requires c.learn.ensures.seen c.offer_batch-told.ensures.batched)

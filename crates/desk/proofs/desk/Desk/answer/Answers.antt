@@ -10,7 +10,7 @@ use Rattle.desk.proofs.desk.Desk.answer.Goals as goal
 
 pub returns : goal.returns
 returns g c =
-    let limit = g.N.Naming.limit in
+    let limit = g.N.HistoryId.limit in
     let old = c.deref_mut.result.now in
     let new = c.answer.new.self in
     let told = c.answer.result in

@@ -12,7 +12,7 @@ use Rattle.desk.proofs.desk.Desk.ask.Goals as goal
 
 pub returns : goal.returns
 returns g c =
-    let limit = g.N.Naming.limit in
+    let limit = g.N.HistoryId.limit in
     let old = c.deref_mut.result.now in
     let new = c.ask.new.self in
     let told = c.ask.result in

@@ -11,7 +11,7 @@ use Rattle.desk.proofs.desk.Desk.offer.Goals as goal
 
 pub returns : goal.returns
 returns g c =
-    let limit = g.N.Naming.limit in
+    let limit = g.N.HistoryId.limit in
     let old = c.deref_mut.result.now in
     let new = c.offer.new.self in
     let told = c.offer.result in

@@ -16,7 +16,7 @@ returns g c =
         next = new.state;
         ends = b.receipt ∙ b.published;
         was = b.before;
-        is = subst (λ (run : List BoardStep). After g.N.Naming.limit run new.state) (sym b.receipt) b.after;
+        is = subst (λ (run : List BoardStep). After g.N.HistoryId.limit run new.state) (sym b.receipt) b.after;
         went = b.batched;
       };
       legal = subst IsLegal (sym b.receipt) b.legal;

@@ -1,12 +1,12 @@
 use Rattle.std.proofs.Common.{refl, ap, subst, ◌∙◌, rules}
 use Rattle.trace_model.specs.Protocol.Runs.{IsLegal}
-use Rattle.desk.specs.Published.{Kept}
+use Rattle.desk.specs.Published.{DeskView}
 use Rattle.desk.proofs.Steps.{after_shown, legal_kept}
 use Rattle.desk.proofs.locked.Locked.answer.Goals as goal
 
 pub returns : goal.returns
 returns g c =
-    let limit = g.N.Naming.limit in
+    let limit = g.N.HistoryId.limit in
     let b = c.self.inside.board in
     let k = c.self.invariant in
     record {
@@ -14,6 +14,6 @@ returns g c =
       told = search rules;
       refused = search rules;
       same = refl;
-      receipt = c.receipt.ensures ∙ ap (λ (x : Kept). x.published) c.self.view_is;
-      legal = subst (λ (x : Kept). IsLegal x.published) c.self.view_is (legal_kept limit b.published b.waiting c.self.inside.book.state k);
+      receipt = c.receipt.ensures ∙ ap (λ (x : DeskView). x.published) c.self.view_is;
+      legal = subst (λ (x : DeskView). IsLegal x.published) c.self.view_is (legal_kept limit b.published b.waiting c.self.inside.book.state k);
     }

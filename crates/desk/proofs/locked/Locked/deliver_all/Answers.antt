@@ -3,7 +3,7 @@ use Rattle.std.proofs.lemmas.List.{append-nil, nil_from_length}
 use Rattle.snapshots.specs.Found.{FoundRows}
 use Rattle.sequencer.specs.Deliveries.{Delivered}
 use Rattle.trace_model.specs.Protocol.Runs.{IsLegal}
-use Rattle.desk.specs.Published.{After, Kept}
+use Rattle.desk.specs.Published.{After, DeskView}
 use Rattle.desk.specs.Together.{AreOutcomes, taken_steps}
 use Rattle.desk.proofs.Steps.{after_shown, legal_kept}
 use Rattle.desk.proofs.Together.{none_yet, outcome_of, outcomes_more, steps_more, steps_of}
@@ -15,9 +15,9 @@ push_reserved-requires g c =
 
 pub loop-finding-init : goal.loop-finding-init
 loop-finding-init g c = record {
-  are = none_yet g.N.Naming.limit _ _ c.in-Ok.ensures.items;
+  are = none_yet g.N.HistoryId.limit _ _ c.in-Ok.ensures.items;
   run = sym (append-nil c.args.self.now.published);
-  after = subst (λ (k : Kept). After g.N.Naming.limit k.published k.state) c.self.view_is c.self.invariant.after;
+  after = subst (λ (k : DeskView). After g.N.HistoryId.limit k.published k.state) c.self.view_is c.self.invariant.after;
   rest = c.into_iter-finding-iterator.ensures.into_iter_gives.0;
   room = omega (arith, c.in-Ok.ensures.capacity, c.in-Ok.ensures.len, c.len.ensures, ap length c.into_iter-finding-iterator.ensures.into_iter_gives.0);
 }
@@ -28,11 +28,11 @@ loop-finding-preserved g c =
     let d = c.deliver-outcome.ensures in
     let f = c.in-Some.finding in
     let o = c.deliver-outcome.result.0 in
-    let is = outcome_of g.N.Naming.limit c.loop-finding.self c.deliver-outcome.new.self f o i.after d.went in
+    let is = outcome_of g.N.HistoryId.limit c.loop-finding.self c.deliver-outcome.new.self f o i.after d.went in
     let items = c.push_reserved.ensures.items in
     record {
-      are = subst (λ (os : List Delivered). AreOutcomes g.N.Naming.limit c.args.self.now.published (c.loop-finding.yielded ++ f ∷ []) os) (sym items)
-          (outcomes_more g.N.Naming.limit c.args.self.now.published c.loop-finding.self.published c.loop-finding.yielded c.loop-finding.outcomes.items f o i.are i.run is);
+      are = subst (λ (os : List Delivered). AreOutcomes g.N.HistoryId.limit c.args.self.now.published (c.loop-finding.yielded ++ f ∷ []) os) (sym items)
+          (outcomes_more g.N.HistoryId.limit c.args.self.now.published c.loop-finding.self.published c.loop-finding.yielded c.loop-finding.outcomes.items f o i.are i.run is);
       run = steps_more c.args.self.now.published c.loop-finding.self.published c.deliver-outcome.new.self.published c.loop-finding.yielded c.loop-finding.outcomes.items f o i.are.count i.run
           (steps_of c.loop-finding.self c.deliver-outcome.new.self f o d.went)
           ∙ ap (λ (os : List Delivered). c.args.self.now.published ++ taken_steps (c.loop-finding.yielded ++ f ∷ []) os) (sym items);
@@ -44,7 +44,7 @@ loop-finding-preserved g c =
 
 pub returns-in_default : goal.returns-in_default
 returns-in_default g c =
-    let limit = g.N.Naming.limit in
+    let limit = g.N.HistoryId.limit in
     let b = c.self.inside.board in
     let k = c.self.invariant in
     record {
@@ -55,7 +55,7 @@ returns-in_default g c =
       back = refl;
       same = refl;
       some = grind (arith, c.in_default.ensures.succeeds, c.len.ensures);
-      legal = subst (λ (x : Kept). IsLegal x.published) c.self.view_is (legal_kept limit b.published b.waiting c.self.inside.book.state k);
+      legal = subst (λ (x : DeskView). IsLegal x.published) c.self.view_is (legal_kept limit b.published b.waiting c.self.inside.book.state k);
     }
 
 pub returns : goal.returns
@@ -69,7 +69,7 @@ returns g c =
     sym (append-nil c.loop-finding.yielded) ∙ (ap (λ (xs : List FoundRows). c.loop-finding.yielded ++ xs) (sym none) ∙ i.rest) in
     record {
       after = i.after;
-      outcomes = subst (λ (fs : List FoundRows). AreOutcomes g.N.Naming.limit run fs outcomes) all i.are;
+      outcomes = subst (λ (fs : List FoundRows). AreOutcomes g.N.HistoryId.limit run fs outcomes) all i.are;
       published = i.run ∙ ap (λ (fs : List FoundRows). run ++ taken_steps fs outcomes) all;
       receipt = c.receipt.ensures.published;
       back = tt;

@@ -8,7 +8,7 @@ use Rattle.desk.proofs.locked.Locked.deliver_own.Goals as goal
 
 pub admits_known-admitted-requires : goal.admits_known-admitted-requires
 admits_known-admitted-requires g c =
-    let limit = g.N.Naming.limit in
+    let limit = g.N.HistoryId.limit in
     let state = c.self.inside.book.state in
     let own = c.args.own in
     let parts = c.into_parts-finding in

@@ -3,58 +3,58 @@ use Rattle.trace_model.specs.declared.messages.step.BoardStep.TheVariants.{Accep
 use Rattle.trace_model.specs.Protocol.Machine.{State}
 use Rattle.trace_model.specs.declared.refusal.Refusal.TheVariants.{NoMemory}
 use Rattle.sequencer.specs.Batched.{IsBatched}
-use Rattle.board.specs.Fits.{kept}
-use Rattle.desk.specs.Published.{Kept}
+use Rattle.board.specs.Fits.{truncated}
+use Rattle.desk.specs.Published.{DeskView}
 use Rattle.desk.proofs.Steps.{accepting_some, first_admitted, goes, kept_on, legal_next, none_accepted, none_batched, stays, takes_batch}
 use Rattle.desk.proofs.locked.Locked.offer_batch.Goals as goal
 
-pub accept_batch-batched-requires-clause-admitted : goal.accept_batch-batched-requires-clause-admitted
-accept_batch-batched-requires-clause-admitted g c =
-    first_admitted c.admit.new.self c.self.inside.book.state c.args.events.now _ c.requires.0 c.in_default.ensures.shown c.in_default.ensures.ok.0 c.in_default.ensures.ok.1
+pub record_batch-batched-requires-clause-admitted : goal.record_batch-batched-requires-clause-admitted
+record_batch-batched-requires-clause-admitted g c =
+    first_admitted c.reserve_event.new.self c.self.inside.book.state c.args.events.now _ c.requires.0 c.in_default.ensures.shown c.in_default.ensures.ok.0 c.in_default.ensures.ok.1
 
 pub publish-requires-clause-legal : goal.publish-requires-clause-legal
 publish-requires-clause-legal g c =
     let b = c.self.inside.board in
     let s = c.self.inside.book.state in
-    let next = c.accept_batch-batched.new.self.state in
+    let next = c.record_batch-batched.new.self.state in
     let es = c.args.events.now in
-    let out = c.accept_batch-batched.result in
-    let came = subst (λ (m : State). IsBatched m es out next) c.admit.ensures.shown c.accept_batch-batched.ensures.batched in
-    let takes = takes_batch s next es out c.requires c.accept_batch-batched.ensures.some came in
-    let waits : c.keep.new.self.waiting ≡ Accept (take out.accepted es) ∷ [] =
-    c.keep.ensures.waiting ∙ (ap (map (kept c.from.result)) c.in-Ok.ensures.waiting ∙ (λ i. Accept (take (c.from.ensures i) (c.in-Some.ensures.value i)) ∷ [])) in
-    legal_next g.N.Naming.limit b.published b.waiting _ s next (Accept (take out.accepted es)) c.self.invariant takes
-    (λ i. (c.keep.ensures.published ∙ c.in-Ok.ensures.published) i ++ waits i)
+    let out = c.record_batch-batched.result in
+    let came = subst (λ (m : State). IsBatched m es out next) c.reserve_event.ensures.shown c.record_batch-batched.ensures.batched in
+    let takes = takes_batch s next es out c.requires c.record_batch-batched.ensures.some came in
+    let waits : c.truncate.new.self.waiting ≡ Accept (take out.accepted es) ∷ [] =
+    c.truncate.ensures.waiting ∙ (ap (map (truncated c.from.result)) c.in-Ok.ensures.waiting ∙ (λ i. Accept (take (c.from.ensures i) (c.in-Some.ensures.value i)) ∷ [])) in
+    legal_next g.N.HistoryId.limit b.published b.waiting _ s next (Accept (take out.accepted es)) c.self.invariant takes
+    (λ i. (c.truncate.ensures.published ∙ c.in-Ok.ensures.published) i ++ waits i)
 
 pub invariant_of-self-2 : goal.invariant_of-self-2
 invariant_of-self-2 g c =
     let b = c.self.inside.board in
     let s = c.self.inside.book.state in
-    let next = c.accept_batch-batched.new.self.state in
+    let next = c.record_batch-batched.new.self.state in
     let es = c.args.events.now in
-    let out = c.accept_batch-batched.result in
-    let came = subst (λ (m : State). IsBatched m es out next) c.admit.ensures.shown c.accept_batch-batched.ensures.batched in
-    let takes = takes_batch s next es out c.requires c.accept_batch-batched.ensures.some came in
-    let waits : c.keep.new.self.waiting ≡ Accept (take out.accepted es) ∷ [] =
-    c.keep.ensures.waiting ∙ (ap (map (kept c.from.result)) c.in-Ok.ensures.waiting ∙ (λ i. Accept (take (c.from.ensures i) (c.in-Some.ensures.value i)) ∷ [])) in
-    kept_on g.N.Naming.limit b.published b.waiting _ _ s next (Accept (take out.accepted es)) c.self.invariant takes
-    (c.publish.ensures.published ∙ (λ i. (c.keep.ensures.published ∙ c.in-Ok.ensures.published) i ++ waits i)) c.publish.ensures.waiting
+    let out = c.record_batch-batched.result in
+    let came = subst (λ (m : State). IsBatched m es out next) c.reserve_event.ensures.shown c.record_batch-batched.ensures.batched in
+    let takes = takes_batch s next es out c.requires c.record_batch-batched.ensures.some came in
+    let waits : c.truncate.new.self.waiting ≡ Accept (take out.accepted es) ∷ [] =
+    c.truncate.ensures.waiting ∙ (ap (map (truncated c.from.result)) c.in-Ok.ensures.waiting ∙ (λ i. Accept (take (c.from.ensures i) (c.in-Some.ensures.value i)) ∷ [])) in
+    kept_on g.N.HistoryId.limit b.published b.waiting _ _ s next (Accept (take out.accepted es)) c.self.invariant takes
+    (c.publish.ensures.published ∙ (λ i. (c.truncate.ensures.published ∙ c.in-Ok.ensures.published) i ++ waits i)) c.publish.ensures.waiting
 
 pub returns-in-Err : goal.returns-in-Err
 returns-in-Err g c =
     let b = c.self.inside.board in
     let s = c.self.inside.book.state in
-    let next = c.admit.new.self.state in
+    let next = c.reserve_event.new.self.state in
     let es = c.args.events.now in
     let out = c.none_of.result in
     let none = c.none_of.ensures in
-    let it = stays g.N.Naming.limit b.published b.waiting _ s next _ (λ x. IsBatched x es out next) c.self.invariant c.self.view_is refl c.in-Err.ensures.shown
+    let it = stays g.N.HistoryId.limit b.published b.waiting _ s next _ (λ x. IsBatched x es out next) c.self.invariant c.self.view_is refl c.in-Err.ensures.shown
     (none_batched s next es _ c.in-Err.refusal out c.in-Err.ensures.shown c.requires.0 c.in-Err.ensures.refused none.accepted none.refusal none.length) in
     record {
       before = it.before;
       after = it.after;
       batched = it.is;
-      published = none_accepted b.published c.args.self.now.published es out.accepted (ap (λ (x : Kept). x.published) it.same) none.accepted;
+      published = none_accepted b.published c.args.self.now.published es out.accepted (ap (λ (x : DeskView). x.published) it.same) none.accepted;
       receipt = c.receipt.ensures;
       legal = it.legal;
     }
@@ -63,18 +63,18 @@ pub returns-in_default-grow : goal.returns-in_default-grow
 returns-in_default-grow g c =
     let b = c.self.inside.board in
     let s = c.self.inside.book.state in
-    let next = c.admit.new.self.state in
+    let next = c.reserve_event.new.self.state in
     let es = c.args.events.now in
     let out = c.none_of-in_default-grow.result in
     let none = c.none_of-in_default-grow.ensures in
     let shown = c.in_default.ensures.shown in
-    let it = stays g.N.Naming.limit b.published b.waiting _ s next _ (λ x. IsBatched x es out next) c.self.invariant c.self.view_is c.in_default-grow.ensures.published shown
+    let it = stays g.N.HistoryId.limit b.published b.waiting _ s next _ (λ x. IsBatched x es out next) c.self.invariant c.self.view_is c.in_default-grow.ensures.published shown
     (none_batched s next es _ NoMemory out shown c.requires.0 (inr (refl, c.in_default.ensures.ok.1)) none.accepted none.refusal none.length) in
     record {
       before = it.before;
       after = it.after;
       batched = it.is;
-      published = none_accepted c.grow.new.self.published c.args.self.now.published es out.accepted (ap (λ (x : Kept). x.published) it.same) none.accepted;
+      published = none_accepted c.grow.new.self.published c.args.self.now.published es out.accepted (ap (λ (x : DeskView). x.published) it.same) none.accepted;
       receipt = c.receipt-in_default-grow.ensures;
       legal = it.legal;
     }
@@ -83,15 +83,15 @@ pub returns : goal.returns
 returns g c =
     let b = c.self.inside.board in
     let s = c.self.inside.book.state in
-    let next = c.accept_batch-batched.new.self.state in
+    let next = c.record_batch-batched.new.self.state in
     let es = c.args.events.now in
-    let out = c.accept_batch-batched.result in
-    let some = accepting_some es out.accepted c.accept_batch-batched.ensures.some c.requires.0 in
-    let came = subst (λ (m : State). IsBatched m es out next) c.admit.ensures.shown c.accept_batch-batched.ensures.batched in
-    let waits : c.keep.new.self.waiting ≡ Accept (take out.accepted es) ∷ [] =
-    c.keep.ensures.waiting ∙ (ap (map (kept c.from.result)) c.in-Ok.ensures.waiting ∙ (λ i. Accept (take (c.from.ensures i) (c.in-Some.ensures.value i)) ∷ [])) in
-    let it = goes g.N.Naming.limit b.published b.waiting _ _ s next _ (Accept (take out.accepted es)) (λ x. IsBatched x es out next) c.self.invariant c.self.view_is (invariant_of-self-2 g c)
-    (c.publish.ensures.published ∙ (λ i. (c.keep.ensures.published ∙ c.in-Ok.ensures.published) i ++ waits i)) came in
+    let out = c.record_batch-batched.result in
+    let some = accepting_some es out.accepted c.record_batch-batched.ensures.some c.requires.0 in
+    let came = subst (λ (m : State). IsBatched m es out next) c.reserve_event.ensures.shown c.record_batch-batched.ensures.batched in
+    let waits : c.truncate.new.self.waiting ≡ Accept (take out.accepted es) ∷ [] =
+    c.truncate.ensures.waiting ∙ (ap (map (truncated c.from.result)) c.in-Ok.ensures.waiting ∙ (λ i. Accept (take (c.from.ensures i) (c.in-Some.ensures.value i)) ∷ [])) in
+    let it = goes g.N.HistoryId.limit b.published b.waiting _ _ s next _ (Accept (take out.accepted es)) (λ x. IsBatched x es out next) c.self.invariant c.self.view_is (invariant_of-self-2 g c)
+    (c.publish.ensures.published ∙ (λ i. (c.truncate.ensures.published ∙ c.in-Ok.ensures.published) i ++ waits i)) came in
     record {
       before = it.before;
       after = it.after;

@@ -7,7 +7,7 @@ use Rattle.desk.proofs.own.OwnJob.compute.Goals as goal
 
 pub invariant_of-result : goal.invariant_of-result
 invariant_of-result g c =
-    let limit = g.N.Naming.limit in
+    let limit = g.N.HistoryId.limit in
     let job = c.self.inside.job in
     let asked = c.in_ok-finding.ensures.asked in
     let same = subst (λ (run : List BoardStep). Afterwards limit run (λ state. AreEventsOf state job.question job.events)) (sym c.again-receipt.ensures) c.self.invariant in

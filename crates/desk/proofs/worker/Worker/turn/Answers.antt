@@ -1,16 +1,16 @@
 use Rattle.std.proofs.Common.{◌≡◌, List, subst}
 use mathlib.Core.List.{IsPrefix}
 use Rattle.trace_model.specs.declared.messages.step.BoardStep.{BoardStep}
-use Rattle.desk.specs.declared.worker.Failed.{Failed as Failure}
-use Rattle.desk.specs.declared.worker.Failed.TheVariants.{BoardBusy}
+use Rattle.desk.specs.declared.worker.TurnFailure.{TurnFailure}
+use Rattle.desk.specs.declared.worker.TurnFailure.TheVariants.{BoardBusy}
 use Rattle.desk.specs.declared.worker.Turn.TheVariants.{Delivered, Failed}
 use Rattle.desk.proofs.worker.Worker.turn.Goals as goal
 
--- no such turn delivers
-failed_delivers_nothing : (why : Failure) → Failed why ≡ Delivered → ⊥
+-- such a turn does not deliver
+failed_delivers_nothing : (why : TurnFailure) → Failed why ≡ Delivered → ⊥
 failed_delivers_nothing why e = cc
 
--- what the reader has seen since
+-- what the reader has seen afterwards
 seen_since : (now reader shown : List BoardStep) → reader ≡ now → IsPrefix reader shown → IsPrefix now shown
 seen_since now reader shown is later = subst (λ xs. IsPrefix xs shown) is later
 

@@ -1,5 +1,5 @@
 use Rattle.std.proofs.Common.{length, ap, ◌∙◌, arith}
-use Rattle.event_frames.proofs.Turns.{moved_rest}
+use Rattle.event_frames.proofs.ReadFrames.{moved_rest}
 use Rattle.event_frames.proofs.reader.FrameReader.compact.Goals as goal
 
 pub returns-then-start-gt0 : goal.returns-then-start-gt0

@@ -3,21 +3,21 @@ use Rattle.std.proofs.lemmas.Option.{none-some, same_Some}
 use Rattle.trace_model.specs.declared.limits.TheConstants.{MAX_CYCLES}
 use Rattle.trace_model.specs.Theory.Dependencies.{Dependency, dependencies}
 use Rattle.trace_model.specs.Theory.Cycles.{AreCyclesFrom}
-use Rattle.cycle_search.specs.Ranked.{AreRanks}
+use Rattle.cycle_search.specs.Components.{AreComponents}
 use Rattle.cycle_search.specs.Search.{CycleFrom, MoreThan}
 use Rattle.cycle_search.specs.declared.refused.SearchRefused.TheVariants.{TooMany}
 use Rattle.findings.proofs.Refusals.{search_not_many}
 use Rattle.findings.proofs.scratch.Scratch.cycles.Goals as goal
 
-pub ranks_of-requires : goal.ranks_of-requires
-ranks_of-requires c = λ kept is. c.requires.scratch.ranks kept (sym c.take.ensures.value ∙ is)
+pub components_of-requires : goal.components_of-requires
+components_of-requires c = λ kept is. c.requires.scratch.components kept (sym c.take.ensures.value ∙ is)
 
 pub returns-in_default : goal.returns-in_default
 returns-in_default c = record {
   scratch = record {
-    ranks = λ kept is. absurd (none-some kept (sym c.take.ensures.after ∙ is));
+    components = λ kept is. absurd (none-some kept (sym c.take.ensures.after ∙ is));
     closer = c.requires.scratch.closer;
-    pasts = c.requires.scratch.pasts;
+    timestamps = c.requires.scratch.timestamps;
   };
   ok = tt;
   few = tt;
@@ -25,7 +25,7 @@ returns-in_default c = record {
 }
 
 pub new-searched-requires : goal.new-searched-requires
-new-searched-requires c = record { graph = rw c.table.ensures.0 c.graph.ensures; ranks = rw c.table.ensures.0 c.in-Ok.ensures }
+new-searched-requires c = record { graph = rw c.table.ensures.0 c.graph.ensures; components = rw c.table.ensures.0 c.in-Ok.ensures }
 
 pub cycles_from-cycles-requires : goal.cycles_from-cycles-requires
 cycles_from-cycles-requires c = record { root = omega (arith, ap length c.new-searched.ensures, ap length c.table.ensures.0, c.requires.task) }
@@ -38,9 +38,9 @@ returns c =
     let same = c.new-searched.ensures ∙ c.table.ensures.0 in
     record {
       scratch = record {
-        ranks = λ kept is. subst (AreRanks (dependencies s)) (same_Some c.in-Ok.ranks kept is) c.in-Ok.ensures;
+        components = λ kept is. subst (AreComponents (dependencies s)) (same_Some c.in-Ok.components kept is) c.in-Ok.ensures;
         closer = c.requires.scratch.closer;
-        pasts = c.requires.scratch.pasts;
+        timestamps = c.requires.scratch.timestamps;
       };
       ok = subst (λ (ds : List Dependency). IfOk found (λ cycles. AreCyclesFrom ds c.args.bound c.args.task cycles.items)) same told.ok;
       few = told.few;

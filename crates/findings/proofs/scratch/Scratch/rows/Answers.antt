@@ -10,29 +10,29 @@ closer_of-requires c = λ kept is. c.requires.scratch.closer kept (sym c.take.en
 
 pub returns-in_err-closer-clause-scratch : goal.returns-in_err-closer-clause-scratch
 returns-in_err-closer-clause-scratch c = record {
-  ranks = c.requires.scratch.ranks;
+  components = c.requires.scratch.components;
   closer = λ kept is. absurd (none-some kept (sym c.take.ensures.after ∙ is));
-  pasts = c.requires.scratch.pasts;
+  timestamps = c.requires.scratch.timestamps;
 }
 
-pub pasts_of-requires-clause-pasts : goal.pasts_of-requires-clause-pasts
-pasts_of-requires-clause-pasts c = λ kept is. c.requires.scratch.pasts kept (sym c.take-2.ensures.value ∙ is)
+pub timestamps_of-requires-clause-timestamps : goal.timestamps_of-requires-clause-timestamps
+timestamps_of-requires-clause-timestamps c = λ kept is. c.requires.scratch.timestamps kept (sym c.take-2.ensures.value ∙ is)
 
-pub returns-in_err-pasts-clause-scratch : goal.returns-in_err-pasts-clause-scratch
-returns-in_err-pasts-clause-scratch c = record {
-  ranks = c.requires.scratch.ranks;
+pub returns-in_err-timestamps-clause-scratch : goal.returns-in_err-timestamps-clause-scratch
+returns-in_err-timestamps-clause-scratch c = record {
+  components = c.requires.scratch.components;
   closer = λ kept is. absurd (none-some kept (sym c.take.ensures.after ∙ is));
-  pasts = λ kept is. absurd (none-some kept (sym c.take-2.ensures.after ∙ is));
+  timestamps = λ kept is. absurd (none-some kept (sym c.take-2.ensures.after ∙ is));
 }
 
-pub rows_by-rows-requires-clause-pasts : goal.rows_by-rows-requires-clause-pasts
-rows_by-rows-requires-clause-pasts c = c.in_ok-pasts.ensures.pasts
+pub rows_by-rows-requires-clause-timestamps : goal.rows_by-rows-requires-clause-timestamps
+rows_by-rows-requires-clause-timestamps c = c.in_ok-timestamps.ensures.timestamps
 
 pub returns-clause-scratch : goal.returns-clause-scratch
 returns-clause-scratch c = record {
-  ranks = c.requires.scratch.ranks;
+  components = c.requires.scratch.components;
   closer = λ kept is. subst (IsCloser c.args.snapshot.now) (same_Some c.rows_by-rows.new.closer kept is) c.rows_by-rows.ensures.closer;
-  pasts = c.in_ok-pasts.ensures.pasts;
+  timestamps = c.in_ok-timestamps.ensures.timestamps;
 }
 
 pub returns-clause-rows : goal.returns-clause-rows
@@ -46,14 +46,14 @@ returns-then-is_empty c =
 pub returns-in_err-closer-clause-rows : goal.returns-in_err-closer-clause-rows
 returns-in_err-closer-clause-rows c = IfOk-from_err c.from_residual.result _ c.from_residual.ensures.0
 
-pub pasts_of-requires-clause-closer : goal.pasts_of-requires-clause-closer
-pasts_of-requires-clause-closer c = c.in_ok-closer.ensures
+pub timestamps_of-requires-clause-closer : goal.timestamps_of-requires-clause-closer
+timestamps_of-requires-clause-closer c = c.in_ok-closer.ensures
 
-pub returns-in_err-pasts-clause-rows : goal.returns-in_err-pasts-clause-rows
-returns-in_err-pasts-clause-rows c = IfOk-from_err c.from_residual-in_err-pasts.result _ c.from_residual-in_err-pasts.ensures.0
+pub returns-in_err-timestamps-clause-rows : goal.returns-in_err-timestamps-clause-rows
+returns-in_err-timestamps-clause-rows c = IfOk-from_err c.from_residual-in_err-timestamps.result _ c.from_residual-in_err-timestamps.ensures.0
 
 pub rows_by-rows-requires-clause-known : goal.rows_by-rows-requires-clause-known
 rows_by-rows-requires-clause-known c = c.requires.known
 
 pub rows_by-rows-requires-clause-closer : goal.rows_by-rows-requires-clause-closer
-rows_by-rows-requires-clause-closer c = c.pasts_of.ensures.closer
+rows_by-rows-requires-clause-closer c = c.timestamps_of.ensures.closer

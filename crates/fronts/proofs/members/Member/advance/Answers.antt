@@ -31,7 +31,7 @@ returns-then-entry-count c =
       same = record { places = refl; slot = refl };
       is_member = record {
         at = c.get-place.ensures;
-        stands = record { slot = of_thread; number = sym c.number.ensures ∙ search rules };
+        positions = record { slot = of_thread; number = sym c.number.ensures ∙ search rules };
         thread = c.requires.member.thread;
       };
       next = λ t. refl;

@@ -3,8 +3,8 @@ use Rattle.std.proofs.lemmas.List.{length-set, length-map}
 use Rattle.std.specs.List.{refill, remove}
 use Rattle.trace_model.specs.declared.limits.TheConstants.{MAX_HELD}
 use Rattle.held_sets.specs.declared.holding.LockDepth.{LockDepth}
-use Rattle.held_sets.specs.Tables.{locks_of, depth_of, place_for, HasDepth, IsHolding}
-use Rattle.held_sets.proofs.Holdings.{found, at_depth, refill_same, place_within, place_most, changed_set, changed_insert, changed_remove, changed_nothing, seen}
+use Rattle.held_sets.specs.Tables.{locks_of, depth_of, index_for, HasDepth, IsHolding}
+use Rattle.held_sets.proofs.Holdings.{found, at_depth, refill_same, index_within, index_most, changed_set, changed_insert, changed_remove, changed_nothing, seen}
 use Rattle.held_sets.proofs.Locks.{ascends_from}
 use Rattle.held_sets.proofs.holding.Holding.set_depth.Goals as goal
 
@@ -38,7 +38,7 @@ pub bounds-as_mut_slice-index : goal.bounds-as_mut_slice-index
 bounds-as_mut_slice-index c =
     let ds = c.self.inside.locks.items in
     let f = found c.args.lock ds _ c.index_for-index.result c.found_depth-is_held.result c.as_slice-locks.ensures.value c.self.invariant c.index_for-index.ensures c.found_depth-is_held.ensures in
-    let there = place_within c.args.lock ds (ascends_from _ c.self.invariant.ascends) (omega (arith, f.1, c.if-is_held-2.true)) in
+    let there = index_within c.args.lock ds (ascends_from _ c.self.invariant.ascends) (omega (arith, f.1, c.if-is_held-2.true)) in
     omega (arith, f.0, there, ap length c.as_mut_slice.ensures.value)
 
 pub offset_bounds-as_mut_slice-index : goal.offset_bounds-as_mut_slice-index
@@ -52,10 +52,10 @@ insert-requires c =
     let f = found c.args.lock ds _ c.index_for-index.result c.found_depth-is_held.result c.as_slice-locks.ensures.value c.self.invariant c.index_for-index.ensures c.found_depth-is_held.ensures in
     let room = subst (λ xs. 0 < c.args.depth → depth_of xs c.args.lock ≡ 0 → length (locks_of xs) < MAX_HELD) (sym c.self.view_is) c.requires.room
     (omega (arith, c.if-depth-eq0.false)) (omega (arith, f.1, c.if-is_held-2.false)) in
-    (omega arith, (omega (arith, f.0, place_most c.args.lock ds), omega (arith, room, length-map ds (λ (d : LockDepth). d.lock))))
+    (omega arith, (omega (arith, f.0, index_most c.args.lock ds), omega (arith, room, length-map ds (λ (d : LockDepth). d.lock))))
 
 written : (c : goal.After-self-1) → refill (length c.self.inside.locks.items) c.self.inside.locks.items (slice_set c.as_mut_slice.result.now c.index_for-index.result (at_depth c.args.lock c.args.depth))
-    ≡ slice_set c.self.inside.locks.items (place_for c.args.lock c.self.inside.locks.items) (at_depth c.args.lock c.args.depth)
+    ≡ slice_set c.self.inside.locks.items (index_for c.args.lock c.self.inside.locks.items) (at_depth c.args.lock c.args.depth)
 written c =
     let ds = c.self.inside.locks.items in
     let x = at_depth c.args.lock c.args.depth in
@@ -64,7 +64,7 @@ written c =
     ∙ refill_same ds (slice_set ds c.index_for-index.result x) (length-set ds c.index_for-index.result x)
     ∙ ap (λ i. slice_set ds i x) f.0
 
-deeper : (c : goal.After-self-1) → (new : List LockDepth) → new ≡ slice_set c.self.inside.locks.items (place_for c.args.lock c.self.inside.locks.items) (at_depth c.args.lock c.args.depth) →
+deeper : (c : goal.After-self-1) → (new : List LockDepth) → new ≡ slice_set c.self.inside.locks.items (index_for c.args.lock c.self.inside.locks.items) (at_depth c.args.lock c.args.depth) →
     HasDepth c.self.inside.locks.items c.args.lock c.args.depth new × IsHolding new
 deeper c new e =
     let ds = c.self.inside.locks.items in

@@ -11,8 +11,8 @@ use Rattle.lock_tables.specs.Tables.{shared_holders}
 use Rattle.lock_tables.proofs.OneFurther.{grown}
 use Rattle.lock_tables.proofs.tables.LockTables.record.Goals as goal
 
-pub note_place-requires-clause-below : goal.note_place-requires-clause-below
-note_place-requires-clause-below c =
+pub record_place-requires-clause-below : goal.record_place-requires-clause-below
+record_place-requires-clause-below c =
     let (s, f, lawful) = c.requires.lawful in
     subst (AllBelow c.args.self.now.dependencies) (sym f.counted ∙ sym c.new.ensures)
     (c.tables_follow.ensures.grow c.args.self.now.held c.args.self.now.dependencies c.args.self.now.dependencies s c.args.event.now f.held f.dependencies).0
@@ -21,28 +21,28 @@ pub returns : goal.returns
 returns c s f =
     let e = c.args.event.now in
     let old = c.args.self.now in
-    let table = c.note_place.ensures s (c.new.ensures ∙ f.counted) f.held f.dependencies in
+    let table = c.record_place.ensures s (c.new.ensures ∙ f.counted) f.held f.dependencies in
     let next : Option Dependency = dependency_of e.thread e.op (held s (length s) e.thread) in
     let more = grown (known old.dependencies) next old.graphed f.graphed in
-    let is : known c.note_place.new.table ≡ with_new (known old.dependencies) next = table.0 ∙ dependencies-push s e ∙ ap (λ ds. with_new ds next) (sym f.dependencies.0) in
+    let is : known c.record_place.new.table ≡ with_new (known old.dependencies) next = table.0 ∙ dependencies-push s e ∙ ap (λ ds. with_new ds next) (sym f.dependencies.0) in
     let len = length-push s e in
     let count = f.counted in
     record {
       counted = omega arith;
-      held = c.follow_locks.ensures s f.held;
+      held = c.record_locks.ensures s f.held;
       dependencies = table;
       graphed = subst (λ ds. old.graphed ≤ length ds) (sym is) more.0;
       graph = subst (λ ds. IsGraphOf ds (shared_holders old.graph)) (sym (ap (take old.graphed) is ∙ more.1)) f.graph;
     }
 
-pub note_place-requires-clause-room : goal.note_place-requires-clause-room
-note_place-requires-clause-room c = c.requires.room.place
+pub record_place-requires-clause-room : goal.record_place-requires-clause-room
+record_place-requires-clause-room c = c.requires.room.place
 
-pub follow_locks-requires-clause-entry : goal.follow_locks-requires-clause-entry
-follow_locks-requires-clause-entry c = c.requires.room.entry
+pub record_locks-requires-clause-entry : goal.record_locks-requires-clause-entry
+record_locks-requires-clause-entry c = c.requires.room.entry
 
-pub follow_locks-requires-clause-fits : goal.follow_locks-requires-clause-fits
-follow_locks-requires-clause-fits c lock acquires =
+pub record_locks-requires-clause-fits : goal.record_locks-requires-clause-fits
+record_locks-requires-clause-fits c lock acquires =
     let (s, f, lawful) = c.requires.lawful in
     let e = c.args.event.now in
     c.acquires_fit.ensures.next c.args.self.now.held MAX_EVENTS s e.thread lock f.held

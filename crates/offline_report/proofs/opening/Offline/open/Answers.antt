@@ -7,12 +7,12 @@ use Rattle.offline_report.proofs.opening.Offline.open.Goals as goal
 
 pub returns-in_err-admit : goal.returns-in_err-admit
 returns-in_err-admit g c =
-    let told = c.from_residual.result in
-    let p = err_from_is_err_and told c.from_residual.ensures.1 in
+    let written = c.from_residual.result in
+    let p = err_from_is_err_and written c.from_residual.ensures.1 in
     let refused = subst (IsNotAdmitted c.deref.result.now) (sym p.2) c.in_err-admit.ensures.refused in
     record {
-      asked = IfOk-from_err told _ c.from_residual.ensures.0;
-      well_formed = IfOk-from_err told _ c.from_residual.ensures.0;
+      asked = IfOk-from_err written _ c.from_residual.ensures.0;
+      well_formed = IfOk-from_err written _ c.from_residual.ensures.0;
       refused = subst (λ r. IfErr r (IsNotAdmitted c.args.events.items)) (sym p.1) (subst (λ (s : Trace). IsNotAdmitted s p.0) c.deref.ensures.value refused);
     }
 

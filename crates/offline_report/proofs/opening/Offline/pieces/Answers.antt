@@ -4,7 +4,7 @@ use Rattle.std.proofs.lemmas.Result.{err_from_is_err_and}
 use Rattle.trace_model.specs.declared.limits.TheConstants.{MAX_REPORT}
 use Rattle.trace_model.specs.Theory.Lawful.{IsWellFormed}
 use Rattle.findings.specs.Found.{Asked}
-use Rattle.offline_report.specs.Offline.{IsNotComputed, IsRefused, IsReport, IsToldAs, tasks_report, whole}
+use Rattle.offline_report.specs.Offline.{IsNotComputed, IsRefused, IsReport, ArePiecesOf, tasks_report, whole}
 use Rattle.offline_report.specs.declared.refused.OfflineRefused.TheVariants.{TooLong}
 use Rattle.offline_report.proofs.WholeReports.{all_plain, are_tasks, not_computed, report_is}
 use Rattle.offline_report.proofs.opening.Offline.pieces.Goals as goal
@@ -23,13 +23,13 @@ returns-in-Ok-Some-clause-text g c =
     let s = arc_value c.self.inside.snapshot in
     let bound = c.self.inside.bound in
     let tasks = c.in_ok-parts.ensures.0 in
-    let told = c.in_ok-parts.ensures.1 in
+    let written = c.in_ok-parts.ensures.1 in
     subst (λ (q : Asked). IsReport q.events q.bound (whole c.in-Ok-Some.pieces.items)) c.self.view_is (
       subst IsWellFormed c.deref.ensures c.len-length.ensures.well_formed,
       (
         all_plain tasks,
-        are_tasks s bound tasks c.in_ok-parts.parts.items told,
-        subst (IsToldAs (tasks_report _ bound tasks)) c.in-Ok-Some.field-0-is (c.in-Ok-Some.ensures tasks told.told) ∙ report_is s bound _ _ tasks _ told (c.len-length.ensures.length ∙ ap length c.deref.ensures),
+        are_tasks s bound tasks c.in_ok-parts.parts.items written,
+        subst (ArePiecesOf (tasks_report _ bound tasks)) c.in-Ok-Some.field-0-is (c.in-Ok-Some.ensures tasks written.written) ∙ report_is s bound _ _ tasks _ written (c.len-length.ensures.length ∙ ap length c.deref.ensures),
       ),
     )
 
@@ -38,12 +38,12 @@ returns-in-Ok-None-clause-refused g c =
     let s = arc_value c.self.inside.snapshot in
     let bound = c.self.inside.bound in
     let tasks = c.in_ok-parts.ensures.0 in
-    let told = c.in_ok-parts.ensures.1 in
+    let written = c.in_ok-parts.ensures.1 in
     subst (λ (q : Asked). IsRefused q.events q.bound TooLong) c.self.view_is (
       subst IsWellFormed c.deref.ensures c.len-length.ensures.well_formed,
       (
         all_plain tasks,
-        are_tasks s bound tasks c.in_ok-parts.parts.items told,
-        subst (λ text. MAX_REPORT < length text) (report_is s bound _ _ tasks _ told (c.len-length.ensures.length ∙ ap length c.deref.ensures)) (subst (IsToldAs (tasks_report _ bound tasks)) c.in-Ok-None.field-0-is (c.in-Ok-None.ensures tasks told.told)),
+        are_tasks s bound tasks c.in_ok-parts.parts.items written,
+        subst (λ text. MAX_REPORT < length text) (report_is s bound _ _ tasks _ written (c.len-length.ensures.length ∙ ap length c.deref.ensures)) (subst (ArePiecesOf (tasks_report _ bound tasks)) c.in-Ok-None.field-0-is (c.in-Ok-None.ensures tasks written.written)),
       ),
     )

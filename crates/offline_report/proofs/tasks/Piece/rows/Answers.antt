@@ -9,7 +9,7 @@ use Rattle.findings.specs.Found.{Asked}
 use Rattle.findings.specs.declared.computing.ComputeRefused.{ComputeRefused}
 use Rattle.offline_report.proofs.tasks.Piece.rows.Goals as goal
 
--- the same rows of the same task, by other names
+-- The same rows of the same task.
 rows_as : (s t : Trace) (b d k l : ℕ) (rows others : List Printed) → s ≡ t → b ≡ d → k ≡ l → rows ≡ others → AreRowsOf s b k rows → AreRowsOf t d l others
 rows_as s t b d k l rows others p q r o are =
     subst (AreRowsOf t d l) o (subst (λ task. AreRowsOf t d task rows) r (subst (λ bound. AreRowsOf t bound k rows) q (subst (λ events. AreRowsOf events b k rows) p are)))

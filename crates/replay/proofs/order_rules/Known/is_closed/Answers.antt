@@ -7,8 +7,8 @@ use Rattle.trace_model.proofs.Theory.Lookups.{release_so}
 use Rattle.replay.proofs.Lists.{entry_is}
 use Rattle.replay.proofs.order_rules.Known.is_closed.Goals as goal
 
-pub stands-requires-clause-in_trace : goal.stands-requires-clause-in_trace
-stands-requires-clause-in_trace c =
+pub is_passed-requires-clause-in_trace : goal.is_passed-requires-clause-in_trace
+is_passed-requires-clause-in_trace c =
     let k = c.args.self.now in
     let q = c.args.place in
     let is = entry_is c.deref.result.now k.facts.now.releases.items q (Some c.in-Some.release) (release k.trace.now q) c.deref.ensures.value c.in-Some.ensures (c.requires.known.0.releases q c.requires.in_trace) in
@@ -19,8 +19,8 @@ returns-in-Some c =
     let k = c.args.self.now in
     let q = c.args.place in
     let is = entry_is c.deref.result.now k.facts.now.releases.items q (Some c.in-Some.release) (release k.trace.now q) c.deref.ensures.value c.in-Some.ensures (c.requires.known.0.releases q c.requires.in_trace) in (
-      λ h. (c.in-Some.release, is, c.stands.ensures.0 h),
-      λ (r, e, m). c.stands.ensures.1 (subst (Contains k.passed.now) (same_Some r c.in-Some.release (sym e ∙ is)) m),
+      λ h. (c.in-Some.release, is, c.is_passed.ensures.0 h),
+      λ (r, e, m). c.is_passed.ensures.1 (subst (Contains k.passed.now) (same_Some r c.in-Some.release (sym e ∙ is)) m),
     )
 
 pub returns-in-None : goal.returns-in-None

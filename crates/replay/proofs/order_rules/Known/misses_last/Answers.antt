@@ -5,16 +5,16 @@ use Rattle.replay.specs.Facts.{is_of}
 use Rattle.replay.proofs.FactLists.{missed_by_last, none_missed}
 use Rattle.replay.proofs.order_rules.Known.misses_last.Goals as goal
 
-pub stands-requires-clause-in_trace : goal.stands-requires-clause-in_trace
-stands-requires-clause-in_trace c =
+pub is_passed-requires-clause-in_trace : goal.is_passed-requires-clause-in_trace
+is_passed-requires-clause-in_trace c =
     let k = c.args.self.now in
     (last_place_some (is_of k.trace.now c.args.thread) (length k.trace.now) c.in-Some.place (sym (c.in-Some.ensures ∙ c.requires.0.lasts c.args.thread))).0
 
 pub returns-in-Some : goal.returns-in-Some
 returns-in-Some c =
     let k = c.args.self.now in
-    missed_by_last k.trace.now k.passed.now c.requires.1.walked c.args.thread (length k.trace.now) c.in-Some.place c.stands.result
-    (sym (c.in-Some.ensures ∙ c.requires.0.lasts c.args.thread)) c.stands.ensures
+    missed_by_last k.trace.now k.passed.now c.requires.1.walked c.args.thread (length k.trace.now) c.in-Some.place c.is_passed.result
+    (sym (c.in-Some.ensures ∙ c.requires.0.lasts c.args.thread)) c.is_passed.ensures
 
 pub returns-in-None : goal.returns-in-None
 returns-in-None c =

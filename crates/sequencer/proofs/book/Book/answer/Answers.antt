@@ -40,7 +40,7 @@ returns-in-Err-TooLong-clause-refused c =
     let told_is = reported (λ task. task.items) s c.args.question told tasks (sym c.in-Some.ensures.value) c.in-Some-settled.ensures c.in-Some.ensures.named in
     inl (long_report c.args.question text (answer printing s c.args.question) long told_is)
 
--- a text that no memory is left for is not too long, and the machine prints it
+-- a text that could not be allocated is not too long, so the machine prints it
 printed : (c : goal.In-Err-NoMemory) → (text : List ℕ) × (answer printing c.args.self.now.state c.args.question ≡ Report c.args.question text)
 printed c =
     let told = c.in-Some.asked.now in

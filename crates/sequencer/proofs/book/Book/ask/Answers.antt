@@ -13,14 +13,14 @@ returns-in_err-asked c =
       refused = rw told.1 (refused, c.in_err-asked.ensures.shown);
     }
 
-pub opens-opened-requires : goal.opens-opened-requires
-opens-opened-requires c = record {
+pub preview-opened-requires : goal.preview-opened-requires
+preview-opened-requires c = record {
   allowed = (λ i. ask_refused (c.in_ok-asked.ensures.shown i) (c.in_ok-asked.ensures.ok.0 i)) ∙ c.in_ok-asked.ensures.allowed;
   fresh = c.in_ok-asked.ensures.ok.1.1;
 }
 
-pub add-requires : goal.add-requires
-add-requires c = record {
+pub record_question-requires : goal.record_question-requires
+record_question-requires c = record {
   room = c.in_ok-asked.ensures.ok.1.0;
   allowed = (λ i. ask_refused (c.in_ok-asked.ensures.shown i) (c.in_ok-asked.ensures.ok.0 i)) ∙ c.in_ok-asked.ensures.allowed;
   fresh = c.in_ok-asked.ensures.ok.1.1;

@@ -10,8 +10,8 @@ use Rattle.sequencer.specs.Printing.{printing}
 use Rattle.sequencer.proofs.Told.{accepted_ask, accepted_offer, taken_ask, taken_offer}
 use Rattle.sequencer.proofs.book.Book.commit.Goals as goal
 
-pub accept-requires : goal.accept-requires
-accept-requires c =
+pub record_event-requires : goal.record_event-requires
+record_event-requires c =
     let s = c.args.self.now in
     let change : c.args.planned.change ≡ Accept c.in-Accept.event = ap (λ (p : Planned). p.change) (sym c.planned.view_is) ∙ c.in-Accept.is in
     record {
@@ -19,8 +19,8 @@ accept-requires c =
       lawful = accepted_offer s.state c.in-Accept.event c.args.planned.reply (ap (λ (h : Change). (step printing s.state (request_of h)).0) (sym change) ∙ c.requires.reply_is) c.requires.accepted;
     }
 
-pub add-requires : goal.add-requires
-add-requires c =
+pub record_question-requires : goal.record_question-requires
+record_question-requires c =
     let s = c.args.self.now in
     let asked = c.in-Open.asked in
     let change : c.args.planned.change ≡ Open asked = ap (λ (p : Planned). p.change) (sym c.planned.view_is) ∙ c.in-Open.is in
@@ -38,8 +38,8 @@ returns-in-Accept c =
     sym (ap (λ (p : Planned). request_of p.change) (sym c.planned.view_is) ∙ ap request_of c.in-Accept.is) in
     let reply : c.args.planned.reply ≡ c.planned.inside.reply = ap (λ (p : Planned). p.reply) (sym c.planned.view_is) in
     ap (step printing s) (sym asks)
-    ∙ (taken_offer s c.accept.new.self.state c.in-Accept.event c.args.planned.reply (ap (λ (r : Request). (step printing s r).0) asks ∙ c.requires.reply_is) c.requires.accepted c.accept.ensures
-    ∙ ap (λ (r : Reply). (r, c.accept.new.self.state)) reply)
+    ∙ (taken_offer s c.record_event.new.self.state c.in-Accept.event c.args.planned.reply (ap (λ (r : Request). (step printing s r).0) asks ∙ c.requires.reply_is) c.requires.accepted c.record_event.ensures
+    ∙ ap (λ (r : Reply). (r, c.record_event.new.self.state)) reply)
 
 pub returns-in-Open : goal.returns-in-Open
 returns-in-Open c =
@@ -48,5 +48,5 @@ returns-in-Open c =
     let change : c.args.planned.change ≡ Open asked = ap (λ (p : Planned). p.change) (sym c.planned.view_is) ∙ c.in-Open.is in
     let reply : c.args.planned.reply ≡ c.planned.inside.reply = ap (λ (p : Planned). p.reply) (sym c.planned.view_is) in
     ap (λ (h : Change). step printing s (request_of h)) change
-    ∙ (taken_ask s c.add.new.self.state asked.bound c.args.planned.reply (ap (λ (h : Change). (step printing s (request_of h)).0) (sym change) ∙ c.requires.reply_is) c.requires.accepted c.add.ensures
-    ∙ ap (λ (r : Reply). (r, c.add.new.self.state)) reply)
+    ∙ (taken_ask s c.record_question.new.self.state asked.bound c.args.planned.reply (ap (λ (h : Change). (step printing s (request_of h)).0) (sym change) ∙ c.requires.reply_is) c.requires.accepted c.record_question.ensures
+    ∙ ap (λ (r : Reply). (r, c.record_question.new.self.state)) reply)

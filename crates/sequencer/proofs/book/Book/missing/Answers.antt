@@ -1,5 +1,5 @@
 use Rattle.std.proofs.Common.{sym}
-use Rattle.sequencer.specs.Asked.{question_of}
+use Rattle.sequencer.specs.QuestionState.{question_of}
 use Rattle.sequencer.proofs.Told.{least_told}
 use Rattle.sequencer.proofs.book.Book.missing.Goals as goal
 

@@ -6,29 +6,29 @@ use Rattle.trace_model.specs.Protocol.Machine.{State, offer_next, offer_reply, w
 use Rattle.sequencer.specs.Book.{RefusesOffer}
 use Rattle.sequencer.proofs.book.Book.offer.Goals as goal
 
-pub returns-in_err-admit : goal.returns-in_err-admit
-returns-in_err-admit c =
+pub returns-in_err-reserve_event : goal.returns-in_err-reserve_event
+returns-in_err-reserve_event c =
     let told = err_from_is_err_and c.from_residual.result c.from_residual.ensures.1 in
-    let refused = subst (RefusesOffer c.args.self.now.state c.args.event) (sym told.2) c.in_err-admit.ensures.refused in
+    let refused = subst (RefusesOffer c.args.self.now.state c.args.event) (sym told.2) c.in_err-reserve_event.ensures.refused in
     record {
       ok = IfOk-from_err c.from_residual.result _ c.from_residual.ensures.0;
-      refused = rw told.1 (refused, c.in_err-admit.ensures.shown);
+      refused = rw told.1 (refused, c.in_err-reserve_event.ensures.shown);
     }
 
-pub accept-requires : goal.accept-requires
-accept-requires c = record {
-  reserved = c.in_ok-admit.ensures.ok.0;
-  lawful = subst (λ (m : State). refusal_of m.limit m.accepted c.args.event ≡ None) (sym c.in_ok-admit.ensures.shown) c.in_ok-admit.ensures.ok.1;
+pub record_event-requires : goal.record_event-requires
+record_event-requires c = record {
+  reserved = c.in_ok-reserve_event.ensures.ok.0;
+  lawful = subst (λ (m : State). refusal_of m.limit m.accepted c.args.event ≡ None) (sym c.in_ok-reserve_event.ensures.shown) c.in_ok-reserve_event.ensures.ok.1;
 }
 
 pub returns : goal.returns
 returns c =
     let s = c.args.self.now.state in
     let e = c.args.event in
-    let shown = c.in_ok-admit.ensures.shown in
-    let place = c.new-place.ensures ∙ (c.length.ensures ∙ ap (λ (m : State). length m.accepted) shown) in
-    let after = c.accept.ensures ∙ ap (λ (m : State). with_event m e) shown in
+    let shown = c.in_ok-reserve_event.ensures.shown in
+    let place = c.new-place.ensures ∙ (c.accepted.ensures ∙ ap (λ (m : State). length m.accepted) shown) in
+    let after = c.record_event.ensures ∙ ap (λ (m : State). with_event m e) shown in
     record {
-      ok = (λ i. (offer_reply s (c.in_ok-admit.ensures.ok.1 i), offer_next s e (c.in_ok-admit.ensures.ok.1 i))) ∙ (λ i. (Placed (sym place i), sym after i));
+      ok = (λ i. (offer_reply s (c.in_ok-reserve_event.ensures.ok.1 i), offer_next s e (c.in_ok-reserve_event.ensures.ok.1 i))) ∙ (λ i. (Placed (sym place i), sym after i));
       refused = tt;
     }

@@ -10,12 +10,12 @@ use Rattle.sequencer.specs.Batched.{EndsBatch, IsBatched}
 use Rattle.sequencer.specs.Book.{RefusesOffer}
 use Rattle.sequencer.proofs.book.Book.offer_batch.Goals as goal
 
--- an event of which nothing is asked
+-- an arbitrary event
 abbrev any : Event
 any = record { thread = 0; op = Fork 0 }
 
-pub accept_batch-requires : goal.accept_batch-requires
-accept_batch-requires c =
+pub record_batch-requires : goal.record_batch-requires
+record_batch-requires c =
     let e = get_or c.args.events.now 0 any in
     let admitted = c.in-Ok.ensures.ok in
     let lawful = subst (λ (m : State). refusal_of m.limit m.accepted e ≡ None) (sym c.in-Ok.ensures.shown) admitted.1 in
@@ -25,16 +25,16 @@ accept_batch-requires c =
     }
 
 pub returns-in-Ok : goal.returns-in-Ok
-returns-in-Ok c = subst (λ (s : State). IsBatched s c.args.events.now c.accept_batch.result c.accept_batch.new.self.state) c.in-Ok.ensures.shown c.accept_batch.ensures.batched
+returns-in-Ok c = subst (λ (s : State). IsBatched s c.args.events.now c.record_batch.result c.record_batch.new.self.state) c.in-Ok.ensures.shown c.record_batch.ensures.batched
 
 pub returns-in-Err : goal.returns-in-Err
 returns-in-Err c =
     let s = c.args.self.now.state in
     let e = get_or c.args.events.now 0 any in
-    let after = c.admit.new.self.state in
+    let after = c.reserve_event.new.self.state in
     let shown = c.in-Err.ensures.shown in
     record {
-      first = c.length.ensures ∙ ap (λ (m : State). length m.accepted) shown;
+      first = c.accepted.ensures ∙ ap (λ (m : State). length m.accepted) shown;
       within = omega arith;
       lawful = λ k other h. absurd (none-some other h);
       appended = shown ∙ ap (λ (a : Trace). record s { accepted = a }) (sym (append-nil s.accepted));

@@ -6,8 +6,8 @@ use Rattle.sequencer.specs.Book.{IsAccepted, IsRefusal, Refuses}
 use Rattle.sequencer.proofs.Told.{refused_ask}
 use Rattle.sequencer.proofs.book.Book.prepare_ask.Goals as goal
 
-pub opens-requires : goal.opens-requires
-opens-requires c = record {
+pub preview-requires : goal.preview-requires
+preview-requires c = record {
   allowed = (λ i. ask_refused (c.in-Ok.ensures.shown i) (c.in-Ok.ensures.ok.0 i)) ∙ c.in-Ok.ensures.allowed;
   fresh = c.in-Ok.ensures.ok.1.1;
 }
@@ -18,7 +18,7 @@ returns-in-Ok c = record {
   ok = (
     ap Ask c.in-Ok.ensures.ok.0,
     record {
-      reply_is = c.opens.ensures ∙ sym c.reply-reply.ensures;
+      reply_is = c.preview.ensures ∙ sym c.reply-reply.ensures;
       accepted = subst IsAccepted (sym c.reply-reply.ensures) tt;
       room = c.in-Ok.ensures.ok.1;
     },

@@ -12,7 +12,7 @@ returns-in-Err c =
 
 pub returns : goal.returns
 returns c =
-    let s = c.admit.new.self.state in
+    let s = c.reserve_event.new.self.state in
     let e = c.args.event in
     let lawful = subst (λ (m : State). refusal_of m.limit m.accepted e ≡ None) (sym c.in_default.ensures.shown) c.in_default.ensures.ok.1 in
     record {
@@ -20,7 +20,7 @@ returns c =
       ok = (
         refl,
         record {
-          reply_is = placed_offer s e lawful ∙ sym (ap Placed (c.new.ensures ∙ c.length.ensures));
+          reply_is = placed_offer s e lawful ∙ sym (ap Placed (c.new.ensures ∙ c.accepted.ensures));
           accepted = tt;
           room = c.in_default.ensures.ok.0;
         },

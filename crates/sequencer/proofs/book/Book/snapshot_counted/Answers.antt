@@ -1,8 +1,8 @@
 use Rattle.std.proofs.Common.{◌≡◌, ◌≤◌, length, take, inl, inr, refl, sym, ap, subst, ◌∙◌, arith}
 use Rattle.trace_model.specs.Theory.Trace.{Trace}
 use Rattle.trace_model.specs.Theory.Dependencies.{dependencies}
-use Rattle.sequencer.specs.Asked.{question_of}
-use Rattle.sequencer.specs.Book.{Kept}
+use Rattle.sequencer.specs.QuestionState.{question_of}
+use Rattle.sequencer.specs.Book.{BookView}
 use Rattle.sequencer.proofs.book.Book.snapshot_counted.Goals as goal
 
 pub returns-in_default : goal.returns-in_default
@@ -11,7 +11,7 @@ returns-in_default g c = record { ok = tt; refused = inl (refl, sym c.in_default
 pub snapshot-requires : goal.snapshot-requires
 snapshot-requires g c =
     let s = c.self.inside.recorder.events in
-    let shown : s ≡ c.args.self.now.state.accepted = ap (λ (k : Kept). k.state.accepted) c.self.view_is in
+    let shown : s ≡ c.args.self.now.state.accepted = ap (λ (k : BookView). k.state.accepted) c.self.view_is in
     let told = c.in-Some.ensures in
     let long = c.length.ensures in
     record {
@@ -21,7 +21,7 @@ snapshot-requires g c =
 
 pub returns-in-Ok : goal.returns-in-Ok
 returns-in-Ok g c =
-    let shown = ap (λ (k : Kept). k.state.accepted) c.self.view_is in
+    let shown = ap (λ (k : BookView). k.state.accepted) c.self.view_is in
     record {
       ok = (question_of c.in-Some.asked.now, sym c.in-Some.ensures.value, c.in-Ok.ensures.events ∙ (λ i. take (c.length.ensures i) (shown i)));
       refused = tt;

@@ -2,7 +2,7 @@ use Rattle.std.proofs.Common.{option_map, sym, ap, ◌∙◌}
 use Rattle.std.proofs.lemmas.List.{length-map}
 use Rattle.trace_model.specs.declared.messages.session.Reply.TheVariants.{Status}
 use Rattle.trace_model.specs.Protocol.Machine.{status_of}
-use Rattle.sequencer.specs.Asked.{rows_in}
+use Rattle.sequencer.specs.QuestionState.{rows_in}
 use Rattle.sequencer.proofs.book.Book.status.Goals as goal
 
 pub returns-in_default : goal.returns-in_default
@@ -13,9 +13,9 @@ returns c = record {
   ok = ap (status_of c.args.self.now.state c.args.question) (sym c.in-Some.ensures.value)
       ∙ (λ i. Status (record {
         question = c.args.question;
-        accepted = sym c.length.ensures i;
-        opened = sym c.opened.ensures i;
-        length = sym c.length-2.ensures i;
+        accepted = sym c.accepted.ensures i;
+        opened = sym c.question_count.ensures i;
+        length = sym c.length.ensures i;
         bound = sym c.bound.ensures i;
         total = (length-map c.in-Some.asked.now.tasks (option_map rows_in) ∙ sym c.total.ensures) i;
         delivered = sym c.delivered.ensures i;

@@ -1,7 +1,7 @@
 use Rattle.std.proofs.Common.{◌≡◌, slice_set, None, sym, ap, subst, ◌∙◌, arith}
 use Rattle.std.proofs.lemmas.Option.{slice_get_within}
 use Rattle.trace_model.specs.Protocol.Machine.{deliver, deliver_refused}
-use Rattle.sequencer.specs.Book.{Kept, IsKept, state_of, findings_rows}
+use Rattle.sequencer.specs.Book.{BookView, IsBook, state_of, findings_rows}
 use Rattle.sequencer.proofs.KeptOn.{few_cycles, is_admitted, own_missing, own_question, kept_told, told_state, told_with}
 use Rattle.sequencer.proofs.book.Book.take.Goals as goal
 
@@ -9,36 +9,36 @@ pub index_mut-asked-requires : goal.index_mut-asked-requires
 index_mut-asked-requires c =
     let b = c.self.inside in
     let f = c.args.finding in
-    let admits = ap (λ (k : Kept). deliver_refused k.state f.question f.bound f.events f.task) c.self.view_is ∙ c.requires in
+    let admits = ap (λ (k : BookView). deliver_refused k.state f.question f.bound f.events f.task) c.self.view_is ∙ c.requires in
     let a = is_admitted b.limit b.recorder.events b.questions.items f admits in
     rw c.question-question.ensures (omega (arith, slice_get_within b.questions.items f.question a.told a.known, b.questions.ok))
 
-pub accept-requires-clause-missing : goal.accept-requires-clause-missing
-accept-requires-clause-missing c =
+pub record-requires-clause-missing : goal.record-requires-clause-missing
+record-requires-clause-missing c =
     let b = c.self.inside in
     let f = c.args.finding in
     let now = c.index_mut-asked.result.now in
-    let admits = ap (λ (k : Kept). deliver_refused k.state f.question f.bound f.events f.task) c.self.view_is ∙ c.requires in
+    let admits = ap (λ (k : BookView). deliver_refused k.state f.question f.bound f.events f.task) c.self.view_is ∙ c.requires in
     let known = own_question b.limit b.recorder.events b.questions.items f now c.question-question.result admits c.index_mut-asked.ensures.value c.question-question.ensures in
     rw c.task-task.ensures (own_missing b.limit b.recorder.events b.questions.items f now admits known)
 
-pub accept-requires-clause-few : goal.accept-requires-clause-few
-accept-requires-clause-few c =
+pub record-requires-clause-few : goal.record-requires-clause-few
+record-requires-clause-few c =
     let b = c.self.inside in
     let f = c.args.finding in
     let now = c.index_mut-asked.result.now in
-    let admits = ap (λ (k : Kept). deliver_refused k.state f.question f.bound f.events f.task) c.self.view_is ∙ c.requires in
+    let admits = ap (λ (k : BookView). deliver_refused k.state f.question f.bound f.events f.task) c.self.view_is ∙ c.requires in
     let known = own_question b.limit b.recorder.events b.questions.items f now c.question-question.result admits c.index_mut-asked.ensures.value c.question-question.ensures in
     rw c.into_rows.ensures.rows (few_cycles b.recorder.limit b.limit b.recorder.events b.questions.items f now c.self.invariant known c.into_rows.ensures.exact)
 
--- what the book then has of it
+-- the finding in the book afterwards
 written : (c : goal.After-self-1) →
-    slice_set c.self.inside.questions.items c.question-question.result c.accept.new.self
+    slice_set c.self.inside.questions.items c.question-question.result c.record.new.self
     ≡ slice_set c.self.inside.questions.items c.args.finding.question (told_with c.index_mut-asked.result.now c.args.finding.task c.args.finding.rows)
 written c =
     let now = c.index_mut-asked.result.now in
-    let is : c.accept.new.self ≡ told_with now c.args.finding.task c.args.finding.rows =
-    c.accept.ensures ∙ (λ i. told_with now (c.task-task.ensures i) (c.into_rows.ensures.rows i)) in
+    let is : c.record.new.self ≡ told_with now c.args.finding.task c.args.finding.rows =
+    c.record.ensures ∙ (λ i. told_with now (c.task-task.ensures i) (c.into_rows.ensures.rows i)) in
     λ i. slice_set c.self.inside.questions.items (c.question-question.ensures i) (is i)
 
 pub invariant_of-self : goal.invariant_of-self
@@ -46,9 +46,9 @@ invariant_of-self c =
     let b = c.self.inside in
     let f = c.args.finding in
     let now = c.index_mut-asked.result.now in
-    let admits = ap (λ (k : Kept). deliver_refused k.state f.question f.bound f.events f.task) c.self.view_is ∙ c.requires in
+    let admits = ap (λ (k : BookView). deliver_refused k.state f.question f.bound f.events f.task) c.self.view_is ∙ c.requires in
     let known = own_question b.limit b.recorder.events b.questions.items f now c.question-question.result admits c.index_mut-asked.ensures.value c.question-question.ensures in
-    subst (IsKept b.recorder.limit b.limit b.recorder.events) (sym (written c))
+    subst (IsBook b.recorder.limit b.limit b.recorder.events) (sym (written c))
     (kept_told b.recorder.limit b.limit b.recorder.events b.questions.items f now admits known c.into_rows.ensures.exact c.self.invariant)
 
 pub returns-clause-machine : goal.returns-clause-machine
@@ -56,9 +56,9 @@ returns-clause-machine c =
     let b = c.self.inside in
     let f = c.args.finding in
     let now = c.index_mut-asked.result.now in
-    let admits = ap (λ (k : Kept). deliver_refused k.state f.question f.bound f.events f.task) c.self.view_is ∙ c.requires in
+    let admits = ap (λ (k : BookView). deliver_refused k.state f.question f.bound f.events f.task) c.self.view_is ∙ c.requires in
     let known = own_question b.limit b.recorder.events b.questions.items f now c.question-question.result admits c.index_mut-asked.ensures.value c.question-question.ensures in
-    ap (λ (k : Kept). deliver k.state f.question f.bound f.events f.task (findings_rows f)) (sym c.self.view_is)
+    ap (λ (k : BookView). deliver k.state f.question f.bound f.events f.task (findings_rows f)) (sym c.self.view_is)
     ∙ (told_state b.limit b.recorder.events b.questions.items f now admits known
     ∙ ap (λ questions. (None, state_of b.limit b.recorder.events questions)) (sym (written c)))
 

@@ -1,25 +1,25 @@
 use Rattle.std.proofs.Common.{◌≡◌, sym, subst, ◌∙◌}
 use Rattle.std.specs.Arc.{arc_value}
 use Rattle.trace_model.specs.Theory.Closure.{IsClosure}
-use Rattle.fronts.specs.Slots.{slots_of, AreStands}
+use Rattle.fronts.specs.Slots.{slots_of, ArePositions}
 use Rattle.sp_closure.specs.Closers.{upper_front}
 use Rattle.sp_closure.proofs.SizeLemmas.{AreGathered, all_gathered}
 use Rattle.sp_closure.proofs.closer.Closer.answer.Goals as goal
 use Rattle.sp_closure.proofs.closer.Closer.answer.Goals.{In_ok-fronts}
 
--- the answered fronts hold the closure
-gathered : (c : In_ok-fronts) → AreGathered c.args.index.now.events c.args.self.now.demands.threads (upper_front c.args.self.now) c.in_ok-fronts.fronts
+-- The returned fronts are the closure.
+gathered : (c : In_ok-fronts) → AreGathered c.args.index.now.events c.args.self.now.requirements.threads (upper_front c.args.self.now) c.in_ok-fronts.fronts
 gathered c =
     let s = c.args.index.now.events in
     let self = c.args.self.now in
     let is = c.requires.closer in
     let fronts = c.in_ok-fronts.fronts in
-    let stands = c.in_ok-stands.stands in
-    let clone = c.in_ok-stands.ensures.cases in
-    let first : (arc_value fronts.stands).items ≡ (arc_value stands).items = λ i. (arc_value (c.in_ok-fronts.ensures.stands i)).items in
-    let second : (arc_value stands).items ≡ (arc_value self.stands).items = λ i. (clone i).items in
-    let are = subst (AreStands s (slots_of self.demands.threads)) (sym (first ∙ second)) is.stands in
-    all_gathered s c.args.places.now self.demands.threads (upper_front self) fronts c.len-len.ensures.well_formed is.demands.slots are
+    let positions = c.in_ok-positions.positions in
+    let clone = c.in_ok-positions.ensures.cases in
+    let first : (arc_value fronts.positions).items ≡ (arc_value positions).items = λ i. (arc_value (c.in_ok-fronts.ensures.positions i)).items in
+    let second : (arc_value positions).items ≡ (arc_value self.positions).items = λ i. (clone i).items in
+    let are = subst (ArePositions s (slots_of self.requirements.threads)) (sym (first ∙ second)) is.positions in
+    all_gathered s c.args.places.now self.requirements.threads (upper_front self) fronts c.len-len.ensures.well_formed is.requirements.slots are
     c.in_ok-fronts.ensures.fronts c.in_ok-fronts.ensures.end c.requires.closure
 
 pub returns : goal.returns

@@ -4,6 +4,6 @@ use Rattle.sp_closure.proofs.closer.Closer.fill_all.Given as goal
 
 abbrev pub invariant-loop-at : goal.invariant-loop-at
 invariant-loop-at g l = record {
-  filling : IsFilling l.fn.index.events l.self l.tracks.items;
-  slots : l.self.demands ≡ l.fn.self.demands;
+  filling : IsFilling l.fn.index.events l.self l.timelines.items;
+  slots : l.self.requirements ≡ l.fn.self.requirements;
 }

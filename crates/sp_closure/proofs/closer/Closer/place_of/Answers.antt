@@ -22,14 +22,14 @@ pub returns-clause-closer : goal.returns-clause-closer
 returns-clause-closer c =
     let s = c.args.index.now.events in
     let old = c.requires.closer in
-    let d = c.args.self.now.demands in
+    let d = c.args.self.now.requirements in
     let k = d.threads.count in
     let l = d.locks.count in
     let none = c.args.self.now.none in
-    let empty = c.in_ok-work.ensures.layer in
+    let empty = c.in_ok-propagation.ensures.overlay in
     record {
-      demands = old.demands;
-      stands = old.stands;
+      requirements = old.requirements;
+      positions = old.positions;
       none = old.none;
       fits = old.fits;
       base = old.base;
@@ -38,7 +38,7 @@ returns-clause-closer c =
         | inr e ↦ subst (IsKept s d none) (sym e) (record {
           fits = record {
             room = record { fronts = empty.fronts.size; done = empty.done.size; last = empty.last.size };
-            fronts = λ a n less. absurd (omega (arith, less, front_none k l k l none c.in_ok-work.work.layer old.none empty a));
+            fronts = λ a n less. absurd (omega (arith, less, front_none k l k l none c.in_ok-propagation.propagation.overlay old.none empty a));
           };
           base = λ to q. absurd (none-some to q);
         })

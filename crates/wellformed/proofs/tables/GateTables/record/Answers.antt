@@ -11,13 +11,13 @@ use Rattle.trace_model.proofs.Theory.OneMore.{lawful_op}
 use Rattle.wellformed.proofs.TableSteps.{acquire_room, tables-push}
 use Rattle.wellformed.proofs.tables.GateTables.record.Goals as goal
 
-pub note_thread-requires-clause-few : goal.note_thread-requires-clause-few
-note_thread-requires-clause-few c =
+pub record_thread-requires-clause-few : goal.record_thread-requires-clause-few
+record_thread-requires-clause-few c =
     let (s, f, lawful) = c.requires.lawful in
     omega (arith, held_shallow s f.well_formed c.args.event.now.thread (length s), f.shown.held_is c.args.event.now.thread)
 
-pub note_lock-requires-clause-room : goal.note_lock-requires-clause-room
-note_lock-requires-clause-room c lock acquires =
+pub record_lock-requires-clause-room : goal.record_lock-requires-clause-room
+record_lock-requires-clause-room c lock acquires =
     let (s, f, lawful) = c.requires.lawful in
     let e = c.args.event.now in
     let passed = subst (λ o. op_refusal_of s e.thread o ≡ None) acquires (lawful_op _ s e lawful) in
@@ -29,5 +29,5 @@ pub returns : goal.returns
 returns c s f lawful = record {
   counted = omega (arith, f.counted, length-push s c.args.event.now);
   well_formed = well_formed_push s c.args.event.now f.well_formed lawful;
-  shown = tables-push s c.args.event.now _ _ _ _ _ _ f.well_formed f.shown (lawful_op _ s c.args.event.now lawful) (λ t. c.note_thread.ensures t ∙ ap (λ d. thread_after d c.args.event.now t (thread_in c.args.self.now.threads t)) (c.depth_of.ensures ∙ ap owned c.owner_of_op-was.ensures)) c.note_lock.ensures c.forks_after-self.ensures;
+  shown = tables-push s c.args.event.now _ _ _ _ _ _ f.well_formed f.shown (lawful_op _ s c.args.event.now lawful) (λ t. c.record_thread.ensures t ∙ ap (λ d. thread_after d c.args.event.now t (thread_in c.args.self.now.threads t)) (c.depth_of.ensures ∙ ap owned c.owner_of_op-was.ensures)) c.record_lock.ensures c.forks_after-self.ensures;
 }

@@ -1,0 +1,138 @@
+//! Exit statuses, and why a command ends early.
+ghost use Rattle.std.specs.Prelude.{◌≡◌, MatchResult, OnOk};
+ghost use Rattle.std.specs.Io.KnownBytes.{Appends};
+ghost use Rattle.commands.specs.declared.exit.Status.TheVariants.{Error};
+
+use event_files::FileRefused;
+use std::io::{self, Write};
+use trace_model::NoMemory;
+
+/// How a command ended.
+#[derive(Clone, Copy, Debug, PartialEq, Eq)]
+pub enum Status {
+    /// The command ran to its end.
+    Done,
+    /// The checked file is wrong, or there is no report. Standard output says why.
+    Refused,
+    /// Input, output or an allocation failed.
+    Error,
+    /// The command line or a line of a file is not understood.
+    NotUnderstood,
+}
+
+impl Status {
+    ghost use Rattle.std.specs.Prelude.{◌≡◌};
+    ghost use Rattle.commands.specs.Exit.{code_of};
+
+    /// Returns the exit status of the program.
+    pub fn code(self) -> u8
+        ensures { result ≡ code_of self }
+    {
+        match self {
+            Status::Done => 0,
+            Status::Refused => 1,
+            Status::Error => 1,
+            Status::NotUnderstood => 2,
+        }
+    }
+}
+
+/// Why a command ended early.
+#[derive(Drop)]
+pub enum CommandError {
+    /// The first line that is not understood, counted from 1.
+    Line(usize),
+    /// An allocation failed.
+    Memory,
+    /// A write to standard output failed.
+    Output,
+}
+
+impl From<NoMemory> for CommandError {
+    ghost use Rattle.std.specs.Prelude.{◌≡◌};
+    ghost use Rattle.commands.specs.declared.exit.CommandError.TheVariants.{Memory};
+
+    ghost from_gives = { λ _ error. error ≡ Memory };
+
+    fn from(_error: NoMemory) -> CommandError {
+        CommandError::Memory
+    }
+}
+
+impl From<FileRefused> for CommandError {
+    ghost use Rattle.std.specs.Prelude.{◌≡◌};
+    ghost use Rattle.commands.specs.Exit.{file_error};
+
+    ghost from_gives = { λ refused error. error ≡ file_error refused };
+
+    fn from(refused: FileRefused) -> CommandError {
+        match refused {
+            FileRefused::Line(number) => CommandError::Line(number),
+            FileRefused::NoMemory => CommandError::Memory,
+        }
+    }
+}
+
+impl From<io::Error> for CommandError {
+    ghost use Rattle.std.specs.Prelude.{◌≡◌};
+    ghost use Rattle.commands.specs.declared.exit.CommandError.TheVariants.{Output};
+
+    ghost from_gives = { λ _ error. error ≡ Output };
+
+    fn from(_error: io::Error) -> CommandError {
+        CommandError::Output
+    }
+}
+
+impl CommandError {
+    ghost use Rattle.std.specs.Prelude.{◌≡◌};
+    ghost use Rattle.commands.specs.Exit.{status_of};
+
+    /// Writes the error message about the file `name` to `err`, and returns the exit status. A
+    /// failed write to `err` is ignored.
+    pub fn report<E: Write>(&self, name: &str, err: &mut E) -> Status
+        ensures { result ≡ status_of self.now }
+    {
+        match self {
+            CommandError::Line(line) => {
+                let _ = writeln!(err, "{name} line {line} not understood");
+                Status::NotUnderstood
+            }
+            CommandError::Memory => {
+                let _ = writeln!(err, "no memory");
+                Status::Error
+            }
+            CommandError::Output => Status::Error,
+        }
+    }
+}
+
+/// Writes the whole text to `out` and flushes it.
+///
+/// # Errors
+///
+/// `Output` if the writer fails. A prefix of the text is then written.
+pub(crate) fn write_text<O: Write>(out: &mut O, text: &[u8]) -> Result<(), CommandError>
+    ensures { OnOk result (Appends (O.contents out.old) (O.contents out.new) text.now) }
+{
+    out.write_all(text)?;
+    out.flush()?;
+    Ok(())
+}
+
+/// Returns the status that the program ends with: the command's own, or `Error` after an I/O error.
+/// If an allocation failed, standard error gets `no memory`.
+pub fn final_status(rt: &HostRuntime, ran: io::Result<Status>) -> Status
+    ensures { MatchResult ran (λ status. result ≡ status) (λ _. result ≡ Error) }
+{
+    match ran {
+        Ok(status) => status,
+        Err(error) => {
+            if error.kind() == io::ErrorKind::OutOfMemory {
+                // There is no other place to report a failed write to standard error.
+                let _ = eprintln!(rt; "no memory");
+            }
+            Status::Error
+        }
+    }
+}

@@ -1,0 +1,32 @@
+//! The words of the command line, and files by name.
+use std::{env, fs, io};
+
+/// Returns the words of the command line. The first one names the program.
+///
+/// # Errors
+///
+/// If an allocation fails, or the system does not return the words.
+pub fn arguments(rt: &HostRuntime) -> io::Result<Vec<String>> {
+    let mut arguments = Vec::new(rt.alloc());
+    for argument in env::args(rt)? {
+        arguments.push(argument)?;
+    }
+    Ok(arguments)
+}
+
+/// Returns the bytes of the file, or `None` if it cannot be read. Standard error then gets
+/// `cannot read FILE`.
+///
+/// # Errors
+///
+/// If an allocation or a write to standard error fails.
+pub fn read_file(rt: &HostRuntime, file: &str) -> io::Result<Option<Vec<u8>>> {
+    match fs::read(rt, file) {
+        Ok(bytes) => Ok(Some(bytes)),
+        Err(error) if error.kind() == io::ErrorKind::OutOfMemory => Err(error),
+        Err(_) => {
+            eprintln!(rt; "cannot read {file}")?;
+            Ok(None)
+        }
+    }
+}

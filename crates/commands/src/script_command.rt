@@ -1,0 +1,228 @@
+//! The command `script`: runs a script over one book.
+
+pub(crate) mod printing;
+pub(crate) mod reading;
+
+ghost use Rattle.std.specs.Prelude.{◌≡◌, false, IfOk};
+ghost use Rattle.sequencer.specs.Book.{AreKnown, IsLimit};
+
+use crate::exit::{CommandError, Status};
+use crate::files::read_file;
+use crate::text::push_last;
+use event_frames::{FrameReader, answer_frame, ask_frame, batch_frame, offer_frame, status_frame};
+use findings::{ComputeRefused, Job};
+use printing::push_reply;
+use reading::{Command, read_script};
+use sequencer::Book;
+use std::alloc::Global;
+use std::hash::RandomState;
+use std::io::{self, BufWriter, Write};
+use trace_model::{MAX_EVENTS, Refusal, Reply};
+
+/// The session of a script, and its book.
+#[derive(Drop)]
+struct ScriptSession {
+    alloc: Global,
+    reader: FrameReader,
+    book: Book,
+    text: Vec<u8>,
+    ghost open: { reader.ended ≡ false },
+}
+
+impl ScriptSession {
+    /// Runs one command and writes its output.
+    fn run<O: Write>(&mut self, command: &Command, out: &mut O) -> Result<(), CommandError> {
+        match command {
+            Command::Offer(event) => self.request(&offer_frame(event), out),
+            Command::Batch(batch) => {
+                let frame = batch_frame(self.alloc, batch.events())?;
+                self.request(&frame, out)
+            }
+            Command::Ask(bound) => self.request(&ask_frame(*bound), out),
+            Command::Work(question) => {
+                let worked = self.work(*question);
+                self.write_number(b"worked ", worked, out)
+            }
+            Command::Deliver { question, task } => {
+                let delivered = self.deliver(*question, *task);
+                self.write_number(b"delivered ", delivered, out)
+            }
+            Command::Answer(question) => self.request(&answer_frame(*question), out),
+            Command::Status(question) => self.request(&status_frame(*question), out),
+        }
+    }
+
+    /// Runs the commands in order.
+    fn run_all<O: Write>(&mut self, commands: &[Command], out: &mut O) -> Result<(), CommandError> {
+        for command in commands {
+            self.run(command, out)?;
+        }
+        Ok(())
+    }
+
+    /// Sends a request frame through the reader to the book, and writes the reply.
+    fn request<O: Write>(&mut self, frame: &[u8], out: &mut O) -> Result<(), CommandError> {
+        self.reader.feed(frame)?;
+        while let Ok(Some(request)) = self.reader.next() {
+            let reply = self.book.call(&request);
+            let written = self.write(&reply, out);
+            drop(reply);
+            written?;
+        }
+        Ok(())
+    }
+
+    /// Writes the lines of a reply.
+    fn write<O: Write>(&mut self, reply: &Reply, out: &mut O) -> Result<(), CommandError>
+        ensures { self.new.reader ≡ self.old.reader }
+    {
+        self.text.clear();
+        push_reply(&mut self.text, reply)?;
+        out.write_all(&self.text)?;
+        Ok(())
+    }
+
+    /// Writes the label with the number, or the refusal.
+    fn write_number<O: Write>(
+        &mut self,
+        words: &[u8],
+        told: Result<u32, Refusal>,
+        out: &mut O,
+    ) -> Result<(), CommandError> {
+        match told {
+            Ok(number) => {
+                self.text.clear();
+                push_last(&mut self.text, words, number as u64)?;
+                out.write_all(&self.text)?;
+                Ok(())
+            }
+            Err(refusal) => self.write(&Reply::Refused(refusal), out),
+        }
+    }
+
+    /// Returns a job that computes tasks of the question.
+    fn job(&self, question: u32) -> Result<Job, Refusal>
+        ensures known { IfOk result (λ job. AreKnown self.now.book.state job.question job.events) }
+    {
+        let Ok(status) = self.book.status(question) else {
+            return Err(Refusal::NoSuchQuestion);
+        };
+        let snapshot = self.book.snapshot(question)?;
+        Ok(Job::new(self.alloc, snapshot, question, status.bound))
+    }
+
+    /// Computes a task of the job's question and delivers it to the book.
+    fn deliver_task(&mut self, job: &mut Job, task: u32) -> Result<(), Refusal>
+        requires known { AreKnown self.old.book.state job.old.question job.old.events }
+        ensures known { AreKnown self.new.book.state job.new.question job.new.events }
+    {
+        match job.compute(task) {
+            Ok(finding) => match self.book.deliver_known(finding) {
+                Ok(()) => Ok(()),
+                Err((refusal, finding)) => {
+                    drop(finding);
+                    Err(refusal)
+                }
+            },
+            Err(ComputeRefused::TooManyCycles) => Err(Refusal::TooManyCycles),
+            Err(ComputeRefused::NoMemory) => Err(Refusal::NoMemory),
+        }
+    }
+
+    /// Computes a task of the question and delivers it. Returns the task.
+    fn deliver(&mut self, question: u32, task: u32) -> Result<u32, Refusal> {
+        let mut job = self.job(question)?;
+        let delivered = self.deliver_task(&mut job, task);
+        drop(job);
+        delivered?;
+        Ok(task)
+    }
+
+    /// Computes and delivers the missing tasks of the job's question in ascending order. Returns
+    /// their number.
+    fn deliver_missing(&mut self, job: &mut Job, question: u32) -> Result<u32, Refusal>
+        requires known { AreKnown self.old.book.state job.old.question job.old.events }
+    {
+        for worked in 0..MAX_EVENTS as u32 {
+            let Ok(Some(task)) = self.book.missing(question) else {
+                return Ok(worked);
+            };
+            self.deliver_task(job, task)?;
+        }
+        Ok(MAX_EVENTS as u32)
+    }
+
+    /// Computes and delivers the missing tasks of the question in ascending order. Returns their
+    /// number.
+    fn work(&mut self, question: u32) -> Result<u32, Refusal> {
+        let mut job = self.job(question)?;
+        let worked = self.deliver_missing(&mut job, question);
+        drop(job);
+        worked
+    }
+}
+
+/// Parses the whole script, and then runs it.
+fn run_commands<O: Write>(
+    alloc: Global,
+    state: RandomState,
+    file: &[u8],
+    limit: u32,
+    out: &mut O,
+) -> Result<(), CommandError>
+    requires { IsLimit limit }
+{
+    let commands = read_script(alloc, file)?;
+    let Ok(book) = Book::new(alloc, state, limit) else {
+        unreachable!()
+    };
+    let mut session = ScriptSession {
+        alloc,
+        reader: FrameReader::new(alloc),
+        book,
+        text: Vec::new(alloc),
+    };
+    let ran = session.run_all(&commands, out);
+    drop(session);
+    ran
+}
+
+/// Runs the script in `file` over a book that accepts at most `limit` events (1 to `MAX_EVENTS`).
+/// The whole script is parsed before it runs. Its output goes to `out`; an error message about the
+/// file `name` goes to `err`.
+pub fn run_script<O: Write, E: Write>(
+    alloc: Global,
+    state: RandomState,
+    name: &str,
+    file: &[u8],
+    limit: u32,
+    out: &mut O,
+    err: &mut E,
+) -> Status
+    requires { IsLimit limit }
+{
+    let ran = run_commands(alloc, state, file, limit, out);
+    let written = out.flush().map_err(|_| CommandError::Output);
+    match ran.and(written) {
+        Ok(()) => Status::Done,
+        Err(error) => error.report(name, err),
+    }
+}
+
+/// Runs `script` over the file with this name, with a book that accepts at most `limit` events (1 to
+/// `MAX_EVENTS`). The status is `Error` if the file cannot be read.
+///
+/// # Errors
+///
+/// If an allocation or a standard stream fails before the script begins.
+pub fn script_file(rt: &HostRuntime, file: &str, limit: u32) -> io::Result<Status>
+    requires { IsLimit limit }
+{
+    let Some(bytes) = read_file(rt, file)? else {
+        return Ok(Status::Error);
+    };
+    let state = RandomState::new(rt)?;
+    let mut out = BufWriter::new(rt.alloc(), rt.stdout())?;
+    let mut err = rt.stderr();
+    Ok(run_script(rt.alloc(), state, file, &bytes, limit, &mut out, &mut err))
+}

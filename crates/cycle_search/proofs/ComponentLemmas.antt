@@ -1,0 +1,94 @@
+-- If components do not decrease along edges, all members of a cycle have the same one.
+use Rattle.std.proofs.Common.{◌≡◌, ℕ, zero, suc, ◌<◌, ◌≤◌, List, [], ◌∷◌, ◌++◌, length, map, take, option_map, slice_get, get_or, Some, refl, sym, ap, ◌∙◌, subst, inl, inr, arith}
+use Rattle.std.proofs.lemmas.Option.{none-some, slice_get_within, same_Some, slice_get-map, slice_get-get_or, get_or_from_slice_get}
+use Rattle.std.proofs.lemmas.List.{length-append, length-map}
+use Rattle.std.proofs.lemmas.Bool.{cases_eq}
+use Rattle.std.specs.List.{Contains, All}
+use Rattle.trace_model.specs.Theory.Dependencies.{Dependency}
+use Rattle.trace_model.specs.Theory.Cycles.{Member, next, IsCycle}
+use Rattle.trace_model.proofs.Theory.Unique.{has_contained, contains_had}
+use Rattle.cycle_search.specs.Search.{CycleThrough, AreAll}
+use Rattle.lock_graph.specs.Graph.{IsGraphOf}
+use Rattle.cycle_search.specs.declared.components.Components.{Components}
+use Rattle.cycle_search.specs.Components.{AreComponents, IsTopological}
+use Rattle.cycle_search.specs.Acquirers.{acquirers_of, AreAcquirers}
+use Rattle.cycle_search.proofs.Listing.{all-none, get-left}
+use Rattle.cycle_search.proofs.Paths.{all-had, found, next-inside, next-last, at-end}
+
+module _ (ds : List Dependency) (bound : ℕ) (numbers : List ℕ) (c : IsCycle ds bound numbers) (components : Components) (are : AreComponents ds components) where
+  at : (i : ℕ) → i < length numbers → (d : Dependency) × Member ds numbers i d
+  at i l =
+      let x = slice_get-get_or numbers i 0 l in
+      let d = found ds (get_or numbers i 0) (c.known (get_or numbers i 0) (contains_had numbers (get_or numbers i 0) (i, x))) in
+      (d.0, (get_or numbers i 0, x, d.1))
+
+  step : (i j : ℕ) → next numbers i ≡ j → i < length numbers → j < length numbers →
+      get_or components.numbers.items (get_or numbers i 0) 0 ≤ get_or components.numbers.items (get_or numbers j 0) 0
+  unfolding at
+  step i j e k l =
+      let a = at i k in
+      let b = at j l in
+      are.ascend (get_or numbers i 0) (get_or numbers j 0) a.0 b.0 a.1.2 b.1.2
+      (c.linked i a.0 b.0 a.1 (subst (λ n. Member ds numbers n b.0) (sym e) b.1))
+
+  is_topological : (i j : ℕ) → i ≤ j → j < length numbers → get_or components.numbers.items (get_or numbers i 0) 0 ≤ get_or components.numbers.items (get_or numbers j 0) 0
+  is_topological i zero l inside = let e = ap (λ n. get_or components.numbers.items (get_or numbers n 0) 0) (let same : i ≡ 0 = omega arith in same) in omega (arith, e)
+  is_topological i (suc j) l inside = elim (cases_eq i (suc j)) [
+    | inl same ↦ let e = ap (λ n. get_or components.numbers.items (get_or numbers n 0) 0) same in omega (arith, e)
+    | inr differ ↦ omega (arith, is_topological i j (omega (arith, differ, l)) (omega arith), step j (suc j) (next-inside numbers j inside) (omega arith) inside)
+  ]
+
+  pub components-equal : (j : ℕ) → j < length numbers → get_or components.numbers.items (get_or numbers 0 0) 0 ≡ get_or components.numbers.items (get_or numbers j 0) 0
+  components-equal j inside = go (length numbers) refl
+    where
+      go : (n : ℕ) → length numbers ≡ n → get_or components.numbers.items (get_or numbers 0 0) 0 ≡ get_or components.numbers.items (get_or numbers j 0) 0
+      go zero e = absurd (omega (arith, e, inside))
+      go (suc n) e = omega (
+        arith,
+        is_topological 0 j (omega arith) inside,
+        is_topological j n (omega (arith, inside, e)) (omega (arith, e)),
+        step n 0 (next-last numbers n (sym e)) (omega (arith, e)) (omega (arith, e)),
+      )
+
+-- No cycle continues with a number of another component than that of the first member.
+pub other-component : (ds : List Dependency) (bound : ℕ) (path : List ℕ) (m : ℕ) (components : Components) → AreComponents ds components → 0 < length path →
+    (get_or components.numbers.items (get_or path 0 0) 0 ≡ get_or components.numbers.items m 0 → ⊥) → AreAll (CycleThrough ds bound path m) []
+other-component ds bound path m components are begun differ = all-none (CycleThrough ds bound path m) (λ n h.
+    let rest = h.1.0 in
+    let c : IsCycle ds bound (path ++ m ∷ rest) = subst (λ x. IsCycle ds bound x) h.1.1 h.0 in
+    let head = get_or_from_slice_get (path ++ m ∷ rest) 0 (get_or path 0 0) 0 (get-left path (m ∷ rest) 0 (get_or path 0 0) (slice_get-get_or path 0 0 begun)) in
+    let last = get_or_from_slice_get (path ++ m ∷ rest) (length path) m 0 (at-end path m rest) in
+    let e = components-equal ds bound (path ++ m ∷ rest) c components are (length path) (omega (arith, length-append path (m ∷ rest))) in
+    differ (ap (λ x. get_or components.numbers.items x 0) (sym head) ∙ e ∙ ap (λ x. get_or components.numbers.items x 0) last))
+
+-- The components of the locks that the dependencies acquire.
+pub map-more : {X Y : Type 0} (f : X → Y) (xs : List X) (i : ℕ) (x : X) → slice_get xs i ≡ Some x → map f (take (suc i) xs) ≡ map f (take i xs) ++ f x ∷ []
+map-more f [] i x h = absurd (none-some x h)
+map-more f (y ∷ xs) zero x h = ap (λ z. f z ∷ []) (same_Some y x h)
+map-more f (y ∷ xs) (suc i) x h = ap (λ ys. f y ∷ ys) (map-more f xs i x h)
+
+-- The number of a dependency is that of the lock that it acquires.
+pub of-lock : (ds : List Dependency) (of : ℕ → ℕ) (numbers : List ℕ) → numbers ≡ map (λ d. of d.lock) ds →
+    (m : ℕ) (a : Dependency) → slice_get ds m ≡ Some a → get_or numbers m 0 ≡ of a.lock
+of-lock ds of numbers e m a x = get_or_from_slice_get numbers m (of a.lock) 0
+    (ap (λ (xs : List ℕ). slice_get xs m) e ∙ slice_get-map (λ d. of d.lock) ds m ∙ ap (option_map (λ d. of d.lock)) x)
+
+pub components-ascend : (ds : List Dependency) (component : ℕ → ℕ) (components : Components) → components.numbers.items ≡ map (λ d. component d.lock) ds → IsTopological ds component →
+    AreAcquirers ds (acquirers_of components.acquirers) → AreComponents ds components
+components-ascend ds component components e up acquirers = record {
+  each = ap (λ (xs : List ℕ). length xs) e ∙ length-map ds (λ d. component d.lock);
+  ascend = λ m n a b x y c. omega (arith, of-lock ds component components.numbers.items e m a x, of-lock ds component components.numbers.items e n b y, up n a.lock b y c);
+  acquirers = acquirers;
+}
+
+-- A number that the graph lists for a lock is that of a dependency.
+pub listed-known : (ds : List Dependency) (graph : ℕ → List ℕ) → IsGraphOf ds graph → (lock n : ℕ) (listed : List ℕ) → listed ≡ graph lock → Contains listed n → n < length ds
+listed-known ds graph g lock n listed e h =
+    let held = (g.exact lock n).0 (subst (λ (xs : List ℕ). Contains xs n) e h) in
+    slice_get_within ds n held.0 held.1
+
+-- A property of all locks of a held set holds for each lock that the dependency holds.
+pub each-held : (P : ℕ → Type 0) (locks : List ℕ) (d e : Dependency) (lock : ℕ) → locks ≡ d.held → d ≡ e → All P locks → Contains e.held lock → P lock
+each-held P locks d e lock same is all holds =
+    let k = has_contained locks lock (subst (λ xs. Contains xs lock) (sym (same ∙ ap (λ (x : Dependency). x.held) is)) holds) in
+    all-had P locks all k.0 lock k.1

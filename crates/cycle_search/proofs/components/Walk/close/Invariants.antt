@@ -1,9 +1,0 @@
-use Rattle.std.proofs.Common.{length}
-use Rattle.cycle_search.specs.Walk.{Stays}
-use Rattle.cycle_search.proofs.components.Walk.close.Given as goal
-
-abbrev pub decreases-loop-lock : goal.decreases-loop-lock
-decreases-loop-lock l = length l.self.stack.items
-
-abbrev pub invariant-loop-lock : goal.invariant-loop-lock
-invariant-loop-lock l = Stays l.fn.self l.self

@@ -1,0 +1,422 @@
+//! What each place of a trace requires, in tables that are built once for the trace.
+
+ghost use Rattle.std.specs.Prelude.{◌≡◌, ℕ, ◌+◌, ◌<◌, ◌^◌, length, ◌++◌, slice_get, Some, IfSome, OnOk, IfOk};
+ghost use Rattle.std.specs.Arc.{arc_value};
+ghost use Rattle.trace_index.specs.Numbers.{number_at};
+ghost use Rattle.fronts.specs.Slots.{class_of, slots_of, ArePositions, AreThreadSlots, HasPosition};
+ghost use Rattle.fronts.specs.Requirements.{AreLockSlots, IsPrefixThrough, EndsSection};
+ghost use Rattle.fronts.specs.Pushing.{Slotted, reaching, adding, with_slots, IsStart, IsFirstNeed, IsLastNeed, IsBegin, AddsRequirements, AreAllBuilt};
+ghost use Rattle.fronts.specs.Classes.{AreClasses, next_class};
+ghost use Rattle.fronts.specs.Firsts.{first_of_thread, first_of_lock, first_of, AreSlotsOf};
+
+use crate::classes::{Classes, class_at, next_count};
+use segments::MaybeIndex;
+use std::alloc::Global;
+use std::sync::Arc;
+use trace_index::TraceIndex;
+use trace_model::{Event, NoMemory, Op, Place};
+
+/// The first places of a thread.
+#[derive(Clone, Copy)]
+pub struct ThreadPrefix {
+    /// The slot of the thread.
+    pub slot: u32,
+    /// The number of places.
+    pub count: u32,
+}
+
+/// A critical section: its outermost acquire, and the prefix that ends with its release. The prefix
+/// is empty if the section has no release.
+#[derive(Clone, Copy)]
+pub(crate) struct Section {
+    pub(crate) place: Place,
+    pub(crate) end: ThreadPrefix,
+}
+
+/// What a place requires.
+#[derive(Clone, Copy)]
+pub(crate) enum Requirement {
+    /// The prefix is included.
+    Reach(ThreadPrefix),
+    /// A section on this lock begins: of all sections on the lock that have begun, all except the
+    /// last one have ended.
+    Begin(u32, Section),
+}
+
+/// A requirement of the place with this number in its thread.
+#[derive(Clone, Copy)]
+pub(crate) struct Item {
+    pub(crate) number: u32,
+    pub(crate) requirement: Requirement,
+}
+
+/// The requirements of the places of each thread, in the order of the places. Threads and locks
+/// have dense numbers, their slots.
+#[derive(Drop)]
+pub struct Requirements {
+    /// The slots of the threads.
+    pub threads: Classes,
+    pub(crate) locks: Classes,
+    /// For each place the prefix of its thread that is before it. Shared with the fronts.
+    pub positions: Arc<Vec<ThreadPrefix>, Global>,
+    pub(crate) items: Vec<Vec<Item>>,
+}
+
+/// What the places of one class share: their thread, or the lock on which they begin a section.
+#[derive(Clone, Copy)]
+pub(crate) enum Shared {
+    Thread,
+    Lock,
+}
+
+/// Returns the event at `place`, or `None` past the end of the trace.
+fn event_at(index: &TraceIndex, place: usize) -> Option<Event>
+    requires { place < length index.now.events }
+    ensures { result ≡ slice_get index.now.events place }
+{
+    let _len = index.len(); // for the proof
+    index.event(Place::new(place as u32))
+}
+
+/// Returns the thread slot of the next place: that of the place before it in its thread, or a new
+/// one.
+fn thread_slot(index: &TraceIndex, of: &[MaybeIndex], place: usize, count: u32) -> MaybeIndex
+    requires within { place < length index.now.events }
+    requires classes { AreClasses (first_of_thread index.now.events) (class_of of.now) count place }
+    requires few { count < 4294967295 }
+    ensures { result ≡ next_class (class_of of.now)
+        (first_of_thread index.now.events place) place count }
+{
+    let _len = index.len(); // for the proof
+    match index.thread_before(Place::new(place as u32)) {
+        Some(before) => class_at(of, before),
+        None => MaybeIndex::at(count),
+    }
+}
+
+/// Returns the lock slot of the next place: that of the outermost acquire of the lock before it, or
+/// a new one. `none` if the place does not begin a section.
+fn lock_slot(index: &TraceIndex, of: &[MaybeIndex], place: usize, count: u32) -> MaybeIndex
+    requires within { place < length index.now.events }
+    requires classes { AreClasses (first_of_lock index.now.events) (class_of of.now) count place }
+    requires few { count < 4294967295 }
+    ensures { result ≡ next_class (class_of of.now)
+        (first_of_lock index.now.events place) place count }
+{
+    let _len = index.len(); // for the proof
+    let here = Place::new(place as u32);
+    let Some(_lock) = index.begun(here) else {
+        return MaybeIndex::none();
+    };
+    match index.acquire_before(here) {
+        Some(before) => class_at(of, before),
+        None => MaybeIndex::at(count),
+    }
+}
+
+/// Returns the slot of the next place, of its thread or of its lock.
+#[inline(always)]
+fn slot_by(
+    index: &TraceIndex,
+    of: &[MaybeIndex],
+    place: usize,
+    count: u32,
+    shared: Shared,
+) -> MaybeIndex
+    requires within { place < length index.now.events }
+    requires classes { AreClasses (first_of index.now.events shared) (class_of of.now) count place }
+    requires few { count < 4294967295 }
+    ensures { result ≡ next_class (class_of of.now)
+        (first_of index.now.events shared place) place count }
+{
+    match shared {
+        Shared::Thread => thread_slot(index, of, place, count),
+        Shared::Lock => lock_slot(index, of, place, count),
+    }
+}
+
+/// Returns the slots of the threads, or of the locks.
+///
+/// # Errors
+/// `NoMemory` if an allocation fails.
+fn classes_by(alloc: Global, index: &TraceIndex, shared: Shared) -> Result<Classes, NoMemory>
+    ensures { IfOk result (AreSlotsOf index.now.events shared) }
+{
+    let _len = index.len(); // for the proof
+    let mut of: Vec<MaybeIndex> = Vec::with_capacity(alloc, index.len())?;
+    let mut count = 0;
+    for place in 0..index.len() {
+        let slot = slot_by(index, of.as_slice(), place, count, shared);
+        of.push_reserved(slot);
+        count = next_count(slot, count);
+    }
+    Ok(Classes { of, count })
+}
+
+/// Returns the prefix of its thread that is before `place`.
+///
+/// The caller passes the thread slots of the index's trace, and a place of the trace.
+pub fn prefix_before(index: &TraceIndex, threads: &Classes, place: Place) -> ThreadPrefix
+    requires slots { AreThreadSlots index.now.events threads.now }
+    requires in_trace { place < length index.now.events }
+    ensures { HasPosition index.now.events (slots_of threads.now) place result.slot result.count }
+{
+    ThreadPrefix {
+        slot: threads.get(place).unwrap(),
+        count: index.number(place).unwrap(),
+    }
+}
+
+/// Returns the prefix of its thread that ends with `place`.
+#[inline(always)]
+pub(crate) fn prefix_through(index: &TraceIndex, threads: &Classes, place: Place) -> ThreadPrefix
+    requires slots { AreThreadSlots index.now.events threads.now }
+    requires in_trace { place < length index.now.events }
+    ensures { IsPrefixThrough index.now.events (slots_of threads.now) result place }
+{
+    let _len = index.len(); // for the proof
+    let before = prefix_before(index, threads, place);
+    ThreadPrefix {
+        slot: before.slot,
+        count: before.count + 1,
+    }
+}
+
+/// Appends the requirement that `place` is included, if there is a place.
+#[inline(always)]
+fn push_reach(
+    index: &TraceIndex,
+    threads: &Classes,
+    items: &mut Vec<Item>,
+    number: u32,
+    place: Option<Place>,
+) -> Result<(), NoMemory>
+    requires slots { AreThreadSlots index.now.events threads.now }
+    requires in_trace { IfSome place (λ p. p < length index.now.events) }
+    ensures { OnOk result (items.new.items ≡ items.old.items ++
+        reaching index.now.events (slots_of threads.now) number place) }
+{
+    if let Some(place) = place {
+        let prefix = prefix_through(index, threads, place);
+        items.push(Item {
+            number,
+            requirement: Requirement::Reach(prefix),
+        })?;
+    }
+    Ok(())
+}
+
+/// Returns the section that begins at `place`.
+fn section_at(index: &TraceIndex, threads: &Classes, place: Place) -> Section
+    requires slots { AreThreadSlots index.now.events threads.now }
+    ensures place { result.place ≡ place }
+    ensures end { EndsSection index.now.events (slots_of threads.now) result }
+{
+    let end = match index.release_of(place) {
+        Some(release) => prefix_through(index, threads, release),
+        None => ThreadPrefix { slot: 0, count: 0 },
+    };
+    Section { place, end }
+}
+
+/// Returns the fork of the place's thread if `place` is the first of its thread. `event` is the
+/// event at `place`, and `number` its number in its thread.
+fn start_of(index: &TraceIndex, place: Place, event: Event, number: u32) -> Option<Place>
+    requires event { slice_get index.now.events place ≡ Some event }
+    requires number { number_at index.now.events place ≡ Some number }
+    ensures { IsStart index.now.events place result }
+{
+    if number == 0 {
+        index.fork_of(event.thread)
+    } else {
+        None
+    }
+}
+
+/// Returns the writer of a read, or the fork of a joined thread. `event` is the event at `place`.
+#[inline(always)]
+fn first_need(index: &TraceIndex, place: Place, event: Event) -> Option<Place>
+    requires { slice_get index.now.events place ≡ Some event }
+    ensures { IsFirstNeed index.now.events place result }
+{
+    match event.op {
+        Op::Join(child) => index.fork_of(child),
+        _ => index.writer(place),
+    }
+}
+
+/// Returns the last place of a joined thread. `event` is the event at `place`.
+fn last_need(index: &TraceIndex, place: Place, event: Event) -> Option<Place>
+    requires { slice_get index.now.events place ≡ Some event }
+    ensures { IsLastNeed index.now.events place result }
+{
+    match event.op {
+        Op::Join(child) => crate::threads::last_place(index, child),
+        _ => None,
+    }
+}
+
+/// Returns the requirement of the section that begins at `place`, if one does.
+#[inline(always)]
+fn begin_of(
+    index: &TraceIndex,
+    threads: &Classes,
+    locks: &Classes,
+    place: Place,
+) -> Option<Requirement>
+    requires slots { AreThreadSlots index.now.events threads.now }
+    requires locks { AreLockSlots index.now.events locks.now }
+    requires in_trace { place < length index.now.events }
+    ensures { IsBegin (with_slots index.now.events threads.now locks.now) place result }
+{
+    match index.begun(place) {
+        Some(_) => {
+            let section = section_at(index, threads, place);
+            let lock = locks.get(place).unwrap();
+            Some(Requirement::Begin(lock, section))
+        }
+        None => None,
+    }
+}
+
+/// Appends the requirement, if there is one.
+fn push_requirement(
+    items: &mut Vec<Item>,
+    number: u32,
+    requirement: Option<Requirement>,
+) -> Result<(), NoMemory>
+    ensures { OnOk result (items.new.items ≡ items.old.items ++ adding number requirement) }
+{
+    if let Some(requirement) = requirement {
+        items.push(Item {
+            number,
+            requirement,
+        })?;
+    }
+    Ok(())
+}
+
+/// Appends all requirements of `place`.
+///
+/// # Errors
+/// `NoMemory` if an allocation fails; some may have been appended.
+fn push_requirements(
+    index: &TraceIndex,
+    threads: &Classes,
+    locks: &Classes,
+    items: &mut Vec<Item>,
+    place: Place,
+) -> Result<(), NoMemory>
+    requires slots { AreThreadSlots index.now.events threads.now }
+    requires locks { AreLockSlots index.now.events locks.now }
+    requires in_trace { place < length index.now.events }
+    ensures { OnOk result (AddsRequirements (with_slots index.now.events threads.now locks.now)
+        place items.old.items items.new.items) }
+{
+    let event = index.event(place).unwrap();
+    let number = index.number(place).unwrap();
+    let start = start_of(index, place, event, number);
+    let first = first_need(index, place, event);
+    let last = last_need(index, place, event);
+    let begin = begin_of(index, threads, locks, place);
+    push_reach(index, threads, items, number, start)?;
+    push_reach(index, threads, items, number, first)?;
+    push_reach(index, threads, items, number, last)?;
+    push_requirement(items, number, begin)
+}
+
+/// Returns the item at index `j`.
+fn listed(items: &[Item], j: usize) -> Option<Item>
+    ensures item { result ≡ slice_get items.now j }
+    ensures few { IfSome result (λ i. j + 1 < 2 ^ 64) }
+{
+    items.get(j).copied()
+}
+
+/// Returns an empty list of items for each of `count` threads.
+///
+/// # Errors
+/// `NoMemory` if an allocation fails.
+fn no_items(alloc: Global, count: u32) -> Result<Vec<Vec<Item>>, NoMemory>
+    ensures length { IfOk result (λ lists. length lists.items ≡ count) }
+    ensures built { IfOk result (λ lists. (v : Slotted) → AreAllBuilt v 0 lists.items) }
+{
+    let mut lists = Vec::with_capacity(alloc, count as usize)?;
+    for _slot in 0..count {
+        lists.push_reserved(Vec::new(alloc));
+    }
+    Ok(lists)
+}
+
+/// Appends the requirements of all places to the lists of their threads, and returns for each place
+/// the prefix before it.
+///
+/// # Errors
+/// `NoMemory` if an allocation fails.
+fn fill(
+    alloc: Global,
+    index: &TraceIndex,
+    threads: &Classes,
+    locks: &Classes,
+    lists: &mut Vec<Vec<Item>>,
+) -> Result<Arc<Vec<ThreadPrefix>, Global>, NoMemory>
+    requires slots { AreThreadSlots index.now.events threads.now }
+    requires locks { AreLockSlots index.now.events locks.now }
+    requires length { length lists.old.items ≡ threads.now.count }
+    requires built { AreAllBuilt (with_slots index.now.events threads.now locks.now)
+        0 lists.old.items }
+    ensures positions { IfOk result (λ positions.
+        ArePositions index.now.events (slots_of threads.now) (arc_value positions).items) }
+    ensures length { length lists.new.items ≡ threads.now.count }
+    ensures built { OnOk result (AreAllBuilt (with_slots index.now.events threads.now locks.now)
+        (length index.now.events) lists.new.items) }
+{
+    let mut positions = Vec::with_capacity(alloc, index.len())?;
+    for place in 0..index.len() {
+        let place = Place::new(place as u32);
+        let position = prefix_before(index, threads, place);
+        push_requirements(
+            index,
+            threads,
+            locks,
+            &mut lists[position.slot as usize],
+            place,
+        )?;
+        positions.push_reserved(position);
+    }
+    Ok(Arc::new(alloc, positions)?)
+}
+
+impl Requirements {
+    ghost use Rattle.fronts.specs.Requirements.{item_at, AreRequirements};
+
+    /// Returns the requirement at index `j` of the thread with this slot.
+    pub(crate) fn item(&self, slot: u32, j: usize) -> Option<Item>
+        ensures item { result ≡ item_at self.now slot j }
+        ensures few { IfSome result (λ i. j + 1 < 2 ^ 64) }
+    {
+        match self.items.get(slot as usize) {
+            Some(items) => listed(items.as_slice(), j),
+            None => None,
+        }
+    }
+
+    /// Builds the tables for the trace of `index`.
+    ///
+    /// # Errors
+    /// `NoMemory` if an allocation fails.
+    pub fn build(alloc: Global, index: &TraceIndex) -> Result<Requirements, NoMemory>
+        ensures { IfOk result (AreRequirements index.now.events) }
+    {
+        let threads = classes_by(alloc, index, Shared::Thread)?;
+        let locks = classes_by(alloc, index, Shared::Lock)?;
+        let mut items = no_items(alloc, threads.count)?;
+        let positions = fill(alloc, index, &threads, &locks, &mut items)?;
+        Ok(Requirements {
+            threads,
+            locks,
+            positions,
+            items,
+        })
+    }
+}

@@ -1,0 +1,9 @@
+use Rattle.std.proofs.Common.{◌≡◌, ◌+◌, ◌-◌, ◌++◌, subst, arith}
+use Rattle.std.specs.Result.{OnOk}
+use Rattle.reports.specs.Text.{run_text}
+use Rattle.reports.proofs.buffer.TextBuffer.put_each.Goals as goal
+
+pub returns : goal.returns
+returns c =
+    let all : c.args.first + c.args.count - c.args.first ≡ c.args.count = omega arith in
+    subst (λ n. OnOk c.append_run.result (c.append_run.new.text.items ≡ c.args.self.now.text.items ++ run_text c.args.first n)) all c.append_run.ensures

@@ -1,0 +1,128 @@
+//! Runs each test of a desk at a new desk.
+
+ghost use Rattle.std.specs.Prelude.{◌≡◌};
+
+use crate::allocation_failures::completes_despite_failure;
+use crate::client_session_tests::serves_sessions;
+use crate::concurrent_offer_tests::{Offers, accepts_concurrent_offers};
+use crate::delivery_tests::{Way, delivers_concurrently, delivers_in_turn};
+use crate::desk_tests::{places_or_refuses_each, reports_repetitions};
+use crate::test_desk::{TestDesk, new_desk};
+use crate::worker_order_tests::three_workers_deliver;
+use crate::worker_tests::{reports_abandoned_tasks, two_workers_deliver};
+use board::{HistoryId, NewHistory};
+use fixtures::LIMIT;
+use std::alloc::Global;
+use std::hash::RandomState;
+use std::marker::Brand;
+use std::process::Abort;
+use std::random::RandomSource;
+use std::sync::Wait;
+use std::test::*;
+use std::thread::Threads;
+
+/// What a test does at its desk.
+#[derive(Clone, Copy)]
+pub(crate) enum Script {
+    Refusals,
+    Repetitions,
+    EightThreads(Offers),
+    ListsInTurn(Way),
+    ListsConcurrently(Way),
+    AllocationFailure,
+    TwoWorkers,
+    AbandonedTasks,
+    ThreeWorkers,
+    Sessions,
+}
+
+impl Script {
+    /// Returns the number of board readers that the script needs.
+    fn readers(self) -> usize {
+        match self {
+            Script::AllocationFailure | Script::AbandonedTasks => 2,
+            Script::Sessions => 3,
+            Script::TwoWorkers => 4,
+            Script::ThreeWorkers => 5,
+            _ => 1,
+        }
+    }
+}
+
+/// Runs the script at a new desk.
+///
+/// # Errors
+/// Fails if the script fails, or an allocation for the desk or its workers fails.
+pub(crate) fn run_at_desk<
+    R: RandomSource + AllocGlobal + Threads + Wait + Abort + Copy + Send + Sync,
+>(rt: R, script: Script) -> Result<(), Fail> {
+    try_run_at_desk(rt, script).ok_or("a desk")?
+}
+
+/// Runs the script at a new desk. Returns `None` if an allocation for the desk or its workers
+/// fails.
+pub(crate) fn try_run_at_desk<
+    R: RandomSource + AllocGlobal + Threads + Wait + Abort + Copy + Send + Sync,
+>(rt: R, script: Script) -> Option<Result<(), Fail>> {
+    let state = RandomState::new(&rt).ok()?;
+    run_with_history::<Brand, R>(rt, rt.alloc(), state, NewHistory::new(), LIMIT, script)
+}
+
+/// Runs the script at a new desk over the given history.
+fn run_with_history<
+    N: HistoryId + Send + Sync,
+    R: RandomSource + AllocGlobal + Threads + Wait + Abort + Copy + Send + Sync,
+>(
+    rt: R,
+    alloc: Global,
+    state: RandomState,
+    history: NewHistory,
+    limit: u32,
+    script: Script,
+) -> Option<Result<(), Fail>>
+    requires book { history.seen.book ≡ N.book }
+    requires limit { limit ≡ N.limit }
+{
+    let (desk, readers) = new_desk::<N, R>(rt, alloc, state, history, limit, script.readers())?;
+    run_at_made_desk(rt, alloc, desk, readers, script)
+}
+
+/// Runs the script at this desk. Its readers are `readers`.
+fn run_at_made_desk<
+    D: TestDesk,
+    R: RandomSource + AllocGlobal + Threads + Wait + Abort + Copy + Send + Sync,
+>(
+    rt: R,
+    alloc: Global,
+    desk: D,
+    readers: Vec<D::Reader>,
+    script: Script,
+) -> Option<Result<(), Fail>> {
+    let mut others = readers;
+    let mut reader = others.pop()?;
+    run(rt, alloc, &desk, &mut reader, &mut others, script)
+}
+
+fn run<D: TestDesk, R: RandomSource + AllocGlobal + Threads + Wait + Abort + Copy + Send + Sync>(
+    rt: R,
+    alloc: Global,
+    desk: &D,
+    reader: &mut D::Reader,
+    others: &mut Vec<D::Reader>,
+    script: Script,
+) -> Option<Result<(), Fail>> {
+    Some(match script {
+        Script::Refusals => places_or_refuses_each(&rt, desk, reader),
+        Script::Repetitions => reports_repetitions(&rt, alloc, desk, reader),
+        Script::EightThreads(how) => accepts_concurrent_offers(&rt, alloc, desk, reader, how),
+        Script::ListsInTurn(way) => delivers_in_turn(&rt, desk, reader, way),
+        Script::ListsConcurrently(way) => delivers_concurrently(&rt, alloc, desk, reader, way),
+        Script::AllocationFailure => Ok(completes_despite_failure(
+            &rt, alloc, desk, reader, others,
+        )?),
+        Script::TwoWorkers => two_workers_deliver(&rt, alloc, desk, reader, others),
+        Script::AbandonedTasks => reports_abandoned_tasks(&rt, alloc, desk, reader, others),
+        Script::ThreeWorkers => three_workers_deliver(rt, alloc, desk, reader, others),
+        Script::Sessions => serves_sessions(&rt, alloc, desk, others),
+    })
+}

@@ -1,0 +1,246 @@
+//! Tests of the server over sockets.
+
+use crate::closed_client_tests::one_closes_early;
+use crate::workers::TasksMeet;
+use findings::{Hold, NoHold};
+use fixtures::{
+    ANSWER, LIMIT, Meeting, OPENED, REPORT, REPORT_HEAD, SETTLED, STATUS, placed, question_frames,
+};
+use question_server::{Service, run_server};
+use std::alloc::Global;
+use std::hash::RandomState;
+use std::io::{self, Read, Write};
+use std::net::{Net, SocketAddr, TcpListener, TcpStream};
+use std::process::Abort;
+use std::sync::Wait;
+use std::test::*;
+use std::thread;
+use std::thread::Threads;
+use std::time::Clock;
+
+/// Serves `sessions` sessions with two workers. Returns the number of served sessions.
+fn serve_sessions<R: Threads + Wait + Clock + Copy + Send + Sync, H: Hold + Sync>(
+    rt: R,
+    alloc: Global,
+    state: RandomState,
+    listener: &TcpListener,
+    sessions: u32,
+    hold: &H,
+) -> Option<u64> {
+    let service = Service {
+        workers: 2,
+        sessions,
+        limit: LIMIT,
+    };
+    run_server(rt, alloc, state, listener, service, hold).ok()
+}
+
+/// Reads the body of the next reply.
+fn reply(alloc: Global, mut stream: &TcpStream) -> io::Result<Vec<u8>> {
+    let mut head = [0u8; 4];
+    stream.read_exact(&mut head)?;
+    let mut body = vec![in alloc; 0u8; u32::from_be_bytes(head) as usize]?;
+    stream.read_exact(&mut body)?;
+    Ok(body)
+}
+
+/// Sends the request. Returns the body of the reply.
+pub(crate) fn reply_to(
+    alloc: Global,
+    mut stream: &TcpStream,
+    request: &[u8],
+) -> io::Result<Vec<u8>> {
+    stream.write_all(request)?;
+    reply(alloc, stream)
+}
+
+/// Sends the trace of opposite orders and a question. Returns whether each reply is right.
+fn send_opposite_orders(alloc: Global, mut stream: &TcpStream) -> io::Result<bool> {
+    stream.write_all(&question_frames(alloc)?)?;
+    let mut right = true;
+    for place in 0..10u8 {
+        right &= reply(alloc, stream)?.as_slice() == &placed(place)[4..];
+    }
+    right &= reply(alloc, stream)?.as_slice() == &OPENED[4..];
+    Ok(right)
+}
+
+/// Requests the answer of question 0 until it is not pending. Returns the body of that reply.
+fn poll_answer(alloc: Global, stream: &TcpStream) -> io::Result<Vec<u8>> {
+    for _ in 0..100_000u32 {
+        let body = reply_to(alloc, stream, &ANSWER)?;
+        if body.first().copied() != Some(68) {
+            return Ok(body);
+        }
+        thread::yield_now();
+    }
+    Err(io::Error::from(io::ErrorKind::TimedOut))
+}
+
+/// Runs a whole session. Returns whether each reply is right.
+fn whole_session<R: Net<Stream = TcpStream>>(
+    rt: &R,
+    alloc: Global,
+    address: SocketAddr,
+) -> io::Result<bool> {
+    let stream = TcpStream::connect(rt, address)?;
+    let mut right = send_opposite_orders(alloc, &stream)?;
+    let report = poll_answer(alloc, &stream)?;
+    right &= report.as_slice().strip_prefix(&REPORT_HEAD[4..]) == Some(REPORT);
+    right &= reply_to(alloc, &stream, &STATUS)?.as_slice() == &SETTLED[4..];
+    Ok(right)
+}
+
+/// The clients that connect to a server.
+#[derive(Clone, Copy)]
+pub(crate) enum Peers {
+    WholeSession,
+    Seventeen,
+    OneClosesEarly,
+}
+
+impl Peers {
+    /// Returns the number of sessions that the clients use.
+    fn sessions(self) -> u32 {
+        match self {
+            Peers::WholeSession => 1,
+            Peers::Seventeen => 17,
+            Peers::OneClosesEarly => 2,
+        }
+    }
+
+    /// Runs the clients. Returns whether each reply is right.
+    fn hold<R: Net<Stream = TcpStream>>(
+        self,
+        rt: &R,
+        alloc: Global,
+        address: SocketAddr,
+    ) -> io::Result<bool> {
+        match self {
+            Peers::WholeSession => whole_session(rt, alloc, address),
+            Peers::Seventeen => seventeen_connections_in_turn(rt, alloc, address),
+            Peers::OneClosesEarly => one_closes_early(rt, alloc, address),
+        }
+    }
+}
+
+/// Runs a server and these clients. Asserts that each reply is right, and that the server serves
+/// exactly the sessions of the clients.
+pub(crate) fn serves<
+    R: Threads
+        + Wait
+        + Clock
+        + Net<Listener = TcpListener, Stream = TcpStream>
+        + Abort
+        + Copy
+        + Send
+        + Sync,
+    H: Hold + Sync,
+>(rt: R, alloc: Global, state: RandomState, hold: &H, peers: Peers) -> Result<(), Fail> {
+    let listener = TcpListener::bind(&rt, "127.0.0.1:0")?;
+    let address = listener.local_addr()?;
+    let shared = &listener;
+    let sessions = peers.sessions();
+    thread::scope(thread::scope_env(), &rt, |scope| {
+        let server = scope.spawn(move || serve_sessions(rt, alloc, state, shared, sessions, hold));
+        let right = peers.hold(&rt, alloc, address);
+        assert!(rt; matches!(right, Ok(true)));
+        match server {
+            Ok(server) => assert!(rt; server.join(&rt) == Some(u64::from(sessions))),
+            Err(_) => assert!(rt; false),
+        }
+    });
+    Ok(())
+}
+
+#[test]
+fn client_over_a_socket(rt: HostRuntime) -> Result<(), Fail> {
+    serves(
+        rt,
+        rt.alloc(),
+        RandomState::new(&rt)?,
+        &NoHold,
+        Peers::WholeSession,
+    )
+}
+
+#[test]
+fn two_workers_compute_concurrently(rt: HostRuntime) -> Result<(), Fail> {
+    let hold = TasksMeet {
+        meeting: Meeting::new(),
+    };
+    serves(
+        rt,
+        rt.alloc(),
+        RandomState::new(&rt)?,
+        &hold,
+        Peers::WholeSession,
+    )?;
+    let (first, second) = hold.meeting.came();
+    assert!(rt; first > 0 && second > 0);
+    assert!(rt; !hold.meeting.gave_up());
+    Ok(())
+}
+
+/// Returns a new connection after its first request was answered.
+fn answered<R: Net<Stream = TcpStream>>(
+    rt: &R,
+    alloc: Global,
+    address: SocketAddr,
+) -> io::Result<TcpStream> {
+    let stream = TcpStream::connect(rt, address)?;
+    reply_to(alloc, &stream, &STATUS)?;
+    Ok(stream)
+}
+
+/// Returns whether the server closes a new connection without a reply.
+fn is_closed_without_reply<R: Net<Stream = TcpStream>>(
+    rt: &R,
+    address: SocketAddr,
+) -> io::Result<bool> {
+    let further = TcpStream::connect(rt, address)?;
+    let mut buffer = [0u8; 8];
+    Ok((&mut &further).read(&mut buffer)? == 0)
+}
+
+/// Opens sixteen sessions, and returns whether the server closes one more connection. The sessions
+/// end when the function returns.
+fn sixteen_exclude_another<R: Net<Stream = TcpStream>>(
+    rt: &R,
+    alloc: Global,
+    address: SocketAddr,
+) -> io::Result<bool> {
+    let mut open = Vec::new(alloc);
+    for _ in 0..16u32 {
+        open.push(answered(rt, alloc, address)?)?;
+    }
+    is_closed_without_reply(rt, address)
+}
+
+/// Returns whether the server refuses a connection while sixteen sessions are open, and answers
+/// another one after they are closed.
+fn seventeen_connections_in_turn<R: Net<Stream = TcpStream>>(
+    rt: &R,
+    alloc: Global,
+    address: SocketAddr,
+) -> io::Result<bool> {
+    let none = sixteen_exclude_another(rt, alloc, address)?;
+    for _ in 0..100_000u32 {
+        if answered(rt, alloc, address).is_ok() {
+            return Ok(none);
+        }
+        thread::yield_now();
+    }
+    Ok(false)
+}
+
+#[test]
+fn seventeen_connections(rt: HostRuntime) -> Result<(), Fail> {
+    serves(
+        rt,
+        rt.alloc(),
+        RandomState::new(&rt)?,
+        &NoHold,
+        Peers::Seventeen,
+    )
+}

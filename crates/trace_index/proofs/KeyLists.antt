@@ -1,0 +1,114 @@
+-- The linked lists of keys.
+use Rattle.std.proofs.Common.{◌≡◌, ℕ, zero, suc, ◌≤◌, inl, inr, true, false, List, [], ◌∷◌, ◌++◌, length, take, slice_get, Some, refl, sym, ap, subst, ◌∙◌, ◌==◌, arith}
+use Rattle.std.proofs.lemmas.Bool.{cases_lt, eqb-true}
+use Rattle.std.proofs.lemmas.Option.{none-some, same_Some, slice_get_within}
+use Rattle.std.specs.Option.{option_map, option_map_or}
+use Rattle.trace_model.specs.declared.traces.event.Event.{Event}
+use Rattle.trace_model.specs.declared.traces.event.Op.{Op}
+use Rattle.trace_model.specs.declared.traces.event.Op.TheVariants.{Fork, Acquire, Write}
+use Rattle.trace_model.specs.Theory.Trace.{Trace, At, does, op_eq}
+use Rattle.trace_model.proofs.Theory.Places.{op_eq_same, does_from}
+use Rattle.trace_model.proofs.Theory.Lookups.{begins_so}
+use Rattle.trace_model.proofs.Theory.Prefix.{Agree, does-agree, begins_on-agree}
+use Rattle.trace_model.proofs.Lists.{get-take, get-take_past, get-append, get-push_last, length-push}
+use Rattle.segments.specs.declared.links.link.Link.{Link}
+use Rattle.segments.specs.Linking.{IsLink}
+use Rattle.segments.proofs.Linking.{link-agree}
+use Rattle.trace_index.specs.declared.row.Key.{Key}
+use Rattle.trace_index.specs.declared.row.Key.TheVariants.{OfThread, ForkOf, AcquireOf, WriteOf}
+use Rattle.trace_index.specs.declared.row.IndexRow.{IndexRow}
+use Rattle.trace_index.specs.Links.{passes, object_key, IsRow, link_of, trace_of, AreRows}
+
+-- the row of a place with the operation has its link
+object_there : (s : Trace) (o : Op) (p : ℕ) (row : IndexRow) → At s p row.event → IsRow s p row → does s o p ≡ true → IsLink (passes s (object_key o)) p row.object
+object_there s o p row a is h =
+    let same : row.event.op ≡ o = op_eq_same row.event.op o (sym (ap (λ z. option_map_or (λ e. op_eq e.op o) z false) a) ∙ h) in
+    subst (λ x. IsLink (passes s (object_key x)) p row.object) same is.object_is
+
+-- the row of a place of a key has its link
+pub link_there : (s : Trace) (q : Key) (p : ℕ) (row : IndexRow) → At s p row.event → IsRow s p row → passes s q p ≡ true → IsLink (passes s q) p (link_of q row)
+link_there s (OfThread t) p row a is h =
+    let same : row.event.thread ≡ t = eqb-true row.event.thread t (sym (ap (λ o. option_map_or (λ e. e.thread == t) o false) a) ∙ h) in
+    subst (λ u. IsLink (passes s (OfThread u)) p row.thread) same is.thread_is
+link_there s (ForkOf c) p row a is h = object_there s (Fork c) p row a is h
+link_there s (AcquireOf l) p row a is h =
+    let (t, begins) = begins_so s l p h in
+    object_there s (Acquire l) p row a is (does_from s (Acquire l) p (t, begins.0))
+link_there s (WriteOf v) p row a is h = object_there s (Write v) p row a is h
+
+-- ---- rows and their trace
+
+pub get_trace : (rows : List IndexRow) (p : ℕ) (row : IndexRow) → slice_get rows p ≡ Some row → At (trace_of rows) p row.event
+get_trace [] p row h = absurd (none-some row h)
+get_trace (x ∷ rows) zero row h = ap (λ r. Some r.event) (same_Some x row h)
+get_trace (x ∷ rows) (suc p) row h = get_trace rows p row h
+
+pub get_trace_map : (rows : List IndexRow) (p : ℕ) → slice_get (trace_of rows) p ≡ option_map (λ row. row.event) (slice_get rows p)
+get_trace_map [] p = refl
+get_trace_map (x ∷ rows) zero = refl
+get_trace_map (x ∷ rows) (suc p) = get_trace_map rows p
+
+pub length_trace : (rows : List IndexRow) → length (trace_of rows) ≡ length rows
+length_trace [] = refl
+length_trace (x ∷ rows) = ap suc (length_trace rows)
+
+pub trace_push : (rows : List IndexRow) (row : IndexRow) → trace_of (rows ++ row ∷ []) ≡ trace_of rows ++ row.event ∷ []
+trace_push [] row = refl
+trace_push (x ∷ rows) row = ap (λ s. x.event ∷ s) (trace_push rows row)
+
+pub trace_take : (n : ℕ) (rows : List IndexRow) → trace_of (take n rows) ≡ take n (trace_of rows)
+trace_take zero rows = refl
+trace_take (suc n) [] = refl
+trace_take (suc n) (x ∷ rows) = ap (λ s. x.event ∷ s) (trace_take n rows)
+
+-- ---- facts of a place depend only on the events up to it
+
+pub passes-agree : (s r : Trace) (q : Key) (p : ℕ) → Agree (suc p) s r → passes s q p ≡ passes r q p
+passes-agree s r (OfThread t) p h = ap (λ o. option_map_or (λ e. e.thread == t) o false) (h p (omega arith))
+passes-agree s r (ForkOf c) p h = does-agree s r (Fork c) p (h p (omega arith))
+passes-agree s r (AcquireOf l) p h = begins_on-agree s r l p h
+passes-agree s r (WriteOf v) p h = does-agree s r (Write v) p (h p (omega arith))
+
+link_same : (s r : Trace) (q : Key) (p : ℕ) (link : Link) → Agree p s r → IsLink (passes s q) p link → IsLink (passes r q) p link
+link_same s r q p link same is = link-agree (passes s q) (passes r q) p link (λ u l. passes-agree s r q u (λ p m. same p (omega arith))) is
+
+pub row-agree : (s r : Trace) (p : ℕ) (row : IndexRow) → Agree p s r → IsRow s p row → IsRow r p row
+row-agree s r p row same is = record {
+  thread_is = link_same s r (OfThread row.event.thread) p row.thread same is.thread_is;
+  object_is = link_same s r (object_key row.event.op) p row.object same is.object_is;
+}
+
+agree_push : (s : Trace) (e : Event) (p : ℕ) → p ≤ length s → Agree p s (s ++ e ∷ [])
+agree_push s e p h u l = sym (get-append s (e ∷ []) u (omega arith))
+
+pub rows_push : (rows : List IndexRow) (row : IndexRow) → AreRows rows → IsRow (trace_of rows) (length rows) row → AreRows (rows ++ row ∷ [])
+rows_push rows row are next p x h = elim (cases_lt p (length rows)) [
+  | inl l ↦
+      let old : slice_get rows p ≡ Some x = sym (get-append rows (row ∷ []) p l) ∙ h in
+      moved p x (omega (arith, length_trace rows)) (are p x old)
+  | inr l ↦
+      let within = slice_get_within (rows ++ row ∷ []) p x h in
+      let len = length-push rows row in
+      let same : p ≡ length rows = omega arith in
+      let here : row ≡ x = same_Some row x (sym (get-push_last rows row) ∙ ap (slice_get (rows ++ row ∷ [])) (sym same) ∙ h) in
+      moved p x (omega (arith, length_trace rows))
+      (subst (λ n. IsRow (trace_of rows) n x) (sym same) (subst (IsRow (trace_of rows) (length rows)) here next))
+]
+  where
+    moved : (p : ℕ) (x : IndexRow) → p ≤ length (trace_of rows) → IsRow (trace_of rows) p x → IsRow (trace_of (rows ++ row ∷ [])) p x
+    moved p x l is = subst (λ s. IsRow s p x) (sym (trace_push rows row)) (row-agree (trace_of rows) (trace_of rows ++ row.event ∷ []) p x (agree_push (trace_of rows) row.event p l) is)
+
+pub rows_take : (n : ℕ) (rows : List IndexRow) → AreRows rows → AreRows (take n rows)
+rows_take n rows are p x h =
+    let below = get-take_past n rows p x h in
+    let there : slice_get rows p ≡ Some x = sym (get-take n rows p below) ∙ h in
+    subst (λ s. IsRow s p x) (sym (trace_take n rows))
+    (row-agree (trace_of rows) (take n (trace_of rows)) p x (λ u l. sym (get-take n (trace_of rows) u (omega arith))) (are p x there))
+
+pub rows_none : AreRows []
+rows_none p x h = absurd (none-some x h)
+
+pub link_found : (rows : List IndexRow) (q : Key) (p : ℕ) (row : IndexRow) (link : Link) → AreRows rows → Some row ≡ slice_get rows p → passes (trace_of rows) q p ≡ true → link ≡ link_of q row →
+    IsLink (passes (trace_of rows) q) p link
+link_found rows q p row link are found h is =
+    subst (IsLink (passes (trace_of rows) q) p) (sym is) (link_there (trace_of rows) q p row (get_trace rows p row (sym found)) (are p row (sym found)) h)

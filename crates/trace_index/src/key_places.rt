@@ -1,0 +1,55 @@
+//! The places of a key, read by index.
+
+use crate::key_list::KeyList;
+use segments::{count_passing, entry_at};
+use std::marker::Model;
+use trace_model::Place;
+
+/// The places of a key, ascending, read by index. A read follows links back from the last place.
+#[derive(Drop)]
+pub struct KeyPlaces<'a> {
+    pub(crate) list: KeyList<'a>,
+    pub(crate) last: Option<u32>,
+}
+
+impl<'a> Model for KeyPlaces<'a> {
+    ghost use Rattle.std.specs.Prelude.{List, ℕ, length};
+    ghost use Rattle.trace_model.specs.Theory.Closure.{ascending};
+    ghost use Rattle.trace_index.specs.Links.{passes, trace_of};
+    ghost use Rattle.trace_index.specs.Room.{IsKeyPlaces};
+
+    ghost Value = { List ℕ };
+
+    ghost view = { λ v. ascending (passes (trace_of v.list.rows.now.0) v.list.key)
+        (length v.list.rows.now.0) };
+
+    ghost invariant = { λ v. IsKeyPlaces v.list.rows.now.0 v.list.key v.last };
+}
+
+impl<'a> KeyPlaces<'a> {
+    ghost use Rattle.std.specs.Prelude.{◌≡◌, ◌<◌, Some, length, nat_eq, slice_get};
+    ghost use Rattle.std.specs.List.Sorted.{IsStrictlyIncreasing};
+
+    /// Returns the number of places.
+    pub fn len(&self) -> usize
+        ensures length { result ≡ length self.now }
+        ensures ascends { IsStrictlyIncreasing self.now }
+    {
+        count_passing(&self.list, self.last)
+    }
+
+    /// Returns whether there is no place.
+    pub fn is_empty(&self) -> bool
+        ensures { result ≡ nat_eq (length self.now) 0 }
+    {
+        self.len() == 0
+    }
+
+    /// Returns the place at the 0-based `index`, which must be below the length.
+    pub fn get(&self, index: usize) -> Place
+        requires { index < length self.now }
+        ensures { slice_get self.now index ≡ Some result }
+    {
+        Place::new(entry_at(&self.list, self.last, index))
+    }
+}

@@ -1,0 +1,66 @@
+"""Words, colours and small shapes that the drawings share. `text` escapes every text."""
+from html import escape
+
+# Colours that most eyes can distinguish. In grey print the number beside each lock identifies it.
+PALETTE = ["#0072b2", "#e69f00", "#009e73", "#cc79a7", "#56b4e9", "#7b5ea7", "#8c6d31", "#4d4d4d"]
+STUCK, APART, INK, FAINT, OTHER = "#c62828", "#b26a00", "#22303c", "#8a97a3", "#a9b4be"
+VERBS = {"f": "forks thread", "j": "joins thread", "a": "acquires lock", "r": "releases lock", "d": "reads", "w": "writes"}
+
+
+def words_of(event):
+    """Returns the words of an event's box: `acquires lock 10`."""
+    return f"{VERBS[event.letter]} {event.about}"
+
+
+def source_of(event):
+    """Returns the event's source line, `bank.c:35`, or an empty text if the trace has none."""
+    if not event.where:
+        return ""
+    return event.where.split(" in ")[0].rsplit("/", 1)[-1]
+
+
+def shorten(words, most):
+    return words if len(words) <= most else words[: most - 1] + "…"
+
+
+def fitting(words, width, largest=12.0):
+    """Returns a font size at which the words fit the width: a glyph is about three fifths of its size wide."""
+    return max(6.0, min(largest, width / (0.6 * max(1, len(words)))))
+
+
+def text(x, y, words, **attributes):
+    options = {"font_size": 12, "fill": INK, "text_anchor": "middle", **attributes}
+    return f'<text x="{x:.1f}" y="{y:.1f}"{attributes_of(options)}>{escape(str(words))}</text>'
+
+
+def shape(name, within="", **attributes):
+    return f"<{name}{attributes_of(attributes)}>{within}</{name}>"
+
+
+def attributes_of(options):
+    return "".join(f' {name.replace("_", "-")}="{escape(value_of(value))}"' for name, value in options.items())
+
+
+def value_of(value):
+    return f"{value:.1f}" if isinstance(value, float) else str(value)
+
+
+def arrow_heads(name):
+    """Returns arrow heads of each colour. `name` is unique for each drawing of a page."""
+    heads = []
+    for colour in dict.fromkeys([STUCK, APART, FAINT, INK, OTHER, *PALETTE]):
+        point = shape("path", d="M0 0 L8 4 L0 8 Z", fill=colour)
+        heads.append(shape("marker", point, id=f"{name}{colour[1:]}", viewBox="0 0 8 8", refX=7, refY=4, markerWidth=7,
+                           markerHeight=7, orient="auto-start-reverse", markerUnits="userSpaceOnUse"))
+    return shape("defs", "".join(heads))
+
+
+def drawing(name, width, height, parts, title):
+    label = shape("title", escape(title))
+    head = f'<svg xmlns="http://www.w3.org/2000/svg" viewBox="0 0 {width:.0f} {height:.0f}" width="{width:.0f}" role="img">'
+    return head + label + arrow_heads(name) + "".join(parts) + "</svg>"
+
+
+def colours_of(locks):
+    """Returns a colour for each of these locks; every other lock is grey."""
+    return {lock: PALETTE[at % len(PALETTE)] for at, lock in enumerate(dict.fromkeys(locks))}

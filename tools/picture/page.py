@@ -1,0 +1,218 @@
+"""The HTML page: the cycles of each report, each with its ring, its members and a time line; and the trace if it is short."""
+from html import escape
+from math import inf
+
+from apart import kinds_of, look
+from drawing import PALETTE, colours_of, words_of
+from ring import draw_ring
+from timeline import Link, TimeLine, rows_of
+
+SHORT, WHOLE_TRACE, NEAR = 40, 120, 2
+BY = {"fork": "a fork", "join": "a join", "read": "a read", "section": "the order of critical sections"}
+STYLE = """
+:root { color-scheme: light; --ink: #22303c; --faint: #5b6a77; --line: #d5dce2; }
+body { font: 15px/1.5 system-ui, "Segoe UI", "DejaVu Sans", sans-serif; color: var(--ink); background: #f4f6f8; margin: 0; }
+main { max-width: 1080px; margin: 0 auto; padding: 28px 24px 60px; }
+h1 { font-size: 25px; margin: 0 0 2px; } h2 { font-size: 18px; margin: 0; } h3 { font-size: 15px; margin: 22px 0 6px; }
+p { margin: 6px 0; } .faint { color: var(--faint); }
+section { background: #fff; border: 1px solid var(--line); border-radius: 10px; padding: 18px 22px; margin: 20px 0; }
+.head { display: flex; align-items: center; gap: 12px; flex-wrap: wrap; }
+.badge { border-radius: 20px; padding: 1px 12px; font-size: 13px; font-weight: 600; color: #fff; }
+.confirmed { background: #c62828; } .potential { background: #b26a00; }
+.pair { display: flex; flex-wrap: wrap; align-items: center; gap: 10px 30px; } .members { flex: 1 1 380px; }
+table { border-collapse: collapse; width: 100%; }
+td { border-top: 1px solid var(--line); padding: 8px 10px 8px 0; vertical-align: top; }
+tr:first-child td { border-top: 0; } td:first-child { white-space: nowrap; width: 10em; }
+.where { font: 12px ui-monospace, "DejaVu Sans Mono", monospace; color: var(--faint); overflow-wrap: anywhere; }
+.dot { display: inline-block; width: 10px; height: 10px; border-radius: 50%; margin-right: 5px; }
+.scroll { overflow-x: auto; }
+svg { display: block; font-family: system-ui, "Segoe UI", "DejaVu Sans", sans-serif; height: auto; }
+.ring svg { max-width: 100%; } ol { margin: 4px 0 8px; padding-left: 22px; } li { margin: 3px 0; }
+.why { border-left: 4px solid #b26a00; background: #fff8ea; padding: 8px 14px; border-radius: 0 8px 8px 0; margin: 12px 0; }
+@page { margin: 14mm; }
+@media print {
+  body { background: #fff; font-size: 11pt; -webkit-print-color-adjust: exact; print-color-adjust: exact; }
+  main { max-width: none; padding: 0; } section { border: 0; padding: 0; margin: 0 0 22px; }
+  .scroll { overflow: visible; } .scroll svg { max-width: 100%; max-height: 235mm; }
+  .head, h2, h3, section > p { break-after: avoid; } .pair, .why, svg { break-inside: avoid; }
+}
+"""
+
+
+def page(name, index, reports, most):
+    """Returns the page on a trace and its reports, with the first `most` cycles of each report, confirmed ones first."""
+    parts = [part for at, report in enumerate(reports) for part in report_parts(index, report, at, most)]
+    title = f"Deadlocks of {name.rsplit('/', 1)[-1]}"
+    return (f'<!DOCTYPE html>\n<html lang="en"><head><meta charset="utf-8"><title>{escape(title)}</title>'
+            f'<meta name="viewport" content="width=device-width"><style>{STYLE}</style></head><body><main>'
+            f"<h1>{escape(title)}</h1>{''.join(parts)}{whole_trace(index)}</main></body></html>\n")
+
+
+def plural(count, one, many=None):
+    return f"{count:,} {one if count == 1 else many or one + 's'}"
+
+
+def report_parts(index, report, at, most):
+    events = index.events[:report.length]
+    threads = {event.thread for event in events} | {event.about for event in events if event.letter in "fj"}
+    locks = {event.about for event in events if event.letter in "ar"}
+    confirmed = sum(cycle.is_confirmed for cycle in report.cycles)
+    yield (f'<p class="faint">Question {report.question}: {plural(report.length, "event")}, {plural(len(threads), "thread")}, '
+           f'{plural(len(locks), "lock")}; cycles of at most {report.bound} members: {len(report.cycles):,}, '
+           f"confirmed {confirmed:,}.</p>")
+    if not report.cycles:
+        yield ("<section><h2>No cycles</h2><p>Within the bound this run predicts no deadlock of this shape. Threads, locks and branches "
+               "that the run did not use are not in it.</p></section>")
+    shown = sorted(report.cycles, key=lambda cycle: not cycle.is_confirmed)[:most]
+    if len(shown) < len(report.cycles):
+        yield f'<p class="faint">The first {len(shown)} are drawn, confirmed ones first.</p>'
+    for number, cycle in enumerate(shown):
+        yield cycle_section(index, report, cycle, f"r{at}c{number}")
+
+
+def cycle_section(index, report, cycle, name):
+    row = "confirmed" if cycle.is_confirmed else "potential"
+    colours = colours_for(index, cycle.members)
+    numbers = " ".join(map(str, cycle.numbers))
+    head = f'<div class="head"><h2>Cycle {numbers}</h2><span class="badge {row}">{row}</span></div>'
+    below = confirmed_part if cycle.is_confirmed else potential_part
+    told, instance = below(index, report, cycle, colours, name)
+    ring = draw_ring(name + "ring", cycle.members, colours)
+    table = members_table(index, cycle.members, instance, colours, cycle.is_confirmed)
+    pair = f'<div class="pair"><div class="ring">{ring}</div><div class="members">{table}</div></div>'
+    return f"<section>{head}{pair}{told}</section>"
+
+
+def colours_for(index, members):
+    """Returns one colour for each lock of the page if there are enough colours, else for the locks of this drawing."""
+    all_locks = dict.fromkeys(event.about for event in index.events if event.letter == "a")
+    return colours_of(all_locks if len(all_locks) <= len(PALETTE) else [member.lock for member in members])
+
+
+def members_table(index, members, instance, colours, is_confirmed):
+    """Returns a row for each member: where it acquired the held locks, and where it waits."""
+    rows = []
+    for member, place in zip(members, instance):
+        told = [held_line(index, member, lock, place, colours) for lock in member.held]
+        verb = "waits for" if is_confirmed else "wants"
+        told.append(f"{verb} {lock_name(member.lock, colours)} at place {place}{where_of(index.events[place])}")
+        fork = index.fork_of.get(member.thread)
+        begun = where_of(index.events[fork]) if fork is not None else ""
+        name = f"<b>thread {member.thread}</b>" + (f"<br>from{begun}" if begun else "")
+        rows.append(f"<tr><td>{name}</td><td>{'<br>'.join(told)}</td></tr>")
+    return f"<table>{''.join(rows)}</table>"
+
+
+def held_line(index, member, lock, place, colours):
+    since = index.taken_at(member.thread, lock, place)
+    return f"holds {lock_name(lock, colours)} since place {since}{where_of(index.events[since])}"
+
+
+def lock_name(lock, colours):
+    dot = f'<span class="dot" style="background:{colours[lock]}"></span>' if lock in colours else ""
+    return f"{dot}<b>lock {lock}</b>"
+
+
+def where_of(event):
+    """Returns the source line without its folders, which the tooltip shows."""
+    if not event.where:
+        return ""
+    return f' <span class="where" title="{escape(event.where)}">{escape(event.where.rsplit("/", 1)[-1])}</span>'
+
+
+def confirmed_part(index, report, cycle, colours, name):
+    instance = [member.place for member in cycle.members]
+    rows = rows_of(cycle.witness, important_of(index, cycle, instance), inf if len(cycle.witness) <= SHORT else 3)
+    line = TimeLine(name + "line", index, rows, colours, waiting=cycle.members)
+    count = plural(len(cycle.witness), "event")
+    told = (f"<h3>How it happens</h3><p>Run {count} of the trace in this order and nothing else. "
+            "Then each of these threads waits for a lock that the next one holds.</p>")
+    return told + scroll(line.draw(f"The witness of cycle {cycle.numbers}, and its members waiting")), instance
+
+
+def important_of(index, cycle, instance):
+    """Returns the places that a long list shows: the forks that lead to the members, the acquires of their held locks, and the events
+    right before their acquires."""
+    important = set()
+    for member, place in zip(cycle.members, instance):
+        important |= {index.taken_at(member.thread, lock, place) for lock in member.held}
+        mine = index.thread_places[member.thread]
+        important |= set(mine[max(0, index.at[place] - NEAR):index.at[place]])
+        thread = member.thread
+        while thread in index.fork_of:
+            important.add(index.fork_of[thread])
+            thread = index.events[index.fork_of[thread]].thread
+    return important
+
+
+def potential_part(index, report, cycle, colours, name):
+    (instance, chain, passed), kinds, looked, total = look(index, cycle.members, report.length)
+    important = important_of(index, cycle, instance) | set(instance)
+    links, marked = [], set()
+    for step in chain or []:
+        if step.kind != "before":
+            marked |= {step.needed, step.cause}
+            links.append(Link(step.kind, step.needed, step.cause))
+    important |= marked
+    shown = list(range(max(important) + 1))
+    rows = rows_of(shown, important, inf if len(shown) <= SHORT else 3)
+    line = TimeLine(name + "line", index, rows, colours, marked=marked, wanted=instance, links=links)
+    told = reason(index, instance, chain, passed) + tally(kinds, looked, total)
+    told += "<h3>The observed order</h3>"
+    return told + scroll(line.draw(f"The events of cycle {cycle.numbers} in the observed order")), instance
+
+
+def reason(index, instance, chain, passed):
+    """Returns what keeps the members apart, step by step."""
+    if chain is None:
+        return '<div class="why"><b>The picture did not find what keeps these apart.</b></div>'
+    names = [BY[kind] for kind in kinds_of(chain)] or ["one thread's own order"]
+    steps = "".join(f"<li>{sentence(index, step)}</li>" for step in chain)
+    last = f"<li>So thread {index.events[passed].thread} has passed place {passed}, before which it would have to wait.</li>"
+    if "section" in kinds_of(chain):
+        advice = ("Orders that swap two critical sections of one lock are not examined: one of them may still lead to "
+                  "the deadlock.")
+    else:
+        advice = ("If this is by design, the cycle is harmless. If it is by chance, acquire the locks in one order.")
+    return f'<div class="why"><b>Kept apart by {" and ".join(names)}</b><ol>{steps}{last}</ol><p>{advice}</p></div>'
+
+
+def sentence(index, step):
+    cause, needed = index.events[step.cause], index.events[step.needed]
+    if step.kind == "before":
+        return (f"Thread {cause.thread} is before place {step.cause}, where it {words_of(cause)}: all its earlier events "
+                "must have run.")
+    if step.kind == "fork":
+        return f"Thread {cause.thread} runs only after thread {needed.thread} forks it at place {step.needed}."
+    if step.kind == "join":
+        return (f"At place {step.cause} thread {cause.thread} joins thread {cause.about}, so all events of that thread must have run, "
+                f"up to the last one at place {step.needed}.")
+    if step.kind == "read":
+        return (f"At place {step.cause} thread {cause.thread} reads variable {cause.about}, and sees the value that thread "
+                f"{needed.thread} wrote at place {step.needed}.")
+    return (f"At place {step.cause} thread {cause.thread} acquires lock {cause.about}; thread {needed.thread} held it before, so "
+            f"that thread must have released it, at place {step.needed}.")
+
+
+def tally(kinds, looked, total):
+    """Returns for each reason how many instances of the cycle have it."""
+    if total == 1:
+        return ""
+    counts = "; ".join(f"{' and '.join(BY[kind] for kind in of) or 'other'}: {count:,}" for of, count in kinds.most_common())
+    which = f"all {total:,}" if looked == total else f"the first {looked:,} of {total:,}"
+    return ('<p class="faint">The cycle has several instances. What keeps them apart, in '
+            f"{which}: {counts}.</p>")
+
+
+def whole_trace(index):
+    """Returns a drawing of the whole trace if it is short."""
+    events = index.events
+    if not events or len(events) > WHOLE_TRACE:
+        return ""
+    line = TimeLine("trace", index, rows_of(range(len(events)), set(range(len(events)))), colours_for(index, []))
+    return ("<section><h2>The whole trace</h2><p>The events in the order in which the server accepted them. A bar beside a thread "
+            f"is a lock that it holds.</p>{scroll(line.draw('The whole trace'))}</section>")
+
+
+def scroll(drawn):
+    return f'<div class="scroll">{drawn}</div>'
