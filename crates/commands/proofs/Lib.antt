@@ -1,3 +1,4 @@
 pub mod Known
 pub mod RefusalNames
 pub mod Words
+pub mod OfflineEnds

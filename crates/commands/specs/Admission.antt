@@ -4,16 +4,28 @@ use Rattle.trace_model.specs.Theory.Trace.{Trace}
 use Rattle.trace_model.specs.Theory.Lawful.{IsWellFormed}
 use Rattle.wellformed.specs.declared.whole_lists.FirstUnlawful.{FirstUnlawful}
 use Rattle.wellformed.specs.FirstUnlawful.{IsFirstUnlawful}
-use Rattle.event_files.specs.EventFile.{AreEventsOf}
+use Rattle.event_files.specs.EventFile.{AreEventsOf, IsFirstBad, pieces_at}
 use Rattle.commands.specs.Text.{labeled_line, refusal_words}
 use Rattle.commands.specs.declared.admission.Admission.{Admission}
 use Rattle.commands.specs.declared.admission.Admission.TheVariants.{Admitted, Refused}
+use Rattle.commands.specs.declared.exit.CommandError.{CommandError}
+use Rattle.commands.specs.declared.exit.CommandError.TheVariants.{Line, Memory, Output}
 
 -- either the file's events, which form a well-formed trace, or the first of them that is not lawful
 abbrev pub IsAdmissionOf : List ℕ → Admission → Type 0
 IsAdmissionOf file (Admitted events) = AreEventsOf events.items file × IsWellFormed events.items
 IsAdmissionOf file (Refused first) =
     (events : Trace) × AreEventsOf events file × IsFirstUnlawful events first
+
+-- the line with this number, counted from 1, is the file's first that is not understood
+abbrev pub IsFirstBadIn : List ℕ → ℕ → Type 0
+IsFirstBadIn file number = IsFirstBad (pieces_at 10 file) number
+
+-- the error of parsing the file is right
+abbrev pub RefusesFile : List ℕ → CommandError → Type 0
+RefusesFile file (Line number) = IsFirstBadIn file number
+RefusesFile file Memory = Unit {0}
+RefusesFile file Output = ⊥
 
 -- the line that reports the first unlawful event
 abbrev pub refused_at_line : FirstUnlawful → List ℕ

@@ -1,6 +1,6 @@
 //! Event files passed through the gate.
-ghost use Rattle.std.specs.Prelude.{◌≡◌, ◌++◌, IfOk, OnOk};
-ghost use Rattle.commands.specs.Admission.{IsAdmissionOf, refused_at_line};
+ghost use Rattle.std.specs.Prelude.{◌≡◌, ◌++◌, IfErr, IfOk, OnOk};
+ghost use Rattle.commands.specs.Admission.{IsAdmissionOf, RefusesFile, refused_at_line};
 
 use crate::exit::CommandError;
 use crate::text::{push_last, push_refusal};
@@ -25,7 +25,8 @@ pub enum Admission {
 ///
 /// `Line` with the first line that is not understood, or `Memory` if an allocation fails.
 pub fn admit_file(alloc: Global, state: RandomState, file: &[u8]) -> Result<Admission, CommandError>
-    ensures { IfOk result (IsAdmissionOf file.now) }
+    ensures admission { IfOk result (IsAdmissionOf file.now) }
+    ensures refused { IfErr result (RefusesFile file.now) }
 {
     let events = read_events(alloc, file)?;
     match first_unlawful(alloc, state, &events)? {

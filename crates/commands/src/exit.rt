@@ -1,6 +1,7 @@
 //! Exit statuses, and why a command ends early.
-ghost use Rattle.std.specs.Prelude.{◌≡◌, MatchResult, OnOk};
+ghost use Rattle.std.specs.Prelude.{◌≡◌, IfErr, MatchResult, OnOk};
 ghost use Rattle.std.specs.Io.KnownBytes.{Appends};
+ghost use Rattle.commands.specs.Exit.{status_of};
 ghost use Rattle.commands.specs.declared.exit.Status.TheVariants.{Error};
 
 use event_files::FileRefused;
@@ -113,7 +114,8 @@ impl CommandError {
 ///
 /// `Output` if the writer fails. A prefix of the text is then written.
 pub(crate) fn write_text<O: Write>(out: &mut O, text: &[u8]) -> Result<(), CommandError>
-    ensures { OnOk result (Appends (O.contents out.old) (O.contents out.new) text.now) }
+    ensures text { OnOk result (Appends (O.contents out.old) (O.contents out.new) text.now) }
+    ensures failed { IfErr result (λ error. status_of error ≡ Error) }
 {
     out.write_all(text)?;
     out.flush()?;

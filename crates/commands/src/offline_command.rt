@@ -1,7 +1,8 @@
 //! The command `offline`: the report on a file of events.
 ghost use Rattle.std.specs.Prelude.{◌≡◌, ◌++◌, ◌≤◌, IfOk, IfErr, OnOk};
 ghost use Rattle.std.specs.Io.KnownBytes.{Appends};
-ghost use Rattle.commands.specs.declared.exit.Status.TheVariants.{Done, Refused};
+ghost use Rattle.commands.specs.declared.exit.Status.TheVariants.{Done, Error, Refused};
+ghost use Rattle.commands.specs.Exit.{status_of};
 ghost use Rattle.commands.specs.Offline.{OfflineTells, refused_line};
 ghost use Rattle.offline_report.specs.Offline.{IsRefused, IsReport, whole};
 
@@ -52,8 +53,9 @@ fn report_on<R: Threads + Sync, P: Progress + Sync>(
 
 /// Writes the pieces of a report in order.
 fn write_pieces<O: Write>(out: &mut O, pieces: &[Vec<u8>]) -> Result<Status, CommandError>
-    ensures { IfOk result (λ status. (status ≡ Done)
+    ensures written { IfOk result (λ status. (status ≡ Done)
         × Appends (O.contents out.old) (O.contents out.new) (whole pieces.now)) }
+    ensures failed { IfErr result (λ error. status_of error ≡ Error) }
 {
     for piece in pieces {
         out.write_all(piece)?;
@@ -68,8 +70,9 @@ pub(crate) fn write_refused<O: Write>(
     refused: OfflineRefused,
     out: &mut O,
 ) -> Result<Status, CommandError>
-    ensures { IfOk result (λ status. (status ≡ Refused)
+    ensures written { IfOk result (λ status. (status ≡ Refused)
         × Appends (O.contents out.old) (O.contents out.new) (refused_line refused)) }
+    ensures failed { IfErr result (λ error. status_of error ≡ Error) }
 {
     let mut text = Vec::new(alloc);
     push_refused(&mut text, refused)?;
@@ -87,8 +90,10 @@ fn report<R: Threads + Sync, P: Progress + Sync, O: Write>(
     progress: &P,
     out: &mut O,
 ) -> Result<Status, CommandError>
-    ensures { IfOk result (λ status.
+    ensures told { IfOk result (λ status.
         OfflineTells file.now bound status (O.contents out.old) (O.contents out.new)) }
+    ensures refused { IfErr result (λ error.
+        OfflineTells file.now bound (status_of error) (O.contents out.old) (O.contents out.new)) }
 {
     let events = read_events(alloc, file)?;
     match report_on(rt, alloc, state, events, bound, progress) {
@@ -117,10 +122,7 @@ pub fn run_offline<R: Threads + Sync, P: Progress + Sync, O: Write, E: Write>(
     out: &mut O,
     err: &mut E,
 ) -> Status
-    ensures done { result ≡ Done →
-        OfflineTells file.now bound Done (O.contents out.old) (O.contents out.new) }
-    ensures refused { result ≡ Refused →
-        OfflineTells file.now bound Refused (O.contents out.old) (O.contents out.new) }
+    ensures { OfflineTells file.now bound result (O.contents out.old) (O.contents out.new) }
 {
     match report(rt, alloc, state, file, bound, progress, out) {
         Ok(status) => status,

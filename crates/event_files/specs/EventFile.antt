@@ -1,11 +1,14 @@
 -- The text format of events.
-use Rattle.std.specs.Prelude.{◌≡◌, ℕ, Bool, true, false, not, ◌==◌, List, [], ◌∷◌, ◌++◌, decimal, if◌then◌else◌, map}
+use Rattle.std.specs.Prelude.{◌≡◌, ◌+◌, ℕ, Bool, true, false, not, ◌==◌, List, [], ◌∷◌, ◌++◌, Some, decimal, if◌then◌else◌, map, slice_get, take}
 use Rattle.std.specs.Char.{is_ascii_digit}
 use Rattle.std.specs.List.{filter, flat_map, slice_split}
 use Rattle.trace_model.specs.declared.traces.event.Event.{Event}
 use Rattle.trace_model.specs.declared.traces.event.Op.{Op}
 use Rattle.trace_model.specs.declared.traces.event.Op.TheVariants.{Fork, Join, Acquire, Release, Read, Write}
-use Rattle.trace_model.specs.Protocol.Frames.{object_of}
+use Rattle.trace_model.specs.Protocol.Frames.{IsRequest, object_of}
+use Rattle.trace_model.specs.declared.messages.session.Request.TheVariants.{Offer}
+use Rattle.event_files.specs.declared.refused.FileRefused.{FileRefused}
+use Rattle.event_files.specs.declared.refused.FileRefused.TheVariants.{Line, NoMemory}
 
 -- The letter of an operation: f, j, a, r, d or w.
 abbrev pub letter_of : Op → ℕ
@@ -58,3 +61,27 @@ AreEventsIn events lines = map event_word events ≡ flat_map line_words lines
 -- The words of the file are exactly those of the events.
 abbrev pub AreEventsOf : List Event → List ℕ → Type 0
 AreEventsOf events file = map event_word events ≡ file_words file
+
+-- The word denotes an event whose numbers fit in 32 bits.
+abbrev pub IsEventWord : List ℕ → Type 0
+IsEventWord word = (e : Event) × IsRequest (Offer e) × (word ≡ event_word e)
+
+-- One of the words denotes no event.
+abbrev pub HasBadWord : List (List ℕ) → Type 0
+HasBadWord words =
+    (i : ℕ) × (word : List ℕ) × (slice_get words i ≡ Some word) × (IsEventWord word → ⊥)
+
+-- The line with this number, counted from 1, is the first that is not understood.
+pub record IsFirstBad (lines : List (List ℕ)) (number : ℕ) : Type 0 where
+  pub index : ℕ
+  pub counts : number ≡ index + 1
+  pub events : List Event
+  pub before : AreEventsIn events (take index lines)
+  pub line : List ℕ
+  pub at : slice_get lines index ≡ Some line
+  pub bad : HasBadWord (line_words line)
+
+-- The refusal of the lines is right: a line number is that of the first line that is not understood.
+abbrev pub RefusesLines : List (List ℕ) → FileRefused → Type 0
+RefusesLines lines (Line number) = IsFirstBad lines number
+RefusesLines lines NoMemory = Unit {0}

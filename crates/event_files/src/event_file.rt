@@ -1,11 +1,11 @@
 //! Event files: lines of event words.
-ghost use Rattle.std.specs.Prelude.{◌≡◌, ◌<◌, ◌^◌, ◌++◌, ℕ, true, IfOk, IfSome, Ok, Some, decimal, map};
+ghost use Rattle.std.specs.Prelude.{◌≡◌, ◌<◌, ◌^◌, ◌++◌, ℕ, true, false, IfErr, IfOk, IfSome, Ok, Some, decimal, map};
 ghost use Rattle.std.specs.List.{filter, position};
 ghost use Rattle.trace_model.specs.Protocol.Frames.{IsRequest, object_of};
 ghost use Rattle.trace_model.specs.declared.traces.event.Event.{Event};
 ghost use Rattle.trace_model.specs.declared.traces.event.Op.{Op};
 ghost use Rattle.trace_model.specs.declared.messages.session.Request.TheVariants.{Offer};
-ghost use Rattle.event_files.specs.EventFile.{is_no_digit, is_word, letter_of, event_word, pieces_at, is_comment, line_words, AreEventsIn, AreEventsOf};
+ghost use Rattle.event_files.specs.EventFile.{is_no_digit, is_word, letter_of, event_word, pieces_at, is_comment, line_words, AreEventsIn, AreEventsOf, HasBadWord, RefusesLines};
 
 use crate::numbers::number;
 use crate::refused::FileRefused;
@@ -111,9 +111,10 @@ pub fn words_of(alloc: Global, line: &[u8]) -> Result<Vec<&[u8]>, NoMemory>
 ///
 /// `NoMemory` if an allocation fails. Some of the events may have been added.
 pub fn push_events(events: &mut Vec<Event>, words: &[&[u8]]) -> Result<bool, NoMemory>
-    ensures { result ≡ Ok true →
+    ensures added { result ≡ Ok true →
         map event_word events.new.items ≡ map event_word events.old.items ++
         map (λ word. word.now) words.now }
+    ensures bad { result ≡ Ok false → HasBadWord (map (λ word. word.now) words.now) }
 {
     for word in words {
         let Some(event) = event(word) else {
@@ -130,8 +131,9 @@ pub fn push_events(events: &mut Vec<Event>, words: &[&[u8]]) -> Result<bool, NoM
 ///
 /// `NoMemory` if an allocation fails. Some of the events may have been added.
 fn push_line(alloc: Global, events: &mut Vec<Event>, line: &[u8]) -> Result<bool, NoMemory>
-    ensures { result ≡ Ok true →
+    ensures added { result ≡ Ok true →
         map event_word events.new.items ≡ map event_word events.old.items ++ line_words line.now }
+    ensures bad { result ≡ Ok false → HasBadWord (line_words line.now) }
 {
     let words = words_of(alloc, line)?;
     push_events(events, &words)
@@ -144,8 +146,9 @@ fn push_line(alloc: Global, events: &mut Vec<Event>, line: &[u8]) -> Result<bool
 /// - `Line` with the number of the first line that is not understood, counted from 1.
 /// - `NoMemory` if an allocation fails.
 fn events_of(alloc: Global, lines: &[&[u8]]) -> Result<Vec<Event>, FileRefused>
-    ensures { IfOk result (λ events.
+    ensures events { IfOk result (λ events.
         AreEventsIn events.items (map (λ line. line.now) lines.now)) }
+    ensures refused { IfErr result (RefusesLines (map (λ line. line.now) lines.now)) }
 {
     let mut events = Vec::new(alloc);
     let mut number = 0usize;
@@ -165,7 +168,8 @@ fn events_of(alloc: Global, lines: &[&[u8]]) -> Result<Vec<Event>, FileRefused>
 /// - `Line` with the number of the first line that is not understood, counted from 1.
 /// - `NoMemory` if an allocation fails.
 pub fn read_events(alloc: Global, file: &[u8]) -> Result<Vec<Event>, FileRefused>
-    ensures { IfOk result (λ events. AreEventsOf events.items file.now) }
+    ensures events { IfOk result (λ events. AreEventsOf events.items file.now) }
+    ensures refused { IfErr result (RefusesLines (pieces_at 10 file.now)) }
 {
     let lines = lines_of(alloc, file)?;
     events_of(alloc, &lines)
