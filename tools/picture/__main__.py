@@ -1,18 +1,15 @@
 #!/usr/bin/env python3
 """Draws a trace and its report as one HTML file: for each cycle a ring of threads and locks, and under it a time line."""
 import argparse
+import os
 import sys
 
-from index import Index
-from page import page
-from reading import NotUnderstood, read_report, read_trace
+sys.path.insert(0, os.path.dirname(os.path.dirname(os.path.abspath(__file__))))
 
-
-def count(word):
-    number = int(word)
-    if number < 0:
-        raise argparse.ArgumentTypeError("not 0 or more")
-    return number
+from page import drawn_reports, page
+from shared.command import count, print_whole, run, write_whole
+from shared.index import Index
+from shared.reading import read_reports, read_trace
 
 
 def main():
@@ -20,29 +17,17 @@ def main():
     parser.add_argument("trace", help="an event file or a script")
     parser.add_argument("report", help="the report on it, written by goodlockd or an agent")
     parser.add_argument("html", nargs="?", help="the file to write; default: standard output")
-    parser.add_argument("--cycles", type=count, default=20, metavar="N", help="draw the first N cycles, confirmed ones first; 0 or more, default 20")
+    parser.add_argument("--cycles", type=count, default=20, metavar="N",
+                        help="draw all cycles of a report that has at most N, else one cycle of each of its first N groups, confirmed "
+                             "ones first; a group is the cycles at the same code locations; 0 or more, default 20")
     words = parser.parse_args()
-    try:
-        index = Index(read_trace(words.trace))
-        reports = read_report(words.report, index)
-    except NotUnderstood as fault:
-        print(fault, file=sys.stderr)
-        return 2
-    except OSError as fault:
-        print(f"cannot read {fault.filename}", file=sys.stderr)
-        return 1
-    whole = page(words.trace, index, reports, words.cycles)
-    try:
-        if words.html:
-            with open(words.html, "w", encoding="utf-8") as file:
-                file.write(whole)
-        else:
-            sys.stdout.write(whole)
-    except OSError as fault:
-        print(f"cannot write: {fault}", file=sys.stderr)
-        return 1
-    return 0
+    index = Index(read_trace(words.trace))
+    whole = page(words.trace, index, drawn_reports(index, read_reports(words.report, index), words.cycles))
+    if words.html:
+        write_whole(words.html, whole)
+    else:
+        print_whole(whole)
 
 
 if __name__ == "__main__":
-    sys.exit(main())
+    sys.exit(run(main))

@@ -4,12 +4,6 @@ from html import escape
 # Colours that most eyes can distinguish. In grey print the number beside each lock identifies it.
 PALETTE = ["#0072b2", "#e69f00", "#009e73", "#cc79a7", "#56b4e9", "#7b5ea7", "#8c6d31", "#4d4d4d"]
 STUCK, APART, INK, FAINT, OTHER = "#c62828", "#b26a00", "#22303c", "#8a97a3", "#a9b4be"
-VERBS = {"f": "forks thread", "j": "joins thread", "a": "acquires lock", "r": "releases lock", "d": "reads", "w": "writes"}
-
-
-def words_of(event):
-    """Returns the words of an event's box: `acquires lock 10`."""
-    return f"{VERBS[event.letter]} {event.about}"
 
 
 def source_of(event):

@@ -2,13 +2,14 @@
 from html import escape
 from math import inf
 
-from apart import kinds_of, look
-from drawing import PALETTE, colours_of, words_of
+from drawing import PALETTE, colours_of
 from ring import draw_ring
+from shared.apart import advice, heading, look, sentences, tally
+from shared.groups import Groups
+from shared.index import CALLED_BY
 from timeline import Link, TimeLine, rows_of
 
-SHORT, WHOLE_TRACE, NEAR = 40, 120, 2
-BY = {"fork": "a fork", "join": "a join", "read": "a read", "section": "the order of critical sections"}
+SHORT, WHOLE_TRACE = 40, 120
 STYLE = """
 :root { color-scheme: light; --ink: #22303c; --faint: #5b6a77; --line: #d5dce2; }
 body { font: 15px/1.5 system-ui, "Segoe UI", "DejaVu Sans", sans-serif; color: var(--ink); background: #f4f6f8; margin: 0; }
@@ -39,9 +40,44 @@ svg { display: block; font-family: system-ui, "Segoe UI", "DejaVu Sans", sans-se
 """
 
 
-def page(name, index, reports, most):
-    """Returns the page on a trace and its reports, with the first `most` cycles of each report, confirmed ones first."""
-    parts = [part for at, report in enumerate(reports) for part in report_parts(index, report, at, most)]
+class Drawn:
+    """What the page draws of one report: each cycle if there are at most `most`, else one cycle of each of the first `most` groups."""
+
+    def __init__(self, index, report, most):
+        self.report, self.most = report, most
+        self.groups, self.cycles = Groups(index, report, whole=most), []
+
+    def is_grouped(self):
+        return self.report.cycles > self.most
+
+    def add(self, cycle):
+        if self.groups.add(cycle) and not self.is_grouped():
+            self.cycles.append(cycle)
+
+    def sections(self):
+        """Yields each cycle to draw, confirmed ones first, with the number of cycles and of confirmed ones for which it is drawn."""
+        if self.is_grouped():
+            for group in self.groups.ordered()[:self.most]:
+                yield group.example, group.cycles, group.confirmed
+        else:
+            for cycle in sorted(self.cycles, key=lambda cycle: not cycle.is_confirmed):
+                yield cycle, 1 + cycle.more, cycle.is_confirmed + cycle.more_confirmed
+
+
+def drawn_reports(index, reports, most):
+    """Returns what the page draws of each report. `reports` yields reports and cycles, as `read_reports` does."""
+    drawn = []
+    for report, cycle in reports:
+        if cycle is None:
+            drawn.append(Drawn(index, report, most))
+        else:
+            drawn[-1].add(cycle)
+    return drawn
+
+
+def page(name, index, reports):
+    """Returns the page on a trace and its reports, each a `Drawn`."""
+    parts = [part for at, drawn in enumerate(reports) for part in report_parts(index, drawn, at)]
     title = f"Deadlocks of {name.rsplit('/', 1)[-1]}"
     return (f'<!DOCTYPE html>\n<html lang="en"><head><meta charset="utf-8"><title>{escape(title)}</title>'
             f'<meta name="viewport" content="width=device-width"><style>{STYLE}</style></head><body><main>'
@@ -52,29 +88,35 @@ def plural(count, one, many=None):
     return f"{count:,} {one if count == 1 else many or one + 's'}"
 
 
-def report_parts(index, report, at, most):
+def report_parts(index, drawn, at):
+    report = drawn.report
     events = index.events[:report.length]
     threads = {event.thread for event in events} | {event.about for event in events if event.letter in "fj"}
     locks = {event.about for event in events if event.letter in "ar"}
-    confirmed = sum(cycle.is_confirmed for cycle in report.cycles)
     yield (f'<p class="faint">Question {report.question}: {plural(report.length, "event")}, {plural(len(threads), "thread")}, '
-           f'{plural(len(locks), "lock")}; cycles of at most {report.bound} members: {len(report.cycles):,}, '
-           f"confirmed {confirmed:,}.</p>")
+           f'{plural(len(locks), "lock")}; cycles of at most {report.bound} members: {report.cycles:,}, '
+           f"confirmed {report.confirmed:,}.</p>")
     if not report.cycles:
         yield ("<section><h2>No cycles</h2><p>Within the bound this run predicts no deadlock of this shape. Threads, locks and branches "
                "that the run did not use are not in it.</p></section>")
-    shown = sorted(report.cycles, key=lambda cycle: not cycle.is_confirmed)[:most]
-    if len(shown) < len(report.cycles):
-        yield f'<p class="faint">The first {len(shown)} are drawn, confirmed ones first.</p>'
-    for number, cycle in enumerate(shown):
-        yield cycle_section(index, report, cycle, f"r{at}c{number}")
+    if drawn.groups.tried:
+        yield (f'<p class="faint">{plural(drawn.groups.tried, "cycle")} left out: a member does not wait, since it only tries to '
+               "acquire its lock.</p>")
+    if drawn.is_grouped():
+        count = len(drawn.groups.by_key)
+        which = "each group" if count <= drawn.most else "the first group" if drawn.most == 1 else f"each of the first {drawn.most} groups"
+        yield (f'<p class="faint">Cycles whose members hold and wait at the same code locations are one group. There '
+               f"{'is' if count == 1 else 'are'} {plural(count, 'group')}; the page draws one cycle of {which}, confirmed ones first.</p>")
+    for number, (cycle, cycles, confirmed) in enumerate(drawn.sections()):
+        yield cycle_section(index, report, cycle, f"r{at}c{number}", cycles, confirmed)
 
 
-def cycle_section(index, report, cycle, name):
+def cycle_section(index, report, cycle, name, cycles, confirmed):
     row = "confirmed" if cycle.is_confirmed else "potential"
     colours = colours_for(index, cycle.members)
     numbers = " ".join(map(str, cycle.numbers))
-    head = f'<div class="head"><h2>Cycle {numbers}</h2><span class="badge {row}">{row}</span></div>'
+    others = f'<span class="faint">one of {cycles:,} cycles at these locations, {confirmed:,} confirmed</span>' if cycles > 1 else ""
+    head = f'<div class="head"><h2>Cycle {numbers}</h2><span class="badge {row}">{row}</span>{others}</div>'
     below = confirmed_part if cycle.is_confirmed else potential_part
     told, instance = below(index, report, cycle, colours, name)
     ring = draw_ring(name + "ring", cycle.members, colours)
@@ -117,12 +159,12 @@ def where_of(event):
     """Returns the source line without its folders, which the tooltip shows."""
     if not event.where:
         return ""
-    return f' <span class="where" title="{escape(event.where)}">{escape(event.where.rsplit("/", 1)[-1])}</span>'
+    return f' <span class="where" title="{escape(event.where)}">{escape(event.where.split(CALLED_BY)[0].rsplit("/", 1)[-1])}</span>'
 
 
 def confirmed_part(index, report, cycle, colours, name):
     instance = [member.place for member in cycle.members]
-    rows = rows_of(cycle.witness, important_of(index, cycle, instance), inf if len(cycle.witness) <= SHORT else 3)
+    rows = rows_of(cycle.witness, index.steps_to(cycle.members, instance), inf if len(cycle.witness) <= SHORT else 3)
     line = TimeLine(name + "line", index, rows, colours, waiting=cycle.members)
     count = plural(len(cycle.witness), "event")
     told = (f"<h3>How it happens</h3><p>Run {count} of the trace in this order and nothing else. "
@@ -130,24 +172,9 @@ def confirmed_part(index, report, cycle, colours, name):
     return told + scroll(line.draw(f"The witness of cycle {cycle.numbers}, and its members waiting")), instance
 
 
-def important_of(index, cycle, instance):
-    """Returns the places that a long list shows: the forks that lead to the members, the acquires of their held locks, and the events
-    right before their acquires."""
-    important = set()
-    for member, place in zip(cycle.members, instance):
-        important |= {index.taken_at(member.thread, lock, place) for lock in member.held}
-        mine = index.thread_places[member.thread]
-        important |= set(mine[max(0, index.at[place] - NEAR):index.at[place]])
-        thread = member.thread
-        while thread in index.fork_of:
-            important.add(index.fork_of[thread])
-            thread = index.events[index.fork_of[thread]].thread
-    return important
-
-
 def potential_part(index, report, cycle, colours, name):
     (instance, chain, passed), kinds, looked, total = look(index, cycle.members, report.length)
-    important = important_of(index, cycle, instance) | set(instance)
+    important = index.steps_to(cycle.members, instance) | set(instance)
     links, marked = [], set()
     for step in chain or []:
         if step.kind != "before":
@@ -157,7 +184,9 @@ def potential_part(index, report, cycle, colours, name):
     shown = list(range(max(important) + 1))
     rows = rows_of(shown, important, inf if len(shown) <= SHORT else 3)
     line = TimeLine(name + "line", index, rows, colours, marked=marked, wanted=instance, links=links)
-    told = reason(index, instance, chain, passed) + tally(kinds, looked, total)
+    told = reason(index, instance, chain, passed)
+    if counts := tally(kinds, looked, total):
+        told += f'<p class="faint">{counts}</p>'
     told += "<h3>The observed order</h3>"
     return told + scroll(line.draw(f"The events of cycle {cycle.numbers} in the observed order")), instance
 
@@ -165,43 +194,9 @@ def potential_part(index, report, cycle, colours, name):
 def reason(index, instance, chain, passed):
     """Returns what keeps the members apart, step by step."""
     if chain is None:
-        return '<div class="why"><b>The picture did not find what keeps these apart.</b></div>'
-    names = [BY[kind] for kind in kinds_of(chain)] or ["one thread's own order"]
-    steps = "".join(f"<li>{sentence(index, step)}</li>" for step in chain)
-    last = f"<li>So thread {index.events[passed].thread} has passed place {passed}, before which it would have to wait.</li>"
-    if "section" in kinds_of(chain):
-        advice = ("Orders that swap two critical sections of one lock are not examined: one of them may still lead to "
-                  "the deadlock.")
-    else:
-        advice = ("If this is by design, the cycle is harmless. If it is by chance, acquire the locks in one order.")
-    return f'<div class="why"><b>Kept apart by {" and ".join(names)}</b><ol>{steps}{last}</ol><p>{advice}</p></div>'
-
-
-def sentence(index, step):
-    cause, needed = index.events[step.cause], index.events[step.needed]
-    if step.kind == "before":
-        return (f"Thread {cause.thread} is before place {step.cause}, where it {words_of(cause)}: all its earlier events "
-                "must have run.")
-    if step.kind == "fork":
-        return f"Thread {cause.thread} runs only after thread {needed.thread} forks it at place {step.needed}."
-    if step.kind == "join":
-        return (f"At place {step.cause} thread {cause.thread} joins thread {cause.about}, so all events of that thread must have run, "
-                f"up to the last one at place {step.needed}.")
-    if step.kind == "read":
-        return (f"At place {step.cause} thread {cause.thread} reads variable {cause.about}, and sees the value that thread "
-                f"{needed.thread} wrote at place {step.needed}.")
-    return (f"At place {step.cause} thread {cause.thread} acquires lock {cause.about}; thread {needed.thread} held it before, so "
-            f"that thread must have released it, at place {step.needed}.")
-
-
-def tally(kinds, looked, total):
-    """Returns for each reason how many instances of the cycle have it."""
-    if total == 1:
-        return ""
-    counts = "; ".join(f"{' and '.join(BY[kind] for kind in of) or 'other'}: {count:,}" for of, count in kinds.most_common())
-    which = f"all {total:,}" if looked == total else f"the first {looked:,} of {total:,}"
-    return ('<p class="faint">The cycle has several instances. What keeps them apart, in '
-            f"{which}: {counts}.</p>")
+        return f'<div class="why"><b>{heading(chain)}</b></div>'
+    steps = "".join(f"<li>{step}</li>" for step in sentences(index, chain, passed))
+    return f'<div class="why"><b>{heading(chain)}</b><ol>{steps}</ol><p>{advice(chain)}</p></div>'
 
 
 def whole_trace(index):

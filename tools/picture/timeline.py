@@ -2,7 +2,8 @@
 from collections import namedtuple
 from html import escape
 
-from drawing import APART, FAINT, INK, OTHER, STUCK, drawing, fitting, shape, shorten, source_of, text, words_of
+from drawing import APART, FAINT, INK, OTHER, STUCK, drawing, fitting, shape, shorten, source_of, text
+from shared.apart import words_of
 
 GUTTER, HEAD, ROW, TALL_ROW, GAP_ROW, SCREEN = 58, 34, 31, 42, 26, 975
 NARROWEST, WIDEST, BETWEEN = 148, 168, 40

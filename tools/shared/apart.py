@@ -1,4 +1,4 @@
-"""Finds what keeps the members of a potential cycle apart. The picture computes this itself, without the server.
+"""Finds what keeps the members of a potential cycle apart. The tools compute this themselves, without the server.
 
 If the members are before their acquires, all earlier events of their threads must have run, and so must what these need: the
 fork of a thread, all events of a joined thread, the write of a read, and the release of the earlier of two critical sections of
@@ -10,6 +10,8 @@ from itertools import islice, product
 # `needed` must run because `cause` has run or is to be reached; `kind` is before, fork, join, read or section.
 Step = namedtuple("Step", "kind needed cause")
 STEPS_TO_SPEND, MOST_PAIRS = 400_000, 400
+VERBS = {"f": "forks thread", "j": "joins thread", "a": "acquires lock", "r": "releases lock", "d": "reads", "w": "writes"}
+BY = {"fork": "a fork", "join": "a join", "read": "a read", "section": "the order of critical sections"}
 
 
 class Needs:
@@ -98,3 +100,56 @@ def look(index, members, length):
 def kinds_of(chain):
     """Returns the kinds of the chain's steps, each once, in the order of the chain."""
     return tuple(dict.fromkeys(step.kind for step in chain or [] if step.kind != "before"))
+
+
+def words_of(event):
+    """Returns what an event does: `acquires lock 10`."""
+    return f"{VERBS[event.letter]} {event.about}"
+
+
+def heading(chain):
+    """Returns in a few words what keeps the members apart."""
+    if chain is None:
+        return "Nothing was found that keeps these apart."
+    return f"Kept apart by {' and '.join(BY[kind] for kind in kinds_of(chain)) or 'the order of one thread'}"
+
+
+def sentences(index, chain, passed):
+    """Returns what keeps the members apart, step by step."""
+    last = f"So thread {index.events[passed].thread} has passed place {passed}, before which it would have to wait."
+    return [sentence(index, step) for step in chain] + [last]
+
+
+def sentence(index, step):
+    cause, needed = index.events[step.cause], index.events[step.needed]
+    if step.kind == "before":
+        return (f"Thread {cause.thread} is before place {step.cause}, where it {words_of(cause)}: all its earlier events "
+                "must have run.")
+    if step.kind == "fork":
+        return f"Thread {cause.thread} runs only after thread {needed.thread} forks it at place {step.needed}."
+    if step.kind == "join":
+        return (f"At place {step.cause} thread {cause.thread} joins thread {cause.about}, so all events of that thread must have run, "
+                f"up to the last one at place {step.needed}.")
+    if step.kind == "read":
+        return (f"At place {step.cause} thread {cause.thread} reads variable {cause.about}, and sees the value that thread "
+                f"{needed.thread} wrote at place {step.needed}.")
+    return (f"At place {step.cause} thread {cause.thread} acquires lock {cause.about}; thread {needed.thread} held it before, so "
+            f"that thread must have released it, at place {step.needed}.")
+
+
+def advice(chain):
+    """Returns what to do about members that are kept apart."""
+    if chain is None:
+        return "Acquire the locks in one order."
+    if "section" in kinds_of(chain):
+        return "Orders that swap two critical sections of one lock are not examined: one of them may still lead to the deadlock."
+    return "If this is by design, the cycle is harmless. If it is by chance, acquire the locks in one order."
+
+
+def tally(kinds, looked, total):
+    """Returns for each reason how many instances of the cycle have it; an empty text if there is one instance."""
+    if total == 1:
+        return ""
+    counts = "; ".join(f"{' and '.join(BY[kind] for kind in of) or 'other'}: {count:,}" for of, count in kinds.most_common())
+    which = f"all {total:,}" if looked == total else f"the first {looked:,} of {total:,}"
+    return f"The cycle has several instances. What keeps them apart, in {which}: {counts}."
