@@ -3,14 +3,9 @@
 
 usage: rounds.py THREADS ROUNDS
 """
-import os
 import sys
 import threading
-
-sys.path.insert(0, os.path.join(os.path.dirname(os.path.abspath(__file__)), "..", "agents", "python"))
-import goodlock_agent
-
-goodlock_agent.start()
+import time
 
 
 def run(locks, rounds):
@@ -24,10 +19,12 @@ def main():
     threads, rounds = int(sys.argv[1]), int(sys.argv[2])
     locks = [threading.Lock() for _ in range(8)]
     runners = [threading.Thread(target=run, args=(locks, rounds)) for _ in range(threads)]
+    began = time.monotonic()
     for runner in runners:
         runner.start()
     for runner in runners:
         runner.join()
+    print(f"{time.monotonic() - began:.6f}")
 
 
 if __name__ == "__main__":

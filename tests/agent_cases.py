@@ -1,69 +1,289 @@
 #!/usr/bin/env python3
-"""The cases of the agent for Python, one after another. The events that it must send are
+"""The cases of the agent for Python.
 
-    0a1 0r1  0a2 0a2 0a2 0r2 0r2 0r2  0a3 0r3 0a3 0r3  0a1 0f1 0j1 0r1  0f2 2a4 2r4 0j2
+usage: agent_cases.py NAME
+
+Each case runs two threads. The first one acquires two locks in one order, later the second one in the other order; what is between
+them differs. Steps, which the agent does not see, make the events of a case the same in every run. The docstring of a case has the
+trace that the agent must write; tests/agents_python compares it.
 """
 import os
+import signal
 import sys
 import threading
+import time
 
-sys.path.insert(0, os.path.join(os.path.dirname(os.path.abspath(__file__)), "..", "agents", "python"))
-import goodlock_agent
-
-goodlock_agent.start()
-
-
-def run(function):
-    thread = threading.Thread(target=function)
-    thread.start()
-    thread.join()
-    thread.join()
+A, B, GUARD = threading.Lock(), threading.Lock(), threading.Lock()
+steps = []
 
 
-def another_process(lock):
-    child = os.fork()
-    if child == 0:
-        with lock:
-            os._exit(0)
-    assert os.waitpid(child, 0)[1] == 0 and os.system("true") == 0
+def until(number):
+    while len(steps) < number:
+        time.sleep(0.001)
 
 
-def main():
-    plain, nested, condition, handed = threading.Lock(), threading.RLock(), threading.Condition(), threading.Lock()
-    with plain:
+def after():
+    steps.append(1)
+
+
+def both(first, second):
+    with first, second:
         pass
+
+
+def run_two(first, second):
+    """Runs both in threads, which begin when both are started."""
+    can_begin = []
+
+    def begin(body):
+        while not can_begin:
+            time.sleep(0.001)
+        body()
+
+    threads = [threading.Thread(target=begin, args=(body,)) for body in (first, second)]
+    for thread in threads:
+        thread.start()
+    can_begin.append(1)
+    for thread in reversed(threads):
+        thread.join()
+
+
+def a_then_b():
+    both(A, B)
+    after()
+
+
+def b_then_a():
+    until(1)
+    both(B, A)
+
+
+def blocking():
+    """0f1 0f2 1a1 1a2 1r2 1r1 2a2 2a1 2r1 2r2 0j2 0j1"""
+    run_two(a_then_b, b_then_a)
+
+
+def gate_lock():
+    """0f1 0f2 1a1 1a2 1a3 1r3 1r2 1r1 2a1 2a3 2a2 2r2 2r3 2r1 0j2 0j1"""
+
+    def first():
+        with GUARD:
+            both(A, B)
+        after()
+
+    def second():
+        until(1)
+        with GUARD:
+            both(B, A)
+
+    run_two(first, second)
+
+
+def tried():
+    """0f1 0f2 1a1 1a2 1r2 1r1 2a2 2a3000000002 2a1 2r3000000002 2r1 2r2 0j2 0j1"""
+
+    def second():
+        until(1)
+        with B:
+            assert A.acquire(blocking=False)
+            A.release()
+
+    run_two(a_then_b, second)
+
+
+def timed():
+    """0f1 0f2 1a1 1a2 1r2 1r1 2a2 2a3500000002 2a1 2r3500000002 2r1 2r2 0j2 0j1"""
+
+    def second():
+        until(1)
+        with B:
+            assert A.acquire(timeout=10)
+            A.release()
+
+    run_two(a_then_b, second)
+
+
+def semaphore():
+    """0f1 0f2 1a1 1a2 1r2 1r1 1d1 1w1 2d1 2a2 2a1 2r1 2r2 0j2 0j1"""
+    posted = threading.Semaphore(0)
+
+    def first():
+        both(A, B)
+        posted.release()
+
+    def second():
+        assert posted.acquire()
+        both(B, A)
+
+    run_two(first, second)
+
+
+def event():
+    """0f1 0f2 1a1 1a2 1r2 1r1 1d1 1w1 2d1 2a2 2a1 2r1 2r2 0j2 0j1"""
+    is_set = threading.Event()
+
+    def first():
+        both(A, B)
+        is_set.set()
+
+    def second():
+        assert is_set.wait()
+        both(B, A)
+
+    run_two(first, second)
+
+
+def woken():
+    """0f1 0f2 1a1 1a2 1r2 1r1 2a3 2r3 1a3 1d1 1w1 1r3 2d1 2a3 2r3 2a2 2a1 2r1 2r2 0j2 0j1"""
+    condition, ready = threading.Condition(), []
+
+    def first():
+        both(A, B)
+        after()
+        until(2)
+        with condition:
+            ready.append(1)
+            condition.notify()
+
+    def second():
+        until(1)
+        with condition:
+            after()
+            assert condition.wait_for(lambda: ready)
+        both(B, A)
+
+    run_two(first, second)
+
+
+def barrier():
+    """The order of the arrivals is not fixed."""
+    meeting = threading.Barrier(2)
+
+    def first():
+        both(A, B)
+        meeting.wait()
+
+    def second():
+        meeting.wait()
+        both(B, A)
+
+    run_two(first, second)
+
+
+def recursive():
+    """0a1 0a1 0a1 0r1 0r1 0r1"""
+    nested = threading.RLock()
     with nested, nested, nested:
         pass
-    with condition:
-        condition.wait(0.02)
+
+
+def handed():
+    """0f1 1a1 0d1 0w1 1d1 1r1 0j1"""
+
+    def holder():
+        A.acquire()
+        after()
+        until(2)
+
+    thread = threading.Thread(target=holder)
+    thread.start()
+    until(1)
+    A.release()
+    after()
+    thread.join()
+    thread.join()
+
+
+def attempts():
+    """0a1 0f1 0j1 0r1"""
 
     def gets_nothing():
-        assert not plain.acquire(blocking=False) and not plain.acquire(timeout=0.02) and plain.locked()
+        assert not A.acquire(blocking=False) and not A.acquire(timeout=0.02) and A.locked()
 
-    with plain:
-        run(gets_nothing)
-    held, given_back = threading.Event(), threading.Event()
+    with A:
+        thread = threading.Thread(target=gets_nothing)
+        thread.start()
+        thread.join()
 
-    def hands_it_over():
-        handed.acquire()
-        held.set()
-        given_back.wait()
 
-    holder = threading.Thread(target=hands_it_over)
-    holder.start()
-    held.wait()
-    handed.release()
-    given_back.set()
-    holder.join()
-    another_process(plain)
-    for wrong in (handed, nested):
+def processes():
+    """0a1 0r1 0a1 0r1"""
+    with A:
+        pass
+    child = os.fork()
+    if child == 0:
+        with A:
+            os._exit(0)
+    assert os.waitpid(child, 0)[1] == 0 and os.system("true") == 0
+    with A:
+        pass
+
+
+def types():
+    """0a1 0r1"""
+    real = type(threading._allocate_lock())
+    again = threading.RLock()
+    assert isinstance(A, real) and repr(A).startswith("<unlocked _thread.lock object"), repr(A)
+    assert repr(again).startswith("<unlocked _thread.RLock object"), repr(again)
+    with A:
+        assert A.locked() and repr(A).startswith("<locked")
+    for lock in (A, again):
         try:
-            wrong.release()
+            lock.release()
         except RuntimeError:
             continue
         raise AssertionError("a lock that is not held was released")
-    sys.exit(7)
+    for words in ((False, 1), (True, -2)):
+        try:
+            A.acquire(*words)
+        except ValueError:
+            continue
+        raise AssertionError("a wrong timeout was taken")
+
+
+def many_held():
+    """More than 31 locks at a time."""
+    locks = [threading.Lock() for _ in range(40)]
+
+    def first():
+        for lock in locks:
+            lock.acquire()
+        for lock in locks:
+            lock.release()
+        after()
+
+    def second():
+        until(1)
+        both(locks[1], locks[0])
+
+    run_two(first, second)
+
+
+def ends_at_once():
+    """The process ends without any handler."""
+    blocking()
+    os._exit(7)
+
+
+def ends_by_kill():
+    """The process is killed."""
+    blocking()
+    os.kill(os.getpid(), signal.SIGKILL)
+
+
+def deadlocks():
+    """A deadlock that happens. SIGALRM ends the program."""
+    signal.alarm(4)
+
+    def meets(own, other):
+        with own:
+            after()
+            until(2)
+            with other:
+                pass
+
+    run_two(lambda: meets(A, B), lambda: meets(B, A))
 
 
 if __name__ == "__main__":
-    main()
+    globals()[sys.argv[1]]()

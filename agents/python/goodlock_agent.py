@@ -1,322 +1,244 @@
-"""An agent for programs in Python: streams a program's thread and lock events to goodlockd, and writes the report.
+"""An agent for programs in Python: records what a program's threads and locks do, in memory shared with a collector.
+
+    agents/python/goodlock SCRIPT [ARG ..]       traces a whole program, without a change in it
+
+or a part of a program:
 
     import goodlock_agent
-    with goodlock_agent.tracing("127.0.0.1:7070", bound=2, out="bank"):
+    with goodlock_agent.tracing(out="bank", bound=2) as run:
         ...                                 # locks made here, threads started here
+    print(run.has_deadlock)
 
-or, at the top of a program, `goodlock_agent.start()`. It takes the server's address from GOODLOCKD, the bound from GOODLOCK_BOUND
-(2 to 8; default 4) and the output name OUT from GOODLOCK_OUT (default goodlock). At exit it writes OUT.report and OUT.trace.
-Without GOODLOCKD it does nothing.
+The collector is the one of the agent for pthreads. It is another process, outlives the program, and makes the report.
 
-`threading.Lock` and `threading.RLock` then make locks that send their acquires and releases, an RLock also its inner ones.
-`Thread.start` sends a fork, `Thread.join` a join. The agent sends an acquire and a join after the call, a release and a fork
-before it, and waits for each reply.
-
-No failure of the agent stops the program. If the server is missing, ends or refuses an event, the agent prints one line.
+`threading.Lock` and `threading.RLock` then make locks that record their acquires and releases. `Thread.start` records a fork,
+`Thread.join` a join. Semaphores, conditions, events and barriers record who goes on after whom. A release, a fork and what is given are
+recorded before the call, an acquire, a join and what is received after it. No thread waits for the agent.
 """
 import _thread
-import atexit
-import collections
 import contextlib
+import itertools
+import mmap
 import os
-import re
-import socket
+import runpy
 import struct
+import subprocess
 import sys
+import sysconfig
 import threading
 import time
 
-FORK, JOIN, ACQUIRE, RELEASE, ASK, ANSWER = 1, 2, 3, 4, 7, 8
-PLACED, REFUSED, OPENED, PENDING, REPORT = 65, 66, 67, 68, 69
-LETTERS = {FORK: "f", JOIN: "j", ACQUIRE: "a", RELEASE: "r"}
-SECONDS_TO_REPLY, SECONDS_TO_REPORT, MOST_DEPTH = 10, 60, 255
+R_FORK, R_NAMED, R_START, R_UNSEEN, R_END, R_JOINS, R_JOINED, R_EXEC = range(1, 9)
+R_LOCK, R_TRIED, R_TIMED, R_UNLOCK = range(9, 13)
+R_GIVE, R_TAKE = 18, 19
+WAITS_FOR_LOCK, WAITS_FOR_THREAD = 1, 2
+# The shared memory; collector.c tests that these are the offsets in ring.h.
+NEXT, CONSUMED, THREADS, OWNER, ATTACHED, OFF, FINISHED, TEXT_USED, TEXT = 0, 64, 128, 132, 144, 148, 152, 156, 160
+WAITS, SLOTS, SIZE, MOST_WAITS, MOST_SLOTS, MOST_TEXT = 1_048_768, 2_097_344, 18_874_560, 1 << 14, 1 << 18, 1 << 20
+RECORD, NUMBER, PLACE = struct.Struct("<QQIBB30s"), struct.Struct("I"), struct.Struct("Q")  # native: written in one step
+WAIT = struct.Struct("<IIQ5Q")
+SECONDS_WITHOUT_PROGRESS = 30
+
+HERE = os.path.dirname(os.path.abspath(__file__))
+ROOT = os.path.dirname(os.path.dirname(HERE))
+COLLECTOR = os.path.join(ROOT, "agents", "pthread", "out", "collector")
 REAL_LOCK, REAL_RLOCK = _thread.allocate_lock, threading.RLock
-REAL_START, REAL_JOIN = threading.Thread.start, threading.Thread.join
-OWN_FILES = {__file__, threading.__file__, contextlib.__file__}
+OWN_FILES = {__file__, threading.__file__, contextlib.__file__, runpy.__file__}
+LIBRARY = tuple(os.path.join(path, "") for path in {sysconfig.get_path("stdlib"), os.path.dirname(os.__file__)})
 
 
-def caller():
-    """Returns the innermost running line that belongs neither to the agent nor to the library: file, line and function."""
-    frame = sys._getframe(1)
-    while frame.f_back and frame.f_code.co_filename in OWN_FILES:
-        frame = frame.f_back
-    return frame.f_code.co_filename, frame.f_lineno, frame.f_code.co_name
-
-
-def say(what):
+def say(text):
     with contextlib.suppress(Exception):
-        sys.stderr.write(f"goodlock agent: {what}\n")
+        sys.stderr.write(f"goodlock: {text}\n")
 
 
-class Server:
-    """One session: sends a request as a frame and waits for its reply."""
+class Recorder:
+    """Writes records to the shared memory. Its methods use no lock: a signal handler or a finalizer may call them at any point."""
 
-    def __init__(self, address):
-        host, port = address.rsplit(":", 1)
-        self.socket = socket.create_connection((host, int(port)), SECONDS_TO_REPLY)
-        self.socket.setsockopt(socket.IPPROTO_TCP, socket.TCP_NODELAY, 1)
-        self.replies = self.socket.makefile("rb")
-
-    def exchange(self, body):
-        """Sends a body, and returns the kind of the reply and the rest of its body."""
-        self.socket.sendall(struct.pack(">H", len(body)) + body)
-        reply = self.read(struct.unpack(">I", self.read(4))[0])
-        return reply[0], reply[1:]
-
-    def read(self, length):
-        data = self.replies.read(length)
-        if len(data) < length:
-            raise OSError("end of input")
-        return data
-
-
-class Agent:
-    """The events of one run. A thread holds `turn` from a frame to its reply, so the server accepts the events in this order."""
-
-    def __init__(self, address, bound, out):
-        self.turn = REAL_LOCK()
+    def __init__(self, path, frames):
+        with open(path, "r+b") as file:
+            self.memory = mmap.mmap(file.fileno(), SIZE)
+        self.frames = frames
+        self.places, self.numbers, self.objects = itertools.count(), itertools.count(1), itertools.count(8, 8)
         self.here = threading.local()
         self.here.number = 0
-        self.events = []
-        self.threads, self.joined, self.locks = 1, set(), 0
-        self.bound, self.out, self.process = bound, os.path.abspath(out), os.getpid()
-        self.is_streaming, self.server = False, None
-        try:
-            self.server = Server(address)
-            self.is_streaming = True
-        except Exception as error:
-            self.give_up(f"no server at {address} ({error})")
+        self.sites, self.known, self.registers = {}, {}, REAL_LOCK()  # numbers by text, and by code and line
+        self.is_on, self.process = True, os.getpid()
+        self.register("?")
+        NUMBER.pack_into(self.memory, OWNER, self.process)
+        NUMBER.pack_into(self.memory, ATTACHED, 1)
 
-    def give_up(self, why, is_lost=True):
-        """Sends no more events, and asks no more questions if the server is lost."""
-        self.is_streaming = False
-        if is_lost:
-            self.server = None
-        say(f"{why}; the program runs on")
+    def stop(self):
+        self.is_on = False
+
+    # ---- callers ----
+
+    def register(self, text):
+        """Returns the number of a new site, or 0 if there is no room or this thread is already registering one."""
+        if not self.registers.acquire(False):
+            return 0
+        try:
+            used = NUMBER.unpack_from(self.memory, TEXT_USED)[0]
+            line = f"site {len(self.sites)} {text}\n".encode("utf-8", "replace")
+            if used + len(line) > MOST_TEXT:
+                return 0
+            self.memory[TEXT + used : TEXT + used + len(line)] = line
+            NUMBER.pack_into(self.memory, TEXT_USED, used + len(line))
+            number = self.sites[text] = len(self.sites)
+            return number
+        finally:
+            self.registers.release()
+
+    def callers(self):
+        """Returns the numbers of the callers: the innermost lines outside the agent, until enough are outside the library too."""
+        frame, found, own = sys._getframe(2), [], 0
+        while frame and len(found) < 5 and own < self.frames:
+            path = frame.f_code.co_filename
+            if path not in OWN_FILES and not path.startswith("<frozen"):
+                key = (frame.f_code, frame.f_lineno)
+                number = self.known.get(key)
+                if number is None:
+                    text = f"{os.path.abspath(path)}:{frame.f_lineno} in {frame.f_code.co_name.strip('<>')}"
+                    number = self.sites.get(text)
+                    if number is None:
+                        number = self.register(text)
+                    if number:
+                        self.known[key] = number
+                found.append(number)
+                own += not path.startswith(LIBRARY)
+            frame = frame.f_back
+        return found
+
+    # ---- records ----
+
+    def number(self):
+        """Returns this thread's number. A thread whose start was not seen gets one now."""
+        try:
+            return self.here.number
+        except AttributeError:
+            number = self.here.number = self.new_number()
+            self.write(number, R_UNSEEN, number + 1, 0, ())
+            return number
+
+    def new_number(self):
+        number = next(self.numbers)
+        NUMBER.pack_into(self.memory, THREADS, number + 1)
+        return number
+
+    def record(self, kind, address, other=0):
+        if self.is_on and os.getpid() == self.process:  # a child by fork is not traced
+            self.write(self.number(), kind, address, other, self.callers())
+
+    def write(self, thread, kind, address, other, callers):
+        place = next(self.places)
+        at = SLOTS + place % MOST_SLOTS * 64
+        if place - PLACE.unpack_from(self.memory, CONSUMED)[0] >= MOST_SLOTS and not self.waits_for_slot(place):
+            return
+        packed = b"".join(caller.to_bytes(6, "little") for caller in callers)
+        RECORD.pack_into(self.memory, at + 8, address, other, thread, kind, len(callers), packed)
+        PLACE.pack_into(self.memory, at, place + 1)
+
+    def waits_for_slot(self, place):
+        """Waits until the collector has read the slot. If it does not, nothing more is recorded."""
+        since, before = time.monotonic(), None
+        while self.is_on and time.monotonic() - since < SECONDS_WITHOUT_PROGRESS:
+            consumed = PLACE.unpack_from(self.memory, CONSUMED)[0]
+            if place - consumed < MOST_SLOTS:
+                return True
+            if consumed != before:
+                since, before = time.monotonic(), consumed
+            time.sleep(0.0005)
+        self.is_on = False
+        NUMBER.pack_into(self.memory, OFF, 1)
+        return False
 
     @contextlib.contextmanager
-    def sending(self):
-        """Takes the agent's turn. Events of a signal handler or a finalizer meanwhile are not sent, nor those of another process."""
-        if getattr(self.here, "is_inside", False) or not self.is_streaming or os.getpid() != self.process:
-            yield False
+    def waiting(self, kind, address):
+        """Shows what this thread waits for."""
+        if not self.is_on or os.getpid() != self.process:
+            yield
             return
+        thread, callers = self.number(), self.callers()
+        at = WAITS + thread % MOST_WAITS * 64
+        WAIT.pack_into(self.memory, at + 8, thread, kind, len(callers), *(callers + [0] * (5 - len(callers))))
+        PLACE.pack_into(self.memory, at, address)
+        try:
+            yield
+        finally:
+            PLACE.pack_into(self.memory, at, 0)
+
+    # ---- what library objects do inside is not recorded ----
+
+    @contextlib.contextmanager
+    def inside(self):
+        before = self.is_inside()
         self.here.is_inside = True
         try:
-            with self.turn:
-                yield self.is_streaming
-        except Exception as error:
-            self.give_up(f"the server has ended or does not reply ({error})")
-        except BaseException:
-            self.give_up("interrupted")
-            raise
+            yield
         finally:
-            self.here.is_inside = False
+            self.here.is_inside = before
 
-    def send(self, thread, kind, about, where):
-        if not self.is_streaming:
-            return
-        reply, rest = self.server.exchange(struct.pack(">BII", kind, thread, about))
-        if reply == REFUSED:
-            sent = len(self.events)
-            self.give_up(f"an event was refused with number {rest[0]}, so no more events are sent after place {sent}", False)
-        elif reply == PLACED and rest == struct.pack(">I", len(self.events)):
-            self.events.append((thread, kind, about, where))
-        else:
-            self.give_up("another agent streams to this server too, and one server takes one run", False)
-
-    def fork(self, parent, where):
-        child, self.threads = self.threads, self.threads + 1
-        self.send(parent, FORK, child, where)
-        return child
-
-    def number(self, where):
-        """Returns this thread's number. If the agent did not see the thread's start, it sends a fork by thread 0: so the trace
-        orders the thread after thread 0's events so far, and loses the order after its real parent."""
-        if not hasattr(self.here, "number"):
-            self.here.number = self.fork(0, where)
-        return self.here.number
-
-    def forks(self):
-        """Sends a fork by this thread, and returns the new thread's number, or None if nothing is sent."""
-        with self.sending() as is_sending:
-            if is_sending:
-                where = caller()
-                return self.fork(self.number(where), where)
-        return None
-
-    def joins(self, child):
-        with self.sending() as is_sending:
-            if is_sending and child not in self.joined:
-                where = caller()
-                self.joined.add(child)
-                self.send(self.number(where), JOIN, child, where)
-
-    def acquires(self, lock):
-        with self.sending() as is_sending:
-            if is_sending:
-                where = caller()
-                while lock.sent >= lock.depth:  # its release was not seen
-                    self.let_go(lock, where)
-                if lock.number is None:
-                    self.locks += 1
-                    lock.number = self.locks
-                # not sent: inner acquires deeper than the server accepts, and those inside one that was not sent
-                if lock.sent == lock.depth - 1 and lock.depth <= MOST_DEPTH:
-                    lock.holder, lock.sent = self.number(where), lock.depth
-                    self.send(lock.holder, ACQUIRE, lock.number, where)
-
-    def releases(self, lock):
-        with self.sending() as is_sending:
-            while is_sending and lock.sent >= lock.depth:
-                self.let_go(lock, caller())
-
-    def let_go(self, lock, where):
-        """Sends the release for the thread that acquired the lock, even if another thread releases it. If that thread has been
-        joined, no release can be sent: the trace keeps the lock held, and the next acquire gets a new number."""
-        if lock.holder in self.joined:
-            lock.number, lock.sent = None, 0
-        else:
-            lock.sent -= 1
-            self.send(lock.holder, RELEASE, lock.number, where)
-
-    def ask(self):
-        """Returns the report on the events so far, and their number."""
-        with self.turn:
-            reply, rest = self.server.exchange(struct.pack(">BB", ASK, self.bound))
-        if reply != OPENED:
-            raise ValueError(f"the question was refused with number {rest[0]}")
-        question, length, _total = struct.unpack(">III", rest)
-        for _ in range(SECONDS_TO_REPORT * 100):
-            with self.turn:
-                reply, rest = self.server.exchange(struct.pack(">BI", ANSWER, question))
-            if reply == REPORT:
-                return rest[4:].decode("ascii"), length
-            if reply != PENDING:
-                raise ValueError(f"the answer was refused with number {rest[0]}")
-            time.sleep(0.01)
-        raise TimeoutError("no report came in time")
-
-    def write_report(self):
-        """Asks, waits, and writes the report and the trace; only the trace if no report comes."""
-        if os.getpid() != self.process:
-            return
-        self.here.is_inside = True
-        text, length = None, len(self.events)
-        try:
-            if self.server:
-                text, length = self.ask()
-        except Exception as error:
-            self.give_up(error)
-        try:
-            self.write(text, self.events[:length])
-        except Exception as error:
-            self.give_up(error)
-        finally:
-            self.here.is_inside = False
-
-    def write(self, text, events):
-        if not text and not events:
-            return
-        with open(f"{self.out}.trace", "w", encoding="utf-8") as file:
-            file.writelines(trace_lines(events))
-        if not text:
-            say("there is no report, but the trace is written")
-            return
-        with open(f"{self.out}.report", "w", encoding="utf-8") as file:
-            file.writelines(with_notes(text, events))
-        out = os.path.relpath(self.out)
-        say(f"{text.splitlines()[0]}: {out}.report, {out}.trace")
+    def is_inside(self):
+        return getattr(self.here, "is_inside", False)
 
 
-def source(where):
-    path, line, function = where
-    shown = os.path.relpath(path)
-    return f"{path if shown.startswith('..') else shown}:{line} in {function.strip('<>')}"
+recorder = None  # the one of this process, from `attach` on
 
 
-def trace_lines(events):
-    """Yields the trace as `goodlockd offline` reads it, with a comment before each event whose source line is another one."""
-    last = None
-    for thread, kind, about, where in events:
-        if where != last:
-            yield f"# at {source(where)}\n"
-            last = where
-        yield f"{thread}{LETTERS[kind]}{about}\n"
+def address_of(thing):
+    """Returns the number of an object that hands something over. It is unique, and its attribute keeps it."""
+    try:
+        return thing.goodlock_address
+    except AttributeError:
+        thing.goodlock_address = next(recorder.objects)
+        return thing.goodlock_address
 
 
-def first_places(events):
-    """Returns the first place of each dependency: a thread, a lock, and the locks that the thread held."""
-    depths, places = {}, {}
-    for place, (thread, kind, about, _) in enumerate(events):
-        mine = depths.setdefault(thread, collections.Counter())
-        if kind == ACQUIRE:
-            if not mine[about]:
-                places.setdefault((thread, about, frozenset(+mine)), place)
-            mine[about] += 1
-        elif kind == RELEASE:
-            mine[about] -= 1
-    return places
-
-
-def held_since(events, thread, lock, place):
-    """Returns the place of the outermost acquire of a lock that the thread holds right before a place."""
-    depth, since = 0, None
-    for at, (other, kind, about, _) in enumerate(events[:place]):
-        if (other, about) != (thread, lock) or kind not in (ACQUIRE, RELEASE):
-            continue
-        if kind == ACQUIRE and depth == 0:
-            since = at
-        depth += 1 if kind == ACQUIRE else -1
-    return since
-
-
-def with_notes(text, events):
-    """Yields the report's lines, and under each member's line: where its thread was started, where it acquires, where it acquired the
-    held locks."""
-    places = first_places(events)
-    begun = {about: where for _, kind, about, where in events if kind == FORK}
-    for line in text.splitlines(keepends=True):
-        yield line
-        member = re.match(r"  thread (\d+) lock (\d+) holds((?: \d+)+)(?: place (\d+))?$", line)
-        if not member:
-            continue
-        thread, lock, held = int(member[1]), int(member[2]), [int(word) for word in member[3].split()]
-        place = int(member[4]) if member[4] else places[thread, lock, frozenset(held)]
-        if thread in begun:
-            yield f"    thread {thread} from {source(begun[thread])}\n"
-        yield f"    lock {lock} at {source(events[place][3])}\n"
-        for other in held:
-            yield f"    lock {other} since {source(events[held_since(events, thread, other, place)][3])}\n"
+def is_of_the_library(depth=2):
+    return sys._getframe(depth).f_globals.get("__name__") == "threading"
 
 
 class TracedLock:
-    """A lock that sends its acquires and releases. `depth` counts the acquires that are not yet released, `sent` those of them that
-    were sent. Every other attribute is that of the real lock."""
+    """A lock that records its acquires and releases. All else is that of the real lock."""
 
-    def __init__(self, agent, within):
-        self.agent, self.within = agent, within
-        self.number, self.holder, self.depth, self.sent = None, None, 0, 0
+    make, is_used_by_library = staticmethod(REAL_LOCK), True
+
+    def __new__(cls):
+        if cls.is_used_by_library and is_of_the_library():
+            return cls.make()
+        lock = super().__new__(cls)
+        lock.within, lock.address = cls.make(), next(recorder.objects)
+        return lock
 
     def acquire(self, blocking=True, timeout=-1):
-        if not self.within.acquire(blocking, timeout):
-            return False
-        self.depth += 1
-        self.send_or_release()
+        if not self.within.acquire(False):
+            if not blocking:
+                return self.within.acquire(False, timeout)  # also raises the real lock's errors
+            if timeout != -1:
+                if not self.within.acquire(True, timeout):
+                    return False
+            else:
+                with recorder.waiting(WAITS_FOR_LOCK, self.address):
+                    self.within.acquire()
+        elif timeout != -1 and not (blocking and timeout >= 0):
+            self.within.release()
+            self.within.acquire(blocking, timeout)  # raises
+        self.has_acquired(R_TRIED if not blocking else R_TIMED if timeout != -1 else R_LOCK)
         return True
 
-    def send_or_release(self):
-        try:
-            self.agent.acquires(self)
-        except BaseException:  # an interrupt: the caller does not know that it has the lock, so the lock is released
-            self.depth -= 1
-            self.within.release()
-            raise
+    def has_acquired(self, kind):
+        condition = getattr(recorder.here, "condition", None)
+        if condition:  # a wait acquires the lock again: what the notifier gave comes first
+            recorder.here.condition = None
+            recorder.record(R_TAKE, condition)
+        recorder.record(kind, self.address)
 
     def release(self):
-        if self.depth > 0:
-            self.agent.releases(self)
-        self.depth = max(0, self.depth - 1)
+        if self.within.locked():
+            recorder.record(R_UNLOCK, self.address)
         self.within.release()
+
+    acquire_lock, release_lock = acquire, release
 
     def __enter__(self):
         return self.acquire()
@@ -324,103 +246,241 @@ class TracedLock:
     def __exit__(self, *_):
         self.release()
 
+    def __repr__(self):
+        return repr(self.within)
+
     def __getattr__(self, name):
         return getattr(self.within, name)
 
+    def __reduce_ex__(self, _protocol):
+        raise TypeError(f"cannot pickle '{type(self.within).__name__}' object")
+
+    @property
+    def __class__(self):
+        return type(self.within)
+
 
 class TracedRLock(TracedLock):
-    """A condition calls the three methods with an underscore."""
+    """A condition calls the three methods with an underscore. The library makes one only for a condition of the program."""
+
+    make, is_used_by_library = staticmethod(REAL_RLOCK), False
 
     def release(self):
-        if not self.within._is_owned():
-            self.within.release()  # raises the library's error
-        super().release()
+        if self.within._is_owned():
+            recorder.record(R_UNLOCK, self.address)
+        self.within.release()
+
+    def __enter__(self):
+        return self.acquire()
 
     def _is_owned(self):
         return self.within._is_owned()
 
     def _release_save(self):
-        depth = self.depth
-        while self.depth > 0:
-            self.agent.releases(self)
-            self.depth -= 1
-        return depth, self.within._release_save()
+        saved = self.within._release_save()
+        self.within._acquire_restore(saved)
+        for _ in range(saved[0]):
+            recorder.record(R_UNLOCK, self.address)
+        return self.within._release_save()
 
     def _acquire_restore(self, saved):
-        depth, state = saved
-        self.within._acquire_restore(state)
+        self.within._acquire_restore(saved)
+        self.has_acquired(R_LOCK)
+        for _ in range(1, saved[0]):
+            recorder.record(R_LOCK, self.address)
+
+
+class Patches:
+    """Replaces functions of `threading`, and restores them."""
+
+    def __init__(self):
+        self.before = []
+
+    def put(self, where, name, make):
+        before = getattr(where, name)
+        self.before.append((where, name, before))
+        setattr(where, name, make(before))
+
+    def restore(self):
+        for where, name, before in reversed(self.before):
+            setattr(where, name, before)
+
+
+def gives(real):
+    """The call gives: what the caller did before is before what a receiver does."""
+
+    def method(self, *words, **named):
+        if recorder.is_inside() or is_of_the_library():
+            return real(self, *words, **named)
+        recorder.record(R_GIVE, address_of(self))
+        return real(self, *words, **named)
+
+    return method
+
+
+def takes(real):
+    """The call receives if it returns a true value."""
+
+    def method(self, *words, **named):
+        if recorder.is_inside() or is_of_the_library():
+            return real(self, *words, **named)
+        with recorder.inside():
+            result = real(self, *words, **named)
+        if result:
+            recorder.record(R_TAKE, address_of(self))
+        return result
+
+    return method
+
+
+def meets(real):
+    """The call gives, and receives when it returns."""
+
+    def method(self, *words, **named):
+        recorder.record(R_GIVE, address_of(self))
+        with recorder.inside():
+            result = real(self, *words, **named)
+        recorder.record(R_TAKE, address_of(self))
+        return result
+
+    return method
+
+
+def waits_for_notice(real):
+    def wait(self, timeout=None):
+        if recorder.is_inside() or is_of_the_library() and sys._getframe(1).f_code.co_name != "wait_for":
+            return real(self, timeout)
+        recorder.here.condition = address_of(self)
         try:
-            while self.depth < depth:
-                self.depth += 1
-                self.agent.acquires(self)
+            return real(self, timeout)
         finally:
-            self.depth = depth
+            if recorder.here.condition:
+                recorder.here.condition = None
+                recorder.record(R_TAKE, address_of(self))
+
+    return wait
 
 
-def is_of_the_library():
-    return sys._getframe(2).f_globals.get("__name__") == "threading"
-
-
-def stand_before(agent):
-    """Replaces the library's functions. The library's own plain locks are left out."""
-
-    def lock():
-        return REAL_LOCK() if is_of_the_library() else TracedLock(agent, REAL_LOCK())
-
-    def rlock():
-        return TracedRLock(agent, REAL_RLOCK())
-
+def starts(real):
     def start(thread):
-        if thread._started.is_set():
-            return REAL_START(thread)  # raises
-        child, run = agent.forks(), thread.run
+        if not recorder.is_on or os.getpid() != recorder.process or thread._started.is_set():
+            return real(thread)  # raises if it was started before
+        child, run = recorder.new_number(), thread.run
 
         def numbered():
-            agent.here.number = child
-            run()
+            recorder.here.number = child
+            try:
+                run()
+            finally:
+                if recorder.is_on:
+                    recorder.write(child, R_END, 0, 0, ())
 
-        if child is not None:
-            thread.goodlock_number, thread.run = child, numbered
-        return REAL_START(thread)
+        recorder.record(R_FORK, 0, child)
+        recorder.record(R_NAMED, child + 1, child)
+        thread.goodlock_number, thread.run = child, numbered
+        with recorder.inside():
+            return real(thread)
 
+    return start
+
+
+def joins(real):
     def join(thread, timeout=None):
-        REAL_JOIN(thread, timeout)
         child = getattr(thread, "goodlock_number", None)
-        if child is not None and not thread.is_alive():
-            agent.joins(child)
+        if child is None or not recorder.is_on or os.getpid() != recorder.process:
+            return real(thread, timeout)
+        recorder.record(R_JOINS, child + 1)
+        waiting = recorder.waiting(WAITS_FOR_THREAD, child + 1) if timeout is None else contextlib.nullcontext()
+        with waiting, recorder.inside():
+            real(thread, timeout)
+        if not thread.is_alive():
+            recorder.record(R_JOINED, child + 1)
 
-    threading.Lock, threading.RLock = lock, rlock
-    threading.Thread.start, threading.Thread.join = start, join
-
-
-def step_aside(agent):
-    """Restores the library's functions. Locks made meanwhile still work, and send no more."""
-    agent.is_streaming = False
-    threading.Lock, threading.RLock = REAL_LOCK, REAL_RLOCK
-    threading.Thread.start, threading.Thread.join = REAL_START, REAL_JOIN
+    return join
 
 
-def begin(address, bound, out):
-    agent = Agent(address, bound, out)
-    if agent.is_streaming:
-        stand_before(agent)
-    return agent
+def attach(path, frames):
+    """Records from here on. Returns the patches."""
+    global recorder
+    recorder = Recorder(path, frames)
+    patches = Patches()
+    patches.put(threading, "Lock", lambda _: TracedLock)
+    patches.put(threading, "RLock", lambda _: TracedRLock)
+    patches.put(threading.Thread, "start", starts)
+    patches.put(threading.Thread, "join", joins)
+    for kind in (threading.Semaphore, threading.BoundedSemaphore):
+        patches.put(kind, "release", gives)
+        patches.put(kind, "acquire", takes)
+        patches.put(kind, "__enter__", takes)
+        patches.put(kind, "__exit__", lambda _, kind=kind: lambda self, *_: self.release())
+    patches.put(threading.Event, "set", gives)
+    patches.put(threading.Event, "wait", takes)
+    patches.put(threading.Barrier, "wait", meets)
+    patches.put(threading.Condition, "wait", waits_for_notice)
+    patches.put(threading.Condition, "notify", gives)
+    patches.put(threading.Condition, "notify_all", gives)
+    return patches
+
+
+class Run:
+    """What `tracing` gives: after the block, `has_deadlock` says whether a deadlock was confirmed, or is None without a report."""
+
+    has_deadlock = None
 
 
 @contextlib.contextmanager
-def tracing(address, bound=4, out="goodlock"):
-    """Sends the events of threads and locks made in the block, and writes the report at its end."""
-    agent = begin(address, bound, out)
+def tracing(out="goodlock", bound=4, server=None, stacks=1):
+    """Records the threads and locks made in the block, and writes OUT.report and OUT.trace at its end."""
+    run, collector, patches = Run(), None, None
     try:
-        yield agent
+        subprocess.run([os.path.join(ROOT, "agents", "pthread", "build")], check=True)
+        program = os.environ.get("GOODLOCKD_PROGRAM", os.path.join(ROOT, "goodlockd"))
+        words = [COLLECTOR, "=", program, os.path.join(ROOT, "agents", "report.py"), "--error-exitcode", "1", "--out", out]
+        words += ["--bound", str(bound), "--stacks", str(stacks)] + (["--server", server] if server else [])
+        collector = subprocess.Popen(words, stdout=subprocess.PIPE, text=True)
+        path = collector.stdout.readline().strip()
+        patches = attach(path, stacks)
+    except (OSError, subprocess.SubprocessError) as error:
+        say(f"cannot trace: {error}; the program runs on")
+    try:
+        yield run
     finally:
-        step_aside(agent)
-        agent.write_report()
+        if patches:
+            patches.restore()
+            recorder.stop()
+            NUMBER.pack_into(recorder.memory, FINISHED, 1)
+        if collector:
+            run.has_deadlock = {0: False, 1: True}.get(collector.wait())
+            collector.stdout.close()
 
 
 def start():
-    """Sends the program's events from here on, if GOODLOCKD names a server, and writes the report at exit."""
-    address = os.environ.pop("GOODLOCKD", None)  # a program that this one starts must not send to this trace
-    if address:
-        bound, out = os.environ.get("GOODLOCK_BOUND", ""), os.environ.get("GOODLOCK_OUT", "goodlock")
-        atexit.register(begin(address, int(bound) if bound.isdecimal() else 4, out).write_report)
+    """Records the whole program from here on, if a collector has started it."""
+    path = os.environ.pop("GOODLOCK_RING", None)  # a program that this one starts is not traced
+    if path and not recorder:
+        try:
+            attach(path, int(os.environ.pop("GOODLOCK_STACKS", "1")))
+        except OSError as error:
+            say(f"cannot trace: {error}; the program runs on")
+
+
+def main():
+    """Runs a script, or a module after -m, as Python does."""
+    import goodlock_agent  # the copy that others import
+
+    goodlock_agent.start()
+    sys.argv = sys.argv[1:]
+    if sys.argv[:1] == ["-m"] and len(sys.argv) > 1:
+        sys.argv = sys.argv[1:]
+        sys.path[0] = os.getcwd()
+        runpy.run_module(sys.argv[0], run_name="__main__", alter_sys=True)
+    elif sys.argv:
+        sys.path[0] = os.path.dirname(os.path.abspath(sys.argv[0]))
+        sys.path.append(HERE)
+        runpy.run_path(sys.argv[0], run_name="__main__")
+    else:
+        sys.exit("usage: goodlock_agent.py SCRIPT [ARG ..] | -m MODULE [ARG ..]")
+
+
+if __name__ == "__main__":
+    main()

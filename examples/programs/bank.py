@@ -2,17 +2,10 @@
 """Two tellers move money in opposite directions, and lock the two accounts in opposite orders. This program can deadlock. In this
 run the second teller comes half a second later, so it does not.
 
-usage: bank.py     with GOODLOCKD=ADDRESS:PORT it streams to the server there, and writes the report at exit
+usage: agents/python/goodlock bank.py
 """
-import os
-import sys
 import threading
 import time
-
-sys.path.insert(0, os.path.join(os.path.dirname(os.path.abspath(__file__)), "..", "..", "agents", "python"))
-import goodlock_agent
-
-goodlock_agent.start()
 
 
 class Account:

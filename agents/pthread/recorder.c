@@ -1,0 +1,570 @@
+/* The recorder: LD_PRELOAD puts it before the program's thread and lock calls, and it writes each call to memory that it shares
+ * with the collector. On the path of an event there is no lock, no system call and no allocation: one atomic addition draws a
+ * place, and the event is written there. So it works inside signal handlers and allocators, and a stopped thread blocks no other.
+ *
+ * A release is written before the program's call, an acquire after it. */
+#define _GNU_SOURCE
+#include "ring.h"
+
+#include <dlfcn.h>
+#include <errno.h>
+#include <fcntl.h>
+#include <link.h>
+#include <pthread.h>
+#include <semaphore.h>
+#include <signal.h>
+#include <stdio.h>
+#include <stdlib.h>
+#include <string.h>
+#include <sys/mman.h>
+#include <sys/resource.h>
+#include <sys/syscall.h>
+#include <threads.h>
+#include <time.h>
+#include <unistd.h>
+
+#define THREAD_LOCAL static __thread __attribute__((tls_model("initial-exec")))
+#define EXPORT __attribute__((visibility("default")))
+enum { STARTS = 4096, LINES = 1 << 20, PAGES = 1 << 16, SECONDS_WITHOUT_PROGRESS = 30 };
+
+struct site { uint32_t count; uint64_t stack, callers[MOST_FRAMES]; };
+struct start { uint32_t taken, number; void *(*run)(void *); int (*run_c11)(void *); void *argument; uint64_t stack_size; };
+
+static struct ring *ring; /* NULL: nothing is recorded */
+static uint32_t is_claimed;
+static uint64_t default_stack_size;
+static struct start starts[STARTS];
+static uint8_t lines[LINES], pages[PAGES]; /* by hash: memory that has contained a lock; never cleared */
+THREAD_LOCAL uint32_t self = NOBODY;
+THREAD_LOCAL uint64_t stack_low, stack_high;
+THREAD_LOCAL void (*once_routine)(void);
+THREAD_LOCAL void *once_control;
+THREAD_LOCAL int is_finding_free;
+
+/* ---- the real functions ---- */
+
+#define REALS(X) \
+    X(pthread_create) X(pthread_join) X(pthread_tryjoin_np) X(pthread_timedjoin_np) X(pthread_clockjoin_np) \
+    X(pthread_mutex_lock) X(pthread_mutex_trylock) X(pthread_mutex_timedlock) X(pthread_mutex_clocklock) X(pthread_mutex_unlock) \
+    X(pthread_mutex_init) X(pthread_mutex_destroy) X(pthread_cond_wait) X(pthread_cond_timedwait) X(pthread_cond_clockwait) \
+    X(pthread_cond_signal) X(pthread_cond_broadcast) X(pthread_barrier_wait) X(pthread_once) X(pthread_spin_lock) \
+    X(pthread_spin_trylock) X(pthread_spin_unlock) X(pthread_spin_init) X(pthread_spin_destroy) X(pthread_rwlock_rdlock) \
+    X(pthread_rwlock_tryrdlock) X(pthread_rwlock_timedrdlock) X(pthread_rwlock_clockrdlock) X(pthread_rwlock_wrlock) \
+    X(pthread_rwlock_trywrlock) X(pthread_rwlock_timedwrlock) X(pthread_rwlock_clockwrlock) X(pthread_rwlock_unlock) \
+    X(pthread_rwlock_init) X(pthread_rwlock_destroy) X(sem_post) X(sem_wait) X(sem_trywait) X(sem_timedwait) X(sem_clockwait) \
+    X(mtx_lock) X(mtx_trylock) X(mtx_timedlock) X(mtx_unlock) X(mtx_init) X(mtx_destroy) X(cnd_wait) X(cnd_timedwait) \
+    X(cnd_signal) X(cnd_broadcast) X(thrd_create) X(thrd_join) X(call_once) X(munmap) X(free) X(realloc)
+#define DECLARE(name) static __typeof__(&name) real_##name;
+REALS(DECLARE)
+static size_t (*real_malloc_usable_size)(void *); /* NULL if it does not belong to the same allocator as `free` */
+
+/* The real function of this name. The constructor has found it, except for calls that run before the constructor. */
+#define REAL(name) ({ if (!real_##name) real_##name = (__typeof__(&name))dlsym(RTLD_NEXT, #name); real_##name; })
+
+static void find_reals(void) {
+    Dl_info of_free, of_size;
+#define FIND(name) (void)REAL(name);
+    REALS(FIND)
+    size_t (*size)(void *) = (size_t (*)(void *))dlsym(RTLD_NEXT, "malloc_usable_size");
+    if (size && real_free && dladdr((void *)size, &of_size) && dladdr((void *)real_free, &of_free) && of_size.dli_fbase == of_free.dli_fbase)
+        real_malloc_usable_size = size;
+}
+
+/* ---- one event ---- */
+
+/* The return address of the program's call, and those of the frames above it while the frame pointers stay in this thread's stack. */
+static inline __attribute__((always_inline)) void take_site(struct site *site, void *frame, void *caller) {
+    uint64_t at = (uint64_t)frame, *up;
+    site->stack = at, site->callers[0] = (uint64_t)caller, site->count = 1;
+    if (at < stack_low || at >= stack_high) return;
+    while (site->count < MOST_FRAMES) {
+        up = (uint64_t *)at;
+        if (up[0] <= at || up[0] >= stack_high - 16 || up[0] % 8) break;
+        at = up[0];
+        site->callers[site->count++] = ((uint64_t *)at)[1];
+    }
+}
+#define TAKE_SITE struct site site; take_site(&site, __builtin_frame_address(0), __builtin_return_address(0))
+
+/* Waits until the collector has read the slot of this place. Returns 0 if it does not: then nothing more is recorded. */
+static int wait_for_slot(struct ring *to, uint64_t place) {
+    uint64_t seen = 0, now;
+    int before = errno, has_room = 0;
+    struct timespec moment = {0, 50000};
+    for (int rounds = 0; !__atomic_load_n(&to->off, __ATOMIC_RELAXED); rounds++) {
+        now = __atomic_load_n(&to->consumed, __ATOMIC_ACQUIRE);
+        if (place - now < SLOTS) { has_room = 1; break; }
+        if (now != seen) seen = now, rounds = 0;
+        if (rounds > SECONDS_WITHOUT_PROGRESS * 10000 || (rounds % 100 == 99 && kill((pid_t)to->collector, 0) < 0 && errno == ESRCH)) break;
+        if (rounds < 20) sched_yield();
+        else syscall(SYS_nanosleep, &moment, NULL); /* nanosleep() is a cancellation point */
+    }
+    if (!has_room) __atomic_store_n(&to->off, 1, __ATOMIC_RELAXED), ring = NULL;
+    errno = before;
+    return has_room;
+}
+
+static int claim(int starts_thread);
+static void number_self(int starts_thread);
+
+static void write_record(struct ring *to, uint32_t thread, enum kind kind, uint64_t address, uint64_t other, const struct site *site) {
+    uint64_t place = __atomic_fetch_add(&to->next, 1, __ATOMIC_RELAXED);
+    struct record *record = &to->slots[place % SLOTS];
+    if (place - __atomic_load_n(&to->consumed, __ATOMIC_ACQUIRE) >= SLOTS && !wait_for_slot(to, place)) return;
+    record->address = address, record->other = other, record->thread = thread, record->kind = (uint8_t)kind;
+    record->frames = (uint8_t)site->count;
+    for (uint32_t at = 0; at < site->count; at++) memcpy(record->callers[at], &site->callers[at], 6);
+    __atomic_store_n(&record->ready, place + 1, __ATOMIC_RELEASE);
+}
+
+static void tell(enum kind kind, const volatile void *address, uint64_t other, const struct site *site) {
+    struct ring *to = ring;
+    if (!to) return;
+    if (self == NOBODY) {
+        number_self(0);
+        if (self == NOBODY || !(to = ring)) return;
+    }
+    write_record(to, self, kind, (uint64_t)address, other, site);
+}
+
+static int page_of(uint64_t address) { return (int)((address >> 12) * 0x9E3779B97F4A7C15u >> 48); }
+static int line_of(uint64_t address) { return (int)((address >> 6) * 0x9E3779B97F4A7C15u >> 44); }
+
+/* After an acquire: also remembers that this memory contains a lock. */
+static void acquired(enum kind kind, const volatile void *lock, const struct site *site) {
+    uint8_t *line = &lines[line_of((uint64_t)lock)], *page = &pages[page_of((uint64_t)lock)];
+    if (!*line) *line = 1;
+    if (!*page) *page = 1;
+    tell(kind, lock, site->stack, site);
+}
+
+static struct wait *will_wait(uint32_t kind, uint64_t address, const struct site *site) {
+    struct ring *to = ring;
+    if (to && self == NOBODY) number_self(0), to = ring;
+    if (!to || self == NOBODY) return NULL;
+    struct wait *wait = &to->waits[self % WAITS];
+    wait->thread = self, wait->kind = kind, wait->frames = site->count;
+    for (uint32_t at = 0; at < site->count; at++) wait->callers[at] = site->callers[at];
+    __atomic_store_n(&wait->address, address, __ATOMIC_RELEASE);
+    return wait;
+}
+
+static void has_waited(struct wait *wait) {
+    if (wait) __atomic_store_n(&wait->address, 0, __ATOMIC_RELEASE);
+}
+
+/* ---- threads ---- */
+
+/* A thread whose start was not seen. The first thread of a process has the number 0. */
+static void number_self(int starts_thread) {
+    struct ring *to = ring;
+    struct site none = {.count = 0};
+    if (!is_claimed && !claim(starts_thread)) return;
+    if (syscall(SYS_gettid) == getpid()) {
+        struct site high = {.count = 1, .callers = {stack_high}};
+        self = 0;
+        write_record(to, 0, R_START, (uint64_t)pthread_self(), stack_low, &high);
+        return;
+    }
+    self = __atomic_fetch_add(&to->threads, 1, __ATOMIC_RELAXED);
+    write_record(to, self, R_UNSEEN, (uint64_t)pthread_self(), 0, &none);
+}
+
+static struct start *new_start(uint64_t stack_size) {
+    for (uint32_t tries = 0, at = __atomic_load_n(&ring->threads, __ATOMIC_RELAXED); tries < STARTS; tries++, at++) {
+        struct start *start = &starts[at % STARTS];
+        uint32_t is_free = 0;
+        if (!__atomic_compare_exchange_n(&start->taken, &is_free, 1, 0, __ATOMIC_ACQUIRE, __ATOMIC_RELAXED)) continue;
+        start->number = __atomic_fetch_add(&ring->threads, 1, __ATOMIC_RELAXED), start->stack_size = stack_size;
+        return start;
+    }
+    return NULL;
+}
+
+static void tell_end(void *unused) {
+    struct site none = {.count = 0};
+    tell(R_END, unused, 0, &none);
+}
+
+/* Numbers the new thread, and gives the copied start back. */
+static struct start begin_thread(struct start *shared, void *frame) {
+    struct start start = *shared;
+    struct site high = {.count = 1};
+    __atomic_store_n(&shared->taken, 0, __ATOMIC_RELEASE);
+    self = start.number;
+    stack_high = (uint64_t)frame, stack_low = stack_high - (start.stack_size < stack_high ? start.stack_size : 0);
+    high.callers[0] = stack_high;
+    tell(R_START, (void *)pthread_self(), stack_low, &high);
+    return start;
+}
+
+static void *begin(void *raw) {
+    struct start start = begin_thread(raw, __builtin_frame_address(0));
+    void *result;
+    pthread_cleanup_push(tell_end, NULL);
+    result = start.run(start.argument);
+    pthread_cleanup_pop(1);
+    return result;
+}
+
+static int begin_c11(void *raw) {
+    struct start start = begin_thread(raw, __builtin_frame_address(0));
+    int result;
+    pthread_cleanup_push(tell_end, NULL);
+    result = start.run_c11(start.argument);
+    pthread_cleanup_pop(1);
+    return result;
+}
+
+EXPORT int pthread_create(pthread_t *handle, const pthread_attr_t *attributes, void *(*run)(void *), void *argument) {
+    size_t stack_size = default_stack_size;
+    struct start *start;
+    if (!ring) return REAL(pthread_create)(handle, attributes, run, argument);
+    TAKE_SITE;
+    if (attributes) pthread_attr_getstacksize(attributes, &stack_size);
+    if (self == NOBODY) number_self(1);
+    if (!ring || self == NOBODY || !(start = new_start(stack_size))) return REAL(pthread_create)(handle, attributes, run, argument);
+    start->run = run, start->argument = argument;
+    uint32_t number = start->number;
+    tell(R_FORK, NULL, number, &site);
+    int error = REAL(pthread_create)(handle, attributes, begin, start);
+    if (error) __atomic_store_n(&start->taken, 0, __ATOMIC_RELEASE);
+    else tell(R_NAMED, (void *)*handle, number, &site);
+    return error;
+}
+
+EXPORT int thrd_create(thrd_t *handle, thrd_start_t run, void *argument) {
+    struct start *start;
+    if (!ring) return REAL(thrd_create)(handle, run, argument);
+    TAKE_SITE;
+    if (self == NOBODY) number_self(1);
+    if (!ring || self == NOBODY || !(start = new_start(default_stack_size))) return REAL(thrd_create)(handle, run, argument);
+    start->run_c11 = run, start->argument = argument;
+    uint32_t number = start->number;
+    tell(R_FORK, NULL, number, &site);
+    int error = REAL(thrd_create)(handle, begin_c11, start);
+    if (error != thrd_success) __atomic_store_n(&start->taken, 0, __ATOMIC_RELEASE);
+    else tell(R_NAMED, (void *)*handle, number, &site);
+    return error;
+}
+
+static void clean_wait(void *raw) { has_waited(*(struct wait **)raw); }
+
+/* A join may be cancelled: then the thread does not wait any more, and nothing else is recorded. */
+#define JOIN(is_blocking, success, call) ({ int error; TAKE_SITE; struct wait *wait = NULL; \
+    tell(R_JOINS, (void *)handle, 0, &site); \
+    if (is_blocking) wait = will_wait(WAITS_FOR_THREAD, (uint64_t)handle, &site); \
+    pthread_cleanup_push(clean_wait, &wait); error = call; pthread_cleanup_pop(1); \
+    if (error == (success)) tell(R_JOINED, (void *)handle, 0, &site); \
+    error; })
+
+EXPORT int pthread_join(pthread_t handle, void **result) { return JOIN(1, 0, REAL(pthread_join)(handle, result)); }
+EXPORT int pthread_tryjoin_np(pthread_t handle, void **result) { return JOIN(0, 0, REAL(pthread_tryjoin_np)(handle, result)); }
+EXPORT int pthread_timedjoin_np(pthread_t handle, void **result, const struct timespec *until) {
+    return JOIN(0, 0, REAL(pthread_timedjoin_np)(handle, result, until));
+}
+EXPORT int pthread_clockjoin_np(pthread_t handle, void **result, clockid_t clock, const struct timespec *until) {
+    return JOIN(0, 0, REAL(pthread_clockjoin_np)(handle, result, clock, until));
+}
+EXPORT int thrd_join(thrd_t handle, int *result) { return JOIN(1, thrd_success, REAL(thrd_join)(handle, result)); }
+
+/* ---- locks ---- */
+
+static int took(int error, int success, enum kind kind, const volatile void *lock, const struct site *site, struct wait *wait) {
+    has_waited(wait);
+    if (error == success || error == EOWNERDEAD) acquired(kind, lock, site);
+    return error;
+}
+
+static void tell_if(int condition, enum kind kind, const volatile void *object, const struct site *site) {
+    if (condition) tell(kind, object, 0, site);
+}
+
+/* A blocking acquire: the thread shows what it waits for until it has the lock. */
+#define BLOCKING(kind, lock, success, call) ({ TAKE_SITE; struct wait *wait = will_wait(WAITS_FOR_LOCK, (uint64_t)(lock), &site); \
+    took(call, success, kind, lock, &site, wait); })
+#define ATTEMPT(kind, lock, success, call) ({ TAKE_SITE; took(call, success, kind, lock, &site, NULL); })
+#define RELEASE(kind, lock, call) ({ TAKE_SITE; tell(kind, lock, site.stack, &site); call; })
+#define RENEW(object, call) ({ TAKE_SITE; int error = call; tell_if(!error, R_NEW, object, &site); error; })
+
+EXPORT int pthread_mutex_lock(pthread_mutex_t *lock) { return BLOCKING(R_LOCK, lock, 0, REAL(pthread_mutex_lock)(lock)); }
+EXPORT int pthread_mutex_trylock(pthread_mutex_t *lock) { return ATTEMPT(R_TRIED, lock, 0, REAL(pthread_mutex_trylock)(lock)); }
+EXPORT int pthread_mutex_timedlock(pthread_mutex_t *lock, const struct timespec *until) {
+    return ATTEMPT(R_TIMED, lock, 0, REAL(pthread_mutex_timedlock)(lock, until));
+}
+EXPORT int pthread_mutex_clocklock(pthread_mutex_t *lock, clockid_t clock, const struct timespec *until) {
+    return ATTEMPT(R_TIMED, lock, 0, REAL(pthread_mutex_clocklock)(lock, clock, until));
+}
+EXPORT int pthread_mutex_unlock(pthread_mutex_t *lock) { return RELEASE(R_UNLOCK, lock, REAL(pthread_mutex_unlock)(lock)); }
+EXPORT int pthread_mutex_init(pthread_mutex_t *lock, const pthread_mutexattr_t *attributes) {
+    return RENEW(lock, REAL(pthread_mutex_init)(lock, attributes));
+}
+EXPORT int pthread_mutex_destroy(pthread_mutex_t *lock) { return RENEW(lock, REAL(pthread_mutex_destroy)(lock)); }
+
+EXPORT int pthread_spin_lock(pthread_spinlock_t *lock) { return BLOCKING(R_LOCK, lock, 0, REAL(pthread_spin_lock)(lock)); }
+EXPORT int pthread_spin_trylock(pthread_spinlock_t *lock) { return ATTEMPT(R_TRIED, lock, 0, REAL(pthread_spin_trylock)(lock)); }
+EXPORT int pthread_spin_unlock(pthread_spinlock_t *lock) { return RELEASE(R_UNLOCK, lock, REAL(pthread_spin_unlock)(lock)); }
+EXPORT int pthread_spin_init(pthread_spinlock_t *lock, int shared) { return RENEW(lock, REAL(pthread_spin_init)(lock, shared)); }
+EXPORT int pthread_spin_destroy(pthread_spinlock_t *lock) { return RENEW(lock, REAL(pthread_spin_destroy)(lock)); }
+
+EXPORT int mtx_lock(mtx_t *lock) { return BLOCKING(R_LOCK, lock, thrd_success, REAL(mtx_lock)(lock)); }
+EXPORT int mtx_trylock(mtx_t *lock) { return ATTEMPT(R_TRIED, lock, thrd_success, REAL(mtx_trylock)(lock)); }
+EXPORT int mtx_timedlock(mtx_t *lock, const struct timespec *until) {
+    return ATTEMPT(R_TIMED, lock, thrd_success, REAL(mtx_timedlock)(lock, until));
+}
+EXPORT int mtx_unlock(mtx_t *lock) { return RELEASE(R_UNLOCK, lock, REAL(mtx_unlock)(lock)); }
+EXPORT int mtx_init(mtx_t *lock, int type) { return RENEW(lock, REAL(mtx_init)(lock, type)); }
+EXPORT void mtx_destroy(mtx_t *lock) {
+    TAKE_SITE;
+    REAL(mtx_destroy)(lock);
+    tell(R_NEW, lock, 0, &site);
+}
+
+EXPORT int pthread_rwlock_wrlock(pthread_rwlock_t *lock) {
+    return BLOCKING(R_WRITE_LOCK, lock, 0, REAL(pthread_rwlock_wrlock)(lock));
+}
+EXPORT int pthread_rwlock_trywrlock(pthread_rwlock_t *lock) {
+    return ATTEMPT(R_WRITE_TRIED, lock, 0, REAL(pthread_rwlock_trywrlock)(lock));
+}
+EXPORT int pthread_rwlock_timedwrlock(pthread_rwlock_t *lock, const struct timespec *until) {
+    return ATTEMPT(R_WRITE_TIMED, lock, 0, REAL(pthread_rwlock_timedwrlock)(lock, until));
+}
+EXPORT int pthread_rwlock_clockwrlock(pthread_rwlock_t *lock, clockid_t clock, const struct timespec *until) {
+    return ATTEMPT(R_WRITE_TIMED, lock, 0, REAL(pthread_rwlock_clockwrlock)(lock, clock, until));
+}
+EXPORT int pthread_rwlock_rdlock(pthread_rwlock_t *lock) {
+    return BLOCKING(R_READ_LOCK, lock, 0, REAL(pthread_rwlock_rdlock)(lock));
+}
+EXPORT int pthread_rwlock_tryrdlock(pthread_rwlock_t *lock) {
+    return ATTEMPT(R_READ_LOCK, lock, 0, REAL(pthread_rwlock_tryrdlock)(lock));
+}
+EXPORT int pthread_rwlock_timedrdlock(pthread_rwlock_t *lock, const struct timespec *until) {
+    return ATTEMPT(R_READ_LOCK, lock, 0, REAL(pthread_rwlock_timedrdlock)(lock, until));
+}
+EXPORT int pthread_rwlock_clockrdlock(pthread_rwlock_t *lock, clockid_t clock, const struct timespec *until) {
+    return ATTEMPT(R_READ_LOCK, lock, 0, REAL(pthread_rwlock_clockrdlock)(lock, clock, until));
+}
+EXPORT int pthread_rwlock_unlock(pthread_rwlock_t *lock) {
+    return RELEASE(R_UNLOCK_EITHER, lock, REAL(pthread_rwlock_unlock)(lock));
+}
+EXPORT int pthread_rwlock_init(pthread_rwlock_t *lock, const pthread_rwlockattr_t *attributes) {
+    return RENEW(lock, REAL(pthread_rwlock_init)(lock, attributes));
+}
+EXPORT int pthread_rwlock_destroy(pthread_rwlock_t *lock) { return RENEW(lock, REAL(pthread_rwlock_destroy)(lock)); }
+
+/* ---- orders ---- */
+
+#define GIVE(object, call) ({ TAKE_SITE; tell(R_GIVE, object, 0, &site); call; })
+#define TAKE(object, call) ({ TAKE_SITE; int error = call; tell_if(!error, R_TAKE, object, &site); error; })
+
+EXPORT int sem_post(sem_t *semaphore) { return GIVE(semaphore, REAL(sem_post)(semaphore)); }
+EXPORT int sem_wait(sem_t *semaphore) { return TAKE(semaphore, REAL(sem_wait)(semaphore)); }
+EXPORT int sem_trywait(sem_t *semaphore) { return TAKE(semaphore, REAL(sem_trywait)(semaphore)); }
+EXPORT int sem_timedwait(sem_t *semaphore, const struct timespec *until) {
+    return TAKE(semaphore, REAL(sem_timedwait)(semaphore, until));
+}
+EXPORT int sem_clockwait(sem_t *semaphore, clockid_t clock, const struct timespec *until) {
+    return TAKE(semaphore, REAL(sem_clockwait)(semaphore, clock, until));
+}
+EXPORT int pthread_cond_signal(pthread_cond_t *condition) { return GIVE(condition, REAL(pthread_cond_signal)(condition)); }
+EXPORT int pthread_cond_broadcast(pthread_cond_t *condition) { return GIVE(condition, REAL(pthread_cond_broadcast)(condition)); }
+EXPORT int cnd_signal(cnd_t *condition) { return GIVE(condition, REAL(cnd_signal)(condition)); }
+EXPORT int cnd_broadcast(cnd_t *condition) { return GIVE(condition, REAL(cnd_broadcast)(condition)); }
+
+EXPORT int pthread_barrier_wait(pthread_barrier_t *barrier) {
+    TAKE_SITE;
+    tell(R_GIVE, barrier, 0, &site);
+    int error = REAL(pthread_barrier_wait)(barrier);
+    if (error == 0 || error == PTHREAD_BARRIER_SERIAL_THREAD) tell(R_TAKE, barrier, 0, &site);
+    return error;
+}
+
+/* A wait on a condition releases the lock and acquires it again, also if the thread is cancelled in it. A thread that was woken
+ * receives what the waker gave before it acquires the lock. */
+struct condition_wait { void *condition, *lock; struct site *site; int was_woken; };
+
+static void took_again(void *raw) {
+    struct condition_wait *wait = raw;
+    if (wait->was_woken) tell(R_TAKE, wait->condition, 0, wait->site);
+    acquired(R_LOCK, wait->lock, wait->site);
+}
+
+#define WAIT(success, call) ({ int error; TAKE_SITE; struct condition_wait wait = {condition, lock, &site, 0}; \
+    tell(R_UNLOCK, lock, site.stack, &site); \
+    pthread_cleanup_push(took_again, &wait); error = call; wait.was_woken = error == (success); pthread_cleanup_pop(1); error; })
+
+EXPORT int pthread_cond_wait(pthread_cond_t *condition, pthread_mutex_t *lock) {
+    return WAIT(0, REAL(pthread_cond_wait)(condition, lock));
+}
+EXPORT int pthread_cond_timedwait(pthread_cond_t *condition, pthread_mutex_t *lock, const struct timespec *until) {
+    return WAIT(0, REAL(pthread_cond_timedwait)(condition, lock, until));
+}
+EXPORT int pthread_cond_clockwait(pthread_cond_t *condition, pthread_mutex_t *lock, clockid_t clock, const struct timespec *until) {
+    return WAIT(0, REAL(pthread_cond_clockwait)(condition, lock, clock, until));
+}
+EXPORT int cnd_wait(cnd_t *condition, mtx_t *lock) { return WAIT(thrd_success, REAL(cnd_wait)(condition, lock)); }
+EXPORT int cnd_timedwait(cnd_t *condition, mtx_t *lock, const struct timespec *until) {
+    return WAIT(thrd_success, REAL(cnd_timedwait)(condition, lock, until));
+}
+
+/* The thread that runs the routine gives at its end; each thread whose call returns receives. */
+static void run_once(void) {
+    void *control = once_control;
+    struct site none = {.count = 0};
+    once_routine();
+    tell(R_GIVE, control, 0, &none);
+}
+
+EXPORT int pthread_once(pthread_once_t *control, void (*routine)(void)) {
+    void (*outer)(void) = once_routine, *outer_control = once_control;
+    if (!ring) return REAL(pthread_once)(control, routine);
+    TAKE_SITE;
+    once_routine = routine, once_control = control;
+    int error = REAL(pthread_once)(control, run_once);
+    once_routine = outer, once_control = outer_control;
+    if (!error) tell(R_ONCE, control, 0, &site);
+    return error;
+}
+
+EXPORT void call_once(once_flag *control, void (*routine)(void)) {
+    void (*outer)(void) = once_routine, *outer_control = once_control;
+    if (!ring) { REAL(call_once)(control, routine); return; }
+    TAKE_SITE;
+    once_routine = routine, once_control = control;
+    REAL(call_once)(control, run_once);
+    once_routine = outer, once_control = outer_control;
+    tell(R_ONCE, control, 0, &site);
+}
+
+/* ---- memory: a lock in freed memory ends ---- */
+
+static int may_contain_lock(uint64_t from, uint64_t size) {
+    if (size <= 4096) {
+        for (uint64_t at = from & ~(uint64_t)63; at < from + size; at += 64) if (lines[line_of(at)]) return 1;
+        return 0;
+    }
+    if (size > (uint64_t)256 << 12) return 1;
+    for (uint64_t at = from & ~(uint64_t)4095; at < from + size; at += 4096) if (pages[page_of(at)]) return 1;
+    return 0;
+}
+
+static void frees(void *memory) {
+    struct site none = {.count = 0};
+    if (!memory || !ring || !is_claimed || !real_malloc_usable_size) return;
+    uint64_t size = real_malloc_usable_size(memory);
+    if (may_contain_lock((uint64_t)memory, size)) tell(R_FREE, memory, size, &none);
+}
+
+/* Other constructors may free memory before this library's constructor. What dlsym itself frees meanwhile stays allocated. */
+EXPORT void free(void *memory) {
+    if (!real_free) {
+        if (is_finding_free) return;
+        is_finding_free = 1;
+        if (!REAL(free)) return;
+        is_finding_free = 0;
+    }
+    frees(memory);
+    real_free(memory);
+}
+
+EXPORT void *realloc(void *memory, size_t size) {
+    if (real_free) frees(memory);
+    return REAL(realloc)(memory, size);
+}
+
+/* C++: the library of C++ calls `free`, but an allocator may have its own. `size` and `alignment` are passed on. */
+#define DELETES(X) X(_ZdlPv) X(_ZdaPv) X(_ZdlPvm) X(_ZdaPvm) X(_ZdlPvSt11align_val_t) X(_ZdaPvSt11align_val_t) \
+    X(_ZdlPvmSt11align_val_t) X(_ZdaPvmSt11align_val_t) X(_ZdlPvRKSt9nothrow_t) X(_ZdaPvRKSt9nothrow_t)
+#define DELETE(name) \
+    static void (*real_##name)(void *, size_t, size_t); \
+    static int frees_##name; \
+    EXPORT void name(void *memory, size_t size, size_t alignment) { \
+        if (!real_##name) real_##name = (void (*)(void *, size_t, size_t))dlsym(RTLD_NEXT, #name), frees_##name = is_of_allocator(real_##name); \
+        if (frees_##name) frees(memory); \
+        real_##name(memory, size, alignment); \
+    }
+
+/* Returns whether a function belongs to the allocator whose `malloc_usable_size` is known. */
+static int is_of_allocator(void (*function)(void *, size_t, size_t)) {
+    Dl_info of_free, of_it;
+    return function && real_free && dladdr((void *)function, &of_it) && dladdr((void *)real_free, &of_free) &&
+           of_it.dli_fbase == of_free.dli_fbase;
+}
+
+DELETES(DELETE)
+
+EXPORT int munmap(void *memory, size_t size) {
+    struct site none = {.count = 0};
+    if (ring && is_claimed && may_contain_lock((uint64_t)memory, size)) tell(R_FREE, memory, size, &none);
+    return REAL(munmap)(memory, size);
+}
+
+/* ---- start and fork ---- */
+
+static int write_module(struct dl_phdr_info *info, size_t size, void *raw) {
+    struct ring *to = raw;
+    uint64_t low = UINT64_MAX, high = 0;
+    char path[1000] = "";
+    for (int at = 0; at < info->dlpi_phnum; at++) {
+        const ElfW(Phdr) *part = &info->dlpi_phdr[at];
+        if (part->p_type != PT_LOAD) continue;
+        if (info->dlpi_addr + part->p_vaddr < low) low = info->dlpi_addr + part->p_vaddr;
+        if (info->dlpi_addr + part->p_vaddr + part->p_memsz > high) high = info->dlpi_addr + part->p_vaddr + part->p_memsz;
+    }
+    if (info->dlpi_name[0]) snprintf(path, sizeof path, "%s", info->dlpi_name);
+    else if (readlink("/proc/self/exe", path, sizeof path - 1) < 0) path[0] = 0;
+    if (path[0] == '/' && size && to->text_used + sizeof path + 100 < TEXT)
+        to->text_used += (uint32_t)sprintf(to->text + to->text_used, "module %lx %lx %lx %s\n", (unsigned long)info->dlpi_addr,
+                                           (unsigned long)low, (unsigned long)high, path);
+    return 0;
+}
+
+/* The process that goodlock has started claims the ring at its first event, any other process when it starts its first thread; the
+ * first claim counts. If the owner's program was started by exec, the one before has ended. */
+static int claim(int starts_thread) {
+    struct ring *to = ring;
+    uint32_t nobody = 0, mine = (uint32_t)getpid();
+    struct site none = {.count = 0};
+    if (mine != to->program && mine != to->owner && !to->owner && !starts_thread) return 0;
+    if (__atomic_compare_exchange_n(&to->owner, &nobody, mine, 0, __ATOMIC_ACQ_REL, __ATOMIC_ACQUIRE)) is_claimed = 1;
+    else if (nobody == mine) {
+        is_claimed = 1;
+        write_record(to, 0, R_EXEC, 0, 0, &none);
+    } else {
+        ring = NULL;
+        return 0;
+    }
+    dl_iterate_phdr(write_module, to);
+    return 1;
+}
+
+static void in_child(void) { /* another process is not in this trace, except if its parent has recorded nothing */
+    if (is_claimed) ring = NULL;
+}
+
+extern void *__libc_stack_end;
+
+__attribute__((constructor)) static void at_start(void) {
+    const char *path = getenv("GOODLOCK_RING");
+    struct rlimit limit;
+    pthread_attr_t attributes;
+    size_t size = 8 << 20;
+    if (!path) return;
+    find_reals();
+    int file = open(path, O_RDWR | O_CLOEXEC);
+    if (file < 0) return;
+    struct ring *mapped = mmap(NULL, sizeof(struct ring), PROT_READ | PROT_WRITE, MAP_SHARED, file, 0);
+    close(file);
+    if (mapped == MAP_FAILED || mapped->off || (mapped->owner && mapped->owner != (uint32_t)getpid())) return;
+    if (pthread_getattr_default_np(&attributes) == 0) {
+        pthread_attr_getstacksize(&attributes, &size);
+        pthread_attr_destroy(&attributes);
+    }
+    default_stack_size = size;
+    stack_high = (uint64_t)__libc_stack_end;
+    if (getrlimit(RLIMIT_STACK, &limit) < 0 || limit.rlim_cur > 64 << 20) limit.rlim_cur = 8 << 20;
+    stack_low = stack_high - limit.rlim_cur;
+    mapped->attached = 1;
+    pthread_atfork(NULL, NULL, in_child);
+    ring = mapped;
+}

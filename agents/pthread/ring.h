@@ -1,0 +1,62 @@
+/* The memory that a recorder in the traced program shares with the collector, which is another process. */
+#include <stdint.h>
+
+enum { SLOTS = 1 << 18, MOST_FRAMES = 5, WAITS = 1 << 14, TEXT = 1 << 20 };
+#define NOBODY UINT32_MAX
+
+enum kind {
+    /* threads */
+    R_FORK = 1, /* other: the number of the new thread */
+    R_NAMED,    /* the creator learned the handle `address` of the thread `other` */
+    R_START,    /* a new thread's first record; address: its handle, other: the low end of its stack, callers[0]: the high end */
+    R_UNSEEN,   /* the first record of a thread whose start was not seen; address: its handle */
+    R_END,      /* a thread's function has ended */
+    R_JOINS,    /* before a join of the handle `address` */
+    R_JOINED,   /* after it */
+    R_EXEC,     /* another program begins in this process */
+    /* locks; address: the lock, other: the thread's stack pointer */
+    R_LOCK, R_TRIED, R_TIMED,    /* after a blocking, a non-blocking and a timed acquire */
+    R_UNLOCK,                    /* before a release */
+    R_WRITE_LOCK, R_WRITE_TRIED, R_WRITE_TIMED, R_READ_LOCK, R_UNLOCK_EITHER, /* the same for reader-writer locks */
+    /* orders; address: what is handed over */
+    R_GIVE,     /* before the giver's call */
+    R_TAKE,     /* after the receiver's call */
+    R_ONCE,     /* after a call that returns only when an initialisation has ended */
+    /* memory */
+    R_NEW,      /* the object at `address` was initialised or destroyed */
+    R_FREE,     /* `other` bytes at `address` are freed */
+};
+
+/* One event of the program, in one cache line. `ready` is its place plus one, and is written last. */
+struct record {
+    uint64_t ready, address, other;
+    uint32_t thread;
+    uint8_t kind, frames;
+    uint8_t callers[MOST_FRAMES][6]; /* addresses have 48 bits */
+    uint8_t unused[4];
+};
+
+enum { WAITS_FOR_LOCK = 1, WAITS_FOR_THREAD };
+
+/* What a thread is about to wait for; address is 0 while it does not wait. */
+struct wait {
+    uint64_t address;
+    uint32_t thread, kind;
+    uint64_t frames, callers[MOST_FRAMES];
+};
+
+struct ring {
+    _Alignas(64) uint64_t next;                            /* the next place; the recorder adds one for each event */
+    _Alignas(64) uint64_t consumed;                        /* the collector has read all places below */
+    _Alignas(64) uint32_t threads;                         /* the next thread number */
+    uint32_t owner, collector, program;                    /* processes: the one that records, the collector, the started one */
+    uint32_t attached, off, finished;                      /* a recorder is loaded; nothing more is recorded; read all and report */
+    uint32_t text_used;
+    char text[TEXT];                                       /* lines that explain callers, see below */
+    _Alignas(64) struct wait waits[WAITS];
+    _Alignas(64) struct record slots[SLOTS];
+};
+
+/* Lines of the text, each ends with a line feed. Addresses are hexadecimal.
+ *     module BASE LOW HIGH PATH      a file that is mapped from LOW to HIGH; its own addresses begin at BASE
+ *     site NUMBER FILE:LINE in NAME  a caller that is not an address */
