@@ -169,6 +169,7 @@ static void collect(void) {
         if (signal_to_forward && program) kill(program, signal_to_forward), signal_to_forward = 0;
         if (drain(is_over) > 0 && !is_over) continue;
         while (is_over && drain(1) > 0) continue;
+        if (options.server) flush_trace(), close_sites(); /* the dashboard reads them while the program runs */
         flush_stream();
         give_up_if_stalled(&stalled);
         if (!is_reported && (is_over || ++rounds % LOOK_EVERY == 0) && look_for_deadlock(is_over))

@@ -60,6 +60,8 @@ void encode(const struct record *record);
 void begin_run(void);
 /* Closes the last window. Returns 0 if a trace could not be written. */
 int end_run(void);
+/* Writes the events so far to the file. */
+void flush_trace(void);
 /* Closes the window and opens the next one. */
 void next_window(void);
 struct lock *known_lock(uint64_t address);

@@ -374,6 +374,12 @@ void begin_run(void) {
 
 int end_run(void) { return close_trace(); }
 
+void flush_trace(void) {
+    if (!buffered) return;
+    write_out();
+    if (trace) fflush(trace);
+}
+
 /* One thread after another acquires again what it holds. Then each of them, and the root, goes on after all of these. */
 static void repeat_held(void) {
     uint32_t chain = ++variables, end = ++variables;
