@@ -20,7 +20,7 @@ import subprocess
 import sys
 
 EVENT = re.compile(r"(\d+)([fjardw])(\d+)")
-TRY_MARKER = re.compile(r"\d+a(3[0-4]\d{8})\n")
+MARKER = re.compile(r"\d+a(3\d{9})\n")
 MEMBER = re.compile(r"  thread (\d+) lock (\d+) holds((?: \d+)+)(?: place (\d+))?")
 FIRST_THREAD, HELPERS, TRY_MARKERS, TIMED_MARKERS = 1_000_000_000, 2_000_000_000, 3_000_000_000, 3_500_000_000
 MOST_GROUPS = 1000
@@ -290,7 +290,7 @@ def check(run, number):
 
 
 def is_of_the_system(path):
-    return path.startswith(("/usr/", "/lib", "??")) or path == "?"
+    return path.startswith(("/usr/", "/lib", "/rustc/", "??")) or path == "?"
 
 
 class Sites:
@@ -342,8 +342,9 @@ class Sites:
                 return f"{shortly(where)[-160:]} in {function[:70]}", False
         path, plus, offset = caller.rpartition("+0x")
         if not plus:  # an agent's own text FILE:LINE in NAME
-            where, _, function = caller.partition(" in ")
-            return f"{shortly(where) if where.startswith('/') else where} in {function}", is_of_the_system(where)
+            where, has_function, function = caller.partition(" in ")
+            where, is_of_system = shortly(where) if where.startswith("/") else where, is_of_the_system(where)
+            return f"{where}{has_function}{function}", is_of_system
         if lines:
             return f"{lines[-1][0][-160:]} in {lines[-1][1][:70]}", True
         return f"{os.path.basename(path)}+0x{offset}", is_of_the_system(path)
@@ -441,12 +442,12 @@ def shown_of(run):
 
 def name_lines_of(path, sites):
     """Replaces the numbers of sites in a trace by their source lines, and names the markers of acquires that do not wait
-    (`# mark N`). If they cannot be written, the trace is unchanged."""
+    or have a timeout (`# mark N`). If they cannot be written, the trace is unchanged."""
     marked = set()
     try:
         with open(path, encoding="ascii") as old, open(f"{path}.new", "w", encoding="utf-8") as new:
             for line in old:
-                match = TRY_MARKER.fullmatch(line)
+                match = MARKER.fullmatch(line)
                 if match and match[1] not in marked:
                     marked.add(match[1])
                     new.write(f"# mark {match[1]}\n")

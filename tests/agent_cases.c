@@ -400,6 +400,86 @@ static void handed(void) {
     pthread_join(handle, NULL);
 }
 
+/* kept: 0f1 0f2 1a1 1a2 1a3 1r3 1r2 1r1 2a1 2a3 2a2 2r2 2r3 2r1 0j2 0j1, and the same for kept_recursive and kept_robust
+ * The second thread can neither release the first one's lock nor wait with it. */
+static pthread_mutex_t owned;
+
+static void *keeps(void *unused) {
+    pthread_mutex_lock(&owned);
+    next();
+    until(2);
+    both(&a, &b);
+    pthread_mutex_unlock(&owned);
+    next();
+    return unused;
+}
+
+static void *cannot_release(void *unused) {
+    struct timespec never = {0, -1};
+    until(1);
+    if (pthread_mutex_unlock(&owned) != EPERM || pthread_cond_wait(&condition, &owned) != EPERM) abort();
+    next();
+    until(3);
+    pthread_mutex_lock(&owned);
+    if (pthread_cond_timedwait(&condition, &owned, &never) != EINVAL) abort();
+    both(&b, &a);
+    pthread_mutex_unlock(&owned);
+    if (pthread_mutex_unlock(&owned) != EPERM) abort();
+    return unused;
+}
+
+static void make_owned(int type, int robustness) {
+    pthread_mutexattr_t attributes;
+    pthread_mutexattr_init(&attributes);
+    pthread_mutexattr_settype(&attributes, type), pthread_mutexattr_setrobust(&attributes, robustness);
+    pthread_mutex_init(&owned, &attributes);
+}
+
+static void kept(void) { make_owned(PTHREAD_MUTEX_ERRORCHECK, PTHREAD_MUTEX_STALLED), run_two(keeps, cannot_release); }
+static void kept_recursive(void) { make_owned(PTHREAD_MUTEX_RECURSIVE, PTHREAD_MUTEX_STALLED), run_two(keeps, cannot_release); }
+static void kept_robust(void) { make_owned(PTHREAD_MUTEX_NORMAL, PTHREAD_MUTEX_ROBUST), run_two(keeps, cannot_release); }
+
+/* kept_c11: 0f1 0a1 0a1 0r1 0r1 0j1 */
+static mtx_t c11_owned;
+static cnd_t c11_condition;
+
+static int cannot_release_c11(void *unused) {
+    until(1);
+    if (mtx_unlock(&c11_owned) != thrd_error || cnd_wait(&c11_condition, &c11_owned) != thrd_error) abort();
+    next();
+    return unused != NULL;
+}
+
+static void kept_c11(void) {
+    thrd_t handle;
+    mtx_init(&c11_owned, mtx_plain | mtx_recursive), cnd_init(&c11_condition);
+    thrd_create(&handle, cannot_release_c11, NULL);
+    mtx_lock(&c11_owned), next(), until(2);
+    mtx_lock(&c11_owned), mtx_unlock(&c11_owned), mtx_unlock(&c11_owned);
+    thrd_join(handle, NULL);
+}
+
+/* abandoned: 0f1 0f2 1a1 1a2 1r1 2a1 2a3 2r1 2a1 2r1 2r3 0j2 0j1 */
+static void *ends_with_owned(void *unused) {
+    pthread_mutex_lock(&owned);
+    pthread_mutex_lock(&a);
+    next();
+    return unused;
+}
+
+static void *repairs(void *unused) {
+    until(1);
+    if (pthread_mutex_lock(&owned) != EOWNERDEAD) abort();
+    pthread_mutex_consistent(&owned);
+    pthread_mutex_lock(&b);
+    pthread_mutex_unlock(&owned);
+    if (pthread_mutex_lock(&owned) || pthread_mutex_unlock(&owned)) abort();
+    pthread_mutex_unlock(&b);
+    return unused;
+}
+
+static void abandoned(void) { make_owned(PTHREAD_MUTEX_NORMAL, PTHREAD_MUTEX_ROBUST), run_two(ends_with_owned, repairs); }
+
 /* ended: 0f1 1a1 0j1 0a2 0r2 */
 static void *ends_with_it(void *unused) {
     pthread_mutex_lock(&a);
@@ -751,7 +831,8 @@ static void becomes_daemon(void) {
 
 #define CASES(X) \
     X(blocking) X(gate_lock) X(tried) X(tried_and_blocking) X(timed) X(attempts) X(semaphore) X(two_posts) X(woken) X(barrier) X(once) \
-    X(writers) X(reader_then_writer) X(writer_then_reader) X(spins) X(c11) X(recursive) X(handed) X(ended) X(cancelled) X(processes) \
+    X(writers) X(reader_then_writer) X(writer_then_reader) X(spins) X(c11) X(recursive) X(handed) \
+    X(kept) X(kept_recursive) X(kept_robust) X(kept_c11) X(abandoned) X(ended) X(cancelled) X(processes) \
     X(renewed) X(freed) X(unmapped) X(left) X(many_held) X(many_tried) X(many_threads) X(many_events) X(windows) X(stopped) \
     X(in_handler) X(deadlocks) X(waits_for_itself) X(joins_holding) X(ends_by_exit) X(ends_at_once) X(ends_quickly) X(ends_by_abort) \
     X(ends_by_kill) X(ends_by_fault) X(ends_thread) X(closes_all) X(clears_environment) X(changes_folder) X(changes_user) \

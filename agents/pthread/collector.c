@@ -22,11 +22,12 @@
 enum { MOST_CHECKS = 4, MOST_WINDOWS_WAITING = 40, MICROSECONDS = 500, STALLED_ROUNDS = 4000, GRACE_ROUNDS = 2000, AHEAD = 1000,
        LOOK_EVERY = 200, WRONG = 2 };
 
-/* The agent for Python uses these offsets. */
+/* The agent for Python uses these offsets, and it and the crate for Rust these numbers of kinds. */
+_Static_assert(R_UNLOCK == 12 && R_UNLOCK_EITHER == 17 && R_GIVE == 19 && R_NEW == 22, "goodlock_agent.py, recorder.rs");
 _Static_assert(offsetof(struct ring, consumed) == 64 && offsetof(struct ring, threads) == 128 && offsetof(struct ring, owner) == 132 &&
-               offsetof(struct ring, attached) == 144 && offsetof(struct ring, text) == 160 && offsetof(struct ring, waits) == 1048768 &&
-               offsetof(struct ring, slots) == 2097344 && sizeof(struct ring) == 18874560 && sizeof(struct record) == 64 &&
-               sizeof(struct wait) == 64, "goodlock_agent.py");
+               offsetof(struct ring, attached) == 144 && offsetof(struct ring, sites_used) == 160 && offsetof(struct ring, text) == 164 &&
+               offsetof(struct ring, waits) == 1048768 && offsetof(struct ring, slots) == 2097344 && sizeof(struct ring) == 18874560 &&
+               sizeof(struct record) == 64 && sizeof(struct wait) == 64, "goodlock_agent.py");
 
 struct options options = {.bound = 4, .error_status = -1, .frames = 1, .window = MOST_EVENTS};
 struct ring *ring;

@@ -434,7 +434,7 @@ void encode(const struct record *record) {
     struct thread *it = find_thread(thread);
     struct lock *lock;
     if (events >= options.window || events + SLACK >= MOST_EVENTS || forks + 8 >= MOST_FORKS) next_window();
-    if (record->kind >= R_LOCK && record->kind <= R_UNLOCK_EITHER && it->on_stack_count && record->other >= it->stack_low &&
+    if (record->kind >= R_LOCK && record->kind < R_GIVE && it->on_stack_count && record->other >= it->stack_low &&
         record->other < it->stack_high)
         leave_stack(it, record->other);
     switch ((enum kind)record->kind) {
@@ -456,6 +456,9 @@ void encode(const struct record *record) {
     case R_TIMED: acquire(thread, record->address, TIMES_OUT, site); break;
     case R_UNLOCK:
         if ((lock = known_lock(record->address)) && lock->holder != NOBODY) release(lock, thread, site);
+        break;
+    case R_UNLOCK_OWN:
+        if ((lock = known_lock(record->address)) && lock->holder == thread) release(lock, thread, site);
         break;
     case R_WRITE_LOCK: write_lock(thread, record->address, BLOCKS, site); break;
     case R_WRITE_TRIED: write_lock(thread, record->address, TRIES, site); break;

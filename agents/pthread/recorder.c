@@ -25,7 +25,8 @@
 
 #define THREAD_LOCAL static __thread __attribute__((tls_model("initial-exec")))
 #define EXPORT __attribute__((visibility("default")))
-enum { STARTS = 4096, LINES = 1 << 20, PAGES = 1 << 16, SECONDS_WITHOUT_PROGRESS = 30 };
+enum { STARTS = 4096, LINES = 1 << 20, PAGES = 1 << 16, SECONDS_WITHOUT_PROGRESS = 30, MOST_TEXT = 1000 };
+enum { TYPE = 3, ROBUST = 16, INHERITS = 32 }; /* parts of a mutex's kind in glibc */
 
 struct site { uint32_t count; uint64_t stack, callers[MOST_FRAMES]; };
 struct start { uint32_t taken, number; void *(*run)(void *); int (*run_c11)(void *); void *argument; uint64_t stack_size; };
@@ -40,6 +41,7 @@ THREAD_LOCAL uint64_t stack_low, stack_high;
 THREAD_LOCAL void (*once_routine)(void);
 THREAD_LOCAL void *once_control;
 THREAD_LOCAL int is_finding_free;
+THREAD_LOCAL uint64_t stated; /* the caller of this thread's next calls, if the program states it */
 
 /* ---- the real functions ---- */
 
@@ -75,8 +77,8 @@ static void find_reals(void) {
 /* The return address of the program's call, and those of the frames above it while the frame pointers stay in this thread's stack. */
 static inline __attribute__((always_inline)) void take_site(struct site *site, void *frame, void *caller) {
     uint64_t at = (uint64_t)frame, *up;
-    site->stack = at, site->callers[0] = (uint64_t)caller, site->count = 1;
-    if (at < stack_low || at >= stack_high) return;
+    site->stack = at, site->callers[0] = stated ? stated : (uint64_t)caller, site->count = 1;
+    if (stated || at < stack_low || at >= stack_high) return;
     while (site->count < MOST_FRAMES) {
         up = (uint64_t *)at;
         if (up[0] <= at || up[0] >= stack_high - 16 || up[0] % 8) break;
@@ -280,6 +282,13 @@ static void tell_if(int condition, enum kind kind, const volatile void *object, 
     if (condition) tell(kind, object, 0, site);
 }
 
+/* A release of a mutex. If glibc looks at its owner, the release fails in a thread that does not hold the mutex. */
+static enum kind unlock_of(const void *lock) {
+    int kind = ((const pthread_mutex_t *)lock)->__data.__kind, type = kind & TYPE;
+    int has_owner = type == PTHREAD_MUTEX_RECURSIVE_NP || type == PTHREAD_MUTEX_ERRORCHECK_NP || kind & (ROBUST | INHERITS);
+    return has_owner ? R_UNLOCK_OWN : R_UNLOCK;
+}
+
 /* A blocking acquire: the thread shows what it waits for until it has the lock. */
 #define BLOCKING(kind, lock, success, call) ({ TAKE_SITE; struct wait *wait = will_wait(WAITS_FOR_LOCK, (uint64_t)(lock), &site); \
     took(call, success, kind, lock, &site, wait); })
@@ -295,7 +304,7 @@ EXPORT int pthread_mutex_timedlock(pthread_mutex_t *lock, const struct timespec 
 EXPORT int pthread_mutex_clocklock(pthread_mutex_t *lock, clockid_t clock, const struct timespec *until) {
     return ATTEMPT(R_TIMED, lock, 0, REAL(pthread_mutex_clocklock)(lock, clock, until));
 }
-EXPORT int pthread_mutex_unlock(pthread_mutex_t *lock) { return RELEASE(R_UNLOCK, lock, REAL(pthread_mutex_unlock)(lock)); }
+EXPORT int pthread_mutex_unlock(pthread_mutex_t *lock) { return RELEASE(unlock_of(lock), lock, REAL(pthread_mutex_unlock)(lock)); }
 EXPORT int pthread_mutex_init(pthread_mutex_t *lock, const pthread_mutexattr_t *attributes) {
     return RENEW(lock, REAL(pthread_mutex_init)(lock, attributes));
 }
@@ -312,7 +321,7 @@ EXPORT int mtx_trylock(mtx_t *lock) { return ATTEMPT(R_TRIED, lock, thrd_success
 EXPORT int mtx_timedlock(mtx_t *lock, const struct timespec *until) {
     return ATTEMPT(R_TIMED, lock, thrd_success, REAL(mtx_timedlock)(lock, until));
 }
-EXPORT int mtx_unlock(mtx_t *lock) { return RELEASE(R_UNLOCK, lock, REAL(mtx_unlock)(lock)); }
+EXPORT int mtx_unlock(mtx_t *lock) { return RELEASE(unlock_of(lock), lock, REAL(mtx_unlock)(lock)); }
 EXPORT int mtx_init(mtx_t *lock, int type) { return RENEW(lock, REAL(mtx_init)(lock, type)); }
 EXPORT void mtx_destroy(mtx_t *lock) {
     TAKE_SITE;
@@ -380,31 +389,34 @@ EXPORT int pthread_barrier_wait(pthread_barrier_t *barrier) {
 }
 
 /* A wait on a condition releases the lock and acquires it again, also if the thread is cancelled in it. A thread that was woken
- * receives what the waker gave before it acquires the lock. */
-struct condition_wait { void *condition, *lock; struct site *site; int was_woken; };
+ * receives what the waker gave before it acquires the lock. If `error` is one of a wait that fails, the thread has no lock. */
+struct condition_wait { void *condition, *lock; struct site *site; int success, error; };
 
 static void took_again(void *raw) {
     struct condition_wait *wait = raw;
-    if (wait->was_woken) tell(R_TAKE, wait->condition, 0, wait->site);
+    if (wait->error == EPERM || wait->error == ENOTRECOVERABLE || wait->error == thrd_error) return;
+    if (wait->error == wait->success || wait->error == EOWNERDEAD) tell(R_TAKE, wait->condition, 0, wait->site);
     acquired(R_LOCK, wait->lock, wait->site);
 }
 
-#define WAIT(success, call) ({ int error; TAKE_SITE; struct condition_wait wait = {condition, lock, &site, 0}; \
-    tell(R_UNLOCK, lock, site.stack, &site); \
-    pthread_cleanup_push(took_again, &wait); error = call; wait.was_woken = error == (success); pthread_cleanup_pop(1); error; })
+#define WAIT(success, call) ({ TAKE_SITE; struct condition_wait wait = {condition, lock, &site, success, ECANCELED}; \
+    tell(unlock_of(lock), lock, site.stack, &site); \
+    pthread_cleanup_push(took_again, &wait); wait.error = call; pthread_cleanup_pop(1); wait.error; })
+/* With another number of nanoseconds a wait fails before it releases the lock. */
+#define TIMED_WAIT(success, call) (until->tv_nsec < 0 || until->tv_nsec >= 1000000000 ? call : WAIT(success, call))
 
 EXPORT int pthread_cond_wait(pthread_cond_t *condition, pthread_mutex_t *lock) {
     return WAIT(0, REAL(pthread_cond_wait)(condition, lock));
 }
 EXPORT int pthread_cond_timedwait(pthread_cond_t *condition, pthread_mutex_t *lock, const struct timespec *until) {
-    return WAIT(0, REAL(pthread_cond_timedwait)(condition, lock, until));
+    return TIMED_WAIT(0, REAL(pthread_cond_timedwait)(condition, lock, until));
 }
 EXPORT int pthread_cond_clockwait(pthread_cond_t *condition, pthread_mutex_t *lock, clockid_t clock, const struct timespec *until) {
-    return WAIT(0, REAL(pthread_cond_clockwait)(condition, lock, clock, until));
+    return TIMED_WAIT(0, REAL(pthread_cond_clockwait)(condition, lock, clock, until));
 }
 EXPORT int cnd_wait(cnd_t *condition, mtx_t *lock) { return WAIT(thrd_success, REAL(cnd_wait)(condition, lock)); }
 EXPORT int cnd_timedwait(cnd_t *condition, mtx_t *lock, const struct timespec *until) {
-    return WAIT(thrd_success, REAL(cnd_timedwait)(condition, lock, until));
+    return TIMED_WAIT(thrd_success, REAL(cnd_timedwait)(condition, lock, until));
 }
 
 /* The thread that runs the routine gives at its end; each thread whose call returns receives. */
@@ -499,6 +511,33 @@ EXPORT int munmap(void *memory, size_t size) {
     return REAL(munmap)(memory, size);
 }
 
+/* ---- for programs with locks of their own: agents/rust calls these, and states callers by numbers ---- */
+
+/* Returns the number of a caller that is not an address, or 0 if there is no room. */
+EXPORT uint64_t goodlock_site(const char *text, uint32_t length) {
+    struct ring *to = ring;
+    if (!to || length > MOST_TEXT || __atomic_load_n(&to->sites_used, __ATOMIC_RELAXED) > TEXT / 2 - (1 << 16)) return 0;
+    uint32_t at = TEXT - length - 1 - __atomic_fetch_add(&to->sites_used, length + 1, __ATOMIC_RELAXED);
+    memcpy(to->text + at, text, length);
+    to->text[at + length] = '\n';
+    return at;
+}
+
+/* The next calls of this thread are by this caller; 0: by their return addresses. */
+EXPORT void goodlock_state(uint64_t caller) { stated = caller; }
+
+EXPORT void goodlock_record(uint32_t kind, uint64_t object, uint64_t caller) {
+    struct site site = {.count = 1, .stack = (uint64_t)__builtin_frame_address(0), .callers = {caller}};
+    tell((enum kind)kind, (void *)object, site.stack, &site);
+}
+
+/* Before a blocking acquire, and with object 0 after it. */
+EXPORT void goodlock_wait(uint64_t object, uint64_t caller) {
+    struct site site = {.count = 1, .callers = {caller}};
+    if (object) will_wait(WAITS_FOR_LOCK, object, &site);
+    else if (ring && self != NOBODY) has_waited(&ring->waits[self % WAITS]);
+}
+
 /* ---- start and fork ---- */
 
 static int write_module(struct dl_phdr_info *info, size_t size, void *raw) {
@@ -513,7 +552,7 @@ static int write_module(struct dl_phdr_info *info, size_t size, void *raw) {
     }
     if (info->dlpi_name[0]) snprintf(path, sizeof path, "%s", info->dlpi_name);
     else if (readlink("/proc/self/exe", path, sizeof path - 1) < 0) path[0] = 0;
-    if (path[0] == '/' && size && to->text_used + sizeof path + 100 < TEXT)
+    if (path[0] == '/' && size && to->text_used + sizeof path + 100 < TEXT / 2)
         to->text_used += (uint32_t)sprintf(to->text + to->text_used, "module %lx %lx %lx %s\n", (unsigned long)info->dlpi_addr,
                                            (unsigned long)low, (unsigned long)high, path);
     return 0;

@@ -18,6 +18,7 @@ enum kind {
     R_LOCK, R_TRIED, R_TIMED,    /* after a blocking, a non-blocking and a timed acquire */
     R_UNLOCK,                    /* before a release */
     R_WRITE_LOCK, R_WRITE_TRIED, R_WRITE_TIMED, R_READ_LOCK, R_UNLOCK_EITHER, /* the same for reader-writer locks */
+    R_UNLOCK_OWN,                /* before a release that fails if the thread does not hold the lock */
     /* orders; address: what is handed over */
     R_GIVE,     /* before the giver's call */
     R_TAKE,     /* after the receiver's call */
@@ -51,12 +52,12 @@ struct ring {
     _Alignas(64) uint32_t threads;                         /* the next thread number */
     uint32_t owner, collector, program;                    /* processes: the one that records, the collector, the started one */
     uint32_t attached, off, finished;                      /* a recorder is loaded; nothing more is recorded; read all and report */
-    uint32_t text_used;
-    char text[TEXT];                                       /* lines that explain callers, see below */
+    uint32_t text_used, sites_used;                        /* from the front and from the back */
+    char text[TEXT];                                       /* what explains callers, see below */
     _Alignas(64) struct wait waits[WAITS];
     _Alignas(64) struct record slots[SLOTS];
 };
 
-/* Lines of the text, each ends with a line feed. Addresses are hexadecimal.
- *     module BASE LOW HIGH PATH      a file that is mapped from LOW to HIGH; its own addresses begin at BASE
- *     site NUMBER FILE:LINE in NAME  a caller that is not an address */
+/* The text has lines, each ends with a line feed. From the front: `module BASE LOW HIGH PATH`, in hexadecimal, for a file that is mapped
+ * from LOW to HIGH; its own addresses begin at BASE. From the back: `FILE:LINE in NAME` or `FILE:LINE` for a caller that is not an
+ * address; the place of its line in the text is the caller's number. So a caller below TEXT is such a number; 0 is not known. */

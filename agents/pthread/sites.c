@@ -11,8 +11,6 @@ static uint32_t sites_count;
 static struct module *modules;
 static size_t modules_count, modules_room;
 static uint32_t text_read;
-static char **texts; /* sites that are not addresses, by number */
-static size_t texts_count, texts_room;
 static FILE *file;
 
 static void add_module(uint64_t base, uint64_t low, uint64_t high, const char *path) {
@@ -23,7 +21,7 @@ static void add_module(uint64_t base, uint64_t low, uint64_t high, const char *p
 /* Reads the lines that the recorder has added to the text. */
 static void read_text(void) {
     uint32_t used = __atomic_load_n(&ring->text_used, __ATOMIC_ACQUIRE);
-    unsigned long base, low, high, number;
+    unsigned long base, low, high;
     char path[2000];
     while (text_read < used && used <= TEXT) {
         char *line = ring->text + text_read, *end = memchr(line, '\n', used - text_read);
@@ -33,10 +31,6 @@ static void read_text(void) {
         char copy[2100];
         snprintf(copy, sizeof copy, "%.*s", length, line);
         if (sscanf(copy, "module %lx %lx %lx %1999[^\n]", &base, &low, &high, path) == 4) add_module(base, low, high, path);
-        else if (sscanf(copy, "site %lu %1999[^\n]", &number, path) == 2 && number == texts_count) {
-            texts = grow(texts, texts_count, &texts_room, sizeof *texts);
-            texts[texts_count++] = strdup(path);
-        }
     }
 }
 
@@ -66,8 +60,9 @@ static void write_site(const struct site *site) {
     for (uint32_t at = 0; at < site->count; at++) {
         uint64_t caller = site->callers[at];
         read_text();
-        if (options.is_python) {
-            fprintf(file, "\t%s", caller < texts_count ? texts[caller] : "?");
+        if (caller < TEXT) {
+            const char *text = caller ? ring->text + caller : "?";
+            fprintf(file, "\t%.*s", (int)strcspn(text, "\n"), text);
             continue;
         }
         if (!module_of(caller)) read_maps();

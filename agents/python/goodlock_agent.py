@@ -30,10 +30,10 @@ import time
 
 R_FORK, R_NAMED, R_START, R_UNSEEN, R_END, R_JOINS, R_JOINED, R_EXEC = range(1, 9)
 R_LOCK, R_TRIED, R_TIMED, R_UNLOCK = range(9, 13)
-R_GIVE, R_TAKE = 18, 19
+R_GIVE, R_TAKE = 19, 20
 WAITS_FOR_LOCK, WAITS_FOR_THREAD = 1, 2
 # The shared memory; collector.c tests that these are the offsets in ring.h.
-NEXT, CONSUMED, THREADS, OWNER, ATTACHED, OFF, FINISHED, TEXT_USED, TEXT = 0, 64, 128, 132, 144, 148, 152, 156, 160
+NEXT, CONSUMED, THREADS, OWNER, ATTACHED, OFF, FINISHED, SITES_USED, TEXT = 0, 64, 128, 132, 144, 148, 152, 160, 164
 WAITS, SLOTS, SIZE, MOST_WAITS, MOST_SLOTS, MOST_TEXT = 1_048_768, 2_097_344, 18_874_560, 1 << 14, 1 << 18, 1 << 20
 RECORD, NUMBER, PLACE = struct.Struct("<QQIBB30s"), struct.Struct("I"), struct.Struct("Q")  # native: written in one step
 WAIT = struct.Struct("<IIQ5Q")
@@ -64,7 +64,6 @@ class Recorder:
         self.here.number = 0
         self.sites, self.known, self.registers = {}, {}, REAL_LOCK()  # numbers by text, and by code and line
         self.is_on, self.process = True, os.getpid()
-        self.register("?")
         NUMBER.pack_into(self.memory, OWNER, self.process)
         NUMBER.pack_into(self.memory, ATTACHED, 1)
 
@@ -78,13 +77,14 @@ class Recorder:
         if not self.registers.acquire(False):
             return 0
         try:
-            used = NUMBER.unpack_from(self.memory, TEXT_USED)[0]
-            line = f"site {len(self.sites)} {text}\n".encode("utf-8", "replace")
-            if used + len(line) > MOST_TEXT:
+            used = NUMBER.unpack_from(self.memory, SITES_USED)[0]
+            line = f"{text}\n".encode("utf-8", "replace")
+            number = MOST_TEXT - used - len(line)
+            if number < 1:
                 return 0
-            self.memory[TEXT + used : TEXT + used + len(line)] = line
-            NUMBER.pack_into(self.memory, TEXT_USED, used + len(line))
-            number = self.sites[text] = len(self.sites)
+            self.memory[TEXT + number : TEXT + number + len(line)] = line
+            NUMBER.pack_into(self.memory, SITES_USED, used + len(line))
+            self.sites[text] = number
             return number
         finally:
             self.registers.release()
