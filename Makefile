@@ -1,12 +1,12 @@
 # Proves and builds the program. The crates and what each one uses come from crates.txt.
 #   make         builds crates/goodlockd/out/goodlockd, several crates at a time (make -jN: at most N)
 #   make test    runs the merge gate, `rt ci`, and then the tests of the user side
-#   make bench   runs the benchmarks
-#   make clean   removes everything that was built
+#   make bench   runs the benchmarks; make clean removes everything that was built
+#   make install PREFIX=DIR, make dist   installs the program, agents and tools, or packs them: see tools/install --help
 # A crate is built again if one of its files, its line of crates.txt, the toolchain or a crate below it has changed.
 .DELETE_ON_ERROR .SECONDEXPANSION:
-.PHONY: test bench clean
-tools := $(if $(filter clean,$(MAKECMDGOALS)),,rt python3 $(if $(filter test bench,$(MAKECMDGOALS)),cc))
+.PHONY: test bench install dist clean
+tools := $(if $(filter clean,$(MAKECMDGOALS)),,rt python3 $(if $(filter test bench install dist,$(MAKECMDGOALS)),cc))
 $(foreach it,$(tools),$(if $(shell command -v $(it)),,$(error there is no command $(it): README.md lists the requirements)))
 # One job for each processor, if there are 5 GB of memory for each.
 MAKEFLAGS += -j$(shell awk -v most=$$(nproc) '/^MemTotal/ {n = int($$2 / 5e6); print n < 1 ? 1 : n < most ? n : most}' /proc/meminfo)
@@ -34,12 +34,10 @@ words = --crate-name $* --jobs 2 --antt-project $(kit)/rattle/logic/antt-project
 crates/goodlockd/out/goodlockd: crates/goodlockd/out/rlib/built
 	@$(kit)/bin/rattle-link --target x86_64-unknown-linux-gnu --toolchain $(kit)/toolchain -o $@.new \
 	    $(call rlib,goodlockd)/goodlockd.o $(kit)/c/libos_c.a $(kit)/c/liblibc_c.a >out/link.log 2>&1 || { cat out/link.log >&2; exit 1; }; mv $@.new $@; touch -r $< $@
-test:
-	rt ci && tests/run
-bench: crates/goodlockd/out/goodlockd
-	bench/run
-clean:
-	rm -rf out crates/*/out
+test: ; rt ci && tests/run
+bench: crates/goodlockd/out/goodlockd ; bench/run
+install dist: crates/goodlockd/out/goodlockd ; tools/install $@ $(if $(filter install,$@),'$(PREFIX)')
+clean: ; rm -rf out crates/*/out
 $(call stamps,$(crates)): crates/%/out/rlib/built: out/%.uses $$(call stamps,$$(call own,$$*)) \
         $$(shell find $$(wildcard $$(addprefix crates/$$*/,src specs proofs)))
 	@rm -rf $(@D) $(call stamps,$(call above,$*)); mkdir -p $(@D); touch out/$*.begun

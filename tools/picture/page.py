@@ -5,7 +5,7 @@ from math import inf
 from drawing import PALETTE, colours_of
 from ring import draw_ring
 from shared.apart import advice, heading, look, sentences, tally
-from shared.groups import Groups
+from shared.groups import TRIED, Groups
 from shared.index import CALLED_BY
 from timeline import Link, TimeLine, rows_of
 
@@ -100,8 +100,7 @@ def report_parts(index, drawn, at):
         yield ("<section><h2>No cycles</h2><p>Within the bound this run predicts no deadlock of this shape. Threads, locks and branches "
                "that the run did not use are not in it.</p></section>")
     if drawn.groups.tried:
-        yield (f'<p class="faint">{plural(drawn.groups.tried, "cycle")} left out: a member does not wait, since it only tries to '
-               "acquire its lock.</p>")
+        yield f'<p class="faint">{plural(drawn.groups.tried, "cycle")} {TRIED}.</p>'
     if drawn.is_grouped():
         count = len(drawn.groups.by_key)
         which = "each group" if count <= drawn.most else "the first group" if drawn.most == 1 else f"each of the first {drawn.most} groups"

@@ -9,6 +9,7 @@ Step = namedtuple("Step", "place left_out")
 Location = namedtuple("Location", "text file line function")
 LOCATION = re.compile(r"(.+?):([1-9][0-9]{0,8})(?::[0-9]+)?(?: in (.*))?")
 SHORT, MOST_GROUPS = 12, 10_000
+TRIED = "left out: a member does not wait, or not without end, since it tries to acquire its lock or has a timeout"
 
 
 def location_of(text):
@@ -52,7 +53,7 @@ def steps_of(witness, shown):
 class Groups:
     """The groups of one report, confirmed ones first, each kind in the order of the report. The first `whole` confirmed groups keep the
     witness of their example. At most MOST_GROUPS groups begin with a confirmed cycle, and that many with a potential one: `further` and
-    `further_confirmed` count the cycles that would begin others. `tried` counts the cycles in which a member does not wait."""
+    `further_confirmed` count the cycles that would begin others. `tried` counts the cycles in which a member holds a mark."""
 
     def __init__(self, index, report, whole=0):
         self.index, self.report, self.whole = index, report, whole

@@ -18,7 +18,7 @@ MARK = re.compile(rf"# mark {NUMBER}")
 LARGEST, MOST_HELD, MOST_DEPTH, MOST_THREADS, MOST_EVENTS = 4_294_967_295, 32, 255, 1_024, 1_048_576
 
 Event = namedtuple("Event", "thread letter about where")
-# `names` maps ("thread", 1) and ("lock", 1) to names; `marks` are the locks that mark acquires which do not wait.
+# `names` maps ("thread", 1) and ("lock", 1) to names; `marks` are the locks that mark acquires which do not wait without end.
 Trace = namedtuple("Trace", "events names marks")
 Member = namedtuple("Member", "thread lock held place")
 # `cycles` and `confirmed` are the counts of the report's first line.
