@@ -10,7 +10,7 @@ use crate::exit::{CommandError, Status};
 use crate::files::read_file;
 use crate::text::push_last;
 use event_frames::{FrameReader, answer_frame, ask_frame, batch_frame, offer_frame, status_frame};
-use findings::{ComputeRefused, Job};
+use findings::{Analysis, ComputeRefused, Job};
 use printing::push_reply;
 use reading::{Command, read_script};
 use sequencer::Book;
@@ -108,7 +108,10 @@ impl ScriptSession {
             return Err(Refusal::NoSuchQuestion);
         };
         let snapshot = self.book.snapshot(question)?;
-        Ok(Job::new(self.alloc, snapshot, question, status.bound))
+        let Ok(analysis) = Analysis::new(self.alloc, snapshot, status.bound) else {
+            return Err(Refusal::NoMemory);
+        };
+        Ok(Job::new(self.alloc, analysis, question))
     }
 
     /// Computes a task of the job's question and delivers it to the book.

@@ -1,6 +1,6 @@
 //! Tests of findings and of jobs.
 
-use findings::{Finding, Job, Snapshot};
+use findings::{Analysis, Finding, Job, Snapshot};
 use fixtures::{event, opposite_orders};
 use reports::{Found, Row};
 use std::alloc::Global;
@@ -98,7 +98,10 @@ fn computes_each(job: &mut Job) -> bool {
 
 /// Returns whether a job over the snapshot computes the tasks of `computes_each`.
 fn job_computes(alloc: Global, snapshot: Arc<Snapshot, Global>, bound: Bound) -> bool {
-    let mut job = Job::new(alloc, snapshot, 7, bound);
+    let Ok(analysis) = Analysis::new(alloc, snapshot, bound) else {
+        return false;
+    };
+    let mut job = Job::new(alloc, analysis, 7);
     let computes_each = computes_each(&mut job);
     drop(job);
     computes_each

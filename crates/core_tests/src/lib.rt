@@ -30,6 +30,8 @@ mod lock_table_tests;
 #[cfg(test)]
 mod public_surface;
 #[cfg(test)]
+mod refutation_tests;
+#[cfg(test)]
 mod report_text_tests;
 #[cfg(test)]
 mod trace_index_tests;

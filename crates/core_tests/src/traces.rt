@@ -247,7 +247,8 @@ pub(crate) fn found_of(
     }
 }
 
-fn are_known(table: &DepTable, numbers: &[u32]) -> bool
+/// Returns whether each number is that of a dependency of the table.
+pub(crate) fn are_known(table: &DepTable, numbers: &[u32]) -> bool
     ensures { IsTrue result → (m : ℕ) → Contains numbers.now m → m < length (known table.now) }
 {
     for number in numbers {

@@ -1,33 +1,33 @@
 -- If components do not decrease along edges, all members of a cycle have the same one.
-use Rattle.std.proofs.Common.{◌≡◌, ℕ, zero, suc, ◌<◌, ◌≤◌, List, [], ◌∷◌, ◌++◌, length, map, take, option_map, slice_get, get_or, Some, refl, sym, ap, ◌∙◌, subst, inl, inr, arith}
+use Rattle.std.proofs.Common.{◌≡◌, ℕ, zero, suc, ◌<◌, ◌≤◌, List, [], ◌∷◌, ◌++◌, true, false, length, map, take, option_map, slice_get, get_or, Some, refl, sym, ap, ◌∙◌, subst, inl, inr, arith}
 use Rattle.std.proofs.lemmas.Option.{none-some, slice_get_within, same_Some, slice_get-map, slice_get-get_or, get_or_from_slice_get}
 use Rattle.std.proofs.lemmas.List.{length-append, length-map}
-use Rattle.std.proofs.lemmas.Bool.{cases_eq}
+use Rattle.std.proofs.lemmas.Bool.{cases_eq, false≢true}
 use Rattle.std.specs.List.{Contains, All}
 use Rattle.trace_model.specs.Theory.Dependencies.{Dependency}
-use Rattle.trace_model.specs.Theory.Cycles.{Member, next, IsCycle}
+use Rattle.trace_model.specs.Theory.Cycles.{Member, next, IsCycle, AreCyclesFrom}
 use Rattle.trace_model.proofs.Theory.Unique.{has_contained, contains_had}
 use Rattle.cycle_search.specs.Search.{CycleThrough, AreAll}
 use Rattle.lock_graph.specs.Graph.{IsGraphOf}
 use Rattle.cycle_search.specs.declared.components.Components.{Components}
-use Rattle.cycle_search.specs.Components.{AreComponents, IsTopological}
+use Rattle.cycle_search.specs.Components.{AreComponents, AreCyclic, IsTopological}
 use Rattle.cycle_search.specs.Acquirers.{acquirers_of, AreAcquirers}
 use Rattle.cycle_search.proofs.Listing.{all-none, get-left}
 use Rattle.cycle_search.proofs.Paths.{all-had, found, next-inside, next-last, at-end}
 
 module _ (ds : List Dependency) (bound : ℕ) (numbers : List ℕ) (c : IsCycle ds bound numbers) (components : Components) (are : AreComponents ds components) where
-  at : (i : ℕ) → i < length numbers → (d : Dependency) × Member ds numbers i d
-  at i l =
+  pub member-of : (i : ℕ) → i < length numbers → (d : Dependency) × Member ds numbers i d
+  member-of i l =
       let x = slice_get-get_or numbers i 0 l in
       let d = found ds (get_or numbers i 0) (c.known (get_or numbers i 0) (contains_had numbers (get_or numbers i 0) (i, x))) in
       (d.0, (get_or numbers i 0, x, d.1))
 
   step : (i j : ℕ) → next numbers i ≡ j → i < length numbers → j < length numbers →
       get_or components.numbers.items (get_or numbers i 0) 0 ≤ get_or components.numbers.items (get_or numbers j 0) 0
-  unfolding at
+  unfolding member-of
   step i j e k l =
-      let a = at i k in
-      let b = at j l in
+      let a = member-of i k in
+      let b = member-of j l in
       are.ascend (get_or numbers i 0) (get_or numbers j 0) a.0 b.0 a.1.2 b.1.2
       (c.linked i a.0 b.0 a.1 (subst (λ n. Member ds numbers n b.0) (sym e) b.1))
 
@@ -61,6 +61,45 @@ other-component ds bound path m components are begun differ = all-none (CycleThr
     let e = components-equal ds bound (path ++ m ∷ rest) c components are (length path) (omega (arith, length-append path (m ∷ rest))) in
     differ (ap (λ x. get_or components.numbers.items x 0) (sym head) ∙ e ∙ ap (λ x. get_or components.numbers.items x 0) last))
 
+-- Each member of a cycle is cyclic.
+module _ (ds : List Dependency) (bound : ℕ) (numbers : List ℕ) (c : IsCycle ds bound numbers) (components : Components) (are : AreComponents ds components) where
+  marked : (i j : ℕ) → next numbers i ≡ j → i < length numbers → j < length numbers → slice_get components.cyclic.items (get_or numbers j 0) ≡ Some true
+  unfolding member-of
+  marked i j e k l =
+      let a = member-of ds bound numbers c components are i k in
+      let b = member-of ds bound numbers c components are j l in
+      let same = components-equal ds bound numbers c components are in
+      are.cyclic (get_or numbers i 0) (get_or numbers j 0) a.0 b.0 a.1.2 b.1.2
+      (c.linked i a.0 b.0 a.1 (subst (λ n. Member ds numbers n b.0) (sym e) b.1)) (omega (arith, same i k, same j l))
+
+  pub member-cyclic : (j : ℕ) → j < length numbers → slice_get components.cyclic.items (get_or numbers j 0) ≡ Some true
+  member-cyclic zero l = go (length numbers) refl
+    where
+      go : (n : ℕ) → length numbers ≡ n → slice_get components.cyclic.items (get_or numbers 0 0) ≡ Some true
+      go zero e = absurd (omega (arith, e, l))
+      go (suc n) e = marked n 0 (next-last numbers n (sym e)) (omega (arith, e)) l
+  member-cyclic (suc j) l = marked j (suc j) (next-inside numbers j l) (omega arith) l
+
+-- Without a cyclic dependency there is no cycle.
+pub no-cycle : (ds : List Dependency) (bound : ℕ) (numbers : List ℕ) (components : Components) → All (λ flag. flag ≡ false) components.cyclic.items → AreComponents ds components → IsCycle ds bound numbers → ⊥
+no-cycle ds bound numbers components off are c =
+    let m = get_or numbers 0 0 in
+    let on = member-cyclic ds bound numbers c components are 0 (omega (arith, c.at_least_two)) in
+    false≢true (sym (off m false (slice_get_within components.cyclic.items m true on)) ∙ get_or_from_slice_get components.cyclic.items m true false on)
+
+-- No cycle begins with a dependency that is not cyclic.
+pub none-from : (ds : List Dependency) (bound root : ℕ) (components : Components) → AreComponents ds components → slice_get components.cyclic.items root ≡ Some false → AreCyclesFrom ds bound root []
+none-from ds bound root components are off = record {
+  exact = λ numbers. (
+    λ h. absurd (omega (arith, h.1)),
+    λ h.
+        let here = get_or_from_slice_get numbers 0 root 0 h.1 in
+        let on = member-cyclic ds bound numbers h.0 components are 0 (omega (arith, h.0.at_least_two)) in
+        absurd (false≢true (same_Some _ _ (sym off ∙ ap (slice_get components.cyclic.items) (sym here) ∙ on))),
+  );
+  in_order = λ i j a b l x y. absurd (none-some a x);
+}
+
 -- The components of the locks that the dependencies acquire.
 pub map-more : {X Y : Type 0} (f : X → Y) (xs : List X) (i : ℕ) (x : X) → slice_get xs i ≡ Some x → map f (take (suc i) xs) ≡ map f (take i xs) ++ f x ∷ []
 map-more f [] i x h = absurd (none-some x h)
@@ -74,10 +113,13 @@ of-lock ds of numbers e m a x = get_or_from_slice_get numbers m (of a.lock) 0
     (ap (λ (xs : List ℕ). slice_get xs m) e ∙ slice_get-map (λ d. of d.lock) ds m ∙ ap (option_map (λ d. of d.lock)) x)
 
 pub components-ascend : (ds : List Dependency) (component : ℕ → ℕ) (components : Components) → components.numbers.items ≡ map (λ d. component d.lock) ds → IsTopological ds component →
-    AreAcquirers ds (acquirers_of components.acquirers) → AreComponents ds components
-components-ascend ds component components e up acquirers = record {
+    AreCyclic ds component components.cyclic.items → AreAcquirers ds (acquirers_of components.acquirers) → AreComponents ds components
+components-ascend ds component components e up cyclic acquirers = record {
   each = ap (λ (xs : List ℕ). length xs) e ∙ length-map ds (λ d. component d.lock);
   ascend = λ m n a b x y c. omega (arith, of-lock ds component components.numbers.items e m a x, of-lock ds component components.numbers.items e n b y, up n a.lock b y c);
+  marked = cyclic.each;
+  cyclic = λ m n a b x y c same. cyclic.marked n a.lock b y c
+      (sym (of-lock ds component components.numbers.items e m a x) ∙ same ∙ of-lock ds component components.numbers.items e n b y);
   acquirers = acquirers;
 }
 

@@ -1,9 +1,12 @@
 //! The component of each dependency, by which a search is pruned.
 
-ghost use Rattle.std.specs.Prelude.{◌≡◌, ◌<◌, length, nat_eq, slice_index, IfOk, IsTrue};
+ghost use Rattle.std.specs.Prelude.{◌≡◌, ◌<◌, ℕ, List, length, nat_eq, slice_get, slice_index, Some, false, IfOk, IsTrue};
+ghost use Rattle.std.specs.List.{All};
 ghost use Rattle.dependencies.specs.Tables.{known};
 ghost use Rattle.lock_graph.specs.Graph.{HasGraphOf};
-ghost use Rattle.cycle_search.specs.Components.{AreComponents, IsTopological};
+ghost use Rattle.trace_model.specs.Theory.Cycles.{IsCycle};
+ghost use Rattle.trace_model.specs.Theory.Dependencies.{Dependency};
+ghost use Rattle.cycle_search.specs.Components.{AreComponents, AreCyclic, IsTopological};
 ghost use Rattle.cycle_search.specs.LockNumbers.{number_in};
 
 use crate::acquirers::Acquirers;
@@ -22,8 +25,11 @@ use trace_model::NoMemory;
 /// dependency to one that holds its lock, so all members of a cycle have the same number. The
 /// search skips dependencies of other components. It looks up the last member of a cycle in the
 /// index.
+///
+/// A dependency is cyclic if it holds a lock of its own component. Each member of a cycle is.
 pub struct Components {
     numbers: Vec<u32>,
+    cyclic: Vec<bool>,
     acquirers: Acquirers,
     state: RandomState,
 }
@@ -32,6 +38,7 @@ impl Drop for Components {
     fn drop(self) {
         let Components {
             numbers: _,
+            cyclic: _,
             acquirers: _,
             state: _,
         } = self;
@@ -41,7 +48,7 @@ impl Drop for Components {
 impl Components {
     /// Computes the components of the dependencies of `table`. `graph` must contain their edges; it
     /// may contain edges of later dependencies, which are ignored. Takes time in proportion to the
-    /// number of locks that the dependencies hold, and keeps two numbers for each dependency.
+    /// number of locks that the dependencies hold, and keeps 9 bytes for each dependency.
     ///
     /// # Errors
     /// `NoMemory` if an allocation fails.
@@ -57,12 +64,38 @@ impl Components {
         let found = lock_components(alloc, state, table, graph)?;
         let components = topological_or_one(alloc, state, table, found);
         let numbers = components.by_dependency(alloc, table)?;
+        let cyclic = cyclic_in(alloc, table, &components)?;
         let acquirers = Acquirers::new(alloc, state, table)?;
         Ok(Components {
             numbers,
+            cyclic,
             acquirers,
             state,
         })
+    }
+
+    /// Returns for each dependency whether it is cyclic. Does not allocate.
+    pub fn cyclic(&self) -> &[bool]
+        ensures { result.now ≡ self.now.cyclic.items }
+    {
+        self.cyclic.as_slice()
+    }
+
+    /// Returns whether the dependency `number` is cyclic. Only a cyclic dependency is a member of a
+    /// cycle. Does not allocate.
+    pub(crate) fn is_cyclic(&self, number: u32) -> bool
+        requires { number < length self.now.cyclic.items }
+        ensures { slice_get self.now.cyclic.items number ≡ Some result }
+    {
+        self.cyclic[number as usize]
+    }
+
+    /// Returns whether no dependency is cyclic. Then there is no cycle. Does not allocate.
+    pub fn are_acyclic(&self) -> bool
+        ensures { IsTrue result → (ds : List Dependency) (bound : ℕ) (numbers : List ℕ) →
+            AreComponents ds self.now → IsCycle ds bound numbers → ⊥ }
+    {
+        are_unset(self.cyclic.as_slice())
     }
 
     /// Returns whether the dependencies `first` and `second` are in the same component.
@@ -86,6 +119,40 @@ impl Components {
     pub(crate) fn state(&self) -> RandomState {
         self.state
     }
+}
+
+/// Returns whether all flags are `false`.
+fn are_unset(flags: &[bool]) -> bool
+    ensures { IsTrue result → All (λ flag. flag ≡ false) flags.now }
+{
+    for flag in flags {
+        if *flag {
+            return false;
+        }
+    }
+    true
+}
+
+/// Returns for each dependency whether it holds a lock of the component of the lock that it
+/// acquires.
+///
+/// # Errors
+/// `NoMemory` if an allocation fails.
+fn cyclic_in(
+    alloc: Global,
+    table: &DepTable,
+    components: &LockNumbers,
+) -> Result<Vec<bool>, NoMemory>
+    ensures { IfOk result (λ cyclic. AreCyclic (known table.now) (number_in components.now)
+        cyclic.items) }
+{
+    let mut cyclic = Vec::new(alloc);
+    for number in 0..table.len() {
+        let dependency = table.get(number as u32);
+        let component = components.of(dependency.lock);
+        cyclic.push(components.has(dependency.held.locks(), component))?;
+    }
+    Ok(cyclic)
 }
 
 /// Returns `components` if they are in topological order, else one component for all locks.

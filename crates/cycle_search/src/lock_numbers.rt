@@ -1,6 +1,6 @@
 //! Tables from locks to numbers.
 
-ghost use Rattle.std.specs.Prelude.{◌≡◌, ◌≤◌, ℕ, map, IfOk, IsTrue};
+ghost use Rattle.std.specs.Prelude.{◌≡◌, ◌≢◌, ◌≤◌, ℕ, map, false, IfOk, IsTrue};
 ghost use Rattle.std.specs.List.{All};
 ghost use Rattle.dependencies.specs.Tables.{known};
 ghost use Rattle.cycle_search.specs.LockNumbers.{number_in};
@@ -49,6 +49,18 @@ impl LockNumbers {
             }
         }
         true
+    }
+
+    /// Returns whether one of the locks has the number.
+    pub(crate) fn has(&self, locks: &[u32], number: u32) -> bool
+        ensures { result ≡ false → All (λ lock. number_in self.now lock ≢ number) locks.now }
+    {
+        for lock in locks {
+            if self.of(*lock) == number {
+                return true;
+            }
+        }
+        false
     }
 
     /// Returns, for each dependency of `table`, the number of the lock that it acquires.

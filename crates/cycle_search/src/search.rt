@@ -82,6 +82,9 @@ pub fn cycles_within(
     ensures few { IfOk result (λ cycles. length cycles.items ≤ most) }
     ensures too_many { IfTooMany result (MoreThan (CycleFrom searched.now bound root) most) }
 {
+    if !searched.components.is_cyclic(root) {
+        return Ok(Vec::new(alloc));
+    }
     let mut path = Path::new();
     path.push(root);
     let distances = distances_of(alloc, searched, &path, bound)?;

@@ -3,6 +3,7 @@ use Rattle.std.specs.Prelude.{◌≡◌, ℕ, take, slice_get, Option, Some, Non
 use Rattle.trace_model.specs.Theory.Trace.{Trace}
 use Rattle.trace_model.specs.Protocol.Machine.{Question, State}
 use Rattle.sequencer.specs.Book.{IsLeastMissing}
+use Rattle.findings.specs.Found.{Asked}
 
 -- the question with this number is open and covers exactly these events
 abbrev pub AreEventsOf : State → ℕ → Trace → Type 0
@@ -14,3 +15,8 @@ abbrev pub IsFirstMissing : State → ℕ → Option ℕ → Type 0
 IsFirstMissing s number found =
     (q : Question) × (slice_get s.questions number ≡ Some q)
     × MatchOption found ((task : ℕ) → slice_get q.tasks task ≡ Some None → ⊥) (IsLeastMissing q)
+
+-- the job is one of the question with this number and bound
+abbrev pub IsJobOf : ℕ → ℕ → Option Asked → Type 0
+IsJobOf question bound kept =
+    (job : Asked) × (kept ≡ Some job) × (job.question ≡ question) × (job.bound ≡ bound)

@@ -152,14 +152,17 @@ impl<N: HistoryId, R: Wait + Copy, T: BoardValue<N>> Desk<N, R, T> {
         self.locked.lock(&self.rt).deliver(finding)
     }
 
-    /// Returns a job that computes the tasks of a question with this bound.
+    /// Returns a job that computes the tasks of a question with this bound. Its analysis is computed
+    /// without the lock.
     ///
     /// # Errors
     ///
-    /// As of `snapshot`.
-    pub(crate) fn own_job(&self, question: u32, bound: Bound) -> Result<OwnJob<N>, Refusal> {
-        let (shared, receipt) = self.snapshot(question);
-        Ok(OwnJob::new(self.alloc, shared?, question, bound, receipt))
+    /// As of `snapshot`, or `NoMemory` if an allocation fails.
+    pub(crate) fn own_job(&self, question: u32, bound: Bound) -> Result<OwnJob<N>, Refusal>
+        ensures { IfOk result (λ job. (job.question ≡ question) × (job.bound ≡ bound)) }
+    {
+        let (snapshot, receipt) = self.snapshot(question);
+        OwnJob::new(self.alloc, snapshot?, question, bound, receipt)
     }
 
     /// Delivers like `deliver`, for a finding that was computed from a snapshot of this desk. Its

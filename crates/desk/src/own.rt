@@ -1,17 +1,17 @@
 //! Jobs and findings that were made from a snapshot of the desk. A receipt shows that their events are
 //! those of the question, so they are not compared again under the lock.
 
-ghost use Rattle.std.specs.Prelude.{◌≡◌};
+ghost use Rattle.std.specs.Prelude.{◌≡◌, IfOk, IsTrue};
 ghost use Rattle.std.specs.Arc.{arc_value};
 ghost use Rattle.desk.specs.Published.{Afterwards};
 ghost use Rattle.desk.specs.Questions.{AreEventsOf};
 
 use board::{HistoryId, Receipt};
-use findings::{ComputeRefused, Finding, Job, Snapshot};
+use findings::{Analysis, ComputeRefused, Finding, Job, Snapshot};
 use std::alloc::Global;
 use std::marker::Model;
 use std::sync::Arc;
-use trace_model::Bound;
+use trace_model::{Bound, Refusal};
 
 /// A job for a question of the desk, with a receipt after which the question was open. Contracts see
 /// it as the job.
@@ -41,25 +41,35 @@ impl<N: HistoryId> Model for OwnJob<N> {
 }
 
 impl<N: HistoryId> OwnJob<N> {
-    /// Creates a job. After the receipt's steps the question must cover exactly the snapshot's events.
-    /// Does not allocate.
+    /// Computes the analysis of a question, and returns a job for it. After the receipt's steps the
+    /// question must cover exactly the snapshot's events.
+    ///
+    /// # Errors
+    ///
+    /// `NoMemory` if an allocation fails.
     pub(crate) fn new(
         alloc: Global,
         snapshot: Arc<Snapshot, Global>,
         question: u32,
         bound: Bound,
         receipt: Receipt<N>,
-    ) -> OwnJob<N>
+    ) -> Result<OwnJob<N>, Refusal>
         requires known { Afterwards N.limit receipt
             (λ state. AreEventsOf state question (arc_value snapshot)) }
+        ensures { IfOk result (λ job. (job.question ≡ question) × (job.bound ≡ bound)) }
     {
-        let job = Job::new(alloc, snapshot, question, bound);
-        OwnJob { job, receipt }
+        let Ok(analysis) = Analysis::new(alloc, snapshot, bound) else {
+            return Err(Refusal::NoMemory);
+        };
+        let job = Job::new(alloc, analysis, question);
+        Ok(OwnJob { job, receipt })
     }
 
-    /// Returns the number of the question.
-    pub(crate) fn question(&self) -> u32 {
-        self.job.question()
+    /// Returns whether this is a job of the question with this number and bound.
+    pub(crate) fn is_of(&self, question: u32, bound: Bound) -> bool
+        ensures { IsTrue result → (self.now.question ≡ question) × (self.now.bound ≡ bound) }
+    {
+        self.job.question() == question && self.job.bound() == bound
     }
 
     /// Computes the rows of a task, like `Job::compute`.
@@ -67,7 +77,11 @@ impl<N: HistoryId> OwnJob<N> {
     /// # Errors
     ///
     /// As of `Job::compute`.
-    pub(crate) fn compute(&mut self, task: u32) -> Result<OwnFinding<N>, ComputeRefused> {
+    pub(crate) fn compute(&mut self, task: u32) -> Result<OwnFinding<N>, ComputeRefused>
+        ensures same { self.new ≡ self.old }
+        ensures asked { IfOk result (λ own. (own.question ≡ self.old.question)
+            × (own.bound ≡ self.old.bound) × (own.task ≡ task)) }
+    {
         let finding = self.job.compute(task)?;
         let receipt = self.receipt.again();
         Ok(OwnFinding { finding, receipt })

@@ -1,9 +1,10 @@
 //! Workers, which compute the rows of tasks without the lock.
 
-ghost use Rattle.std.specs.Prelude.{◌≡◌, ◌≢◌, IfErr, IsSome, OnOk};
+ghost use Rattle.std.specs.Prelude.{◌≡◌, ◌≢◌, IfErr, IfOk, OnOk};
 ghost use mathlib.Core.List.{IsPrefix};
 ghost use Rattle.snapshots.specs.Found.{FoundRows};
 ghost use Rattle.desk.specs.Published.{WasTaken};
+ghost use Rattle.desk.specs.Questions.{IsJobOf};
 
 use crate::desk::Desk;
 use crate::own::{OwnFinding, OwnJob};
@@ -187,11 +188,11 @@ fn keep_job<N: HistoryId, R: Wait + Copy, T: BoardValue<N>>(
     question: u32,
     bound: Bound,
 ) -> Result<(), Turn>
-    ensures kept { OnOk result (IsSome kept.new) }
+    ensures kept { OnOk result (IsJobOf question bound kept.new) }
     ensures err { IfErr result (λ turn. turn ≢ Turn.Delivered) }
 {
     if let Some(job) = kept
-        && job.question() == question
+        && job.is_of(question, bound)
     {
         return Ok(());
     }
@@ -213,7 +214,9 @@ fn compute<N: HistoryId, R: Wait + Copy, T: BoardValue<N>>(
     bound: Bound,
     task: u32,
 ) -> Result<OwnFinding<N>, Turn>
-    ensures { IfErr result (λ turn. turn ≢ Turn.Delivered) }
+    ensures computed { IfOk result (λ own. (own.question ≡ question) × (own.bound ≡ bound)
+        × (own.task ≡ task)) }
+    ensures err { IfErr result (λ turn. turn ≢ Turn.Delivered) }
 {
     keep_job(desk, kept, question, bound)?;
     let Some(job) = kept else {

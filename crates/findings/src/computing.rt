@@ -6,12 +6,13 @@ ghost use Rattle.trace_model.specs.declared.limits.TheConstants.{MAX_CYCLES};
 ghost use Rattle.trace_model.specs.Theory.Dependencies.{dependencies};
 ghost use Rattle.cycle_search.specs.Search.{CycleFrom, MoreThan};
 
+use crate::analysis::Analysis;
 use crate::job::Job;
 use snapshots::{Finding, Snapshot};
 use std::alloc::Global;
 use std::sync::Arc;
 use thiserror::Error;
-use trace_model::Bound;
+use trace_model::{Bound, NoMemory};
 
 /// Why a task is not computed.
 #[derive(Debug, Drop, PartialEq, Eq, Error)]
@@ -24,8 +25,19 @@ pub enum ComputeRefused {
     NoMemory,
 }
 
-/// Returns the finding of a task, computed by a job of its own. See [`Job::compute`]. Part of the
-/// public API; not called by the program.
+impl From<NoMemory> for ComputeRefused {
+    ghost use Rattle.std.specs.Prelude.{◌≡◌};
+    ghost use Rattle.findings.specs.declared.computing.ComputeRefused.TheVariants as refusals;
+
+    ghost from_gives = { λ _ e. e ≡ refusals.NoMemory };
+
+    fn from(_refused: NoMemory) -> ComputeRefused {
+        ComputeRefused::NoMemory
+    }
+}
+
+/// Returns the finding of a task, computed by an analysis and a job of its own. See
+/// [`Job::compute`]. Part of the public API; not called by the program.
 ///
 /// # Errors
 /// - `TooManyCycles` only if the task has more than `MAX_CYCLES` cycles.
@@ -42,5 +54,6 @@ pub fn compute(
     ensures too_many { result ≡ Err ComputeRefused.TooManyCycles →
         MoreThan (CycleFrom (dependencies (arc_value snapshot)) bound task) MAX_CYCLES }
 {
-    Job::new(alloc, snapshot, question, bound).compute(task)
+    let analysis = Analysis::new(alloc, snapshot, bound)?;
+    Job::new(alloc, analysis, question).compute(task)
 }

@@ -1,74 +1,78 @@
-//! Computes tasks of one question one after another, with shared tables.
+//! Computes tasks of one question one after another.
 
-ghost use Rattle.std.specs.Prelude.{◌≡◌, IfOk, Err};
+ghost use Rattle.std.specs.Prelude.{◌≡◌, ℕ, ◌<◌, ◌≤◌, length, IfOk, IfSome, OnOk, Err};
 ghost use Rattle.std.specs.Arc.{arc_value};
+ghost use Rattle.std.specs.List.{All, Contains};
+ghost use Rattle.std.specs.Option.{ForSome};
 ghost use Rattle.trace_model.specs.declared.limits.TheConstants.{MAX_CYCLES};
 ghost use Rattle.trace_model.specs.Theory.Dependencies.{dependencies};
 ghost use Rattle.cycle_search.specs.Search.{CycleFrom, MoreThan};
+ghost use Rattle.snapshots.specs.Found.{AreRowsOf};
+ghost use Rattle.findings.specs.Analyses.{IsCloserOf};
 
+use crate::analysis::Analysis;
 use crate::computing::ComputeRefused;
 use crate::rows::rows_of;
-use crate::scratch::Scratch;
-use snapshots::{Finding, Snapshot};
+use snapshots::Finding;
+use sp_closure::Closer;
 use std::alloc::Global;
 use std::marker::Model;
 use std::sync::Arc;
 use trace_model::Bound;
 
-/// A question on a snapshot, with the tables that are kept from one task to the next. Contracts see
-/// it as the question.
+/// A question with its analysis, and the scratch memory of one thread. Contracts see it as the
+/// question.
 pub struct Job {
     alloc: Global,
-    snapshot: Arc<Snapshot, Global>,
+    analysis: Arc<Analysis, Global>,
     question: u32,
-    bound: Bound,
-    scratch: Scratch,
+    closer: Option<Closer>,
 }
 
 impl Drop for Job {
     fn drop(self) {
         let Job {
             alloc: _,
-            snapshot: _,
+            analysis: _,
             question: _,
-            bound: _,
-            scratch: _,
+            closer: _,
         } = self;
     }
 }
 
 impl Model for Job {
     ghost use Rattle.std.specs.Arc.{arc_value};
-    ghost use Rattle.findings.specs.Scratches.{IsScratch};
+    ghost use Rattle.std.specs.Option.{ForSome};
+    ghost use Rattle.findings.specs.Analyses.{IsCloserOf};
     ghost use Rattle.findings.specs.Found.{Asked};
 
     ghost Value = { Asked };
 
     ghost view = { λ j. record {
       question = j.question;
-      bound = j.bound;
-      events = arc_value j.snapshot;
+      bound = (arc_value j.analysis).bound;
+      events = (arc_value j.analysis).events;
     } };
 
-    ghost invariant = { λ j. IsScratch (arc_value j.snapshot) j.scratch };
+    ghost invariant = { λ j. ForSome j.closer
+        (IsCloserOf (arc_value j.analysis).events (arc_value j.analysis).requirements) };
 }
 
 impl Job {
-    /// Returns a job for the question with this number and bound on the snapshot's events. The
-    /// number is only copied into findings. Does not allocate.
-    pub fn new(alloc: Global, snapshot: Arc<Snapshot, Global>, question: u32, bound: Bound) -> Job
+    /// Returns a job for the question with this number. The number is only copied into findings.
+    /// Does not allocate.
+    pub fn new(alloc: Global, analysis: Arc<Analysis, Global>, question: u32) -> Job
         ensures { result ≡ record {
           question = question;
-          bound = bound;
-          events = arc_value snapshot;
+          bound = (arc_value analysis).bound;
+          events = (arc_value analysis).events;
         } }
     {
         Job {
             alloc,
-            snapshot,
+            analysis,
             question,
-            bound,
-            scratch: Scratch::new(),
+            closer: None,
         }
     }
 
@@ -77,6 +81,13 @@ impl Job {
         ensures { result ≡ self.now.question }
     {
         self.question
+    }
+
+    /// Returns the bound of the question. Does not allocate.
+    pub fn bound(&self) -> Bound
+        ensures { result ≡ self.now.bound }
+    {
+        self.analysis.bound()
     }
 
     /// Computes the rows of a task: one for each cycle of at most `bound` members whose first
@@ -93,10 +104,48 @@ impl Job {
         ensures too_many { result ≡ Err ComputeRefused.TooManyCycles →
             MoreThan (CycleFrom (dependencies self.old.events) self.old.bound task) MAX_CYCLES }
     {
-        let Ok(snapshot) = Arc::try_clone(&self.snapshot) else {
-            return Err(ComputeRefused::NoMemory);
-        };
-        let rows = rows_of(self.alloc, &snapshot, &mut self.scratch, self.bound, task)?;
-        Ok(Finding::of(snapshot, self.question, self.bound, task, rows))
+        finding_of(
+            self.alloc,
+            &self.analysis,
+            self.question,
+            &mut self.closer,
+            task,
+        )
     }
+}
+
+/// Returns the finding of a task.
+///
+/// # Errors
+/// - `TooManyCycles` only if the task has more than `MAX_CYCLES` cycles.
+/// - `NoMemory` if an allocation fails.
+fn finding_of(
+    alloc: Global,
+    analysis: &Analysis,
+    question: u32,
+    closer: &mut Option<Closer>,
+    task: u32,
+) -> Result<Finding, ComputeRefused>
+    requires closer { ForSome closer.old
+        (IsCloserOf analysis.now.events analysis.now.requirements) }
+    ensures closer { ForSome closer.new
+        (IsCloserOf analysis.now.events analysis.now.requirements) }
+    ensures asked { IfOk result (λ f. (f.question ≡ question) × (f.bound ≡ analysis.now.bound)
+        × (f.task ≡ task) × (f.events ≡ analysis.now.events)) }
+    ensures too_many { result ≡ Err ComputeRefused.TooManyCycles →
+        MoreThan (CycleFrom (dependencies analysis.now.events) analysis.now.bound task)
+        MAX_CYCLES }
+{
+    let Ok(snapshot) = Arc::try_clone(&analysis.snapshot) else {
+        return Err(ComputeRefused::NoMemory);
+    };
+    let rows = rows_of(
+        alloc,
+        &snapshot,
+        &analysis.tables,
+        closer,
+        analysis.bound,
+        task,
+    )?;
+    Ok(Finding::of(snapshot, question, analysis.bound, task, rows))
 }

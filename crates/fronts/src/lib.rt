@@ -29,3 +29,4 @@ pub use overlay::Overlay;
 pub use propagation::{Context, Propagation};
 pub use requirements::{Requirements, ThreadPrefix, prefix_before};
 pub use steps::Steps;
+pub use threads::last_place;

@@ -8,7 +8,7 @@ use trace_index::TraceIndex;
 use trace_model::Place;
 
 /// Returns the last place of `thread`, or `None` if it has no place.
-pub(crate) fn last_place(index: &TraceIndex, thread: u32) -> Option<Place>
+pub fn last_place(index: &TraceIndex, thread: u32) -> Option<Place>
     ensures { MatchOption result ((p : ℕ) → OfThread index.now.events p thread → ⊥)
         (IsLastOf index.now.events thread) }
 {

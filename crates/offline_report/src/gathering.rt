@@ -8,8 +8,8 @@ use rayon::prelude::*;
 use std::alloc::{AllocError, Global};
 use std::thread::Threads;
 
-/// The least number of tasks of a piece. A piece computes anew the tables that its tasks share, so
-/// fewer than two such pieces run on one thread.
+/// The least number of tasks of a piece. A piece has scratch memory of its own, so fewer than two
+/// such pieces run on one thread.
 const LEAST_PIECE: usize = 16;
 
 /// Computes tasks, from several threads.

@@ -8,7 +8,7 @@ ghost use Rattle.offline_report.specs.Offline.{IsNotAdmitted, IsRefused, IsRepor
 use crate::parts::{joined, report_pieces};
 use crate::refused::OfflineRefused;
 use crate::tasks::parts_of;
-use findings::{Hold, Snapshot};
+use findings::{Analysis, Hold, Snapshot};
 use std::alloc::Global;
 use std::hash::RandomState;
 use std::marker::Model;
@@ -17,13 +17,12 @@ use std::thread::Threads;
 use trace_model::{Bound, Event, NoMemory};
 use wellformed::first_unlawful;
 
-/// Well-formed events with the tables from which the tasks of a question are computed. Contracts
+/// Well-formed events with the analysis from which the tasks of a question are computed. Contracts
 /// see it as that question, number 0.
 #[derive(Drop)]
 pub struct Offline {
     pub(crate) alloc: Global,
-    pub(crate) snapshot: Arc<Snapshot, Global>,
-    pub(crate) bound: Bound,
+    pub(crate) analysis: Arc<Analysis, Global>,
 }
 
 impl Model for Offline {
@@ -32,12 +31,16 @@ impl Model for Offline {
 
     ghost Value = { Asked };
 
-    ghost view = { λ o. record { question = 0; bound = o.bound; events = arc_value o.snapshot } };
+    ghost view = { λ o. record {
+      question = 0;
+      bound = (arc_value o.analysis).bound;
+      events = (arc_value o.analysis).events;
+    } };
 }
 
 impl Offline {
-    /// Tests that each event is lawful after those before it, and builds the tables with two
-    /// threads.
+    /// Tests that each event is lawful after those before it, builds the snapshot with two threads,
+    /// and computes its analysis.
     ///
     /// # Errors
     /// - `Unlawful` with the first event that is not lawful, if there is one.
@@ -55,21 +58,17 @@ impl Offline {
         ensures refused { IfErr result (IsNotAdmitted events.items) }
     {
         admit(alloc, state, &events)?;
-        let Ok(snapshot) = share(rt, alloc, state, &events) else {
+        let Ok(analysis) = analyze(rt, alloc, state, &events, bound) else {
             return Err(OfflineRefused::NoMemory);
         };
-        Ok(Offline {
-            alloc,
-            snapshot,
-            bound,
-        })
+        Ok(Offline { alloc, analysis })
     }
 
     /// Returns the number of tasks: the number of dependencies of the events. Does not allocate.
     pub fn tasks(&self) -> u32
         ensures { result ≡ length (dependencies self.now.events) }
     {
-        self.snapshot.tasks()
+        self.analysis.snapshot().tasks()
     }
 
     /// Returns the report in pieces: their concatenation is exactly the report that a book would
@@ -90,9 +89,11 @@ impl Offline {
             (λ pieces. IsReport self.now.events self.now.bound (whole pieces.items)) }
         ensures refused { IfErr result (IsRefused self.now.events self.now.bound) }
     {
-        let length = self.snapshot.len() as u32;
-        let parts = parts_of(rt, self.alloc, &self.snapshot, self.bound, hold)?;
-        match report_pieces(self.alloc, length, self.bound, parts) {
+        let analysis: &Analysis = &self.analysis;
+        let snapshot = analysis.snapshot();
+        let length = snapshot.len() as u32;
+        let parts = parts_of(rt, self.alloc, &self.analysis, snapshot.tasks(), hold)?;
+        match report_pieces(self.alloc, length, analysis.bound(), parts) {
             Ok(Some(pieces)) => Ok(pieces),
             Ok(None) => Err(OfflineRefused::TooLong),
             Err(_) => Err(OfflineRefused::NoMemory),
@@ -135,19 +136,22 @@ fn admit(alloc: Global, state: RandomState, events: &[Event]) -> Result<(), Offl
     }
 }
 
-/// Returns a shared snapshot of the events.
+/// Returns the shared analysis of the events.
 ///
 /// # Errors
 /// `NoMemory` if an allocation fails.
-fn share<R: Threads>(
+fn analyze<R: Threads>(
     rt: &R,
     alloc: Global,
     state: RandomState,
     events: &[Event],
-) -> Result<Arc<Snapshot, Global>, NoMemory>
+    bound: Bound,
+) -> Result<Arc<Analysis, Global>, NoMemory>
     requires { IsWellFormed events.now }
-    ensures { IfOk result (λ shared. arc_value shared ≡ events.now) }
+    ensures { IfOk result (λ shared.
+        ((arc_value shared).events ≡ events.now) × ((arc_value shared).bound ≡ bound)) }
 {
     let snapshot = Snapshot::build(rt, alloc, state, events)?;
-    Ok(Arc::new(alloc, snapshot)?)
+    let snapshot = Arc::new(alloc, snapshot)?;
+    Analysis::new(alloc, snapshot, bound)
 }

@@ -1,7 +1,8 @@
 //! Computes the parts of all tasks.
-ghost use Rattle.std.specs.Prelude.{◌≡◌, ℕ, [], IfOk, IfSome, MatchResult};
+ghost use Rattle.std.specs.Prelude.{◌≡◌, ℕ, [], length, IfOk, IfSome, MatchResult};
 ghost use Rattle.std.specs.Arc.{arc_value};
 ghost use Rattle.std.proofs.Props.{props};
+ghost use Rattle.trace_model.specs.Theory.Dependencies.{dependencies};
 ghost use Rattle.trace_model.specs.Theory.Trace.{Trace};
 ghost use Rattle.snapshots.specs.Found.{AreRowsOf};
 ghost use Rattle.offline_report.specs.Offline.{AreAllParts, IsNotComputed, IsTask};
@@ -9,13 +10,13 @@ ghost use Rattle.offline_report.specs.Offline.{AreAllParts, IsNotComputed, IsTas
 use crate::gathering::{Computes, gather};
 use crate::parts::{Part, part_of};
 use crate::refused::OfflineRefused;
-use findings::{ComputeRefused, Hold, Job, Snapshot};
+use findings::{Analysis, ComputeRefused, Hold, Job};
 use reports::{Row, TextBuffer};
 use std::alloc::{AllocError, Global};
 use std::marker::{Brand, PhantomData};
 use std::sync::Arc;
+use std::sync::atomic::{AtomicBool, Ordering};
 use std::thread::Threads;
-use trace_model::Bound;
 
 /// The number of the question that is asked about a file.
 const QUESTION: u32 = 0;
@@ -45,14 +46,14 @@ struct Piece<A: About> {
 }
 
 impl<A: About> Piece<A> {
-    /// Returns a piece of which no task is computed. It has no job if the snapshot cannot be shared
+    /// Returns a piece of which no task is computed. It has no job if the analysis cannot be shared
     /// once more.
-    fn new(alloc: Global, snapshot: &Arc<Snapshot, Global>, bound: Bound) -> Piece<A>
-        requires events { arc_value snapshot.now ≡ A.events }
-        requires bound { bound ≡ A.bound }
+    fn new(alloc: Global, analysis: &Arc<Analysis, Global>) -> Piece<A>
+        requires events { (arc_value analysis.now).events ≡ A.events }
+        requires bound { (arc_value analysis.now).bound ≡ A.bound }
     {
-        let job = match Arc::try_clone(snapshot) {
-            Ok(snapshot) => Some(Job::new(alloc, snapshot, QUESTION, bound)),
+        let job = match Arc::try_clone(analysis) {
+            Ok(analysis) => Some(Job::new(alloc, analysis, QUESTION)),
             Err(_) => None,
         };
         Piece {
@@ -100,16 +101,26 @@ fn part_by<A: About, H: Hold>(
     part
 }
 
-/// The named question, on a snapshot.
+/// The named question, with its analysis.
 #[derive(Drop)]
 struct Question<'a, A: About, H: Hold> {
     alloc: Global,
-    snapshot: &'a Arc<Snapshot, Global>,
-    bound: Bound,
+    analysis: &'a Arc<Analysis, Global>,
     hold: &'a H,
+    /// Whether an allocation failed. Then no further task is computed.
+    lacks_memory: AtomicBool,
     name: PhantomData<A>,
-    ghost events: { arc_value snapshot.now ≡ A.events },
-    ghost bounded: { bound ≡ A.bound },
+    ghost events: { (arc_value analysis.now).events ≡ A.events },
+    ghost bounded: { (arc_value analysis.now).bound ≡ A.bound },
+}
+
+impl<'a, A: About, H: Hold> Question<'a, A, H> {
+    /// Notes that an allocation failed, if it did.
+    fn note(&self, part: &Result<Part, OfflineRefused>) {
+        if let Err(OfflineRefused::NoMemory) = part {
+            self.lacks_memory.store(true, Ordering::SeqCst);
+        }
+    }
 }
 
 impl<'a, A: About + Send + Sync, H: Hold + Sync> Computes for Question<'a, A, H> {
@@ -120,11 +131,16 @@ impl<'a, A: About + Send + Sync, H: Hold + Sync> Computes for Question<'a, A, H>
     ghost may_give = { IsTask A.events A.bound };
 
     fn piece(&self) -> Piece<A> {
-        Piece::new(self.alloc, self.snapshot, self.bound)
+        Piece::new(self.alloc, self.analysis)
     }
 
     fn compute(&self, piece: &mut Piece<A>, task: u32) -> Result<Part, OfflineRefused> {
-        part_by(piece, self.hold, task)
+        if self.lacks_memory.load(Ordering::SeqCst) {
+            return Err(OfflineRefused::NoMemory);
+        }
+        let part = part_by(piece, self.hold, task);
+        self.note(&part);
+        part
     }
 }
 
@@ -135,40 +151,44 @@ impl<'a, A: About + Send + Sync, H: Hold + Sync> Computes for Question<'a, A, H>
 fn compute_all<A: About + Send + Sync, R: Threads + Sync, H: Hold + Sync>(
     rt: &R,
     alloc: Global,
-    snapshot: &Arc<Snapshot, Global>,
-    bound: Bound,
+    analysis: &Arc<Analysis, Global>,
+    tasks: u32,
     hold: &H,
 ) -> Result<Result<Vec<Part>, OfflineRefused>, AllocError>
-    requires events { arc_value snapshot.now ≡ A.events }
-    requires bound { bound ≡ A.bound }
+    requires events { (arc_value analysis.now).events ≡ A.events }
+    requires bound { (arc_value analysis.now).bound ≡ A.bound }
+    requires tasks { tasks ≡ length (dependencies A.events) }
     ensures { IfOk result (AreAllParts A.events A.bound) }
 {
     let question: Question<'_, A, H> = Question {
         alloc,
-        snapshot,
-        bound,
+        analysis,
         hold,
+        lacks_memory: AtomicBool::new(false),
         name: PhantomData,
     };
-    gather(rt, alloc, snapshot.tasks(), &question)
+    gather(rt, alloc, tasks, &question)
 }
 
-/// Returns the parts of all tasks of a question with this bound on the snapshot's events, in the
-/// order of the tasks. Each task calls the hold when its rows are computed.
+/// Returns the parts of all tasks of the analysis, in the order of the tasks. Each task calls the
+/// hold when its rows are computed.
 ///
 /// # Errors
 /// - `TooManyCycles` if a task has too many cycles.
-/// - `NoMemory` if an allocation fails.
+/// - `NoMemory` if an allocation fails. Tasks that were not begun by then are not computed.
+///
+/// The caller passes the number of all tasks.
 pub(crate) fn parts_of<R: Threads + Sync, H: Hold + Sync>(
     rt: &R,
     alloc: Global,
-    snapshot: &Arc<Snapshot, Global>,
-    bound: Bound,
+    analysis: &Arc<Analysis, Global>,
+    tasks: u32,
     hold: &H,
 ) -> Result<Vec<Part>, OfflineRefused>
-    ensures { AreAllParts (arc_value snapshot.now) bound result }
+    requires { tasks ≡ length (dependencies (arc_value analysis.now).events) }
+    ensures { AreAllParts (arc_value analysis.now).events (arc_value analysis.now).bound result }
 {
-    match compute_all::<Brand, R, H>(rt, alloc, snapshot, bound, hold) {
+    match compute_all::<Brand, R, H>(rt, alloc, analysis, tasks, hold) {
         Ok(computed) => computed,
         Err(_) => Err(OfflineRefused::NoMemory),
     }

@@ -1,4 +1,9 @@
 pub mod Lists
+pub mod ReasonTests
+pub mod NumberTables
+pub mod Marks
+pub mod RefutationVerdicts
+pub mod RefutationLaws
 pub mod Beginnings
 pub mod Verdicts
 pub mod LastPlaces

@@ -5,3 +5,5 @@ pub mod Facts
 pub mod Walking
 pub mod Known
 pub mod OpenSections
+pub mod Numbers
+pub mod Refuting

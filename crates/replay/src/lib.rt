@@ -1,20 +1,30 @@
-//! Checks a witness against a trace, and trusts nothing else.
+//! Checks a witness or a refutation against a trace, without closures, trace index or search.
 //!
 //! [`check`] reads a trace, a list of places and the places of an instance. It returns `Reaches`
 //! exactly if the list is a sync-preserving reordering of the trace that reaches the instance, else
-//! the first test that fails, with its place. It uses neither closures nor the trace index: the
-//! reader of a witness needs to trust only this crate. Start reading at `order_rules.rt`, which has
-//! the tests.
+//! the first test that fails, with its place. The reader of a witness needs to trust only this
+//! crate. Start reading at `order_rules.rt`, which has the tests.
+//!
+//! [`check_refutation`] reads a trace, a cycle and the steps of a refutation. It returns `Valid`
+//! exactly if the steps are a refutation of the cycle, else the first step that is wrong, with the
+//! reason. It takes the numbers of dependencies from the crate `dependencies`. Start reading at
+//! `reasons.rt`, which has the tests.
 #![tactic(auto)]
 
 mod checking;
 mod facts;
 mod last_places;
 pub mod laws;
+mod numbers;
 mod order_rules;
+mod reasons;
+mod refutation_verdict;
+mod refuting;
 mod sections;
 mod verdict;
 mod walked;
 
 pub use checking::check;
+pub use refutation_verdict::{RefutationVerdict, StepFault};
+pub use refuting::check_refutation;
 pub use verdict::{Fault, Verdict};

@@ -214,22 +214,22 @@ on_ok_map (Ok x) P Q f a p = f x a p
 on_ok_map (Err e) P Q f a p = tt
 
 -- A closer without a base keeps no places.
-no_base : (s : Trace) (c : Closer) (m k : ℕ) → KeepsNothing c → Keeps s c m k → k ≡ 0
-no_base s c m k none keeps = go keeps.has
+no_base : (s : Trace) (d : Requirements) (c : Closer) (m k : ℕ) → KeepsNothing c → Keeps s d c m k → k ≡ 0
+no_base s d c m k none keeps = go keeps.has
   where
     nothing : keeps.of ≡ None → k ≡ 0
-    nothing e = keeps.count ∙ ap (λ b. kept b (prefix_before s c keeps.p) keeps.places) e
+    nothing e = keeps.count ∙ ap (λ b. kept b (prefix_before s d keeps.p) keeps.places) e
 
-    go : HasBase c keeps.of keeps.places → k ≡ 0
+    go : HasBase d c keeps.of keeps.places → k ≡ 0
     go (inl e) = nothing e
     go (inr (inl e)) = nothing (e.0 ∙ none.0)
     go (inr (inr o)) = absurd (none-some o.other (ap (λ xs. slice_get xs o.index) (sym none.1) ∙ o.at))
 
 -- A closer that keeps no places counts all included ones.
-pub counted_all : (s : Trace) (c : Closer) (numbers : List ℕ) (before after all : ℕ) → KeepsNothing c →
-    CountsBut (KeepsFor s c numbers) before after all → after ≡ before + all
-counted_all s c numbers before after all none (k, (m, first, keeps), e) =
-    omega (arith, e, no_base s c m k none keeps)
+pub counted_all : (s : Trace) (d : Requirements) (c : Closer) (numbers : List ℕ) (before after all : ℕ) → KeepsNothing c →
+    CountsBut (KeepsFor s d c numbers) before after all → after ≡ before + all
+counted_all s d c numbers before after all none (k, (m, first, keeps), e) =
+    omega (arith, e, no_base s d c m k none keeps)
 
 and_off : (b : Bool) → false ≡ (b && false)
 and_off true = refl

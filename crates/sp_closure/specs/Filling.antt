@@ -3,11 +3,13 @@ use Rattle.std.specs.Prelude.{List}
 use Rattle.trace_model.specs.Theory.Trace.{Trace}
 use Rattle.sp_closure.specs.declared.closer.Closer.{Closer}
 use Rattle.sp_closure.specs.declared.timelines.Timeline.{Timeline}
+use Rattle.fronts.specs.declared.requirements.Requirements.{Requirements}
 use Rattle.fronts.specs.Slots.{slots_of}
 use Rattle.sp_closure.specs.Timestamps.{AreTimelines}
 use Rattle.sp_closure.specs.Closers.{IsCloser}
 
 -- The closer is one over this trace, and the timelines use its slots.
-pub record IsFilling (s : Trace) (c : Closer) (list : List Timeline) : Type 0 where
-  pub closer : IsCloser s c
-  pub timelines : AreTimelines s (slots_of c.requirements.threads) list
+pub record IsFilling (s : Trace) (d : Requirements) (c : Closer)
+    (list : List Timeline) : Type 0 where
+  pub closer : IsCloser s d c
+  pub timelines : AreTimelines s (slots_of d.threads) list

@@ -1,9 +1,11 @@
 //! Computes the timestamps of all places of the dependencies.
 
 ghost use Rattle.std.specs.Prelude.{◌≡◌, ℕ, ◌<◌, ◌≤◌, length, slice_get, Some, IfOk, IfSome};
+ghost use Rattle.std.specs.Option.{ForSome};
 ghost use Rattle.dependencies.specs.Tables.{known};
 ghost use Rattle.fronts.specs.Slots.{slots_of, AreThreadSlots, HasPlaces};
 ghost use Rattle.fronts.specs.Overlays.{front_of};
+ghost use Rattle.fronts.specs.Requirements.{AreRequirements};
 ghost use Rattle.fronts.specs.declared.requirements.ThreadPrefix.{ThreadPrefix};
 ghost use Rattle.sp_closure.specs.Timestamps.{AreTimestamps, AreTimelines, HasPrefix, IsTimeline, IsWithin, Puts, PutsAt};
 ghost use Rattle.sp_closure.specs.Pointers.{FollowsWhole};
@@ -14,7 +16,7 @@ use crate::closer::{Closer, MAX_BASES};
 use crate::enter::first_member;
 use crate::timelines::{Pointer, Timeline, Timestamp, Timestamps};
 use dependencies::DepTable;
-use fronts::{Classes, Overlay, Steps, ThreadPrefix, prefix_before};
+use fronts::{Classes, Overlay, Requirements, Steps, ThreadPrefix, prefix_before};
 use std::alloc::Global;
 use std::sync::ledger::Ledger;
 use trace_index::TraceIndex;
@@ -99,9 +101,9 @@ fn timelines_of(
     Ok(timelines)
 }
 
-/// Returns for each place of the trace a pointer to its entry in a timeline, if it has one.
-/// Timestamps are computed in this order, so that each one extends an earlier one. The results do
-/// not depend on the order.
+/// Returns for each place of the trace a pointer to its entry in a timeline, if it has one and
+/// `wanted` says that its dependency is wanted. Timestamps are computed in this order, so that each
+/// one extends an earlier one. The results do not depend on the order.
 ///
 /// # Errors
 /// `NoMemory` if an allocation fails.
@@ -109,9 +111,13 @@ fn in_order(
     alloc: Global,
     index: &TraceIndex,
     table: &DepTable,
+    wanted: &[bool],
 ) -> Result<Vec<Option<Pointer>>, NoMemory> {
     let mut order = vec![in alloc; None; index.len()]?;
-    for number in 0..table.len() {
+    for (number, is_wanted) in wanted.iter().enumerate() {
+        if !*is_wanted || number >= table.len() {
+            continue;
+        }
         let places = table.places(number as u32);
         for entry in 0..places.len() {
             let place = places.get(entry).get() as usize;
@@ -160,15 +166,15 @@ fn put_at(timelines: &mut [Timeline], at: Pointer, fronts: Vec<u32>)
     timelines[at.number as usize].put(at.entry, fronts);
 }
 
-impl Closer {
-    /// Returns whether the timestamps of these dependencies are cheap to compute and small: the
-    /// trace has no more threads than bases, and the first places of all dependencies need at most
-    /// `MAX_TIMESTAMP_ENTRIES` entries. Does not allocate.
-    pub fn are_timestamps_small(&self, table: &DepTable) -> bool {
-        let threads = self.requirements.threads.count as usize;
-        threads <= MAX_BASES + 1 && table.len() <= MAX_TIMESTAMP_ENTRIES / (MAX_BASES + 1)
-    }
+/// Returns whether the timestamps of these dependencies are cheap to compute and small: the trace
+/// has no more threads than bases, and the first places of all dependencies need at most
+/// `MAX_TIMESTAMP_ENTRIES` entries.
+fn are_small(requirements: &Requirements, table: &DepTable) -> bool {
+    let threads = requirements.threads.count as usize;
+    threads <= MAX_BASES + 1 && table.len() <= MAX_TIMESTAMP_ENTRIES / (MAX_BASES + 1)
+}
 
+impl Closer {
     /// Returns the number of places of each thread in the closure of the prefix.
     ///
     /// # Errors
@@ -176,25 +182,25 @@ impl Closer {
     fn timestamp_of<L: Ledger>(
         &mut self,
         index: &TraceIndex,
+        requirements: &Requirements,
         prefix: ThreadPrefix,
         steps: &mut Steps<L>,
     ) -> Result<Vec<u32>, NoMemory>
-        requires closer { IsCloser index.now.events self.old }
+        requires closer { IsCloser index.now.events requirements.now self.old }
         requires reach { HasPlaces index.now.events
-            (slots_of self.old.requirements.threads) prefix }
-        ensures closer { IsCloser index.now.events self.new }
-        ensures slots { self.new.requirements ≡ self.old.requirements }
+            (slots_of requirements.now.threads) prefix }
+        ensures closer { IsCloser index.now.events requirements.now self.new }
         ensures timestamp { IfOk result (λ fronts.
-            IsWithin index.now.events (slots_of self.new.requirements.threads) prefix
+            IsWithin index.now.events (slots_of requirements.now.threads) prefix
             fronts.items) }
     {
-        self.turn_to(index, prefix.slot)?;
-        self.base_on(index, prefix, steps)?;
+        self.turn_to(index, requirements, prefix.slot)?;
+        self.base_on(index, requirements, prefix, steps)?;
         fronts_of(
             self.alloc,
             &self.none,
             &self.base.overlay,
-            self.requirements.threads.count,
+            requirements.threads.count,
         )
     }
 
@@ -205,18 +211,18 @@ impl Closer {
     fn fill<L: Ledger>(
         &mut self,
         index: &TraceIndex,
+        requirements: &Requirements,
         timelines: &mut Vec<Timeline>,
         at: Pointer,
         steps: &mut Steps<L>,
     ) -> Result<(), NoMemory>
-        requires filling { IsFilling index.now.events self.old timelines.old.items }
-        ensures filling { IsFilling index.now.events self.new timelines.new.items }
-        ensures slots { self.new.requirements ≡ self.old.requirements }
+        requires { IsFilling index.now.events requirements.now self.old timelines.old.items }
+        ensures { IsFilling index.now.events requirements.now self.new timelines.new.items }
     {
         let Some(prefix) = prefix_at(timelines.as_slice(), at) else {
             return Ok(());
         };
-        let fronts = self.timestamp_of(index, prefix, steps)?;
+        let fronts = self.timestamp_of(index, requirements, prefix, steps)?;
         put_at(timelines.as_mut_slice(), at, fronts);
         Ok(())
     }
@@ -229,22 +235,22 @@ impl Closer {
     fn fill_within<L: Ledger>(
         &mut self,
         index: &TraceIndex,
+        requirements: &Requirements,
         timelines: &mut Vec<Timeline>,
         at: Option<Pointer>,
         room: usize,
         steps: &mut Steps<L>,
     ) -> Result<usize, NoMemory>
-        requires filling { IsFilling index.now.events self.old timelines.old.items }
-        ensures filling { IsFilling index.now.events self.new timelines.new.items }
-        ensures slots { self.new.requirements ≡ self.old.requirements }
+        requires { IsFilling index.now.events requirements.now self.old timelines.old.items }
+        ensures { IsFilling index.now.events requirements.now self.new timelines.new.items }
     {
-        let Some(left) = room.checked_sub(self.requirements.threads.count as usize) else {
+        let Some(left) = room.checked_sub(requirements.threads.count as usize) else {
             return Ok(room);
         };
         let Some(at) = at else {
             return Ok(room);
         };
-        self.fill(index, timelines, at, steps)?;
+        self.fill(index, requirements, timelines, at, steps)?;
         Ok(left)
     }
 
@@ -255,44 +261,72 @@ impl Closer {
     fn fill_all<L: Ledger>(
         &mut self,
         index: &TraceIndex,
+        requirements: &Requirements,
         timelines: &mut Vec<Timeline>,
         order: &[Option<Pointer>],
         steps: &mut Steps<L>,
     ) -> Result<(), NoMemory>
-        requires filling { IsFilling index.now.events self.old timelines.old.items }
-        ensures filling { IsFilling index.now.events self.new timelines.new.items }
-        ensures slots { self.new.requirements ≡ self.old.requirements }
+        requires { IsFilling index.now.events requirements.now self.old timelines.old.items }
+        ensures { IsFilling index.now.events requirements.now self.new timelines.new.items }
     {
         let mut room = MAX_TIMESTAMP_ENTRIES;
         for at in order {
-            room = self.fill_within(index, timelines, *at, room, steps)?;
+            room = self.fill_within(index, requirements, timelines, *at, room, steps)?;
         }
         Ok(())
     }
 
-    /// Computes the timestamps of the places of all dependencies: for each place one entry for each
-    /// thread, while all entries together are at most `MAX_TIMESTAMP_ENTRIES`. If there are no more
-    /// threads than bases, this takes the time of one closure of the whole trace for each thread.
+    /// Computes the timestamps of the places of the wanted dependencies, up to
+    /// `MAX_TIMESTAMP_ENTRIES` entries.
+    ///
+    /// # Errors
+    /// `NoMemory` if an allocation fails.
+    fn timestamps<L: Ledger>(
+        &mut self,
+        index: &TraceIndex,
+        requirements: &Requirements,
+        table: &DepTable,
+        wanted: &[bool],
+        steps: &mut Steps<L>,
+    ) -> Result<Timestamps, NoMemory>
+        requires closer { IsCloser index.now.events requirements.now self.old }
+        requires one_trace { FollowsWhole table.now index.now.events }
+        ensures { IfOk result (AreTimestamps index.now.events) }
+    {
+        let mut timelines = timelines_of(self.alloc, index, &requirements.threads, table)?;
+        let order = in_order(self.alloc, index, table, wanted)?;
+        self.fill_all(index, requirements, &mut timelines, order.as_slice(), steps)?;
+        Ok(Timestamps { of: timelines })
+    }
+}
+
+impl Timestamps {
+    /// Computes the timestamps of the places of those dependencies whose entry of `wanted` is
+    /// `true`: for each place one number for each thread. Returns `None` if they are costly: the
+    /// trace has more than 64 threads, or more than 65,536 dependencies. Else it takes at most the
+    /// time of one closure of the whole trace for each thread, and keeps at most 4,194,304 numbers.
     ///
     /// # Errors
     /// `NoMemory` if an allocation fails.
     ///
-    /// The caller passes the index over which the closer was made, and the table of its
-    /// dependencies.
-    pub fn timestamps<L: Ledger>(
-        &mut self,
+    /// The caller passes the requirements of the index's trace, and the table of its dependencies.
+    pub fn new<L: Ledger>(
+        alloc: Global,
         index: &TraceIndex,
+        requirements: &Requirements,
         table: &DepTable,
+        wanted: &[bool],
         steps: &mut Steps<L>,
-    ) -> Result<Timestamps, NoMemory>
-        requires closer { IsCloser index.now.events self.old }
+    ) -> Result<Option<Timestamps>, NoMemory>
+        requires requirements { AreRequirements index.now.events requirements.now }
         requires one_trace { FollowsWhole table.now index.now.events }
-        ensures closer { IsCloser index.now.events self.new }
-        ensures timestamps { IfOk result (AreTimestamps index.now.events) }
+        ensures { IfOk result (λ made. ForSome made (AreTimestamps index.now.events)) }
     {
-        let mut timelines = timelines_of(self.alloc, index, &self.requirements.threads, table)?;
-        let order = in_order(self.alloc, index, table)?;
-        self.fill_all(index, &mut timelines, order.as_slice(), steps)?;
-        Ok(Timestamps { of: timelines })
+        if !are_small(requirements, table) {
+            return Ok(None);
+        }
+        let mut closer = Closer::new(alloc, requirements)?;
+        let timestamps = closer.timestamps(index, requirements, table, wanted, steps)?;
+        Ok(Some(timestamps))
     }
 }

@@ -21,4 +21,7 @@ pub mod Depths
 pub mod Deadlock
 pub mod Unique
 pub mod Confirmed
+pub mod Refutation
+pub mod Derivable
+pub mod NotConfirmed
 pub mod Computed

@@ -13,3 +13,4 @@ pub mod Cycles
 pub mod Rows
 pub mod Laws
 pub mod EventLaws
+pub mod Refutation

@@ -2,6 +2,7 @@
 
 ghost use Rattle.trace_model.specs.Theory.Laws.{HeldIsHeld, HoldsInSection, WriterIsGreatest, ReleaseIsLeast, ClosureIsExistence, ClosureIsSmallest, ClosureIsBefore, ClosureIsStable, LesserIsReached, StandsIsStanding, HeldByOtherIsHeld, HeldAscends, DependenciesAreNumbered, ReachedIsDeadlocked, RowsAreUnique, RowsAreSound, ConfirmedStays, WellFormedGrows, ReorderingIsWalk, ClosureGrows, CaughtIsEarly, ThreadsAreForked, ThreadsAreForkedOnce, NothingFollowsJoin, ReleaseIsOwn, SectionsAreApart};
 ghost use Rattle.trace_model.specs.Theory.EventLaws.{OneMoreEvent, OwnerHolds, HeldAreFew, LawfulHigher};
+ghost use Rattle.trace_model.specs.Theory.Refutation.{DerivedIsInClosure, RefutedIsNotConfirmed, NotConfirmedIsRefuted};
 ghost use Rattle.trace_model.specs.Protocol.RunLaws.{SummariesAreStates, RunsFit, RunsSplit, MachineTakesSteps, RunsAreUnique, RunsAreSound, RunsAreLegal, StatusesAreShown};
 ghost use Rattle.trace_model.specs.Protocol.Frames.{OneReading};
 ghost use Rattle.trace_model.specs.Protocol.FormerFrames.{FormerTextsKeep};
@@ -94,6 +95,14 @@ pub fn reordering_is_walk()
 pub fn pointers_move_forward()
     ensures grows { ClosureGrows }
     ensures caught { CaughtIsEarly }
+{}
+
+/// States that a cycle with a refutation is not confirmed, since each derived place is in the
+/// closure, and that every cycle that is not confirmed has a refutation.
+pub fn refutation_is_exact()
+    ensures derived { DerivedIsInClosure }
+    ensures sound { RefutedIsNotConfirmed }
+    ensures complete { NotConfirmedIsRefuted }
 {}
 
 /// States how one more event changes the values that gates and tables store.

@@ -11,6 +11,7 @@ pub mod laws;
 mod limits;
 mod messages;
 mod refusal;
+mod refutations;
 mod traces;
 
 pub use limits::{
@@ -23,6 +24,7 @@ pub use messages::session::{Fault, Reply, Request};
 pub use messages::status::QuestionStatus;
 pub use messages::step::BoardStep;
 pub use refusal::{NoMemory, Refusal, refusal_name};
+pub use refutations::{Derivation, Derived, Reason, Refutation, Step};
 pub use traces::bound::Bound;
 pub use traces::cycle::Cycle;
 pub use traces::event::{Event, Op};

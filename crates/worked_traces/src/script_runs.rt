@@ -5,7 +5,7 @@ use crate::replies::{Bytes, print_refusal, print_reply};
 use anyhow::{Context, Result, bail};
 use commands::{Command, read_script};
 use event_frames::{answer_frame, ask_frame, batch_frame, offer_frame, status_frame};
-use findings::Job;
+use findings::{Analysis, Job};
 use sequencer::{Book, Input, Played, Session, play};
 use std::alloc::Global;
 use std::hash::RandomState;
@@ -94,7 +94,8 @@ impl Sender {
             Err(refusal) => return Ok(Err(refusal)),
         };
         let bound = self.book.status(question)?.bound;
-        Ok(Ok(Job::new(self.alloc, snapshot, question, bound)))
+        let analysis = Analysis::new(self.alloc, snapshot, bound)?;
+        Ok(Ok(Job::new(self.alloc, analysis, question)))
     }
 
     /// Delivers a task. Returns the refusal if the book gives no snapshot of the question.

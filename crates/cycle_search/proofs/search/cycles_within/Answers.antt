@@ -1,8 +1,12 @@
-use Rattle.std.proofs.Common.{◌≡◌, ◌∙◌, [], ◌∷◌, ◌++◌, List, ℕ, Err, length, slice_index, sym, ap, subst, arith}
+use Rattle.std.proofs.Common.{◌≡◌, ◌∙◌, [], ◌∷◌, ◌++◌, List, ℕ, Bool, Err, Some, length, slice_index, sym, ap, subst, arith}
 use Rattle.std.proofs.lemmas.Result.{err_from_is_err_and}
 use Rattle.cycle_search.specs.declared.refused.SearchRefused.TheVariants.{TooMany}
+use Rattle.trace_model.specs.Theory.Cycles.{AreCyclesFrom}
+use Rattle.trace_model.specs.Theory.Dependencies.{Dependency}
+use Rattle.dependencies.specs.Tables.{known}
 use Rattle.cycle_search.specs.Search.{IsPath}
 use Rattle.cycle_search.specs.Distances.{AreDistances}
+use Rattle.cycle_search.proofs.ComponentLemmas.{none-from}
 use Rattle.cycle_search.proofs.Paths.{path-one}
 use Rattle.cycle_search.proofs.Turns.{cycles-made, too-many-made}
 use Rattle.cycle_search.proofs.search.cycles_within.Goals as goal
@@ -10,6 +14,14 @@ use Rattle.cycle_search.proofs.search.cycles_within.Goals as goal
 -- The path is the root alone.
 begins : (root : ℕ) (new pushed : List ℕ) → new ≡ [] → pushed ≡ new ++ root ∷ [] → pushed ≡ root ∷ []
 begins root new pushed none more = more ∙ ap (λ xs. xs ++ root ∷ []) none
+
+pub returns-then-not-is_cyclic-clause-ok : goal.returns-then-not-is_cyclic-clause-ok
+returns-then-not-is_cyclic-clause-ok c =
+    let ds = known c.searched.inside.table.now in
+    let off = c.is_cyclic.ensures ∙ ap (λ (b : Bool). Some b) c.if-not-is_cyclic.true in
+    let none = none-from ds c.args.bound c.args.root c.searched.inside.components.now c.searched.invariant.components off in
+    subst (λ (ds : List Dependency). AreCyclesFrom ds c.args.bound c.args.root c.new.result.items) c.searched.view_is
+    (subst (AreCyclesFrom ds c.args.bound c.args.root) (sym c.new.ensures.items) none)
 
 pub distances_of-requires : goal.distances_of-requires
 distances_of-requires c =

@@ -1,7 +1,6 @@
-use Rattle.std.proofs.Common.{◌≡◌, ◌∙◌, length, ap}
+use Rattle.std.proofs.Common.{length, ap}
 use Rattle.std.specs.List.{range_with_len}
 use Rattle.rayon.proofs.ListFacts.{IfOk-then}
-use Rattle.trace_model.specs.Theory.Trace.{Trace}
 use Rattle.trace_model.specs.Theory.Dependencies.{dependencies}
 use Rattle.offline_report.proofs.Collected.{collected}
 use Rattle.offline_report.proofs.tasks.compute_all.Goals as goal
@@ -10,6 +9,5 @@ pub returns : goal.returns
 returns g c =
     let s = g.A.About.events in
     let n = length (dependencies s) in
-    let total : c.tasks.result ≡ n = c.tasks.ensures ∙ ap (λ (t : Trace). length (dependencies t)) (c.deref.ensures ∙ c.requires.events) in
     IfOk-then c.gather.result _ _ c.gather.ensures (λ v h.
-    collected s g.A.About.bound n (range_with_len 0 c.tasks.result) h.0 v (ap (range_with_len 0) total) h.1 h.2)
+    collected s g.A.About.bound n (range_with_len 0 c.args.tasks) h.0 v (ap (range_with_len 0) c.requires.tasks) h.1 h.2)

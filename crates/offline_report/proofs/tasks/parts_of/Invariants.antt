@@ -3,4 +3,4 @@ use Rattle.offline_report.proofs.tasks.parts_of.Given as goal
 
 -- The question that is computed.
 abbrev pub ghosts-compute_all : goal.ghosts-compute_all
-ghosts-compute_all g a = record { events = arc_value a.snapshot.now; bound = a.bound }
+ghosts-compute_all g a = record { events = (arc_value a.analysis.now).events; bound = (arc_value a.analysis.now).bound }

@@ -8,10 +8,11 @@ pub returns-clause-counted : goal.returns-clause-counted
 returns-clause-counted g c =
     let s = c.args.index.now.events in
     let old = c.in_ok-closer.closer in
-    let all = upper_total c.least.new.self in
+    let d = c.in_ok-requirements.requirements in
+    let all = upper_total d c.least.new.self in
     let after = c.least.new.steps in
     let before = c.args.steps.now in
     on_ok_map c.least.result (λ answer. IfSome answer (λ found. size_in s found.1 ≡ all)) (λ answer. IfSome answer (λ found. after ≡ before + size_in s found.1))
     (λ answer each size. if_some_map answer (λ found. size_in s found.1 ≡ all) (λ found. after ≡ before + size_in s found.1)
-    (λ found e. counted_all s old c.args.cycle.now before after all c.in_ok-closer.ensures.empty each ∙ omega (arith, e)) size)
+    (λ found e. counted_all s d old c.args.cycle.now before after all c.in_ok-closer.ensures.empty each ∙ omega (arith, e)) size)
     c.least.ensures.counted c.least.ensures.size

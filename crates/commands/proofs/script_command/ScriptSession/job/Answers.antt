@@ -16,4 +16,7 @@ returns c =
     let state = c.args.self.now.book.state in
     let found = c.in_ok-snapshot.ensures.ok in
     let known = known_of state c.args.question _ found.0 found.1 found.2 in
-    record { known = subst (λ (job : Asked). AreKnown state job.question job.events) (sym c.new.ensures) known }
+    record {
+      known = subst (λ (job : Asked). AreKnown state job.question job.events) (sym c.new-2.ensures)
+          (subst (AreKnown state c.args.question) (sym c.in-Ok-new.ensures.0) known);
+    }

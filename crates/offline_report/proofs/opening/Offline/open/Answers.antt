@@ -21,9 +21,9 @@ returns-in_default g c = record { asked = tt; well_formed = tt; refused = tt }
 
 pub returns : goal.returns
 returns g c =
-    let events = c.in-Ok.ensures ∙ c.deref-2.ensures.value in
+    let events = c.in-Ok.ensures.0 ∙ c.deref-2.ensures.value in
     record {
-      asked = λ i. record { question = 0; bound = c.args.bound; events = events i };
+      asked = λ i. record { question = 0; bound = c.in-Ok.ensures.1 i; events = events i };
       well_formed = subst IsWellFormed c.deref.ensures.value c.in_ok-admit.ensures.ok;
       refused = tt;
     }

@@ -8,18 +8,18 @@ use Rattle.sp_closure.proofs.closer.Closer.answer.Goals as goal
 use Rattle.sp_closure.proofs.closer.Closer.answer.Goals.{In_ok-fronts}
 
 -- The returned fronts are the closure.
-gathered : (c : In_ok-fronts) → AreGathered c.args.index.now.events c.args.self.now.requirements.threads (upper_front c.args.self.now) c.in_ok-fronts.fronts
+gathered : (c : In_ok-fronts) → AreGathered c.args.index.now.events c.args.requirements.now.threads (upper_front c.args.self.now) c.in_ok-fronts.fronts
 gathered c =
     let s = c.args.index.now.events in
     let self = c.args.self.now in
+    let d = c.args.requirements.now in
     let is = c.requires.closer in
     let fronts = c.in_ok-fronts.fronts in
     let positions = c.in_ok-positions.positions in
-    let clone = c.in_ok-positions.ensures.cases in
     let first : (arc_value fronts.positions).items ≡ (arc_value positions).items = λ i. (arc_value (c.in_ok-fronts.ensures.positions i)).items in
-    let second : (arc_value positions).items ≡ (arc_value self.positions).items = λ i. (clone i).items in
-    let are = subst (ArePositions s (slots_of self.requirements.threads)) (sym (first ∙ second)) is.positions in
-    all_gathered s c.args.places.now self.requirements.threads (upper_front self) fronts c.len-len.ensures.well_formed is.requirements.slots are
+    let second : (arc_value positions).items ≡ (arc_value d.positions).items = λ i. (c.in_ok-positions.ensures i).items in
+    let are = subst (ArePositions s (slots_of d.threads)) (sym (first ∙ second)) is.requirements.positions in
+    all_gathered s c.args.places.now d.threads (upper_front self) fronts c.len-len.ensures.well_formed is.requirements.slots are
     c.in_ok-fronts.ensures.fronts c.in_ok-fronts.ensures.end c.requires.closure
 
 pub returns : goal.returns

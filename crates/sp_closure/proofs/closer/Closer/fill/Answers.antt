@@ -1,7 +1,6 @@
-use Rattle.std.proofs.Common.{length, refl, sym, ap, subst, ◌∙◌}
+use Rattle.std.proofs.Common.{length, sym, ap, subst, ◌∙◌}
 use Rattle.std.proofs.Math.ListN.{length-set}
 use Rattle.sp_closure.proofs.EnterLemmas.{written}
-use Rattle.fronts.specs.declared.requirements.Requirements.{Requirements}
 use Rattle.fronts.specs.declared.requirements.ThreadPrefix.{ThreadPrefix}
 use Rattle.fronts.specs.Slots.{slots_of, HasFirst}
 use Rattle.sp_closure.specs.Timestamps.{AreTimelines, HasPrefix, PutsAt}
@@ -11,39 +10,29 @@ use Rattle.sp_closure.proofs.closer.Closer.fill.Goals as goal
 pub timestamp_of-requires-clause-reach : goal.timestamp_of-requires-clause-reach
 timestamp_of-requires-clause-reach g c =
     let s = c.args.index.now.events in
-    let slots = slots_of c.args.self.now.requirements.threads in
+    let slots = slots_of c.args.requirements.now.threads in
     let has = subst (λ xs. HasPrefix xs c.args.at c.in-Some.prefix) c.as_slice.ensures.value c.in-Some.ensures in
     subst (λ (z : ThreadPrefix). HasFirst s slots z.slot z.count) (sym has.is)
-    ((c.requires.filling.timelines c.args.at.number has.timeline has.timeline_at).reach c.args.at.entry has.timestamp has.timestamp_at)
+    ((c.requires.timelines c.args.at.number has.timeline has.timeline_at).reach c.args.at.entry has.timestamp has.timestamp_at)
 
 pub returns-in_default : goal.returns-in_default
-returns-in_default g c = record { filling = c.requires.filling; slots = refl }
+returns-in_default g c = c.requires
 
 pub returns-in_err-fronts : goal.returns-in_err-fronts
-returns-in_err-fronts g c = record {
-  filling = record {
-    closer = c.timestamp_of.ensures.closer;
-    timelines = subst (λ (e : Requirements). AreTimelines c.args.index.now.events (slots_of e.threads) c.args.timelines.now.items) (sym c.timestamp_of.ensures.slots) c.requires.filling.timelines;
-  };
-  slots = c.timestamp_of.ensures.slots;
-}
+returns-in_err-fronts g c = record { closer = c.timestamp_of.ensures.closer; timelines = c.requires.timelines }
 
 pub returns : goal.returns
 returns g c =
     let s = c.args.index.now.events in
     let timelines = c.args.timelines.now.items in
-    let d = c.timestamp_of.new.self.requirements in
+    let d = c.args.requirements.now in
     let slots = slots_of d.threads in
     let has = subst (λ xs. HasPrefix xs c.args.at c.in-Some.prefix) c.as_slice.ensures.value c.in-Some.ensures in
-    let are = subst (λ (e : Requirements). AreTimelines s (slots_of e.threads) timelines) (sym c.timestamp_of.ensures.slots) c.requires.filling.timelines in
     let puts = subst (λ xs. PutsAt xs c.args.at c.in_ok-fronts.fronts c.put_at.new.timelines) c.as_mut_slice.ensures.value c.put_at.ensures in
     let same = ap length puts.put ∙ length-set timelines c.args.at.number puts.other in
     let back = written c.args.timelines.now.len c.put_at.new.timelines _ (c.args.timelines.now.ok.0 ∙ sym same) in
     record {
-      filling = record {
-        closer = c.timestamp_of.ensures.closer;
-        timelines = subst (AreTimelines s slots) (sym back)
-            (timelines_put s slots timelines c.put_at.new.timelines c.args.at c.in-Some.prefix c.in_ok-fronts.fronts are has c.in_ok-fronts.ensures.timestamp puts);
-      };
-      slots = c.timestamp_of.ensures.slots;
+      closer = c.timestamp_of.ensures.closer;
+      timelines = subst (AreTimelines s slots) (sym back)
+          (timelines_put s slots timelines c.put_at.new.timelines c.args.at c.in-Some.prefix c.in_ok-fronts.fronts c.requires.timelines has c.in_ok-fronts.ensures.timestamp puts);
     }

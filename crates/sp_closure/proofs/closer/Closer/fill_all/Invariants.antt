@@ -1,9 +1,5 @@
-use Rattle.std.proofs.Common.{◌≡◌}
 use Rattle.sp_closure.specs.Filling.{IsFilling}
 use Rattle.sp_closure.proofs.closer.Closer.fill_all.Given as goal
 
 abbrev pub invariant-loop-at : goal.invariant-loop-at
-invariant-loop-at g l = record {
-  filling : IsFilling l.fn.index.events l.self l.timelines.items;
-  slots : l.self.requirements ≡ l.fn.self.requirements;
-}
+invariant-loop-at g l = IsFilling l.fn.index.events l.fn.requirements l.self l.timelines.items

@@ -7,12 +7,12 @@ use Rattle.sp_closure.proofs.closer.Closer.place_of.Goals as goal
 
 pub returns-in_err-push-clause-others : goal.returns-in_err-push-clause-others
 returns-in_err-push-clause-others c = λ of n h.
-    has_others c.args.self.now (record c.args.self.now { others = c.push.new.self }) of n refl refl (λ w. refl)
+    has_others c.args.requirements.now c.args.self.now (record c.args.self.now { others = c.push.new.self }) of n refl refl (λ w. refl)
     (λ i b at. inr (ap (λ xs. slice_get xs i) (sym c.in_err-push.ensures.items) ∙ at)) h
 
 pub returns-clause-others : goal.returns-clause-others
 returns-clause-others c = λ of n h.
-    has_others c.args.self.now (record c.args.self.now { others = c.push.new.self }) of n refl refl (λ w. refl)
+    has_others c.args.requirements.now c.args.self.now (record c.args.self.now { others = c.push.new.self }) of n refl refl (λ w. refl)
     (λ i b at. elim (pushed_at c.args.self.now.others.items _ i b (ap (λ xs. slice_get xs i) (sym c.in_ok-push.ensures.items) ∙ at)) [
       | inl e ↦ inr e
       | inr e ↦ inl (λ j. (e j).of)
@@ -22,14 +22,13 @@ pub returns-clause-closer : goal.returns-clause-closer
 returns-clause-closer c =
     let s = c.args.index.now.events in
     let old = c.requires.closer in
-    let d = c.args.self.now.requirements in
+    let d = c.args.requirements.now in
     let k = d.threads.count in
     let l = d.locks.count in
     let none = c.args.self.now.none in
     let empty = c.in_ok-propagation.ensures.overlay in
     record {
       requirements = old.requirements;
-      positions = old.positions;
       none = old.none;
       fits = old.fits;
       base = old.base;

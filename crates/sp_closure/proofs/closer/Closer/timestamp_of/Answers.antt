@@ -1,28 +1,18 @@
-use Rattle.std.proofs.Common.{sym, ap, subst, ◌∙◌}
 use Rattle.std.proofs.lemmas.Result.{IfOk-from_err}
-use Rattle.sp_closure.specs.declared.closer.Closer.{Closer}
-use Rattle.fronts.specs.declared.requirements.Requirements.{Requirements}
 use Rattle.fronts.specs.Overlays.{front_of}
-use Rattle.fronts.specs.Slots.{slots_of, HasFirst}
+use Rattle.fronts.specs.Slots.{slots_of}
 use Rattle.sp_closure.proofs.TimestampLemmas.{fronts_within}
 use Rattle.sp_closure.proofs.closer.Closer.timestamp_of.Goals as goal
-
-pub base_on-requires-clause-reach : goal.base_on-requires-clause-reach
-base_on-requires-clause-reach g c =
-    subst (λ (d : Requirements). HasFirst c.args.index.now.events (slots_of d.threads) c.args.prefix.slot c.args.prefix.count)
-    (sym (ap (λ (z : Closer). z.requirements) c.turn_to.ensures.same)) c.requires.reach
 
 pub returns-in_err-turn_to : goal.returns-in_err-turn_to
 returns-in_err-turn_to g c = record {
   closer = c.turn_to.ensures.closer;
-  slots = ap (λ (z : Closer). z.requirements) c.turn_to.ensures.same;
   timestamp = IfOk-from_err c.from_residual.result _ c.from_residual.ensures.0;
 }
 
 pub returns-in_err-base_on : goal.returns-in_err-base_on
 returns-in_err-base_on g c = record {
   closer = c.base_on.ensures.closer;
-  slots = c.base_on.ensures.tables.0 ∙ ap (λ (z : Closer). z.requirements) c.turn_to.ensures.same;
   timestamp = IfOk-from_err c.from_residual-in_err-base_on.result _ c.from_residual-in_err-base_on.ensures.0;
 }
 
@@ -31,7 +21,6 @@ returns g c =
     let z = c.base_on.new.self in
     record {
       closer = c.base_on.ensures.closer;
-      slots = c.base_on.ensures.tables.0 ∙ ap (λ (z : Closer). z.requirements) c.turn_to.ensures.same;
-      timestamp = fronts_within c.args.index.now.events (slots_of z.requirements.threads) c.args.prefix c.fronts_of.result (front_of z.none z.base.overlay) c.fronts_of.ensures
+      timestamp = fronts_within c.args.index.now.events (slots_of c.args.requirements.now.threads) c.args.prefix c.fronts_of.result (front_of z.none z.base.overlay) c.fronts_of.ensures
           c.in_ok-base_on.ensures.base.least;
     }

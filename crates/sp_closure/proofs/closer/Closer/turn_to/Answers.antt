@@ -11,7 +11,7 @@ returns-clause-closer c =
     let s = c.args.index.now.events in
     let was = c.place_of.new.self in
     let is = c.place_of.ensures.closer in
-    let d = was.requirements in
+    let d = c.args.requirements.now in
     let none = was.none in
     let other = c.index_mut-other.result.now in
     let at : slice_get was.others.items c.in_ok-at.at ≡ Some other =
@@ -19,7 +19,6 @@ returns-clause-closer c =
     let it = is.others c.in_ok-at.at other at in
     record {
       requirements = is.requirements;
-      positions = is.positions;
       none = is.none;
       fits = subst (IsFit s d none) (sym c.swap.ensures.x_after) it.fits;
       base = λ to e. subst (λ (w : Propagation). IsBase s d none to w.overlay) (sym c.swap.ensures.x_after) (it.base to (sym c.swap-2.ensures.x_after ∙ e));
@@ -44,5 +43,5 @@ returns-clause-has c =
       other = other;
       at = at;
       prefix = c.swap-2.ensures.x_after;
-      places = ap (λ (w : Propagation). total_over was.none w was.requirements) c.swap.ensures.x_after;
+      places = ap (λ (w : Propagation). total_over was.none w c.args.requirements.now) c.swap.ensures.x_after;
     })))

@@ -1,0 +1,7 @@
+pub mod Adding
+pub mod Walking
+pub mod Requiring
+pub mod LastSections
+pub mod Finished
+pub mod NeededEntries
+pub mod Moves

@@ -1,0 +1,126 @@
+//! The refutation of a cycle.
+
+ghost use Rattle.std.specs.Prelude.{◌≡◌, ℕ, ◌<◌, ◌≤◌, suc, [], length, slice_get, vec_capacity, Some, None, IfOk, MatchOption};
+ghost use Rattle.std.specs.List.{Contains};
+ghost use Rattle.std.specs.List.Sorted.{IsStrictlyIncreasing};
+ghost use Rattle.trace_model.specs.Theory.Cycles.{IsConfirmed};
+ghost use Rattle.trace_model.specs.Theory.Dependencies.{dependencies};
+ghost use Rattle.trace_model.specs.Theory.Reordering.{Reached};
+ghost use Rattle.trace_model.specs.Theory.Refutation.{Derives, IsRefutation};
+ghost use Rattle.dependencies.specs.Tables.{known, places_of};
+ghost use Rattle.explain.specs.Moving.{FollowsWhole, HaveFirst};
+
+use crate::extract::derivation_of;
+use crate::search::Search;
+use dependencies::DepTable;
+use std::alloc::Global;
+use std::collections::hash_map::RandomState;
+use trace_index::TraceIndex;
+use trace_model::{Cycle, Derivation, NoMemory, Place, Refutation, Step};
+
+/// Returns a refutation of the cycle exactly if the cycle is not confirmed, or `None` if some
+/// reordering reaches an instance of it. The derivation of each step has the entries that its place
+/// needs in a breadth-first search. Allocates in proportion to the refutation and to the places
+/// that one search derives.
+///
+/// # Errors
+/// `NoMemory` if an allocation fails.
+///
+/// The caller passes the table of the dependencies of the index's trace, and numbers below its
+/// length.
+pub fn refutation_of(
+    alloc: Global,
+    state: RandomState,
+    index: &TraceIndex,
+    table: &DepTable,
+    cycle: &Cycle,
+) -> Result<Option<Refutation>, NoMemory>
+    requires one_trace { FollowsWhole table.now index.now.events }
+    requires known { (m : ℕ) → Contains cycle.now m →
+        m < length (dependencies index.now.events) }
+    ensures { IfOk result (λ answer. MatchOption answer
+        (IsConfirmed index.now.events cycle.now)
+        (IsRefutation index.now.events cycle.now)) }
+{
+    let members = cycle.numbers();
+    let mut places = Vec::with_capacity(alloc, members.len())?;
+    first_places(table, members, &mut places);
+    let mut entries = vec![in alloc; 0; members.len()]?;
+    let mut steps = Vec::new(alloc);
+    for _count in 0..usize::MAX {
+        let Some(step) = step_at(alloc, state, index, places.as_slice())? else {
+            return Ok(None);
+        };
+        let member = step.member;
+        steps.push(step)?;
+        let Some(next) = place_after(table, members[member], entries[member]) else {
+            return Ok(Some(Refutation { steps }));
+        };
+        places[member] = next.1;
+        entries[member] = next.0;
+    }
+    Ok(None)
+}
+
+/// Adds the first place of each member's dependency to `places`.
+fn first_places(table: &DepTable, members: &[u32], places: &mut Vec<Place>)
+    requires empty { places.old.items ≡ [] }
+    requires room { length members.now ≤ vec_capacity places.old }
+    requires known { (i m : ℕ) → slice_get members.now i ≡ Some m →
+        m < length (known table.now) }
+    requires some { (m : ℕ) → m < length (known table.now) →
+        0 < length (places_of table.now m) }
+    ensures sized { length places.new.items ≡ length members.now }
+    ensures first { HaveFirst table.now members.now places.new.items (length members.now) }
+{
+    for number in members {
+        let list = table.places(*number);
+        let _len = list.len(); // for the proof
+        places.push_reserved(list.get(0));
+    }
+}
+
+/// Returns the next entry of the places of the dependency with this number, and its place, or
+/// `None`.
+fn place_after(table: &DepTable, number: u32, entry: usize) -> Option<(usize, Place)>
+    requires known { number < length (known table.now) }
+    requires entry { entry < length (places_of table.now number) }
+    ensures next { MatchOption result (slice_get (places_of table.now number) (suc entry) ≡ None)
+        (λ next. (next.0 ≡ suc entry)
+        × (slice_get (places_of table.now number) (suc entry) ≡ Some next.1)) }
+    ensures ascends { IsStrictlyIncreasing (places_of table.now number) }
+{
+    let places = table.places(number);
+    let count = places.len();
+    if entry + 1 < count {
+        Some((entry + 1, places.get(entry + 1)))
+    } else {
+        None
+    }
+}
+
+/// Returns a step that derives the present place of a member, or `None` if some reordering reaches
+/// the places.
+///
+/// # Errors
+/// `NoMemory` if an allocation fails.
+fn step_at(
+    alloc: Global,
+    state: RandomState,
+    index: &TraceIndex,
+    places: &[Place],
+) -> Result<Option<Step>, NoMemory>
+    ensures { IfOk result (λ step. MatchOption step
+        (Reached index.now.events places.now)
+        (Derives index.now.events places.now)) }
+{
+    let mut search = Search::new(alloc, state);
+    let Some(member) = search.run(index, places)? else {
+        return Ok(None);
+    };
+    let entries = derivation_of(alloc, &search, places[member])?;
+    Ok(Some(Step {
+        member,
+        derivation: Derivation { entries },
+    }))
+}

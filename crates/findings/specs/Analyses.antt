@@ -1,0 +1,40 @@
+-- What contracts see of an analysis, and which tables it has.
+use Rattle.std.specs.Prelude.{◌≡◌, ℕ, List, Option, Some, MatchOption}
+use Rattle.std.specs.Option.{ForSome}
+use Rattle.trace_model.specs.Theory.Trace.{Trace}
+use Rattle.trace_model.specs.Theory.Cycles.{IsCycle}
+use Rattle.trace_model.specs.Theory.Dependencies.{dependencies}
+use Rattle.findings.specs.declared.tables.Tables.{Tables}
+use Rattle.cycle_search.specs.Components.{AreComponents}
+use Rattle.fronts.specs.declared.requirements.Requirements.{Requirements}
+use Rattle.fronts.specs.Requirements.{AreRequirements}
+use Rattle.sp_closure.specs.declared.closer.Closer.{Closer}
+use Rattle.sp_closure.specs.Closers.{IsCloser}
+use Rattle.sp_closure.specs.Timestamps.{AreTimestamps}
+
+-- An analysis: its events, its bound, and the requirements over which closures are computed, or
+-- `None` if there is no cycle.
+pub record Analyzed : Type 0 where
+  pub events : Trace
+  pub bound : ℕ
+  pub requirements : Option Requirements
+
+-- The trace has no cycle.
+abbrev pub HasNoCycle : Trace → Type 0
+HasNoCycle s = (bound : ℕ) (numbers : List ℕ) → IsCycle (dependencies s) bound numbers → ⊥
+
+-- The requirements are those of the trace; if there are none, the trace has no cycle.
+abbrev pub AreRequirementsOf : Trace → Option Requirements → Type 0
+AreRequirementsOf s requirements =
+    MatchOption requirements (HasNoCycle s) (λ d. AreRequirements s d)
+
+-- The tables are those of the trace.
+pub record AreTablesOf (s : Trace) (tables : Tables) : Type 0 where
+  pub components : AreComponents (dependencies s) tables.components
+  pub requirements : AreRequirementsOf s tables.requirements
+  pub timestamps : ForSome tables.timestamps (AreTimestamps s)
+
+-- The closer is one over the trace with these requirements.
+abbrev pub IsCloserOf : Trace → Option Requirements → Closer → Type 0
+IsCloserOf s requirements closer =
+    (d : Requirements) → requirements ≡ Some d → IsCloser s d closer

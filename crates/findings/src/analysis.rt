@@ -1,0 +1,81 @@
+//! An analysis: a snapshot and a bound, with tables that threads share.
+
+ghost use Rattle.std.specs.Prelude.{◌≡◌, IfOk};
+ghost use Rattle.std.specs.Arc.{arc_value};
+
+use crate::tables::Tables;
+use snapshots::Snapshot;
+use std::alloc::Global;
+use std::marker::Model;
+use std::sync::Arc;
+use trace_model::{Bound, NoMemory};
+
+/// A snapshot and a bound, with the tables that all tasks of a question read. It is immutable, so
+/// threads share it. Contracts see it as the events and the bound.
+pub struct Analysis {
+    pub(crate) snapshot: Arc<Snapshot, Global>,
+    pub(crate) bound: Bound,
+    pub(crate) tables: Tables,
+}
+
+impl Drop for Analysis {
+    fn drop(self) {
+        let Analysis {
+            snapshot: _,
+            bound: _,
+            tables: _,
+        } = self;
+    }
+}
+
+impl Model for Analysis {
+    ghost use Rattle.std.specs.Arc.{arc_value};
+    ghost use Rattle.findings.specs.Analyses.{Analyzed, AreTablesOf};
+
+    ghost Value = { Analyzed };
+
+    ghost view = { λ a. record {
+      events = arc_value a.snapshot;
+      bound = a.bound;
+      requirements = a.tables.requirements;
+    } };
+
+    ghost invariant = { λ a. AreTablesOf (arc_value a.snapshot) a.tables };
+}
+
+impl Analysis {
+    /// Computes the tables of a question with this bound on the snapshot's events.
+    ///
+    /// # Errors
+    /// `NoMemory` if an allocation fails.
+    pub fn new(
+        alloc: Global,
+        snapshot: Arc<Snapshot, Global>,
+        bound: Bound,
+    ) -> Result<Arc<Analysis, Global>, NoMemory>
+        ensures { IfOk result (λ a. ((arc_value a).events ≡ arc_value snapshot)
+            × ((arc_value a).bound ≡ bound)) }
+    {
+        let tables = Tables::new(alloc, &snapshot)?;
+        let analysis = Analysis {
+            snapshot,
+            bound,
+            tables,
+        };
+        Ok(Arc::new(alloc, analysis)?)
+    }
+
+    /// Returns the bound. Does not allocate.
+    pub fn bound(&self) -> Bound
+        ensures { result ≡ self.now.bound }
+    {
+        self.bound
+    }
+
+    /// Returns the snapshot. Does not allocate.
+    pub fn snapshot(&self) -> &Snapshot
+        ensures { result.now ≡ self.now.events }
+    {
+        &self.snapshot
+    }
+}

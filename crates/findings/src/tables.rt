@@ -1,0 +1,165 @@
+//! The tables that all tasks of a question read, computed once from its snapshot.
+
+ghost use Rattle.std.specs.Prelude.{◌≡◌, ◌<◌, ◌≤◌, length, IfOk};
+ghost use Rattle.std.specs.Option.{ForSome};
+ghost use Rattle.trace_model.specs.declared.limits.TheConstants.{MAX_CYCLES};
+ghost use Rattle.trace_model.specs.Theory.Cycles.{AreCyclesFrom};
+ghost use Rattle.trace_model.specs.Theory.Dependencies.{dependencies};
+ghost use Rattle.cycle_search.specs.Search.{CycleFrom, MoreThan, IfTooMany};
+ghost use Rattle.cycle_search.specs.Components.{AreComponents};
+ghost use Rattle.fronts.specs.Requirements.{AreRequirements};
+ghost use Rattle.sp_closure.specs.Timestamps.{AreTimestamps};
+ghost use Rattle.findings.specs.Analyses.{AreRequirementsOf, AreTablesOf};
+
+use cycle_search::{Components, Cycle, SearchRefused, Searched, cycles_from};
+use snapshots::Snapshot;
+use sp_closure::{Requirements, Steps, Timestamps};
+use std::alloc::Global;
+use std::marker::Brand;
+use std::sync::ledger::{Blank, Ledger};
+use trace_model::{Bound, NoMemory};
+
+/// The least number of cyclic dependencies for which timestamps are computed. Fewer ones have too
+/// few cycles for the timestamps to pay.
+const LEAST_CYCLIC: usize = 16;
+
+/// The components, and if there may be cycles the requirements and the timestamps.
+#[derive(Drop)]
+pub(crate) struct Tables {
+    pub(crate) components: Components,
+    /// `None` if there is no cycle.
+    pub(crate) requirements: Option<Requirements>,
+    /// `None` if they do not pay. No result depends on them.
+    pub(crate) timestamps: Option<Timestamps>,
+}
+
+impl Tables {
+    /// Computes the tables of the snapshot.
+    ///
+    /// # Errors
+    /// `NoMemory` if an allocation fails.
+    pub(crate) fn new(alloc: Global, snapshot: &Snapshot) -> Result<Tables, NoMemory>
+        ensures { IfOk result (AreTablesOf snapshot.now) }
+    {
+        let components = components_of(alloc, snapshot)?;
+        let requirements = requirements_of(alloc, snapshot, &components)?;
+        let timestamps = timestamps_of(alloc, snapshot, &components, &requirements)?;
+        Ok(Tables {
+            components,
+            requirements,
+            timestamps,
+        })
+    }
+
+    /// Returns the cycles of a task: those that begin with its dependency. A task past the last one
+    /// has none.
+    ///
+    /// # Errors
+    /// - `TooMany` only if the task has more than `MAX_CYCLES` cycles.
+    /// - `NoMemory` if an allocation fails.
+    ///
+    /// The caller passes the snapshot from which the tables were computed.
+    pub(crate) fn cycles(
+        &self,
+        alloc: Global,
+        snapshot: &Snapshot,
+        bound: Bound,
+        task: u32,
+    ) -> Result<Vec<Cycle>, SearchRefused>
+        requires { AreTablesOf snapshot.now self.now }
+        ensures ok { IfOk result (λ cycles.
+            AreCyclesFrom (dependencies snapshot.now) bound task cycles.items) }
+        ensures few { IfOk result (λ cycles. length cycles.items ≤ MAX_CYCLES) }
+        ensures too_many { IfTooMany result
+            (MoreThan (CycleFrom (dependencies snapshot.now) bound task) MAX_CYCLES) }
+    {
+        let Some(_requirements) = &self.requirements else {
+            return Ok(Vec::new(alloc));
+        };
+        if task as usize >= snapshot.table().len() {
+            return Ok(Vec::new(alloc));
+        }
+        let searched = Searched::new(snapshot.table(), snapshot.graph(), &self.components);
+        cycles_from(alloc, &searched, task, bound)
+    }
+}
+
+/// Returns the components of the snapshot's dependencies.
+///
+/// # Errors
+/// `NoMemory` if an allocation fails.
+fn components_of(alloc: Global, snapshot: &Snapshot) -> Result<Components, NoMemory>
+    ensures { IfOk result (AreComponents (dependencies snapshot.now)) }
+{
+    Components::new(alloc, snapshot.state(), snapshot.table(), snapshot.graph())
+}
+
+/// Returns the requirements of the snapshot's events, or `None` if there is no cycle.
+///
+/// # Errors
+/// `NoMemory` if an allocation fails.
+fn requirements_of(
+    alloc: Global,
+    snapshot: &Snapshot,
+    components: &Components,
+) -> Result<Option<Requirements>, NoMemory>
+    requires { AreComponents (dependencies snapshot.now) components.now }
+    ensures { IfOk result (AreRequirementsOf snapshot.now) }
+{
+    if components.are_acyclic() {
+        return Ok(None);
+    }
+    let requirements = Requirements::build(alloc, snapshot.index())?;
+    Ok(Some(requirements))
+}
+
+/// Returns the timestamps of the cyclic dependencies, if there are enough of these and the
+/// timestamps are not costly.
+///
+/// # Errors
+/// `NoMemory` if an allocation fails.
+fn timestamps_of(
+    alloc: Global,
+    snapshot: &Snapshot,
+    components: &Components,
+    requirements: &Option<Requirements>,
+) -> Result<Option<Timestamps>, NoMemory>
+    requires { AreRequirementsOf snapshot.now requirements.now }
+    ensures { IfOk result (λ made. ForSome made (AreTimestamps snapshot.now)) }
+{
+    let cyclic = components.cyclic();
+    match requirements {
+        Some(requirements) if cyclic.iter().filter(|it| **it).count() >= LEAST_CYCLIC => {
+            make_timestamps::<Brand>(alloc, snapshot, requirements, cyclic, Blank::new(1))
+        }
+        _ => Ok(None),
+    }
+}
+
+/// Computes the timestamps, counted by a new count of steps.
+///
+/// # Errors
+/// `NoMemory` if an allocation fails.
+fn make_timestamps<L: Ledger>(
+    alloc: Global,
+    snapshot: &Snapshot,
+    requirements: &Requirements,
+    cyclic: &[bool],
+    blank: Blank,
+) -> Result<Option<Timestamps>, NoMemory>
+    requires name { blank.name ≡ L.name }
+    requires parts { blank.parts ≡ L.parts }
+    requires some { 0 < L.parts }
+    requires requirements { AreRequirements snapshot.now requirements.now }
+    ensures { IfOk result (λ made. ForSome made (AreTimestamps snapshot.now)) }
+{
+    let mut steps = Steps::<L>::new(blank);
+    Timestamps::new(
+        alloc,
+        snapshot.index(),
+        requirements,
+        snapshot.table(),
+        cyclic,
+        &mut steps,
+    )
+}

@@ -1,0 +1,75 @@
+use Rattle.std.proofs.Common.{◌≡◌, get_or, length, Some, None, sym, ap, subst, ◌∙◌, arith}
+use Rattle.std.proofs.lemmas.List.{length-set}
+use Rattle.std.proofs.lemmas.Option.{same_Some, slice_get-get_or, slice_get_within}
+use Rattle.trace_model.specs.declared.refutations.Step.{Step}
+use Rattle.trace_model.specs.Theory.Refutation.{Derives, IsNextPlace}
+use Rattle.replay.specs.Refuting.{IsFault}
+use Rattle.replay.specs.declared.refutation_verdict.RefutationVerdict.TheVariants.{WrongStep}
+use Rattle.replay.proofs.RefutationVerdicts.{fault_verdict, last_verdict, moved_verdict, marks_more}
+use Rattle.replay.proofs.refuting.follow.Goals as goal
+
+pub returns-in-Some : goal.returns-in-Some
+returns-in-Some c =
+    let s = c.args.trace.now in
+    let steps = c.args.steps.now in
+    let k = c.loop-k.k in
+    let places = c.loop-k.places.items in
+    let step = get_or steps k c.index-steps-k.result in
+    let at = slice_get-get_or steps k c.index-steps-k.result c.loop-k-test.true in
+    let entries = c.entries-entries.result.now in
+    let e : entries ≡ step.derivation = c.entries-entries.ensures ∙ ap (λ (x : Step). x.derivation) (same_Some _ step (sym (slice_get-get_or steps k c.index-steps-k-in-loop-k.result c.loop-k-test.true) ∙ at)) in
+    let given : Step = record { member = step.member; derivation = entries } in
+    let whole : given ≡ step = λ i. record { member = step.member; derivation = e i } in
+    let fault = subst (λ z. IsFault s places z c.in-Some.fault) whole (subst (λ ps. IsFault s ps given c.in-Some.fault) c.deref.ensures.value c.in-Some.ensures.fault) in
+    c.loop-k.invariant.verdict (WrongStep k c.in-Some.fault) (fault_verdict s c.args.members.now places steps k step at c.in-Some.fault fault)
+
+pub next_place-requires-clause-within : goal.next_place-requires-clause-within
+next_place-requires-clause-within c =
+    let (p, at, derivation, caught) = c.in_default.ensures.fault in
+    rw c.deref-in-loop-k.ensures.value (rw c.deref.ensures.value at (slice_get_within c.deref.result.now _ p at))
+
+pub index_mut-requires : goal.index_mut-requires
+index_mut-requires c =
+    let (p, at, derivation, caught) = c.in_default.ensures.fault in
+    omega (arith, ap length c.deref.ensures.value, slice_get_within c.deref.result.now _ p at, c.loop-k.places.ok)
+
+pub returns-in-None : goal.returns-in-None
+returns-in-None c =
+    let s = c.args.trace.now in
+    let members = c.args.members.now in
+    let steps = c.args.steps.now in
+    let k = c.loop-k.k in
+    let places = c.loop-k.places.items in
+    let step = get_or steps k c.index-steps-k.result in
+    let at = slice_get-get_or steps k c.index-steps-k.result c.loop-k-test.true in
+    let entries = c.entries-entries.result.now in
+    let e : entries ≡ step.derivation = c.entries-entries.ensures ∙ ap (λ (x : Step). x.derivation) (same_Some _ step (sym (slice_get-get_or steps k c.index-steps-k-in-loop-k.result c.loop-k-test.true) ∙ at)) in
+    let given : Step = record { member = step.member; derivation = entries } in
+    let whole : given ≡ step = λ i. record { member = step.member; derivation = e i } in
+    let derives = subst (λ z. Derives s places z) whole (subst (λ ps. Derives s ps given) c.deref.ensures.value c.in_default.ensures.fault) in
+    let next = subst (λ ps. IsNextPlace s members ps step.member None) c.deref-in-loop-k.ensures.value (c.in-None.ensures s c.requires.numbers c.requires.known) in
+    c.loop-k.invariant.verdict c.end_verdict.result (last_verdict s members places steps k step at derives next c.end_verdict.result c.end_verdict.ensures)
+
+pub loop-k-preserved : goal.loop-k-preserved
+loop-k-preserved c =
+    let s = c.args.trace.now in
+    let members = c.args.members.now in
+    let steps = c.args.steps.now in
+    let k = c.loop-k.k in
+    let h = c.loop-k.invariant in
+    let places = c.loop-k.places.items in
+    let step = get_or steps k c.index-steps-k.result in
+    let at = slice_get-get_or steps k c.index-steps-k.result c.loop-k-test.true in
+    let entries = c.entries-entries.result.now in
+    let e : entries ≡ step.derivation = c.entries-entries.ensures ∙ ap (λ (x : Step). x.derivation) (same_Some _ step (sym (slice_get-get_or steps k c.index-steps-k-in-loop-k.result c.loop-k-test.true) ∙ at)) in
+    let given : Step = record { member = step.member; derivation = entries } in
+    let whole : given ≡ step = λ i. record { member = step.member; derivation = e i } in
+    let derives = subst (λ z. Derives s places z) whole (subst (λ ps. Derives s ps given) c.deref.ensures.value c.in_default.ensures.fault) in
+    let q = c.in-Some-next_place.next in
+    let next = subst (λ ps. IsNextPlace s members ps step.member (Some q)) c.deref-in-loop-k.ensures.value (c.in-Some-next_place.ensures s c.requires.numbers c.requires.known) in
+    record {
+      as_many = length-set places step.member q ∙ h.as_many;
+      sized = c.in_default.ensures.sized;
+      marked = marks_more c.loop-k.marks.items c.step_fault.new.marks.items k h.marked c.in_default.ensures.others;
+      verdict = λ v rest. h.verdict v (moved_verdict s members places steps k step at derives q next v rest);
+    }

@@ -1,0 +1,77 @@
+-- The verdict on a refutation: the first step that is wrong, and why.
+use Rattle.std.specs.Prelude.{◌≡◌, ℕ, suc, ◌<◌, ◌≤◌, ◌↔◌, ◌⊎◌, List, [], ◌∷◌, length, take, slice_get, slice_set, Option, Some, None, MatchOption}
+use Rattle.std.specs.List.{Contains}
+use Rattle.trace_model.specs.declared.refutations.Derived.{Derived}
+use Rattle.trace_model.specs.declared.refutations.Step.{Step}
+use Rattle.trace_model.specs.Theory.Trace.{Trace}
+use Rattle.trace_model.specs.Theory.Dependencies.{dependencies}
+use Rattle.trace_model.specs.Theory.Refutation.{Justifies, derived_places, IsDerivation, AreFirstPlaces, Derives, IsNextPlace}
+use Rattle.replay.specs.declared.refutation_verdict.StepFault.{StepFault}
+use Rattle.replay.specs.declared.refutation_verdict.StepFault.TheVariants.{NoSuchMember, Unjustified, NotDerived}
+use Rattle.replay.specs.declared.refutation_verdict.RefutationVerdict.{RefutationVerdict}
+use Rattle.replay.specs.declared.refutation_verdict.RefutationVerdict.TheVariants.{Valid, UnknownNumber, WrongStep, AfterEnd, PlaceLeft}
+
+-- The entry is the first of the derivation whose reason does not hold.
+abbrev pub IsUnjustified : Trace → List ℕ → List Derived → Derived → Type 0
+IsUnjustified s places entries d = (k : ℕ) × (slice_get entries k ≡ Some d)
+    × IsDerivation s places (take k entries)
+    × (Justifies s places (derived_places (take k entries)) d.reason d.place → ⊥)
+
+-- The first test of the step that fails.
+abbrev pub IsFault : Trace → List ℕ → Step → StepFault → Type 0
+IsFault s places step NoSuchMember = slice_get places step.member ≡ None
+IsFault s places step (Unjustified d) =
+    (present : ℕ) × (slice_get places step.member ≡ Some present)
+    × IsUnjustified s places step.derivation d
+IsFault s places step (NotDerived p) =
+    (slice_get places step.member ≡ Some p) × IsDerivation s places step.derivation
+    × (Contains (derived_places step.derivation) p → ⊥)
+
+-- The verdict if a member has no next place: no step may follow.
+abbrev pub IsEndVerdict : List Step → ℕ → RefutationVerdict → Type 0
+IsEndVerdict [] k v = v ≡ Valid
+IsEndVerdict (step ∷ steps) k v = v ≡ AfterEnd k
+
+-- The verdict on the steps from number k on, at these present places of the members.
+abbrev pub IsVerdictFrom : Trace → List ℕ → List ℕ → List Step → ℕ → RefutationVerdict → Type 0
+IsVerdictFrom s numbers places [] k v = v ≡ PlaceLeft
+IsVerdictFrom s numbers places (step ∷ steps) k v =
+    ((fault : StepFault) × IsFault s places step fault × (v ≡ WrongStep k fault))
+    ⊎ ((next : Option ℕ) × Derives s places step × IsNextPlace s numbers places step.member next
+    × MatchOption next (IsEndVerdict steps (suc k) v)
+    (λ q. IsVerdictFrom s numbers (slice_set places step.member q) steps (suc k) v))
+
+-- The first of the numbers that is not that of a dependency.
+abbrev pub IsFirstUnknown : Trace → List ℕ → ℕ → Type 0
+IsFirstUnknown s numbers m = (i : ℕ) × (slice_get numbers i ≡ Some m)
+    × (length (dependencies s) ≤ m)
+    × ((j n : ℕ) → j < i → slice_get numbers j ≡ Some n → n < length (dependencies s))
+
+-- The verdict on a refutation of a cycle.
+abbrev pub IsRefutationVerdict : Trace → List ℕ → List Step → RefutationVerdict → Type 0
+IsRefutationVerdict s numbers steps v =
+    ((m : ℕ) × IsFirstUnknown s numbers m × (v ≡ UnknownNumber m))
+    ⊎ ((places : List ℕ) × AreFirstPlaces s numbers places
+    × IsVerdictFrom s numbers places steps 0 v)
+
+-- Exactly the places of the list have this mark.
+abbrev pub AreMarked : List ℕ → ℕ → List ℕ → Type 0
+AreMarked marks mark derived =
+    (p : ℕ) → (slice_get marks p ≡ Some mark) ↔ Contains derived p
+
+-- No place has this mark.
+abbrev pub HasNoMark : List ℕ → ℕ → Type 0
+HasNoMark marks mark = (p : ℕ) → slice_get marks p ≡ Some mark → ⊥
+
+-- Each place has this mark or the one that it had.
+abbrev pub KeepsMarks : List ℕ → ℕ → List ℕ → Type 0
+KeepsMarks old mark new = (p x : ℕ) → slice_get new p ≡ Some x →
+    (x ≡ mark) ⊎ (slice_get old p ≡ Some x)
+
+-- No place has a mark above n.
+abbrev pub MarksUpTo : List ℕ → ℕ → Type 0
+MarksUpTo marks n = (p x : ℕ) → slice_get marks p ≡ Some x → x ≤ n
+
+-- Each number is that of a dependency.
+abbrev pub AreKnown : Trace → List ℕ → Type 0
+AreKnown s numbers = (i m : ℕ) → slice_get numbers i ≡ Some m → m < length (dependencies s)

@@ -1,0 +1,189 @@
+//! Checks a refutation of a cycle against a trace.
+
+ghost use Rattle.std.specs.Prelude.{◌≡◌, ◌<◌, ◌≤◌, ◌↔◌, [], drop, length, replicate, slice_get, vec_capacity, IfOk, MatchOption};
+ghost use Rattle.trace_model.specs.declared.limits.TheConstants.{MAX_EVENTS};
+ghost use Rattle.trace_model.specs.Theory.Trace.{Trace};
+ghost use Rattle.trace_model.specs.Theory.Lawful.{IsWellFormed};
+ghost use Rattle.trace_model.specs.Theory.Refutation.{AreFirstPlaces, Derives, IsNextPlace, IsRefutation};
+ghost use Rattle.replay.specs.declared.refutation_verdict.RefutationVerdict.{RefutationVerdict};
+ghost use Rattle.replay.specs.Facts.{AreFacts};
+ghost use Rattle.replay.specs.Numbers.{AreNumbers};
+ghost use Rattle.replay.specs.Refuting.{IsFault, IsFirstUnknown, IsEndVerdict, IsVerdictFrom, IsRefutationVerdict, HasNoMark, KeepsMarks, MarksUpTo, AreKnown};
+
+use crate::facts::{Facts, facts_of};
+use crate::numbers::{numbers_of, place_from};
+use crate::reasons::{first_unjustified, is_marked};
+use crate::refutation_verdict::{RefutationVerdict, StepFault};
+use std::alloc::Global;
+use std::collections::hash_map::RandomState;
+use trace_model::{Cycle, Derived, Event, NoMemory, Place, Refutation, Step};
+
+/// Follows the steps of a refutation from the first places of the cycle's members on. Returns the
+/// first step that is wrong, with the reason, or `Valid`.
+///
+/// `Valid` is returned exactly if the steps are a refutation of the cycle. Then no sync-preserving
+/// reordering of the trace reaches an instance of the cycle. The cycle and the refutation may
+/// contain any numbers. Takes a few passes over the trace and one over the refutation.
+///
+/// # Errors
+/// `NoMemory` if an allocation fails.
+///
+/// The caller passes a well-formed trace.
+pub fn check_refutation(
+    alloc: Global,
+    state: RandomState,
+    trace: &[Event],
+    cycle: &Cycle,
+    refutation: &Refutation,
+) -> Result<RefutationVerdict, NoMemory>
+    requires { IsWellFormed trace.now }
+    ensures verdict { IfOk result (λ v.
+        IsRefutationVerdict trace.now cycle.now refutation.now v) }
+    ensures exact { IfOk result (λ v.
+        (v ≡ RefutationVerdict.Valid) ↔ IsRefutation trace.now cycle.now refutation.now) }
+{
+    let numbers = numbers_of(alloc, state, trace)?;
+    let facts = facts_of(alloc, state, trace)?;
+    let mut marks = no_marks(alloc, trace.len())?;
+    let mut places = Vec::with_capacity(alloc, cycle.numbers().len())?;
+    if let Some(unknown) = first_places(&numbers, cycle.numbers(), &mut places) {
+        return Ok(RefutationVerdict::UnknownNumber(unknown));
+    }
+    Ok(follow(
+        trace,
+        &facts,
+        &numbers,
+        cycle.numbers(),
+        refutation.steps(),
+        &mut places,
+        &mut marks,
+    ))
+}
+
+/// Returns the mark 0 for each of these many places. Steps have other marks.
+///
+/// # Errors
+/// `NoMemory` if an allocation fails.
+fn no_marks(alloc: Global, places: usize) -> Result<Vec<usize>, NoMemory>
+    ensures { IfOk result (λ marks. marks.items ≡ replicate places 0) }
+{
+    Ok(vec![in alloc; 0; places]?)
+}
+
+/// Adds the first place of each member's dependency to `places`. Returns the first member that is
+/// not the number of a dependency, or `None`.
+fn first_places(numbers: &[Option<u32>], members: &[u32], places: &mut Vec<Place>) -> Option<u32>
+    requires few { length numbers.now ≤ MAX_EVENTS }
+    requires empty { places.old.items ≡ [] }
+    requires room { length members.now ≤ vec_capacity places.old }
+    ensures { (s : Trace) → AreNumbers s numbers.now → MatchOption result
+        (AreFirstPlaces s members.now places.new.items) (IsFirstUnknown s members.now) }
+{
+    for number in members {
+        match place_from(numbers, *number, 0) {
+            Some(place) => places.push_reserved(place),
+            None => return Some(*number),
+        }
+    }
+    None
+}
+
+/// Returns the present place of the member with this index, or `None` if there is no such member.
+fn present_of(places: &[Place], member: usize) -> Option<Place>
+    ensures { result ≡ slice_get places.now member }
+{
+    places.get(member).copied()
+}
+
+/// Returns the first test that fails of the step of this member with these entries, at these present
+/// places, or `None`.
+fn step_fault(
+    trace: &[Event],
+    facts: &Facts,
+    places: &[Place],
+    member: usize,
+    entries: &[Derived],
+    marks: &mut Vec<usize>,
+    mark: usize,
+) -> Option<StepFault>
+    requires facts { AreFacts trace.now facts.now }
+    requires sized { length marks.old.items ≡ length trace.now }
+    requires fresh { HasNoMark marks.old.items mark }
+    ensures sized { length marks.new.items ≡ length trace.now }
+    ensures others { KeepsMarks marks.old.items mark marks.new.items }
+    ensures fault { MatchOption result
+        (Derives trace.now places.now (record { member = member; derivation = entries.now }))
+        (IsFault trace.now places.now (record { member = member; derivation = entries.now })) }
+{
+    let Some(present) = present_of(places, member) else {
+        return Some(StepFault::NoSuchMember);
+    };
+    if let Some(entry) = first_unjustified(trace, facts, places, entries, marks, mark) {
+        return Some(StepFault::Unjustified(entry));
+    }
+    if !is_marked(marks, mark, present) {
+        return Some(StepFault::NotDerived(present));
+    }
+    None
+}
+
+/// Returns the next place of the dependency of the member with this index, or `None`.
+fn next_place(
+    numbers: &[Option<u32>],
+    members: &[u32],
+    places: &[Place],
+    member: usize,
+) -> Option<Place>
+    requires few { length numbers.now ≤ MAX_EVENTS }
+    requires as_many { length places.now ≡ length members.now }
+    requires within { member < length places.now }
+    ensures { (s : Trace) → AreNumbers s numbers.now → AreKnown s members.now →
+        IsNextPlace s members.now places.now member result }
+{
+    place_from(numbers, members[member], places[member].get() as usize + 1)
+}
+
+/// Returns the verdict if no member may move after the first `count` steps.
+fn end_verdict(steps: &[Step], count: usize) -> RefutationVerdict
+    requires { count ≤ length steps.now }
+    ensures { IsEndVerdict (drop count steps.now) count result }
+{
+    if count == steps.len() {
+        RefutationVerdict::Valid
+    } else {
+        RefutationVerdict::AfterEnd(count)
+    }
+}
+
+/// Returns the verdict on the steps, from the given present places on.
+fn follow(
+    trace: &[Event],
+    facts: &Facts,
+    numbers: &[Option<u32>],
+    members: &[u32],
+    steps: &[Step],
+    places: &mut Vec<Place>,
+    marks: &mut Vec<usize>,
+) -> RefutationVerdict
+    requires facts { AreFacts trace.now facts.now }
+    requires numbers { AreNumbers trace.now numbers.now }
+    requires few { length numbers.now ≤ MAX_EVENTS }
+    requires known { AreKnown trace.now members.now }
+    requires as_many { length places.old.items ≡ length members.now }
+    requires sized { length marks.old.items ≡ length trace.now }
+    requires unmarked { MarksUpTo marks.old.items 0 }
+    ensures { IsVerdictFrom trace.now members.now places.old.items steps.now 0 result }
+{
+    for k in 0..steps.len() {
+        let member = steps[k].member;
+        let entries = steps[k].derivation.entries();
+        if let Some(fault) = step_fault(trace, facts, places, member, entries, marks, k + 1) {
+            return RefutationVerdict::WrongStep(k, fault);
+        }
+        match next_place(numbers, members, places, member) {
+            Some(next) => places[member] = next,
+            None => return end_verdict(steps, k + 1),
+        }
+    }
+    RefutationVerdict::PlaceLeft
+}
