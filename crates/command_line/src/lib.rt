@@ -38,6 +38,18 @@ pub enum Invocation<'a> {
         trace: &'a str,
         witness: &'a str,
     },
+    /// Explain the cycles of at most `bound` members (2 to 8) in a file of events, or the one with
+    /// these numbers (2 to 8 in decimal with commas).
+    Explain {
+        file: &'a str,
+        bound: u32,
+        cycle: Option<&'a str>,
+    },
+    /// Check a file of explained cycles against a trace file.
+    Check {
+        trace: &'a str,
+        file: &'a str,
+    },
 }
 
 /// Returns a required positional argument.
@@ -132,6 +144,31 @@ fn replay<'a>(alloc: Global) -> Result<Command<'a>, AllocError> {
     )
 }
 
+fn cycle<'a>(alloc: Global) -> Arg<'a> {
+    Arg::new(alloc, "cycle")
+        .long("cycle")
+        .value_name("N,N,..")
+        .help("Explain only the cycle with these dependency numbers")
+}
+
+fn explain<'a>(alloc: Global) -> Result<Command<'a>, AllocError> {
+    let command = Command::new(alloc, "explain")
+        .about("Explains the lock cycles of a file of events")
+        .arg(positional(alloc, "file", "FILE", "The file of events"));
+    let command = taking(command, bound(alloc));
+    taking(command, cycle(alloc))
+}
+
+fn check<'a>(alloc: Global) -> Result<Command<'a>, AllocError> {
+    let command = Command::new(alloc, "check")
+        .about("Checks explained cycles against a trace")
+        .arg(positional(alloc, "trace", "TRACE", "The file of events"));
+    taking(
+        command,
+        positional(alloc, "file", "FILE", "The output of explain"),
+    )
+}
+
 /// Returns the program with one more command.
 fn with_command<'a>(
     program: Command<'a>,
@@ -168,7 +205,9 @@ fn program<'a>(alloc: Global) -> Result<Command<'a>, AllocError> {
     let program = with_command(program, serve(alloc));
     let program = with(program, script(alloc));
     let program = with(program, offline(alloc));
-    with(program, replay(alloc))
+    let program = with(program, replay(alloc));
+    let program = with(program, explain(alloc));
+    with(program, check(alloc))
 }
 
 /// Returns the number of an argument, or `None` if it is not in the range.
@@ -221,6 +260,25 @@ fn chosen_replay<'a>(given: &ArgMatches<'a>) -> Option<Invocation<'a>>
     })
 }
 
+fn chosen_explain<'a>(given: &ArgMatches<'a>) -> Option<Invocation<'a>>
+    ensures { IfSome result IsInRange }
+{
+    Some(Invocation::Explain {
+        file: given.get_str("file")?,
+        bound: number(given, "bound", 2, 8)?,
+        cycle: given.get_str("cycle"),
+    })
+}
+
+fn chosen_check<'a>(given: &ArgMatches<'a>) -> Option<Invocation<'a>>
+    ensures { IfSome result IsInRange }
+{
+    Some(Invocation::Check {
+        trace: given.get_str("trace")?,
+        file: given.get_str("file")?,
+    })
+}
+
 fn chosen<'a>(matches: &ArgMatches<'a>) -> Option<Invocation<'a>>
     ensures { IfSome result IsInRange }
 {
@@ -230,6 +288,8 @@ fn chosen<'a>(matches: &ArgMatches<'a>) -> Option<Invocation<'a>>
         "script" => chosen_script(given),
         "offline" => chosen_offline(given),
         "replay" => chosen_replay(given),
+        "explain" => chosen_explain(given),
+        "check" => chosen_check(given),
         _ => None,
     }
 }

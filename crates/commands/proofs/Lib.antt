@@ -1,4 +1,6 @@
-pub mod Known
 pub mod RefusalNames
 pub mod Words
 pub mod OfflineEnds
+pub mod PotentialRows
+pub mod ReplayEnds
+pub mod ScriptTasks

@@ -1,12 +1,15 @@
-//! The commands `script`, `offline` and `replay`. Each one exists twice: over bytes and writers
-//! (`run_script`, `run_offline`, `run_replay`), which is what tests call, and over named files and
-//! the standard streams (`script_file`, `offline_file`, `replay_files`), which is what the program
-//! calls. Main contract: if `run_offline` ends with `Done`, its output is the report on exactly the
-//! events of the file. Start reading at `offline_command`; `exit` has the exit statuses.
+//! The commands `script`, `offline`, `replay`, `explain` and `check`. Each one exists twice: over
+//! bytes and writers (`run_script`, `run_offline` and so on), which is what tests call, and over
+//! named files and the standard streams (`script_file`, `offline_file` and so on), which is what the
+//! program calls. Main contract: if `run_offline` ends with `Done`, its output is the report on
+//! exactly the events of the file. Start reading at `offline_command`; `exit` has the exit statuses.
 #![tactic(auto)]
 
 mod admission;
+mod check_command;
 mod exit;
+mod explain_command;
+mod explained_rows;
 mod files;
 mod offline_command;
 mod progress;
@@ -15,7 +18,9 @@ mod replay_command;
 mod script_command;
 mod text;
 
+pub use check_command::{NamedFile, check_files, run_check};
 pub use exit::{CommandError, Status, final_status};
+pub use explain_command::{cycle_of, explain_named, run_explain};
 pub use files::{arguments, read_file};
 pub use offline_command::{offline_file, run_offline};
 pub use progress::{NoProgress, Progress};

@@ -1,7 +1,10 @@
 //! The command `replay`: the check of a witness against a trace.
-ghost use Rattle.std.specs.Prelude.{◌≡◌, ◌++◌, OnOk};
+ghost use Rattle.std.specs.Prelude.{◌≡◌, ◌++◌, IfErr, IfOk, MatchResult, OnOk};
+ghost use Rattle.std.specs.Io.KnownBytes.{Appends};
 ghost use Rattle.trace_model.specs.Theory.Lawful.{IsWellFormed};
-ghost use Rattle.commands.specs.Replay.{verdict_line, verdict_status};
+ghost use Rattle.replay.specs.declared.verdict.Verdict.{Verdict};
+ghost use Rattle.commands.specs.Exit.{status_of};
+ghost use Rattle.commands.specs.Replay.{IsVerdictOn, ReplayTells, WitnessFails, verdict_line, verdict_status};
 
 use crate::admission::{Admission, admit_file};
 use crate::exit::{CommandError, Status, write_text};
@@ -66,6 +69,11 @@ fn write_verdict<O: Write>(
     out: &mut O,
 ) -> Result<Status, CommandError>
     requires { IsWellFormed events.now }
+    ensures told { IfOk result (λ status. (v : Verdict) × IsVerdictOn events.now witness.now v
+        × (status ≡ verdict_status v)
+        × Appends (O.contents out.old) (O.contents out.new) (verdict_line v)) }
+    ensures failed { IfErr result (λ error.
+        WitnessFails witness.now error (O.contents out.old) (O.contents out.new)) }
 {
     let witness = read_witness(alloc, witness)?;
     let verdict = check(alloc, state, events, &witness.order, &witness.instance)?;
@@ -76,7 +84,9 @@ fn write_verdict<O: Write>(
 }
 
 /// Returns the status of a check, after an error message about the file `name` if it failed.
-fn reported<E: Write>(ended: Result<Status, CommandError>, name: &str, err: &mut E) -> Status {
+fn reported<E: Write>(ended: Result<Status, CommandError>, name: &str, err: &mut E) -> Status
+    ensures { MatchResult ended (λ status. result ≡ status) (λ error. result ≡ status_of error) }
+{
     match ended {
         Ok(status) => status,
         Err(error) => error.report(name, err),
@@ -93,7 +103,10 @@ pub fn run_replay<O: Write, E: Write>(
     files: Files<'_>,
     out: &mut O,
     err: &mut E,
-) -> Status {
+) -> Status
+    ensures { ReplayTells files.entry.trace.now files.entry.witness.now result
+        (O.contents out.old) (O.contents out.new) }
+{
     match admit_file(alloc, state, files.trace) {
         Ok(Admission::Admitted(events)) => {
             let ended = write_verdict(alloc, state, &events, files.witness, out);

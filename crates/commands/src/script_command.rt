@@ -3,8 +3,13 @@
 pub(crate) mod printing;
 pub(crate) mod reading;
 
-ghost use Rattle.std.specs.Prelude.{◌≡◌, false, IfOk};
-ghost use Rattle.sequencer.specs.Book.{AreKnown, IsLimit};
+ghost use Rattle.std.specs.Prelude.{◌≡◌, false, IfErr, IfOk, OnOk};
+ghost use Rattle.std.specs.Io.KnownBytes.{Appends};
+ghost use Rattle.sequencer.specs.Book.{IsLimit, RefusesSnapshot};
+ghost use Rattle.commands.specs.Exit.{status_of};
+ghost use Rattle.commands.specs.Script.{reply_text};
+ghost use Rattle.commands.specs.ScriptRun.{Delivers, DeliversOne, IsJobIn, RefusesTask, Works, told_line};
+ghost use Rattle.commands.specs.declared.exit.Status.TheVariants.{Error};
 
 use crate::exit::{CommandError, Status};
 use crate::files::read_file;
@@ -74,7 +79,11 @@ impl ScriptSession {
 
     /// Writes the lines of a reply.
     fn write<O: Write>(&mut self, reply: &Reply, out: &mut O) -> Result<(), CommandError>
-        ensures { self.new.reader ≡ self.old.reader }
+        ensures reader { self.new.reader ≡ self.old.reader }
+        ensures book { self.new.book ≡ self.old.book }
+        ensures written { OnOk result
+            (Appends (O.contents out.old) (O.contents out.new) (reply_text reply.now)) }
+        ensures failed { IfErr result (λ error. status_of error ≡ Error) }
     {
         self.text.clear();
         push_reply(&mut self.text, reply)?;
@@ -88,7 +97,12 @@ impl ScriptSession {
         words: &[u8],
         told: Result<u32, Refusal>,
         out: &mut O,
-    ) -> Result<(), CommandError> {
+    ) -> Result<(), CommandError>
+        ensures book { self.new.book ≡ self.old.book }
+        ensures written { OnOk result
+            (Appends (O.contents out.old) (O.contents out.new) (told_line words.now told)) }
+        ensures failed { IfErr result (λ error. status_of error ≡ Error) }
+    {
         match told {
             Ok(number) => {
                 self.text.clear();
@@ -102,7 +116,9 @@ impl ScriptSession {
 
     /// Returns a job that computes tasks of the question.
     fn job(&self, question: u32) -> Result<Job, Refusal>
-        ensures known { IfOk result (λ job. AreKnown self.now.book.state job.question job.events) }
+        ensures job { IfOk result (λ job. (job.question ≡ question)
+            × IsJobIn self.now.book.state job) }
+        ensures refused { IfErr result (RefusesSnapshot self.now.book.state question) }
     {
         let Ok(status) = self.book.status(question) else {
             return Err(Refusal::NoSuchQuestion);
@@ -116,8 +132,12 @@ impl ScriptSession {
 
     /// Computes a task of the job's question and delivers it to the book.
     fn deliver_task(&mut self, job: &mut Job, task: u32) -> Result<(), Refusal>
-        requires known { AreKnown self.old.book.state job.old.question job.old.events }
-        ensures known { AreKnown self.new.book.state job.new.question job.new.events }
+        requires { IsJobIn self.old.book.state job.old }
+        ensures same { job.new ≡ job.old }
+        ensures delivered { OnOk result
+            (Delivers self.old.book.state job.old.question task self.new.book.state) }
+        ensures refused { IfErr result (λ refusal. (self.new.book.state ≡ self.old.book.state)
+            × RefusesTask self.old.book.state job.old.question task refusal) }
     {
         match job.compute(task) {
             Ok(finding) => match self.book.deliver_known(finding) {
@@ -133,7 +153,9 @@ impl ScriptSession {
     }
 
     /// Computes a task of the question and delivers it. Returns the task.
-    fn deliver(&mut self, question: u32, task: u32) -> Result<u32, Refusal> {
+    fn deliver(&mut self, question: u32, task: u32) -> Result<u32, Refusal>
+        ensures { DeliversOne self.old.book.state question task result self.new.book.state }
+    {
         let mut job = self.job(question)?;
         let delivered = self.deliver_task(&mut job, task);
         drop(job);
@@ -144,20 +166,26 @@ impl ScriptSession {
     /// Computes and delivers the missing tasks of the job's question in ascending order. Returns
     /// their number.
     fn deliver_missing(&mut self, job: &mut Job, question: u32) -> Result<u32, Refusal>
-        requires known { AreKnown self.old.book.state job.old.question job.old.events }
+        requires number { job.old.question ≡ question }
+        requires job { IsJobIn self.old.book.state job.old }
+        ensures { Works self.old.book.state question result self.new.book.state }
     {
-        for worked in 0..MAX_EVENTS as u32 {
+        for worked in 0..MAX_EVENTS as u32 + 1 {
             let Ok(Some(task)) = self.book.missing(question) else {
                 return Ok(worked);
             };
             self.deliver_task(job, task)?;
         }
-        Ok(MAX_EVENTS as u32)
+        // A question has at most `MAX_EVENTS` tasks.
+        let _ = self.book.len(); // for the proof
+        unreachable!()
     }
 
     /// Computes and delivers the missing tasks of the question in ascending order. Returns their
     /// number.
-    fn work(&mut self, question: u32) -> Result<u32, Refusal> {
+    fn work(&mut self, question: u32) -> Result<u32, Refusal>
+        ensures { Works self.old.book.state question result self.new.book.state }
+    {
         let mut job = self.job(question)?;
         let worked = self.deliver_missing(&mut job, question);
         drop(job);

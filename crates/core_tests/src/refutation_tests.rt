@@ -157,6 +157,27 @@ fn a_read_refutes(rt: HostRuntime) {
 }
 
 #[test]
+fn a_chain_of_reads_refutes(rt: HostRuntime) {
+    let words = "0f1 0f2 0f3 1a10 1a20 1r20 1r10 1w7 3d7 3w8 2d8 2a20 2a10 ";
+    let wanted = [
+        before(10, 12),
+        written(9, 10),
+        earlier(8, 9),
+        written(7, 8),
+        earlier(4, 7),
+    ];
+    assert!(rt; refutes_by(&rt, words, &[0, 1], &wanted));
+}
+
+/// The second thread's last read has a chain through the third thread, its first read has none.
+#[test]
+fn the_shorter_chain_refutes(rt: HostRuntime) {
+    let words = "0f1 0f2 0f3 1a10 1a20 1r20 1r10 1w7 3d7 3w8 2d7 2d8 2a20 2a10 ";
+    let wanted = [before(10, 13), written(7, 10), earlier(4, 7)];
+    assert!(rt; refutes_by(&rt, words, &[0, 1], &wanted));
+}
+
+#[test]
 fn two_sections_refute(rt: HostRuntime) {
     let words = "0f1 0f2 1a30 1a10 1a20 1r20 1r10 1r30 2a30 2r30 2a20 2a10 ";
     let wanted = [

@@ -5,9 +5,9 @@ use Rattle.std.proofs.lemmas.List.{length-append, length-map}
 use Rattle.std.proofs.lemmas.Bool.{cases_eq, false≢true}
 use Rattle.std.specs.List.{Contains, All}
 use Rattle.trace_model.specs.Theory.Dependencies.{Dependency}
-use Rattle.trace_model.specs.Theory.Cycles.{Member, next, IsCycle, AreCyclesFrom}
+use Rattle.trace_model.specs.Theory.Cycles.{Member, next, IsCycle}
 use Rattle.trace_model.proofs.Theory.Unique.{has_contained, contains_had}
-use Rattle.cycle_search.specs.Search.{CycleThrough, AreAll}
+use Rattle.cycle_search.specs.Search.{CycleFrom, CycleThrough, AreAll}
 use Rattle.lock_graph.specs.Graph.{IsGraphOf}
 use Rattle.cycle_search.specs.declared.components.Components.{Components}
 use Rattle.cycle_search.specs.Components.{AreComponents, AreCyclic, IsTopological}
@@ -88,17 +88,11 @@ no-cycle ds bound numbers components off are c =
     false≢true (sym (off m false (slice_get_within components.cyclic.items m true on)) ∙ get_or_from_slice_get components.cyclic.items m true false on)
 
 -- No cycle begins with a dependency that is not cyclic.
-pub none-from : (ds : List Dependency) (bound root : ℕ) (components : Components) → AreComponents ds components → slice_get components.cyclic.items root ≡ Some false → AreCyclesFrom ds bound root []
-none-from ds bound root components are off = record {
-  exact = λ numbers. (
-    λ h. absurd (omega (arith, h.1)),
-    λ h.
-        let here = get_or_from_slice_get numbers 0 root 0 h.1 in
-        let on = member-cyclic ds bound numbers h.0 components are 0 (omega (arith, h.0.at_least_two)) in
-        absurd (false≢true (same_Some _ _ (sym off ∙ ap (slice_get components.cyclic.items) (sym here) ∙ on))),
-  );
-  in_order = λ i j a b l x y. absurd (none-some a x);
-}
+pub none-from : (ds : List Dependency) (bound root : ℕ) (components : Components) → AreComponents ds components → slice_get components.cyclic.items root ≡ Some false → AreAll (CycleFrom ds bound root) []
+none-from ds bound root components are off = all-none (CycleFrom ds bound root) (λ numbers h.
+    let here = get_or_from_slice_get numbers 0 root 0 h.1 in
+    let on = member-cyclic ds bound numbers h.0 components are 0 (omega (arith, h.0.at_least_two)) in
+    false≢true (same_Some _ _ (sym off ∙ ap (slice_get components.cyclic.items) (sym here) ∙ on)))
 
 -- The components of the locks that the dependencies acquire.
 pub map-more : {X Y : Type 0} (f : X → Y) (xs : List X) (i : ℕ) (x : X) → slice_get xs i ≡ Some x → map f (take (suc i) xs) ≡ map f (take i xs) ++ f x ∷ []

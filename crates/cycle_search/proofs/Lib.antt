@@ -5,3 +5,5 @@ pub mod ComponentLemmas
 pub mod Listed
 pub mod Remaining
 pub mod DistanceLemmas
+pub mod Collecting
+pub mod Keeping

@@ -7,9 +7,10 @@ use Rattle.std.specs.List.Sorted.{IsStrictlyIncreasing}
 use Rattle.trace_model.specs.Theory.Dependencies.{Dependency}
 use Rattle.trace_model.specs.Theory.Cycles.{ListBelow, IsCycle, AreCyclesFrom}
 use Rattle.trace_model.proofs.Theory.Unique.{has_contained, increasing_ordered}
-use Rattle.cycle_search.specs.Search.{AreSome, AreAll, Adds, Exceeds, MoreThan, CycleFrom, CycleBeyond, CycleThrough, CycleOver, IsAmong, CycleUpTo, IsPath, Follows, Closes, ClosesBack, AreNexts}
+use Rattle.cycle_search.specs.Collecting.{Adds, AddsSome}
+use Rattle.cycle_search.specs.Search.{AreSome, AreAll, MoreThan, CycleFrom, CycleBeyond, CycleThrough, CycleOver, IsAmong, CycleUpTo, IsPath, Follows, Closes, ClosesBack, AreNexts}
 use Rattle.cycle_search.specs.Acquirers.{IsNext}
-use Rattle.cycle_search.proofs.Listing.{below-after, some-join, all-join, some-weaker, all-same, all-none, all-one, append-nil}
+use Rattle.cycle_search.proofs.Listing.{below-after, some-join, all-join, some-weaker, all-same, all-none, all-one}
 use Rattle.trace_model.proofs.Lists.{length-push}
 use Rattle.cycle_search.proofs.Paths.{cycle-from_path, follows-from_cycle, closed-no_more, closes-from_cycle, last-takes_back}
 
@@ -35,7 +36,7 @@ module _ (ds : List Dependency) (bound : ℕ) (path : List ℕ) (m : ℕ) where
       AreSome (CycleThrough ds bound path m) ((path ++ m ∷ []) ∷ [])
   one-closed p closes begun room = let all = closed p closes begun room in all.some
 
-  forth : (n : List ℕ) → CycleBeyond ds bound (path ++ m ∷ []) n → CycleThrough ds bound path m n
+  pub forth : (n : List ℕ) → CycleBeyond ds bound (path ++ m ∷ []) n → CycleThrough ds bound path m n
   forth n h = (h.0, (h.1.0 ∷ h.1.1, h.1.2 ∙ append_assoc path (m ∷ []) (h.1.0 ∷ h.1.1)))
 
   back : (Closes ds (path ++ m ∷ []) → ⊥) → (n : List ℕ) → CycleThrough ds bound path m n → CycleBeyond ds bound (path ++ m ∷ []) n
@@ -83,15 +84,15 @@ module _ (ds : List Dependency) (bound : ℕ) (path : List ℕ) (P : ℕ → Typ
           below,
     )
 
-    pub over-exceeds : (most : ℕ) (old mid : List (List ℕ)) → Adds (CycleOver ds bound path P) old mid →
-        Exceeds (CycleThrough ds bound path m) most mid → Exceeds (CycleBeyond ds bound path) most old
-    over-exceeds most old mid (xs, e, p) (ys, q, l) = (
+    pub over-some : (old mid new : List (List ℕ)) → Adds (CycleOver ds bound path P) old mid →
+        AddsSome (CycleThrough ds bound path m) mid new → AddsSome (CycleBeyond ds bound path) old new
+    over-some old mid new (xs, e, p) (ys, f, q) = (
       xs ++ ys,
+      f ∙ ap (λ z. z ++ ys) e ∙ append_assoc old xs ys,
       some-join (CycleOver ds bound path P) (CycleThrough ds bound path m) (CycleBeyond ds bound path) xs ys p.some q
           (λ n h. (h.2.0, (h.0, h.2.1.0, h.2.1.1)))
           (λ n h. (h.0, (m, h.1.0, h.1.1)))
           below,
-      omega (arith, l, ap length e, length-append old xs, length-append xs ys),
     )
 
   -- Every longer cycle continues with such a number.
@@ -122,9 +123,9 @@ module _ (ds : List Dependency) (bound : ℕ) (path nexts : List ℕ) where
           | inr l ↦ let same : h.0 ≡ i = omega (arith, l, h.1) in inr (same_Some n m (sym h.2 ∙ ap (slice_get nexts) same ∙ at))
         ])
 
-    pub exceeds-more : (most : ℕ) (old mid : List (List ℕ)) → Adds (CycleOver ds bound path (IsAmong nexts i)) old mid →
-        Exceeds (CycleThrough ds bound path m) most mid → Exceeds (CycleBeyond ds bound path) most old
-    exceeds-more = over-exceeds ds bound path (IsAmong nexts i) m less
+    pub some-more : (old mid new : List (List ℕ)) → Adds (CycleOver ds bound path (IsAmong nexts i)) old mid →
+        AddsSome (CycleThrough ds bound path m) mid new → AddsSome (CycleBeyond ds bound path) old new
+    some-more = over-some ds bound path (IsAmong nexts i) m less
 
   pub adds-end : (i : ℕ) (old new : List (List ℕ)) → 0 < length path → AreNexts ds path nexts → length nexts ≤ i →
       Adds (CycleOver ds bound path (IsAmong nexts i)) old new → Adds (CycleBeyond ds bound path) old new
@@ -157,9 +158,9 @@ module _ (ds : List Dependency) (bound : ℕ) (path : List ℕ) (p : IsPath ds p
           | inr less ↦ inl less
         ])
 
-    pub closers-exceed : (most : ℕ) (old mid : List (List ℕ)) → Adds (CycleUpTo ds bound path last) old mid →
-        Exceeds (CycleThrough ds bound path m) most mid → Exceeds (CycleBeyond ds bound path) most old
-    closers-exceed = over-exceeds ds bound path (λ n. n ≤ last) m (λ n l. omega (arith, above))
+    pub closers-some : (old mid new : List (List ℕ)) → Adds (CycleUpTo ds bound path last) old mid →
+        AddsSome (CycleThrough ds bound path m) mid new → AddsSome (CycleBeyond ds bound path) old new
+    closers-some = over-some ds bound path (λ n. n ≤ last) m (λ n l. omega (arith, above))
 
   pub closers-end : (last : ℕ) → IsNext last (ClosesBack ds path) None → (old new : List (List ℕ)) →
       Adds (CycleUpTo ds bound path last) old new → Adds (CycleBeyond ds bound path) old new
@@ -170,17 +171,13 @@ module _ (ds : List Dependency) (bound : ℕ) (path : List ℕ) (p : IsPath ds p
       ])
 
   -- No cycle continues with a number up to the first one.
-  pub closers-begin : (first : ℕ) (old : List (List ℕ)) → slice_get path 0 ≡ Some first → Adds (CycleUpTo ds bound path first) old old
-  closers-begin first old at = (
-    [],
-    sym (append-nil old),
-    all-none (CycleUpTo ds bound path first) (λ n (m, l, (c, (rest, e))).
-        let f = follows-from_cycle ds bound path m rest p.begun (subst (λ x. IsCycle ds bound x) e c) in
-        omega (arith, l, f.above first at)),
-  )
+  pub closers-begin : (first : ℕ) → slice_get path 0 ≡ Some first → AreAll (CycleUpTo ds bound path first) []
+  closers-begin first at = all-none (CycleUpTo ds bound path first) (λ n (m, l, (c, (rest, e))).
+      let f = follows-from_cycle ds bound path m rest p.begun (subst (λ x. IsCycle ds bound x) e c) in
+      omega (arith, l, f.above first at))
 
 module _ (ds : List Dependency) (bound root : ℕ) where
-  beyond-root : (n : List ℕ) → CycleBeyond ds bound (root ∷ []) n → CycleFrom ds bound root n
+  pub beyond-root : (n : List ℕ) → CycleBeyond ds bound (root ∷ []) n → CycleFrom ds bound root n
   beyond-root n (c, (x, rest, e)) = (c, ap (λ z. slice_get z 0) e)
 
   root-beyond : (n : List ℕ) → CycleFrom ds bound root n → CycleBeyond ds bound (root ∷ []) n
@@ -188,25 +185,24 @@ module _ (ds : List Dependency) (bound root : ℕ) where
   root-beyond (x ∷ []) h = absurd (omega (arith, h.0.at_least_two))
   root-beyond (x ∷ y ∷ n) h = (h.0, (y, n, ap (λ z. z ∷ y ∷ n) (same_Some x root h.1)))
 
-  pub cycles-from_root : (new : List (List ℕ)) → Adds (CycleBeyond ds bound (root ∷ [])) [] new → AreCyclesFrom ds bound root new
-  cycles-from_root new (xs, e, p) =
-      let q = all-same (CycleBeyond ds bound (root ∷ [])) (CycleFrom ds bound root) xs beyond-root root-beyond p in
-      subst (λ z. AreCyclesFrom ds bound root z) (sym e) (record {
-        exact = λ n. (q.some.sound n, q.complete n);
-        in_order = q.some.in_order;
-      })
+  -- A cycle from the root is one that begins with the root and has more members.
+  pub all-from_root : (before after : List (List ℕ)) → Adds (CycleBeyond ds bound (root ∷ [])) before after →
+      Adds (CycleFrom ds bound root) before after
+  all-from_root before after (xs, e, p) =
+      (xs, e, all-same (CycleBeyond ds bound (root ∷ [])) (CycleFrom ds bound root) xs beyond-root root-beyond p)
 
-  pub more-than_root : (most : ℕ) → Exceeds (CycleBeyond ds bound (root ∷ [])) most [] → MoreThan (CycleFrom ds bound root) most
-  more-than_root most (xs, p, l) = (xs, some-weaker (CycleBeyond ds bound (root ∷ [])) (CycleFrom ds bound root) xs beyond-root p, omega (arith, l))
+  pub some-from_root : (before after : List (List ℕ)) → AddsSome (CycleBeyond ds bound (root ∷ [])) before after →
+      AddsSome (CycleFrom ds bound root) before after
+  some-from_root before after (xs, e, p) =
+      (xs, e, some-weaker (CycleBeyond ds bound (root ∷ [])) (CycleFrom ds bound root) xs beyond-root p)
 
-  -- The same at the start of the loop.
-  pub cycles-made : (b : ℕ) (path : List ℕ) (old new : List (List ℕ)) → b ≡ bound → path ≡ root ∷ [] → old ≡ [] →
-      Adds (CycleBeyond ds b path) old new → AreCyclesFrom ds bound root new
-  cycles-made b path old new e f g a = cycles-from_root new
-      (subst (λ z. Adds (CycleBeyond ds z (root ∷ [])) [] new) e (subst (λ z. Adds (CycleBeyond ds b z) [] new) f (subst (λ z. Adds (CycleBeyond ds b path) z new) g a)))
+  -- All cycles from the root, after none.
+  pub cycles-from : (after : List (List ℕ)) → Adds (CycleFrom ds bound root) [] after → AreCyclesFrom ds bound root after
+  cycles-from after (xs, e, p) = subst (λ z. AreCyclesFrom ds bound root z) (sym e) (record {
+    exact = λ n. (p.some.sound n, p.complete n);
+    in_order = p.some.in_order;
+  })
 
-  pub too-many-made : (most b : ℕ) (path : List ℕ) (old : List (List ℕ)) → b ≡ bound → path ≡ root ∷ [] → old ≡ [] →
-      Exceeds (CycleBeyond ds b path) most old → MoreThan (CycleFrom ds bound root) most
-  too-many-made most b path old e f g a = more-than_root most
-      (subst (λ z. Exceeds (CycleBeyond ds z (root ∷ [])) most []) e
-      (subst (λ z. Exceeds (CycleBeyond ds b z) most []) f (subst (λ z. Exceeds (CycleBeyond ds b path) most z) g a)))
+  pub more-from : (most : ℕ) (after : List (List ℕ)) → AddsSome (CycleFrom ds bound root) [] after → most < length after →
+      MoreThan (CycleFrom ds bound root) most
+  more-from most after (xs, e, p) l = (xs, p, omega (arith, l, ap length e))

@@ -5,3 +5,5 @@ pub mod Searched
 pub mod Acquirers
 pub mod Walk
 pub mod Distances
+pub mod Collecting
+pub mod Keeping

@@ -1,6 +1,5 @@
 -- The invariants of the search for cycles.
 use Rattle.std.specs.Prelude.{◌≡◌, ◌≢◌, ℕ, suc, ◌+◌, ◌<◌, ◌≤◌, List, ◌∷◌, ◌++◌, length, slice_get, slice_index, Some, Result, Err}
-use Rattle.std.specs.Global.{Vec}
 use Rattle.arrayvec.specs.ArrayVec.{ArrayVec}
 use Rattle.std.specs.List.{Contains, All}
 use Rattle.std.specs.List.Sorted.{IsStrictlyIncreasing}
@@ -23,26 +22,13 @@ pub record AreAll (P : List ℕ → Type 0) (lists : List (List ℕ)) : Type 0 w
   pub some : AreSome P lists
   pub complete : (numbers : List ℕ) → P numbers → Contains lists numbers
 
--- All of the lists with the property are appended to a list.
-abbrev pub Adds : (List ℕ → Type 0) → List (List ℕ) → List (List ℕ) → Type 0
-Adds P old new = (more : List (List ℕ)) × (new ≡ old ++ more) × AreAll P more
-
 -- There are more than `n` lists with the property.
 abbrev pub MoreThan : (List ℕ → Type 0) → ℕ → Type 0
 MoreThan P n = (some : List (List ℕ)) × AreSome P some × (n < length some)
 
--- The lists in `old` and those with the property are more than `n`.
-abbrev pub Exceeds : (List ℕ → Type 0) → ℕ → List (List ℕ) → Type 0
-Exceeds P n old = (more : List (List ℕ)) × AreSome P more × (n < length old + length more)
-
 -- The fact holds if a search failed with `TooMany`.
 abbrev pub IfTooMany : {T : Type 0} → Result T SearchRefused → Type 0 → Type 0
 IfTooMany result Fact = result ≡ Err TooMany → Fact
-
--- A path has at most eight members, and the number of cycles found so far is within the limit.
-pub record IsWithin (search : Search) (found : List (List ℕ)) : Type 0 where
-  pub members : search.members ≤ 8
-  pub cycles : length found ≤ search.cycles
 
 -- The distances are those to the first member of the path.
 abbrev pub HasDistances : Search → List ℕ → Type 0
@@ -67,25 +53,14 @@ abbrev pub CycleThrough : List Dependency → ℕ → List ℕ → ℕ → List 
 CycleThrough ds bound path next numbers =
     IsCycle ds bound numbers × ((rest : List ℕ) × (numbers ≡ path ++ next ∷ rest))
 
--- The search appends all cycles that begin with the path and have more members.
-abbrev pub AddsBeyond : Search → ArrayVec ℕ → Vec (List ℕ) → Vec (List ℕ) → Type 0
-AddsBeyond search path old new =
-    Adds (CycleBeyond search.searched.now search.members path.items) old.items new.items
+-- A cycle of the search that begins with the path and has more members.
+abbrev pub SearchedBeyond : Search → ArrayVec ℕ → List ℕ → Type 0
+SearchedBeyond search path = CycleBeyond search.searched.now search.members path.items
 
--- With the cycles found so far, these are more than the limit.
-abbrev pub ExceedsBeyond : Search → ArrayVec ℕ → Vec (List ℕ) → Type 0
-ExceedsBeyond search path old =
-    Exceeds (CycleBeyond search.searched.now search.members path.items) search.cycles old.items
-
--- The search appends all cycles that begin with the path followed by this number.
-abbrev pub AddsThrough : Search → ArrayVec ℕ → ℕ → Vec (List ℕ) → Vec (List ℕ) → Type 0
-AddsThrough search path next old new =
-    Adds (CycleThrough search.searched.now search.members path.items next) old.items new.items
-
--- With the cycles found so far, these are more than the limit.
-abbrev pub ExceedsThrough : Search → ArrayVec ℕ → ℕ → Vec (List ℕ) → Type 0
-ExceedsThrough search path next old = Exceeds
-    (CycleThrough search.searched.now search.members path.items next) search.cycles old.items
+-- A cycle of the search that begins with the path followed by this number.
+abbrev pub SearchedThrough : Search → ArrayVec ℕ → ℕ → List ℕ → Type 0
+SearchedThrough search path next =
+    CycleThrough search.searched.now search.members path.items next
 
 -- A cycle that begins with the path followed by a number with the property.
 abbrev pub CycleOver : List Dependency → ℕ → List ℕ → (ℕ → Type 0) → List ℕ → Type 0

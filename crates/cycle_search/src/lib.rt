@@ -1,27 +1,30 @@
 //! Finds the cycles of a table of dependencies.
 //!
-//! [`cycles_from`] returns all cycles whose first (least) member is a given dependency, each once,
-//! in lexicographic order. It is a depth-first search over paths of dependencies. Two tables prune
-//! it: the strongly connected components of the graph of locks ([`Components`]), and for long
-//! searches the distance from each dependency back to the root. The result does not depend on
-//! either table.
+//! [`collect_cycles`] gives to a [`Collector`] all cycles whose first (least) member is a given
+//! dependency, each once, in lexicographic order; [`cycles_from`] returns them as a list. It is a
+//! depth-first search over paths of dependencies. Two tables prune it: the strongly connected
+//! components of the graph of locks ([`Components`]), and for long searches the distance from each
+//! dependency back to the root. The result does not depend on either table.
 //!
 //! Start reading at `search.rt`.
 #![tactic(auto)]
 
 mod acquirers;
 mod ascending;
+mod collector;
 mod components;
 mod costs;
 mod distances;
+mod kept;
 mod lock_numbers;
 mod refused;
 mod search;
 mod searched;
 mod tarjan;
 
+pub use collector::Collector;
 pub use components::Components;
 pub use refused::SearchRefused;
-pub use search::{cycles_from, cycles_within};
+pub use search::{collect_cycles, cycles_from, cycles_within};
 pub use searched::Searched;
 pub use trace_model::Cycle;

@@ -9,12 +9,15 @@ ghost use Rattle.trace_model.specs.declared.limits.TheConstants.{MAX_CYCLES};
 ghost use Rattle.trace_model.specs.Theory.Cycles.{AreCyclesFrom};
 ghost use Rattle.guards.specs.Compatible.{IsCompatible};
 ghost use Rattle.cycle_search.specs.Acquirers.{IsNext};
+ghost use Rattle.cycle_search.specs.Collecting.{AcceptsAll, TakesAll};
 ghost use Rattle.cycle_search.specs.Distances.{AreDistances};
-ghost use Rattle.cycle_search.specs.Search.{IsPath, Closes, AboveFirst, LinksTo, ClosesBack, AreNexts, MoreThan, CycleFrom, IsWithin, HasDistances, IsTooFar, AddsBeyond, ExceedsBeyond, AddsThrough, ExceedsThrough, IfTooMany};
+ghost use Rattle.cycle_search.specs.Search.{IsPath, Closes, AboveFirst, LinksTo, ClosesBack, AreNexts, MoreThan, CycleFrom, HasDistances, IsTooFar, SearchedBeyond, SearchedThrough, IfTooMany};
 
 use crate::ascending::above;
+use crate::collector::Collector;
 use crate::costs::{closing_visits, is_long};
 use crate::distances::distances_to;
+use crate::kept::Kept;
 use crate::{Components, SearchRefused, Searched};
 use arrayvec::ArrayVec;
 use guards::compatible;
@@ -33,8 +36,6 @@ struct Search<'a> {
     distances: &'a [u32],
     /// The maximum number of members of a cycle.
     members: usize,
-    /// The maximum number of cycles.
-    cycles: usize,
     /// If the last member is missing and the path has more successors than this, the search looks
     /// up the last member by the locks that it acquires.
     successors: usize,
@@ -82,8 +83,34 @@ pub fn cycles_within(
     ensures few { IfOk result (λ cycles. length cycles.items ≤ most) }
     ensures too_many { IfTooMany result (MoreThan (CycleFrom searched.now bound root) most) }
 {
+    let mut kept = Kept::new(alloc, most);
+    collect_cycles(alloc, searched, root, bound, &mut kept)??;
+    Ok(kept.cycles)
+}
+
+/// Gives to the collector all cycles with at most `bound` members whose first member is `root`, each
+/// once, in lexicographic order, until it refuses one. Returns the refusal, if there is one. Keeps
+/// no cycle.
+///
+/// # Errors
+/// `NoMemory` if an allocation of the search fails. Then the collector was given no cycle.
+///
+/// The caller passes a number of a dependency of `searched` as `root`, and a collector that accepts
+/// these cycles.
+pub fn collect_cycles<C: Collector<Cycle>>(
+    alloc: Global,
+    searched: &Searched<'_>,
+    root: u32,
+    bound: Bound,
+    collector: &mut C,
+) -> Result<Result<(), C::Refused>, NoMemory>
+    requires root { root < length searched.now }
+    requires accepts { AcceptsAll C.taking (CycleFrom searched.now bound root) collector.old }
+    ensures { IfOk result (λ taken. TakesAll C.taking (CycleFrom searched.now bound root)
+        collector.old taken collector.new) }
+{
     if !searched.components.is_cyclic(root) {
-        return Ok(Vec::new(alloc));
+        return Ok(Ok(()));
     }
     let mut path = Path::new();
     path.push(root);
@@ -92,12 +119,9 @@ pub fn cycles_within(
         searched,
         distances: &distances,
         members: bound.get() as usize,
-        cycles: most,
         successors: closing_visits(searched, root),
     };
-    let mut found = Vec::new(alloc);
-    extend(&search, &mut path, &mut found)?;
-    Ok(found)
+    Ok(extend(&search, &mut path, collector))
 }
 
 /// Returns the distances to the path's one member if a search from it is long, else an empty list.
@@ -119,71 +143,80 @@ fn distances_of(
     distances_to(alloc, state, searched.table, path[0], most)
 }
 
-/// Appends to `found` all cycles that begin with the path and have more members.
+/// Gives to the collector all cycles that begin with the path and have more members.
 #[cycle(search)]
-fn extend(search: &Search<'_>, path: &mut Path, found: &mut Vec<Cycle>) -> Result<(), SearchRefused>
+fn extend<C: Collector<Cycle>>(
+    search: &Search<'_>,
+    path: &mut Path,
+    collector: &mut C,
+) -> Result<(), C::Refused>
     requires path { IsPath search.now.searched.now path.old.items }
     requires room { length path.old.items < search.now.members }
-    requires limits { IsWithin search.now found.old.items }
+    requires members { search.now.members ≤ 8 }
     requires distances { HasDistances search.now path.old.items }
+    requires accepts { AcceptsAll C.taking (SearchedBeyond search.now path.old) collector.old }
     ensures path { OnOk result (path.new.items ≡ path.old.items) }
-    ensures all { OnOk result (AddsBeyond search.now path.old found.old found.new) }
-    ensures few { OnOk result (length found.new.items ≤ search.now.cycles) }
-    ensures too_many { IfTooMany result (ExceedsBeyond search.now path.old found.old) }
+    ensures all { TakesAll C.taking (SearchedBeyond search.now path.old)
+        collector.old result collector.new }
 {
     let nexts = successors(search.searched, path);
     // The path may have many successors although few dependencies close it.
     if path.len() + 1 == search.members && search.successors < nexts.len() {
-        return close(search, path, found);
+        return close(search, path, collector);
     }
     for next in nexts {
-        visit(search, path, *next, found)?;
+        visit(search, path, *next, collector)?;
     }
     Ok(())
 }
 
-/// Appends to `found` all cycles that consist of the path and one more member. It looks up that
+/// Gives to the collector all cycles that consist of the path and one more member. It looks up that
 /// member by the locks that the first member holds.
 #[cycle(search)]
-fn close(search: &Search<'_>, path: &mut Path, found: &mut Vec<Cycle>) -> Result<(), SearchRefused>
+fn close<C: Collector<Cycle>>(
+    search: &Search<'_>,
+    path: &mut Path,
+    collector: &mut C,
+) -> Result<(), C::Refused>
     requires path { IsPath search.now.searched.now path.old.items }
     requires room { length path.old.items + 1 ≡ search.now.members }
-    requires limits { IsWithin search.now found.old.items }
+    requires members { search.now.members ≤ 8 }
     requires distances { HasDistances search.now path.old.items }
+    requires accepts { AcceptsAll C.taking (SearchedBeyond search.now path.old) collector.old }
     ensures path { OnOk result (path.new.items ≡ path.old.items) }
-    ensures all { OnOk result (AddsBeyond search.now path.old found.old found.new) }
-    ensures few { OnOk result (length found.new.items ≤ search.now.cycles) }
-    ensures too_many { IfTooMany result (ExceedsBeyond search.now path.old found.old) }
+    ensures all { TakesAll C.taking (SearchedBeyond search.now path.old)
+        collector.old result collector.new }
 {
     let mut last = path[0];
     while let Some(next) = next_closer(search.searched, path, last) {
         if links(search.searched, path, next) {
-            visit(search, path, next, found)?;
+            visit(search, path, next, collector)?;
         }
         last = next;
     }
     Ok(())
 }
 
-/// Appends to `found` all cycles that begin with the path followed by `next`.
+/// Gives to the collector all cycles that begin with the path followed by `next`.
 #[cycle(search)]
-fn visit(
+fn visit<C: Collector<Cycle>>(
     search: &Search<'_>,
     path: &mut Path,
     next: u32,
-    found: &mut Vec<Cycle>,
-) -> Result<(), SearchRefused>
+    collector: &mut C,
+) -> Result<(), C::Refused>
     requires path { IsPath search.now.searched.now path.old.items }
     requires room { length path.old.items < search.now.members }
-    requires limits { IsWithin search.now found.old.items }
+    requires members { search.now.members ≤ 8 }
     requires distances { HasDistances search.now path.old.items }
     requires known { next < length search.now.searched.now }
     requires above { AboveFirst path.old.items next }
     requires linked { LinksTo search.now.searched.now path.old.items next }
+    requires accepts { AcceptsAll C.taking (SearchedThrough search.now path.old next)
+        collector.old }
     ensures path { OnOk result (path.new.items ≡ path.old.items) }
-    ensures all { OnOk result (AddsThrough search.now path.old next found.old found.new) }
-    ensures few { OnOk result (length found.new.items ≤ search.now.cycles) }
-    ensures too_many { IfTooMany result (ExceedsThrough search.now path.old next found.old) }
+    ensures all { TakesAll C.taking (SearchedThrough search.now path.old next)
+        collector.old result collector.new }
 {
     let searched = search.searched;
     if !same_component(searched.components, path, next) {
@@ -201,12 +234,9 @@ fn visit(
     let is_cycle = closes(searched, path, next);
     path.push(next);
     if is_cycle {
-        if found.len() >= search.cycles {
-            return Err(SearchRefused::TooMany);
-        }
-        found.push(cycle_of(path))?;
+        collector.take(cycle_of(path))?;
     } else if path.len() < search.members {
-        extend(search, path, found)?;
+        extend(search, path, collector)?;
     }
     path.pop();
     Ok(())

@@ -1,2 +1,4 @@
 pub mod EventFile
 pub mod Numbers
+pub mod Refutations
+pub mod WitnessFile

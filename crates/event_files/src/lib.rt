@@ -1,16 +1,23 @@
-//! Event files and witness files: the text formats of traces and witnesses.
+//! Event files, witness files and explained cycles: the text formats of traces and of evidence.
 //!
 //! [`read_events`] returns the events of a file; its contract says that the words of the file are
 //! exactly those of the events. Start reading there; [`read_witness`] reads the input of the replay
-//! checker.
+//! checker. [`push_refutation`] writes the sentences of a refutation, and [`read_explained`] reads
+//! rows with their witnesses and refutations.
 #![tactic(auto)]
 
 mod event_file;
+mod explained_file;
+mod explained_lines;
+pub mod laws;
 mod numbers;
 mod refused;
+mod refutation_text;
 mod witness_file;
 
 pub use event_file::{event, lines_of, push_events, read_events, words_of};
+pub use explained_file::{Evidence, Explained, ExplainedMember, read_explained};
 pub use numbers::number;
 pub use refused::FileRefused;
+pub use refutation_text::{push_entry, push_refutation};
 pub use witness_file::{WitnessFile, read_witness};

@@ -1,4 +1,9 @@
 //! Witness files: the places of an instance, and a list of places.
+ghost use Rattle.std.specs.Bool.{Decides};
+ghost use Rattle.std.specs.Prelude.{◌≡◌, ◌+◌, ℕ, List, true, false, IfErr, IfOk, MatchOption, codes, map};
+ghost use Rattle.event_files.specs.EventFile.{pieces_at};
+ghost use Rattle.event_files.specs.WitnessFile.{AreNumerals, IsKeyed, IsReach, IsWitness, IsWitnessOf, IsWrongNext, ReadsOn, RefusesWitness, line_count, places_in, worded};
+
 use crate::event_file::{lines_of, words_of};
 use crate::numbers::number;
 use crate::refused::FileRefused;
@@ -12,21 +17,15 @@ pub struct WitnessFile {
     pub order: Vec<Place>,
 }
 
-/// Returns the places after the keyword, or `None` if the first word is not `keyword` or another
-/// word is not a number.
-fn places_after(
-    alloc: Global,
-    keyword: &[u8],
-    words: &[&[u8]],
-) -> Result<Option<Vec<Place>>, NoMemory> {
-    let Some((first, rest)) = words.split_first() else {
-        return Ok(None);
-    };
-    if *first != keyword {
-        return Ok(None);
-    }
-    let mut places = Vec::with_capacity(alloc, rest.len())?;
-    for word in rest {
+/// Returns the places that the words name, or `None` if a word is not a number.
+fn places_of(alloc: Global, words: &[&[u8]]) -> Result<Option<Vec<Place>>, NoMemory>
+    ensures { let shown = map (λ word. word.now) words.now in
+        IfOk result (λ told. MatchOption told
+        ((numbers : List ℕ) → AreNumerals numbers shown → ⊥)
+        (λ places. AreNumerals places.items shown)) }
+{
+    let mut places = Vec::with_capacity(alloc, words.len())?;
+    for word in words {
         let Some(index) = number(word) else {
             return Ok(None);
         };
@@ -35,22 +34,60 @@ fn places_after(
     Ok(Some(places))
 }
 
+/// Returns whether the word is the keyword.
+fn is_keyword(word: &[u8], keyword: &[u8]) -> bool
+    ensures { Decides result (word.now ≡ keyword.now) }
+{
+    word == keyword
+}
+
+/// Returns the places after the keyword, or `None` if the first word is not `keyword` or another
+/// word is not a number.
+fn places_after(
+    alloc: Global,
+    keyword: &[u8],
+    words: &[&[u8]],
+) -> Result<Option<Vec<Place>>, NoMemory>
+    ensures { let shown = map (λ word. word.now) words.now in
+        IfOk result (λ told. MatchOption told
+        ((numbers : List ℕ) → IsKeyed keyword.now numbers shown → ⊥)
+        (λ places. IsKeyed keyword.now places.items shown)) }
+{
+    let Some((first, rest)) = words.split_first() else {
+        return Ok(None);
+    };
+    if !is_keyword(first, keyword) {
+        return Ok(None);
+    }
+    places_of(alloc, rest)
+}
+
 /// Returns the instance of a line `reach` with 2 to 8 numbers, or `None` for any other line.
-fn reach(alloc: Global, words: &[&[u8]]) -> Result<Option<Instance>, NoMemory> {
+fn reach(alloc: Global, words: &[&[u8]]) -> Result<Option<Instance>, NoMemory>
+    ensures { let shown = map (λ word. word.now) words.now in
+        IfOk result (λ told. MatchOption told
+        ((instance : List ℕ) → IsReach instance shown → ⊥)
+        (λ instance. IsReach instance shown)) }
+{
     match places_after(alloc, b"reach", words)? {
         Some(places) => Ok(Instance::new(&places)),
         None => Ok(None),
     }
 }
 
-/// Reads the words of the next line into `instance` or `order`. Returns whether they are
-/// understood. A line without words is skipped.
+/// Reads the words of the next line into `instance` or `order`. Returns false if no witness file has
+/// such a line there. A line without words is skipped.
 fn read_words(
     alloc: Global,
     words: &[&[u8]],
     instance: &mut Option<Instance>,
     order: &mut Option<Vec<Place>>,
-) -> Result<bool, NoMemory> {
+) -> Result<bool, NoMemory>
+    ensures read { result ≡ Ok true → ReadsOn (map (λ word. word.now) words.now)
+        (instance.old, places_in order.old) (instance.new, places_in order.new) }
+    ensures wrong { result ≡ Ok false → IsWrongNext (map (λ word. word.now) words.now)
+        (instance.old, places_in order.old) }
+{
     if words.is_empty() {
         return Ok(true);
     }
@@ -65,32 +102,50 @@ fn read_words(
     Ok(false)
 }
 
-/// Reads the next line. Returns whether it is understood.
-fn read_line(
-    alloc: Global,
-    line: &[u8],
-    instance: &mut Option<Instance>,
-    order: &mut Option<Vec<Place>>,
-) -> Result<bool, NoMemory> {
-    let words = words_of(alloc, line)?;
-    read_words(alloc, &words, instance, order)
+/// Returns one more than the number of lines of a file that line feeds cut into these pieces. A last
+/// piece without bytes is no line.
+fn after_last(pieces: &[&[u8]]) -> usize
+    ensures { result ≡ line_count (map (λ piece. piece.now) pieces.now) + 1 }
+{
+    let Some(last) = pieces.last() else {
+        return 1;
+    };
+    if last.is_empty() {
+        pieces.len()
+    } else {
+        pieces.len().saturating_add(1)
+    }
 }
 
-/// Reads the lines of a file into `instance` and `order`.
-fn read_lines(
-    alloc: Global,
-    lines: &[&[u8]],
-    instance: &mut Option<Instance>,
-    order: &mut Option<Vec<Place>>,
-) -> Result<(), FileRefused> {
+/// Reads the witness in `lines`.
+///
+/// # Errors
+///
+/// - `Line` with the number of the first line that is not understood, counted from 1. If a line is
+///   missing, this is one more than the number of lines.
+/// - `NoMemory` if an allocation fails.
+fn read_lines(alloc: Global, lines: &[&[u8]]) -> Result<WitnessFile, FileRefused>
+    ensures witness { IfOk result (λ w.
+        IsWitness w.instance w.order.items (worded (map (λ line. line.now) lines.now))) }
+    ensures refused { IfErr result (RefusesWitness (map (λ line. line.now) lines.now)) }
+{
+    let mut instance = None;
+    let mut order = None;
     let mut number = 0usize;
     for line in lines {
         number = number.saturating_add(1);
-        if !read_line(alloc, line, instance, order)? {
+        let words = words_of(alloc, line)?;
+        if !read_words(alloc, &words, &mut instance, &mut order)? {
             return Err(FileRefused::Line(number));
         }
     }
-    Ok(())
+    let Some(instance) = instance else {
+        return Err(FileRefused::Line(after_last(lines)));
+    };
+    let Some(order) = order else {
+        return Err(FileRefused::Line(after_last(lines)));
+    };
+    Ok(WitnessFile { instance, order })
 }
 
 /// Returns the contents of a witness file: a line `reach` with 2 to 8 numbers, then a line `order`
@@ -101,26 +156,10 @@ fn read_lines(
 /// - `Line` with the number of the first line that is not understood, counted from 1. If a line is
 ///   missing, this is one more than the number of lines.
 /// - `NoMemory` if an allocation fails.
-pub fn read_witness(alloc: Global, file: &[u8]) -> Result<WitnessFile, FileRefused> {
+pub fn read_witness(alloc: Global, file: &[u8]) -> Result<WitnessFile, FileRefused>
+    ensures witness { IfOk result (λ w. IsWitnessOf w.instance w.order.items file.now) }
+    ensures refused { IfErr result (RefusesWitness (pieces_at 10 file.now)) }
+{
     let lines = lines_of(alloc, file)?;
-    let mut instance = None;
-    let mut order = None;
-    read_lines(alloc, &lines, &mut instance, &mut order)?;
-    match (instance, order) {
-        (Some(instance), Some(order)) => Ok(WitnessFile { instance, order }),
-        _ => Err(FileRefused::Line(after_last(file, lines.len()))),
-    }
-}
-
-/// Returns one more than the number of lines of a file that line feeds cut into `pieces` pieces.
-fn after_last(file: &[u8], pieces: usize) -> usize {
-    let ends_a_line = match file.last() {
-        Some(byte) => *byte == b'\n',
-        None => true,
-    };
-    if ends_a_line {
-        pieces
-    } else {
-        pieces.saturating_add(1)
-    }
+    read_lines(alloc, &lines)
 }

@@ -1,39 +1,43 @@
--- Places that a search adds.
-use Rattle.std.proofs.Common.{◌≡◌, ℕ, ◌<◌, ◌⊎◌, inl, inr, Bool, true, false, cond, ◌==◌, List, [], ◌∷◌, ◌++◌, append_assoc, append-nil, length, slice_get, nat_eq, Option, Some, None, MatchOption, unwrap_or, Result, Ok, Err, OnOk, refl, sym, ap, subst, ◌∙◌, arith}
+-- Entries that a search adds.
+use Rattle.std.proofs.Common.{◌≡◌, ℕ, ◌<◌, ◌⊎◌, inl, inr, Bool, true, false, cond, ◌==◌, List, [], ◌∷◌, ◌++◌, append_assoc, append-nil, length, slice_get, nat_eq, Option, Some, None, MatchOption, Result, Ok, Err, OnOk, refl, sym, ap, subst, ◌∙◌, arith}
 use Rattle.std.proofs.lemmas.Bool.{eqb-true, eq-eqb, false≢true}
 use Rattle.std.proofs.lemmas.List.{map-append, length-map}
-use Rattle.std.proofs.lemmas.Option.{none-some, slice_get_within}
-use Rattle.std.specs.HashMap.{HashMap, get}
-use Rattle.std.specs.declared.collections.hash_map.RandomState.{RandomState}
+use Rattle.std.proofs.lemmas.Option.{none-some, same_Some, slice_get_within}
+use Rattle.std.specs.HashMap.{get}
 use Rattle.std.specs.List.{Contains}
 use Rattle.trace_model.specs.declared.refutations.Reason.{Reason}
 use Rattle.trace_model.specs.declared.refutations.Reason.TheVariants.{BeforeMember, ThreadOrder, ForkJoin, ReadsFrom, Sections}
 use Rattle.trace_model.specs.declared.refutations.Derived.{Derived}
-use Rattle.trace_model.specs.Theory.Trace.{Trace}
+use Rattle.trace_model.specs.Theory.Trace.{Trace, OfThread, EarlierInThread}
 use Rattle.trace_model.specs.Theory.Refutation.{Justifies, derived_places, IsDerivation}
 use Rattle.trace_model.proofs.Lists.{get-append, get-push, get-push_last}
 use Rattle.trace_model.proofs.Theory.Ascending.{place_of, contains_at}
 use Rattle.trace_model.proofs.Theory.Derivable.{derived_push, one_more_derived, derivable_within}
+use Rattle.trace_model.proofs.Theory.Least.{at_thread}
 use Rattle.trace_model.proofs.Theory.Refutation.{entry_of}
+use Rattle.explain.specs.declared.tables.Prefix.{Prefix}
 use Rattle.explain.specs.declared.search.Search.{Search}
-use Rattle.explain.specs.Search.{derived_by, HasIndices, IsSearch, Extends, Adds, AddsAll}
+use Rattle.explain.specs.Tables.{at}
+use Rattle.explain.specs.Search.{derived_by, HasIndices, IsBlank, IsUpTo, Has, Covers, IsIn, IsSearch, Extends, Adds, CoversAll}
 
-pub extends_refl : (x y : Search) → y.entries.items ≡ x.entries.items → Extends x y
-extends_refl x y e = ([], e ∙ sym (append-nil x.entries.items))
+pub extends_refl : (s : Trace) (x : Search) → Extends s x x
+extends_refl s x = record { entries = ([], sym (append-nil x.entries.items)); ranges = λ i r e. e; has = λ p h. h }
 
-pub extends_trans : (x y z : Search) → Extends x y → Extends y z → Extends x z
-extends_trans x y z (a, e) (b, f) = (a ++ b, f ∙ ap (λ xs. xs ++ b) e ∙ append_assoc x.entries.items a b)
+pub extends_trans : (s : Trace) (x y z : Search) → Extends s x y → Extends s y z → Extends s x z
+extends_trans s x y z e f = record {
+  entries = (e.entries.0 ++ f.entries.0, f.entries.1 ∙ ap (λ xs. xs ++ f.entries.0) e.entries.1 ∙ append_assoc x.entries.items e.entries.0 f.entries.0);
+  ranges = λ i r h. f.ranges i r (e.ranges i r h);
+  has = λ p h. f.has p (e.has p h);
+}
 
-pub split_by : (x y : Search) → (e : Extends x y) → derived_by y ≡ derived_by x ++ derived_places e.0
-split_by x y (more, e) = ap derived_places e ∙ map-append (λ (d : Derived). d.place) x.entries.items more
-
--- the derived places stay, at their indices
-pub stays_at : (x y : Search) → Extends x y → (k p : ℕ) → slice_get (derived_by x) k ≡ Some p → slice_get (derived_by y) k ≡ Some p
-stays_at x y e k p at = subst (λ xs. slice_get xs k ≡ Some p) (sym (split_by x y e))
-    (get-append (derived_by x) (derived_places e.0) k (slice_get_within (derived_by x) k p at) ∙ at)
-
-pub stays : (x y : Search) → Extends x y → (p : ℕ) → Contains (derived_by x) p → Contains (derived_by y) p
-stays x y e p c = let (k, at) = place_of (derived_by x) p c in contains_at (derived_by y) p k (stays_at x y e k p at)
+-- the entries stay
+pub stays : (s : Trace) (x y : Search) → Extends s x y → (p : ℕ) → Contains (derived_by x) p → Contains (derived_by y) p
+stays s x y e p c =
+    let (more, same) = e.entries in
+    let split : derived_by y ≡ derived_by x ++ derived_places more = ap derived_places same ∙ map-append (λ (d : Derived). d.place) x.entries.items more in
+    let (k, at) = place_of (derived_by x) p c in
+    contains_at (derived_by y) p k (subst (λ xs. slice_get xs k ≡ Some p) (sym split)
+    (get-append (derived_by x) (derived_places more) k (slice_get_within (derived_by x) k p at) ∙ at))
 
 -- a reason holds after more places
 pub justified_more : (s : Trace) (places xs ys : List ℕ) → ((q : ℕ) → Contains xs q → Contains ys q) → (r : Reason) (p : ℕ) →
@@ -44,25 +48,55 @@ justified_more s places xs ys f (ForkJoin q) p (c, e) = (f q c, e)
 justified_more s places xs ys f (ReadsFrom q) p (c, e) = (f q c, e)
 justified_more s places xs ys f (Sections a b) p (c, d, l, m, e) = (f a c, f b d, l, m, e)
 
--- each derived place is in the trace
+pub covers_more : (s : Trace) (places : List ℕ) (x y : Search) → Extends s x y → (r : Prefix) → Covers s places x r → Covers s places y r
+covers_more s places x y e r h p up = elim (h p up) [
+  | inl c ↦ inl (stays s x y e p c)
+  | inr j ↦ inr (justified_more s places (derived_by x) (derived_by y) (stays s x y e) r.reason p j)
+]
+
+pub in_more : (s : Trace) (places : List ℕ) (x y : Search) → Extends s x y → (r : Prefix) → IsIn s places x r → IsIn s places y r
+in_more s places x y e r (h, c) = (e.has r.last h, covers_more s places x y e r c)
+
+-- the last place of a prefix is up to it
+pub last_up_to : (s : Trace) (x : Search) (p : ℕ) → Has s x p → IsUpTo s p (Some p)
+last_up_to s x p (r, (t, e, o, l)) = (p, t, refl, o, o, omega arith)
+
+-- each place with an entry is in the trace
 pub derived_within : (s : Trace) (places : List ℕ) (x : Search) → IsSearch s places x → (p : ℕ) → Contains (derived_by x) p → p < length s
 derived_within s places x is p c =
     let (k, at) = place_of (derived_by x) p c in
     let (d, here, same) = entry_of x.entries.items k p at in
     subst (λ q. q < length s) same (derivable_within s places _ d.place d.reason (is.derives k d here))
 
-pub empty_search : (s : Trace) (places : List ℕ) (x : Search) → x.entries.items ≡ [] → ((p : ℕ) → get nat_eq x.indices p ≡ None) →
-    ((t : ℕ) → get nat_eq x.threads t ≡ None) → IsSearch s places x
-empty_search s places x none indices threads = record {
-  derives = subst (IsDerivation s places) (sym none) (λ k d h. absurd (none-some d h));
-  indices = λ p. subst (λ o. MatchOption o (Contains (derived_by x) p → ⊥) (λ i. slice_get (derived_by x) i ≡ Some p)) (sym (indices p))
-      (λ c. let (k, at) = place_of (derived_by x) p c in none-some p (subst (λ xs. slice_get (derived_places xs) k ≡ Some p) none at));
-  distinct = λ i j p a b. absurd (none-some p (subst (λ xs. slice_get (derived_places xs) i ≡ Some p) none a));
-  threads = λ t p o l. absurd (let below = ap (λ f. unwrap_or f 0) (threads t) in omega (arith, l, below));
-}
+-- an earlier place of a derived place's thread is derived
+pub has_earlier : (s : Trace) (x : Search) (p q : ℕ) → EarlierInThread s p q → Has s x q → Has s x p
+has_earlier s x p q (u, a, b, less) (r, (t, e, o, l)) = (r, (t, e, subst (OfThread s p) (at_thread s q u t b o) a, omega (arith, less, l)))
 
-pub nothing_added : (s : Trace) (places : List ℕ) (x : Search) (P : ℕ → Type 0) → IsSearch s places x → ((p : ℕ) → P p → Contains (derived_by x) p) → AddsAll s places x P x
-nothing_added s places x P is h = (is, extends_refl x x refl, h)
+pub has_up_to : (s : Trace) (x : Search) (p q : ℕ) → IsUpTo s p (Some q) → Has s x q → Has s x p
+has_up_to s x p q (f, u, e, a, b, low) (r, (t, is, o, l)) =
+    let same : q ≡ f = same_Some q f e in
+    (r, (t, is, subst (OfThread s p) (at_thread s q u t (subst (λ z. OfThread s z u) (sym same) b) o) a, omega (arith, low, l, same)))
+
+-- a shorter prefix is covered
+pub covers_before : (s : Trace) (places : List ℕ) (x : Search) (q : ℕ) (r : Prefix) → IsUpTo s q (Some r.last) → Covers s places x r →
+    Covers s places x (record { last = q; reason = r.reason })
+covers_before s places x q r (f, t, e, a, b, l) c p (g, u, k, o, h, m) =
+    let same : q ≡ g = same_Some q g k in
+    let thread : u ≡ t = at_thread s q u t (subst (λ z. OfThread s z u) (sym same) h) a in
+    c p (f, t, e, subst (OfThread s p) thread o, b, omega (arith, l, m, same))
+
+-- nothing is derived
+pub blank_search : (s : Trace) (places : List ℕ) (x : Search) → IsBlank x → IsSearch s places x
+blank_search s places x b = record {
+  derives = subst (IsDerivation s places) (sym b.entries) (λ k d h. absurd (none-some d h));
+  indices = λ p. subst (λ o. MatchOption o (Contains (derived_by x) p → ⊥) (λ i. slice_get (derived_by x) i ≡ Some p)) (sym (b.indices p))
+      (λ c. let (k, at) = place_of (derived_by x) p c in none-some p (subst (λ xs. slice_get (derived_places xs) k ≡ Some p) b.entries at));
+  distinct = λ i j p a c. absurd (none-some p (subst (λ xs. slice_get (derived_places xs) i ≡ Some p) b.entries a));
+  threads = λ t r e. absurd (none-some r (sym (b.threads t) ∙ e));
+  locks = λ l r e. absurd (none-some r (sym (b.locks l) ∙ e));
+  ranges = λ i r e. absurd (none-some r (subst (λ xs. slice_get xs i ≡ Some r) b.ranges e));
+  all = λ p (r, (t, e, o, l)). absurd (none-some r (sym (b.threads t) ∙ e));
+}
 
 pub found : (x : Search) → HasIndices x → (p i : ℕ) → get nat_eq x.indices p ≡ Some i → slice_get (derived_by x) i ≡ Some p
 found x h p i e = subst (λ o. MatchOption o (Contains (derived_by x) p → ⊥) (λ i. slice_get (derived_by x) i ≡ Some p)) e (h p)
@@ -70,7 +104,7 @@ found x h p i e = subst (λ o. MatchOption o (Contains (derived_by x) p → ⊥)
 pub not_found : (x : Search) → HasIndices x → (p : ℕ) → get nat_eq x.indices p ≡ None → Contains (derived_by x) p → ⊥
 not_found x h p e = subst (λ o. MatchOption o (Contains (derived_by x) p → ⊥) (λ i. slice_get (derived_by x) i ≡ Some p)) e (h p)
 
--- a place that was not derived is added at the end
+-- a place without an entry gets one at the end
 module _ (s : Trace) (places : List ℕ) (x y : Search) (p : ℕ) (r : Reason)
     (none : get nat_eq x.indices p ≡ None)
     (put : (q : ℕ) → get nat_eq y.indices q ≡ cond (p == q) (Some (length x.entries.items)) (get nat_eq x.indices q))
@@ -82,15 +116,19 @@ module _ (s : Trace) (places : List ℕ) (x y : Search) (p : ℕ) (r : Reason)
   fresh : Contains (derived_by x) p → ⊥
   fresh = not_found x is.indices p none
 
-  more : Extends x y
-  more = (record { place = p; reason = r } ∷ [], items)
+  more : y.threads ≡ x.threads → y.ranges ≡ x.ranges → Extends s x y
+  more threads ranges = record {
+    entries = (record { place = p; reason = r } ∷ [], items);
+    ranges = λ i r e. subst (λ (v : _). slice_get v.items i ≡ Some r) (sym ranges) e;
+    has = λ q (r, (t, e, o, l)). (r, (t, subst (λ (v : _). at v t ≡ Some r) (sym threads) e, o, l));
+  }
+
+  kept : (k q : ℕ) → slice_get (derived_by x) k ≡ Some q → slice_get (derived_by y) k ≡ Some q
+  kept k q at = subst (λ xs. slice_get xs k ≡ Some q) (sym pushed) (get-append (derived_by x) (p ∷ []) k (slice_get_within (derived_by x) k q at) ∙ at)
 
   last : slice_get (derived_by y) (length x.entries.items) ≡ Some p
   last = subst (λ xs. slice_get xs (length x.entries.items) ≡ Some p) (sym pushed)
       (subst (λ n. slice_get (derived_by x ++ p ∷ []) n ≡ Some p) (length-map x.entries.items (λ (d : Derived). d.place)) (get-push_last (derived_by x) p))
-
-  Indexed : ℕ → Option ℕ → Type 0
-  Indexed q o = MatchOption o (Contains (derived_by y) q → ⊥) (λ i. slice_get (derived_by y) i ≡ Some q)
 
   old_or_new : (k q : ℕ) → slice_get (derived_by y) k ≡ Some q → (slice_get (derived_by x) k ≡ Some q) ⊎ ((k ≡ length (derived_by x)) × (p ≡ q))
   old_or_new k q at = get-push (derived_by x) p k q (subst (λ xs. slice_get xs k ≡ Some q) pushed at)
@@ -100,14 +138,14 @@ module _ (s : Trace) (places : List ℕ) (x y : Search) (p : ℕ) (r : Reason)
     | inl a ↦ not_found x is.indices q e (contains_at (derived_by x) q k a)
     | inr a ↦ other a.1
   ]
-  kept_index q other (Some i) e = stays_at x y more i q (found x is.indices q i e)
+  kept_index q other (Some i) e = kept i q (found x is.indices q i e)
 
   new_index : (q : ℕ) (b : Bool) → (p == q) ≡ b → MatchOption (cond b (Some (length x.entries.items)) (get nat_eq x.indices q)) (Contains (derived_by y) q → ⊥) (λ i. slice_get (derived_by y) i ≡ Some q)
   new_index q true e = subst (λ z. slice_get (derived_by y) (length x.entries.items) ≡ Some z) (eqb-true p q e) last
   new_index q false e = kept_index q (λ h. false≢true (sym e ∙ eq-eqb p q h)) (get nat_eq x.indices q) refl
 
-  pub added : y.threads ≡ x.threads → Justifies s places (derived_by x) r p → Adds s places x p y
-  added threads j = (
+  pub added : y.threads ≡ x.threads → y.ranges ≡ x.ranges → y.locks ≡ x.locks → Justifies s places (derived_by x) r p → Adds s places x p y
+  added threads ranges locks j = (
     record {
       derives = subst (IsDerivation s places) (sym items) (one_more_derived s places x.entries.items (record { place = p; reason = r }) is.derives j);
       indices = λ q. subst (λ o. MatchOption o (Contains (derived_by y) q → ⊥) (λ i. slice_get (derived_by y) i ≡ Some q)) (sym (put q)) (new_index q (p == q) refl);
@@ -121,30 +159,33 @@ module _ (s : Trace) (places : List ℕ) (x y : Search) (p : ℕ) (r : Reason)
           | inr d ↦ c.0 ∙ sym d.0
         ]
       ];
-      threads = λ t q o l. stays x y more q (is.threads t q o (subst (λ (m : _). q < unwrap_or (get nat_eq m t) 0) threads l));
+      threads = λ t q e.
+          let (o, c) = is.threads t q (subst (λ (v : _). at v t ≡ Some q) threads e) in
+          (o, covers_more s places x y (more threads ranges) q c);
+      locks = λ l q e. in_more s places x y (more threads ranges) q (is.locks l q (subst (λ (v : _). at v l ≡ Some q) locks e));
+      ranges = λ i q e. in_more s places x y (more threads ranges) q.prefix (is.ranges i q (subst (λ (v : _). slice_get v.items i ≡ Some q) ranges e));
+      all = λ q (z, (t, e, o, l)).
+          let (i, range, there, within) = is.all q (z, (t, subst (λ (v : _). at v t ≡ Some z) threads e, o, l)) in
+          (i, range, subst (λ (v : _). slice_get v.items i ≡ Some range) (sym ranges) there, within);
     },
-    more,
+    more threads ranges,
     contains_at (derived_by y) p (length x.entries.items) last,
   )
 
 -- ---- one call after another
 
-pub adds_both : (s : Trace) (places : List ℕ) (x y z : Search) (P Q : ℕ → Type 0) → AddsAll s places x P y → AddsAll s places y Q z →
-    AddsAll s places x (λ p. P p ⊎ Q p) z
-adds_both s places x y z P Q (a, e, f) (b, g, h) = (b, extends_trans x y z e g, λ p. both p)
+pub covers_both : (s : Trace) (places : List ℕ) (x y z : Search) (P Q : ℕ → Type 0) → CoversAll s places x P y → CoversAll s places y Q z →
+    CoversAll s places x (λ p. P p ⊎ Q p) z
+covers_both s places x y z P Q (a, e, f) (b, g, h) = (b, extends_trans s x y z e g, λ p. both p)
   where
-    both : (p : ℕ) → P p ⊎ Q p → Contains (derived_by z) p
-    both p (inl k) = stays y z g p (f p k)
+    both : (p : ℕ) → P p ⊎ Q p → Has s z p
+    both p (inl k) = g.has p (f p k)
     both p (inr k) = h p k
 
-pub adds_fewer : (s : Trace) (places : List ℕ) (x y : Search) (P Q : ℕ → Type 0) → ((p : ℕ) → Q p → P p) → AddsAll s places x P y → AddsAll s places x Q y
-adds_fewer s places x y P Q f (a, e, h) = (a, e, λ p k. h p (f p k))
+pub covers_fewer : (s : Trace) (places : List ℕ) (x y : Search) (P Q : ℕ → Type 0) → ((p : ℕ) → Q p → P p) → CoversAll s places x P y → CoversAll s places x Q y
+covers_fewer s places x y P Q f (a, e, h) = (a, e, λ p k. h p (f p k))
 
 -- a fact of an `Ok` value implies another
 pub on_ok_then : {E A B : Type 0} (r : Result Unit E) → OnOk r A → (A → B) → OnOk r B
 on_ok_then (Ok u) a f = f a
 on_ok_then (Err e) a f = tt
-
--- the table of locks does not matter
-pub with_locks : (s : Trace) (places : List ℕ) (x : Search) (locks : HashMap ℕ ℕ RandomState) → IsSearch s places x → IsSearch s places (record x { locks = locks })
-with_locks s places x locks is = record { derives = is.derives; indices = is.indices; distinct = is.distinct; threads = is.threads }

@@ -1,4 +1,6 @@
+pub mod Pushing
 pub mod Adding
+pub mod Covering
 pub mod Walking
 pub mod Requiring
 pub mod LastSections

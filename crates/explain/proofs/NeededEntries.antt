@@ -16,7 +16,7 @@ use Rattle.trace_model.proofs.Theory.Refutation.{entry_of}
 use Rattle.explain.specs.declared.search.Search.{Search}
 use Rattle.explain.specs.Search.{derived_by, IsSearch}
 use Rattle.explain.specs.Needed.{Names, IsNeeded, IsKept, AreClosed, IsNeededDerivation}
-use Rattle.explain.proofs.LastSections.{push_kept, push_last}
+use Rattle.explain.proofs.Pushing.{push_kept, push_last}
 
 -- a reason holds if the places that it names are derived
 named : (s : Trace) (places xs : List ℕ) (r : Reason) (p q : ℕ) → Justifies s places xs r p → Names r q → Contains xs q

@@ -7,13 +7,12 @@ use Rattle.std.specs.List.{Contains}
 use Rattle.trace_model.specs.declared.traces.event.Event.{Event}
 use Rattle.trace_model.specs.declared.traces.event.Op.TheVariants.{Fork, Join}
 use Rattle.trace_model.specs.Theory.Trace.{Trace, At, event, Does, OfThread, EarlierInThread, last_place}
-use Rattle.trace_model.specs.Theory.Lookups.{writer}
 use Rattle.trace_model.proofs.Lists.{take_next}
 use Rattle.trace_model.proofs.Theory.Least.{at_thread}
 use Rattle.trace_index.specs.Numbers.{of_thread, thread_before}
 use Rattle.fronts.specs.Threads.{IsLastOf}
-use Rattle.explain.specs.Search.{IsUpTo, IsJoined, IsRequired, IsBefore}
-use Rattle.explain.proofs.LastSections.{in_push}
+use Rattle.explain.specs.Search.{IsUpTo, IsJoined, IsBefore, IsBeforeSome}
+use Rattle.explain.proofs.Pushing.{in_push}
 use Rattle.explain.proofs.Walking.{before_some, before_none}
 
 -- the places up to the previous one are those earlier in the thread
@@ -63,21 +62,13 @@ joined_cases s q c e fork last at is f m p (d, j, inr o) = inr (of_thread_up_to 
 pub not_joined : (s : Trace) (q : ℕ) (e : Event) → At s q e → ((c : ℕ) → e.op ≡ Join c → ⊥) → (p : ℕ) → IsJoined s q p → ⊥
 not_joined s q e at none p (c, (t, h), k) = none c (ap (λ (x : Event). x.op) (same_Some e (event t (Join c)) (sym at ∙ h)))
 
--- what a place requires, by the calls that add it
-pub required_cases : (s : Trace) (q : ℕ) (e : Event) (fork : Option ℕ) → At s q e → ((p : ℕ) → Does s p (Fork e.thread) → fork ≡ Some p) →
-    (p : ℕ) → IsRequired s q p → ((IsUpTo s p (thread_before s q) ⊎ (fork ≡ Some p)) ⊎ IsJoined s q p) ⊎ (writer s q ≡ Some p)
-required_cases s q e fork at f p (inl k) = inl (inl (inl (earlier_up_to s q p k)))
-required_cases s q e fork at f p (inr (inl (inl (t, o, d)))) = inl (inl (inr (f p (subst (λ x. Does s p (Fork x)) (at_thread s q t e.thread o (e.op, at)) d))))
-required_cases s q e fork at f p (inr (inl (inr j))) = inl (inr j)
-required_cases s q e fork at f p (inr (inr w)) = inr w
-
 pub before_more : (s : Trace) (places : List ℕ) (k q p : ℕ) → slice_get places k ≡ Some q → IsBefore s (take (k + 1) places) p →
-    IsBefore s (take k places) p ⊎ IsUpTo s p (thread_before s q)
+    IsBefore s (take k places) p ⊎ IsBeforeSome s (Some q) p
 before_more s places k q p at (z, c, e) =
     let up : k + 1 ≡ suc k = omega arith in
     elim (in_push (take k places) q z (subst (λ xs. Contains xs z) (ap (λ n. take n places) up ∙ take_next k places q at) c)) [
       | inl a ↦ inl (z, a, e)
-      | inr a ↦ inr (earlier_up_to s q p (subst (EarlierInThread s p) (sym a) e))
+      | inr a ↦ inr (z, ap Some a, e)
     ]
 
 pub none_before : (s : Trace) (places : List ℕ) (p : ℕ) → IsBefore s (take 0 places) p → ⊥

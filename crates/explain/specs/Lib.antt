@@ -1,3 +1,4 @@
+pub mod Tables
 pub mod Search
 pub mod Needed
 pub mod Moving

@@ -1,5 +1,5 @@
 -- The state of a search for derived places.
-use Rattle.std.specs.Prelude.{◌≡◌, ℕ, ◌<◌, ◌≤◌, ◌⊎◌, List, [], ◌∷◌, ◌++◌, slice_get, nat_eq, Option, Some, unwrap_or, MatchOption}
+use Rattle.std.specs.Prelude.{◌≡◌, ℕ, ◌<◌, ◌≤◌, ◌⊎◌, List, [], ◌++◌, slice_get, nat_eq, Option, Some, None, MatchOption}
 use Rattle.std.specs.HashMap.{get}
 use Rattle.std.specs.List.{Contains}
 use Rattle.trace_model.specs.declared.refutations.Derived.{Derived}
@@ -8,10 +8,13 @@ use Rattle.trace_model.specs.Theory.Trace.{Trace, Does, OfThread, EarlierInThrea
 use Rattle.trace_model.specs.Theory.Held.{BeginsOn}
 use Rattle.trace_model.specs.Theory.Lookups.{writer, release}
 use Rattle.trace_model.specs.Theory.Reordering.{ForkOrJoin}
-use Rattle.trace_model.specs.Theory.Refutation.{derived_places, IsDerivation}
+use Rattle.trace_model.specs.Theory.Refutation.{Justifies, derived_places, IsDerivation}
+use Rattle.explain.specs.declared.tables.Prefix.{Prefix}
+use Rattle.explain.specs.declared.search.Range.{Range}
 use Rattle.explain.specs.declared.search.Search.{Search}
+use Rattle.explain.specs.Tables.{at}
 
--- The derived places, in the order in which they were found.
+-- The places that have entries, in the order in which they were found.
 abbrev pub derived_by : Search → List ℕ
 derived_by x = derived_places x.entries.items
 
@@ -21,31 +24,69 @@ HasIndices x = (p : ℕ) → MatchOption (get nat_eq x.indices p)
     (Contains (derived_by x) p → ⊥)
     (λ i. slice_get (derived_by x) i ≡ Some p)
 
--- The entries are a derivation for the places, and the tables are those of the entries.
+-- Place p is at or before the last one, in its thread.
+abbrev pub IsUpTo : Trace → ℕ → Option ℕ → Type 0
+IsUpTo s p last = (f : ℕ) × (t : ℕ) × (last ≡ Some f) × OfThread s p t × OfThread s f t × (p ≤ f)
+
+-- The table has this prefix of the place's thread, and it contains the place.
+abbrev pub Gives : Trace → Search → ℕ → Prefix → Type 0
+Gives s x p r = (t : ℕ) × (at x.threads t ≡ Some r) × OfThread s p t × (p ≤ r.last)
+
+-- The place is derived: the prefix of its thread contains it.
+abbrev pub Has : Trace → Search → ℕ → Type 0
+Has s x p = (r : Prefix) × Gives s x p r
+
+-- Each place of the prefix has an entry, or the prefix's reason justifies it.
+abbrev pub Covers : Trace → List ℕ → Search → Prefix → Type 0
+Covers s places x r = (p : ℕ) → IsUpTo s p (Some r.last) →
+    Contains (derived_by x) p ⊎ Justifies s places (derived_by x) r.reason p
+
+-- The prefix is derived and covered.
+abbrev pub IsIn : Trace → List ℕ → Search → Prefix → Type 0
+IsIn s places x r = Has s x r.last × Covers s places x r
+
+-- Place p is in the range.
+abbrev pub InRange : Trace → Range → ℕ → Type 0
+InRange s r p = IsUpTo s p (Some r.prefix.last) × ((a : ℕ) → r.after ≡ Some a → a < p)
+
+-- The entries are a derivation for the places, the tables are those of the entries, the prefixes
+-- are covered, and each derived place is in a range.
 pub record IsSearch (s : Trace) (places : List ℕ) (x : Search) : Type 0 where
   pub derives : IsDerivation s places x.entries.items
   pub indices : HasIndices x
   pub distinct : (i j p : ℕ) → slice_get (derived_by x) i ≡ Some p →
       slice_get (derived_by x) j ≡ Some p → i ≡ j
-  pub threads : (t p : ℕ) → OfThread s p t → p < unwrap_or (get nat_eq x.threads t) 0 →
-      Contains (derived_by x) p
+  pub threads : (t : ℕ) (r : Prefix) → at x.threads t ≡ Some r →
+      OfThread s r.last t × Covers s places x r
+  pub locks : (l : ℕ) (r : Prefix) → at x.locks l ≡ Some r → IsIn s places x r
+  pub ranges : (i : ℕ) (r : Range) → slice_get x.ranges.items i ≡ Some r →
+      IsIn s places x r.prefix
+  pub all : (p : ℕ) → Has s x p →
+      (i : ℕ) × (r : Range) × (slice_get x.ranges.items i ≡ Some r) × InRange s r p
 
--- The new search has more entries than the old one, or the same.
-abbrev pub Extends : Search → Search → Type 0
-Extends old new = (more : List Derived) × (new.entries.items ≡ old.entries.items ++ more)
+-- Nothing is derived.
+pub record IsBlank (x : Search) : Type 0 where
+  pub entries : x.entries.items ≡ []
+  pub indices : (p : ℕ) → get nat_eq x.indices p ≡ None
+  pub threads : (t : ℕ) → at x.threads t ≡ None
+  pub ranges : x.ranges.items ≡ []
+  pub locks : (l : ℕ) → at x.locks l ≡ None
 
--- The new search has derived the place.
+-- The new search has the entries, ranges and derived places of the old one, and perhaps more.
+pub record Extends (s : Trace) (old new : Search) : Type 0 where
+  pub entries : (more : List Derived) × (new.entries.items ≡ old.entries.items ++ more)
+  pub ranges : (i : ℕ) (r : Range) → slice_get old.ranges.items i ≡ Some r →
+      slice_get new.ranges.items i ≡ Some r
+  pub has : (p : ℕ) → Has s old p → Has s new p
+
+-- The new search has an entry for the place.
 abbrev pub Adds : Trace → List ℕ → Search → ℕ → Search → Type 0
-Adds s places old p new = IsSearch s places new × Extends old new × Contains (derived_by new) p
+Adds s places old p new = IsSearch s places new × Extends s old new × Contains (derived_by new) p
 
 -- The new search has derived each place with the property.
-abbrev pub AddsAll : Trace → List ℕ → Search → (ℕ → Type 0) → Search → Type 0
-AddsAll s places old P new = IsSearch s places new × Extends old new
-    × ((p : ℕ) → P p → Contains (derived_by new) p)
-
--- Place p is at or before the last one, in its thread.
-abbrev pub IsUpTo : Trace → ℕ → Option ℕ → Type 0
-IsUpTo s p last = (f : ℕ) × (t : ℕ) × (last ≡ Some f) × OfThread s p t × OfThread s f t × (p ≤ f)
+abbrev pub CoversAll : Trace → List ℕ → Search → (ℕ → Type 0) → Search → Type 0
+CoversAll s places old P new = IsSearch s places new × Extends s old new
+    × ((p : ℕ) → P p → Has s new p)
 
 -- Place q is a join, and p is the fork or a place of the joined thread.
 abbrev pub IsJoined : Trace → ℕ → ℕ → Type 0
@@ -59,34 +100,51 @@ IsRequired s q p = EarlierInThread s p q ⊎ (ForkOrJoin s p q ⊎ (writer s q �
 abbrev pub IsBefore : Trace → List ℕ → ℕ → Type 0
 IsBefore s places p = (q : ℕ) × Contains places q × EarlierInThread s p q
 
+-- Place p is earlier in the thread of this place, if there is one.
+abbrev pub IsBeforeSome : Trace → Option ℕ → ℕ → Type 0
+IsBeforeSome s place p = (q : ℕ) × (place ≡ Some q) × EarlierInThread s p q
+
+-- The fork of the place's thread is derived.
+abbrev pub HasFork : Trace → Search → ℕ → Type 0
+HasFork s x q = (t p : ℕ) → OfThread s q t → Does s p (Fork t) → Has s x p
+
 -- Place a is the last of the followed places at which a section on lock l begins: of each earlier
--- one, the release is derived.
-abbrev pub IsLast : Trace → List ℕ → List ℕ → ℕ → ℕ → Type 0
-IsLast s followed derived l a = Contains followed a × BeginsOn s a l
+-- one, the release has the property.
+abbrev pub IsLast : Trace → List ℕ → (ℕ → Type 0) → ℕ → ℕ → Type 0
+IsLast s followed H l a = Contains followed a × BeginsOn s a l
     × ((b : ℕ) → Contains followed b → BeginsOn s b l → (b ≤ a)
-    × (b < a → (r : ℕ) → release s b ≡ Some r → Contains derived r))
+    × (b < a → (r : ℕ) → release s b ≡ Some r → H r))
 
 -- The table of locks has the last of the followed places for each lock.
 abbrev pub Follows : Trace → List ℕ → Search → Type 0
-Follows s followed x = (l : ℕ) → MatchOption (get nat_eq x.locks l)
+Follows s followed x = (l : ℕ) → MatchOption (at x.locks l)
     ((b : ℕ) → Contains followed b → BeginsOn s b l → ⊥)
-    (IsLast s followed (derived_by x) l)
-
--- The new search has followed one more place by its critical section.
-abbrev pub AddsSection : Trace → List ℕ → List ℕ → ℕ → Search → Search → Type 0
-AddsSection s places followed q old new = IsSearch s places new × Extends old new
-    × Follows s (followed ++ q ∷ []) new
+    (λ r. IsLast s followed (Has s x) l r.last)
 
 -- The followed places are derived, and so are the places that they require.
 pub record HasFollowed (s : Trace) (followed : List ℕ) (x : Search) : Type 0 where
-  pub derived : (q : ℕ) → Contains followed q → Contains (derived_by x) q
-  pub required : (q p : ℕ) → Contains followed q → IsRequired s q p → Contains (derived_by x) p
+  pub derived : (q : ℕ) → Contains followed q → Has s x q
+  pub required : (q p : ℕ) → Contains followed q → IsRequired s q p → Has s x p
   pub sections : Follows s followed x
 
+-- The new search has followed these places.
+abbrev pub AddsFollowed : Trace → List ℕ → Search → List ℕ → Search → Type 0
+AddsFollowed s places old followed new = IsSearch s places new × Extends s old new
+    × HasFollowed s followed new
+
+-- The list has the followed places, and those of the range.
+abbrev pub HasAlso : Trace → List ℕ → Range → List ℕ → Type 0
+HasAlso s followed range all = ((q : ℕ) → Contains followed q → Contains all q)
+    × ((q : ℕ) → InRange s range q → Contains all q)
+
 -- The place of this member is derived.
-abbrev pub IsCaughtAt : Search → List ℕ → ℕ → Type 0
-IsCaughtAt x places i = (p : ℕ) × (slice_get places i ≡ Some p) × Contains (derived_by x) p
+abbrev pub IsCaughtAt : Trace → Search → List ℕ → ℕ → Type 0
+IsCaughtAt s x places i = (p : ℕ) × (slice_get places i ≡ Some p) × Has s x p
+
+-- The place of this member of a search is derived.
+abbrev pub IsCaughtIn : Trace → List ℕ → Search → ℕ → Type 0
+IsCaughtIn s places x i = IsSearch s places x × IsCaughtAt s x places i
 
 -- The place of no member is derived.
-abbrev pub IsCaughtNowhere : Search → List ℕ → Type 0
-IsCaughtNowhere x places = (p : ℕ) → Contains places p → Contains (derived_by x) p → ⊥
+abbrev pub IsCaughtNowhere : Trace → Search → List ℕ → Type 0
+IsCaughtNowhere s x places = (p : ℕ) → Contains places p → Has s x p → ⊥

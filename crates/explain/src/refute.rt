@@ -20,8 +20,8 @@ use trace_model::{Cycle, Derivation, NoMemory, Place, Refutation, Step};
 
 /// Returns a refutation of the cycle exactly if the cycle is not confirmed, or `None` if some
 /// reordering reaches an instance of it. The derivation of each step has the entries that its place
-/// needs in a breadth-first search. Allocates in proportion to the refutation and to the places
-/// that one search derives.
+/// needs in a breadth-first search. Allocates in proportion to the refutation, and to the threads,
+/// locks and ranges of places that one search meets.
 ///
 /// # Errors
 /// `NoMemory` if an allocation fails.
@@ -118,7 +118,9 @@ fn step_at(
     let Some(member) = search.run(index, places)? else {
         return Ok(None);
     };
-    let entries = derivation_of(alloc, &search, places[member])?;
+    let place = places[member];
+    search.enter(index, place)?;
+    let entries = derivation_of(alloc, &search, place)?;
     Ok(Some(Step {
         member,
         derivation: Derivation { entries },

@@ -1,62 +1,105 @@
 //! The search for derived places.
 
-ghost use Rattle.std.specs.Prelude.{◌≡◌, ℕ, List, [], ◌∷◌, ◌++◌, nat_eq, Some, None, OnOk, IfOk, MatchOption};
-ghost use Rattle.std.specs.HashMap.{get};
+ghost use Rattle.std.specs.Prelude.{◌≡◌, ℕ, ◌<◌, ◌≤◌, ◌⊎◌, List, [], ◌∷◌, ◌++◌, true, false, Some, OnOk, IfOk, MatchOption};
 ghost use Rattle.std.specs.List.{Contains};
 ghost use Rattle.trace_model.specs.Theory.Trace.{Trace, At};
 ghost use Rattle.trace_model.specs.Theory.Reordering.{Reached};
 ghost use Rattle.trace_model.specs.Theory.Refutation.{Justifies};
-ghost use Rattle.explain.specs.Search.{derived_by, IsSearch, HasIndices, Extends, Adds, AddsAll, IsUpTo, IsJoined, IsRequired, IsBefore, AddsSection, HasFollowed, IsCaughtAt, IsCaughtNowhere};
+ghost use Rattle.explain.specs.Search.{derived_by, IsBlank, IsSearch, Has, Gives, IsIn, Adds, CoversAll, Extends, AddsFollowed, HasAlso, IsUpTo, IsJoined, IsBefore, IsBeforeSome, HasFork, Follows, HasFollowed, IsCaughtAt, IsCaughtIn, IsCaughtNowhere};
 
-use crate::tables::{
-    IndexTable, NumberTable, PlaceTable, index_at, number_at, place_at, put_index, put_number,
-    put_place,
-};
+use crate::tables::{IndexTable, Prefix, PrefixTable, index_at, prefix_at, put_index, put_prefix};
 use fronts::last_place;
+use number_map::NumberMap;
 use std::alloc::Global;
 use std::collections::HashMap;
 use std::collections::hash_map::RandomState;
 use trace_index::TraceIndex;
 use trace_model::{Derived, Event, NoMemory, Op, Place, Reason};
 
-/// The derived places of a search. The search follows them in the order in which they were found.
+/// The places of a prefix after `after`, which an earlier range of the thread ends with.
+#[derive(Clone, Copy)]
+pub(crate) struct Range {
+    pub(crate) prefix: Prefix,
+    pub(crate) after: Option<Place>,
+}
+
+/// The state of a search. Its derived places are a prefix of each thread. Only those that others
+/// need get entries; of all others the reason is known.
 #[derive(Drop)]
 pub(crate) struct Search {
-    /// The derived places with their reasons.
+    /// Derived places with their reasons.
     pub(crate) entries: Vec<Derived>,
-    /// The index of each derived place in `entries`.
+    /// The index of each entry's place in `entries`.
     pub(crate) indices: IndexTable,
-    /// For each thread a number below which all places of the thread are derived.
-    pub(crate) threads: NumberTable,
+    /// The derived places of each thread.
+    pub(crate) threads: PrefixTable,
+    /// The derived places in the order in which they were found. The search follows the ranges in
+    /// this order, each from its last place back.
+    pub(crate) ranges: Vec<Range>,
     /// For each lock the last place that was followed at which a section on it begins.
-    pub(crate) locks: PlaceTable,
+    pub(crate) locks: PrefixTable,
+}
+
+/// Returns whether `place` is not after the place `after`. Returns `false` if there is none.
+fn is_past(after: &Option<Place>, place: Place) -> bool
+    ensures past { result ≡ true → (a : ℕ) × (after.now ≡ Some a) × (place ≤ a) }
+    ensures not_past { result ≡ false → (a : ℕ) → after.now ≡ Some a → a < place }
+{
+    match after {
+        Some(after) => place.get() <= after.get(),
+        None => false,
+    }
+}
+
+/// Returns the greatest of the places, or `None` if there is none.
+fn greatest(places: &[Place]) -> Option<Place>
+    ensures member { (m : ℕ) → result ≡ Some m → Contains places.now m }
+    ensures greatest { (p : ℕ) → Contains places.now p → (m : ℕ) × (result ≡ Some m) × (p ≤ m) }
+{
+    let mut greatest: Option<Place> = None;
+    for k in 0..places.len() {
+        if !is_past(&greatest, places[k]) {
+            greatest = Some(places[k]);
+        }
+    }
+    greatest
 }
 
 impl Search {
     /// Returns the search without derived places.
     pub(crate) fn new(alloc: Global, state: RandomState) -> Search
-        ensures entries { result.entries.items ≡ [] }
-        ensures indices { (p : ℕ) → get nat_eq result.indices p ≡ None }
-        ensures threads { (t : ℕ) → get nat_eq result.threads t ≡ None }
-        ensures locks { (l : ℕ) → get nat_eq result.locks l ≡ None }
+        ensures { IsBlank result }
     {
         Search {
             entries: Vec::new(alloc),
             indices: HashMap::with_hasher(alloc, state),
-            threads: HashMap::with_hasher(alloc, state),
-            locks: HashMap::with_hasher(alloc, state),
+            threads: NumberMap::new(alloc, state),
+            ranges: Vec::new(alloc),
+            locks: NumberMap::new(alloc, state),
         }
     }
 
-    /// Adds a place with its reason, unless it is derived already.
+    /// Returns the prefix of derived places that contains the place, or `None` if it is not derived.
+    fn prefix_of(&self, index: &TraceIndex, place: Place) -> Option<Prefix>
+        ensures { MatchOption result (Has index.now.events self.now place → ⊥)
+            (Gives index.now.events self.now place) }
+    {
+        let event = index.event(place)?;
+        match prefix_at(&self.threads, event.thread) {
+            Some(prefix) if place.get() <= prefix.last.get() => Some(prefix),
+            _ => None,
+        }
+    }
+
+    /// Adds an entry, unless the place has one.
     ///
     /// # Errors
     /// `NoMemory` if an allocation fails.
     fn add(&mut self, place: Place, reason: &Reason) -> Result<(), NoMemory>
         ensures locks { self.new.locks ≡ self.old.locks }
-        ensures threads { self.new.threads ≡ self.old.threads }
         ensures added { OnOk result ((s : Trace) (places : List ℕ) → IsSearch s places self.old →
-            Justifies s places (derived_by self.old) reason.now place →
+            Contains (derived_by self.old) place
+            ⊎ Justifies s places (derived_by self.old) reason.now place →
             Adds s places self.old place self.new) }
     {
         match index_at(&self.indices, place.get()) {
@@ -72,180 +115,279 @@ impl Search {
         }
     }
 
-    /// Adds a place with its reason, if there is one.
+    /// Derives the places of a thread up to `last`, which have this reason or entries.
     ///
     /// # Errors
     /// `NoMemory` if an allocation fails.
-    fn add_some(&mut self, place: Option<Place>, reason: &Reason) -> Result<(), NoMemory>
-        ensures locks { self.new.locks ≡ self.old.locks }
-        ensures added { OnOk result ((s : Trace) (places : List ℕ) → IsSearch s places self.old →
-            ((p : ℕ) → place ≡ Some p → Justifies s places (derived_by self.old) reason.now p) →
-            AddsAll s places self.old (λ p. place ≡ Some p) self.new) }
-    {
-        match place {
-            Some(place) => self.add(place, reason),
-            None => Ok(()),
-        }
-    }
-
-    /// Adds the places of a thread from `last` back to the first one that is derived with all places
-    /// before it.
-    ///
-    /// # Errors
-    /// `NoMemory` if an allocation fails.
-    fn add_back(
+    fn cover(
         &mut self,
         index: &TraceIndex,
         last: Option<Place>,
         reason: &Reason,
     ) -> Result<(), NoMemory>
         ensures locks { self.new.locks ≡ self.old.locks }
-        ensures added { OnOk result ((places : List ℕ) → IsSearch index.now.events places self.old →
-            ((p : ℕ) → IsUpTo index.now.events p last →
-            Justifies index.now.events places (derived_by self.old) reason.now p) →
-            AddsAll index.now.events places self.old
+        ensures covered { OnOk result ((places : List ℕ) →
+            IsSearch index.now.events places self.old →
+            ((p : ℕ) → IsUpTo index.now.events p last → Contains (derived_by self.old) p
+            ⊎ Justifies index.now.events places (derived_by self.old) reason.now p) →
+            CoversAll index.now.events places self.old
             (λ p. IsUpTo index.now.events p last) self.new) }
     {
-        let Some(end) = last else {
+        let Some(place) = last else {
             return Ok(());
         };
-        let Some(event) = index.event(end) else {
+        let Some(event) = index.event(place) else {
             return Ok(());
         };
-        let _len = index.len(); // for the proof
-        let below = number_at(&self.threads, event.thread);
-        if end.get() < below {
+        let known = prefix_at(&self.threads, event.thread);
+        let after = match known {
+            Some(prefix) => Some(prefix.last),
+            None => None,
+        };
+        if is_past(&after, place) {
             return Ok(());
         }
-        let mut next = last;
-        while let Some(place) = next {
-            if place.get() < below {
-                break;
-            }
-            self.add(place, reason)?;
-            next = index.thread_before(place);
-        }
-        put_number(&mut self.threads, event.thread, end.get() + 1)
+        let range = Range {
+            prefix: Prefix {
+                last: place,
+                reason: *reason,
+            },
+            after,
+        };
+        put_prefix(&mut self.threads, event.thread, &range.prefix)?;
+        self.ranges.push(range)?;
+        Ok(())
     }
 
-    /// Adds what a join requires: the fork and the places of the joined thread. `event` is the event
-    /// at `place`, which is derived.
+    /// Derives the place, if there is one, with its thread up to it. The last places of `first` and
+    /// `second` get entries, and the reason names these.
     ///
     /// # Errors
     /// `NoMemory` if an allocation fails.
-    fn add_joined(&mut self, index: &TraceIndex, place: Place, event: Event) -> Result<(), NoMemory>
+    fn require(
+        &mut self,
+        index: &TraceIndex,
+        place: Option<Place>,
+        first: &Prefix,
+        second: &Prefix,
+        reason: &Reason,
+    ) -> Result<(), NoMemory>
         ensures locks { self.new.locks ≡ self.old.locks }
-        ensures added { OnOk result ((places : List ℕ) → IsSearch index.now.events places self.old →
-            At index.now.events place event → Contains (derived_by self.old) place →
-            AddsAll index.now.events places self.old (IsJoined index.now.events place) self.new) }
+        ensures required { OnOk result ((places : List ℕ) →
+            IsSearch index.now.events places self.old →
+            IsIn index.now.events places self.old first.now →
+            IsIn index.now.events places self.old second.now →
+            ((p : ℕ) → place ≡ Some p → (xs : List ℕ) → Contains xs first.now.last →
+            Contains xs second.now.last → Justifies index.now.events places xs reason.now p) →
+            CoversAll index.now.events places self.old (λ p. place ≡ Some p) self.new) }
+    {
+        let Some(needed) = place else {
+            return Ok(());
+        };
+        if let Some(_) = self.prefix_of(index, needed) {
+            return Ok(());
+        }
+        self.add(first.last, &first.reason)?;
+        self.add(second.last, &second.reason)?;
+        self.add(needed, reason)?;
+        self.cover(index, place, &Reason::ThreadOrder(needed))
+    }
+
+    /// Derives what a join requires: the fork and the places of the joined thread. `event` is the
+    /// event at the last place of `here`.
+    ///
+    /// # Errors
+    /// `NoMemory` if an allocation fails.
+    fn add_joined(
+        &mut self,
+        index: &TraceIndex,
+        here: &Prefix,
+        event: Event,
+    ) -> Result<(), NoMemory>
+        ensures locks { self.new.locks ≡ self.old.locks }
+        ensures joined { OnOk result ((places : List ℕ) →
+            IsSearch index.now.events places self.old →
+            IsIn index.now.events places self.old here.now →
+            At index.now.events here.now.last event →
+            CoversAll index.now.events places self.old
+            (IsJoined index.now.events here.now.last) self.new) }
     {
         let Op::Join(child) = event.op else {
             return Ok(());
         };
-        self.add_some(index.fork_of(child), &Reason::ForkJoin(place))?;
-        self.add_back(index, last_place(index, child), &Reason::ForkJoin(place))
+        let reason = Reason::ForkJoin(here.last);
+        self.require(index, index.fork_of(child), here, here, &reason)?;
+        self.add(here.last, &here.reason)?;
+        self.cover(index, last_place(index, child), &reason)
     }
 
-    /// Adds all places that the place requires by itself. It is derived, and `event` is the event
-    /// there.
+    /// Derives the release of the earlier of two sections on one lock: the one that begins at the
+    /// last place of `here`, if one does, and the last one that was followed.
     ///
     /// # Errors
     /// `NoMemory` if an allocation fails.
-    fn add_required(
+    fn add_section(&mut self, index: &TraceIndex, here: &Prefix) -> Result<(), NoMemory>
+        ensures { OnOk result ((places followed : List ℕ) →
+            IsSearch index.now.events places self.old →
+            IsIn index.now.events places self.old here.now →
+            Follows index.now.events followed self.old →
+            IsSearch index.now.events places self.new
+            × Extends index.now.events self.old self.new
+            × Follows index.now.events (followed ++ here.now.last ∷ []) self.new) }
+    {
+        let Some(lock) = index.begun(here.last) else {
+            return Ok(());
+        };
+        let Some(last) = prefix_at(&self.locks, lock) else {
+            return put_prefix(&mut self.locks, lock, here);
+        };
+        if here.last.get() < last.last.get() {
+            let reason = Reason::Sections(here.last, last.last);
+            return self.require(index, index.release_of(here.last), here, &last, &reason);
+        }
+        if last.last.get() < here.last.get() {
+            let reason = Reason::Sections(last.last, here.last);
+            self.require(index, index.release_of(last.last), &last, here, &reason)?;
+        }
+        put_prefix(&mut self.locks, lock, here)
+    }
+
+    /// Follows the last place of `here`, whose thread's fork is derived: derives all places that it
+    /// requires.
+    ///
+    /// # Errors
+    /// `NoMemory` if an allocation fails.
+    fn follow(&mut self, index: &TraceIndex, here: &Prefix) -> Result<(), NoMemory>
+        ensures { OnOk result ((places followed : List ℕ) →
+            IsSearch index.now.events places self.old →
+            IsIn index.now.events places self.old here.now →
+            HasFork index.now.events self.old here.now.last →
+            HasFollowed index.now.events followed self.old →
+            AddsFollowed index.now.events places self.old
+            (followed ++ here.now.last ∷ []) self.new) }
+    {
+        let Some(event) = index.event(here.last) else {
+            return Ok(());
+        };
+        self.add_joined(index, here, event)?;
+        let reason = Reason::ReadsFrom(here.last);
+        self.require(index, index.writer(here.last), here, here, &reason)?;
+        self.add_section(index, here)
+    }
+
+    /// Follows the places of a range, from the last one back. Returns the index of a member as soon
+    /// as its place is derived, or `None` after the whole range.
+    ///
+    /// # Errors
+    /// `NoMemory` if an allocation fails.
+    fn walk(
         &mut self,
         index: &TraceIndex,
-        place: Place,
-        event: Event,
-    ) -> Result<(), NoMemory>
-        ensures locks { self.new.locks ≡ self.old.locks }
-        ensures added { OnOk result ((places : List ℕ) → IsSearch index.now.events places self.old →
-            At index.now.events place event → Contains (derived_by self.old) place →
-            AddsAll index.now.events places self.old
-            (IsRequired index.now.events place) self.new) }
+        range: &Range,
+        places: &[Place],
+    ) -> Result<Option<usize>, NoMemory>
+        ensures { IfOk result (λ caught. (followed : List ℕ) →
+            IsSearch index.now.events places.now self.old →
+            IsIn index.now.events places.now self.old range.now.prefix →
+            HasFollowed index.now.events followed self.old →
+            MatchOption caught
+            ((all : List ℕ) × AddsFollowed index.now.events places.now self.old all self.new
+            × HasAlso index.now.events followed range.now all)
+            (IsCaughtIn index.now.events places.now self.new)) }
     {
-        self.add_back(
+        let prefix = &range.prefix;
+        let Some(event) = index.event(prefix.last) else {
+            return Ok(None);
+        };
+        let fork = Reason::ForkJoin(prefix.last);
+        self.require(index, index.fork_of(event.thread), prefix, prefix, &fork)?;
+        let mut next = Some(prefix.last);
+        while let Some(place) = next {
+            if is_past(&range.after, place) {
+                break;
+            }
+            let here = Prefix {
+                last: place,
+                reason: prefix.reason,
+            };
+            let count = self.ranges.len();
+            self.follow(index, &here)?;
+            if self.ranges.len() > count
+                && let Some(member) = self.caught(index, places)
+            {
+                return Ok(Some(member));
+            }
+            next = index.thread_before(place);
+        }
+        Ok(None)
+    }
+
+    /// Derives the places before the place of a member, if there is one.
+    ///
+    /// # Errors
+    /// `NoMemory` if an allocation fails.
+    fn cover_before(&mut self, index: &TraceIndex, member: Option<Place>) -> Result<(), NoMemory>
+        ensures locks { self.new.locks ≡ self.old.locks }
+        ensures covered { OnOk result ((places : List ℕ) →
+            IsSearch index.now.events places self.old →
+            ((m : ℕ) → member ≡ Some m → Contains places m) →
+            CoversAll index.now.events places self.old
+            (IsBeforeSome index.now.events member) self.new) }
+    {
+        let Some(place) = member else {
+            return Ok(());
+        };
+        self.cover(
             index,
             index.thread_before(place),
-            &Reason::ThreadOrder(place),
-        )?;
-        self.add_some(index.fork_of(event.thread), &Reason::ForkJoin(place))?;
-        self.add_joined(index, place, event)?;
-        self.add_some(index.writer(place), &Reason::ReadsFrom(place))
+            &Reason::BeforeMember(place),
+        )
     }
 
-    /// Adds the release of the earlier of two sections on one lock: the one that begins at `place`,
-    /// if one does, and the last one that was followed.
-    ///
-    /// # Errors
-    /// `NoMemory` if an allocation fails.
-    fn add_section(&mut self, index: &TraceIndex, place: Place) -> Result<(), NoMemory>
-        ensures { OnOk result ((places followed : List ℕ) →
-            IsSearch index.now.events places self.old → Contains (derived_by self.old) place →
-            HasFollowed index.now.events followed self.old →
-            AddsSection index.now.events places followed place self.old self.new) }
-    {
-        let Some(lock) = index.begun(place) else {
-            return Ok(());
-        };
-        let Some(last) = place_at(&self.locks, lock) else {
-            return put_place(&mut self.locks, lock, place);
-        };
-        if place.get() < last.get() {
-            return self.add_some(index.release_of(place), &Reason::Sections(place, last));
-        }
-        if last.get() < place.get() {
-            self.add_some(index.release_of(last), &Reason::Sections(last, place))?;
-        }
-        put_place(&mut self.locks, lock, place)
-    }
-
-    /// Follows a derived place: adds all places that it requires.
-    ///
-    /// # Errors
-    /// `NoMemory` if an allocation fails.
-    fn follow(&mut self, index: &TraceIndex, place: Place) -> Result<(), NoMemory>
-        ensures { OnOk result ((places followed : List ℕ) →
-            IsSearch index.now.events places self.old → Contains (derived_by self.old) place →
-            HasFollowed index.now.events followed self.old →
-            IsSearch index.now.events places self.new × Extends self.old self.new
-            × HasFollowed index.now.events (followed ++ place ∷ []) self.new) }
-    {
-        let Some(event) = index.event(place) else {
-            return Ok(());
-        };
-        self.add_required(index, place, event)?;
-        self.add_section(index, place)
-    }
-
-    /// Adds the places before the places of the members.
+    /// Derives the places before the places of the members, first those before the greatest one:
+    /// what they require is often past the place of another member.
     ///
     /// # Errors
     /// `NoMemory` if an allocation fails.
     fn begin(&mut self, index: &TraceIndex, places: &[Place]) -> Result<(), NoMemory>
         requires { IsSearch index.now.events places.now self.old }
         ensures locks { self.new.locks ≡ self.old.locks }
-        ensures added { OnOk result (AddsAll index.now.events places.now self.old
+        ensures covered { OnOk result (CoversAll index.now.events places.now self.old
             (IsBefore index.now.events places.now) self.new) }
     {
+        self.cover_before(index, greatest(places))?;
         for k in 0..places.len() {
-            let before = index.thread_before(places[k]);
-            self.add_back(index, before, &Reason::BeforeMember(places[k]))?;
+            self.cover_before(index, Some(places[k]))?;
         }
         Ok(())
     }
 
     /// Returns the first member whose place is derived, or `None`.
-    fn caught(&self, places: &[Place]) -> Option<usize>
-        requires { HasIndices self.now }
-        ensures { MatchOption result (IsCaughtNowhere self.now places.now)
-            (IsCaughtAt self.now places.now) }
+    fn caught(&self, index: &TraceIndex, places: &[Place]) -> Option<usize>
+        ensures { MatchOption result (IsCaughtNowhere index.now.events self.now places.now)
+            (IsCaughtAt index.now.events self.now places.now) }
     {
         for k in 0..places.len() {
-            if let Some(_) = index_at(&self.indices, places[k].get()) {
+            if let Some(_) = self.prefix_of(index, places[k]) {
                 return Some(k);
             }
         }
         None
+    }
+
+    /// Adds an entry for a derived place.
+    ///
+    /// # Errors
+    /// `NoMemory` if an allocation fails.
+    pub(crate) fn enter(&mut self, index: &TraceIndex, place: Place) -> Result<(), NoMemory>
+        ensures { OnOk result ((places : List ℕ) → IsSearch index.now.events places self.old →
+            Has index.now.events self.old place →
+            Adds index.now.events places self.old place self.new) }
+    {
+        match self.prefix_of(index, place) {
+            Some(prefix) => self.add(place, &prefix.reason),
+            None => Ok(()),
+        }
     }
 
     /// Searches until the place of a member is derived, and returns the index of that member.
@@ -258,23 +400,25 @@ impl Search {
         index: &TraceIndex,
         places: &[Place],
     ) -> Result<Option<usize>, NoMemory>
-        requires search { IsSearch index.now.events places.now self.old }
-        requires locks { (l : ℕ) → get nat_eq self.old.locks l ≡ None }
+        requires { IsBlank self.old }
         ensures search { OnOk result (IsSearch index.now.events places.now self.new) }
         ensures caught { IfOk result (λ caught. MatchOption caught
-            (Reached index.now.events places.now) (IsCaughtAt self.new places.now)) }
+            (Reached index.now.events places.now)
+            (IsCaughtAt index.now.events self.new places.now)) }
     {
         let _len = index.len(); // for the proof
         self.begin(index, places)?;
         for k in 0..usize::MAX {
-            if let Some(member) = self.caught(places) {
+            if let Some(member) = self.caught(index, places) {
                 return Ok(Some(member));
             }
-            if k >= self.entries.len() {
+            if k >= self.ranges.len() {
                 return Ok(None);
             }
-            let place = self.entries[k].place;
-            self.follow(index, place)?;
+            let range = self.ranges[k];
+            if let Some(member) = self.walk(index, &range, places)? {
+                return Ok(Some(member));
+            }
         }
         Ok(None)
     }

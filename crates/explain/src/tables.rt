@@ -1,35 +1,48 @@
 //! Hash maps by number.
 
-ghost use Rattle.std.specs.Prelude.{◌≡◌, ◌==◌, ℕ, nat_eq, OnOk, Some, unwrap_or, if◌then◌else◌};
+ghost use Rattle.std.specs.Prelude.{◌≡◌, ◌==◌, ℕ, nat_eq, OnOk, Some, if◌then◌else◌};
 ghost use Rattle.std.specs.HashMap.{get};
+ghost use Rattle.explain.specs.Tables.{at};
 
+use number_map::NumberMap;
 use std::collections::HashMap;
 use std::collections::hash_map::RandomState;
-use trace_model::{NoMemory, Place};
+use trace_model::{NoMemory, Place, Reason};
 
-/// A place for each key.
-pub(crate) type PlaceTable = HashMap<u32, Place, RandomState>;
+/// The places of a thread up to `last`. A place of them without an entry has this reason.
+#[derive(Clone, Copy)]
+pub(crate) struct Prefix {
+    pub(crate) last: Place,
+    pub(crate) reason: Reason,
+}
+
+/// A prefix for each key. A key without one has no entry, or one with `None`.
+pub(crate) type PrefixTable = NumberMap<Option<Prefix>>;
 
 /// An index for each key.
 pub(crate) type IndexTable = HashMap<u32, usize, RandomState>;
 
-/// Sets the place of a key.
+/// Sets the prefix of a key.
 ///
 /// # Errors
 /// `NoMemory` if an allocation fails.
-pub(crate) fn put_place(table: &mut PlaceTable, key: u32, place: Place) -> Result<(), NoMemory>
-    ensures { OnOk result ((other : ℕ) → get nat_eq table.new other ≡
-        (if key == other then Some place else get nat_eq table.old other)) }
+pub(crate) fn put_prefix(table: &mut PrefixTable, key: u32, prefix: &Prefix) -> Result<(), NoMemory>
+    ensures { OnOk result ((other : ℕ) → at table.new other ≡
+        (if key == other then Some prefix.now else at table.old other)) }
 {
-    table.insert(key, place)?;
+    table.reserve(key, None)?;
+    table.set(key, Some(*prefix));
     Ok(())
 }
 
-/// Returns the place of a key, or `None` if there is none.
-pub(crate) fn place_at(table: &PlaceTable, key: u32) -> Option<Place>
-    ensures { result ≡ get nat_eq table.now key }
+/// Returns the prefix of a key, or `None` if there is none.
+pub(crate) fn prefix_at(table: &PrefixTable, key: u32) -> Option<Prefix>
+    ensures { result ≡ at table.now key }
 {
-    table.get(&key).copied()
+    match table.get_ref(key) {
+        Some(prefix) => *prefix,
+        None => None,
+    }
 }
 
 /// Sets the index of a key.
@@ -49,29 +62,4 @@ pub(crate) fn index_at(table: &IndexTable, key: u32) -> Option<usize>
     ensures { result ≡ get nat_eq table.now key }
 {
     table.get(&key).copied()
-}
-
-/// A number for each key.
-pub(crate) type NumberTable = HashMap<u32, u32, RandomState>;
-
-/// Sets the number of a key.
-///
-/// # Errors
-/// `NoMemory` if an allocation fails.
-pub(crate) fn put_number(table: &mut NumberTable, key: u32, number: u32) -> Result<(), NoMemory>
-    ensures { OnOk result ((other : ℕ) → get nat_eq table.new other ≡
-        (if key == other then Some number else get nat_eq table.old other)) }
-{
-    table.insert(key, number)?;
-    Ok(())
-}
-
-/// Returns the number of a key, 0 if it has none.
-pub(crate) fn number_at(table: &NumberTable, key: u32) -> u32
-    ensures { result ≡ unwrap_or (get nat_eq table.now key) 0 }
-{
-    match table.get(&key) {
-        Some(number) => *number,
-        None => 0,
-    }
 }

@@ -3,8 +3,9 @@ use Rattle.std.specs.Prelude.{◌≡◌, ℕ, List, Option, Some, MatchOption}
 use Rattle.std.specs.Option.{ForSome}
 use Rattle.trace_model.specs.Theory.Trace.{Trace}
 use Rattle.trace_model.specs.Theory.Cycles.{IsCycle}
-use Rattle.trace_model.specs.Theory.Dependencies.{dependencies}
+use Rattle.trace_model.specs.Theory.Dependencies.{Dependency, dependencies}
 use Rattle.findings.specs.declared.tables.Tables.{Tables}
+use Rattle.cycle_search.specs.Search.{CycleFrom}
 use Rattle.cycle_search.specs.Components.{AreComponents}
 use Rattle.fronts.specs.declared.requirements.Requirements.{Requirements}
 use Rattle.fronts.specs.Requirements.{AreRequirements}
@@ -22,6 +23,10 @@ pub record Analyzed : Type 0 where
 -- The trace has no cycle.
 abbrev pub HasNoCycle : Trace → Type 0
 HasNoCycle s = (bound : ℕ) (numbers : List ℕ) → IsCycle (dependencies s) bound numbers → ⊥
+
+-- No cycle begins with the dependency with this number.
+abbrev pub HasNoCycleFrom : List Dependency → ℕ → Type 0
+HasNoCycleFrom ds root = (bound : ℕ) (numbers : List ℕ) → CycleFrom ds bound root numbers → ⊥
 
 -- The requirements are those of the trace; if there are none, the trace has no cycle.
 abbrev pub AreRequirementsOf : Trace → Option Requirements → Type 0

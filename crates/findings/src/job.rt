@@ -1,6 +1,6 @@
 //! Computes tasks of one question one after another.
 
-ghost use Rattle.std.specs.Prelude.{◌≡◌, ℕ, ◌<◌, ◌≤◌, length, IfOk, IfSome, OnOk, Err};
+ghost use Rattle.std.specs.Prelude.{◌≡◌, ℕ, ◌<◌, ◌≤◌, length, IfOk, IfErr, IfSome, OnOk, Err};
 ghost use Rattle.std.specs.Arc.{arc_value};
 ghost use Rattle.std.specs.List.{All, Contains};
 ghost use Rattle.std.specs.Option.{ForSome};
@@ -9,10 +9,14 @@ ghost use Rattle.trace_model.specs.Theory.Dependencies.{dependencies};
 ghost use Rattle.cycle_search.specs.Search.{CycleFrom, MoreThan};
 ghost use Rattle.snapshots.specs.Found.{AreRowsOf};
 ghost use Rattle.findings.specs.Analyses.{IsCloserOf};
+ghost use Rattle.findings.specs.Collecting.{AcceptsRows, TookRows, RefusesRows};
 
 use crate::analysis::Analysis;
+use crate::collecting::{RowsRefused, collect_by};
 use crate::computing::ComputeRefused;
 use crate::rows::rows_of;
+use cycle_search::Collector;
+use reports::Row;
 use snapshots::Finding;
 use sp_closure::Closer;
 use std::alloc::Global;
@@ -112,6 +116,29 @@ impl Job {
             task,
         )
     }
+
+    /// Gives the rows of a task to the collector, in their order, and returns it. They are those of
+    /// [`Job::compute`], but no row is kept. The job can compute further tasks after any result.
+    ///
+    /// # Errors
+    /// - `Refused` if the collector refuses a row.
+    /// - `NoMemory` if an allocation fails.
+    ///
+    /// The caller passes a collector that accepts each row.
+    pub fn collect<C: Collector<Row> + Drop>(
+        &mut self,
+        task: u32,
+        rows: C,
+    ) -> Result<C, RowsRefused<C::Refused>>
+        requires accepts { AcceptsRows C.taking rows }
+        ensures same { self.new ≡ self.old }
+        ensures rows { IfOk result (TookRows C.taking self.old.events
+            (CycleFrom (dependencies self.old.events) self.old.bound task) rows) }
+        ensures refused { IfErr result (RefusesRows C.taking self.old.events
+            (CycleFrom (dependencies self.old.events) self.old.bound task) rows) }
+    {
+        collected_by(&self.analysis, &mut self.closer, self.alloc, task, rows)
+    }
 }
 
 /// Returns the finding of a task.
@@ -148,4 +175,36 @@ fn finding_of(
         task,
     )?;
     Ok(Finding::of(snapshot, question, analysis.bound, task, rows))
+}
+
+/// Gives the rows of a task to the collector. See [`Job::collect`].
+///
+/// # Errors
+/// Those of [`Job::collect`].
+fn collected_by<C: Collector<Row> + Drop>(
+    analysis: &Analysis,
+    closer: &mut Option<Closer>,
+    alloc: Global,
+    task: u32,
+    rows: C,
+) -> Result<C, RowsRefused<C::Refused>>
+    requires closer { ForSome closer.old
+        (IsCloserOf analysis.now.events analysis.now.requirements) }
+    requires accepts { AcceptsRows C.taking rows }
+    ensures closer { ForSome closer.new
+        (IsCloserOf analysis.now.events analysis.now.requirements) }
+    ensures rows { IfOk result (TookRows C.taking analysis.now.events
+        (CycleFrom (dependencies analysis.now.events) analysis.now.bound task) rows) }
+    ensures refused { IfErr result (RefusesRows C.taking analysis.now.events
+        (CycleFrom (dependencies analysis.now.events) analysis.now.bound task) rows) }
+{
+    collect_by(
+        alloc,
+        &analysis.snapshot,
+        &analysis.tables,
+        closer,
+        analysis.bound(),
+        task,
+        rows,
+    )
 }

@@ -1,17 +1,20 @@
 //! The tables that all tasks of a question read, computed once from its snapshot.
 
-ghost use Rattle.std.specs.Prelude.{◌≡◌, ◌<◌, ◌≤◌, length, IfOk};
+ghost use Rattle.std.specs.Prelude.{◌≡◌, ◌<◌, ◌≤◌, length, IfOk, MatchOption};
 ghost use Rattle.std.specs.Option.{ForSome};
 ghost use Rattle.trace_model.specs.declared.limits.TheConstants.{MAX_CYCLES};
 ghost use Rattle.trace_model.specs.Theory.Cycles.{AreCyclesFrom};
 ghost use Rattle.trace_model.specs.Theory.Dependencies.{dependencies};
+ghost use Rattle.cycle_search.specs.Collecting.{AcceptsAll, TakesAll};
 ghost use Rattle.cycle_search.specs.Search.{CycleFrom, MoreThan, IfTooMany};
 ghost use Rattle.cycle_search.specs.Components.{AreComponents};
 ghost use Rattle.fronts.specs.Requirements.{AreRequirements};
 ghost use Rattle.sp_closure.specs.Timestamps.{AreTimestamps};
-ghost use Rattle.findings.specs.Analyses.{AreRequirementsOf, AreTablesOf};
+ghost use Rattle.findings.specs.Analyses.{AreRequirementsOf, AreTablesOf, HasNoCycleFrom};
 
-use cycle_search::{Components, Cycle, SearchRefused, Searched, cycles_from};
+use cycle_search::{
+    Collector, Components, Cycle, SearchRefused, Searched, collect_cycles, cycles_from,
+};
 use snapshots::Snapshot;
 use sp_closure::{Requirements, Steps, Timestamps};
 use std::alloc::Global;
@@ -73,14 +76,54 @@ impl Tables {
         ensures too_many { IfTooMany result
             (MoreThan (CycleFrom (dependencies snapshot.now) bound task) MAX_CYCLES) }
     {
+        match self.searched(snapshot, task) {
+            Some(searched) => cycles_from(alloc, &searched, task, bound),
+            None => Ok(Vec::new(alloc)),
+        }
+    }
+
+    /// Gives the cycles of a task to the collector, in lexicographic order, until it refuses one.
+    /// Returns the refusal, if there is one.
+    ///
+    /// # Errors
+    /// `NoMemory` if an allocation of the search fails.
+    ///
+    /// The caller passes the snapshot from which the tables were computed, and a collector that
+    /// accepts the cycles.
+    pub(crate) fn collect<C: Collector<Cycle>>(
+        &self,
+        alloc: Global,
+        snapshot: &Snapshot,
+        bound: Bound,
+        task: u32,
+        collector: &mut C,
+    ) -> Result<Result<(), C::Refused>, NoMemory>
+        requires tables { AreTablesOf snapshot.now self.now }
+        requires accepts { AcceptsAll C.taking (CycleFrom (dependencies snapshot.now) bound task)
+            collector.old }
+        ensures { IfOk result (λ taken. TakesAll C.taking
+            (CycleFrom (dependencies snapshot.now) bound task) collector.old taken collector.new) }
+    {
+        match self.searched(snapshot, task) {
+            Some(searched) => collect_cycles(alloc, &searched, task, bound, collector),
+            None => Ok(Ok(())),
+        }
+    }
+
+    /// Returns what a search for the cycles of a task reads, or `None` if the task has none.
+    fn searched<'a>(&'a self, snapshot: &'a Snapshot, task: u32) -> Option<Searched<'a>>
+        requires { AreTablesOf snapshot.now self.now }
+        ensures { MatchOption result (HasNoCycleFrom (dependencies snapshot.now) task)
+            (λ searched. (searched ≡ dependencies snapshot.now)
+            × (task < length (dependencies snapshot.now))) }
+    {
         let Some(_requirements) = &self.requirements else {
-            return Ok(Vec::new(alloc));
+            return None;
         };
         if task as usize >= snapshot.table().len() {
-            return Ok(Vec::new(alloc));
+            return None;
         }
-        let searched = Searched::new(snapshot.table(), snapshot.graph(), &self.components);
-        cycles_from(alloc, &searched, task, bound)
+        Some(Searched::new(snapshot.table(), snapshot.graph(), &self.components))
     }
 }
 

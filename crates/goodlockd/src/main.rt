@@ -5,7 +5,10 @@
 ghost use Rattle.command_line.specs.CommandLine.{IsInRange, IsLimit, IsWithin};
 
 use command_line::{Invocation, parse, tell, words_of};
-use commands::{Status, arguments, final_status, offline_file, replay_files, script_file};
+use commands::{
+    Status, arguments, check_files, explain_named, final_status, offline_file, replay_files,
+    script_file,
+};
 use findings::NoHold;
 use question_server::{ServerFault, Service, run_server};
 use std::alloc::AllocError;
@@ -100,6 +103,10 @@ fn carry_out<T: Threads + Wait + Clock + Copy + Send + Sync>(
         Invocation::Script { file, limit } => script_file(rt, file, limit),
         Invocation::Offline { file, bound } => offline_file(rt, &threads, file, bound),
         Invocation::Replay { trace, witness } => replay_files(rt, trace, witness),
+        Invocation::Explain { file, bound, cycle } => {
+            explain_named(rt, &threads, file, bound, cycle)
+        }
+        Invocation::Check { trace, file } => check_files(rt, trace, file),
     }
 }
 

@@ -8,7 +8,7 @@ use Rattle.std.proofs.lemmas.Grind.{flat_map-append}
 use Rattle.offline_report.specs.Offline.{text_of, whole}
 use Rattle.offline_report.specs.declared.parts.Part.{Part}
 
-added : {X : Type 0} (text : X → List ℕ) (xs : List X) (x : X) → flat_map text (xs ++ x ∷ []) ≡ flat_map text xs ++ text x
+pub added : {X : Type 0} (text : X → List ℕ) (xs : List X) (x : X) → flat_map text (xs ++ x ∷ []) ≡ flat_map text xs ++ text x
 added text xs x = flat_map-append text xs (x ∷ []) ∙ ap (λ l. flat_map text xs ++ l) (flat_map-cons text x [] ∙ append-nil (text x))
 
 abbrev shown : Vec ℕ → List ℕ

@@ -8,7 +8,7 @@ use Rattle.reports.specs.Text.{about, counts, is_confirmed}
 use Rattle.reports.proofs.Counting.{count_by-flat_map, confirmed_within, report_by_tasks, rows_within}
 use Rattle.offline_report.specs.Offline.{IsPartOf, size_of, tasks_report, tasks_text, text_of}
 use Rattle.offline_report.specs.declared.parts.Part.{Part}
-use Rattle.offline_report.proofs.Sizes.{confirmed_are, cycles_are, sizes_are, sizes_over, texts_are}
+use Rattle.offline_report.proofs.Sizes.{confirmed_are, cycles_are, sizes_are, texts_are}
 
 module _ (events bound : ℕ) (tasks : List (List Printed)) (parts : List Part) (written : AllZip IsPartOf tasks parts) where
   -- The text before the rows.
@@ -30,22 +30,27 @@ module _ (events bound : ℕ) (tasks : List (List Printed)) (parts : List Part) 
 
   -- The texts of the rows are too long.
   pub over_rows : MAX_REPORT < sum_by size_of parts → MAX_REPORT < length (tasks_report events bound tasks)
-  over_rows over = omega (arith, length_is, sizes_over tasks parts written over)
+  over_rows over = omega (arith, length_is, sizes_are tasks parts written, over)
 
   -- There is no room for the text before them.
   pub over_head : (text : List ℕ) (rest : ℕ) → text ≡ head → rest + sum_by size_of parts ≡ MAX_REPORT → rest < length text → MAX_REPORT < length (tasks_report events bound tasks)
-  over_head text rest is left short = omega (arith, length_is, left, short, ap length is, sizes_are tasks parts written (omega (arith, left)))
+  over_head text rest is left short = omega (arith, length_is, left, short, ap length is, sizes_are tasks parts written)
 
-  pub is_told : (text : List ℕ) (rest : ℕ) → text ≡ head → rest + sum_by size_of parts ≡ MAX_REPORT → text ++ flat_map text_of parts ≡ tasks_report events bound tasks
-  is_told text rest is left =
-      let size = sizes_are tasks parts written (omega (arith, left)) in
-      (λ i. is i ++ texts_are tasks parts written (omega (arith, left, size)) i) ∙ sym report_is
+  pub is_told : (text : List ℕ) → text ≡ head → text ++ flat_map text_of parts ≡ tasks_report events bound tasks
+  is_told text is = (λ i. is i ++ texts_are tasks parts written i) ∙ sym report_is
+
+  pub is_short : (text : List ℕ) (rest : ℕ) → text ≡ head → rest + sum_by size_of parts ≡ MAX_REPORT → length text ≤ rest → length (tasks_report events bound tasks) ≤ MAX_REPORT
+  is_short text rest is left room = omega (arith, length_is, left, room, ap length is, sizes_are tasks parts written)
+
+  -- If the report is not too long, the texts of the rows are not.
+  pub fitting : length (tasks_report events bound tasks) ≤ MAX_REPORT → sum_by size_of parts ≤ MAX_REPORT
+  fitting short = omega (arith, length_is, sizes_are tasks parts written, short)
 
   -- There are at most as many rows as bytes.
   pub cycles_within : (rest : ℕ) → rest + sum_by size_of parts ≡ MAX_REPORT → sum_by (λ part. part.cycles) parts ≤ MAX_REPORT
   cycles_within rest left =
-      omega (arith, left, sizes_are tasks parts written (omega (arith, left)), cycles_are tasks parts written, rows_within (λ rows. rows) tasks)
+      omega (arith, left, sizes_are tasks parts written, cycles_are tasks parts written, rows_within (λ rows. rows) tasks)
 
   pub confirmed_few : (rest : ℕ) → rest + sum_by size_of parts ≡ MAX_REPORT → sum_by (λ part. part.confirmed) parts ≤ MAX_REPORT
   confirmed_few rest left =
-      omega (arith, left, sizes_are tasks parts written (omega (arith, left)), confirmed_are tasks parts written, confirmed_within is_confirmed (λ rows. rows) tasks)
+      omega (arith, left, sizes_are tasks parts written, confirmed_are tasks parts written, confirmed_within is_confirmed (λ rows. rows) tasks)

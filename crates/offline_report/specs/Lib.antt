@@ -1,1 +1,2 @@
 pub mod Offline
+pub mod RowTexts

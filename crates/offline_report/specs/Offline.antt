@@ -1,18 +1,18 @@
 -- The report on a whole list of events.
-use Rattle.std.specs.Prelude.{◌≡◌, ℕ, suc, ◌<◌, List, [], length, map, slice_get, count_by, Option, Some, MatchOption, Result, Ok, Err, Contains, MatchResult}
+use Rattle.std.specs.Prelude.{◌≡◌, ℕ, ◌<◌, ◌≤◌, ◌-◌, ◌^◌, List, length, map, slice_get, sum_by, count_by, true, Option, Some, MatchOption, Result, Ok, Err, Contains, IfOk, MatchResult}
 use Rattle.std.specs.Global.{Vec}
-use Rattle.std.specs.List.{AllZip, flat_map, range_with_len}
-use Rattle.std.specs.Option.{option_map_or}
+use Rattle.std.specs.List.{All, AllZip, flat_map, range_with_len}
 use Rattle.trace_model.specs.declared.limits.TheConstants.{MAX_REPORT, MAX_CYCLES}
 use Rattle.trace_model.specs.Theory.Trace.{Trace}
 use Rattle.trace_model.specs.Theory.Lawful.{IsWellFormed}
 use Rattle.trace_model.specs.Theory.Dependencies.{dependencies}
-use Rattle.trace_model.specs.Theory.Rows.{Row, AreRows}
+use Rattle.trace_model.specs.Theory.Rows.{Row, AreRows, IsRow}
+use Rattle.trace_model.specs.Theory.Cycles.{IsCycle}
 use Rattle.wellformed.specs.FirstUnlawful.{IsFirstUnlawful}
 use Rattle.reports.specs.Printed.{Printed, with_dependencies}
 use Rattle.reports.specs.Text.{report, row_text, is_confirmed}
-use Rattle.cycle_search.specs.Search.{CycleFrom, MoreThan}
-use Rattle.snapshots.specs.Found.{AreRowsOf}
+use Rattle.cycle_search.specs.Search.{AreSome, CycleFrom, MoreThan}
+use Rattle.findings.specs.Collecting.{AreAllRows, AreSomeRows}
 use Rattle.offline_report.specs.declared.parts.Part.{Part}
 use Rattle.offline_report.specs.declared.refused.OfflineRefused.{OfflineRefused}
 use Rattle.offline_report.specs.declared.refused.OfflineRefused.TheVariants.{Unlawful, TooLong, TooManyCycles, NoMemory}
@@ -34,12 +34,24 @@ abbrev pub IsReport : Trace → ℕ → List ℕ → Type 0
 IsReport s bound text = IsWellFormed s
     × ((tasks : List (List Row)) × AreTasks s bound tasks × (text ≡ report_of s bound tasks))
 
+-- Rows of different cycles up to the bound, each exact, in lexicographic order.
+pub record AreExactRows (s : Trace) (bound : ℕ) (rows : List Row) : Type 0 where
+  pub cycles : AreSome (IsCycle (dependencies s) bound) (map (λ row. row.cycle) rows)
+  pub exact : All (IsRow s) rows
+
+-- The report is too long: one with some of its rows is, and so is each one with all of them.
+pub record IsTooLong (s : Trace) (bound : ℕ) : Type 0 where
+  pub rows : List Row
+  pub exact : AreExactRows s bound rows
+  pub over : MAX_REPORT < length (report 0 (length s) bound
+      (map (with_dependencies (dependencies s)) rows))
+  pub every : (tasks : List (List Row)) → AreTasks s bound tasks →
+      MAX_REPORT < length (report_of s bound tasks)
+
 -- The reason for which there is no report applies.
 abbrev pub IsRefused : Trace → ℕ → OfflineRefused → Type 0
 IsRefused s bound (Unlawful first) = IsFirstUnlawful s first
-IsRefused s bound TooLong = IsWellFormed s
-    × ((tasks : List (List Row)) × AreTasks s bound tasks
-    × (MAX_REPORT < length (report_of s bound tasks)))
+IsRefused s bound TooLong = IsWellFormed s × IsTooLong s bound
 IsRefused s bound TooManyCycles = IsWellFormed s
     × ((task : ℕ) × MoreThan (CycleFrom (dependencies s) bound task) MAX_CYCLES)
 IsRefused s bound NoMemory = Unit {0}
@@ -54,33 +66,52 @@ IsNotAdmitted s TooManyCycles = ⊥
 IsNotAdmitted s NoMemory = Unit {0}
 
 -- The reason for which a task is not computed applies.
-abbrev pub IsNotComputed : Trace → ℕ → OfflineRefused → Type 0
-IsNotComputed s bound (Unlawful first) = ⊥
-IsNotComputed s bound TooLong = ⊥
-IsNotComputed s bound TooManyCycles = (task : ℕ)
-    × MoreThan (CycleFrom (dependencies s) bound task) MAX_CYCLES
-IsNotComputed s bound NoMemory = Unit {0}
+abbrev pub IsNotComputed : OfflineRefused → Type 0
+IsNotComputed (Unlawful first) = ⊥
+IsNotComputed TooLong = ⊥
+IsNotComputed TooManyCycles = ⊥
+IsNotComputed NoMemory = Unit {0}
 
--- The part of these rows in a report: their text, or `None` if that alone is too long, and their
--- numbers.
-pub record IsPartOf (rows : List Printed) (part : Part) : Type 0 where
-  pub text : MatchOption part.text (MAX_REPORT < length (flat_map row_text rows))
-      (λ text. text.items ≡ flat_map row_text rows)
-  pub cycles : part.cycles ≡ length rows
-  pub confirmed : part.confirmed ≡ count_by is_confirmed rows
+-- The text of these rows, and the numbers of rows and of confirmed rows.
+pub record HasRows (rows : List Printed) (written : List ℕ) (count certain : ℕ) : Type 0 where
+  pub text : written ≡ flat_map row_text rows
+  pub cycles : count ≡ length rows
+  pub confirmed : certain ≡ count_by is_confirmed rows
+
+-- The text of a part, and its length.
+abbrev pub text_of : Part → List ℕ
+text_of part = part.text.items
+
+abbrev pub size_of : Part → ℕ
+size_of part = length (text_of part)
+
+-- The part of these rows.
+abbrev pub IsPartOf : List Printed → Part → Type 0
+IsPartOf rows part = HasRows rows part.text.items part.cycles part.confirmed
+
+-- The rows are some of the task, and all of them if the part is whole.
+pub record AreInPart (s : Trace) (bound task : ℕ) (rows : List Printed) (part : Part) :
+    Type 0 where
+  pub some : AreSomeRows s (CycleFrom (dependencies s) bound task) rows
+  pub whole : part.is_whole ≡ true → AreAllRows s (CycleFrom (dependencies s) bound task) rows
 
 -- The part of a task, or a reason that applies.
 abbrev pub IsTask : Trace → ℕ → ℕ → Result Part OfflineRefused → Type 0
 IsTask s bound task result =
-    MatchResult result (λ part. (rows : List Printed) × AreRowsOf s bound task rows
-    × IsPartOf rows part) (IsNotComputed s bound)
+    MatchResult result (λ part. (rows : List Printed) × AreInPart s bound task rows part
+    × IsPartOf rows part) IsNotComputed
 
--- The rows of the first `n` tasks, with their parts.
+-- The part of a task whose text is written within a limit. Without a limit it is whole.
+abbrev pub IsTaskWithin : Trace → ℕ → ℕ → ℕ → Result Part OfflineRefused → Type 0
+IsTaskWithin s bound limit task result = IsTask s bound task result
+    × (limit ≡ 2 ^ 64 - 1 → IfOk result (λ part. part.is_whole ≡ true))
+
+-- The rows of the parts of the first `n` tasks.
 pub record AreComputed (s : Trace) (bound n : ℕ) (tasks : List (List Printed))
     (parts : List Part) : Type 0 where
   pub total : length tasks ≡ n
   pub each : (task : ℕ) (rows : List Printed) → slice_get tasks task ≡ Some rows →
-      AreRowsOf s bound task rows
+      (part : Part) × (slice_get parts task ≡ Some part) × AreInPart s bound task rows part
   pub written : AllZip IsPartOf tasks parts
 
 -- The results of the first `n` tasks in their order, or the error of one of them.
@@ -91,11 +122,26 @@ AreGathered {Given} may_give n result =
     × MatchResult result (λ all. (ys : List Given) × (given ≡ map Ok ys) × (all.items ≡ ys))
     (λ refused. Contains given (Err refused))
 
--- The parts of all tasks, or a reason that applies.
+-- The parts of all tasks.
+abbrev pub ArePartsOf : Trace → ℕ → List Part → Type 0
+ArePartsOf s bound parts =
+    (tasks : List (List Printed)) × AreComputed s bound (length (dependencies s)) tasks parts
+
+-- Each part has all rows of its task.
+abbrev pub AreWhole : List Part → Type 0
+AreWhole parts = All (λ part. part.is_whole ≡ true) parts
+
+-- The parts of all tasks whose texts are written within a limit, or a reason that applies. Without a
+-- limit each part is whole.
+abbrev pub ArePartsWithin : Trace → ℕ → ℕ → Result (Vec Part) OfflineRefused → Type 0
+ArePartsWithin s bound limit result = MatchResult result (λ parts. ArePartsOf s bound parts.items
+    × (limit ≡ 2 ^ 64 - 1 → AreWhole parts.items)) IsNotComputed
+
+-- The parts of all tasks, each with all rows unless they are too long together; or a reason that
+-- applies.
 abbrev pub AreAllParts : Trace → ℕ → Result (Vec Part) OfflineRefused → Type 0
-AreAllParts s bound result =
-    MatchResult result (λ parts. (tasks : List (List Printed))
-    × AreComputed s bound (length (dependencies s)) tasks parts.items) (IsNotComputed s bound)
+AreAllParts s bound result = MatchResult result (λ parts. ArePartsOf s bound parts.items
+    × (sum_by size_of parts.items ≤ MAX_REPORT → AreWhole parts.items)) IsNotComputed
 
 -- The text of all rows of the tasks.
 abbrev pub tasks_text : List (List Printed) → List ℕ
@@ -105,14 +151,6 @@ tasks_text tasks = flat_map (λ rows. flat_map row_text rows) tasks
 unfoldable pub tasks_report : ℕ → ℕ → List (List Printed) → List ℕ
 tasks_report events bound tasks = report 0 events bound (flat_map (λ rows. rows) tasks)
 
--- The length of the part's text, or more than that of any report if there is none.
-abbrev pub size_of : Part → ℕ
-size_of part = option_map_or (λ text. length text.items) part.text (suc MAX_REPORT)
-
--- The text of a part.
-abbrev pub text_of : Part → List ℕ
-text_of part = option_map_or (λ text. text.items) part.text []
-
 -- The concatenation of the pieces.
 abbrev pub whole : List (Vec ℕ) → List ℕ
 whole pieces = flat_map (λ piece. piece.items) pieces
@@ -120,4 +158,4 @@ whole pieces = flat_map (λ piece. piece.items) pieces
 -- The pieces of this text, or `None` if it is too long.
 abbrev pub ArePiecesOf : List ℕ → Option (Vec (Vec ℕ)) → Type 0
 ArePiecesOf text written = MatchOption written (MAX_REPORT < length text)
-    (λ pieces. whole pieces.items ≡ text)
+    (λ pieces. (whole pieces.items ≡ text) × (length text ≤ MAX_REPORT))

@@ -10,6 +10,7 @@ mod opening;
 mod parts;
 mod refused;
 mod reporting;
+mod row_texts;
 mod tasks;
 
 pub use opening::Offline;

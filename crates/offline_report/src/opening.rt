@@ -58,7 +58,7 @@ impl Offline {
         ensures refused { IfErr result (IsNotAdmitted events.items) }
     {
         admit(alloc, state, &events)?;
-        let Ok(analysis) = analyze(rt, alloc, state, &events, bound) else {
+        let Ok(analysis) = analyze(rt, alloc, state, events, bound) else {
             return Err(OfflineRefused::NoMemory);
         };
         Ok(Offline { alloc, analysis })
@@ -136,7 +136,8 @@ fn admit(alloc: Global, state: RandomState, events: &[Event]) -> Result<(), Offl
     }
 }
 
-/// Returns the shared analysis of the events.
+/// Returns the shared analysis of the events. The list of the events is freed before its tables are
+/// computed.
 ///
 /// # Errors
 /// `NoMemory` if an allocation fails.
@@ -144,14 +145,15 @@ fn analyze<R: Threads>(
     rt: &R,
     alloc: Global,
     state: RandomState,
-    events: &[Event],
+    events: Vec<Event>,
     bound: Bound,
 ) -> Result<Arc<Analysis, Global>, NoMemory>
-    requires { IsWellFormed events.now }
+    requires { IsWellFormed events.items }
     ensures { IfOk result (λ shared.
-        ((arc_value shared).events ≡ events.now) × ((arc_value shared).bound ≡ bound)) }
+        ((arc_value shared).events ≡ events.items) × ((arc_value shared).bound ≡ bound)) }
 {
-    let snapshot = Snapshot::build(rt, alloc, state, events)?;
+    let snapshot = Snapshot::build(rt, alloc, state, &events)?;
+    drop(events);
     let snapshot = Arc::new(alloc, snapshot)?;
     Analysis::new(alloc, snapshot, bound)
 }

@@ -1,53 +1,36 @@
 //! The part of each task in the report.
-ghost use Rattle.std.specs.Prelude.{◌≡◌, ◌+◌, ◌<◌, ◌≤◌, ◌^◌, ◌++◌, List, sum_by, IfErr, IfOk, MatchOption};
-ghost use Rattle.std.specs.List.{AllZip, flat_map};
+ghost use Rattle.std.specs.Prelude.{◌≡◌, ◌+◌, ◌<◌, ◌≤◌, ◌^◌, ◌++◌, List, [], true, false, sum_by, IfOk, IsTrue, MatchOption};
+ghost use Rattle.std.specs.List.{All, AllZip, flat_map};
 ghost use Rattle.trace_model.specs.declared.limits.TheConstants.{MAX_REPORT};
 ghost use Rattle.reports.specs.Printed.{Printed};
 ghost use Rattle.offline_report.specs.Offline.{ArePiecesOf, IsPartOf, size_of, tasks_report, text_of, whole};
 
-use crate::refused::OfflineRefused;
-use reports::{Row, TextBuffer, TextRefused, confirmed_in, head_text, rows_text};
+use reports::head_text;
 use std::alloc::Global;
 use trace_model::{Bound, MAX_REPORT, NoMemory};
 
-/// The part of a task in the report: the text of its rows, or `None` if that alone is too long for
-/// a report; and the numbers of rows and of confirmed rows.
+/// Rows of a task in the report: their text, and the numbers of rows and of confirmed rows.
 #[derive(Drop)]
 pub(crate) struct Part {
-    pub(crate) text: Option<Vec<u8>>,
+    pub(crate) text: Vec<u8>,
     pub(crate) cycles: u64,
     pub(crate) confirmed: u64,
+    /// Whether these are all rows of the task.
+    pub(crate) is_whole: bool,
 }
 
-/// Returns the part of these rows.
-///
-/// # Errors
-/// `NoMemory` if an allocation fails.
-pub(crate) fn part_of(buffer: &mut TextBuffer, rows: &[Row]) -> Result<Part, OfflineRefused>
-    ensures part { IfOk result (IsPartOf rows.now) }
-    ensures refused { IfErr result (λ refused. refused ≡ OfflineRefused.NoMemory) }
-{
-    let text = match rows_text(buffer, rows) {
-        Ok(text) => Some(text),
-        Err(TextRefused::TooLong) => None,
-        Err(TextRefused::NoMemory) => return Err(OfflineRefused::NoMemory),
-    };
-    Ok(Part {
-        text,
-        cycles: rows.len() as u64,
-        confirmed: confirmed_in(rows) as u64,
-    })
-}
-
-/// Subtracts the length of the part's text from `left`. Returns `None` if the text is longer.
-fn after_part(left: u64, part: &Part) -> Option<u64>
-    requires { left ≤ MAX_REPORT }
-    ensures { MatchOption result (left < size_of part.now)
-        (λ rest. rest + size_of part.now ≡ left) }
-{
-    match &part.text {
-        Some(text) => left.checked_sub(text.len() as u64),
-        None => None,
+impl Part {
+    /// Returns the part of no rows of a task that is not computed. Does not allocate.
+    pub(crate) fn none(alloc: Global) -> Part
+        ensures part { IsPartOf [] result }
+        ensures whole { result.is_whole ≡ false }
+    {
+        Part {
+            text: Vec::new(alloc),
+            cycles: 0,
+            confirmed: 0,
+            is_whole: false,
+        }
     }
 }
 
@@ -58,9 +41,23 @@ fn after_parts(parts: &[Part]) -> Option<u64>
 {
     let mut left = MAX_REPORT as u64;
     for part in parts {
-        left = after_part(left, part)?;
+        left = left.checked_sub(part.text.len() as u64)?;
     }
     Some(left)
+}
+
+/// Returns whether each part has all rows of its task.
+pub(crate) fn are_whole(parts: &[Part]) -> bool
+    ensures { IsTrue result → All (λ part. part.is_whole ≡ true) parts.now }
+{
+    parts.iter().all(|part| part.is_whole)
+}
+
+/// Returns whether the texts of the parts have more than `MAX_REPORT` bytes.
+pub(crate) fn are_too_long(parts: &[Part]) -> bool
+    ensures { IsTrue result → MAX_REPORT < sum_by size_of parts.now }
+{
+    after_parts(parts).is_none()
 }
 
 /// Returns the number of rows of the parts.
@@ -90,9 +87,7 @@ fn in_pieces(alloc: Global, head: Vec<u8>, parts: Vec<Part>) -> Result<Vec<Vec<u
     let mut pieces = Vec::with_capacity(alloc, parts.len() + 1)?;
     pieces.push_reserved(head);
     for part in parts {
-        if let Some(text) = part.text {
-            pieces.push_reserved(text);
-        }
+        pieces.push_reserved(part.text);
     }
     Ok(pieces)
 }

@@ -1,48 +1,57 @@
 //! Computes the parts of all tasks.
-ghost use Rattle.std.specs.Prelude.{◌≡◌, ℕ, [], length, IfOk, IfSome, MatchResult};
+ghost use Rattle.std.specs.Prelude.{◌≡◌, ℕ, ◌-◌, ◌^◌, [], length, true, IfOk, IfSome};
 ghost use Rattle.std.specs.Arc.{arc_value};
 ghost use Rattle.std.proofs.Props.{props};
 ghost use Rattle.trace_model.specs.Theory.Dependencies.{dependencies};
 ghost use Rattle.trace_model.specs.Theory.Trace.{Trace};
-ghost use Rattle.snapshots.specs.Found.{AreRowsOf};
-ghost use Rattle.offline_report.specs.Offline.{AreAllParts, IsNotComputed, IsTask};
+ghost use Rattle.offline_report.specs.Offline.{AreAllParts, ArePartsWithin, IsTask, IsTaskWithin};
 
 use crate::gathering::{Computes, gather};
-use crate::parts::{Part, part_of};
+use crate::parts::{Part, are_too_long, are_whole};
 use crate::refused::OfflineRefused;
-use findings::{Analysis, ComputeRefused, Hold, Job};
-use reports::{Row, TextBuffer};
+use crate::row_texts::{Ended, RowTexts};
+use findings::{Analysis, Hold, Job, RowsRefused};
+use reports::TextBuffer;
 use std::alloc::{AllocError, Global};
 use std::marker::{Brand, PhantomData};
+use std::mem;
 use std::sync::Arc;
-use std::sync::atomic::{AtomicBool, Ordering};
+use std::sync::atomic::{AtomicBool, AtomicU64, Ordering};
 use std::thread::Threads;
+use trace_model::MAX_REPORT;
 
 /// The number of the question that is asked about a file.
 const QUESTION: u32 = 0;
 
-/// The events and the bound of a question, as ghost members. Only proofs read them.
+/// The events and the bound of a question, and the limit of its texts, as ghost members. Only proofs
+/// read them.
 pub trait About {
     ghost events: { Trace };
 
     ghost bound: { ℕ };
+
+    ghost limit: { ℕ };
 }
 
 impl About for Brand {
     ghost events = { [] };
 
     ghost bound = { 0 };
+
+    ghost limit = { 0 };
 }
 
-/// What the tasks of one piece share: their job, if there is one, and a buffer for their texts. The
-/// type says that the job is for the named question.
+/// What the tasks of one piece share: their job, if there is one, and an empty buffer for their
+/// texts. The type says that the job is for the named question.
 #[derive(Drop)]
 struct Piece<A: About> {
+    alloc: Global,
     job: Option<Job>,
     buffer: TextBuffer,
     name: PhantomData<A>,
     ghost about: { IfSome job (λ job. (job.events ≡ A.events)
         × (job.bound ≡ A.bound)) } by { Prim.hlevel props },
+    ghost empty: { buffer ≡ [] },
 }
 
 impl<A: About> Piece<A> {
@@ -57,51 +66,48 @@ impl<A: About> Piece<A> {
             Err(_) => None,
         };
         Piece {
+            alloc,
             job,
             buffer: TextBuffer::new(alloc),
             name: PhantomData,
         }
     }
 
-    /// Returns the rows of a task.
+    /// Returns the part of a task. It has all rows, unless the tasks have written more bytes than
+    /// `limit` by then. Calls the hold when all rows are computed.
     ///
     /// # Errors
-    /// - `TooManyCycles` if the task has too many cycles.
-    /// - `NoMemory` if an allocation fails, or the piece has no job.
-    fn rows(&mut self, task: u32) -> Result<Vec<Row>, OfflineRefused>
-        ensures { MatchResult result (λ rows. AreRowsOf A.events A.bound task rows.items)
-            (IsNotComputed A.events A.bound) }
+    /// `NoMemory` if an allocation fails, or the piece has no job.
+    fn part<H: Hold>(
+        &mut self,
+        hold: &H,
+        task: u32,
+        written: &AtomicU64,
+        limit: u64,
+    ) -> Result<Part, OfflineRefused>
+        ensures task { IsTask A.events A.bound task result }
+        ensures whole { limit ≡ 2 ^ 64 - 1 → IfOk result (λ part. part.is_whole ≡ true) }
     {
         let Some(job) = &mut self.job else {
             return Err(OfflineRefused::NoMemory);
         };
-        match job.compute(task) {
-            Ok(finding) => Ok(finding.into_rows()),
-            Err(ComputeRefused::TooManyCycles) => Err(OfflineRefused::TooManyCycles),
-            Err(ComputeRefused::NoMemory) => Err(OfflineRefused::NoMemory),
+        let buffer = mem::replace(&mut self.buffer, TextBuffer::new(self.alloc));
+        match job.collect(task, RowTexts::new(buffer, written, limit)) {
+            Ok(mut texts) => {
+                hold.hold(QUESTION, task);
+                let Ok(part) = texts.part(true) else {
+                    return Err(OfflineRefused::NoMemory);
+                };
+                self.buffer = texts.buffer;
+                Ok(part)
+            }
+            Err(RowsRefused::Refused(Ended::Over(part))) => Ok(part),
+            Err(_) => Err(OfflineRefused::NoMemory),
         }
     }
 }
 
-/// Returns the part of a task. Calls the hold when its rows are computed.
-///
-/// # Errors
-/// Those of [`Piece::rows`].
-fn part_by<A: About, H: Hold>(
-    piece: &mut Piece<A>,
-    hold: &H,
-    task: u32,
-) -> Result<Part, OfflineRefused>
-    ensures { IsTask A.events A.bound task result }
-{
-    let rows = piece.rows(task)?;
-    hold.hold(QUESTION, task);
-    let part = part_of(&mut piece.buffer, &rows);
-    drop(rows);
-    part
-}
-
-/// The named question, with its analysis.
+/// The named question, with its analysis, and what the threads tell each other.
 #[derive(Drop)]
 struct Question<'a, A: About, H: Hold> {
     alloc: Global,
@@ -109,9 +115,14 @@ struct Question<'a, A: About, H: Hold> {
     hold: &'a H,
     /// Whether an allocation failed. Then no further task is computed.
     lacks_memory: AtomicBool,
+    /// The number of bytes that the tasks have written.
+    written: AtomicU64,
+    /// The number of bytes after which no task goes on.
+    limit: u64,
     name: PhantomData<A>,
     ghost events: { (arc_value analysis.now).events ≡ A.events },
     ghost bounded: { (arc_value analysis.now).bound ≡ A.bound },
+    ghost limited: { limit ≡ A.limit },
 }
 
 impl<'a, A: About, H: Hold> Question<'a, A, H> {
@@ -128,7 +139,7 @@ impl<'a, A: About + Send + Sync, H: Hold + Sync> Computes for Question<'a, A, H>
 
     type Given = Part;
 
-    ghost may_give = { IsTask A.events A.bound };
+    ghost may_give = { IsTaskWithin A.events A.bound A.limit };
 
     fn piece(&self) -> Piece<A> {
         Piece::new(self.alloc, self.analysis)
@@ -138,7 +149,10 @@ impl<'a, A: About + Send + Sync, H: Hold + Sync> Computes for Question<'a, A, H>
         if self.lacks_memory.load(Ordering::SeqCst) {
             return Err(OfflineRefused::NoMemory);
         }
-        let part = part_by(piece, self.hold, task);
+        if self.written.load(Ordering::SeqCst) > self.limit {
+            return Ok(Part::none(self.alloc));
+        }
+        let part = piece.part(self.hold, task, &self.written, self.limit);
         self.note(&part);
         part
     }
@@ -154,28 +168,58 @@ fn compute_all<A: About + Send + Sync, R: Threads + Sync, H: Hold + Sync>(
     analysis: &Arc<Analysis, Global>,
     tasks: u32,
     hold: &H,
+    limit: u64,
 ) -> Result<Result<Vec<Part>, OfflineRefused>, AllocError>
     requires events { (arc_value analysis.now).events ≡ A.events }
     requires bound { (arc_value analysis.now).bound ≡ A.bound }
+    requires limit { limit ≡ A.limit }
     requires tasks { tasks ≡ length (dependencies A.events) }
-    ensures { IfOk result (AreAllParts A.events A.bound) }
+    ensures { IfOk result (ArePartsWithin A.events A.bound A.limit) }
 {
     let question: Question<'_, A, H> = Question {
         alloc,
         analysis,
         hold,
         lacks_memory: AtomicBool::new(false),
+        written: AtomicU64::new(0),
+        limit,
         name: PhantomData,
     };
     gather(rt, alloc, tasks, &question)
 }
 
-/// Returns the parts of all tasks of the analysis, in the order of the tasks. Each task calls the
-/// hold when its rows are computed.
+/// Returns the parts of all tasks of the analysis, in the order of the tasks. No task goes on when
+/// the tasks have written more than `limit` bytes. Each task calls the hold when all its rows are
+/// computed.
 ///
 /// # Errors
-/// - `TooManyCycles` if a task has too many cycles.
-/// - `NoMemory` if an allocation fails. Tasks that were not begun by then are not computed.
+/// `NoMemory` if an allocation fails. Tasks that were not begun by then are not computed.
+///
+/// The caller passes the number of all tasks.
+fn parts_within<R: Threads + Sync, H: Hold + Sync>(
+    rt: &R,
+    alloc: Global,
+    analysis: &Arc<Analysis, Global>,
+    tasks: u32,
+    hold: &H,
+    limit: u64,
+) -> Result<Vec<Part>, OfflineRefused>
+    requires { tasks ≡ length (dependencies (arc_value analysis.now).events) }
+    ensures { ArePartsWithin (arc_value analysis.now).events (arc_value analysis.now).bound limit
+        result }
+{
+    match compute_all::<Brand, R, H>(rt, alloc, analysis, tasks, hold, limit) {
+        Ok(computed) => computed,
+        Err(_) => Err(OfflineRefused::NoMemory),
+    }
+}
+
+/// Returns the parts of all tasks of the analysis, in the order of the tasks. Each has all rows of
+/// its task, unless the texts of the parts are too long together for a report: then the tasks end as
+/// soon as this is so. Each task calls the hold when all its rows are computed.
+///
+/// # Errors
+/// `NoMemory` if an allocation fails. Tasks that were not begun by then are not computed.
 ///
 /// The caller passes the number of all tasks.
 pub(crate) fn parts_of<R: Threads + Sync, H: Hold + Sync>(
@@ -188,8 +232,10 @@ pub(crate) fn parts_of<R: Threads + Sync, H: Hold + Sync>(
     requires { tasks ≡ length (dependencies (arc_value analysis.now).events) }
     ensures { AreAllParts (arc_value analysis.now).events (arc_value analysis.now).bound result }
 {
-    match compute_all::<Brand, R, H>(rt, alloc, analysis, tasks, hold) {
-        Ok(computed) => computed,
-        Err(_) => Err(OfflineRefused::NoMemory),
+    let parts = parts_within(rt, alloc, analysis, tasks, hold, MAX_REPORT as u64)?;
+    // The count of the bytes decides when the tasks end. The texts decide what is right.
+    if are_whole(&parts) || are_too_long(&parts) {
+        return Ok(parts);
     }
+    parts_within(rt, alloc, analysis, tasks, hold, u64::MAX)
 }

@@ -108,26 +108,6 @@ pub fn report_text(
     Ok(buffer.finish())
 }
 
-/// Returns the part of a report's text for these rows. The text of a report is its head, followed
-/// by this text of all its rows. The same buffer may be used for any rows.
-///
-/// # Errors
-/// - `TooLong` exactly if this part alone has more than `MAX_REPORT` bytes. This is known before
-///   any of it is written.
-/// - `NoMemory` if an allocation fails.
-pub fn rows_text(buffer: &mut TextBuffer, rows: &[Row]) -> Result<Vec<u8>, TextRefused>
-    ensures text { IfOk result (λ text. text.items ≡ flat_map row_text rows.now) }
-    ensures too_long { IsErrOf result TextRefused.TooLong ↔
-        (MAX_REPORT < length (flat_map row_text rows.now)) }
-{
-    let mut counter = Counter::new();
-    write_rows(&mut counter, rows)?;
-    let room = MAX_REPORT as u64 - counter.left;
-    buffer.begin(room as usize)?;
-    write_rows(buffer, rows)?;
-    Ok(buffer.finish())
-}
-
 /// Returns the first line of a report: the number, length and bound of its question, and the
 /// numbers of rows and of confirmed rows.
 ///

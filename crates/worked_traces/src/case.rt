@@ -33,6 +33,7 @@ impl Case<'_> {
     fn command(&self, alloc: Global) -> Result<Vec<String>, AllocError> {
         let endings: &[&str] = match self.folder {
             "replay" => &["trace", "witness"],
+            "check" => &["trace", "cycles"],
             _ => &["in"],
         };
         let mut words = Vec::new(alloc);

@@ -2,14 +2,17 @@
 ghost use Rattle.command_line.specs.CommandLine.{IsInRange};
 ghost use Rattle.sequencer.specs.Book.{IsLimit};
 
-use anyhow::{Result, bail};
+use anyhow::{Context, Result, bail};
 use command_line::Invocation;
-use commands::{Files, Names, NoProgress, Status, run_offline, run_replay, run_script};
+use commands::{
+    Files, NamedFile, Names, NoProgress, Status, cycle_of, run_check, run_explain, run_offline,
+    run_replay, run_script,
+};
 use std::alloc::Global;
 use std::hash::RandomState;
 use std::thread::Threads;
 use std::{fs, io};
-use trace_model::Bound;
+use trace_model::{Bound, Cycle};
 
 /// The status of a command, and the bytes that it wrote to its output and its error output.
 #[derive(Drop)]
@@ -78,6 +81,42 @@ impl Outcome {
     }
 }
 
+/// Returns what `explain` prints for the trace in the bytes: all its cycles, or one of them.
+///
+/// # Errors
+/// Fails if an allocation fails.
+pub(crate) fn explained<T: Threads>(
+    rt: &HostRuntime,
+    threads: &T,
+    file: &str,
+    bytes: &[u8],
+    bound: Bound,
+    cycle: &Option<Cycle>,
+) -> io::Result<Outcome> {
+    let alloc = rt.alloc();
+    let state = RandomState::new(rt)?;
+    let mut outcome = Outcome::new(alloc);
+    let (out, err) = (&mut outcome.out, &mut outcome.err);
+    outcome.status = run_explain(threads, alloc, state, file, bytes, bound, cycle, out, err);
+    Ok(outcome)
+}
+
+/// Returns what `check` prints for the two files.
+///
+/// # Errors
+/// Fails if an allocation fails.
+pub(crate) fn checked(
+    rt: &HostRuntime,
+    trace: NamedFile<'_>,
+    file: NamedFile<'_>,
+) -> io::Result<Outcome> {
+    let state = RandomState::new(rt)?;
+    let mut outcome = Outcome::new(rt.alloc());
+    let (out, err) = (&mut outcome.out, &mut outcome.err);
+    outcome.status = run_check(rt.alloc(), state, trace, file, out, err);
+    Ok(outcome)
+}
+
 /// Runs a command line. A report is computed on threads of `threads`.
 ///
 /// # Errors
@@ -99,6 +138,30 @@ pub(crate) fn run<T: Threads + Sync>(
             outcome.offline(rt, threads, file, bound)?;
         }
         Invocation::Replay { trace, witness } => outcome.replay(rt, Names { trace, witness })?,
+        Invocation::Explain { file, bound, cycle } => {
+            let Some(bound) = Bound::new(*bound as u8) else {
+                unreachable!()
+            };
+            let cycle = match cycle {
+                Some(words) => Some(cycle_of(words.as_bytes()).context("a cycle")?),
+                None => None,
+            };
+            let bytes = fs::read(rt, *file)?;
+            return Ok(explained(rt, threads, file, &bytes, bound, &cycle)?);
+        }
+        Invocation::Check { trace, file } => {
+            let events = fs::read(rt, *trace)?;
+            let cycles = fs::read(rt, *file)?;
+            let trace = NamedFile {
+                name: trace,
+                bytes: &events,
+            };
+            let file = NamedFile {
+                name: file,
+                bytes: &cycles,
+            };
+            return Ok(checked(rt, trace, file)?);
+        }
         Invocation::Serve { .. } => bail!("no case is a server"),
     }
     Ok(outcome)

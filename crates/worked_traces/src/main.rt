@@ -1,13 +1,14 @@
 //! Runs the worked traces in its folder `data` by the functions of the commands, and compares their
 //! exit status and output with the expected files. It also runs each script as one session with
-//! findings, which must give the same text, and passes each witness of a report to the replay
-//! checker. Each folder of `data` is a command; `sessions` is a run of sessions. Start with `main`.
+//! findings, which must give the same text, passes each witness of a report to the replay checker,
+//! and explains each cycle of a report and passes that to the checker. Each folder of `data` is a command; `sessions` is a run of sessions. Start with `main`.
 #![tactic(auto)]
 
 ghost use Rattle.command_line.specs.CommandLine.{IsInRange};
 
 mod case;
 mod command_runs;
+mod explanations;
 mod replies;
 mod script_runs;
 mod session_cases;
@@ -18,11 +19,13 @@ use case::{Case, names_in};
 use command_line::{Invocation, parse};
 use command_runs::{Outcome, run};
 use commands::Status;
+use explanations::{are_explained, are_valid};
 use script_runs::play_script;
 use session_cases::run_sessions;
 use std::fs;
 use std::process::ExitCode;
 use std::thread::Threads;
+use trace_model::Bound;
 use witnesses::are_accepted;
 
 /// Returns what differs between the outcome and the expected files of the case, or `None` if
@@ -47,9 +50,10 @@ fn difference_in(
 }
 
 /// Checks a second way to the same answer: of a script, its run as a session; of a report, its
-/// witnesses. Returns what is wrong, or `None` if nothing is.
-fn fault_in_other_ways(
+/// witnesses and the explanations of its cycles; of an explanation, its check. Returns what is wrong, or `None` if nothing is.
+fn fault_in_other_ways<T: Threads>(
     rt: &HostRuntime,
+    threads: &T,
     invocation: &Invocation<'_>,
     outcome: &Outcome,
 ) -> Result<Option<&'static str>>
@@ -63,9 +67,20 @@ fn fault_in_other_ways(
             let is_same = whole == outcome.out && cut == outcome.out;
             Ok((!is_same).then_some("its run as a session"))
         }
-        Invocation::Offline { file, .. } if outcome.status == Status::Done => {
-            let is_right = are_accepted(rt, &fs::read(rt, *file)?, &outcome.out)?;
-            Ok((!is_right).then_some("a witness"))
+        Invocation::Offline { file, bound } if outcome.status == Status::Done => {
+            let trace = fs::read(rt, *file)?;
+            let Some(bound) = Bound::new(*bound as u8) else {
+                unreachable!()
+            };
+            if !are_accepted(rt, &trace, &outcome.out)? {
+                return Ok(Some("a witness"));
+            }
+            let is_right = are_explained(rt, threads, &trace, bound, &outcome.out)?;
+            Ok((!is_right).then_some("an explanation"))
+        }
+        Invocation::Explain { file, .. } if outcome.status == Status::Done => {
+            let is_right = are_valid(rt, &fs::read(rt, *file)?, &outcome.out)?;
+            Ok((!is_right).then_some("the check of its output"))
         }
         _ => Ok(None),
     }
@@ -94,7 +109,7 @@ fn fault_in_invocation<T: Threads + Sync>(
     let outcome = run(rt, threads, invocation)?;
     match difference_in(rt, case, &outcome)? {
         Some(fault) => Ok(Some(fault)),
-        None => fault_in_other_ways(rt, invocation, &outcome),
+        None => fault_in_other_ways(rt, threads, invocation, &outcome),
     }
 }
 
@@ -169,7 +184,9 @@ impl Counts {
 
 fn main(rt: HostRuntime) -> Result<ExitCode> {
     let mut counts = Counts { cases: 0, wrong: 0 };
-    for folder in ["offline", "replay", "script", "sessions"] {
+    for folder in [
+        "check", "explain", "offline", "replay", "script", "sessions",
+    ] {
         counts.run_folder(&rt, &rt, folder)?;
     }
     let Counts { cases, wrong } = counts;

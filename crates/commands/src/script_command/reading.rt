@@ -1,4 +1,7 @@
 //! Parses script files.
+ghost use Rattle.std.specs.Prelude.{◌≡◌, true, map};
+ghost use Rattle.commands.specs.ScriptRun.{AddsBatch};
+
 use crate::exit::CommandError;
 use event_files::{event, number, push_events, words_of};
 use std::alloc::Global;
@@ -54,11 +57,10 @@ fn parse_command(words: &[&[u8]]) -> Option<Command> {
 
 /// Appends a batch of the events that the words name. Returns whether these are 1 to `MAX_BATCH`
 /// event words.
-fn push_batch(
-    alloc: Global,
-    commands: &mut Vec<Command>,
-    words: &[&[u8]],
-) -> Result<bool, NoMemory> {
+fn push_batch(alloc: Global, commands: &mut Vec<Command>, words: &[&[u8]]) -> Result<bool, NoMemory>
+    ensures { result ≡ Ok true →
+        AddsBatch commands.old.items (map (λ word. word.now) words.now) commands.new.items }
+{
     let mut events = Vec::new(alloc);
     if !push_events(&mut events, words)? {
         return Ok(false);

@@ -1,24 +1,27 @@
-use Rattle.std.proofs.Common.{◌≡◌, ◌<◌, ◌-◌, ◌++◌, ◌∷◌, [], length, Err, ℕ, List, Option, Some, get_or, slice_get, refl, sym, ap, subst, ◌∙◌, arith, true≢false}
+use Rattle.std.proofs.Common.{◌≡◌, ◌+◌, ◌<◌, ◌-◌, ◌++◌, ◌∷◌, [], length, ℕ, List, Option, Some, get_or, slice_get, refl, sym, ap, subst, ◌∙◌, arith, true≢false}
 use Rattle.std.proofs.lemmas.Option.{slice_get-get_or, slice_get_within, get_or_from_slice_get}
 use Rattle.std.proofs.lemmas.Grind.{get_or_default_zero}
 use Rattle.std.proofs.lemmas.Result.{err_from_is_err_and}
 use Rattle.std.specs.List.{Contains}
 use Rattle.trace_model.specs.Theory.Dependencies.{Dependency}
 use Rattle.dependencies.specs.Tables.{known}
-use Rattle.cycle_search.specs.Search.{IsPath, AboveFirst, LinksTo, ClosesBack, CycleOver, IsAmong, AreSome, AreAll, Adds, Exceeds, CycleBeyond, CycleThrough, HasDistances}
+use Rattle.cycle_search.specs.Search.{IsPath, AboveFirst, LinksTo, ClosesBack, CycleOver, CycleUpTo, IsAmong, AreAll, CycleBeyond, CycleThrough, HasDistances, SearchedThrough}
+use Rattle.cycle_search.specs.Collecting.{AcceptsAll, TakesSoFar}
 use Rattle.cycle_search.specs.Acquirers.{IsNext}
 use Rattle.cycle_search.specs.Distances.{AreDistances}
 use Rattle.trace_model.proofs.Lists.{length-push, get-push_kept}
-use Rattle.cycle_search.proofs.Listing.{append-nil, all-none, popped}
-use Rattle.cycle_search.proofs.Turns.{adds-more, adds-end, exceeds-more, closers-begin, closers-more, closers-exceed, closers-end, rejected, closed, one-closed, deeper, deeper-some, full}
+use Rattle.trace_model.proofs.Theory.Unique.{contains_had}
+use Rattle.cycle_search.proofs.Listing.{all-none, popped}
+use Rattle.cycle_search.proofs.Collecting.{accepts-through, takes-none, takes-as, takes-after, takes-one, refuses-after, refuses-as, refuses-for, refuses-one, ended}
+use Rattle.cycle_search.proofs.Turns.{adds-more, adds-end, some-more, closers-begin, closers-more, closers-some, closers-end, rejected, closed, one-closed, forth, deeper, deeper-some, full}
 use Rattle.cycle_search.proofs.Paths.{path-tested}
 use Rattle.cycle_search.proofs.ComponentLemmas.{other-component}
 use Rattle.cycle_search.proofs.DistanceLemmas.{too-far}
 use Rattle.cycle_search.proofs.search.+search.Goals as goal
-use Rattle.cycle_search.proofs.search.+search.Goals.{visit-then-is_cycle+else-len-search+in_ok-push, visit-else-is_cycle+then-len-search-2+in_ok-extend, visit-else-is_cycle+else-len-search-2}
+use Rattle.cycle_search.proofs.search.+search.Goals.{visit-then-is_cycle+in_ok-take, visit-else-is_cycle+then-len-search+in_ok-extend, visit-else-is_cycle+else-len-search}
 
 pub extend-visit-requires : goal.extend-visit-requires
-extend-visit-requires t c =
+extend-visit-requires g t c =
     let i = c.loop-next.next-index in
     let items = c.successors-nexts.result.now in
     let m = get_or items i 0 in
@@ -26,65 +29,79 @@ extend-visit-requires t c =
     let here : Contains items m = (i, c.loop-next-test.true, get_or_default_zero items i m c.loop-next-test.true) in
     let same = sym c.loop-next.invariant.same in
     let shorter = ap (λ (p : List ℕ). length p) same in
-    (omega (arith, shorter), (subst (λ p. IsPath c.args.search.now.searched.now p) same c.requires.path, (subst (λ (p : List ℕ). length p < c.args.search.now.members) same c.requires.room, (record { members = c.requires.limits.members; cycles = c.loop-next.invariant.few }, (subst (λ p. HasDistances c.args.search.now p) same c.requires.distances, (n.known m here, (subst (λ p. AboveFirst p m) same (n.above m here), subst (λ p. LinksTo c.args.search.now.searched.now p m) same (n.linked m here))))))))
+    let accepts = accepts-through g.C.Collector.taking c.args.search.now.searched.now c.args.search.now.members c.args.path.now.items _ m
+    (CycleOver c.args.search.now.searched.now c.args.search.now.members c.args.path.now.items (IsAmong items i)) c.args.collector.now c.loop-next.collector
+    same c.loop-next.invariant.added c.requires.accepts in
+    (λ κs lives. (omega (arith, shorter), (lives.0, (lives.1, (subst (λ p. IsPath c.args.search.now.searched.now p) same c.requires.path, (subst (λ (p : List ℕ). length p < c.args.search.now.members) same c.requires.room, (c.requires.members, (subst (λ p. HasDistances c.args.search.now p) same c.requires.distances, (n.known m here, (subst (λ p. AboveFirst p m) same (n.above m here), (subst (λ p. LinksTo c.args.search.now.searched.now p m) same (n.linked m here), accepts)))))))))))
 
-pub extend-returns-in_err-visit-clause-too_many : goal.extend-returns-in_err-visit-clause-too_many
-extend-returns-in_err-visit-clause-too_many t c e =
-    let p = err_from_is_err_and c.from_residual.result c.from_residual.ensures.1 in
-    let i = c.loop-next.next-index in
+pub extend-returns-in_err-visit-clause-all : goal.extend-returns-in_err-visit-clause-all
+extend-returns-in_err-visit-clause-all g t c =
+    let taking = g.C.Collector.taking in
+    let ds = c.args.search.now.searched.now in
+    let bound = c.args.search.now.members in
+    let path = c.args.path.now.items in
     let items = c.successors-nexts.result.now in
-    let q = c.visit.ensures.too_many (c.in_err-visit.was ∙ ap Err (sym p.2) ∙ sym p.1 ∙ e) in
-    exceeds-more c.args.search.now.searched.now c.args.search.now.members c.args.path.now.items items c.successors-nexts.ensures.ascends i (get_or items i 0)
-    (slice_get-get_or items i 0 c.loop-next-test.true) c.args.search.now.cycles _ _ c.loop-next.invariant.added
-    (subst (λ p. Exceeds (CycleThrough c.args.search.now.searched.now c.args.search.now.members p (get_or items i 0)) c.args.search.now.cycles c.loop-next.found.items) c.loop-next.invariant.same q)
+    let i = c.loop-next.next-index in
+    let m = get_or items i 0 in
+    let p = err_from_is_err_and c.from_residual.result c.from_residual.ensures.1 in
+    ended taking (CycleBeyond ds bound path) c.args.collector.now _ _ p.0 _ p.1 (sym p.2)
+    (refuses-after taking (CycleOver ds bound path (IsAmong items i)) (CycleThrough ds bound path m) (CycleBeyond ds bound path) c.args.collector.now c.loop-next.collector _
+    (some-more ds bound path items c.successors-nexts.ensures.ascends i m (slice_get-get_or items i 0 c.loop-next-test.true))
+    c.loop-next.invariant.added
+    (refuses-for taking (λ q. CycleThrough ds bound q m) c.loop-next.path.items path c.loop-next.collector _ c.loop-next.invariant.same c.in_err-visit.ensures.all))
 
 pub extend-close-requires : goal.extend-close-requires
-extend-close-requires t c =
+extend-close-requires g t c =
     let d = c.decreases in
     let room = c.requires.room in
     let len = c.len.ensures.value in
     let full = c.if-len-search.true in
-    (omega arith, (c.requires.path, (omega arith, (c.requires.limits, c.requires.distances))))
+    (λ κs lives. (omega arith, (lives.0, (lives.1, (c.requires.path, (omega arith, (c.requires.members, (c.requires.distances, c.requires.accepts))))))))
 
 pub extend-returns-then-search-nexts : goal.extend-returns-then-search-nexts
-extend-returns-then-search-nexts t c = record {
+extend-returns-then-search-nexts g t c = record {
   path = c.close.ensures.path;
   all = c.close.ensures.all;
-  few = c.close.ensures.few;
-  too_many = c.close.ensures.too_many;
 }
 
 pub extend-loop-next-init : goal.extend-loop-next-init
-extend-loop-next-init t c = record {
-  same = refl;
-  few = c.requires.limits.cycles;
-  added = (
-    [],
-    sym (append-nil c.args.found.now.items),
-    all-none (CycleOver c.args.search.now.searched.now c.args.search.now.members c.args.path.now.items (IsAmong c.successors-nexts.result.now 0)) (λ n h. omega (arith, h.1.1)),
-  );
-}
+extend-loop-next-init g t c =
+    let over = CycleOver c.args.search.now.searched.now c.args.search.now.members c.args.path.now.items (IsAmong c.successors-nexts.result.now 0) in
+    record {
+      same = refl;
+      added = takes-none g.C.Collector.taking over c.args.collector.now (all-none over (λ n h. omega (arith, h.1.1)));
+    }
 
 pub extend-loop-next-preserved : goal.extend-loop-next-preserved
-extend-loop-next-preserved t c = let e = c.in_ok-visit.ensures in
-    let i = c.loop-next.next-index in
+extend-loop-next-preserved g t c =
+    let taking = g.C.Collector.taking in
+    let ds = c.args.search.now.searched.now in
+    let bound = c.args.search.now.members in
+    let path = c.args.path.now.items in
     let items = c.successors-nexts.result.now in
+    let i = c.loop-next.next-index in
+    let m = get_or items i 0 in
     record {
-      same = e.path ∙ c.loop-next.invariant.same;
-      few = e.few;
-      added = adds-more c.args.search.now.searched.now c.args.search.now.members c.args.path.now.items items c.successors-nexts.ensures.ascends i (get_or items i 0)
-          (slice_get-get_or items i 0 c.loop-next-test.true) _ _ _ c.loop-next.invariant.added
-          (subst (λ p. Adds (CycleThrough c.args.search.now.searched.now c.args.search.now.members p (get_or items i 0)) c.loop-next.found.items c.visit.new.found.items) c.loop-next.invariant.same e.all);
+      same = c.in_ok-visit.ensures.path ∙ c.loop-next.invariant.same;
+      added = takes-after taking (CycleOver ds bound path (IsAmong items i)) (CycleThrough ds bound path m) (CycleOver ds bound path (IsAmong items (i + 1)))
+          c.args.collector.now c.loop-next.collector c.visit.new.collector
+          (adds-more ds bound path items c.successors-nexts.ensures.ascends i m (slice_get-get_or items i 0 c.loop-next-test.true))
+          c.loop-next.invariant.added
+          (subst (λ p. TakesSoFar taking (CycleThrough ds bound p m) c.loop-next.collector c.visit.new.collector) c.loop-next.invariant.same c.in_ok-visit.ensures.all);
     }
 
 pub extend-returns : goal.extend-returns
-extend-returns t c = record {
-  path = c.loop-next.invariant.same;
-  all = adds-end c.args.search.now.searched.now c.args.search.now.members c.args.path.now.items c.successors-nexts.result.now c.loop-next.next-index _ _ c.requires.path.begun
-      c.successors-nexts.ensures c.loop-next-test.false c.loop-next.invariant.added;
-  few = c.loop-next.invariant.few;
-  too_many = λ e. cc;
-}
+extend-returns g t c =
+    let ds = c.args.search.now.searched.now in
+    let bound = c.args.search.now.members in
+    let path = c.args.path.now.items in
+    let items = c.successors-nexts.result.now in
+    record {
+      path = c.loop-next.invariant.same;
+      all = takes-as g.C.Collector.taking (CycleOver ds bound path (IsAmong items c.loop-next.next-index)) (CycleBeyond ds bound path) c.args.collector.now c.loop-next.collector
+          (λ before after. adds-end ds bound path items c.loop-next.next-index before after c.requires.path.begun c.successors-nexts.ensures c.loop-next-test.false)
+          c.loop-next.invariant.added;
+    }
 
 -- The result of the search for the next closing member, for the unchanged path.
 closer-of : (ds : List Dependency) (path path' : List ℕ) (last : ℕ) (found answer : Option ℕ) → path' ≡ path → found ≡ answer →
@@ -93,21 +110,21 @@ closer-of ds path path' last found answer same is least =
     subst (IsNext last (ClosesBack ds path)) is (subst (λ p. IsNext last (ClosesBack ds p) found) same least)
 
 pub close-loop-next-init : goal.close-loop-next-init
-close-loop-next-init t c =
+close-loop-next-init g t c =
     let head = ap (λ (xs : List ℕ). get_or xs 0 0) (sym c.deref.ensures.0) in
     record {
       same = refl;
-      few = c.requires.limits.cycles;
       first = omega (arith, head);
-      added = closers-begin c.args.search.now.searched.now c.args.search.now.members c.args.path.now.items c.requires.path c.requires.room _ _
-          (slice_get-get_or c.args.path.now.items 0 0 c.requires.path.begun ∙ ap Some head);
+      added = takes-none g.C.Collector.taking (CycleUpTo c.args.search.now.searched.now c.args.search.now.members c.args.path.now.items _) c.args.collector.now
+          (closers-begin c.args.search.now.searched.now c.args.search.now.members c.args.path.now.items c.requires.path c.requires.room _
+          (slice_get-get_or c.args.path.now.items 0 0 c.requires.path.begun ∙ ap Some head));
     }
 
 pub close-next_closer-requires : goal.close-next_closer-requires
-close-next_closer-requires t c = subst (λ p. IsPath c.args.search.now.searched.now p) (sym c.loop-next.invariant.same) c.requires.path
+close-next_closer-requires g t c = subst (λ p. IsPath c.args.search.now.searched.now p) (sym c.loop-next.invariant.same) c.requires.path
 
 pub close-links-requires : goal.close-links-requires
-close-links-requires t c =
+close-links-requires g t c =
     let back = (c.next_closer.ensures.sound c.in-Some.next c.in-Some.is).1 in
     record {
       path = subst (λ p. IsPath c.args.search.now.searched.now p) (sym c.loop-next.invariant.same) c.requires.path;
@@ -115,71 +132,98 @@ close-links-requires t c =
     }
 
 pub close-visit-requires : goal.close-visit-requires
-close-visit-requires t c =
+close-visit-requires g t c =
     let d = c.decreases in
     let more = c.next_closer.ensures.sound c.in-Some.next c.in-Some.is in
     let same = sym c.loop-next.invariant.same in
     let shorter = ap (λ (p : List ℕ). length p) same in
     let head = ap (λ (p : List ℕ). get_or p 0 0) same in
     let begun = λ (first : ℕ) (at : slice_get c.loop-next.path.items 0 ≡ Some first). get_or_from_slice_get c.loop-next.path.items 0 first 0 at in
-    (omega (arith, shorter, c.requires.room), (subst (λ p. IsPath c.args.search.now.searched.now p) same c.requires.path, (omega (arith, shorter, c.requires.room), (record { members = c.requires.limits.members; cycles = c.loop-next.invariant.few }, (subst (λ p. HasDistances c.args.search.now p) same c.requires.distances, (slice_get_within c.args.search.now.searched.now c.in-Some.next more.1.1 more.1.3, (λ first at. omega (arith, head, more.0, begun first at, c.loop-next.invariant.first), c.links.ensures.0 c.if-links.true)))))))
+    let accepts = accepts-through g.C.Collector.taking c.args.search.now.searched.now c.args.search.now.members c.args.path.now.items _ c.in-Some.next
+    (CycleUpTo c.args.search.now.searched.now c.args.search.now.members c.args.path.now.items c.loop-next.last) c.args.collector.now c.loop-next.collector
+    same c.loop-next.invariant.added c.requires.accepts in
+    (λ κs lives. (omega (arith, shorter, c.requires.room), (lives.0, (lives.1, (subst (λ p. IsPath c.args.search.now.searched.now p) same c.requires.path, (omega (arith, shorter, c.requires.room), (c.requires.members, (subst (λ p. HasDistances c.args.search.now p) same c.requires.distances, (slice_get_within c.args.search.now.searched.now c.in-Some.next more.1.1 more.1.3, (λ first at. omega (arith, head, more.0, begun first at, c.loop-next.invariant.first), (c.links.ensures.0 c.if-links.true, accepts)))))))))))
 
-pub close-returns-in_err-visit-clause-too_many : goal.close-returns-in_err-visit-clause-too_many
-close-returns-in_err-visit-clause-too_many t c e =
+pub close-returns-in_err-visit-clause-all : goal.close-returns-in_err-visit-clause-all
+close-returns-in_err-visit-clause-all g t c =
+    let taking = g.C.Collector.taking in
+    let ds = c.args.search.now.searched.now in
+    let bound = c.args.search.now.members in
+    let path = c.args.path.now.items in
+    let last = c.loop-next.last in
+    let m = c.in-Some.next in
     let p = err_from_is_err_and c.from_residual.result c.from_residual.ensures.1 in
-    let q = c.visit.ensures.too_many (c.in_err-visit.was ∙ ap Err (sym p.2) ∙ sym p.1 ∙ e) in
-    closers-exceed c.args.search.now.searched.now c.args.search.now.members c.args.path.now.items c.requires.path c.requires.room c.loop-next.last c.in-Some.next
-    (closer-of c.args.search.now.searched.now c.args.path.now.items _ c.loop-next.last _ _ c.loop-next.invariant.same c.in-Some.is c.next_closer.ensures)
-    c.args.search.now.cycles _ _ c.loop-next.invariant.added
-    (subst (λ p. Exceeds (CycleThrough c.args.search.now.searched.now c.args.search.now.members p c.in-Some.next) c.args.search.now.cycles c.loop-next.found.items) c.loop-next.invariant.same q)
+    ended taking (CycleBeyond ds bound path) c.args.collector.now _ _ p.0 _ p.1 (sym p.2)
+    (refuses-after taking (CycleUpTo ds bound path last) (CycleThrough ds bound path m) (CycleBeyond ds bound path) c.args.collector.now c.loop-next.collector _
+    (closers-some ds bound path c.requires.path c.requires.room last m
+    (closer-of ds path _ last _ _ c.loop-next.invariant.same c.in-Some.is c.next_closer.ensures))
+    c.loop-next.invariant.added
+    (refuses-for taking (λ q. CycleThrough ds bound q m) c.loop-next.path.items path c.loop-next.collector _ c.loop-next.invariant.same c.in_err-visit.ensures.all))
 
 smaller : (ds : List Dependency) (path : List ℕ) (last next : ℕ) → (last < next) × ClosesBack ds path next → length ds - next < length ds - last
 smaller ds path last next (more, (first, d, head, at, takes)) = omega (arith, more, slice_get_within ds next d at)
 
 pub close-loop-next-smaller-in_ok-visit : goal.close-loop-next-smaller-in_ok-visit
-close-loop-next-smaller-in_ok-visit t c = smaller c.args.search.now.searched.now _ _ _ (c.next_closer.ensures.sound c.in-Some.next c.in-Some.is)
+close-loop-next-smaller-in_ok-visit g t c = smaller c.args.search.now.searched.now _ _ _ (c.next_closer.ensures.sound c.in-Some.next c.in-Some.is)
 
 pub close-loop-next-preserved-in_ok-visit : goal.close-loop-next-preserved-in_ok-visit
-close-loop-next-preserved-in_ok-visit t c = let e = c.in_ok-visit.ensures in record {
-  same = e.path ∙ c.loop-next.invariant.same;
-  few = e.few;
-  first = omega (arith, c.loop-next.invariant.first, (c.next_closer.ensures.sound c.in-Some.next c.in-Some.is).0);
-  added = closers-more c.args.search.now.searched.now c.args.search.now.members c.args.path.now.items c.requires.path c.requires.room c.loop-next.last c.in-Some.next
-      (closer-of c.args.search.now.searched.now c.args.path.now.items _ c.loop-next.last _ _ c.loop-next.invariant.same c.in-Some.is c.next_closer.ensures)
-      _ _ _ c.loop-next.invariant.added
-      (subst (λ p. Adds (CycleThrough c.args.search.now.searched.now c.args.search.now.members p c.in-Some.next) c.loop-next.found.items c.visit.new.found.items) c.loop-next.invariant.same e.all);
-}
+close-loop-next-preserved-in_ok-visit g t c =
+    let taking = g.C.Collector.taking in
+    let ds = c.args.search.now.searched.now in
+    let bound = c.args.search.now.members in
+    let path = c.args.path.now.items in
+    let last = c.loop-next.last in
+    let m = c.in-Some.next in
+    record {
+      same = c.in_ok-visit.ensures.path ∙ c.loop-next.invariant.same;
+      first = omega (arith, c.loop-next.invariant.first, (c.next_closer.ensures.sound m c.in-Some.is).0);
+      added = takes-after taking (CycleUpTo ds bound path last) (CycleThrough ds bound path m) (CycleUpTo ds bound path m)
+          c.args.collector.now c.loop-next.collector c.visit.new.collector
+          (closers-more ds bound path c.requires.path c.requires.room last m
+          (closer-of ds path _ last _ _ c.loop-next.invariant.same c.in-Some.is c.next_closer.ensures))
+          c.loop-next.invariant.added
+          (subst (λ p. TakesSoFar taking (CycleThrough ds bound p m) c.loop-next.collector c.visit.new.collector) c.loop-next.invariant.same c.in_ok-visit.ensures.all);
+    }
 
 pub close-loop-next-smaller : goal.close-loop-next-smaller
-close-loop-next-smaller t c = smaller c.args.search.now.searched.now _ _ _ (c.next_closer.ensures.sound c.in-Some.next c.in-Some.is)
+close-loop-next-smaller g t c = smaller c.args.search.now.searched.now _ _ _ (c.next_closer.ensures.sound c.in-Some.next c.in-Some.is)
 
 pub close-loop-next-preserved : goal.close-loop-next-preserved
-close-loop-next-preserved t c = record {
-  same = c.loop-next.invariant.same;
-  few = c.loop-next.invariant.few;
-  first = omega (arith, c.loop-next.invariant.first, (c.next_closer.ensures.sound c.in-Some.next c.in-Some.is).0);
-  added = closers-more c.args.search.now.searched.now c.args.search.now.members c.args.path.now.items c.requires.path c.requires.room c.loop-next.last c.in-Some.next
-      (closer-of c.args.search.now.searched.now c.args.path.now.items _ c.loop-next.last _ _ c.loop-next.invariant.same c.in-Some.is c.next_closer.ensures)
-      _ _ _ c.loop-next.invariant.added (
-        [],
-        sym (append-nil c.loop-next.found.items),
-        rejected c.args.search.now.searched.now c.args.search.now.members c.args.path.now.items c.in-Some.next c.requires.path.begun
-            (λ f. true≢false (sym (c.links.ensures.1 (subst (λ p. LinksTo c.args.search.now.searched.now p c.in-Some.next) (sym c.loop-next.invariant.same) f.linked)) ∙ c.if-links.false)),
-      );
-}
+close-loop-next-preserved g t c =
+    let taking = g.C.Collector.taking in
+    let ds = c.args.search.now.searched.now in
+    let bound = c.args.search.now.members in
+    let path = c.args.path.now.items in
+    let last = c.loop-next.last in
+    let m = c.in-Some.next in
+    record {
+      same = c.loop-next.invariant.same;
+      first = omega (arith, c.loop-next.invariant.first, (c.next_closer.ensures.sound m c.in-Some.is).0);
+      added = takes-after taking (CycleUpTo ds bound path last) (CycleThrough ds bound path m) (CycleUpTo ds bound path m)
+          c.args.collector.now c.loop-next.collector c.loop-next.collector
+          (closers-more ds bound path c.requires.path c.requires.room last m
+          (closer-of ds path _ last _ _ c.loop-next.invariant.same c.in-Some.is c.next_closer.ensures))
+          c.loop-next.invariant.added
+          (takes-none taking (CycleThrough ds bound path m) c.loop-next.collector (rejected ds bound path m c.requires.path.begun
+          (λ f. true≢false (sym (c.links.ensures.1 (subst (λ p. LinksTo ds p m) (sym c.loop-next.invariant.same) f.linked)) ∙ c.if-links.false))));
+    }
 
 pub close-returns : goal.close-returns
-close-returns t c = record {
-  path = c.loop-next.invariant.same;
-  all = closers-end c.args.search.now.searched.now c.args.search.now.members c.args.path.now.items c.requires.path c.requires.room c.loop-next.last
-      (closer-of c.args.search.now.searched.now c.args.path.now.items _ c.loop-next.last _ _ c.loop-next.invariant.same c.in_default.is c.next_closer.ensures)
-      _ _ c.loop-next.invariant.added;
-  few = c.loop-next.invariant.few;
-  too_many = λ e. cc;
-}
+close-returns g t c =
+    let ds = c.args.search.now.searched.now in
+    let bound = c.args.search.now.members in
+    let path = c.args.path.now.items in
+    let last = c.loop-next.last in
+    record {
+      path = c.loop-next.invariant.same;
+      all = takes-as g.C.Collector.taking (CycleUpTo ds bound path last) (CycleBeyond ds bound path) c.args.collector.now c.loop-next.collector
+          (closers-end ds bound path c.requires.path c.requires.room last
+          (closer-of ds path _ last _ _ c.loop-next.invariant.same c.in_default.is c.next_closer.ensures))
+          c.loop-next.invariant.added;
+    }
 
 pub visit-same_component-requires : goal.visit-same_component-requires
-visit-same_component-requires t c =
+visit-same_component-requires g t c =
     let path = c.requires.path in
     let first = path.known 0 0 path.begun in
     let next = c.requires.known in
@@ -188,145 +232,121 @@ visit-same_component-requires t c =
     record { begun = path.begun; first = omega arith; next = omega arith }
 
 pub visit-returns-then-not-fits : goal.visit-returns-then-not-fits
-visit-returns-then-not-fits t c = record {
+visit-returns-then-not-fits g t c = record {
   path = refl;
-  all = (
-    [],
-    sym (append-nil c.args.found.now.items),
-    rejected c.args.search.now.searched.now c.args.search.now.members c.args.path.now.items c.args.next c.requires.path.begun
-        (λ f. true≢false (sym (c.fits.ensures.1 f.compatible) ∙ c.if-not-fits.true)),
-  );
-  few = c.requires.limits.cycles;
-  too_many = λ e. cc;
+  all = takes-none g.C.Collector.taking (SearchedThrough c.args.search.now c.args.path.now c.args.next) c.args.collector.now
+      (rejected c.args.search.now.searched.now c.args.search.now.members c.args.path.now.items c.args.next c.requires.path.begun
+      (λ f. true≢false (sym (c.fits.ensures.1 f.compatible) ∙ c.if-not-fits.true)));
 }
 
 pub visit-returns-then-ends_open : goal.visit-returns-then-ends_open
-visit-returns-then-ends_open t c =
+visit-returns-then-ends_open g t c =
     let ends = c.ends_open.ensures in
     let test = c.if-ends_open.true in record {
       path = refl;
-      all = (
-        [],
-        sym (append-nil c.args.found.now.items),
-        full c.args.search.now.searched.now c.args.search.now.members c.args.path.now.items c.args.next (ends.is_open test)
-            (omega (arith, ends.last test, length-push c.args.path.now.items c.args.next)),
-      );
-      few = c.requires.limits.cycles;
-      too_many = λ e. cc;
+      all = takes-none g.C.Collector.taking (SearchedThrough c.args.search.now c.args.path.now c.args.next) c.args.collector.now
+          (full c.args.search.now.searched.now c.args.search.now.members c.args.path.now.items c.args.next (ends.is_open test)
+          (omega (arith, ends.last test, length-push c.args.path.now.items c.args.next)));
     }
 
 pub visit-returns-then-is_too_far : goal.visit-returns-then-is_too_far
-visit-returns-then-is_too_far t c = record {
+visit-returns-then-is_too_far g t c = record {
   path = refl;
-  all = (
-    [],
-    sym (append-nil c.args.found.now.items),
-    too-far c.args.search.now.searched.now c.args.search.now.members c.args.path.now.items c.args.next c.args.search.now.distances.now
-        c.requires.path.begun c.requires.distances c.requires.known (c.is_too_far.ensures c.if-is_too_far.true),
-  );
-  few = c.requires.limits.cycles;
-  too_many = λ e. cc;
+  all = takes-none g.C.Collector.taking (SearchedThrough c.args.search.now c.args.path.now c.args.next) c.args.collector.now
+      (too-far c.args.search.now.searched.now c.args.search.now.members c.args.path.now.items c.args.next c.args.search.now.distances.now
+      c.requires.path.begun c.requires.distances c.requires.known (c.is_too_far.ensures c.if-is_too_far.true));
 }
 
 pub visit-returns-then-not-same_component : goal.visit-returns-then-not-same_component
-visit-returns-then-not-same_component t c = record {
+visit-returns-then-not-same_component g t c = record {
   path = refl;
-  all = (
-    [],
-    sym (append-nil c.args.found.now.items),
-    subst (λ ds. AreAll (CycleThrough ds c.args.search.now.members c.args.path.now.items c.args.next) []) c.searched.view_is
-        (other-component (known c.searched.inside.table.now) c.args.search.now.members c.args.path.now.items c.args.next c.searched.inside.components.now
-        c.searched.invariant.components c.requires.path.begun (λ e. true≢false (sym (c.same_component.ensures.1 e) ∙ c.if-not-same_component.true))),
-  );
-  few = c.requires.limits.cycles;
-  too_many = λ e. cc;
+  all = takes-none g.C.Collector.taking (SearchedThrough c.args.search.now c.args.path.now c.args.next) c.args.collector.now
+      (subst (λ ds. AreAll (CycleThrough ds c.args.search.now.members c.args.path.now.items c.args.next) []) c.searched.view_is
+      (other-component (known c.searched.inside.table.now) c.args.search.now.members c.args.path.now.items c.args.next c.searched.inside.components.now
+      c.searched.invariant.components c.requires.path.begun (λ e. true≢false (sym (c.same_component.ensures.1 e) ∙ c.if-not-same_component.true))));
 }
 
-pub visit-returns-then-len-search-clause-too_many :
-    goal.visit-returns-then-len-search-clause-too_many
-visit-returns-then-len-search-clause-too_many t c e = (
-  (c.args.path.now.items ++ c.args.next ∷ []) ∷ [],
-  one-closed c.args.search.now.searched.now c.args.search.now.members c.args.path.now.items c.args.next
-      (path-tested c.args.search.now.searched.now c.args.path.now.items c.args.next c.requires.path c.requires.known c.requires.above c.requires.linked (c.fits.ensures.0 c.if-not-fits.false))
-      (c.closes-is_cycle.ensures.0 c.if-is_cycle.true) c.requires.path.begun c.requires.room,
-  omega (arith, c.len.ensures, c.if-len-search.true),
-)
-
-pub visit-returns-in_err-push-clause-too_many : goal.visit-returns-in_err-push-clause-too_many
-visit-returns-in_err-push-clause-too_many t c e =
+pub visit-returns-in_err-take-clause-all : goal.visit-returns-in_err-take-clause-all
+visit-returns-in_err-take-clause-all g t c =
+    let taking = g.C.Collector.taking in
+    let ds = c.args.search.now.searched.now in
+    let bound = c.args.search.now.members in
+    let path = c.args.path.now.items in
     let p = err_from_is_err_and c.from_residual.result c.from_residual.ensures.1 in
-    let q = sym e ∙ p.1 ∙ ap Err p.2 in cc
+    let cycle = path ++ c.args.next ∷ [] in
+    let some = one-closed ds bound path c.args.next
+    (path-tested ds path c.args.next c.requires.path c.requires.known c.requires.above c.requires.linked (c.fits.ensures.0 c.if-not-fits.false))
+    (c.closes-is_cycle.ensures.0 c.if-is_cycle.true) c.requires.path.begun c.requires.room in
+    ended taking (CycleThrough ds bound path c.args.next) c.args.collector.now _ _ p.0 _ p.1 (sym p.2)
+    (refuses-one taking (CycleThrough ds bound path c.args.next) c.args.collector.now cycle _ _ some (c.cycle_of.ensures ∙ c.push.ensures.items) c.in_err-take.ensures)
 
 pub visit-extend-requires : goal.visit-extend-requires
-visit-extend-requires t c = let d = c.decreases in (
-  omega (arith, c.push.ensures.len),
-  (
-    subst (λ p. IsPath c.args.search.now.searched.now p) (sym c.push.ensures.items)
-        (path-tested c.args.search.now.searched.now c.args.path.now.items c.args.next c.requires.path c.requires.known c.requires.above c.requires.linked (c.fits.ensures.0 c.if-not-fits.false)),
-    (
-      omega arith,
-      (
-        c.requires.limits,
-        subst (λ first. AreDistances c.args.search.now.searched.now first c.args.search.now.distances.now)
-            (sym (get_or_from_slice_get c.push.new.self.items 0 (get_or c.args.path.now.items 0 0) 0
-            (ap (λ (xs : List ℕ). slice_get xs 0) c.push.ensures.items
-            ∙ get-push_kept c.args.path.now.items c.args.next 0 (get_or c.args.path.now.items 0 0) (slice_get-get_or c.args.path.now.items 0 0 c.requires.path.begun)))) c.requires.distances,
-      ),
-    ),
-  ),
-)
+visit-extend-requires g t c =
+    let d = c.decreases in
+    let ds = c.args.search.now.searched.now in
+    let path = c.args.path.now.items in
+    let m = c.args.next in
+    let pushed = sym c.push.ensures.items in
+    let longer = path-tested ds path m c.requires.path c.requires.known c.requires.above c.requires.linked (c.fits.ensures.0 c.if-not-fits.false) in
+    let first = get_or_from_slice_get c.push.new.self.items 0 (get_or path 0 0) 0
+    (ap (λ (xs : List ℕ). slice_get xs 0) c.push.ensures.items ∙ get-push_kept path m 0 (get_or path 0 0) (slice_get-get_or path 0 0 c.requires.path.begun)) in
+    let distances = subst (λ first. AreDistances ds first c.args.search.now.distances.now) (sym first) c.requires.distances in
+    let accepts = subst (λ p. AcceptsAll g.C.Collector.taking (CycleBeyond ds c.args.search.now.members p) c.args.collector.now) pushed
+    (λ numbers h. c.requires.accepts numbers (forth ds c.args.search.now.members path m numbers h)) in
+    λ κs lives. (omega (arith, c.push.ensures.len), (lives.0, (lives.1, (subst (λ p. IsPath ds p) pushed longer, (omega arith, (c.requires.members, (distances, accepts)))))))
 
-pub visit-returns-in_err-extend-clause-too_many : goal.visit-returns-in_err-extend-clause-too_many
-visit-returns-in_err-extend-clause-too_many t c e =
+pub visit-take-requires : goal.visit-take-requires
+visit-take-requires g t c =
+    let ds = c.args.search.now.searched.now in
+    let bound = c.args.search.now.members in
+    let path = c.args.path.now.items in
+    let cycle = path ++ c.args.next ∷ [] in
+    let some = one-closed ds bound path c.args.next
+    (path-tested ds path c.args.next c.requires.path c.requires.known c.requires.above c.requires.linked (c.fits.ensures.0 c.if-not-fits.false))
+    (c.closes-is_cycle.ensures.0 c.if-is_cycle.true) c.requires.path.begun c.requires.room in
+    subst (λ (z : List ℕ). g.C.Collector.taking.accepts c.args.collector.now z) (sym (c.cycle_of.ensures ∙ c.push.ensures.items))
+    (c.requires.accepts cycle (some.sound cycle (contains_had (cycle ∷ []) cycle (0, refl))))
+
+pub visit-returns-in_err-extend-clause-all : goal.visit-returns-in_err-extend-clause-all
+visit-returns-in_err-extend-clause-all g t c =
+    let taking = g.C.Collector.taking in
+    let ds = c.args.search.now.searched.now in
+    let bound = c.args.search.now.members in
+    let path = c.args.path.now.items in
     let p = err_from_is_err_and c.from_residual-in_err-extend.result c.from_residual-in_err-extend.ensures.1 in
-    let q = c.extend.ensures.too_many (c.in_err-extend.was ∙ ap Err (sym p.2) ∙ sym p.1 ∙ e) in (
-      q.0,
-      deeper-some c.args.search.now.searched.now c.args.search.now.members c.args.path.now.items c.args.next q.0
-          (subst (λ z. AreSome (CycleBeyond c.args.search.now.searched.now c.args.search.now.members z) q.0) c.push.ensures.items q.1),
-      q.2,
-    )
+    ended taking (CycleThrough ds bound path c.args.next) c.args.collector.now _ _ p.0 _ p.1 (sym p.2)
+    (refuses-as taking (CycleBeyond ds bound (path ++ c.args.next ∷ [])) (CycleThrough ds bound path c.args.next) c.args.collector.now _
+    (λ before after (more, e, some). (more, e, deeper-some ds bound path c.args.next more some))
+    (refuses-for taking (λ q. CycleBeyond ds bound q) _ (path ++ c.args.next ∷ []) c.args.collector.now _ c.push.ensures.items c.in_err-extend.ensures.all))
 
 pub visit-returns : goal.visit-returns
-visit-returns t c =
+visit-returns g t c =
+    let taking = g.C.Collector.taking in
+    let ds = c.args.search.now.searched.now in
+    let bound = c.args.search.now.members in
+    let path = c.args.path.now.items in
     let pushed = c.push.ensures.items in
     record {
-      path = c.pop.ensures.rest ∙ popped c.args.path.now.items c.if-is_cycle.path.items c.args.next (elim c.if-is_cycle.branch [
-        | visit-then-is_cycle+else-len-search+in_ok-push w ↦ ap (λ p. p.items) w.path-is ∙ pushed
-        | visit-else-is_cycle+then-len-search-2+in_ok-extend w ↦ ap (λ p. p.items) w.path-is ∙ w.in_ok-extend.ensures.path ∙ pushed
-        | visit-else-is_cycle+else-len-search-2 w ↦ ap (λ p. p.items) w.path-is ∙ pushed
+      path = c.pop.ensures.rest ∙ popped path c.if-is_cycle.path.items c.args.next (elim c.if-is_cycle.branch [
+        | visit-then-is_cycle+in_ok-take w ↦ ap (λ p. p.items) w.path-is ∙ pushed
+        | visit-else-is_cycle+then-len-search+in_ok-extend w ↦ ap (λ p. p.items) w.path-is ∙ w.in_ok-extend.ensures.path ∙ pushed
+        | visit-else-is_cycle+else-len-search w ↦ ap (λ p. p.items) w.path-is ∙ pushed
       ]);
       all = elim c.if-is_cycle.branch [
-        | visit-then-is_cycle+else-len-search+in_ok-push w ↦ let f = w.found-is in (
-          (c.args.path.now.items ++ c.args.next ∷ []) ∷ [],
-          rw f (w.in_ok-push.ensures.items ∙ ap (λ (z : List ℕ). c.args.found.now.items ++ z ∷ []) (w.cycle_of.ensures ∙ c.push.ensures.items)),
-          closed c.args.search.now.searched.now c.args.search.now.members c.args.path.now.items c.args.next
-              (path-tested c.args.search.now.searched.now c.args.path.now.items c.args.next c.requires.path c.requires.known c.requires.above c.requires.linked (c.fits.ensures.0 c.if-not-fits.false))
-              (c.closes-is_cycle.ensures.0 w.if-is_cycle.true) c.requires.path.begun c.requires.room,
-        )
-        | visit-else-is_cycle+then-len-search-2+in_ok-extend w ↦
-            let f = w.found-is in let a = w.in_ok-extend.ensures.all in (
-              a.0,
-              rw f a.1,
-              deeper c.args.search.now.searched.now c.args.search.now.members c.args.path.now.items c.args.next a.0
-                  (λ k. true≢false (sym (c.closes-is_cycle.ensures.1 k) ∙ w.if-is_cycle.false))
-                  (subst (λ z. AreAll (CycleBeyond c.args.search.now.searched.now c.args.search.now.members z) a.0) c.push.ensures.items a.2),
-            )
-        | visit-else-is_cycle+else-len-search-2 w ↦
-            let f = w.found-is in (
-              [],
-              rw f (sym (append-nil c.args.found.now.items)),
-              full c.args.search.now.searched.now c.args.search.now.members c.args.path.now.items c.args.next
-                  (λ k. true≢false (sym (c.closes-is_cycle.ensures.1 k) ∙ w.if-is_cycle.false))
-                  (omega (arith, w.if-len-search-2.false, w.len-else-is_cycle.ensures.value, ap (λ (xs : List ℕ). length xs) c.push.ensures.items)),
-            )
+        | visit-then-is_cycle+in_ok-take w ↦
+            rw w.collector-is (takes-one taking (CycleThrough ds bound path c.args.next) c.args.collector.now w.take.new.self (path ++ c.args.next ∷ [])
+            (closed ds bound path c.args.next
+            (path-tested ds path c.args.next c.requires.path c.requires.known c.requires.above c.requires.linked (c.fits.ensures.0 c.if-not-fits.false))
+            (c.closes-is_cycle.ensures.0 w.if-is_cycle.true) c.requires.path.begun c.requires.room)
+            (subst (λ (z : List ℕ). (start : g.row.C.Denot) (before : List (List ℕ)) → taking.took start before c.args.collector.now → taking.took start (before ++ z ∷ []) w.take.new.self)
+            (w.cycle_of.ensures ∙ pushed) w.in_ok-take.ensures))
+        | visit-else-is_cycle+then-len-search+in_ok-extend w ↦
+            rw w.collector-is (takes-as taking (CycleBeyond ds bound (path ++ c.args.next ∷ [])) (CycleThrough ds bound path c.args.next) c.args.collector.now w.extend.new.collector
+            (λ before after (more, e, all). (more, e, deeper ds bound path c.args.next more (λ k. true≢false (sym (c.closes-is_cycle.ensures.1 k) ∙ w.if-is_cycle.false)) all))
+            (subst (λ q. TakesSoFar taking (CycleBeyond ds bound q) c.args.collector.now w.extend.new.collector) pushed w.in_ok-extend.ensures.all))
+        | visit-else-is_cycle+else-len-search w ↦
+            rw w.collector-is (takes-none taking (CycleThrough ds bound path c.args.next) c.args.collector.now
+            (full ds bound path c.args.next (λ k. true≢false (sym (c.closes-is_cycle.ensures.1 k) ∙ w.if-is_cycle.false))
+            (omega (arith, w.if-len-search.false, w.len.ensures.value, ap (λ (xs : List ℕ). length xs) pushed))))
       ];
-      few = elim c.if-is_cycle.branch [
-        | visit-then-is_cycle+else-len-search+in_ok-push w ↦
-            let f = w.found-is in
-            let more = ap length w.in_ok-push.ensures.items in
-            rw f (omega (arith, more, length-push c.args.found.now.items w.cycle_of.result, w.len.ensures, w.if-len-search.false))
-        | visit-else-is_cycle+then-len-search-2+in_ok-extend w ↦ let f = w.found-is in rw f w.in_ok-extend.ensures.few
-        | visit-else-is_cycle+else-len-search-2 w ↦ let f = w.found-is in rw f c.requires.limits.cycles
-      ];
-      too_many = λ e. cc;
     }

@@ -1,30 +1,29 @@
 use Rattle.std.proofs.Common.{◌≡◌, ◌-◌, ◌*◌, ◌≤◌, length, slice_index}
-use Rattle.cycle_search.specs.Search.{Adds, CycleOver, IsAmong, CycleUpTo}
+use Rattle.cycle_search.specs.Collecting.{TakesSoFar}
+use Rattle.cycle_search.specs.Search.{CycleOver, IsAmong, CycleUpTo}
 use Rattle.cycle_search.proofs.search.+search.Given as goal
 
 abbrev pub decreases-extend : goal.decreases-extend
-decreases-extend l = 3 * (l.search.now.members - length l.path.now.items)
+decreases-extend g l = 3 * (l.search.now.members - length l.path.now.items)
 
 abbrev pub decreases-close : goal.decreases-close
-decreases-close l = 3 * (l.search.now.members - length l.path.now.items) - 1
+decreases-close g l = 3 * (l.search.now.members - length l.path.now.items) - 1
 
 abbrev pub decreases-visit : goal.decreases-visit
-decreases-visit l = 3 * (l.search.now.members - length l.path.now.items) - 2
+decreases-visit g l = 3 * (l.search.now.members - length l.path.now.items) - 2
 
 abbrev pub invariant-extend-loop-next : goal.invariant-extend-loop-next
-invariant-extend-loop-next l = record {
+invariant-extend-loop-next g l = record {
   same : l.path.items ≡ l.fn.path.items;
-  few : length l.found.items ≤ l.search.cycles;
-  added : Adds (CycleOver l.search.searched.now l.search.members l.fn.path.items (IsAmong l.nexts l.next-index)) l.fn.found.items l.found.items;
+  added : TakesSoFar g.C.Collector.taking (CycleOver l.search.searched.now l.search.members l.fn.path.items (IsAmong l.nexts l.next-index)) l.fn.collector l.collector;
 }
 
 abbrev pub decreases-close-loop-next : goal.decreases-close-loop-next
-decreases-close-loop-next l = length l.search.searched.now - l.last
+decreases-close-loop-next g l = length l.search.searched.now - l.last
 
 abbrev pub invariant-close-loop-next : goal.invariant-close-loop-next
-invariant-close-loop-next l = record {
+invariant-close-loop-next g l = record {
   same : l.path.items ≡ l.fn.path.items;
-  few : length l.found.items ≤ l.search.cycles;
   first : slice_index l.fn.path.items 0 ≤ l.last;
-  added : Adds (CycleUpTo l.search.searched.now l.search.members l.fn.path.items l.last) l.fn.found.items l.found.items;
+  added : TakesSoFar g.C.Collector.taking (CycleUpTo l.search.searched.now l.search.members l.fn.path.items l.last) l.fn.collector l.collector;
 }

@@ -1,7 +1,7 @@
-use Rattle.std.proofs.Common.{◌≡◌, ◌+◌, ◌<◌, ◌≤◌, List, [], Ok, map, Bor, ℕ, ap, subst, sym, ◌∙◌, arith}
+use Rattle.std.proofs.Common.{◌<◌, ◌≤◌, List, [], Ok, map, Bor, ℕ, ap, subst, sym, ◌∙◌, arith}
 use Rattle.std.specs.List.{flat_map}
 use Rattle.std.proofs.lemmas.List.{get_or-map, length-map, take_all}
-use Rattle.event_files.specs.EventFile.{event_word, line_words}
+use Rattle.event_files.specs.EventFile.{line_words}
 use Rattle.event_files.proofs.Lines.{one_more_line}
 use Rattle.event_files.proofs.event_file.events_of.Goals as goal
 

@@ -1,5 +1,5 @@
-use Rattle.std.proofs.Common.{◌≡◌, ℕ, List, [], Bor, Some, get_or, map, sym, ap, ◌∙◌}
-use Rattle.std.proofs.lemmas.Option.{none-some, slice_get-get_or, slice_get-map}
+use Rattle.std.proofs.Common.{◌≡◌, ℕ, List, [], Bor, Some, get_or, map, ap, ◌∙◌}
+use Rattle.std.proofs.lemmas.Option.{slice_get-get_or, slice_get-map}
 use Rattle.std.specs.Prelude.{option_map, slice_get}
 use Rattle.event_files.specs.EventFile.{IsEventWord}
 use Rattle.event_files.proofs.event_file.push_events.Goals as goal

@@ -1,7 +1,7 @@
-use Rattle.std.proofs.Common.{◌≡◌, ℕ, List, ◌++◌, map, Bor, sym, ap, subst, ◌∙◌}
+use Rattle.std.proofs.Common.{ℕ, List, ◌++◌, map, Bor, sym, ap, subst, ◌∙◌}
 use Rattle.std.specs.Result.{IsErr}
 use Rattle.std.proofs.lemmas.Bool.{true≢false}
-use Rattle.event_files.specs.EventFile.{event_word, line_words, HasBadWord}
+use Rattle.event_files.specs.EventFile.{event_word, HasBadWord}
 use Rattle.event_files.proofs.event_file.push_line.Goals as goal
 
 pub returns-in_err-words-clause-added : goal.returns-in_err-words-clause-added

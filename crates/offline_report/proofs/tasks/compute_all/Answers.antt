@@ -10,4 +10,4 @@ returns g c =
     let s = g.A.About.events in
     let n = length (dependencies s) in
     IfOk-then c.gather.result _ _ c.gather.ensures (λ v h.
-    collected s g.A.About.bound n (range_with_len 0 c.args.tasks) h.0 v (ap (range_with_len 0) c.requires.tasks) h.1 h.2)
+    collected s g.A.About.bound g.A.About.limit n (range_with_len 0 c.args.tasks) h.0 v (ap (range_with_len 0) c.requires.tasks) h.1 h.2)

@@ -1,28 +1,27 @@
-use Rattle.std.proofs.Common.{sym, ap, ◌∙◌}
-use Rattle.findings.specs.Found.{Asked}
-use Rattle.sequencer.specs.Book.{findings_rows, outcome}
-use Rattle.commands.proofs.Known.{still_known, known_as}
+use Rattle.std.proofs.Common.{◌≤◌, sym, subst}
+use Rattle.std.proofs.lemmas.List.{length-map}
+use Rattle.trace_model.specs.declared.limits.TheConstants.{MAX_CYCLES}
+use Rattle.sequencer.specs.Book.{findings_rows}
+use Rattle.commands.specs.ScriptRun.{Delivers, RefusesTask}
+use Rattle.commands.proofs.ScriptTasks.{delivers, is_refused}
 use Rattle.commands.proofs.script_command.ScriptSession.deliver_task.Goals as goal
 
-pub deliver_known-requires : goal.deliver_known-requires
-deliver_known-requires c =
-    let asked = c.in-Ok.ensures.asked in
-    record { known = known_as c.args.self.now.book.state _ _ _ _ (sym asked.0) (sym asked.3) c.requires.known }
-
-pub returns-in-Ok-deliver_known : goal.returns-in-Ok-deliver_known
-returns-in-Ok-deliver_known c =
+pub returns-in-Ok-deliver_known-clause-delivered : goal.returns-in-Ok-deliver_known-clause-delivered
+returns-in-Ok-deliver_known-clause-delivered c =
+    let state = c.args.self.now.book.state in
+    let next = c.deliver_known.new.self.state in
     let f = c.in-Ok.finding in
     let asked = c.in-Ok.ensures.asked in
-    let before = known_as c.args.self.now.book.state _ _ _ _ (sym asked.0) (sym asked.3) c.requires.known in
-    let after = still_known c.args.self.now.book.state c.deliver_known.new.self.state f.question f.bound f.events f.task (findings_rows f) (outcome c.deliver_known.result) c.deliver_known.ensures.machine before in
-    let same = sym c.compute.ensures.same in
-    record { known = known_as c.deliver_known.new.self.state _ _ _ _ (asked.0 ∙ ap (λ (a : Asked). a.question) same) (asked.3 ∙ ap (λ (a : Asked). a.events) same) after }
+    let exact = c.in-Ok-deliver_known.ensures.exact in
+    let few = subst (λ n. n ≤ MAX_CYCLES) (sym (length-map f.rows (λ p. p.row))) exact.few in
+    let gave = delivers state next f.question f.bound f.events f.task (findings_rows f) c.in-Ok-deliver_known.ensures.machine exact.exact few in
+    subst (λ task. Delivers state c.args.job.now.question task next) asked.2 (subst (λ number. Delivers state number f.task next) asked.0 gave)
 
-pub returns-in-Err : goal.returns-in-Err
-returns-in-Err c =
+pub returns-in-Err-clause-refused : goal.returns-in-Err-clause-refused
+returns-in-Err-clause-refused c =
+    let state = c.args.self.now.book.state in
+    let next = c.deliver_known.new.self.state in
     let f = c.in-Ok.finding in
     let asked = c.in-Ok.ensures.asked in
-    let before = known_as c.args.self.now.book.state _ _ _ _ (sym asked.0) (sym asked.3) c.requires.known in
-    let after = still_known c.args.self.now.book.state c.deliver_known.new.self.state f.question f.bound f.events f.task (findings_rows f) (outcome c.deliver_known.result) c.deliver_known.ensures.machine before in
-    let same = sym c.compute.ensures.same in
-    record { known = known_as c.deliver_known.new.self.state _ _ _ _ (asked.0 ∙ ap (λ (a : Asked). a.question) same) (asked.3 ∙ ap (λ (a : Asked). a.events) same) after }
+    let told = is_refused state next f.question f.bound f.events f.task (findings_rows f) c.in-Err.refusal c.args.job.now c.requires asked.0 asked.1 asked.3 c.in-Err.ensures.machine in
+    (told.0, subst (λ task. RefusesTask state c.args.job.now.question task c.in-Err.refusal) asked.2 told.1)

@@ -1,8 +1,7 @@
 use Rattle.std.proofs.Common.{◌≡◌, ℕ, ◌<◌, slice_get, Some}
-use Rattle.std.specs.List.{Contains}
-use Rattle.explain.specs.Search.{derived_by}
+use Rattle.explain.specs.Search.{Has}
 use Rattle.explain.proofs.search.Search.caught.Given as goal
 
 -- The places so far are not derived.
 abbrev pub invariant-loop-k : goal.invariant-loop-k
-invariant-loop-k l = (j p : ℕ) → j < l.k → slice_get l.places j ≡ Some p → Contains (derived_by l.self) p → ⊥
+invariant-loop-k l = (j p : ℕ) → j < l.k → slice_get l.places j ≡ Some p → Has l.index.events l.self p → ⊥

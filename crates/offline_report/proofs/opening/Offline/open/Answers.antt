@@ -1,4 +1,4 @@
-use Rattle.std.proofs.Common.{sym, subst, ◌∙◌, IfErr}
+use Rattle.std.proofs.Common.{sym, subst, IfErr}
 use Rattle.std.proofs.lemmas.Result.{IfOk-from_err, err_from_is_err_and}
 use Rattle.trace_model.specs.Theory.Trace.{Trace}
 use Rattle.trace_model.specs.Theory.Lawful.{IsWellFormed}
@@ -21,9 +21,8 @@ returns-in_default g c = record { asked = tt; well_formed = tt; refused = tt }
 
 pub returns : goal.returns
 returns g c =
-    let events = c.in-Ok.ensures.0 ∙ c.deref-2.ensures.value in
     record {
-      asked = λ i. record { question = 0; bound = c.in-Ok.ensures.1 i; events = events i };
+      asked = λ i. record { question = 0; bound = c.in-Ok.ensures.1 i; events = c.in-Ok.ensures.0 i };
       well_formed = subst IsWellFormed c.deref.ensures.value c.in_ok-admit.ensures.ok;
       refused = tt;
     }

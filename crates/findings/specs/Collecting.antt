@@ -1,0 +1,88 @@
+-- Which rows of a task a collector takes (this project's profile).
+use Rattle.std.specs.Prelude.{◌≡◌, ℕ, List, [], map, Option}
+use Rattle.std.proofs.Common.{refl, subst, sym, arith}
+use Rattle.trace_model.specs.Theory.Trace.{Trace}
+use Rattle.reports.specs.Printed.{Printed}
+use Rattle.fronts.specs.declared.requirements.Requirements.{Requirements}
+use Rattle.cycle_search.specs.Collecting.{Taking}
+use Rattle.cycle_search.specs.Search.{AreAll, AreSome}
+use Rattle.findings.specs.Found.{AreRowsFor, IsSomeCycle}
+use Rattle.findings.specs.declared.collecting.RowsRefused.{RowsRefused}
+use Rattle.findings.specs.declared.collecting.RowsRefused.TheVariants.{Refused, NoMemory}
+
+-- The rows of all cycles with the property, in lexicographic order.
+abbrev pub AreAllRows : Trace → (List ℕ → Type 0) → List Printed → Type 0
+AreAllRows s P rows = (cycles : List (List ℕ)) × AreAll P cycles × AreRowsFor s cycles rows
+
+-- The rows of some cycles with the property, in lexicographic order.
+abbrev pub AreSomeRows : Trace → (List ℕ → Type 0) → List Printed → Type 0
+AreSomeRows s P rows = (cycles : List (List ℕ)) × AreSome P cycles × AreRowsFor s cycles rows
+
+-- The collector accepts each row.
+abbrev pub AcceptsRows : {C E : Type 0} → Taking C Printed E → C → Type 0
+AcceptsRows taking now = (row : Printed) → taking.accepts now row
+
+-- The collector took the rows of all cycles with the property.
+abbrev pub TookRows : {C E : Type 0} → Taking C Printed E → Trace → (List ℕ → Type 0) →
+    C → C → Type 0
+TookRows taking s P old new =
+    (rows : List Printed) × AreAllRows s P rows × taking.took old rows new
+
+-- The collector may refuse the last of some rows, or an allocation fails.
+abbrev pub RefusesRows : {C E : Type 0} → Taking C Printed E → Trace → (List ℕ → Type 0) →
+    C → RowsRefused E → Type 0
+RefusesRows taking s P old (Refused refused) =
+    (rows : List Printed) × AreSomeRows s P rows × taking.refuses old rows refused
+RefusesRows taking s P old NoMemory = Unit {0}
+
+-- A collector of cycles that computes their rows: the events and requirements that it reads, and
+-- the collector of the rows.
+pub record Rowing (C : Type 0) : Type 0 where
+  pub events : Trace
+  pub requirements : Option Requirements
+  pub rows : C
+
+-- Both read the same tables.
+pub record ReadsSame {C : Type 0} (a b : Rowing C) : Type 0 where
+  pub events : b.events ≡ a.events
+  pub requirements : b.requirements ≡ a.requirements
+
+-- The collector took the rows of these cycles.
+abbrev pub TookRowsFor : {C E : Type 0} → Taking C Printed E →
+    Rowing C → List (List ℕ) → Rowing C → Type 0
+TookRowsFor taking start cycles now = ReadsSame start now
+    × ((rows : List Printed) × AreRowsFor start.events cycles rows
+    × taking.took start.rows rows now.rows)
+
+-- The collector may refuse the last row of these cycles, or an allocation fails.
+abbrev pub RefusesRowsFor : {C E : Type 0} → Taking C Printed E →
+    Rowing C → List (List ℕ) → RowsRefused E → Type 0
+RefusesRowsFor taking start cycles (Refused refused) =
+    (rows : List Printed) × AreRowsFor start.events cycles rows
+    × taking.refuses start.rows rows refused
+RefusesRowsFor taking start cycles NoMemory = Unit {0}
+
+-- No rows, for no cycles.
+pub rows_none : (s : Trace) → AreRowsFor s [] []
+rows_none s = record {
+  numbers = refl;
+  exact = λ k d l. absurd (omega arith);
+  named = λ k d l. absurd (omega arith);
+}
+
+-- The collector of cycles gives their rows to the collector of rows.
+abbrev pub rows_taking : {C E : Type 0} → Taking C Printed E →
+    Taking (Rowing C) (List ℕ) (RowsRefused E)
+rows_taking taking = record {
+  accepts = λ now cycle. IsSomeCycle now.events cycle × AcceptsRows taking now.rows;
+  took = TookRowsFor taking;
+  refuses = RefusesRowsFor taking;
+  nothing = λ start. (
+    record { events = refl; requirements = refl },
+    ([], rows_none start.events, taking.nothing start.rows),
+  );
+  still = λ start now cycles cycle took accepts. (
+    subst (λ s. IsSomeCycle s cycle) (sym took.0.events) accepts.0,
+    λ row. taking.still start.rows now.rows took.1.0 row took.1.2 (accepts.1 row),
+  );
+}
