@@ -1,5 +1,5 @@
 #!/usr/bin/env python3
-"""Compares goodlockd with an independent program: the offline report on small random traces, and the refusals of random events.
+"""Compares goodlockd with an independent program: reports and explanations of small random traces, and refusals of random events.
 
 usage: bench/compare.py [TRACES] [EVENTS] [FIRST]
 
@@ -8,8 +8,9 @@ usage: bench/compare.py [TRACES] [EVENTS] [FIRST]
   FIRST     the seed of the first trace, 0 or more; default 0
 
 The independent program is in this file. It lists the cycles by trying all tuples of dependencies. It computes a closure by
-repeating the rules until nothing is added. It tries the instances of a cycle in lexicographic order. It decides whether an event is
-lawful by scanning all earlier events. It is slow, and shares no code with goodlockd.
+repeating the rules until nothing is added. It tries the instances of a cycle in lexicographic order. It checks each refutation that
+`explain` prints from its definition. It decides whether an event is lawful by scanning all earlier events. It is slow, and shares no
+code with goodlockd.
 GOODLOCKD_PROGRAM names another program than ./goodlockd.
 """
 import collections
@@ -150,6 +151,88 @@ def report(events, bound):
     return "\n".join([head] + lines) + "\n", len(found), confirmed
 
 
+REASONS = {
+    "before": r"  before place (\d+) its thread runs place (\d+)",
+    "order": r"  place (\d+) needs place (\d+): earlier in its thread",
+    "fork or join": r"  place (\d+) needs place (\d+): fork or join",
+    "read": r"  place (\d+) reads what place (\d+) wrote",
+    "sections": r"  places (\d+) and (\d+) acquire one lock: place (\d+) releases it between them",
+}
+CONCLUSION = r"  so place (\d+) must run: thread (\d+) cannot stop before it"
+
+
+def holds(events, kind, named, place, present, derived):
+    """Returns whether the reason, which names these places, derives the place."""
+    if not set(named) <= (set(present) if kind == "before" else derived):
+        return False
+    if kind == "sections":
+        first, second = named
+        begins = [events[p][1] == "a" and is_outermost(events, p) for p in named]
+        return first < second and all(begins) and events[first][2] == events[second][2] and release(events, first) == place
+    of = named[0]
+    thread, letter, target = events[of]
+    if kind in ("before", "order"):
+        return place < of and events[place][0] == thread
+    if kind == "read":
+        writes = [other for other in range(of) if events[other][1:] == ("w", target)]
+        return letter == "d" and writes[-1:] == [place]
+    is_fork = events[place][1:] == ("f", thread)
+    is_joined = letter == "j" and (events[place][0] == target or events[place][1:] == ("f", target))
+    return is_fork or is_joined
+
+
+def refutation_fault(events, known, numbers, lines):
+    """Returns the first line that is wrong in a refutation of the cycle, or None."""
+    present = [known[number][1][0] for number in numbers]
+    derived, ended = set(), False
+    for line in lines:
+        step = re.fullmatch(CONCLUSION, line)
+        found = [(kind, match) for kind, form in REASONS.items() if (match := re.fullmatch(form, line))]
+        if ended or not (step or found):
+            return line
+        if step:
+            place, thread = map(int, step.groups())
+            member = next((i for i, number in enumerate(numbers) if known[number][0][0] == thread), None)
+            if member is None or present[member] != place or place not in derived:
+                return line
+            places = known[numbers[member]][1]
+            later = [other for other in places if other > place]
+            ended, derived = not later, set()
+            present[member] = later[0] if later else place
+        else:
+            kind, match = found[0]
+            *named, place = map(int, match.groups())
+            if not holds(events, kind, named, place, present, derived):
+                return line
+            derived.add(place)
+    return None if ended else "the end"
+
+
+def compare_explanations(program, path, events, bound, wanted):
+    """Checks what `explain` prints, also with `check`. Returns the number of refutations, or ends with the fault."""
+    known = dependencies(events)
+    got = subprocess.run([program, "explain", path, "--bound", str(bound)], capture_output=True, text=True)
+    rows, refuted = [], 0
+    for text in re.split(r"(?m)^(?=cycle )", got.stdout)[1:]:
+        lines = text.splitlines()
+        numbers = [int(word) for word in lines[0].split()[1:-1]]
+        is_confirmed = lines[0].endswith("confirmed")
+        size = 1 + len(numbers) + is_confirmed
+        rows += lines[:size]
+        fault = None if is_confirmed else refutation_fault(events, known, numbers, lines[size:])
+        if fault is not None or (is_confirmed and len(lines) > size):
+            sys.exit(f"{path}, bound {bound}, {lines[0]}: the refutation is wrong at: {fault}\n{got.stdout}")
+        refuted += not is_confirmed
+    if got.returncode != 0 or rows != wanted.splitlines()[1:]:
+        sys.exit(f"{path}, bound {bound}: explain prints other rows\n{got.stdout}{got.stderr}")
+    with open(path + ".cycles", "w") as out:
+        out.write(got.stdout)
+    checked = subprocess.run([program, "check", path, path + ".cycles"], capture_output=True, text=True)
+    if checked.returncode != 0 or not all(line.endswith(" valid") for line in checked.stdout.splitlines()):
+        sys.exit(f"{path}, bound {bound}: check refuses what explain printed\n{got.stdout}{checked.stdout}{checked.stderr}")
+    return refuted
+
+
 MOST_HELD, MOST_DEPTH = 32, 255
 
 
@@ -203,7 +286,7 @@ def main(arguments):
     root = os.path.dirname(os.path.dirname(os.path.abspath(__file__)))
     program = os.path.abspath(os.environ.get("GOODLOCKD_PROGRAM", os.path.join(root, "goodlockd")))
     count, events, first = [int(word) for word in arguments] + [200, 60, 0][len(arguments) :]
-    total = sum_confirmed = refused = 0
+    total = sum_confirmed = refused = refuted = 0
     with tempfile.TemporaryDirectory() as folder:
         path = os.path.join(folder, "small.trace")
         for seed in range(first, first + count):
@@ -218,10 +301,11 @@ def main(arguments):
                 print(" ".join(words))
                 print("--- goodlockd\n" + got.stdout + got.stderr + "--- compare.py\n" + wanted)
                 sys.exit(1)
+            refuted += compare_explanations(program, path, parse(words), bound, wanted)
             total += found
             sum_confirmed += confirmed
             refused += compare_refusals(program, path, seed, 2 * events)
-    print(f"{count} traces of {events} events agree: {total} cycles, {sum_confirmed} confirmed; {refused} refusals agree")
+    print(f"{count} traces of {events} events agree: {total} cycles, {sum_confirmed} confirmed, {refuted} refuted; {refused} refusals agree")
 
 
 if __name__ == "__main__":

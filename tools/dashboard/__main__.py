@@ -19,6 +19,9 @@ the server goes on. The dashboard is one of the 16 sessions of the server.
 With --bind, everyone who reaches the address can see the run and ask questions: there is no
 password and no encryption.
 
+A potential cycle has the reasons that `goodlockd explain` prints. GOODLOCKD_PROGRAM names another
+program than ./goodlockd, which the tool does not build.
+
 Exit status: 0 after Ctrl-C, 1 if the port cannot be used, 2 if the command line is wrong.
 """
 

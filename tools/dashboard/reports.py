@@ -8,10 +8,11 @@ import threading
 
 HERE = os.path.dirname(os.path.abspath(__file__))
 ROOT = os.path.dirname(os.path.dirname(HERE))
-sys.path.append(os.path.join(ROOT, "agents"))
+sys.path += [os.path.join(ROOT, "agents"), os.path.join(ROOT, "tools")]
 
 import report as agent
 from session import Refused
+from shared.program import built_program
 
 SUMMARY, DRAW = os.path.join(ROOT, "tools", "summary"), os.path.join(HERE, "draw.py")
 KINDS = {"report": None, "json": "--json", "sarif": "--sarif"}
@@ -71,6 +72,7 @@ class Reports:
         self.watch, self.folder = watch, folder
         self.trace = Trace(trace_name, folder)
         self.working, self.drawings, self.refused = threading.Lock(), {}, {}
+        self.environment = os.environ | {"GOODLOCKD_PROGRAM": built_program()}  # its name may be relative to this folder
 
     def version(self, key):
         """Returns a text that changes when the drawing of a report would."""
@@ -144,7 +146,8 @@ class Reports:
 
     def execute(self, *words):
         """Runs a tool in the folder. Ctrl-C in the terminal does not end it."""
-        return subprocess.run([sys.executable, *words], capture_output=True, cwd=self.folder, check=False, start_new_session=True)
+        return subprocess.run([sys.executable, *words], capture_output=True, cwd=self.folder, env=self.environment, check=False,
+                              start_new_session=True)
 
 
 def last_line(made):

@@ -13,7 +13,9 @@ from shared.reading import read_reports, read_trace
 
 
 def main():
-    parser = argparse.ArgumentParser(prog="picture", description="Draws a trace and its report as one HTML file.")
+    parser = argparse.ArgumentParser(prog="picture", description="Draws a trace and its report as one HTML file.", epilog=(
+        "A potential cycle has the reasons that `goodlockd explain` prints. GOODLOCKD_PROGRAM names another program than ./goodlockd, "
+        "which the tool does not build."))
     parser.add_argument("trace", help="an event file or a script")
     parser.add_argument("report", help="the report on it, written by goodlockd or an agent")
     parser.add_argument("html", nargs="?", help="the file to write; default: standard output")

@@ -6,13 +6,6 @@ PALETTE = ["#0072b2", "#e69f00", "#009e73", "#cc79a7", "#56b4e9", "#7b5ea7", "#8
 STUCK, APART, INK, FAINT, OTHER = "#c62828", "#b26a00", "#22303c", "#8a97a3", "#a9b4be"
 
 
-def source_of(event):
-    """Returns the event's source line, `bank.c:35`, or an empty text if the trace has none."""
-    if not event.where:
-        return ""
-    return event.where.split(" in ")[0].rsplit("/", 1)[-1]
-
-
 def shorten(words, most):
     return words if len(words) <= most else words[: most - 1] + "…"
 

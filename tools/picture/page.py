@@ -4,9 +4,9 @@ from math import inf
 
 from drawing import PALETTE, colours_of
 from ring import draw_ring
-from shared.apart import advice, heading, look, sentences, tally
 from shared.groups import TRIED, Groups
 from shared.index import CALLED_BY
+from shared.reasons import reasons_of
 from timeline import Link, TimeLine, rows_of
 
 SHORT, WHOLE_TRACE = 40, 120
@@ -106,20 +106,21 @@ def report_parts(index, drawn, at):
         which = "each group" if count <= drawn.most else "the first group" if drawn.most == 1 else f"each of the first {drawn.most} groups"
         yield (f'<p class="faint">Cycles whose members hold and wait at the same code locations are one group. There '
                f"{'is' if count == 1 else 'are'} {plural(count, 'group')}; the page draws one cycle of {which}, confirmed ones first.</p>")
-    for number, (cycle, cycles, confirmed) in enumerate(drawn.sections()):
-        yield cycle_section(index, report, cycle, f"r{at}c{number}", cycles, confirmed)
+    sections = list(drawn.sections())
+    reasons = reasons_of(index, report, [cycle for cycle, *_ in sections if not cycle.is_confirmed])
+    for number, (cycle, cycles, confirmed) in enumerate(sections):
+        yield cycle_section(index, cycle, reasons.get(tuple(cycle.numbers)), f"r{at}c{number}", cycles, confirmed)
 
 
-def cycle_section(index, report, cycle, name, cycles, confirmed):
+def cycle_section(index, cycle, reason, name, cycles, confirmed):
     row = "confirmed" if cycle.is_confirmed else "potential"
     colours = colours_for(index, cycle.members)
     numbers = " ".join(map(str, cycle.numbers))
     others = f'<span class="faint">one of {cycles:,} cycles at these locations, {confirmed:,} confirmed</span>' if cycles > 1 else ""
     head = f'<div class="head"><h2>Cycle {numbers}</h2><span class="badge {row}">{row}</span>{others}</div>'
-    below = confirmed_part if cycle.is_confirmed else potential_part
-    told, instance = below(index, report, cycle, colours, name)
+    told = potential_part(index, cycle, reason, colours, name) if reason else confirmed_part(index, cycle, colours, name)
     ring = draw_ring(name + "ring", cycle.members, colours)
-    table = members_table(index, cycle.members, instance, colours, cycle.is_confirmed)
+    table = members_table(index, cycle.members, index.first_instance(cycle.members), colours, cycle.is_confirmed)
     pair = f'<div class="pair"><div class="ring">{ring}</div><div class="members">{table}</div></div>'
     return f"<section>{head}{pair}{told}</section>"
 
@@ -161,41 +162,40 @@ def where_of(event):
     return f' <span class="where" title="{escape(event.where)}">{escape(event.where.split(CALLED_BY)[0].rsplit("/", 1)[-1])}</span>'
 
 
-def confirmed_part(index, report, cycle, colours, name):
-    instance = [member.place for member in cycle.members]
+def confirmed_part(index, cycle, colours, name):
+    instance = index.first_instance(cycle.members)
     rows = rows_of(cycle.witness, index.steps_to(cycle.members, instance), inf if len(cycle.witness) <= SHORT else 3)
     line = TimeLine(name + "line", index, rows, colours, waiting=cycle.members)
     count = plural(len(cycle.witness), "event")
     told = (f"<h3>How it happens</h3><p>Run {count} of the trace in this order and nothing else. "
             "Then each of these threads waits for a lock that the next one holds.</p>")
-    return told + scroll(line.draw(f"The witness of cycle {cycle.numbers}, and its members waiting")), instance
+    return told + scroll(line.draw(f"The witness of cycle {cycle.numbers}, and its members waiting"))
 
 
-def potential_part(index, report, cycle, colours, name):
-    (instance, chain, passed), kinds, looked, total = look(index, cycle.members, report.length)
-    important = index.steps_to(cycle.members, instance) | set(instance)
+def potential_part(index, cycle, reason, colours, name):
     links, marked = [], set()
-    for step in chain or []:
-        if step.kind != "before":
-            marked |= {step.needed, step.cause}
-            links.append(Link(step.kind, step.needed, step.cause))
-    important |= marked
+    for entry in reason.entries:
+        if entry.kind != "before":
+            marked |= {entry.place, *entry.named}
+        if entry.kind not in ("before", "order"):
+            links.append(Link(entry.place, max(entry.named)))
+    important = index.steps_to(cycle.members, index.first_instance(cycle.members)) | set(reason.waits) | marked
     shown = list(range(max(important) + 1))
     rows = rows_of(shown, important, inf if len(shown) <= SHORT else 3)
-    line = TimeLine(name + "line", index, rows, colours, marked=marked, wanted=instance, links=links)
-    told = reason(index, instance, chain, passed)
-    if counts := tally(kinds, looked, total):
-        told += f'<p class="faint">{counts}</p>'
-    told += "<h3>The observed order</h3>"
-    return told + scroll(line.draw(f"The events of cycle {cycle.numbers} in the observed order")), instance
+    line = TimeLine(name + "line", index, rows, colours, marked=marked, wanted=reason.waits, links=links)
+    drawn = line.draw(f"The events of cycle {cycle.numbers} in the observed order")
+    return f"{why(reason)}<h3>The observed order</h3>{scroll(drawn)}"
 
 
-def reason(index, instance, chain, passed):
-    """Returns what keeps the members apart, step by step."""
-    if chain is None:
-        return f'<div class="why"><b>{heading(chain)}</b></div>'
-    steps = "".join(f"<li>{step}</li>" for step in sentences(index, chain, passed))
-    return f'<div class="why"><b>{heading(chain)}</b><ol>{steps}</ol><p>{advice(chain)}</p></div>'
+def why(reason):
+    """Returns what keeps the members apart, step by step, or why it is not shown."""
+    heading = f"<b>{escape(reason.heading)}</b>"
+    if not reason.sentences:
+        return f'<div class="why">{heading}</div>'
+    steps = "".join(f"<li>{escape(sentence)}</li>" for sentence in reason.sentences)
+    further = f"<p>{reason.further()}</p>" if reason.left_out else ""
+    proof = f'<p class="faint"><code>{escape(reason.command)}</code> prints this refutation in full{reason.note}.</p>'
+    return f'<div class="why">{heading}<ol>{steps}</ol>{further}<p>{reason.advice}</p>{proof}</div>'
 
 
 def whole_trace(index):

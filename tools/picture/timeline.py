@@ -2,15 +2,15 @@
 from collections import namedtuple
 from html import escape
 
-from drawing import APART, FAINT, INK, OTHER, STUCK, drawing, fitting, shape, shorten, source_of, text
-from shared.apart import words_of
+from drawing import APART, FAINT, INK, OTHER, STUCK, drawing, fitting, shape, shorten, text
+from shared.reading import source_of, words_of
 
 GUTTER, HEAD, ROW, TALL_ROW, GAP_ROW, SCREEN = 58, 34, 31, 42, 26, 975
 NARROWEST, WIDEST, BETWEEN = 148, 168, 40
 # A row is one event or a run of events that are left out.
 Shown = namedtuple("Shown", "place")
 LeftOut = namedtuple("LeftOut", "places")
-Link = namedtuple("Link", "kind begin end")
+Link = namedtuple("Link", "begin end")
 
 
 class TimeLine:

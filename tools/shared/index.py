@@ -8,7 +8,7 @@ class Index:
     """`held` maps each outermost acquire to the locks that its thread held, `release_of` to its release. Inner ones are in neither."""
 
     def __init__(self, trace):
-        self.events, self.names, self.marks = trace
+        self.events, self.names, self.marks, self.file = trace
         self.thread_places = defaultdict(list)
         self.at, self.held, self.writer, self.release_of = [], {}, {}, {}
         self.fork_of, self.join_of, self.dependencies, self.ends = {}, {}, defaultdict(list), set()

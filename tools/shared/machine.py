@@ -4,9 +4,9 @@ import json
 from collections import Counter
 from urllib.parse import quote
 
-from shared.apart import words_of
 from shared.groups import location_of
 from shared.index import CALLED_BY
+from shared.reading import words_of
 
 SCHEMA = "https://json.schemastore.org/sarif-2.1.0.json"
 RULES = [
@@ -70,8 +70,9 @@ def group_object(index, finding):
     if finding.is_confirmed:
         steps = [step_object(index, step) for step in group.steps]
         return common | {"witness": {"events": group.witness_length, "steps": steps, "left_out_at_end": group.left_out}}
-    reason = {"heading": finding.heading, "steps": finding.reasons, "instances": finding.tally}
-    return common | {"kept_apart": reason}
+    reason = finding.reason
+    told = {"heading": reason.heading, "sentences": reason.sentences, "steps_left_out": reason.left_out, "command": reason.command}
+    return common | {"kept_apart": told}
 
 
 def member_object(index, group, at):
@@ -137,7 +138,7 @@ def message_of(finding):
     sides = "; ".join(f"a thread that holds the lock acquired at {hold} waits at {wait}" for hold, wait in finding.locations)
     count = f"{finding.group.cycles:,} cycle{'' if finding.group.cycles == 1 else 's'}, {finding.group.confirmed:,} confirmed"
     row = "Deadlock" if finding.is_confirmed else "Potential deadlock"
-    reason = "" if finding.is_confirmed else f" {finding.heading.rstrip('.')}."
+    reason = "" if finding.is_confirmed else f" {finding.reason.heading.rstrip('.')}."
     return f"{row}: {sides} ({count}).{reason} {finding.advice}"
 
 

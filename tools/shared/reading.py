@@ -17,9 +17,12 @@ NAME = re.compile(rf"# (thread|lock) {NUMBER} is (.*)")
 MARK = re.compile(rf"# mark {NUMBER}")
 LARGEST, MOST_HELD, MOST_DEPTH, MOST_THREADS, MOST_EVENTS = 4_294_967_295, 32, 255, 1_024, 1_048_576
 
+VERBS = {"f": "forks thread", "j": "joins thread", "a": "acquires lock", "r": "releases lock", "d": "reads", "w": "writes"}
+
 Event = namedtuple("Event", "thread letter about where")
-# `names` maps ("thread", 1) and ("lock", 1) to names; `marks` are the locks that mark acquires which do not wait without end.
-Trace = namedtuple("Trace", "events names marks")
+# `names` maps ("thread", 1) and ("lock", 1) to names; `marks` are the locks that mark acquires which do not wait without end. `file` is the
+# name of the file, or None if it is a script, which has other lines too.
+Trace = namedtuple("Trace", "events names marks file")
 Member = namedtuple("Member", "thread lock held place")
 # `cycles` and `confirmed` are the counts of the report's first line.
 Report = namedtuple("Report", "question length bound cycles confirmed")
@@ -32,6 +35,18 @@ class Cycle:
         self.numbers, self.is_confirmed = numbers, is_confirmed
         self.members, self.witness = [], []
         self.more, self.more_confirmed = 0, 0
+
+
+def words_of(event):
+    """Returns what an event does: `acquires lock 10`."""
+    return f"{VERBS[event.letter]} {event.about}"
+
+
+def source_of(event):
+    """Returns the event's source line, `bank.c:35`, or an empty text if the trace has none."""
+    if not event.where:
+        return ""
+    return event.where.split(" in ")[0].rsplit("/", 1)[-1]
 
 
 class NotUnderstood(Exception):
@@ -108,16 +123,20 @@ class TraceReader:
 
     def __init__(self, name):
         self.name, self.number, self.where, self.gate = name, 0, None, Gate()
-        self.trace = Trace([], {}, set())
+        self.trace, self.is_script = Trace([], {}, set(), None), False
 
     def take(self, line):
         self.number += 1
         words = [word for word in line.split(" ") if word]
         if not words or words[0].startswith("#"):
             self.take_comment(line, words)
-        elif not SCRIPT_LINE.fullmatch(" ".join(words)):
-            is_batch = words[0] == "batch"
-            self.take_events(words[1:] if is_batch else words, is_batch)
+        elif SCRIPT_LINE.fullmatch(" ".join(words)):
+            self.is_script = True
+        elif words[0] == "batch":
+            self.is_script = True
+            self.take_events(words[1:], True)
+        else:
+            self.take_events(words, False)
 
     def take_comment(self, line, words):
         if words[:2] == ["#", "at"]:
@@ -146,7 +165,7 @@ def read_trace(name):
     reader = TraceReader(name)
     for line in lines_of(name):
         reader.take(line)
-    return reader.trace
+    return reader.trace._replace(file=None if reader.is_script else name)
 
 
 class ReportReader:
