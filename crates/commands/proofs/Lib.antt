@@ -4,3 +4,5 @@ pub mod OfflineEnds
 pub mod PotentialRows
 pub mod ReplayEnds
 pub mod ScriptTasks
+pub mod CheckedCycles
+pub mod ExplainedTexts

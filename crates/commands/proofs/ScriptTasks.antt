@@ -1,17 +1,16 @@
 -- Delivering tasks one after the other.
-use Rattle.std.proofs.Common.{◌≡◌, ℕ, zero, suc, ◌+◌, ◌<◌, ◌≤◌, List, [], ◌∷◌, Bool, true, false, cond, not, ◌==◌, Option, Some, None, IfErr, length, slice_get, slice_set, take, is_some, inl, inr, refl, sym, ap, subst, ◌∙◌, arith, length-set}
-use Rattle.std.specs.Prelude.{Result, Ok, Err, IfOk, MatchOption, OnOk}
+use Rattle.std.proofs.Common.{◌≡◌, ℕ, ◌+◌, ◌<◌, ◌≤◌, List, true, cond, not, ◌==◌, Some, None, length, slice_get, slice_set, take, is_some, inl, refl, sym, ap, subst, ◌∙◌, arith}
 use Rattle.std.specs.List.{count_by}
-use Rattle.std.proofs.lemmas.Bool.{eq-eqb, true≢false}
+use Rattle.std.proofs.lemmas.Bool.{eq-eqb}
 use Rattle.std.proofs.lemmas.List.Sums.{count_by-le-length}
-use Rattle.std.proofs.lemmas.Option.{none-some, same_Some, slice_get_within}
+use Rattle.std.proofs.lemmas.Option.{same_Some}
 use Rattle.trace_model.specs.declared.limits.TheConstants.{MAX_CYCLES, MAX_EVENTS}
 use Rattle.trace_model.specs.declared.refusal.Refusal.{Refusal}
 use Rattle.trace_model.specs.declared.refusal.Refusal.TheVariants.{OtherBound, OtherTrace}
 use Rattle.trace_model.specs.declared.messages.step.BoardStep.TheVariants as steps
 use Rattle.trace_model.specs.Theory.Trace.{Trace}
 use Rattle.trace_model.specs.Theory.Rows.{Row, AreRows}
-use Rattle.trace_model.specs.Protocol.Machine.{Question, State, deliver, deliver_next, deliver_refused, deliver_refused_by, is_confirmed, same_events, task_refused, with_task}
+use Rattle.trace_model.specs.Protocol.Machine.{Question, State, deliver, deliver_next, deliver_refused_by, is_confirmed, same_events, task_refused, with_task}
 use Rattle.trace_model.specs.Protocol.Runs.{TakesStep}
 use Rattle.trace_model.specs.Protocol.Bounds.{StateFits}
 use Rattle.std.proofs.lemmas.List.{length-take}
@@ -20,8 +19,7 @@ use Rattle.trace_model.proofs.Protocol.Bounds.{dependencies_few}
 use Rattle.trace_model.proofs.Protocol.Summary.{same_events_itself, sum_told}
 use Rattle.trace_model.proofs.Protocol.Taking.{machine_steps}
 use Rattle.findings.specs.Found.{Asked}
-use Rattle.sequencer.specs.Book.{IsLeastMissing}
-use Rattle.commands.specs.ScriptRun.{Delivers, DeliversNext, IsJobIn, IsNextTask, IsSettled, RefusesTask}
+use Rattle.commands.specs.ScriptRun.{Delivers, IsJobIn, RefusesTask}
 
 -- a delivery that the machine takes
 pub delivers : (s next : State) (number bound : ℕ) (events : Trace) (task : ℕ) (rows : List Row) → deliver s number bound events task rows ≡ (None, next) → AreRows events bound task rows →

@@ -6,3 +6,4 @@ pub mod Replay
 pub mod Script
 pub mod ScriptRun
 pub mod Text
+pub mod Check

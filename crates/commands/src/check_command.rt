@@ -1,5 +1,7 @@
 //! The command `check`: the check of explained cycles against a trace.
+ghost use Rattle.std.specs.Prelude.{◌≡◌, ◌++◌, Some, map, IfOk, IfSome, OnOk};
 ghost use Rattle.trace_model.specs.Theory.Lawful.{IsWellFormed};
+ghost use Rattle.commands.specs.Check.{AreChecked, IsVerdictFor, checked_line, is_valid, refutation_words, row_words, sentence, step_words};
 
 use crate::admission::{Admission, admit_file};
 use crate::exit::{CommandError, Status};
@@ -36,17 +38,22 @@ enum CycleVerdict {
 }
 
 /// Appends the sentence of an entry, as a line.
-fn push_sentence(text: &mut Vec<u8>, entry: &Derived) -> Result<(), NoMemory> {
+fn push_sentence(text: &mut Vec<u8>, entry: &Derived) -> Result<(), NoMemory>
+    ensures { OnOk result (text.new.items ≡ text.old.items ++ sentence entry.now) }
+{
     let mut line = Vec::new(*text.allocator());
     push_entry(&mut line, entry)?;
-    if let Some(sentence) = line.strip_prefix(b" ") {
-        text.extend_from_slice(sentence)?;
-    }
+    let Some(sentence) = line.get(1..) else {
+        unreachable!()
+    };
+    text.extend_from_slice(sentence)?;
     Ok(())
 }
 
 /// Appends why a step is wrong.
-fn push_step_fault(text: &mut Vec<u8>, fault: &StepFault) -> Result<(), NoMemory> {
+fn push_step_fault(text: &mut Vec<u8>, fault: &StepFault) -> Result<(), NoMemory>
+    ensures { OnOk result (text.new.items ≡ text.old.items ++ step_words fault.now) }
+{
     match fault {
         StepFault::NoSuchMember => {
             text.extend_from_slice(b" has no such member\n")?;
@@ -63,10 +70,9 @@ fn push_step_fault(text: &mut Vec<u8>, fault: &StepFault) -> Result<(), NoMemory
 }
 
 /// Appends the verdict on a refutation.
-fn push_refutation_verdict(
-    text: &mut Vec<u8>,
-    verdict: &RefutationVerdict,
-) -> Result<(), NoMemory> {
+fn push_refutation_verdict(text: &mut Vec<u8>, verdict: &RefutationVerdict) -> Result<(), NoMemory>
+    ensures { OnOk result (text.new.items ≡ text.old.items ++ refutation_words verdict.now) }
+{
     match verdict {
         RefutationVerdict::Valid => {
             text.extend_from_slice(b" valid\n")?;
@@ -92,7 +98,9 @@ fn push_refutation_verdict(
 }
 
 /// Appends why a row is not one of the trace.
-fn push_row_fault(text: &mut Vec<u8>, fault: &RowFault) -> Result<(), NoMemory> {
+fn push_row_fault(text: &mut Vec<u8>, fault: &RowFault) -> Result<(), NoMemory>
+    ensures { OnOk result (text.new.items ≡ text.old.items ++ row_words fault.now) }
+{
     match fault {
         RowFault::UnknownNumber(number) => {
             push_last(text, b" unknown dependency ", u64::from(*number))
@@ -119,7 +127,10 @@ fn push_row_fault(text: &mut Vec<u8>, fault: &RowFault) -> Result<(), NoMemory> 
 }
 
 /// Appends the line of a verdict.
-fn push_verdict(text: &mut Vec<u8>, cycle: &Cycle, verdict: &CycleVerdict) -> Result<(), NoMemory> {
+fn push_verdict(text: &mut Vec<u8>, cycle: &Cycle, verdict: &CycleVerdict) -> Result<(), NoMemory>
+    ensures { OnOk result
+        (text.new.items ≡ text.old.items ++ checked_line cycle.now verdict.now) }
+{
     text.extend_from_slice(b"cycle")?;
     for number in cycle.numbers() {
         push_number(text, b" ", u64::from(*number))?;
@@ -140,7 +151,9 @@ fn push_verdict(text: &mut Vec<u8>, cycle: &Cycle, verdict: &CycleVerdict) -> Re
 }
 
 /// Returns whether the verdict is that the evidence is right.
-fn is_valid(verdict: &CycleVerdict) -> bool {
+fn is_valid(verdict: &CycleVerdict) -> bool
+    ensures { result ≡ is_valid verdict.now }
+{
     matches!(
         verdict,
         CycleVerdict::Witness(Verdict::Reaches) | CycleVerdict::Refutation(RefutationVerdict::Valid)
@@ -148,7 +161,10 @@ fn is_valid(verdict: &CycleVerdict) -> bool {
 }
 
 /// Returns the places of the members, or `None` if one has none.
-fn instance_of(alloc: Global, members: &[ExplainedMember]) -> Result<Option<Instance>, NoMemory> {
+fn instance_of(alloc: Global, members: &[ExplainedMember]) -> Result<Option<Instance>, NoMemory>
+    ensures { IfOk result (λ found. IfSome found
+        (λ instance. map (λ m. m.place) members.now ≡ map Some instance)) }
+{
     let mut places = Vec::with_capacity(alloc, members.len())?;
     for member in members {
         let Some(place) = member.place else {
@@ -167,6 +183,7 @@ fn evidence_verdict(
     explained: &Explained,
 ) -> Result<Option<CycleVerdict>, NoMemory>
     requires { IsWellFormed events.now }
+    ensures { IfOk result (λ v. IfSome v (IsVerdictFor events.now explained.now)) }
 {
     match &explained.evidence {
         Evidence::Refutation(refutation) => {
@@ -193,6 +210,7 @@ fn verdict_of(
     explained: &Explained,
 ) -> Result<CycleVerdict, NoMemory>
     requires { IsWellFormed events.now }
+    ensures { IfOk result (IsVerdictFor events.now explained.now) }
 {
     if let Some(fault) = row_fault(table, explained) {
         return Ok(CycleVerdict::Row(fault));
@@ -227,6 +245,8 @@ fn write_verdicts<O: Write>(
     out: &mut O,
 ) -> Result<Status, CommandError>
     requires { IsWellFormed events.now }
+    ensures { IfOk result (λ status. AreChecked events.now explained.now status
+        (O.contents out.old) (O.contents out.new)) }
 {
     let table = dependencies_of(alloc, state, events)?;
     let mut status = Status::Done;

@@ -1,8 +1,13 @@
 //! The command `explain`: the cycles of a file of events, each with its evidence.
-ghost use Rattle.std.specs.Prelude.{◌≡◌, ◌<◌, ◌≤◌, length, map, IfOk, OnOk};
+ghost use Rattle.std.specs.Prelude.{◌≡◌, ◌≢◌, ◌<◌, ◌≤◌, [], length, map, slice_get, Some, IfErr, IfOk, OnOk};
 ghost use Rattle.std.specs.Arc.{arc_value};
 ghost use Rattle.trace_model.specs.Theory.Lawful.{IsWellFormed};
-ghost use Rattle.commands.specs.Explain.{AddsRefutation, IsPotential};
+ghost use Rattle.trace_model.specs.Theory.Dependencies.{dependencies};
+ghost use Rattle.reports.specs.Printed.{Printed};
+ghost use Rattle.snapshots.specs.Found.{AreRowsOf};
+ghost use Rattle.commands.specs.declared.exit.Status.TheVariants.{Done, NotUnderstood};
+ghost use Rattle.commands.specs.Explain.{AddsExplanations, AddsRefutation, ExplainTells, ExplainsChosen, ExplainsCycle, ExplainsTasks, IsExplanation, IsPotential};
+ghost use Rattle.commands.specs.Exit.{status_of};
 
 use crate::admission::{Admission, admit_file};
 use crate::exit::{CommandError, Status};
@@ -29,29 +34,31 @@ const QUESTION: u32 = 0;
 /// Why the cycles are not explained to the end.
 #[derive(Drop)]
 enum Ended {
-    /// There is no report of these cycles.
-    Refused(OfflineRefused),
-    /// Memory or output failed.
-    Failed(CommandError),
+    /// A task has too many cycles.
+    TooManyCycles,
+    /// An allocation failed.
+    Memory,
+    /// A write to standard output failed.
+    Output,
 }
 
 impl From<NoMemory> for Ended {
     fn from(_error: NoMemory) -> Ended {
-        Ended::Failed(CommandError::Memory)
+        Ended::Memory
     }
 }
 
 impl From<io::Error> for Ended {
     fn from(_error: io::Error) -> Ended {
-        Ended::Failed(CommandError::Output)
+        Ended::Output
     }
 }
 
 impl From<ComputeRefused> for Ended {
     fn from(refused: ComputeRefused) -> Ended {
         match refused {
-            ComputeRefused::TooManyCycles => Ended::Refused(OfflineRefused::TooManyCycles),
-            ComputeRefused::NoMemory => Ended::Failed(CommandError::Memory),
+            ComputeRefused::TooManyCycles => Ended::TooManyCycles,
+            ComputeRefused::NoMemory => Ended::Memory,
         }
     }
 }
@@ -99,7 +106,12 @@ fn text_of(
     index: usize,
     buffer: &mut TextBuffer,
 ) -> Result<Vec<u8>, NoMemory>
-    requires { index < length finding.now.rows }
+    requires index { index < length finding.now.rows }
+    requires empty { buffer.old ≡ [] }
+    ensures text { IfOk result (λ text. (row : Printed) →
+        slice_get finding.now.rows index ≡ Some row →
+        IsExplanation finding.now.events row text.items) }
+    ensures empty { OnOk result (buffer.new ≡ []) }
 {
     let rows = finding.rows();
     let row = &rows[index];
@@ -118,7 +130,14 @@ fn write_rows<O: Write>(
     finding: &Finding,
     buffer: &mut TextBuffer,
     out: &mut O,
-) -> Result<(), Ended> {
+) -> Result<(), Ended>
+    requires { buffer.old ≡ [] }
+    ensures written { OnOk result (AddsExplanations finding.now.events finding.now.rows
+        (O.contents out.old) (O.contents out.new)) }
+    ensures exact { OnOk result (AreRowsOf finding.now.events finding.now.bound
+        finding.now.task finding.now.rows) }
+    ensures empty { OnOk result (buffer.new ≡ []) }
+{
     for index in 0..finding.rows().len() {
         let text = text_of(alloc, state, finding, index, buffer)?;
         out.write_all(&text)?;
@@ -132,7 +151,12 @@ fn write_all<O: Write>(
     state: RandomState,
     analysis: Arc<Analysis, Global>,
     out: &mut O,
-) -> Result<Status, Ended> {
+) -> Result<Status, Ended>
+    ensures done { IfOk result (λ status. status ≡ Done) }
+    ensures written { IfOk result (λ _. ExplainsTasks (arc_value analysis).events
+        (arc_value analysis).bound (length (dependencies (arc_value analysis).events))
+        (O.contents out.old) (O.contents out.new)) }
+{
     let tasks = analysis.snapshot().tasks();
     let mut job = Job::new(alloc, analysis, QUESTION);
     let mut buffer = TextBuffer::new(alloc);
@@ -162,7 +186,12 @@ fn write_one<O: Write>(
     analysis: Arc<Analysis, Global>,
     cycle: &Cycle,
     out: &mut O,
-) -> Result<Status, Ended> {
+) -> Result<Status, Ended>
+    ensures done { IfOk result (λ status. status ≡ Done →
+        ExplainsCycle (arc_value analysis).events cycle.now
+        (O.contents out.old) (O.contents out.new)) }
+    ensures understood { IfOk result (λ status. status ≢ NotUnderstood) }
+{
     let bound = analysis.bound();
     let finding = Job::new(alloc, analysis, QUESTION).compute(cycle.numbers()[0])?;
     for index in 0..finding.rows().len() {
@@ -223,6 +252,9 @@ fn write_chosen<R: Threads, O: Write>(
     out: &mut O,
 ) -> Result<Status, Ended>
     requires { IsWellFormed events.now }
+    ensures done { IfOk result (λ status. status ≡ Done →
+        ExplainsChosen events.now bound cycle.now (O.contents out.old) (O.contents out.new)) }
+    ensures understood { IfOk result (λ status. status ≢ NotUnderstood) }
 {
     let analysis = analyze(rt, alloc, state, events, bound)?;
     match cycle {
@@ -240,7 +272,12 @@ fn explain_file<R: Threads, O: Write>(
     bound: Bound,
     cycle: &Option<Cycle>,
     out: &mut O,
-) -> Result<Status, CommandError> {
+) -> Result<Status, CommandError>
+    ensures told { IfOk result (λ status. ExplainTells file.now bound cycle.now status
+        (O.contents out.old) (O.contents out.new)) }
+    ensures refused { IfErr result (λ error. ExplainTells file.now bound cycle.now
+        (status_of error) (O.contents out.old) (O.contents out.new)) }
+{
     match admit_file(alloc, state, file)? {
         Admission::Refused(first) => write_refused(alloc, OfflineRefused::Unlawful(first), out),
         Admission::Admitted(events) => {
@@ -248,8 +285,11 @@ fn explain_file<R: Threads, O: Write>(
             drop(events);
             match ended {
                 Ok(status) => Ok(status),
-                Err(Ended::Refused(refused)) => write_refused(alloc, refused, out),
-                Err(Ended::Failed(error)) => Err(error),
+                Err(Ended::TooManyCycles) => {
+                    write_refused(alloc, OfflineRefused::TooManyCycles, out)
+                }
+                Err(Ended::Memory) => Err(CommandError::Memory),
+                Err(Ended::Output) => Err(CommandError::Output),
             }
         }
     }
@@ -269,7 +309,10 @@ pub fn run_explain<R: Threads, O: Write, E: Write>(
     cycle: &Option<Cycle>,
     out: &mut O,
     err: &mut E,
-) -> Status {
+) -> Status
+    ensures { ExplainTells file.now bound cycle.now result (O.contents out.old)
+        (O.contents out.new) }
+{
     match explain_file(rt, alloc, state, file, bound, cycle, out) {
         Ok(status) => status,
         Err(error) => error.report(name, err),

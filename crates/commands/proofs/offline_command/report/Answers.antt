@@ -1,4 +1,3 @@
-use Rattle.std.proofs.Common.{◌≡◌, sym, subst}
 use Rattle.commands.proofs.OfflineEnds.{failed_tells}
 use Rattle.commands.proofs.offline_command.report.Goals as goal
 

@@ -1,4 +1,4 @@
-use Rattle.std.proofs.Common.{◌≡◌, List, ℕ, sym, ap, subst, ◌∙◌}
+use Rattle.std.proofs.Common.{sym, subst}
 use Rattle.trace_model.specs.Theory.Trace.{Trace}
 use Rattle.commands.specs.Replay.{AreLawfulEventsOf}
 use Rattle.commands.proofs.ReplayEnds.{check_tells}

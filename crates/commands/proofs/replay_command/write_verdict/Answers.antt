@@ -1,6 +1,5 @@
-use Rattle.std.proofs.Common.{◌≡◌, List, ℕ, ◌++◌, [], sym, ap, subst, ◌∙◌}
+use Rattle.std.proofs.Common.{◌≡◌, List, ℕ, ◌++◌, ap, subst, ◌∙◌}
 use Rattle.std.specs.Io.KnownBytes.{Appends}
-use Rattle.trace_model.specs.Theory.Trace.{Trace}
 use Rattle.replay.specs.Verdict.{IsVerdict}
 use Rattle.commands.specs.Replay.{verdict_line}
 use Rattle.commands.proofs.replay_command.write_verdict.Goals as goal
