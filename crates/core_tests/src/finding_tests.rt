@@ -1,5 +1,6 @@
 //! Tests of findings and of jobs.
 
+use crate::witness_tests::has_places;
 use findings::{Analysis, Finding, Job, Snapshot};
 use fixtures::{event, opposite_orders};
 use reports::{Found, Row};
@@ -32,10 +33,9 @@ fn is_finding_0(finding: &Finding) -> bool {
 }
 
 fn has_instance(found: &Found) -> bool {
-    let witness = [0, 1, 2, 6].map(Place::new);
     found.places.get(0) == Some(Place::new(3))
         && found.places.get(1) == Some(Place::new(7))
-        && found.witness.as_slice() == witness.as_slice()
+        && has_places(&found.witness, &[0, 1, 2, 6])
 }
 
 fn are_rows(rows: &[Row]) -> bool {

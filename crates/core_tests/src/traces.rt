@@ -186,24 +186,6 @@ pub(crate) fn gate_of_rounds(rt: &HostRuntime, times: u32) -> Option<Gate> {
 #[derive(Drop)]
 pub(crate) struct SetupFailed;
 
-/// Returns the instance with the witness of its fronts.
-fn with_witness(
-    alloc: Global,
-    index: &TraceIndex,
-    places: Instance,
-    fronts: Fronts,
-) -> Result<Option<Found>, NoMemory> {
-    let witness = write_witness(alloc, index, &fronts);
-    drop(fronts);
-    match witness {
-        Ok(witness) => Ok(Some(Found { places, witness })),
-        Err(refused) => {
-            drop(places);
-            Err(refused)
-        }
-    }
-}
-
 /// Returns the least instance of the cycle that a reordering reaches, and its witness.
 fn found_from<L: Ledger>(
     alloc: Global,
@@ -223,7 +205,7 @@ fn found_from<L: Ledger>(
     let least = least_instance(alloc, &case.index, &case.table, cycle, &mut steps);
     drop(steps);
     match least? {
-        Some((places, fronts)) => with_witness(alloc, &case.index, places, fronts),
+        Some((places, witness)) => Ok(Some(Found { places, witness })),
         None => Ok(None),
     }
 }

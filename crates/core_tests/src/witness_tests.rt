@@ -9,6 +9,7 @@ use crate::traces::{
 };
 use cycle_search::Cycle;
 use fixtures::OPPOSITE_ORDERS;
+use fronts::Fronts;
 use reports::Found;
 use std::alloc::Global;
 use trace_model::{Instance, Place};
@@ -41,13 +42,25 @@ fn are_members(instance: &Instance, wanted: &[u32]) -> bool {
     instance.len() == wanted.len()
 }
 
+/// Returns whether the places of the fronts are exactly the wanted places, which ascend.
+pub(crate) fn has_places(fronts: &Fronts, wanted: &[u32]) -> bool {
+    let mut found = 0;
+    for place in 0..fronts.end().get() {
+        if fronts.has(Place::new(place)) {
+            if found >= wanted.len() || wanted[found] != place {
+                return false;
+            }
+            found += 1;
+        }
+    }
+    found == wanted.len()
+}
+
 /// Returns whether the wanted instance and witness were found. If `places` is empty, nothing may be
 /// found.
 fn is_found(found: &Option<Found>, places: &[u32], witness: &[u32]) -> bool {
     match found {
-        Some(found) => {
-            are_members(&found.places, places) && are_places(found.witness.as_slice(), witness)
-        }
+        Some(found) => { are_members(&found.places, places) && has_places(&found.witness, witness) }
         None => places.is_empty(),
     }
 }
@@ -222,13 +235,11 @@ fn three_hundred(rt: &HostRuntime) -> Option<Case>
 /// Returns whether the instance is in the last section of each thread, and the witness is the first
 /// 1,205 events and then the event at place 2,404.
 fn is_three_hundredth(found: &Found) -> bool {
-    let witness = found.witness.as_slice();
-    if !are_members(&found.places, &[2405, 1205]) || witness.len() != 1206 {
+    if !are_members(&found.places, &[2405, 1205]) {
         return false;
     }
-    for index in 0..witness.len() {
-        let wanted = if index < 1205 { index as u32 } else { 2404 };
-        if witness[index].get() != wanted {
+    for place in 0..2406 {
+        if found.witness.has(Place::new(place)) != (place < 1205 || place == 2404) {
             return false;
         }
     }

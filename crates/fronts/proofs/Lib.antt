@@ -13,3 +13,4 @@ pub mod ClassLemmas
 pub mod FirstLemmas
 pub mod PushLemmas
 pub mod BuildLemmas
+pub mod PlaceLemmas

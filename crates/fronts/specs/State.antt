@@ -1,6 +1,7 @@
 -- The set of places that fronts represent.
-use Rattle.std.specs.Prelude.{ℕ, ◌&&◌, nat_lt, length, slice_get, unwrap_or}
+use Rattle.std.specs.Prelude.{◌≡◌, ℕ, ◌-◌, ◌<◌, ◌≤◌, ◌&&◌, nat_lt, List, ◌++◌, length, slice_get, unwrap_or}
 use Rattle.std.specs.Arc.{arc_value}
+use Rattle.std.specs.List.{range_with_len}
 use Rattle.fronts.specs.declared.fronts.Fronts.{Fronts}
 use Rattle.trace_model.specs.Theory.Trace.{Trace}
 use Rattle.trace_model.specs.Theory.Closure.{Places, ascending}
@@ -13,6 +14,18 @@ count_of f a = unwrap_or (slice_get f.counts.items a) 0
 -- The set of included places.
 abbrev pub places_in : Fronts → Places
 places_in f p = nat_lt p f.end && among (arc_value f.positions).items (count_of f) p
+
+-- The included places, ascending.
+abbrev pub places_of : Fronts → List ℕ
+places_of f = ascending (places_in f) f.end
+
+-- The places from `start` up to `end` are included, and no other one from `at` on before them.
+pub record IsNextRange (f : Fronts) (at start end : ℕ) : Type 0 where
+  pub later : at ≤ start
+  pub some : start < end
+  pub within : end ≤ f.end
+  pub places : ascending (places_in f) end ≡
+      ascending (places_in f) at ++ range_with_len start (end - start)
 
 -- The number of included places.
 abbrev pub size_in : Trace → Fronts → ℕ

@@ -1,9 +1,10 @@
 //! Fronts: the number of included places of each thread.
 
-ghost use Rattle.std.specs.Prelude.{◌≡◌, ℕ, ◌+◌, ◌^◌, ◌<◌, ◌≤◌, max, IfOk};
+ghost use Rattle.std.specs.Prelude.{◌≡◌, ℕ, ◌+◌, ◌^◌, ◌<◌, ◌≤◌, max, not, IfOk, MatchOption};
 ghost use Rattle.std.specs.List.{Contains};
+ghost use Rattle.trace_model.specs.Theory.Closure.{ascending};
 ghost use Rattle.fronts.specs.Overlays.{front_of};
-ghost use Rattle.fronts.specs.State.{count_of};
+ghost use Rattle.fronts.specs.State.{IsNextRange, count_of, places_in, places_of};
 
 use crate::members::greater;
 use crate::overlay::Overlay;
@@ -11,6 +12,7 @@ use crate::requirements::ThreadPrefix;
 use crate::steps::Steps;
 use std::alloc::Global;
 use std::marker::Model;
+use std::ops::Range;
 use std::sync::Arc;
 use std::sync::ledger::Ledger;
 use trace_model::{NoMemory, Place};
@@ -70,7 +72,8 @@ impl Front {
     }
 }
 
-/// A set of places that contains a prefix of each thread, all before some place.
+/// A set of places that contains a prefix of each thread, all before some place. It takes four bytes
+/// for each thread; the table of the places' threads is shared.
 #[derive(Drop)]
 pub struct Fronts {
     pub(crate) positions: Arc<Vec<ThreadPrefix>, Global>,
@@ -115,6 +118,37 @@ impl Fronts {
         self.counts.iter().fold(0, |most: usize, front| {
             most.saturating_add(front.count() as usize)
         })
+    }
+
+    /// Returns a range of consecutive places of the set, which has no place from `at` on before the
+    /// range, or `None` if it has no place from `at` on. Does not allocate.
+    pub fn range_from(&self, at: u32) -> Option<Range<u32>>
+        ensures { MatchOption result (places_of self.now ≡ ascending (places_in self.now) at)
+            (λ range. IsNextRange self.now at range.start range.end) }
+    {
+        let start = self.next(at, true);
+        if start < self.end {
+            Some(start..self.next(start, false))
+        } else {
+            None
+        }
+    }
+
+    /// Returns the first place from `at` on that is in the set, or that is not if `is_in` is false.
+    /// If there is none before the end of the set, returns the end or `at`, whichever is later.
+    fn next(&self, at: u32, is_in: bool) -> u32
+        ensures later { at ≤ result }
+        ensures within { at ≤ self.now.end → result ≤ self.now.end }
+        ensures before { (p : ℕ) → at ≤ p → p < result →
+            places_in self.now p ≡ not is_in }
+        ensures first { result < self.now.end → places_in self.now result ≡ is_in }
+    {
+        let end = self.end;
+        let mut place = at;
+        while place < end && self.counts_in(Place::new(place)) != is_in {
+            place += 1;
+        }
+        place
     }
 
     /// Returns whether `place` is among the counted places of its thread.

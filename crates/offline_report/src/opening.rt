@@ -77,7 +77,6 @@ impl Offline {
     ///
     /// # Errors
     /// If several tasks fail, the error is that of one of them.
-    /// - `TooManyCycles` if a task has too many cycles.
     /// - `TooLong` if the text is too long.
     /// - `NoMemory` if an allocation fails.
     pub fn pieces<R: Threads + Sync, H: Hold + Sync>(

@@ -17,7 +17,6 @@ use trace_model::{Bound, Event};
 /// # Errors
 /// If several tasks fail, the error is that of one of them.
 /// - `Unlawful` with the first event that is not lawful, if there is one.
-/// - `TooManyCycles` if a task has too many cycles.
 /// - `TooLong` if the text is too long.
 /// - `NoMemory` if an allocation fails.
 pub fn offline_with<R: Threads + Sync, H: Hold + Sync>(

@@ -1,21 +1,16 @@
 -- Consecutive numbers in decimal.
-use Rattle.std.proofs.Common.{◌≡◌, ℕ, zero, suc, ◌+◌, ◌*◌, ◌-◌, ◌<◌, ◌≤◌, List, [], ◌∷◌, ◌++◌, length, codes, decimal, take, drop, get_or, max, refl, ap, sym, ◌∙◌, arith, append-nil, append_assoc, length-append, length-drop}
-use Rattle.std.proofs.lemmas.List.{ext_get_or, get_or-take, get_or-drop, length-take, take-append-drop}
+use Rattle.std.proofs.Common.{Bool, true, false, cond, ◌≡◌, ℕ, zero, suc, ◌+◌, ◌*◌, ◌-◌, ◌<◌, ◌≤◌, List, [], ◌∷◌, ◌++◌, length, codes, decimal, take, drop, max, ap, sym, ◌∙◌, arith, append-nil, append_assoc, length-append}
 use Rattle.std.proofs.lemmas.List.Concat.{flat_map-append, flat_map-cons}
-use Rattle.std.proofs.lemmas.List.FromFn.{length-range_with_len, get_or-range_with_len}
-use Rattle.std.proofs.Math.Seq.{take-append-add, take-append_seam, drop-append_seam}
+use Rattle.std.proofs.Math.Seq.{take-append_seam, drop-append_seam}
 use Rattle.std.specs.List.{range_with_len, slice_range}
-use Rattle.reports.specs.Text.{spaced, run_text, IsRun}
+use Rattle.trace_model.specs.Theory.Closure.{Places, ascending}
+use Rattle.fronts.specs.declared.fronts.Fronts.{Fronts}
+use Rattle.fronts.specs.State.{IsNextRange, places_in, places_of}
+use Rattle.fronts.proofs.PlaceLemmas.{range_split}
+use Rattle.reports.specs.Text.{spaced, run_text}
 
 abbrev piece : ℕ → List ℕ
 piece n = codes " " ++ decimal n
-
-range_split : (a m n : ℕ) → range_with_len a (m + n) ≡ range_with_len a m ++ range_with_len (a + m) n
-range_split a zero n = let e : 0 + n ≡ n = omega arith in let f : a + 0 ≡ a = omega arith in rw (e, f) refl
-range_split a (suc m) n =
-    let e : suc m + n ≡ suc (m + n) = omega arith in
-    let f : a + suc m ≡ a + 1 + m = omega arith in
-    rw (e, f) (ap (λ xs. a ∷ xs) (range_split (a + 1) m n))
 
 pub run_split : (a m n : ℕ) → run_text a (m + n) ≡ run_text a m ++ run_text (a + m) n
 run_split a m n = ap spaced (range_split a m n) ∙ flat_map-append piece (range_with_len a m) (range_with_len (a + m) n)
@@ -91,43 +86,38 @@ module _ (all first count : ℕ) (within : first + count ≤ all) where
       ∙ ap (take (length a + length b - length a)) (drop-append_seam a (b ++ c))
       ∙ ap (λ n. take n (b ++ c)) e ∙ take-append_seam b c
 
--- Consecutive places.
-pub run_is : (xs : List ℕ) (at count : ℕ) → at + count ≤ length xs → IsRun xs at count → take count (drop at xs) ≡ range_with_len (get_or xs at 0) count
-run_is xs at count within run =
-    let first = get_or xs at 0 in
-    let some = length-drop at xs in
-    let left : length (take count (drop at xs)) ≡ count = omega (arith, length-take count (drop at xs), some) in
-    let right = length-range_with_len first count in
-    ext_get_or 0 (take count (drop at xs)) (range_with_len first count) (omega (arith, left, right)) (λ i l.
-    get_or-take count (drop at xs) i 0 (omega (arith, l, left)) ∙ get_or-drop at xs i 0 ∙ run i (omega (arith, l, left))
-    ∙ sym (get_or-range_with_len first count i 0 (omega (arith, l, left))))
+-- The text of the places up to the end of a range.
+pub spaced_next : (f : Fronts) (at start end : ℕ) → IsNextRange f at start end →
+    spaced (ascending (places_in f) end) ≡ spaced (ascending (places_in f) at) ++ run_text start (end - start)
+spaced_next f at start end next =
+    ap spaced next.places ∙ flat_map-append piece (ascending (places_in f) at) (range_with_len start (end - start))
 
-pub take_both : (xs : List ℕ) (at count : ℕ) → at ≤ length xs → take (at + count) xs ≡ take at xs ++ take count (drop at xs)
-take_both xs at count l =
-    let e : at + count ≡ length (take at xs) + count = omega (arith, length-take at xs) in
-    ap (λ n. take n xs) e ∙ ap (take (length (take at xs) + count)) (sym (take-append-drop at xs))
-    ∙ take-append-add (take at xs) (drop at xs) count
-
--- The text of the places up to the end of a run
-pub spaced_both : (xs : List ℕ) (at count : ℕ) → at + count ≤ length xs → IsRun xs at count → spaced (take (at + count) xs) ≡ spaced (take at xs) ++ run_text (get_or xs at 0) count
-spaced_both xs at count within run =
-    ap spaced (take_both xs at count (omega arith) ∙ ap (λ ys. take at xs ++ ys) (run_is xs at count within run))
-    ∙ flat_map-append piece (take at xs) (range_with_len (get_or xs at 0) count)
-
-spaced_within : (xs : List ℕ) (n : ℕ) → length (spaced (take n xs)) ≤ length (spaced xs)
-spaced_within xs n =
-    omega (
-      arith,
-      ap length (ap spaced (sym (take-append-drop n xs)) ∙ flat_map-append piece (take n xs) (drop n xs)),
-      length-append (spaced (take n xs)) (spaced (drop n xs)),
-    )
+spaced_grows : (set : Places) (m k : ℕ) → length (spaced (ascending set m)) ≤ length (spaced (ascending set (m + k)))
+spaced_grows set m zero = let e : m + 0 ≡ m = omega arith in rw e (omega arith)
+spaced_grows set m (suc k) = let e : m + suc k ≡ suc (m + k) = omega arith in rw e (one (spaced_grows set m k) (set (m + k)))
+  where
+    one : (length (spaced (ascending set m)) ≤ length (spaced (ascending set (m + k)))) → (b : Bool) →
+        length (spaced (ascending set m)) ≤ length (spaced (cond b (ascending set (m + k) ++ (m + k) ∷ []) (ascending set (m + k))))
+    one before true =
+        omega (
+          arith,
+          before,
+          ap length (flat_map-append piece (ascending set (m + k)) ((m + k) ∷ [])),
+          length-append (spaced (ascending set (m + k))) (spaced ((m + k) ∷ [])),
+        )
+    one before false = before
 
 -- It is not longer than that of all places.
-pub run_within : (xs : List ℕ) (at count : ℕ) → at + count ≤ length xs → IsRun xs at count → length (spaced (take at xs)) + length (run_text (get_or xs at 0) count) ≤ length (spaced xs)
-run_within xs at count within run =
+pub spaced_within : (f : Fronts) (at start end : ℕ) → IsNextRange f at start end →
+    length (spaced (ascending (places_in f) at)) + length (run_text start (end - start)) ≤ length (spaced (places_of f))
+spaced_within f at start end next =
+    let set = places_in f in
+    let k = f.end - end in
+    let e : end + k ≡ f.end = omega (arith, next.within) in
     omega (
       arith,
-      spaced_within xs (at + count),
-      ap length (spaced_both xs at count within run),
-      length-append (spaced (take at xs)) (run_text (get_or xs at 0) count),
+      spaced_grows set end k,
+      ap (λ n. length (spaced (ascending set n))) e,
+      ap length (spaced_next f at start end next),
+      length-append (spaced (ascending set at)) (run_text start (end - start)),
     )

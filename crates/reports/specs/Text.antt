@@ -1,5 +1,5 @@
 -- The text of a report.
-use Rattle.std.specs.Prelude.{◌≡◌, ℕ, ◌+◌, ◌<◌, List, ◌++◌, length, slice_index, codes, decimal, Option, Some, None, is_some, count_by, Bool}
+use Rattle.std.specs.Prelude.{◌≡◌, ℕ, List, ◌++◌, length, codes, decimal, Option, Some, None, is_some, count_by, Bool}
 use Rattle.std.specs.List.{flat_map, range_with_len, zip}
 use Rattle.trace_model.specs.Theory.Dependencies.{Dependency}
 use Rattle.trace_model.specs.Theory.Rows.{Found}
@@ -13,11 +13,6 @@ spaced numbers = flat_map (λ n. codes " " ++ decimal n) numbers
 -- The text of `count` consecutive numbers from `first` on.
 abbrev pub run_text : ℕ → ℕ → List ℕ
 run_text first count = spaced (range_with_len first count)
-
--- From index `at` on, `count` of the places are consecutive.
-abbrev pub IsRun : List ℕ → ℕ → ℕ → Type 0
-IsRun places at count =
-    (k : ℕ) → k < count → slice_index places (at + k) ≡ slice_index places at + k
 
 -- A member of a cycle, without the end of its line.
 abbrev pub member : Dependency → List ℕ

@@ -1,23 +1,26 @@
 //! The rows of a report.
 
 use dependencies::Dependency;
+use fronts::Fronts;
 use std::marker::Model;
-use trace_model::{Cycle, Instance, Place};
+use trace_model::{Cycle, Instance};
 
-/// The least reached instance of a confirmed cycle, one place for each member, and its witness: the
-/// places of the least reordering that reaches it, ascending.
+/// The least reached instance of a confirmed cycle, one place for each member, and the fronts of its
+/// closure. Contracts see these as the witness: the places of the least reordering that reaches the
+/// instance, ascending. They are found when the row is printed.
 #[derive(Drop)]
 pub struct Found {
     pub places: Instance,
-    pub witness: Vec<Place>,
+    pub witness: Fronts,
 }
 
 impl Model for Found {
     ghost use Rattle.trace_model.specs.Theory.Rows as model;
+    ghost use Rattle.fronts.specs.State.{places_of};
 
     ghost Value = { model.Found };
 
-    ghost view = { λ f. record { places = f.places; witness = f.witness.items } };
+    ghost view = { λ f. record { places = f.places; witness = places_of f.witness } };
 }
 
 /// A cycle, the dependencies of its members in its order, and the instance if it is confirmed.

@@ -4,14 +4,15 @@
 //! Each function returns `Refused` if the sink refuses a piece of its text. The pieces before it
 //! stay appended.
 
-ghost use Rattle.std.specs.Prelude.{◌<◌, ◌≤◌, ◌^◌, ◌+◌, length, slice_index};
 ghost use Rattle.std.specs.List.{flat_map, zip};
-ghost use Rattle.reports.specs.Text.{spaced, IsRun, member, member_line, placed_line, witness_line, verdict, row_text, about, counts};
+ghost use Rattle.fronts.specs.State.{places_of};
+ghost use Rattle.reports.specs.Text.{spaced, member, member_line, placed_line, witness_line, verdict, row_text, about, counts};
 ghost use Rattle.reports.specs.Sinks.{Appends};
 
 use crate::row::{Found, Row};
 use crate::sink::Sink;
 use dependencies::Dependency;
+use fronts::Fronts;
 use trace_model::{Instance, Place};
 
 /// Writes numbers in decimal, each after one space.
@@ -24,33 +25,15 @@ pub(crate) fn write_numbers<T: Sink>(text: &mut T, numbers: &[u32]) -> Result<()
     Ok(())
 }
 
-/// Returns the length of the run of consecutive places that starts at index `at`.
-fn run_at(places: &[Place], at: usize) -> usize
-    requires { at < length places.now }
-    ensures some { 0 < result }
-    ensures within { at + result ≤ length places.now }
-    ensures run { IsRun places.now at result }
-    ensures few { slice_index places.now at + result ≤ 2 ^ 32 }
-{
-    let first = places[at].get() as usize;
-    for index in at + 1..places.len() {
-        if places[index].get() as usize != first + (index - at) {
-            return index - at;
-        }
-    }
-    places.len() - at
-}
-
-/// Writes places in decimal, each after one space. A run of consecutive places is written in one
-/// call.
-pub(crate) fn write_places<T: Sink>(text: &mut T, places: &[Place]) -> Result<(), T::Refused>
-    ensures { Appends T.room text.old (spaced places.now) result text.new }
+/// Writes the places of the fronts in decimal, ascending, each after one space. Consecutive places
+/// are written in one call.
+pub(crate) fn write_places<T: Sink>(text: &mut T, fronts: &Fronts) -> Result<(), T::Refused>
+    ensures { Appends T.room text.old (spaced (places_of fronts.now)) result text.new }
 {
     let mut at = 0;
-    while at < places.len() {
-        let count = run_at(places, at);
-        text.put_run(places[at].get(), count)?;
-        at += count;
+    while let Some(range) = fronts.range_from(at) {
+        text.put_run(range.start, (range.end - range.start) as usize)?;
+        at = range.end;
     }
     Ok(())
 }
@@ -118,11 +101,11 @@ pub(crate) fn write_placed<T: Sink>(
 }
 
 /// Writes the line of a witness.
-pub(crate) fn write_witness_line<T: Sink>(text: &mut T, places: &[Place]) -> Result<(), T::Refused>
-    ensures { Appends T.room text.old (witness_line places.now) result text.new }
+pub(crate) fn write_witness_line<T: Sink>(text: &mut T, fronts: &Fronts) -> Result<(), T::Refused>
+    ensures { Appends T.room text.old (witness_line (places_of fronts.now)) result text.new }
 {
     text.put(b"  witness")?;
-    write_places(text, places)?;
+    write_places(text, fronts)?;
     text.put(b"\n")
 }
 
@@ -142,7 +125,7 @@ pub(crate) fn write_verdict<T: Sink>(
         Some(found) => {
             text.put(b" confirmed\n")?;
             write_placed(text, dependencies, &found.places)?;
-            write_witness_line(text, found.witness.as_slice())
+            write_witness_line(text, &found.witness)
         }
     }
 }

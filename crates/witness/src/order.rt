@@ -13,7 +13,8 @@ use trace_model::{NoMemory, Place};
 
 /// Returns the places of the fronts, ascending. If the fronts are the closure of reached places,
 /// the result is a sync-preserving reordering that reaches them, and its places are in every other
-/// one. It does not visit places after the greatest of the reached places.
+/// one. It does not visit places after the greatest of the reached places. Part of the public API;
+/// not called by the program, which prints the places from the fronts.
 ///
 /// # Errors
 /// `NoMemory` if an allocation fails.
