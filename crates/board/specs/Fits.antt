@@ -36,7 +36,9 @@ abbrev pub truncated : ℕ → BoardStep → BoardStep
 truncated n (Accept events) = Accept (take n events)
 truncated n step = step
 
--- a reader: the steps that it has seen, and those that it has seen or learned from receipts
+-- a reader: the steps that it has seen, those that it has seen or learned from receipts, and the
+-- number of its entries that failed, modulo 2^64
 pub record ReaderView : Type 0 where
   pub seen : List BoardStep
   pub known : List BoardStep
+  pub failed : ℕ

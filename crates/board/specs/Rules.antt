@@ -42,10 +42,3 @@ pub record Enters (known : ℕ) (seen published after : List BoardStep) : Type 0
   pub legal : IsLegal published
   pub later : IsPrefix seen published
   pub is : after ≡ seen_after known seen published
-
--- the board shows a legal run that extends what the reader has seen, but is shorter than what it knows
-pub record IsBehind (seen known : List BoardStep) : Type 0 where
-  pub shown : List BoardStep
-  pub legal : IsLegal shown
-  pub later : IsPrefix seen shown
-  pub shorter : length shown < length known

@@ -5,6 +5,7 @@
 //! [`BoardReader::status`]; start reading at `rule`, which states the rule of the board.
 #![tactic(auto)]
 
+mod entry;
 mod history;
 mod reader;
 mod rule;
@@ -12,8 +13,9 @@ mod shown;
 mod summary;
 mod writer;
 
+pub use entry::{Busy, FailedEntries};
 pub use history::{HistoryId, HistoryPrefix, LengthWord, NewHistory};
-pub use reader::{BoardReader, Busy, Receipt};
+pub use reader::{BoardReader, Receipt};
 pub use rule::{BoardValue, SeenSteps};
 pub use shown::{Shown, StepDelta};
 pub use summary::{QuestionSummary, Summary, Unsettled};

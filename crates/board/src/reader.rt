@@ -1,28 +1,18 @@
 //! Reading the board.
-ghost use Rattle.std.specs.Prelude.{◌≡◌, ◌⊎◌, [], true, length, Err, IfOk, IfErr, OnOk, OnErr};
+ghost use Rattle.std.specs.Prelude.{◌≡◌, ◌⊎◌, [], IfOk, IfErr, OnOk};
 ghost use mathlib.Core.List.{IsPrefix};
 ghost use Rattle.trace_model.specs.Protocol.Runs.{IsLegal};
 ghost use Rattle.left_right.specs.Sides.{view};
-ghost use Rattle.board.specs.Rules.{IsBehind};
+ghost use Rattle.board.specs.Entries.{IsBusy};
 ghost use Rattle.board.specs.Totals.{Shows};
 ghost use Rattle.board.specs.Unsettled.{IsLeastUnsettled, open_questions};
 
+use crate::entry::{Busy, FailedEntries, RuledReader, enter};
 use crate::history::{HistoryId, HistoryPrefix};
-use crate::rule::{Enter, KnownCount, SeenSteps};
-use crate::shown::Shown;
 use crate::summary::{Summary, Unsettled};
-use left_right::reader::{Reader, Reading};
 use std::marker::{Brand, Model};
+use std::sync::Wait;
 use trace_model::MAX_QUESTIONS;
-
-/// Why a reader did not see the board. The reader does not change.
-#[derive(Clone, Copy, Debug, PartialEq, Eq)]
-pub enum Busy {
-    /// The board gave no entry.
-    NoEntry,
-    /// The board shows fewer steps than a receipt that the reader learned.
-    Behind,
-}
 
 /// The steps that were published when the receipt was made. Contracts see a receipt as the list of
 /// these steps, which is a legal run. Any number of readers may learn it, any number of times.
@@ -74,46 +64,15 @@ impl<N: HistoryId> Receipt<N> {
     }
 }
 
-/// A reader of the kit's board, under the rule of this crate.
-pub(crate) type RuledReader<N> = Reader<Shown<N>, SeenSteps, Shown<N>>;
-
-type RuledReading<N> = Reading<Shown<N>, SeenSteps, Shown<N>>;
-
-/// Enters the board. On failure the reader is returned, and its view does not change.
-fn enter<N: HistoryId, K: KnownCount>(
-    reader: RuledReader<N>,
-    known: &HistoryPrefix<N>,
-) -> Result<RuledReading<N>, (RuledReader<N>, Busy)>
-    requires { K.count ≡ length known.now }
-    ensures seen { IfOk result (λ r. view r.place ≡ r.part.value) }
-    ensures later { IfOk result (λ r. IsPrefix (view reader.place) r.part.value) }
-    ensures learnt { IfOk result (λ r. IsPrefix known.now r.part.value) }
-    ensures legal { IfOk result (λ r. IsLegal r.part.value) }
-    ensures same { IfErr result (λ r. view r.0.place ≡ view reader.place) }
-    ensures behind { IfErr result (λ r. r.1 ≡ Busy.Behind →
-        IsBehind (view reader.place) known.now) }
-{
-    match reader.enter_as::<Enter<N, K>>() {
-        Ok(reading) => {
-            if reading.get().prefix().len() < known.len() {
-                return Err((reading.leave(), Busy::Behind));
-            }
-            // for the proof: both are prefixes of one history, so the shorter one is a prefix of
-            // the longer one
-            let _longer = known.longer(reading.get().prefix());
-            Ok(reading)
-        }
-        Err(reader) => Err((reader, Busy::NoEntry)),
-    }
-}
-
 /// A reader of the board. Contracts see two lists of steps: `seen`, the steps that it has seen,
 /// which changes only when it enters the board; and `known`, the steps that it has seen or learned
-/// from receipts. `seen` is a prefix of `known`, and `known` is a legal run.
+/// from receipts. `seen` is a prefix of `known`, and `known` is a legal run. They also see `failed`,
+/// the number of its entries that failed, modulo 2^64.
 pub struct BoardReader<N: HistoryId> {
     /// `None` only while a call of this reader is at work.
     reader: Option<RuledReader<N>>,
     known: HistoryPrefix<N>,
+    failed: FailedEntries,
 }
 
 impl<N: HistoryId> Drop for BoardReader<N> {
@@ -121,6 +80,7 @@ impl<N: HistoryId> Drop for BoardReader<N> {
         let BoardReader {
             reader: _,
             known: _,
+            failed: _,
         } = self;
     }
 }
@@ -138,6 +98,7 @@ impl<N: HistoryId> Model for BoardReader<N> {
     ghost view = { λ r. record {
       seen = option_map_or (λ x. sides.view x.place) r.reader [];
       known = r.known;
+      failed = r.failed.count;
     } };
 
     ghost invariant = { λ r. IsSome r.reader
@@ -150,10 +111,12 @@ impl<N: HistoryId> BoardReader<N> {
         requires { view reader.place ≡ [] }
         ensures seen { result.seen ≡ [] }
         ensures known { result.known ≡ prefix.now }
+        ensures failed { result.failed ≡ 0 }
     {
         BoardReader {
             reader: Some(reader),
             known: prefix.again(),
+            failed: FailedEntries::none(),
         }
     }
 
@@ -162,21 +125,21 @@ impl<N: HistoryId> BoardReader<N> {
     ///
     /// # Errors
     ///
-    /// `NoEntry` if the board gives no entry. `Behind` only if the board shows fewer steps than the
-    /// reader knows of. The reader does not change.
+    /// `NoEntry` if the board gives no entry, `Behind` if it shows fewer steps than the reader knows
+    /// of. The failed entry is counted; else the reader does not change.
     pub fn status(&mut self) -> Result<Summary, Busy>
         ensures summary { IfOk result (λ s. Shows s self.new.seen) }
         ensures all { OnOk result (self.new.known ≡ self.new.seen) }
         ensures later { IsPrefix self.old.known self.new.known }
         ensures seen { IsPrefix self.old.seen self.new.seen }
         ensures legal { IsLegal self.new.known }
-        ensures busy { OnErr result (self.new ≡ self.old) }
-        ensures behind { result ≡ Err Busy.Behind → IsBehind self.old.seen self.old.known }
+        ensures entered { OnOk result (self.new.failed ≡ self.old.failed) }
+        ensures busy { IfErr result (IsBusy self.old self.new) }
     {
         let Some(reader) = self.reader.take() else {
             unreachable!();
         };
-        match enter::<N, Brand>(reader, &self.known) {
+        match enter::<N, Brand>(reader, &self.known, &mut self.failed) {
             Ok(reading) => {
                 let summary = *reading.get().totals();
                 self.known = reading.get().prefix().again();
@@ -195,7 +158,7 @@ impl<N: HistoryId> BoardReader<N> {
     ///
     /// # Errors
     ///
-    /// As of `status`. The reader does not change.
+    /// As of `status`.
     pub fn least_unsettled(
         &mut self,
         passed_over: &[bool; MAX_QUESTIONS],
@@ -206,13 +169,13 @@ impl<N: HistoryId> BoardReader<N> {
         ensures later { IsPrefix self.old.known self.new.known }
         ensures seen { IsPrefix self.old.seen self.new.seen }
         ensures legal { IsLegal self.new.known }
-        ensures busy { OnErr result (self.new ≡ self.old) }
-        ensures behind { result ≡ Err Busy.Behind → IsBehind self.old.seen self.old.known }
+        ensures entered { OnOk result (self.new.failed ≡ self.old.failed) }
+        ensures busy { IfErr result (IsBusy self.old self.new) }
     {
         let Some(reader) = self.reader.take() else {
             unreachable!();
         };
-        match enter::<N, Brand>(reader, &self.known) {
+        match enter::<N, Brand>(reader, &self.known, &mut self.failed) {
             Ok(reading) => {
                 let found = reading.get().totals().least_unsettled(passed_over);
                 self.known = reading.get().prefix().again();
@@ -234,7 +197,21 @@ impl<N: HistoryId> BoardReader<N> {
         ensures own { IsPrefix self.old.known self.new.known }
         ensures told { IsPrefix receipt.now self.new.known }
         ensures legal { IsLegal self.new.known }
+        ensures failed { self.new.failed ≡ self.old.failed }
     {
         self.known = self.known.longer(&receipt.prefix);
+    }
+
+    /// Learns a receipt that was made after all that the reader knows, like `learn`. If it was made
+    /// before, waits forever: for the receipt of a call that began after the reader learned the last
+    /// one this does not occur.
+    pub fn catch_up<R: Wait>(&mut self, rt: &R, receipt: &Receipt<N>)
+        ensures seen { self.new.seen ≡ self.old.seen }
+        ensures own { IsPrefix self.old.known self.new.known }
+        ensures told { self.new.known ≡ receipt.now }
+        ensures legal { IsLegal self.new.known }
+        ensures failed { self.new.failed ≡ self.old.failed }
+    {
+        self.known.catch_up(rt, &receipt.prefix);
     }
 }

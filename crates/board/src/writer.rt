@@ -4,10 +4,9 @@ ghost use Rattle.left_right.specs.Sides.{view};
 ghost use Rattle.trace_model.specs.declared.messages.step.BoardStep.{BoardStep};
 ghost use Rattle.trace_model.specs.Protocol.Runs.{IsLegal};
 ghost use Rattle.board.specs.Fits.{truncated};
-ghost use Rattle.board.specs.Rules.{IsLonger};
 ghost use Rattle.board.specs.Totals.{Shows};
 
-use crate::history::{HistoryId, HistoryPrefix, LengthWord, NewHistory};
+use crate::history::{HistoryId, HistoryPrefix, LengthWord, NewHistory, wait_forever};
 use crate::reader::{BoardReader, Receipt};
 use crate::rule::{BoardValue, Publish, SeenSteps};
 use crate::shown::{Shown, StepDelta};
@@ -82,19 +81,6 @@ fn show_in<N: HistoryId, R: Wait + Copy, T: BoardValue<N>>(
         (),
         |publisher, _| (show(rt, publisher, next), ()),
     )
-}
-
-/// Waits forever. Another writer has extended the history, which does not occur, since the board's
-/// writer owns its word.
-fn wait_forever<N: HistoryId, R: Wait>(
-    rt: &R,
-    known: &HistoryPrefix<N>,
-    found: &HistoryPrefix<N>,
-) -> !
-    requires { IsLonger known.now found.now }
-{
-    for _ in rt.forever() {}
-    unreachable!()
 }
 
 /// The writer of the board. Contracts see two lists of steps: `published`, which is its view under

@@ -3,3 +3,4 @@ pub mod Outcome
 pub mod Steps
 pub mod Together
 pub mod Told
+pub mod Turns

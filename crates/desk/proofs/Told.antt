@@ -38,6 +38,7 @@ use Rattle.sequencer.proofs.Called.{batch_steps}
 use Rattle.desk.specs.Batches.{EndsByBatch, accepting}
 use Rattle.desk.specs.Published.{After, Afterwards, EndsBy}
 use Rattle.desk.proofs.Steps.{accepting_some}
+use Rattle.board.specs.Fits.{ReaderView}
 use Rattle.desk.specs.Clients.{IsStatus, IsTold, RepliesAfter}
 
 -- the board's entry for a question
@@ -90,18 +91,24 @@ status_none s counts question found finds is shows = elim (slice_get_cases count
 ]
 
 -- the status that is shown is the machine's
-pub told_status : (s : Summary) (question : ℕ) (reply : Reply) (old new : List BoardStep) → IsLegal new → Shows s new → ((counts : runs.Summary) → ShowsCounts s counts → reply ≡ shown_status counts question) → IsStatus old question reply new
-told_status s question reply old new legal shows is =
-    inl (legal.0, legal.1, is (summary new) shows ∙ status_shown (summary new) legal.0 question (summary_is_state AreRows MAX_EVENTS new legal.0 legal.1))
+pub told_status : (s : Summary) (question : ℕ) (reply : Reply) (old new : ReaderView) → IsPrefix old.known new.known → new.failed ≡ old.failed → IsLegal new.known → Shows s new.known →
+    ((counts : runs.Summary) → ShowsCounts s counts → reply ≡ shown_status counts question) → IsStatus old question reply new
+told_status s question reply old new later entered legal shows is =
+    inl (later, entered, legal.0, legal.1, is (summary new.known) shows ∙ status_shown (summary new.known) legal.0 question (summary_is_state AreRows MAX_EVENTS new.known legal.0 legal.1))
+
+-- the reply is the desk's after the run of its receipt, which is all that the client has then seen
+pub told : (limit : ℕ) (old new : ReaderView) (request : Request) (reply : Reply) (run : List BoardStep) → IsPrefix old.known new.known → new.known ≡ run → new.failed ≡ old.failed →
+    RepliesAfter limit request reply run → IsTold limit old request reply new
+told limit old new request reply run later seen entered replies = record {
+  later = later;
+  replies = subst (λ (r : List BoardStep). RepliesAfter limit request reply r) (sym seen) replies;
+  entered = entered;
+}
 
 -- the run of a batch ends with the step of its accepted events, or is unchanged if there are none
-pub told_batch : (limit : ℕ) (run seen : List BoardStep) (events : List Event) (b : Batched) → IsBatch events → IsPrefix run seen → EndsByBatch limit run events b →
-    IsTold limit (Batch events) (replies.Batched b.accepted b.refusal b.length) seen
-told_batch limit run seen events b some learnt h = record {
-  run = run;
-  learnt = learnt;
-  replies = by b.accepted refl;
-}
+pub told_batch : (limit : ℕ) (run : List BoardStep) (events : List Event) (b : Batched) → IsBatch events → EndsByBatch limit run events b →
+    RepliesAfter limit (Batch events) (replies.Batched b.accepted b.refusal b.length) run
+told_batch limit run events b some h = by b.accepted refl
   where
     reply : ℕ → Reply
     reply n = replies.Batched n b.refusal b.length
@@ -141,57 +148,37 @@ WasRefused limit run request refusal = Afterwards limit run (λ state. Refuses s
 abbrev WasAnswered : ℕ → List BoardStep → ℕ → Answer → Type 0
 WasAnswered limit run question told = Afterwards limit run (λ state. step printing state (AskAnswer question) ≡ (answer_reply question told, state))
 
-pub told_placed : (limit : ℕ) (run seen : List BoardStep) (event : Event) (result : Result Place Refusal) (place : Place) → IsPrefix run seen → result ≡ Ok place → IfOk result (WasPlaced limit run event) →
-    IsTold limit (Offer event) (replies.Placed place) seen
-told_placed limit run seen event result place learnt is h =
+pub told_placed : (limit : ℕ) (run : List BoardStep) (event : Event) (result : Result Place Refusal) (place : Place) → result ≡ Ok place → IfOk result (WasPlaced limit run event) →
+    RepliesAfter limit (Offer event) (replies.Placed place) run
+told_placed limit run event result place is h =
     let e : WasPlaced limit run event place = subst (λ r. IfOk r (WasPlaced limit run event)) is h in
-    record {
-      run = run;
-      learnt = learnt;
-      replies = record { before = e.before; state = e.state; next = e.next; ends = e.ends; was = e.was; is = e.is; took = inl e.took };
-    }
+    record { before = e.before; state = e.state; next = e.next; ends = e.ends; was = e.was; is = e.is; took = inl e.took }
 
-pub told_unplaced : (limit : ℕ) (run seen : List BoardStep) (event : Event) (result : Result Place Refusal) (refusal : Refusal) → IsPrefix run seen → result ≡ Err refusal → IfErr result (WasRefused limit run (Offer event)) →
-    IsTold limit (Offer event) (replies.Refused refusal) seen
-told_unplaced limit run seen event result refusal learnt is h =
-    let (state, after, refuses) = subst (λ r. IfErr r (WasRefused limit run (Offer event))) is h in record {
-      run = run;
-      learnt = learnt;
-      replies = (state, after, elim refuses [ inl machine ↦ inl machine | inr (memory, accepted) ↦ inr (memory, refl, accepted) ]);
-    }
+pub told_unplaced : (limit : ℕ) (run : List BoardStep) (event : Event) (result : Result Place Refusal) (refusal : Refusal) → result ≡ Err refusal → IfErr result (WasRefused limit run (Offer event)) →
+    RepliesAfter limit (Offer event) (replies.Refused refusal) run
+told_unplaced limit run event result refusal is h =
+    let (state, after, refuses) = subst (λ r. IfErr r (WasRefused limit run (Offer event))) is h in (state, after, elim refuses [ inl machine ↦ inl machine | inr (memory, accepted) ↦ inr (memory, refl, accepted) ])
 
-pub told_answer : (limit : ℕ) (run seen : List BoardStep) (question : ℕ) (result : Result Answer AnswerRefused) (told : Answer) (reply : Reply) → IsPrefix run seen → result ≡ Ok told → reply ≡ answer_reply question told →
-    IfOk result (WasAnswered limit run question) → IsTold limit (AskAnswer question) reply seen
-told_answer limit run seen question result told reply learnt is same h =
+pub told_answer : (limit : ℕ) (run : List BoardStep) (question : ℕ) (result : Result Answer AnswerRefused) (told : Answer) (reply : Reply) → result ≡ Ok told → reply ≡ answer_reply question told →
+    IfOk result (WasAnswered limit run question) → RepliesAfter limit (AskAnswer question) reply run
+told_answer limit run question result told reply is same h =
     let (state, after, steps) = subst (λ r. IfOk r (WasAnswered limit run question)) is h in
-    subst (λ (r : Reply). IsTold limit (AskAnswer question) r seen) (sym same) (record { run = run; learnt = learnt; replies = (state, after, inl steps) })
+    subst (λ (r : Reply). RepliesAfter limit (AskAnswer question) r run) (sym same) (state, after, inl steps)
 
-pub told_no_answer : (limit : ℕ) (run seen : List BoardStep) (question : ℕ) (result : Result Answer AnswerRefused) (refused : AnswerRefused) (refusal : Refusal) → IsPrefix run seen → result ≡ Err refused → refusal ≡ answer_refusal refused →
-    IfErr result (λ r. WasRefused limit run (AskAnswer question) (answer_refusal r)) → IsTold limit (AskAnswer question) (replies.Refused refusal) seen
-told_no_answer limit run seen question result refused refusal learnt is same h =
+pub told_no_answer : (limit : ℕ) (run : List BoardStep) (question : ℕ) (result : Result Answer AnswerRefused) (refused : AnswerRefused) (refusal : Refusal) → result ≡ Err refused → refusal ≡ answer_refusal refused →
+    IfErr result (λ r. WasRefused limit run (AskAnswer question) (answer_refusal r)) → RepliesAfter limit (AskAnswer question) (replies.Refused refusal) run
+told_no_answer limit run question result refused refusal is same h =
     let (state, after, refuses) = subst (λ r. IfErr r (λ x. WasRefused limit run (AskAnswer question) (answer_refusal x))) is h in
-    subst (λ (r : Refusal). IsTold limit (AskAnswer question) (replies.Refused r) seen) (sym same) (record {
-      run = run;
-      learnt = learnt;
-      replies = (state, after, elim refuses [ inl machine ↦ inl machine | inr (memory, accepted) ↦ inr (memory, refl, accepted) ]);
-    })
+    subst (λ (r : Refusal). RepliesAfter limit (AskAnswer question) (replies.Refused r) run) (sym same) (state, after, elim refuses [ inl machine ↦ inl machine | inr (memory, accepted) ↦ inr (memory, refl, accepted) ])
 
-pub told_opened : (limit : ℕ) (run seen : List BoardStep) (bound : ℕ) (result : Result Opened AskRefused) (opened : Opened) (reply : Reply) → IsPrefix run seen → result ≡ Ok opened → reply ≡ opened_reply opened →
-    IfOk result (WasOpened limit run bound) → IsTold limit (Ask bound) reply seen
-told_opened limit run seen bound result opened reply learnt is same h =
+pub told_opened : (limit : ℕ) (run : List BoardStep) (bound : ℕ) (result : Result Opened AskRefused) (opened : Opened) (reply : Reply) → result ≡ Ok opened → reply ≡ opened_reply opened →
+    IfOk result (WasOpened limit run bound) → RepliesAfter limit (Ask bound) reply run
+told_opened limit run bound result opened reply is same h =
     let e : WasOpened limit run bound opened = subst (λ r. IfOk r (WasOpened limit run bound)) is h in
-    subst (λ (r : Reply). IsTold limit (Ask bound) r seen) (sym same) (record {
-      run = run;
-      learnt = learnt;
-      replies = record { before = e.before; state = e.state; next = e.next; ends = e.ends; was = e.was; is = e.is; took = inl e.took };
-    })
+    subst (λ (r : Reply). RepliesAfter limit (Ask bound) r run) (sym same) (record { before = e.before; state = e.state; next = e.next; ends = e.ends; was = e.was; is = e.is; took = inl e.took })
 
-pub told_unopened : (limit : ℕ) (run seen : List BoardStep) (bound : ℕ) (result : Result Opened AskRefused) (refused : AskRefused) (refusal : Refusal) → IsPrefix run seen → result ≡ Err refused → refusal ≡ ask_refusal refused →
-    IfErr result (λ r. WasRefused limit run (Ask bound) (ask_refusal r)) → IsTold limit (Ask bound) (replies.Refused refusal) seen
-told_unopened limit run seen bound result refused refusal learnt is same h =
+pub told_unopened : (limit : ℕ) (run : List BoardStep) (bound : ℕ) (result : Result Opened AskRefused) (refused : AskRefused) (refusal : Refusal) → result ≡ Err refused → refusal ≡ ask_refusal refused →
+    IfErr result (λ r. WasRefused limit run (Ask bound) (ask_refusal r)) → RepliesAfter limit (Ask bound) (replies.Refused refusal) run
+told_unopened limit run bound result refused refusal is same h =
     let (state, after, refuses) = subst (λ r. IfErr r (λ x. WasRefused limit run (Ask bound) (ask_refusal x))) is h in
-    subst (λ (r : Refusal). IsTold limit (Ask bound) (replies.Refused r) seen) (sym same) (record {
-      run = run;
-      learnt = learnt;
-      replies = (state, after, elim refuses [ inl machine ↦ inl machine | inr (memory, accepted) ↦ inr (memory, refl, accepted) ]);
-    })
+    subst (λ (r : Refusal). RepliesAfter limit (Ask bound) (replies.Refused r) run) (sym same) (state, after, elim refuses [ inl machine ↦ inl machine | inr (memory, accepted) ↦ inr (memory, refl, accepted) ])

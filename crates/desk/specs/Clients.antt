@@ -10,6 +10,9 @@ use Rattle.trace_model.specs.declared.messages.session.Reply.TheVariants.{Placed
 use Rattle.trace_model.specs.declared.messages.step.BoardStep.{BoardStep}
 use Rattle.trace_model.specs.declared.messages.step.BoardStep.TheVariants.{Accept, Open}
 use Rattle.trace_model.specs.Protocol.Machine.{State, status}
+use Rattle.board.specs.Entries.{IsBusy}
+use Rattle.board.specs.Fits.{ReaderView}
+use Rattle.board.specs.declared.entry.Busy.{Busy}
 use Rattle.desk.specs.Published.{After, Afterwards, EndsBy}
 use Rattle.sequencer.specs.Called.{StepsOrMemory}
 
@@ -28,23 +31,24 @@ RepliesAfter limit request reply run = MatchOption (published_as request reply)
     (Afterwards limit run (λ state. StepsOrMemory state request reply state))
     (λ last. EndsBy limit run last (λ state next. StepsOrMemory state request reply next))
 
--- the run of the desk's receipt, which the client has then seen, and the desk's reply
-pub record IsTold (limit : ℕ) (request : Request) (reply : Reply)
-    (seen : List BoardStep) : Type 0 where
-  pub run : List BoardStep
-  pub learnt : IsPrefix run seen
-  pub replies : RepliesAfter limit request reply run
+-- The client has then seen a run that extends all that it had seen. The reply is the desk's after
+-- this run.
+pub record IsTold (limit : ℕ) (old : ReaderView) (request : Request) (reply : Reply)
+    (new : ReaderView) : Type 0 where
+  pub later : IsPrefix old.known new.known
+  pub replies : RepliesAfter limit request reply new.known
+  pub entered : new.failed ≡ old.failed
 
--- the machine's status after all that the client has then seen; or the board could not be read, and
--- the client has seen no more
-abbrev pub IsStatus : List BoardStep → ℕ → Reply → List BoardStep → Type 0
+-- the machine's status after all that the client has then seen, read from the board; or an entry of
+-- its reader failed for one of the two reasons, and it has seen no more
+abbrev pub IsStatus : ReaderView → ℕ → Reply → ReaderView → Type 0
 IsStatus old question reply new =
-    ((state : State) × After MAX_EVENTS new state × (reply ≡ status state question))
-    ⊎ ((reply ≡ Refused BoardBusy) × (new ≡ old))
+    (IsPrefix old.known new.known × (new.failed ≡ old.failed)
+    × (state : State) × After MAX_EVENTS new.known state × (reply ≡ status state question))
+    ⊎ ((reply ≡ Refused BoardBusy) × (reason : Busy) × IsBusy old new reason)
 
 -- What a client has seen is never lost. A status is that of the seen steps. Any other reply is
 -- the desk's
-abbrev pub StepsAtDesk : ℕ → List BoardStep → Request → Reply → List BoardStep → Type 0
-StepsAtDesk limit old (Status question) reply new = IsPrefix old new
-    × IsStatus old question reply new
-StepsAtDesk limit old request reply new = IsPrefix old new × IsTold limit request reply new
+abbrev pub StepsAtDesk : ℕ → ReaderView → Request → Reply → ReaderView → Type 0
+StepsAtDesk limit old (Status question) reply new = IsStatus old question reply new
+StepsAtDesk limit old request reply new = IsTold limit old request reply new

@@ -18,7 +18,7 @@ use trace_model::{Event, QuestionStatus, Refusal, Reply, Request};
 
 /// A desk and a reader of its board, for one session. The reader learns the receipt of each call, so a
 /// status, which is read from the board, covers every step that the session received a reply for. Contracts
-/// see a client as the steps that its reader has seen or learned.
+/// see a client as its reader.
 pub struct Client<N: HistoryId, R: Wait + Copy, T: BoardValue<N>> {
     desk: Arc<Desk<N, R, T>>,
     reader: BoardReader<N>,
@@ -31,44 +31,44 @@ impl<N: HistoryId, R: Wait + Copy, T: BoardValue<N>> Drop for Client<N, R, T> {
 }
 
 impl<N: HistoryId, R: Wait + Copy, T: BoardValue<N>> Model for Client<N, R, T> {
-    ghost use Rattle.std.specs.Prelude.{List};
-    ghost use Rattle.trace_model.specs.declared.messages.step.BoardStep.{BoardStep};
+    ghost use Rattle.board.specs.Fits.{ReaderView};
 
-    ghost Value = { List BoardStep };
+    ghost Value = { ReaderView };
 
-    ghost view = { λ c. c.reader.known };
+    ghost view = { λ c. c.reader };
 }
 
 impl<N: HistoryId, R: Wait + Copy, T: BoardValue<N>> Client<N, R, T> {
     /// Creates a client. The reader must be of this desk.
     pub fn new(desk: Arc<Desk<N, R, T>>, reader: BoardReader<N>) -> Client<N, R, T>
-        ensures { result ≡ reader.known }
+        ensures { result ≡ reader }
     {
         Client { desk, reader }
     }
 
     /// Returns the reader, for a later session. Does not allocate.
     pub fn into_reader(self) -> BoardReader<N>
-        ensures { result.known ≡ self }
+        ensures { result ≡ self }
     {
         let Client { desk: _, reader } = self;
         reader
     }
 
-    /// Learns the receipt of a desk's call and returns its answer.
+    /// Learns the receipt of a desk's call, which began after the last one ended, and returns its
+    /// answer.
     fn learn<A: Drop>(&mut self, told: (A, Receipt<N>)) -> A
         ensures answer { result ≡ told.0 }
-        ensures later { IsPrefix self.old self.new }
-        ensures seen { IsPrefix told.1 self.new }
+        ensures later { IsPrefix self.old.known self.new.known }
+        ensures seen { self.new.known ≡ told.1 }
+        ensures entered { self.new.failed ≡ self.old.failed }
     {
         let (answer, receipt) = told;
-        self.reader.learn(&receipt);
+        self.reader.catch_up(&self.desk.rt(), &receipt);
         answer
     }
 
     fn offer(&mut self, event: Event) -> Reply
-        ensures told { IsTold N.limit (requests.Offer event) result self.new }
-        ensures later { IsPrefix self.old self.new }
+        ensures told { IsTold N.limit self.old (requests.Offer event) result self.new }
         ensures fits { IsReply result }
     {
         let told = self.desk.offer(event);
@@ -80,8 +80,7 @@ impl<N: HistoryId, R: Wait + Copy, T: BoardValue<N>> Client<N, R, T> {
 
     fn offer_batch(&mut self, events: &[Event]) -> Reply
         requires { IsBatch events.now }
-        ensures told { IsTold N.limit (requests.Batch events.now) result self.new }
-        ensures later { IsPrefix self.old self.new }
+        ensures told { IsTold N.limit self.old (requests.Batch events.now) result self.new }
         ensures fits { IsReply result }
     {
         let told = self.desk.offer_batch(events);
@@ -89,8 +88,7 @@ impl<N: HistoryId, R: Wait + Copy, T: BoardValue<N>> Client<N, R, T> {
     }
 
     fn ask(&mut self, bound: u8) -> Reply
-        ensures told { IsTold N.limit (requests.Ask bound) result self.new }
-        ensures later { IsPrefix self.old self.new }
+        ensures told { IsTold N.limit self.old (requests.Ask bound) result self.new }
         ensures fits { IsReply result }
     {
         let told = self.desk.ask(bound);
@@ -101,8 +99,7 @@ impl<N: HistoryId, R: Wait + Copy, T: BoardValue<N>> Client<N, R, T> {
     }
 
     fn answer(&mut self, question: u32) -> Reply
-        ensures told { IsTold N.limit (requests.Answer question) result self.new }
-        ensures later { IsPrefix self.old self.new }
+        ensures told { IsTold N.limit self.old (requests.Answer question) result self.new }
         ensures fits { IsReply result }
     {
         let told = self.desk.answer(question);
@@ -114,12 +111,11 @@ impl<N: HistoryId, R: Wait + Copy, T: BoardValue<N>> Client<N, R, T> {
 
     fn status(&mut self, question: u32) -> Reply
         ensures shown { IsStatus self.old question result self.new }
-        ensures later { IsPrefix self.old self.new }
         ensures fits { IsReply result }
     {
         match self.reader.status() {
             Ok(summary) => status_in(&summary, question),
-            Err(_) => Reply::Refused(Refusal::BoardBusy),
+            Err(_busy) => Reply::Refused(Refusal::BoardBusy),
         }
     }
 }

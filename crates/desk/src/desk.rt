@@ -83,6 +83,11 @@ impl<N: HistoryId, R: Wait + Copy> Desk<N, R, Shown<N>> {
 }
 
 impl<N: HistoryId, R: Wait + Copy, T: BoardValue<N>> Desk<N, R, T> {
+    /// Returns the handle by which its calls wait.
+    pub(crate) fn rt(&self) -> R {
+        self.rt
+    }
+
     /// Offers an event and returns its place. The receipt ends with the event's step.
     ///
     /// # Errors

@@ -1,10 +1,11 @@
 //! Jobs and findings that were made from a snapshot of the desk. A receipt shows that their events are
 //! those of the question, so they are not compared again under the lock.
 
-ghost use Rattle.std.specs.Prelude.{◌≡◌, IfOk, IsTrue};
+ghost use Rattle.std.specs.Prelude.{◌≡◌, Err, IfOk, IsTrue};
 ghost use Rattle.std.specs.Arc.{arc_value};
 ghost use Rattle.desk.specs.Published.{Afterwards};
 ghost use Rattle.desk.specs.Questions.{AreEventsOf};
+ghost use Rattle.desk.specs.Turns.{HasTooMany};
 
 use board::{HistoryId, Receipt};
 use findings::{Analysis, ComputeRefused, Finding, Job, Snapshot};
@@ -81,6 +82,8 @@ impl<N: HistoryId> OwnJob<N> {
         ensures same { self.new ≡ self.old }
         ensures asked { IfOk result (λ own. (own.question ≡ self.old.question)
             × (own.bound ≡ self.old.bound) × (own.task ≡ task)) }
+        ensures too_many { result ≡ Err ComputeRefused.TooManyCycles →
+            HasTooMany N.limit self.old.question self.old.bound task }
     {
         let finding = self.job.compute(task)?;
         let receipt = self.receipt.again();

@@ -1,10 +1,11 @@
 //! Workers, which compute the rows of tasks without the lock.
 
-ghost use Rattle.std.specs.Prelude.{◌≡◌, ◌≢◌, IfErr, IfOk, OnOk};
+ghost use Rattle.std.specs.Prelude.{◌≡◌, ◌≢◌, ℕ, Some, Err, IfErr, IfNone, IfOk, IfSome, MatchBool, OnOk};
 ghost use mathlib.Core.List.{IsPrefix};
 ghost use Rattle.snapshots.specs.Found.{FoundRows};
 ghost use Rattle.desk.specs.Published.{WasTaken};
-ghost use Rattle.desk.specs.Questions.{IsJobOf};
+ghost use Rattle.desk.specs.Questions.{IsFirstMissing, IsJobOf};
+ghost use Rattle.desk.specs.Turns.{GivesUp, HasTooMany, HeldOnce, IsDrawn, IsIdle, MissesNone};
 
 use crate::desk::Desk;
 use crate::own::{OwnFinding, OwnJob};
@@ -61,7 +62,7 @@ struct Picked {
 
 /// Computes tasks for a desk. It keeps the job of a question while that is unsettled, and gives up a
 /// question whose least missing task has too many cycles. Contracts see a worker as the steps that
-/// its reader has seen or learned.
+/// its reader has seen or learned, and the questions that it gave up.
 pub struct Worker<N: HistoryId, R: Wait + Copy, T: BoardValue<N>> {
     desk: Arc<Desk<N, R, T>>,
     claimant: Claimant,
@@ -83,12 +84,11 @@ impl<N: HistoryId, R: Wait + Copy, T: BoardValue<N>> Drop for Worker<N, R, T> {
 }
 
 impl<N: HistoryId, R: Wait + Copy, T: BoardValue<N>> Model for Worker<N, R, T> {
-    ghost use Rattle.std.specs.Prelude.{List};
-    ghost use Rattle.trace_model.specs.declared.messages.step.BoardStep.{BoardStep};
+    ghost use Rattle.desk.specs.Turns.{WorkerView};
 
-    ghost Value = { List BoardStep };
+    ghost Value = { WorkerView };
 
-    ghost view = { λ w. w.reader.known };
+    ghost view = { λ w. record { known = w.reader.known; given_up = w.given_up } };
 }
 
 impl<N: HistoryId, R: Wait + Copy, T: BoardValue<N>> Worker<N, R, T> {
@@ -98,7 +98,7 @@ impl<N: HistoryId, R: Wait + Copy, T: BoardValue<N>> Worker<N, R, T> {
         claimant: Claimant,
         reader: BoardReader<N>,
     ) -> Worker<N, R, T>
-        ensures { result ≡ reader.known }
+        ensures { result.known ≡ reader.known }
     {
         Worker {
             desk,
@@ -114,9 +114,14 @@ impl<N: HistoryId, R: Wait + Copy, T: BoardValue<N>> Worker<N, R, T> {
     /// rows without the lock, calls `hold`, delivers, and learns the receipt. Gives the question up if
     /// its least missing task has too many cycles.
     pub fn turn(&mut self, hold: &impl Hold) -> Turn
-        ensures later { IsPrefix self.old self.new }
+        ensures later { IsPrefix self.old.known self.new.known }
         ensures delivered { result ≡ Turn.Delivered → (finding : FoundRows)
-            × WasTaken N.limit finding self.new }
+            × WasTaken N.limit finding self.new.known }
+        ensures idle { result ≡ Turn.Idle →
+            IsIdle N.limit self.old.given_up self.old.known self.new.known }
+        ensures too_many { result ≡ Turn.Failed TurnFailure.TooManyCycles →
+            (question bound task : ℕ) × HasTooMany N.limit question bound task }
+        ensures gives_up { GivesUp result self.old.given_up self.new.given_up }
     {
         let Ok(found) = self.reader.least_unsettled(&self.given_up) else {
             return Turn::Failed(TurnFailure::BoardBusy);
@@ -132,12 +137,24 @@ impl<N: HistoryId, R: Wait + Copy, T: BoardValue<N>> Worker<N, R, T> {
 
     /// Works on one task of this question.
     fn work_on(&mut self, unsettled: Unsettled, hold: &impl Hold) -> Turn
-        ensures later { IsPrefix self.old self.new }
+        ensures later { IsPrefix self.old.known self.new.known }
         ensures delivered { result ≡ Turn.Delivered → (finding : FoundRows)
-            × WasTaken N.limit finding self.new }
+            × WasTaken N.limit finding self.new.known }
+        ensures idle { result ≡ Turn.Idle → HeldOnce N.limit self.new.known
+            (λ state. MissesNone state unsettled.number) }
+        ensures too_many { result ≡ Turn.Failed TurnFailure.TooManyCycles → (task : ℕ)
+            × HasTooMany N.limit unsettled.number unsettled.shown.bound task }
+        ensures gives_up { GivesUp result self.old.given_up self.new.given_up }
     {
         let Unsettled { number, shown } = unsettled;
-        let Some(picked) = pick(&self.desk, &mut self.claimant, number, shown.total) else {
+        let picked = pick(
+            &self.desk,
+            &mut self.reader,
+            &mut self.claimant,
+            number,
+            shown.total,
+        );
+        let Some(picked) = picked else {
             return Turn::Idle;
         };
         let question = u32::from(number);
@@ -162,13 +179,23 @@ impl<N: HistoryId, R: Wait + Copy, T: BoardValue<N>> Worker<N, R, T> {
     }
 }
 
-/// Returns a task that no other worker drew, or the least missing one, or `None` if none is missing.
+/// Returns a task that no other worker drew, or the least missing one, whose receipt the reader
+/// learns, or `None` if none is missing.
 fn pick<N: HistoryId, R: Wait + Copy, T: BoardValue<N>>(
     desk: &Desk<N, R, T>,
+    reader: &mut BoardReader<N>,
     claimant: &mut Claimant,
     question: u8,
     total: u32,
-) -> Option<Picked> {
+) -> Option<Picked>
+    ensures later { IsPrefix reader.old.known reader.new.known }
+    ensures picked { IfSome result (λ picked. MatchBool picked.left
+        (HeldOnce N.limit reader.new.known
+        (λ state. IsFirstMissing state question (Some picked.task)))
+        (IsDrawn question total claimant.old.draws claimant.new.draws picked.task)) }
+    ensures none { IfNone result (HeldOnce N.limit reader.new.known
+        (λ state. MissesNone state question)) }
+{
     if let Ok(number) = claimant.draw(question)
         && number < u64::from(total)
     {
@@ -177,8 +204,12 @@ fn pick<N: HistoryId, R: Wait + Copy, T: BoardValue<N>>(
             left: false,
         });
     }
-    let task = desk.missing(u32::from(question)).0.ok().flatten()?;
-    Some(Picked { task, left: true })
+    let (missing, told) = desk.missing(u32::from(question));
+    reader.learn(&told);
+    match missing {
+        Ok(Some(task)) => Some(Picked { task, left: true }),
+        _ => None,
+    }
 }
 
 /// Ensures that `kept` is the job of the question: keeps it if it is, else replaces it.
@@ -189,7 +220,8 @@ fn keep_job<N: HistoryId, R: Wait + Copy, T: BoardValue<N>>(
     bound: Bound,
 ) -> Result<(), Turn>
     ensures kept { OnOk result (IsJobOf question bound kept.new) }
-    ensures err { IfErr result (λ turn. turn ≢ Turn.Delivered) }
+    ensures err { IfErr result (λ turn. (turn ≢ Turn.Delivered) × (turn ≢ Turn.Idle)
+        × (turn ≢ Turn.Failed TurnFailure.TooManyCycles)) }
 {
     if let Some(job) = kept
         && job.is_of(question, bound)
@@ -216,7 +248,9 @@ fn compute<N: HistoryId, R: Wait + Copy, T: BoardValue<N>>(
 ) -> Result<OwnFinding<N>, Turn>
     ensures computed { IfOk result (λ own. (own.question ≡ question) × (own.bound ≡ bound)
         × (own.task ≡ task)) }
-    ensures err { IfErr result (λ turn. turn ≢ Turn.Delivered) }
+    ensures err { IfErr result (λ turn. (turn ≢ Turn.Delivered) × (turn ≢ Turn.Idle)) }
+    ensures too_many { result ≡ Err (Turn.Failed TurnFailure.TooManyCycles) →
+        HasTooMany N.limit question bound task }
 {
     keep_job(desk, kept, question, bound)?;
     let Some(job) = kept else {
@@ -237,6 +271,7 @@ fn deliver<N: HistoryId, R: Wait + Copy, T: BoardValue<N>>(
 ) -> Turn
     ensures later { IsPrefix reader.old.known reader.new.known }
     ensures delivered { result ≡ Turn.Delivered → WasTaken N.limit own reader.new.known }
+    ensures others { (result ≢ Turn.Idle) × (result ≢ Turn.Failed TurnFailure.TooManyCycles) }
 {
     let (delivered, receipt) = desk.deliver_own(own);
     reader.learn(&receipt);
@@ -251,7 +286,8 @@ fn deliver<N: HistoryId, R: Wait + Copy, T: BoardValue<N>>(
 
 /// Returns the outcome of a turn that the desk refused.
 fn refused(refusal: Refusal) -> Turn
-    ensures { result ≢ Turn.Delivered }
+    ensures { (result ≢ Turn.Delivered) × (result ≢ Turn.Idle)
+        × (result ≢ Turn.Failed TurnFailure.TooManyCycles) }
 {
     match refusal {
         Refusal::NoMemory => Turn::Failed(TurnFailure::NoMemory),

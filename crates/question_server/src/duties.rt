@@ -3,7 +3,7 @@ use crate::connections::converse;
 use crate::rest::Rest;
 use crate::spares::Spares;
 use board::{HistoryId, Shown};
-use desk::{Client, Desk, Turn, Worker};
+use desk::{Client, Desk, Turn, TurnFailure, Worker};
 use findings::Hold;
 use std::alloc::Global;
 use std::net::TcpStream;
@@ -34,7 +34,7 @@ pub struct DeskDuties<'a, N: HistoryId, R: Wait + Copy, H: Hold> {
 
 impl<'a, N: HistoryId + Send + Sync, R: Wait + Clock + Copy + Send + Sync, H: Hold + Sync> Duties
     for DeskDuties<'a, N, R, H> {
-    /// The worker sleeps while its turns deliver nothing.
+    /// The worker sleeps while its turns deliver nothing, longer if they fail for lack of memory.
     fn work(&self) {
         let Ok(desk) = Arc::try_clone(self.desk) else {
             return;
@@ -49,8 +49,12 @@ impl<'a, N: HistoryId + Send + Sync, R: Wait + Clock + Copy + Send + Sync, H: Ho
             if self.stop.load(Ordering::SeqCst) != 0 {
                 return;
             }
+            if rest.sleeps(&self.rt) {
+                continue;
+            }
             match worker.turn(self.hold) {
                 Turn::Delivered => rest.delivered(),
+                Turn::Failed(TurnFailure::NoMemory) => rest.after_failure(),
                 _ => rest.after_nothing(&self.rt),
             }
         }

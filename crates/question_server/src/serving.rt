@@ -156,7 +156,8 @@ fn serve_named<
 /// time, and one for each worker. A further connection, or one without a thread, is closed without a
 /// reply and not counted. After `service.sessions` sessions it accepts no more. Once all have ended it
 /// stops the workers and returns the number of sessions. Each worker calls `hold` once per computed
-/// task. An idle worker looks for a question every two milliseconds.
+/// task. An idle worker looks for a question every two milliseconds. A worker whose turn failed for
+/// lack of memory tries again after at most two seconds.
 ///
 /// # Errors
 ///

@@ -6,4 +6,5 @@ returns g c = record {
   answer = refl;
   later = search rules;
   seen = search rules;
+  entered = search rules;
 }

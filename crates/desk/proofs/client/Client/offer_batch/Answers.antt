@@ -3,14 +3,15 @@ use Rattle.trace_model.specs.declared.messages.session.Reply.{Reply}
 use Rattle.trace_model.specs.declared.messages.session.Reply.TheVariants as replies
 use Rattle.trace_model.specs.declared.messages.session.Request.TheVariants.{Batch}
 use Rattle.sequencer.specs.declared.batching.Batched.{Batched}
-use Rattle.desk.specs.Clients.{IsTold}
-use Rattle.desk.proofs.Told.{told_batch}
+use Rattle.desk.specs.Clients.{RepliesAfter}
+use Rattle.desk.proofs.Told.{told, told_batch}
 use Rattle.desk.proofs.client.Client.offer_batch.Goals as goal
 
 pub returns-clause-told : goal.returns-clause-told
 returns-clause-told g c =
-    let told = c.offer_batch-told.result in
-    let reply : replies.Batched told.0.accepted told.0.refusal told.0.length ≡ c.reply.result =
+    let got = c.offer_batch-told.result in
+    let reply : replies.Batched got.0.accepted got.0.refusal got.0.length ≡ c.reply.result =
     ap (λ (b : Batched). replies.Batched b.accepted b.refusal b.length) (sym c.learn.ensures.answer) ∙ sym c.reply.ensures in
-    subst (λ (r : Reply). IsTold g.N.HistoryId.limit (Batch c.args.events.now) r c.learn.new.self) reply
-    (told_batch g.N.HistoryId.limit told.1 c.learn.new.self c.args.events.now told.0 c.requires c.learn.ensures.seen c.offer_batch-told.ensures.batched)
+    told g.N.HistoryId.limit c.args.self.now c.learn.new.self (Batch c.args.events.now) c.reply.result got.1 c.learn.ensures.later c.learn.ensures.seen c.learn.ensures.entered
+    (subst (λ (r : Reply). RepliesAfter g.N.HistoryId.limit (Batch c.args.events.now) r got.1) reply
+    (told_batch g.N.HistoryId.limit got.1 c.args.events.now got.0 c.requires c.offer_batch-told.ensures.batched))

@@ -1,5 +1,5 @@
 use Rattle.board.proofs.Publishing.{entering}
-use Rattle.board.proofs.reader.enter.Goals as goal
+use Rattle.board.proofs.entry.enter.Goals as goal
 
 pub enter_as-requires : goal.enter_as-requires
 enter_as-requires g c = entering g.K.KnownCount.count c.args.reader.place.id _
