@@ -1,11 +1,14 @@
 //! The command line: parses the words of the program into an [`Invocation`], over `clap`. The main
-//! contract is [`parse`]: each number of an invocation is in its range.
+//! contract is [`parse`]: each text and number of an invocation is that of its argument among the
+//! words, or its default, and each number is in its range.
 #![tactic(auto)]
 
 mod words;
 
-ghost use Rattle.std.specs.Prelude.{IfOk, IfSome};
+ghost use Rattle.std.specs.Prelude.{◌≡◌, ◌≤◌, false, IfOk, IfSome, Ok, codes, map, option_map};
+ghost use Rattle.clap.specs.Words.{app_of, first_of, found_of, rows_of, rule_of, subcommand_rows_of};
 ghost use Rattle.command_line.specs.CommandLine.{IsWithin, IsInRange};
+ghost use Rattle.command_line.specs.Program.{IsSimple, SaysInvocation, SaysMatches, SaysNamed, SaysNumber, TakesArgument, TakesCommand, bound_rule, check_app, cycle_rule, explain_app, goodlockd, limit_rule, offline_app, positional, ranged, replay_app, script_app, serve_app, sessions_rule, workers_rule};
 
 use clap::error::ErrorKind;
 use clap::{Arg, ArgMatches, Command, Error, value_parser};
@@ -53,7 +56,10 @@ pub enum Invocation<'a> {
 }
 
 /// Returns a required positional argument.
-fn positional<'a>(alloc: Global, id: &'a str, name: &'a str, help: &'a str) -> Arg<'a> {
+fn positional<'a>(alloc: Global, id: &'a str, name: &'a str, help: &'a str) -> Arg<'a>
+    ensures rule { rule_of result ≡ positional id.entry.now }
+    ensures local { result.global ≡ false }
+{
     Arg::new(alloc, id)
         .value_name(name)
         .help(help)
@@ -61,32 +67,47 @@ fn positional<'a>(alloc: Global, id: &'a str, name: &'a str, help: &'a str) -> A
 }
 
 /// Returns an option `--id NAME` with a number from `least` to `most`.
-fn ranged<'a>(alloc: Global, id: &'a str, name: &'a str, least: i64, most: i64) -> Arg<'a> {
-    Arg::new(alloc, id)
-        .long(id)
-        .value_name(name)
-        .value_parser(value_parser!(u32).range(least..=most))
+fn ranged<'a>(alloc: Global, id: &'a str, name: &'a str, least: u32, most: u32) -> Arg<'a>
+    requires { least ≤ most }
+    ensures rule { rule_of result ≡ ranged id.entry.now least most }
+    ensures local { result.global ≡ false }
+{
+    Arg::new(alloc, id).long(id).value_name(name).value_parser(value_parser!(u32).range(
+        i64::from(least)..=i64::from(most),
+    ))
 }
 
-fn limit<'a>(alloc: Global) -> Arg<'a> {
+fn limit<'a>(alloc: Global) -> Arg<'a>
+    ensures rule { rule_of result ≡ limit_rule }
+    ensures local { result.global ≡ false }
+{
     ranged(alloc, "limit", "L", 1, 1_048_576)
         .help("Largest number of accepted events, 1 to 1048576")
         .default_value("1048576")
 }
 
-fn workers<'a>(alloc: Global) -> Arg<'a> {
+fn workers<'a>(alloc: Global) -> Arg<'a>
+    ensures rule { rule_of result ≡ workers_rule }
+    ensures local { result.global ≡ false }
+{
     ranged(alloc, "workers", "W", 1, 16)
         .help("Number of threads that compute tasks, 1 to 16")
         .default_value("1")
 }
 
-fn sessions<'a>(alloc: Global) -> Arg<'a> {
+fn sessions<'a>(alloc: Global) -> Arg<'a>
+    ensures rule { rule_of result ≡ sessions_rule }
+    ensures local { result.global ≡ false }
+{
     ranged(alloc, "sessions", "S", 0, 1_000_000)
         .help("End after this number of sessions, 0 to 1000000; 0 means never")
         .default_value("0")
 }
 
-fn bound<'a>(alloc: Global) -> Arg<'a> {
+fn bound<'a>(alloc: Global) -> Arg<'a>
+    ensures rule { rule_of result ≡ bound_rule }
+    ensures local { result.global ≡ false }
+{
     ranged(alloc, "bound", "K", 2, 8)
         .help("Largest number of members of a cycle, 2 to 8")
         .required(true)
@@ -96,7 +117,10 @@ fn bound<'a>(alloc: Global) -> Arg<'a> {
 fn taking<'a>(
     command: Result<Command<'a>, AllocError>,
     argument: Arg<'a>,
-) -> Result<Command<'a>, AllocError> {
+) -> Result<Command<'a>, AllocError>
+    requires { argument.global ≡ false }
+    ensures { IfOk result (TakesArgument command.entry argument.entry) }
+{
     match command {
         Ok(command) => command.arg(argument),
         Err(refused) => {
@@ -106,7 +130,9 @@ fn taking<'a>(
     }
 }
 
-fn serve<'a>(alloc: Global) -> Result<Command<'a>, AllocError> {
+fn serve<'a>(alloc: Global) -> Result<Command<'a>, AllocError>
+    ensures { IfOk result (λ command. app_of command ≡ serve_app) }
+{
     let command = Command::new(alloc, "serve")
         .about("Serves agents and operators over TCP")
         .arg(positional(
@@ -120,21 +146,27 @@ fn serve<'a>(alloc: Global) -> Result<Command<'a>, AllocError> {
     taking(command, limit(alloc))
 }
 
-fn script<'a>(alloc: Global) -> Result<Command<'a>, AllocError> {
+fn script<'a>(alloc: Global) -> Result<Command<'a>, AllocError>
+    ensures { IfOk result (λ command. app_of command ≡ script_app) }
+{
     let command = Command::new(alloc, "script")
         .about("Runs a script of events and questions and prints the replies")
         .arg(positional(alloc, "file", "FILE", "The script"));
     taking(command, limit(alloc))
 }
 
-fn offline<'a>(alloc: Global) -> Result<Command<'a>, AllocError> {
+fn offline<'a>(alloc: Global) -> Result<Command<'a>, AllocError>
+    ensures { IfOk result (λ command. app_of command ≡ offline_app) }
+{
     let command = Command::new(alloc, "offline")
         .about("Reports the lock cycles of a file of events")
         .arg(positional(alloc, "file", "FILE", "The file of events"));
     taking(command, bound(alloc))
 }
 
-fn replay<'a>(alloc: Global) -> Result<Command<'a>, AllocError> {
+fn replay<'a>(alloc: Global) -> Result<Command<'a>, AllocError>
+    ensures { IfOk result (λ command. app_of command ≡ replay_app) }
+{
     let command = Command::new(alloc, "replay")
         .about("Checks a witness against a trace")
         .arg(positional(alloc, "trace", "TRACE", "The file of events"));
@@ -144,14 +176,19 @@ fn replay<'a>(alloc: Global) -> Result<Command<'a>, AllocError> {
     )
 }
 
-fn cycle<'a>(alloc: Global) -> Arg<'a> {
+fn cycle<'a>(alloc: Global) -> Arg<'a>
+    ensures rule { rule_of result ≡ cycle_rule }
+    ensures local { result.global ≡ false }
+{
     Arg::new(alloc, "cycle")
         .long("cycle")
         .value_name("N,N,..")
         .help("Explain only the cycle with these dependency numbers")
 }
 
-fn explain<'a>(alloc: Global) -> Result<Command<'a>, AllocError> {
+fn explain<'a>(alloc: Global) -> Result<Command<'a>, AllocError>
+    ensures { IfOk result (λ command. app_of command ≡ explain_app) }
+{
     let command = Command::new(alloc, "explain")
         .about("Explains the lock cycles of a file of events")
         .arg(positional(alloc, "file", "FILE", "The file of events"));
@@ -159,7 +196,9 @@ fn explain<'a>(alloc: Global) -> Result<Command<'a>, AllocError> {
     taking(command, cycle(alloc))
 }
 
-fn check<'a>(alloc: Global) -> Result<Command<'a>, AllocError> {
+fn check<'a>(alloc: Global) -> Result<Command<'a>, AllocError>
+    ensures { IfOk result (λ command. app_of command ≡ check_app) }
+{
     let command = Command::new(alloc, "check")
         .about("Checks explained cycles against a trace")
         .arg(positional(alloc, "trace", "TRACE", "The file of events"));
@@ -173,7 +212,10 @@ fn check<'a>(alloc: Global) -> Result<Command<'a>, AllocError> {
 fn with_command<'a>(
     program: Command<'a>,
     command: Result<Command<'a>, AllocError>,
-) -> Result<Command<'a>, AllocError> {
+) -> Result<Command<'a>, AllocError>
+    requires { IfOk command IsSimple }
+    ensures { IfOk result (TakesCommand program.entry command.entry) }
+{
     match command {
         Ok(command) => program.subcommand(command),
         Err(refused) => {
@@ -187,7 +229,11 @@ fn with_command<'a>(
 fn with<'a>(
     program: Result<Command<'a>, AllocError>,
     command: Result<Command<'a>, AllocError>,
-) -> Result<Command<'a>, AllocError> {
+) -> Result<Command<'a>, AllocError>
+    requires { IfOk command IsSimple }
+    ensures { IfOk result (λ new. (old : _) × (program.entry ≡ Ok old)
+        × TakesCommand old command.entry new) }
+{
     match program {
         Ok(program) => with_command(program, command),
         Err(refused) => {
@@ -197,7 +243,9 @@ fn with<'a>(
     }
 }
 
-fn program<'a>(alloc: Global) -> Result<Command<'a>, AllocError> {
+fn program<'a>(alloc: Global) -> Result<Command<'a>, AllocError>
+    ensures { IfOk result (λ program. app_of program ≡ goodlockd) }
+{
     let program = Command::new(alloc, "goodlockd")
         .about("Predicts the deadlocks of a traced program from its events")
         .version("2.0.0")
@@ -210,9 +258,17 @@ fn program<'a>(alloc: Global) -> Result<Command<'a>, AllocError> {
     with(program, check(alloc))
 }
 
+/// Returns the text of an argument, or `None` if it has none.
+fn text<'a>(matches: &ArgMatches<'a>, id: &str) -> Option<&'a str>
+    ensures { option_map (λ text. text.now) result ≡ first_of id.now (rows_of (found_of matches.now)) }
+{
+    matches.get_str(id)
+}
+
 /// Returns the number of an argument, or `None` if it is not in the range.
 fn number(matches: &ArgMatches<'_>, id: &str, least: u32, most: u32) -> Option<u32>
-    ensures { IfSome result (IsWithin least most) }
+    ensures within { IfSome result (IsWithin least most) }
+    ensures said { IfSome result (SaysNumber (rows_of (found_of matches.now)) id.now) }
 {
     let value = matches.get_one::<u32>(id)?;
     if least <= value && value <= most {
@@ -223,10 +279,11 @@ fn number(matches: &ArgMatches<'_>, id: &str, least: u32, most: u32) -> Option<u
 }
 
 fn chosen_serve<'a>(given: &ArgMatches<'a>) -> Option<Invocation<'a>>
-    ensures { IfSome result IsInRange }
+    ensures range { IfSome result IsInRange }
+    ensures said { IfSome result (SaysNamed (codes "serve") (rows_of (found_of given.now))) }
 {
     Some(Invocation::Serve {
-        address: given.get_str("address")?,
+        address: text(given, "address")?,
         workers: number(given, "workers", 1, 16)?,
         sessions: number(given, "sessions", 0, 1_000_000)?,
         limit: number(given, "limit", 1, 1_048_576)?,
@@ -234,53 +291,59 @@ fn chosen_serve<'a>(given: &ArgMatches<'a>) -> Option<Invocation<'a>>
 }
 
 fn chosen_script<'a>(given: &ArgMatches<'a>) -> Option<Invocation<'a>>
-    ensures { IfSome result IsInRange }
+    ensures range { IfSome result IsInRange }
+    ensures said { IfSome result (SaysNamed (codes "script") (rows_of (found_of given.now))) }
 {
     Some(Invocation::Script {
-        file: given.get_str("file")?,
+        file: text(given, "file")?,
         limit: number(given, "limit", 1, 1_048_576)?,
     })
 }
 
 fn chosen_offline<'a>(given: &ArgMatches<'a>) -> Option<Invocation<'a>>
-    ensures { IfSome result IsInRange }
+    ensures range { IfSome result IsInRange }
+    ensures said { IfSome result (SaysNamed (codes "offline") (rows_of (found_of given.now))) }
 {
     Some(Invocation::Offline {
-        file: given.get_str("file")?,
+        file: text(given, "file")?,
         bound: number(given, "bound", 2, 8)?,
     })
 }
 
 fn chosen_replay<'a>(given: &ArgMatches<'a>) -> Option<Invocation<'a>>
-    ensures { IfSome result IsInRange }
+    ensures range { IfSome result IsInRange }
+    ensures said { IfSome result (SaysNamed (codes "replay") (rows_of (found_of given.now))) }
 {
     Some(Invocation::Replay {
-        trace: given.get_str("trace")?,
-        witness: given.get_str("witness")?,
+        trace: text(given, "trace")?,
+        witness: text(given, "witness")?,
     })
 }
 
 fn chosen_explain<'a>(given: &ArgMatches<'a>) -> Option<Invocation<'a>>
-    ensures { IfSome result IsInRange }
+    ensures range { IfSome result IsInRange }
+    ensures said { IfSome result (SaysNamed (codes "explain") (rows_of (found_of given.now))) }
 {
     Some(Invocation::Explain {
-        file: given.get_str("file")?,
+        file: text(given, "file")?,
         bound: number(given, "bound", 2, 8)?,
-        cycle: given.get_str("cycle"),
+        cycle: text(given, "cycle"),
     })
 }
 
 fn chosen_check<'a>(given: &ArgMatches<'a>) -> Option<Invocation<'a>>
-    ensures { IfSome result IsInRange }
+    ensures range { IfSome result IsInRange }
+    ensures said { IfSome result (SaysNamed (codes "check") (rows_of (found_of given.now))) }
 {
     Some(Invocation::Check {
-        trace: given.get_str("trace")?,
-        file: given.get_str("file")?,
+        trace: text(given, "trace")?,
+        file: text(given, "file")?,
     })
 }
 
 fn chosen<'a>(matches: &ArgMatches<'a>) -> Option<Invocation<'a>>
-    ensures { IfSome result IsInRange }
+    ensures range { IfSome result IsInRange }
+    ensures said { IfSome result (SaysMatches (subcommand_rows_of matches.now)) }
 {
     let (name, given) = matches.subcommand()?;
     match name {
@@ -299,7 +362,9 @@ fn invocation_of<'a>(
     program: &mut Command<'a>,
     words: &'a [&'a str],
 ) -> Result<Invocation<'a>, Error>
-    ensures { IfOk result IsInRange }
+    requires { app_of program.old ≡ goodlockd }
+    ensures range { IfOk result IsInRange }
+    ensures said { IfOk result (SaysInvocation (map (λ word. word.now) words.entry.now)) }
 {
     let matches = program.try_get_matches_from_mut(words)?;
     let invocation = chosen(&matches);
@@ -317,7 +382,8 @@ fn invocation_of<'a>(
 /// `clap`'s error if the words are not understood or ask for help or the version. Its text is for the
 /// user.
 pub fn parse<'a>(alloc: Global, words: &'a [&'a str]) -> Result<Invocation<'a>, Error>
-    ensures { IfOk result IsInRange }
+    ensures range { IfOk result IsInRange }
+    ensures said { IfOk result (SaysInvocation (map (λ word. word.now) words.entry.now)) }
 {
     let mut program = program(alloc)?;
     let invocation = invocation_of(&mut program, words);

@@ -3,6 +3,7 @@ pub mod Words
 pub mod OfflineEnds
 pub mod PotentialRows
 pub mod ReplayEnds
+pub mod ScriptLines
 pub mod ScriptTasks
 pub mod CheckedCycles
 pub mod ExplainedTexts

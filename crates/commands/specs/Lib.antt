@@ -4,6 +4,7 @@ pub mod Explain
 pub mod Offline
 pub mod Replay
 pub mod Script
+pub mod ScriptFile
 pub mod ScriptRun
 pub mod Text
 pub mod Check

@@ -1,23 +1,17 @@
 -- What commands of a script do (this project's profile).
-use Rattle.std.specs.Prelude.{◌≡◌, ◌⊎◌, ℕ, zero, suc, List, [], ◌∷◌, ◌++◌, Some, None, Result, Ok, Err, Box, box_value, map, take, slice_get}
-use Rattle.std.specs.Global.{Global}
+use Rattle.std.specs.Prelude.{◌≡◌, ◌⊎◌, ℕ, zero, suc, List, Some, None, Result, Ok, Err, take, slice_get}
 use Rattle.trace_model.specs.declared.limits.TheConstants.{MAX_CYCLES}
 use Rattle.trace_model.specs.declared.refusal.Refusal.{Refusal}
 use Rattle.trace_model.specs.declared.refusal.Refusal.TheVariants.{NoMemory, TooManyCycles}
-use Rattle.trace_model.specs.declared.messages.batch.EventBatch.{EventBatch}
 use Rattle.trace_model.specs.declared.messages.step.BoardStep.TheVariants as steps
 use Rattle.trace_model.specs.Theory.Dependencies.{dependencies}
 use Rattle.trace_model.specs.Theory.Rows.{AreRows}
-use Rattle.trace_model.specs.Protocol.Batches.{IsBatch}
 use Rattle.trace_model.specs.Protocol.Machine.{Question, State, task_refused}
 use Rattle.trace_model.specs.Protocol.Runs.{TakesStep}
 use Rattle.cycle_search.specs.Search.{CycleFrom, MoreThan}
-use Rattle.event_files.specs.EventFile.{event_word}
 use Rattle.findings.specs.Found.{Asked}
 use Rattle.sequencer.specs.Book.{IsLeastMissing, RefusesSnapshot}
 use Rattle.commands.specs.Text.{labeled_line, refusal_line}
-use Rattle.commands.specs.declared.script_command.reading.Command.{Command}
-use Rattle.commands.specs.declared.script_command.reading.Command.TheVariants.{Batch}
 
 -- the rows of the task, which was missing, are delivered
 abbrev pub Delivers : State → ℕ → ℕ → State → Type 0
@@ -70,8 +64,3 @@ IsJobIn s job = (q : Question) × (slice_get s.questions job.question ≡ Some q
 abbrev pub told_line : List ℕ → Result ℕ Refusal → List ℕ
 told_line label (Ok n) = labeled_line label n
 told_line label (Err r) = refusal_line r
-
--- the commands, and then a batch of the events of these words
-abbrev pub AddsBatch : List Command → List (List ℕ) → List Command → Type 0
-AddsBatch old words new = (batch : Box EventBatch Global) × IsBatch (box_value batch)
-    × (map event_word (box_value batch) ≡ words) × (new ≡ old ++ Batch batch ∷ [])

@@ -1,7 +1,7 @@
 //! Event files: lines of event words.
 ghost use Rattle.std.specs.Prelude.{◌≡◌, ◌<◌, ◌^◌, ◌++◌, ℕ, true, false, IfErr, IfOk, IfSome, Ok, Some, decimal, map};
-ghost use Rattle.std.specs.List.{filter, position};
-ghost use Rattle.trace_model.specs.Protocol.Frames.{IsRequest, object_of};
+ghost use Rattle.std.specs.List.{All, filter, position};
+ghost use Rattle.trace_model.specs.Protocol.Frames.{IsInRange, IsRequest, object_of};
 ghost use Rattle.trace_model.specs.declared.traces.event.Event.{Event};
 ghost use Rattle.trace_model.specs.declared.traces.event.Op.{Op};
 ghost use Rattle.trace_model.specs.declared.messages.session.Request.TheVariants.{Offer};
@@ -40,6 +40,7 @@ fn letter_place(word: &[u8]) -> Option<usize>
 /// operation, and the object: `1a10` is an acquire of lock 10 by thread 1.
 pub fn event(word: &[u8]) -> Option<Event>
     ensures sound { IfSome result (λ e. word.now ≡ event_word e) }
+    ensures fits { IfSome result IsInRange }
     ensures complete { (e : Event) → IsRequest (Offer e) → word.now ≡ event_word e →
         result ≡ Some e }
 {
@@ -114,6 +115,8 @@ pub fn push_events(events: &mut Vec<Event>, words: &[&[u8]]) -> Result<bool, NoM
     ensures added { result ≡ Ok true →
         map event_word events.new.items ≡ map event_word events.old.items ++
         map (λ word. word.now) words.now }
+    ensures fits { result ≡ Ok true → All IsInRange events.old.items →
+        All IsInRange events.new.items }
     ensures bad { result ≡ Ok false → HasBadWord (map (λ word. word.now) words.now) }
 {
     for word in words {

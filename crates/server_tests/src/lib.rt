@@ -37,6 +37,8 @@ mod long_traces;
 #[cfg(test)]
 mod longest_trace;
 #[cfg(test)]
+mod offline_hold_tests;
+#[cfg(test)]
 mod offline_report_tests;
 #[cfg(test)]
 mod one_byte;

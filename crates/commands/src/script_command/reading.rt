@@ -1,9 +1,11 @@
 //! Parses script files.
-ghost use Rattle.std.specs.Prelude.{◌≡◌, true, map};
-ghost use Rattle.commands.specs.ScriptRun.{AddsBatch};
+ghost use Rattle.std.specs.Prelude.{◌≡◌, ◌∷◌, ◌++◌, [], true, IfErr, IfOk, IfSome, Ok, OnOk, codes, decimal, map};
+ghost use Rattle.event_files.specs.EventFile.{line_words, pieces_at};
+ghost use Rattle.commands.specs.ScriptFile.{AddsLine, IsScriptOf, RefusesCommands, Says, SaysLines};
+ghost use Rattle.commands.specs.declared.script_command.reading.Command.TheVariants.{Offer};
 
 use crate::exit::CommandError;
-use event_files::{event, number, push_events, words_of};
+use event_files::{lines_of, number, push_events, words_of};
 use std::alloc::Global;
 use std::str;
 use trace_model::{Event, EventBatch, NoMemory};
@@ -28,7 +30,9 @@ pub enum Command {
 }
 
 /// Parses a keyword and its number.
-fn command_about(keyword: &[u8], number: u32) -> Option<Command> {
+fn command_about(keyword: &[u8], number: u32) -> Option<Command>
+    ensures { IfSome result (Says (keyword.now ∷ decimal number ∷ [])) }
+{
     match str::from_utf8(keyword).ok()? {
         "ask" => Some(Command::Ask(u8::try_from(number).ok()?)),
         "work" => Some(Command::Work(number)),
@@ -38,19 +42,26 @@ fn command_about(keyword: &[u8], number: u32) -> Option<Command> {
     }
 }
 
-/// Parses the numbers of a `deliver` line.
-fn delivery(question: &[u8], task: &[u8]) -> Option<Command> {
-    Some(Command::Deliver {
-        question: number(question)?,
-        task: number(task)?,
-    })
+/// Parses a keyword and its two numbers.
+fn delivery(keyword: &[u8], question: &[u8], task: &[u8]) -> Option<Command>
+    ensures { IfSome result (Says (keyword.now ∷ question.now ∷ task.now ∷ [])) }
+{
+    match str::from_utf8(keyword).ok()? {
+        "deliver" => Some(Command::Deliver {
+            question: number(question)?,
+            task: number(task)?,
+        }),
+        _ => None,
+    }
 }
 
 /// Parses a line that is neither an event line nor a batch.
-fn parse_command(words: &[&[u8]]) -> Option<Command> {
+fn parse_command(words: &[&[u8]]) -> Option<Command>
+    ensures { IfSome result (Says (map (λ word. word.now) words.now)) }
+{
     match words {
         [keyword, about] => command_about(keyword, number(about)?),
-        [keyword, question, task] if *keyword == b"deliver".as_slice() => delivery(question, task),
+        [keyword, question, task] => delivery(keyword, question, task),
         _ => None,
     }
 }
@@ -58,8 +69,8 @@ fn parse_command(words: &[&[u8]]) -> Option<Command> {
 /// Appends a batch of the events that the words name. Returns whether these are 1 to `MAX_BATCH`
 /// event words.
 fn push_batch(alloc: Global, commands: &mut Vec<Command>, words: &[&[u8]]) -> Result<bool, NoMemory>
-    ensures { result ≡ Ok true →
-        AddsBatch commands.old.items (map (λ word. word.now) words.now) commands.new.items }
+    ensures { result ≡ Ok true → AddsLine commands.old.items
+        (codes "batch" ∷ map (λ word. word.now) words.now) commands.new.items }
 {
     let mut events = Vec::new(alloc);
     if !push_events(&mut events, words)? {
@@ -72,12 +83,42 @@ fn push_batch(alloc: Global, commands: &mut Vec<Command>, words: &[&[u8]]) -> Re
     Ok(true)
 }
 
+/// Appends an offer of each event.
+fn push_offers(commands: &mut Vec<Command>, events: &[Event]) -> Result<(), NoMemory>
+    ensures { OnOk result (commands.new.items ≡ commands.old.items ++ map Offer events.now) }
+{
+    for event in events {
+        commands.push(Command::Offer(*event))?;
+    }
+    Ok(())
+}
+
+/// Appends offers of the events that the words name. Returns whether these are event words.
+fn push_events_line(
+    alloc: Global,
+    commands: &mut Vec<Command>,
+    words: &[&[u8]],
+) -> Result<bool, NoMemory>
+    ensures { result ≡ Ok true →
+        AddsLine commands.old.items (map (λ word. word.now) words.now) commands.new.items }
+{
+    let mut events = Vec::new(alloc);
+    if !push_events(&mut events, words)? {
+        return Ok(false);
+    }
+    push_offers(commands, &events)?;
+    Ok(true)
+}
+
 /// Appends the commands of a line. Returns whether the line is understood.
 fn push_commands(
     alloc: Global,
     commands: &mut Vec<Command>,
     words: &[&[u8]],
-) -> Result<bool, NoMemory> {
+) -> Result<bool, NoMemory>
+    ensures { result ≡ Ok true →
+        AddsLine commands.old.items (map (λ word. word.now) words.now) commands.new.items }
+{
     if let Some((keyword, events)) = words.split_first() {
         if *keyword == b"batch".as_slice() {
             return push_batch(alloc, commands, events);
@@ -87,13 +128,37 @@ fn push_commands(
         commands.push(command)?;
         return Ok(true);
     }
-    for word in words {
-        let Some(event) = event(word) else {
-            return Ok(false);
-        };
-        commands.push(Command::Offer(event))?;
+    push_events_line(alloc, commands, words)
+}
+
+/// Appends the commands of a line of the file. Returns whether the line is understood.
+fn push_line(alloc: Global, commands: &mut Vec<Command>, line: &[u8]) -> Result<bool, NoMemory>
+    ensures { result ≡ Ok true → AddsLine commands.old.items (line_words line.now) commands.new.items }
+{
+    let words = words_of(alloc, line)?;
+    push_commands(alloc, commands, &words)
+}
+
+/// Returns the commands of `lines`, in order.
+///
+/// # Errors
+///
+/// - `Line` with the first line that is not understood, counted from 1.
+/// - `Memory` if an allocation fails.
+fn commands_of(alloc: Global, lines: &[&[u8]]) -> Result<Vec<Command>, CommandError>
+    ensures commands { IfOk result (λ commands.
+        SaysLines (map (λ line. line.now) lines.now) commands.items) }
+    ensures refused { IfErr result (RefusesCommands (map (λ line. line.now) lines.now)) }
+{
+    let mut commands = Vec::new(alloc);
+    let mut number = 0usize;
+    for line in lines {
+        number = number.saturating_add(1);
+        if !push_line(alloc, &mut commands, line)? {
+            return Err(CommandError::Line(number));
+        }
     }
-    Ok(true)
+    Ok(commands)
 }
 
 /// Parses a script into its commands, in order.
@@ -102,15 +167,10 @@ fn push_commands(
 ///
 /// - `Line` with the first line that is not understood, counted from 1.
 /// - `Memory` if an allocation fails.
-pub fn read_script(alloc: Global, file: &[u8]) -> Result<Vec<Command>, CommandError> {
-    let mut commands = Vec::new(alloc);
-    let mut number = 0usize;
-    for line in file.split(|byte| *byte == b'\n') {
-        number = number.saturating_add(1);
-        let words = words_of(alloc, line)?;
-        if !push_commands(alloc, &mut commands, &words)? {
-            return Err(CommandError::Line(number));
-        }
-    }
-    Ok(commands)
+pub fn read_script(alloc: Global, file: &[u8]) -> Result<Vec<Command>, CommandError>
+    ensures commands { IfOk result (λ commands. IsScriptOf commands.items file.now) }
+    ensures refused { IfErr result (RefusesCommands (pieces_at 10 file.now)) }
+{
+    let lines = lines_of(alloc, file)?;
+    commands_of(alloc, &lines)
 }

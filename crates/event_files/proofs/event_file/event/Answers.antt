@@ -2,7 +2,7 @@ use Rattle.std.proofs.Common.{◌+◌, Some, take, drop, get_or, decimal, sym, a
 use Rattle.std.proofs.lemmas.List.Quantifiers.{position-Some}
 use Rattle.std.proofs.lemmas.Option.{none-some, same_Some}
 use Rattle.trace_model.proofs.Lists.{take-drop_rest}
-use Rattle.trace_model.specs.Protocol.Frames.{object_of}
+use Rattle.trace_model.specs.Protocol.Frames.{IsInRange, object_of}
 use Rattle.std.specs.Prelude.{IfSome}
 use Rattle.event_files.specs.EventFile.{is_no_digit, event_word}
 use Rattle.event_files.proofs.EventWords.{taken_apart, word_is}
@@ -66,3 +66,15 @@ returns-clause-sound c =
     let within = (position-Some is_no_digit word place 0 (sym c.letter_place.ensures ∙ c.in_ok-place.was)).0 in
     let object = sym (take-drop_rest word (place + 1)) ∙ c.in_ok-object.ensures.sound ∙ ap decimal (sym c.in_ok-op.ensures.sound.1) in
     word_is word (record { thread = c.in_ok-thread.thread; op = c.in_ok-op.op }) place within c.in_ok-thread.ensures.sound c.in_ok-op.ensures.sound.0 object
+
+pub returns-in_err-place-clause-fits : goal.returns-in_err-place-clause-fits
+returns-in_err-place-clause-fits c = subst (λ told. IfSome told IsInRange) (sym c.from_residual.ensures) tt
+
+pub returns-in_err-thread-clause-fits : goal.returns-in_err-thread-clause-fits
+returns-in_err-thread-clause-fits c = subst (λ told. IfSome told IsInRange) (sym c.from_residual-in_err-thread.ensures) tt
+
+pub returns-in_err-object-clause-fits : goal.returns-in_err-object-clause-fits
+returns-in_err-object-clause-fits c = subst (λ told. IfSome told IsInRange) (sym c.from_residual-in_err-object.ensures) tt
+
+pub returns-in_err-op-clause-fits : goal.returns-in_err-op-clause-fits
+returns-in_err-op-clause-fits c = subst (λ told. IfSome told IsInRange) (sym c.from_residual-in_err-op.ensures) tt
