@@ -4,17 +4,17 @@ use Rattle.trace_model.specs.Theory.Trace.{Trace}
 use Rattle.reports.specs.Printed.{Printed}
 use Rattle.cycle_search.specs.Collecting.{Taking, TakesAll}
 use Rattle.findings.specs.Found.{AreRowsFor, IsRowFor}
-use Rattle.findings.specs.Collecting.{ReadsSame, RefusesRows, RefusesRowsFor, Rowing, TookRows, TookRowsFor, rows_taking}
+use Rattle.findings.specs.Collecting.{ReadsSame, RefusesRows, RefusesRowsFor, RowsView, TookRows, TookRowsFor, rows_taking}
 use Rattle.findings.specs.declared.collecting.RowsRefused.{RowsRefused}
 use Rattle.findings.specs.declared.collecting.RowsRefused.TheVariants.{Refused, NoMemory}
 use Rattle.findings.proofs.Members.{rows_push}
 
-module _ {C E : Type 0} (taking : Taking C Printed E) (start old : Rowing C) (before : List (List ℕ)) (cycle : List ℕ) (row : Printed)
+module _ {C E : Type 0} (taking : Taking C Printed E) (start old : RowsView C) (before : List (List ℕ)) (cycle : List ℕ) (row : Printed)
     (took : TookRowsFor taking start before old) (is : IsRowFor old.events cycle row) where
   one_row : IsRowFor start.events cycle row
   one_row = subst (λ s. IsRowFor s cycle row) took.0.events is
 
-  pub took_row : (new : Rowing C) → ReadsSame old new →
+  pub took_row : (new : RowsView C) → ReadsSame old new →
       ((from : C) (rows : List Printed) → taking.took from rows old.rows → taking.took from (rows ++ row ∷ []) new.rows) →
       TookRowsFor taking start (before ++ cycle ∷ []) new
   took_row new same takes = (
@@ -28,7 +28,7 @@ module _ {C E : Type 0} (taking : Taking C Printed E) (start old : Rowing C) (be
   refused_row refused refuses =
       (took.1.0 ++ row ∷ [], rows_push start.events before took.1.0 cycle row took.1.1 one_row, refuses start.rows took.1.0 took.1.2)
 
-module _ {C E : Type 0} (taking : Taking C Printed E) (P : List ℕ → Type 0) (start new : Rowing C) (answer : Result (Unit {0}) (RowsRefused E))
+module _ {C E : Type 0} (taking : Taking C Printed E) (P : List ℕ → Type 0) (start new : RowsView C) (answer : Result (Unit {0}) (RowsRefused E))
     (takes : TakesAll (rows_taking taking) P start answer new) where
   pub took_all : (done : Unit {0}) → answer ≡ Ok done → ReadsSame start new × TookRows taking start.events P start.rows new.rows
   took_all done is =

@@ -37,26 +37,26 @@ RefusesRows taking s P old NoMemory = Unit {0}
 
 -- A collector of cycles that computes their rows: the events and requirements that it reads, and
 -- the collector of the rows.
-pub record Rowing (C : Type 0) : Type 0 where
+pub record RowsView (C : Type 0) : Type 0 where
   pub events : Trace
   pub requirements : Option Requirements
   pub rows : C
 
 -- Both read the same tables.
-pub record ReadsSame {C : Type 0} (a b : Rowing C) : Type 0 where
+pub record ReadsSame {C : Type 0} (a b : RowsView C) : Type 0 where
   pub events : b.events ≡ a.events
   pub requirements : b.requirements ≡ a.requirements
 
 -- The collector took the rows of these cycles.
 abbrev pub TookRowsFor : {C E : Type 0} → Taking C Printed E →
-    Rowing C → List (List ℕ) → Rowing C → Type 0
+    RowsView C → List (List ℕ) → RowsView C → Type 0
 TookRowsFor taking start cycles now = ReadsSame start now
     × ((rows : List Printed) × AreRowsFor start.events cycles rows
     × taking.took start.rows rows now.rows)
 
 -- The collector may refuse the last row of these cycles, or an allocation fails.
 abbrev pub RefusesRowsFor : {C E : Type 0} → Taking C Printed E →
-    Rowing C → List (List ℕ) → RowsRefused E → Type 0
+    RowsView C → List (List ℕ) → RowsRefused E → Type 0
 RefusesRowsFor taking start cycles (Refused refused) =
     (rows : List Printed) × AreRowsFor start.events cycles rows
     × taking.refuses start.rows rows refused
@@ -72,7 +72,7 @@ rows_none s = record {
 
 -- The collector of cycles gives their rows to the collector of rows.
 abbrev pub rows_taking : {C E : Type 0} → Taking C Printed E →
-    Taking (Rowing C) (List ℕ) (RowsRefused E)
+    Taking (RowsView C) (List ℕ) (RowsRefused E)
 rows_taking taking = record {
   accepts = λ now cycle. IsSomeCycle now.events cycle × AcceptsRows taking now.rows;
   took = TookRowsFor taking;

@@ -39,9 +39,9 @@ struct RowsOf<'a, C: Drop> {
 impl<'a, C: Drop> Model for RowsOf<'a, C> {
     ghost use Rattle.std.specs.Option.{ForSome};
     ghost use Rattle.findings.specs.Analyses.{AreTablesOf, IsCloserOf};
-    ghost use Rattle.findings.specs.Collecting.{Rowing};
+    ghost use Rattle.findings.specs.Collecting.{RowsView};
 
-    ghost Value = { Rowing C };
+    ghost Value = { RowsView C };
 
     ghost view = { λ r. record {
       events = r.snapshot.now;

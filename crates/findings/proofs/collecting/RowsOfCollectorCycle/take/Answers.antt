@@ -1,5 +1,5 @@
 use Rattle.std.proofs.Common.{refl, sym, ap, subst}
-use Rattle.findings.specs.Collecting.{AcceptsRows, Rowing, TookRowsFor}
+use Rattle.findings.specs.Collecting.{AcceptsRows, RowsView, TookRowsFor}
 use Rattle.findings.specs.Found.{IsSomeCycle}
 use Rattle.findings.proofs.CollectedRows.{refused_row, took_row}
 use Rattle.findings.proofs.collecting.RowsOfCollectorCycle.take.Goals as goal
@@ -7,23 +7,23 @@ use Rattle.findings.proofs.collecting.RowsOfCollectorCycle.take.Goals.{in-Ok-tak
 
 pub row_by-requires-clause-cycle : goal.row_by-requires-clause-cycle
 row_by-requires-clause-cycle g c =
-    subst (λ s. IsSomeCycle s c.args.cycle) (sym (ap (λ (r : Rowing g.row.C.Denot). r.events) c.self.view_is)) c.requires.0
+    subst (λ s. IsSomeCycle s c.args.cycle) (sym (ap (λ (r : RowsView g.row.C.Denot). r.events) c.self.view_is)) c.requires.0
 
 pub returns-in_default : goal.returns-in_default
 returns-in_default g c start before took = tt
 
 pub take-requires : goal.take-requires
 take-requires g c =
-    subst (AcceptsRows g.C.Collector.taking) (sym (ap (λ (r : Rowing g.row.C.Denot). r.rows) c.self.view_is)) c.requires.1 c.in-Ok.row
+    subst (AcceptsRows g.C.Collector.taking) (sym (ap (λ (r : RowsView g.row.C.Denot). r.rows) c.self.view_is)) c.requires.1 c.in-Ok.row
 
 pub returns : goal.returns
 returns g c start before took =
     let taking = g.C.Collector.taking in
-    let old : Rowing g.row.C.Denot = record { events = c.self.inside.snapshot.now; requirements = c.self.inside.tables.now.requirements; rows = c.self.inside.rows } in
+    let old : RowsView g.row.C.Denot = record { events = c.self.inside.snapshot.now; requirements = c.self.inside.tables.now.requirements; rows = c.self.inside.rows } in
     let took' = subst (TookRowsFor taking start before) (sym c.self.view_is) took in
     elim c.match-take.branch [
       | in-Ok-take w ↦
-          let new : Rowing g.row.C.Denot = record { events = old.events; requirements = old.requirements; rows = c.take.new.self } in
+          let new : RowsView g.row.C.Denot = record { events = old.events; requirements = old.requirements; rows = c.take.new.self } in
           rw w.result-is (took_row taking start old before c.args.cycle c.in-Ok.row took' c.in-Ok.ensures.row new (record { events = refl; requirements = refl }) w.in-Ok-take.ensures)
       | in-Err w ↦ rw w.result-is (refused_row taking start old before c.args.cycle c.in-Ok.row took' c.in-Ok.ensures.row _ w.in-Err.ensures)
     ]
