@@ -4,8 +4,8 @@ use Rattle.std.proofs.Common.{refl}
 use Rattle.reports.specs.Printed.{Printed}
 use Rattle.cycle_search.specs.Collecting.{Taking}
 use Rattle.offline_report.specs.Offline.{HasRows, IsPartOf}
-use Rattle.offline_report.specs.declared.row_texts.Ended.{Ended}
-use Rattle.offline_report.specs.declared.row_texts.Ended.TheVariants.{Over, NoMemory}
+use Rattle.offline_report.specs.declared.row_texts.EarlyEnd.{EarlyEnd}
+use Rattle.offline_report.specs.declared.row_texts.EarlyEnd.TheVariants.{Over, NoMemory}
 use Rattle.offline_report.specs.declared.row_texts.RowTexts.{RowTexts}
 
 -- These are the rows so far.
@@ -22,13 +22,13 @@ HasTaken start rows now = (now.limit ≡ start.limit) × (IsEmpty start → AreR
 
 -- The tasks have written more bytes than the limit, and the part has these rows; or an allocation
 -- fails.
-abbrev pub MayEnd : RowTexts → List Printed → Ended → Type 0
+abbrev pub MayEnd : RowTexts → List Printed → EarlyEnd → Type 0
 MayEnd start rows (Over part) =
     (start.limit < 2 ^ 64 - 1) × (part.is_whole ≡ false) × (IsEmpty start → IsPartOf rows part)
 MayEnd start rows NoMemory = Unit {0}
 
 -- It accepts each row and writes its text.
-abbrev pub writes : Taking RowTexts Printed Ended
+abbrev pub writes : Taking RowTexts Printed EarlyEnd
 writes = record {
   accepts = λ now row. Unit {0};
   took = HasTaken;

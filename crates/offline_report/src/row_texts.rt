@@ -24,7 +24,7 @@ pub(crate) struct RowTexts<'a> {
 
 /// Why a task ends early.
 #[derive(Drop)]
-pub(crate) enum Ended {
+pub(crate) enum EarlyEnd {
     /// The tasks have written more bytes than the limit. The part has the rows so far.
     Over(Part),
     /// An allocation failed.
@@ -79,14 +79,14 @@ impl<'a> RowTexts<'a> {
 impl<'a> Collector<Row> for RowTexts<'a> {
     ghost use Rattle.offline_report.specs.RowTexts.{writes};
 
-    type Refused = Ended;
+    type Refused = EarlyEnd;
 
     ghost taking = { writes };
 
-    fn take(&mut self, row: Row) -> Result<(), Ended> {
+    fn take(&mut self, row: Row) -> Result<(), EarlyEnd> {
         let before = self.buffer.len();
         let Ok(()) = self.buffer.push_row(&row) else {
-            return Err(Ended::NoMemory);
+            return Err(EarlyEnd::NoMemory);
         };
         let added = self.buffer.len().saturating_sub(before);
         self.cycles = self.cycles.saturating_add(1);
@@ -95,8 +95,8 @@ impl<'a> Collector<Row> for RowTexts<'a> {
             return Ok(());
         }
         match self.part(false) {
-            Ok(part) => Err(Ended::Over(part)),
-            Err(_) => Err(Ended::NoMemory),
+            Ok(part) => Err(EarlyEnd::Over(part)),
+            Err(_) => Err(EarlyEnd::NoMemory),
         }
     }
 }

@@ -9,7 +9,7 @@ ghost use Rattle.offline_report.specs.Offline.{AreAllParts, ArePartsWithin, IsTa
 use crate::gathering::{Computes, gather};
 use crate::parts::{Part, are_too_long, are_whole};
 use crate::refused::OfflineRefused;
-use crate::row_texts::{Ended, RowTexts};
+use crate::row_texts::{EarlyEnd, RowTexts};
 use findings::{Analysis, Hold, Job, RowsRefused};
 use reports::TextBuffer;
 use std::alloc::{AllocError, Global};
@@ -19,6 +19,9 @@ use std::sync::Arc;
 use std::sync::atomic::{AtomicBool, AtomicU64, Ordering};
 use std::thread::Threads;
 use trace_model::MAX_REPORT;
+
+#[cfg(test)]
+mod early_end_tests;
 
 /// The number of the question that is asked about a file.
 const QUESTION: u32 = 0;
@@ -101,7 +104,7 @@ impl<A: About> Piece<A> {
                 self.buffer = texts.buffer;
                 Ok(part)
             }
-            Err(RowsRefused::Refused(Ended::Over(part))) => Ok(part),
+            Err(RowsRefused::Refused(EarlyEnd::Over(part))) => Ok(part),
             Err(_) => Err(OfflineRefused::NoMemory),
         }
     }
