@@ -94,7 +94,8 @@ impl FindingSource {
         })
     }
 
-    fn finding(&self, key: FindingKey) -> Option<Finding> {
+    /// Returns the finding with this key, or `None` if an allocation fails.
+    pub(crate) fn finding(&self, key: FindingKey) -> Option<Finding> {
         let shared = if key.has_other_end {
             &self.other
         } else {

@@ -7,6 +7,7 @@ use crate::client_session_tests::serves_sessions;
 use crate::concurrent_offer_tests::{Offers, accepts_concurrent_offers};
 use crate::delivery_tests::{Way, delivers_concurrently, delivers_in_turn};
 use crate::desk_tests::{places_or_refuses_each, reports_repetitions};
+use crate::published_step_tests::publishes_each_step;
 use crate::test_desk::{TestDesk, new_desk};
 use crate::worker_order_tests::three_workers_deliver;
 use crate::worker_tests::{reports_abandoned_tasks, two_workers_deliver};
@@ -25,6 +26,7 @@ use std::thread::Threads;
 #[derive(Clone, Copy)]
 pub(crate) enum Script {
     Refusals,
+    Steps,
     Repetitions,
     EightThreads(Offers),
     ListsInTurn(Way),
@@ -113,6 +115,7 @@ fn run<D: TestDesk, R: RandomSource + AllocGlobal + Threads + Wait + Abort + Cop
 ) -> Option<Result<(), Fail>> {
     Some(match script {
         Script::Refusals => places_or_refuses_each(&rt, desk, reader),
+        Script::Steps => publishes_each_step(&rt, desk, reader),
         Script::Repetitions => reports_repetitions(&rt, alloc, desk, reader),
         Script::EightThreads(how) => accepts_concurrent_offers(&rt, alloc, desk, reader, how),
         Script::ListsInTurn(way) => delivers_in_turn(&rt, desk, reader, way),

@@ -45,6 +45,8 @@ mod one_byte;
 #[cfg(test)]
 mod public_surface;
 #[cfg(test)]
+mod published_step_tests;
+#[cfg(test)]
 mod reply_sending_tests;
 #[cfg(test)]
 mod segment_edges;
