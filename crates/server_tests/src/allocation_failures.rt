@@ -1,5 +1,5 @@
 //! Tests in which at most one allocation fails: each call that fails with `NoMemory` is repeated.
-//! The tests pass if no allocation fails; `bench/refused` makes each allocation fail in turn.
+//! The tests pass if no allocation fails; `tests/refused` makes each allocation fail in turn.
 
 use crate::delivery_tests::{FIRST, FindingSource, SECOND};
 use crate::desk_calls::{answer, ask, is_report, missing, offer};

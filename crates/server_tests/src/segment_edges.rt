@@ -1,5 +1,5 @@
 //! Tests of a book that fills several segments while at most one allocation fails. The test offers
-//! an event again after `NoMemory`. It passes if no allocation fails; `bench/refused` makes each
+//! an event again after `NoMemory`. It passes if no allocation fails; `tests/refused` makes each
 //! allocation fail in turn.
 
 use findings::Snapshot;

@@ -1,4 +1,4 @@
-/* Makes allocations of the program that it is preloaded into fail, as a table says that it shares with bench/refused.
+/* Makes allocations of the program that it is preloaded into fail, as a table says that it shares with tests/refused.
 
    An allocation counts if the return address of the call is in the program's file: what the C library allocates for itself
    neither counts nor fails. Counting begins before `main`, or after the first line on standard output, as the table says. */
