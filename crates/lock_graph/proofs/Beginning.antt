@@ -1,10 +1,10 @@
 -- The numbers below a total in the lists of a graph.
-use Rattle.std.proofs.Common.{◌≡◌, ℕ, zero, suc, ◌<◌, ◌≤◌, ltb, true, false, cond, List, [], ◌∷◌, length, take, get_or, slice_get, Some, inl, inr, refl, sym, ap, subst, ◌∙◌, arith}
-use Rattle.std.proofs.lemmas.Bool.{cases_lt}
-use Rattle.std.proofs.lemmas.List.{length-take-le}
+use Rattle.std.proofs.Common.{◌≡◌, ℕ, zero, suc, ◌-◌, ◌<◌, ◌≤◌, ltb, true, false, cond, List, [], ◌∷◌, length, take, get_or, slice_get, Some, inl, inr, refl, sym, ap, subst, ◌∙◌, arith}
+use Rattle.std.proofs.lemmas.Bool.{cases_lt, lt-ltb}
+use Rattle.std.proofs.lemmas.List.{length-take-le, take_all}
 use Rattle.std.proofs.lemmas.List.Kept.{AllPairs-from_increasing, IsStrictlyIncreasing-filter}
 use Rattle.std.proofs.lemmas.List.Sorted.{IsNonDecreasingBy-from_default}
-use Rattle.std.proofs.lemmas.Option.{slice_get_within, get_or_from_slice_get}
+use Rattle.std.proofs.lemmas.Option.{slice_get_within, get_or_from_slice_get, same_Some}
 use Rattle.std.specs.List.{filter, Contains}
 use Rattle.std.specs.List.Sorted.{IsStrictlyIncreasing, IsNonDecreasingBy, IsPartitionPoint}
 use Rattle.trace_model.specs.Theory.Dependencies.{Dependency}
@@ -54,6 +54,23 @@ pub part_below : (total : ℕ) (xs : List ℕ) (i : ℕ) → IsPartitionPoint (�
 part_below total xs i at = first_below total xs i
     (λ k x l h. subst (λ n. ltb n total ≡ true) (get_or_from_slice_get xs k x x h) (at.0 k x (omega arith) l))
     (λ k x l h. subst (λ n. ltb n total ≡ false) (get_or_from_slice_get xs k x x h) (at.1 k x l (slice_get_within xs k x h)))
+
+-- ascending numbers are all below a total if the last one is
+pub all_below : (total : ℕ) (xs : List ℕ) (last : ℕ) → IsStrictlyIncreasing xs → slice_get xs (length xs - 1) ≡ Some last → last < total → xs ≡ filter (λ n. ltb n total) xs
+all_below total xs last up at less =
+    sym (take_all (length xs) xs (omega arith))
+    ∙ first_below total xs (length xs) (λ k x l h. lt-ltb x total (low k x l h)) (λ k x l h. absurd (omega (arith, l, slice_get_within xs k x h)))
+  where
+    low : (k x : ℕ) → k < length xs → slice_get xs k ≡ Some x → x < total
+    low k x l h = elim (cases_lt k (length xs - 1)) [
+      | inl before ↦
+          let a = AllPairs-from_increasing xs up k (length xs - 1) 0 before (omega arith) in
+          omega (arith, a, less, get_or_from_slice_get xs k x 0 h, get_or_from_slice_get xs (length xs - 1) last 0 at)
+      | inr end ↦
+          let same : k ≡ length xs - 1 = omega arith in
+          let e = same_Some x last (sym h ∙ ap (slice_get xs) same ∙ at) in
+          omega (arith, e, less)
+    ]
 
 -- ascending numbers do not fall
 pub non_decreasing : (xs : List ℕ) → IsStrictlyIncreasing xs → IsNonDecreasingBy (λ y. y) xs

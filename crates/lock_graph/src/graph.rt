@@ -1,6 +1,7 @@
 //! The reverse index from locks to the dependencies that hold them.
 
-ghost use Rattle.std.specs.Prelude.{◌≡◌, ℕ, List, [], ◌∷◌, ◌++◌, length, IfOk, OnOk, OnErr};
+ghost use Rattle.std.specs.Prelude.{◌≡◌, ℕ, List, [], ◌∷◌, ◌++◌, length, nat_lt, IfOk, OnOk, OnErr};
+ghost use Rattle.std.specs.List.{filter};
 ghost use Rattle.std.specs.List.Sorted.{IsStrictlyIncreasing};
 ghost use Rattle.trace_model.specs.Theory.Dependencies.{Dependency as Triple};
 ghost use Rattle.lock_graph.specs.Lists.{listed_with};
@@ -95,8 +96,28 @@ impl LockGraph {
         requires { IsStrictlyIncreasing (holders self.now lock) }
         ensures { result.now ≡ holders_below self.now total lock }
     {
-        let numbers = self.successors(lock);
-        &numbers[..numbers.partition_point(|number| (*number as usize) < total)]
+        below(self.successors(lock), total)
+    }
+
+    /// Returns the same as `successors_below(lock, total)`, without hashing if `lock` is at
+    /// `position`. A position stays valid when dependencies are added. Does not allocate.
+    pub fn successors_at(&self, position: u32, lock: u32, total: usize) -> &[u32]
+        requires { IsStrictlyIncreasing (holders self.now lock) }
+        ensures { result.now ≡ holders_below self.now total lock }
+    {
+        match self.lists.get_index(position as usize) {
+            Some((key, list)) if *key == lock => below(list.as_slice(), total),
+            _ => self.successors_below(lock, total),
+        }
+    }
+
+    /// Returns the position of `lock`, a dense number: below the number of locks that dependencies
+    /// hold. A lock that no dependency holds has none, and gets a greater number. Does not allocate.
+    pub fn position(&self, lock: u32) -> u32 {
+        match self.lists.get_index_of(&lock) {
+            Some(position) => position.min(u32::MAX as usize) as u32,
+            None => u32::MAX,
+        }
     }
 
     /// Returns a copy of the graph.
@@ -112,5 +133,17 @@ impl LockGraph {
             lists,
             alloc: self.alloc,
         })
+    }
+}
+
+/// Returns the numbers below `total`: a prefix of the numbers, found by binary search unless it is
+/// all of them. `numbers` is ascending.
+fn below(numbers: &[u32], total: usize) -> &[u32]
+    requires { IsStrictlyIncreasing numbers.now }
+    ensures { result.now ≡ filter (λ n. nat_lt n total) numbers.now }
+{
+    match numbers.last() {
+        Some(last) if (*last as usize) < total => numbers,
+        _ => &numbers[..numbers.partition_point(|number| (*number as usize) < total)],
     }
 }
