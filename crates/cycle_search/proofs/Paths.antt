@@ -15,7 +15,8 @@ use Rattle.trace_model.proofs.Lists.{length-push, get-push, get-push_kept}
 use Rattle.trace_model.specs.Theory.Held.{has}
 use Rattle.held_sets.proofs.Locks.{has_contains, contains_has}
 use Rattle.guards.specs.Compatible.{NumbersApart, IsCompatible}
-use Rattle.lock_graph.specs.Graph.{IsGraphOf}
+use Rattle.lock_graph.specs.Graph.{HoldsLock, IsGraphOf}
+use Rattle.cycle_search.specs.Searched.{AreHolders}
 use Rattle.cycle_search.specs.Search.{IsPath, Follows, Closes, LinksTo, ClosesBack, AboveFirst, AreNexts}
 use Rattle.cycle_search.proofs.Listing.{get-left}
 
@@ -208,6 +209,16 @@ module _ (ds : List Dependency) (bound : ℕ) (path : List ℕ) (m : ℕ) (rest 
 pub closes-from_cycle : (ds : List Dependency) (bound : ℕ) (path : List ℕ) → IsCycle ds bound path → Closes ds path
 closes-from_cycle ds bound path c k first last e x y = c.linked k last first y (subst (λ i. Member ds path i first) (sym (next-last path k e)) x)
 
+-- The holders that the graph lists for the lock of a dependency.
+pub holders-known : (ds : List Dependency) (graph : ℕ → List ℕ) → IsGraphOf ds graph → (number : ℕ) (d : Dependency) → slice_get ds number ≡ Some d →
+    (holders : List ℕ) → holders ≡ graph d.lock → AreHolders ds number holders
+holders-known ds graph g number d at holders e = record {
+  exact = λ other here m.
+      let same : d ≡ other = same_Some d other (sym at ∙ here) in
+      subst (λ (xs : List ℕ). Contains xs m ↔ HoldsLock ds m other.lock) (sym (e ∙ ap (λ (x : Dependency). graph x.lock) same)) (g.exact other.lock m);
+  ascends = subst IsStrictlyIncreasing (sym e) (g.ascends d.lock);
+}
+
 -- The members that the code reads.
 module _ (ds : List Dependency) (path : List ℕ) (p : IsPath ds path) (last : Dependency) (at : slice_get ds (get_or path (length path - 1) 0) ≡ Some last) where
   last-member : Member ds path (length path - 1) last
@@ -227,9 +238,9 @@ module _ (ds : List Dependency) (path : List ℕ) (p : IsPath ds path) (last : D
     (λ links. decides.1 (links (length path - 1) last next (omega (arith, p.begun)) last-member here)),
   )
 
-  pub nexts-known : (graph : ℕ → List ℕ) → IsGraphOf ds graph → (first : ℕ) → get_or path 0 0 ≡ first → (all nexts : List ℕ) → all ≡ graph last.lock →
+  pub nexts-known : (all : List ℕ) → ((m : ℕ) → Contains all m ↔ HoldsLock ds m last.lock) → (first : ℕ) → get_or path 0 0 ≡ first → (nexts : List ℕ) →
       ((m : ℕ) → Contains nexts m ↔ ((first < m) × Contains all m)) → IsStrictlyIncreasing nexts → AreNexts ds path nexts
-  nexts-known graph g first head all nexts e exact ascends = record {
+  nexts-known all holds first head nexts exact ascends = record {
     known = λ m h. slice_get_within ds m (holder m h).0 (holder m h).1;
     above = λ m h f x. let l = ((exact m).0 h).0 in omega (arith, l, sym (get_or_from_slice_get path 0 f 0 x) ∙ head);
     linked = λ m h k a b s x y.
@@ -239,13 +250,13 @@ module _ (ds : List Dependency) (path : List ℕ) (p : IsPath ds path) (last : D
         let d = found ds m l in
         (exact m).1 (
           above first (slice_get-get_or path 0 0 p.begun ∙ ap Some head),
-          subst (λ z. Contains z m) (sym e) ((g.exact last.lock m).1 (d.0, d.1, links (length path - 1) last d.0 (omega (arith, p.begun)) last-member d.1)),
+          (holds m).1 (d.0, d.1, links (length path - 1) last d.0 (omega (arith, p.begun)) last-member d.1),
         );
     ascends = ascends;
   }
     where
       holder : (m : ℕ) → Contains nexts m → (d : Dependency) × (slice_get ds m ≡ Some d) × Contains d.held last.lock
-      holder m h = (g.exact last.lock m).0 (subst (λ z. Contains z m) e ((exact m).0 h).1)
+      holder m h = (holds m).0 ((exact m).0 h).1
 
 -- A number that closes the path acquires a lock that its first member holds.
 pub closed-back : (ds : List Dependency) (path : List ℕ) (m : ℕ) (first last : Dependency) → 0 < length path →

@@ -29,6 +29,8 @@ use trace_model::NoMemory;
 /// A dependency is cyclic if it holds a lock of its own component. Each member of a cycle is.
 pub struct Components {
     numbers: Vec<u32>,
+    /// Where the graph has the lock that each dependency acquires.
+    positions: Vec<u32>,
     cyclic: Vec<bool>,
     acquirers: Acquirers,
     state: RandomState,
@@ -38,6 +40,7 @@ impl Drop for Components {
     fn drop(self) {
         let Components {
             numbers: _,
+            positions: _,
             cyclic: _,
             acquirers: _,
             state: _,
@@ -48,7 +51,7 @@ impl Drop for Components {
 impl Components {
     /// Computes the components of the dependencies of `table`. `graph` must contain their edges; it
     /// may contain edges of later dependencies, which are ignored. Takes time in proportion to the
-    /// number of locks that the dependencies hold, and keeps 9 bytes for each dependency.
+    /// number of locks that the dependencies hold, and keeps 13 bytes for each dependency.
     ///
     /// # Errors
     /// `NoMemory` if an allocation fails.
@@ -65,9 +68,11 @@ impl Components {
         let components = topological_or_one(alloc, state, table, found);
         let numbers = components.by_dependency(alloc, table)?;
         let cyclic = cyclic_in(alloc, table, &components)?;
+        let positions = positions_in(alloc, table, graph)?;
         let acquirers = Acquirers::new(alloc, state, table)?;
         Ok(Components {
             numbers,
+            positions,
             cyclic,
             acquirers,
             state,
@@ -108,6 +113,15 @@ impl Components {
         self.numbers[first as usize] == self.numbers[second as usize]
     }
 
+    /// Returns the position in the graph of the lock that the dependency `number` acquires. No
+    /// contract says where it is: the graph tests it.
+    pub(crate) fn position(&self, number: u32) -> u32 {
+        self.positions
+            .get(number as usize)
+            .copied()
+            .unwrap_or(u32::MAX)
+    }
+
     /// Returns the index from locks to the dependencies that acquire them.
     pub(crate) fn acquirers(&self) -> &Acquirers
         ensures { result.now ≡ self.now.acquirers }
@@ -131,6 +145,22 @@ fn are_unset(flags: &[bool]) -> bool
         }
     }
     true
+}
+
+/// Returns for each dependency the position in the graph of the lock that it acquires.
+///
+/// # Errors
+/// `NoMemory` if an allocation fails.
+fn positions_in(
+    alloc: Global,
+    table: &DepTable,
+    graph: &LockGraph,
+) -> Result<Vec<u32>, NoMemory> {
+    let mut positions = Vec::new(alloc);
+    for number in 0..table.len() {
+        positions.push(graph.position(table.get(number as u32).lock))?;
+    }
+    Ok(positions)
 }
 
 /// Returns for each dependency whether it holds a lock of the component of the lock that it

@@ -71,8 +71,5 @@ fn successors_after(searched: &Searched<'_>, root: u32, next: u32) -> usize
     if !searched.components.in_same(root, next) || searched.table.get(root).held.contains(lock) {
         return 0;
     }
-    searched
-        .graph
-        .successors_below(lock, searched.table.len())
-        .len()
+    searched.successors(next).len()
 }

@@ -315,9 +315,7 @@ pub(crate) fn successors<'a>(searched: &Searched<'a>, path: &Path) -> &'a [u32]
     requires { IsPath searched.now path.now.items }
     ensures { AreNexts searched.now path.now.items result.now }
 {
-    let last = searched.table.get(path[path.len() - 1]);
-    let total = searched.table.len();
-    let holders = searched.graph.successors_below(last.lock, total);
+    let holders = searched.successors(path[path.len() - 1]);
     above(holders, path[0])
 }
 

@@ -28,10 +28,11 @@ impl<'a> Model for Searched<'a> {
 }
 
 impl<'a> Searched<'a> {
-    ghost use Rattle.std.specs.Prelude.{◌≡◌};
+    ghost use Rattle.std.specs.Prelude.{◌≡◌, ◌<◌, length};
     ghost use Rattle.dependencies.specs.Tables.{known};
     ghost use Rattle.lock_graph.specs.Graph.{HasGraphOf};
     ghost use Rattle.cycle_search.specs.Components.{AreComponents};
+    ghost use Rattle.cycle_search.specs.Searched.{AreHolders};
 
     /// Combines the three tables. Does not allocate.
     ///
@@ -51,5 +52,16 @@ impl<'a> Searched<'a> {
             graph,
             components,
         }
+    }
+
+    /// Returns the dependencies that hold the lock which the dependency `number` acquires,
+    /// ascending: one indexed look-up. Does not allocate.
+    pub(crate) fn successors(&self, number: u32) -> &'a [u32]
+        requires { number < length self.now }
+        ensures { AreHolders self.now number result.now }
+    {
+        let lock = self.table.get(number).lock;
+        let position = self.components.position(number);
+        self.graph.successors_at(position, lock, self.table.len())
     }
 }
