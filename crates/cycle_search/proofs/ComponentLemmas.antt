@@ -11,7 +11,7 @@ use Rattle.cycle_search.specs.Search.{CycleFrom, CycleThrough, AreAll}
 use Rattle.lock_graph.specs.Graph.{IsGraphOf}
 use Rattle.cycle_search.specs.declared.components.Components.{Components}
 use Rattle.cycle_search.specs.Components.{AreComponents, AreCyclic, IsTopological}
-use Rattle.cycle_search.specs.Acquirers.{acquirers_of, AreAcquirers}
+use Rattle.cycle_search.specs.Acquirers.{AreAcquirers}
 use Rattle.cycle_search.proofs.Listing.{all-none, get-left}
 use Rattle.cycle_search.proofs.Paths.{all-had, found, next-inside, next-last, at-end}
 
@@ -107,7 +107,7 @@ of-lock ds of numbers e m a x = get_or_from_slice_get numbers m (of a.lock) 0
     (ap (λ (xs : List ℕ). slice_get xs m) e ∙ slice_get-map (λ d. of d.lock) ds m ∙ ap (option_map (λ d. of d.lock)) x)
 
 pub components-ascend : (ds : List Dependency) (component : ℕ → ℕ) (components : Components) → components.numbers.items ≡ map (λ d. component d.lock) ds → IsTopological ds component →
-    AreCyclic ds component components.cyclic.items → AreAcquirers ds (acquirers_of components.acquirers) → AreComponents ds components
+    AreCyclic ds component components.cyclic.items → AreAcquirers ds components.acquirers → AreComponents ds components
 components-ascend ds component components e up cyclic acquirers = record {
   each = ap (λ (xs : List ℕ). length xs) e ∙ length-map ds (λ d. component d.lock);
   ascend = λ m n a b x y c. omega (arith, of-lock ds component components.numbers.items e m a x, of-lock ds component components.numbers.items e n b y, up n a.lock b y c);

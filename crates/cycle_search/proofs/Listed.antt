@@ -1,67 +1,95 @@
 -- The listed acquirers of locks, and the least of them.
-use Rattle.std.proofs.Common.{◌≡◌, ℕ, zero, suc, ◌+◌, ◌<◌, ◌≤◌, ◌⊎◌, ◌↔◌, inl, inr, min, Bool, true, false, ◌||◌, cond, List, [], ◌∷◌, ◌++◌, length, map, take, option_map, slice_get, get_or, nat_eq, Option, Some, None, refl, sym, ap, ◌∙◌, subst, arith}
-use Rattle.std.proofs.Math.Numerals.{add-one}
-use Rattle.std.proofs.lemmas.Option.{none-some, same_Some, slice_get_within, slice_get-map, slice_get-get_or, get_or_from_slice_get}
-use Rattle.std.proofs.lemmas.List.{length-map, length-take-le}
-use Rattle.std.proofs.lemmas.Bool.{cases_lt}
+use Rattle.std.proofs.Common.{◌≡◌, ℕ, ◌+◌, ◌*◌, ◌-◌, ◌<◌, ◌≤◌, ◌⊎◌, ◌↔◌, inl, inr, min, leb, true, false, List, [], ◌∷◌, ◌++◌, length, slice_get, get_or, Option, Some, None, refl, sym, ap, ◌∙◌, subst, arith}
+use Rattle.std.proofs.lemmas.Option.{none-some, same_Some, slice_get_within, slice_get-get_or, get_or_from_slice_get}
+use Rattle.std.proofs.lemmas.List.Elements.{Contains-append_left, Contains-push, Contains-push_cases}
+use Rattle.std.proofs.lemmas.List.Sorted.{Contains-permutation, IsPermutation-sym}
+use Rattle.std.proofs.lemmas.Bool.{cases_lt, leb-true, leb-false}
 use Rattle.std.specs.List.{Contains}
-use Rattle.std.specs.List.Sorted.{IsStrictlyIncreasing}
+use Rattle.std.specs.List.Sorted.{IsNonDecreasing, IsPartitionPoint, IsPermutation}
 use Rattle.trace_model.specs.Theory.Dependencies.{Dependency}
-use Rattle.trace_model.proofs.Theory.Unique.{has_contained, contains_had, increasing_ordered}
-use Rattle.lock_graph.specs.Graph.{IsGraphOf}
-use Rattle.lock_graph.proofs.Growing.{graph-more}
-use Rattle.cycle_search.specs.Acquirers.{AcquiresLock, AreAcquirers, HasOneMore, IsListed, IsLeast, least_of}
+use Rattle.trace_model.proofs.Theory.Unique.{has_contained, contains_had}
+use Rattle.cycle_search.specs.declared.acquirers.Acquirers.{Acquirers}
+use Rattle.cycle_search.specs.Acquirers.{key_of, Acquires, AreAcquirers, IsListed, IsLeast, IsNext, least_of}
 use Rattle.cycle_search.specs.Search.{ClosesBack}
-use Rattle.cycle_search.proofs.Paths.{found}
-use Rattle.cycle_search.proofs.ComponentLemmas.{map-more}
 
--- A dependency that holds exactly the acquired lock: the acquirers are the graph of such
--- dependencies.
-abbrev pub turned : Dependency → Dependency
-turned d = record { thread = d.thread; lock = d.lock; held = d.lock ∷ [] }
+-- The keys are those of the first `i` dependencies.
+abbrev pub HasKeys : List Dependency → ℕ → List ℕ → Type 0
+HasKeys ds i keys =
+    ((n : ℕ) (d : Dependency) → n < i → slice_get ds n ≡ Some d → Contains keys (key_of d.lock n))
+    × ((key : ℕ) → Contains keys key → (n : ℕ) × (d : Dependency) × (slice_get ds n ≡ Some d) × (key ≡ key_of d.lock n))
 
-or-none : (b : Bool) (xs ys : List ℕ) → cond b xs ys ≡ cond (b || false) xs ys
-or-none true xs ys = refl
-or-none false xs ys = refl
+pub keys-more : (ds : List Dependency) (i : ℕ) (d : Dependency) (keys : List ℕ) → slice_get ds i ≡ Some d → HasKeys ds i keys →
+    HasKeys ds (i + 1) (keys ++ key_of d.lock i ∷ [])
+keys-more ds i d keys at has = (
+  (λ n e below here. elim (cases_lt n i) [
+    | inl less ↦ Contains-append_left keys (key_of d.lock i ∷ []) _ (has.0 n e less here)
+    | inr more ↦
+        let same : i ≡ n = omega arith in
+        let is : d ≡ e = same_Some d e (sym at ∙ ap (slice_get ds) same ∙ here) in
+        subst (Contains (keys ++ key_of d.lock i ∷ [])) (omega (arith, same, ap (λ (x : Dependency). x.lock) is)) (Contains-push keys (key_of d.lock i))
+  ]),
+  (λ key c. elim (Contains-push_cases keys (key_of d.lock i) key c) [
+    | inl before ↦ has.1 key before
+    | inr last ↦ (i, d, at, sym last)
+  ]),
+)
 
-pub acquirers-more : (ds : List Dependency) (i : ℕ) (d : Dependency) (old new : ℕ → List ℕ) → slice_get ds i ≡ Some d →
-    HasOneMore old d.lock i new → IsGraphOf (map turned (take i ds)) old → IsGraphOf (map turned (take (i + 1) ds)) new
-acquirers-more ds i d old new at step g =
-    subst (λ xs. IsGraphOf xs new) (sym (ap (λ n. map turned (take n ds)) (add-one i) ∙ map-more turned ds i d at))
-    (graph-more (map turned (take i ds)) (turned d) i old new long (λ lock. step lock ∙ or-none (nat_eq d.lock lock) (old lock ++ i ∷ []) (old lock)) g)
-  where
-    long : i ≡ length (map turned (take i ds))
-    long = let l = slice_get_within ds i d at in omega (arith, length-map (take i ds) turned, length-take-le i ds (omega arith))
+pub keys-sorted : (ds : List Dependency) (i : ℕ) (xs ys : List ℕ) → IsPermutation xs ys → HasKeys ds i xs → HasKeys ds i ys
+keys-sorted ds i xs ys moved has = (
+  (λ n d below here. Contains-permutation xs ys _ moved (has.0 n d below here)),
+  (λ key c. has.1 key (Contains-permutation ys xs key (IsPermutation-sym xs ys moved) c)),
+)
 
-only-one : (x y : ℕ) → Contains (x ∷ []) y → x ≡ y
-only-one x y (zero, l, e) = e
-only-one x y (suc k, l, e) = absurd (omega arith)
-
-pub acquirers-from_graph : (ds : List Dependency) (acquirers : ℕ → List ℕ) → IsGraphOf (map turned ds) acquirers → AreAcquirers ds acquirers
-acquirers-from_graph ds acquirers g = record {
-  exact = λ lock n. (forth lock n, λ (d, at, takes). (g.exact lock n).1 (turned d, slice_get-map turned ds n ∙ ap (option_map turned) at, (0, omega arith, takes)));
-  ascends = g.ascends;
+pub acquirers-known : (ds : List Dependency) (a : Acquirers) → length ds ≤ 4294967296 → HasKeys ds (length ds) a.keys.items → IsNonDecreasing a.keys.items → AreAcquirers ds a
+acquirers-known ds a few has up = record {
+  exact = λ lock n. (
+    (λ (small, c).
+        let (m, d, at, same) = has.1 (key_of lock n) c in
+        let inside = slice_get_within ds m d at in
+        let here : m ≡ n = omega (arith, same, small, inside, few) in
+        (d, subst (λ k. slice_get ds k ≡ Some d) here at, omega (arith, same, here))),
+    (λ (d, at, takes).
+        let inside = slice_get_within ds n d at in
+        (omega (arith, inside, few), subst (λ l. Contains a.keys.items (key_of l n)) takes (has.0 n d inside at))),
+  );
+  ascends = up;
 }
-  where
-    forth : (lock n : ℕ) → Contains (acquirers lock) n → AcquiresLock ds n lock
-    forth lock n c =
-        let (t, at, takes) = (g.exact lock n).0 c in
-        let d = found ds n (omega (arith, slice_get_within (map turned ds) n t at, length-map ds turned)) in
-        let same : turned d.0 ≡ t = same_Some (turned d.0) t (sym (slice_get-map turned ds n ∙ ap (option_map turned) d.1) ∙ at) in
-        (d.0, d.1, only-one d.0.lock lock (subst (λ z. Contains z.held lock) (sym same) takes))
 
--- The first of ascending numbers is the least.
-pub least-first : (xs : List ℕ) → IsStrictlyIncreasing xs → IsLeast (Contains xs) (slice_get xs 0)
-least-first xs up = record {
-  sound = λ n e. contains_had xs n (0, e);
-  least = λ m c. let h = has_contained xs m c in from h.0 m h.1;
-}
-  where
-    from : (k m : ℕ) → slice_get xs k ≡ Some m → (n : ℕ) × (slice_get xs 0 ≡ Some n) × (n ≤ m)
-    from zero m at = (m, at, omega arith)
-    from (suc k) m at =
-        let first = slice_get-get_or xs 0 0 (omega (arith, slice_get_within xs (suc k) m at)) in
-        (get_or xs 0 0, first, omega (arith, increasing_ordered xs up 0 (suc k) (get_or xs 0 0) m (omega arith) first at))
+-- The first of the keys above a bound is the least.
+module _ (keys : List ℕ) (up : IsNonDecreasing keys) (lock bound i : ℕ) (at : IsPartitionPoint (λ y. leb y (key_of lock bound) ≡ true) (λ y. leb y (key_of lock bound) ≡ false) keys i) where
+  over : i < length keys → key_of lock bound < get_or keys i 0
+  over inside = leb-false (get_or keys i 0) (key_of lock bound) (at.1 i 0 (omega arith) inside)
+
+  least-key : (m : ℕ) → key_of lock bound < m → Contains keys m → (i < length keys) × (get_or keys i 0 ≤ m)
+  least-key m more c =
+      let h = has_contained keys m c in
+      let k = h.0 in
+      let inside = slice_get_within keys k m h.1 in
+      elim (cases_lt k i) [
+        | inl before ↦ absurd (omega (arith, more, leb-true m (key_of lock bound) (subst (λ y. leb y (key_of lock bound) ≡ true) (get_or_from_slice_get keys k m m h.1) (at.0 k m (omega arith) before))))
+        | inr after ↦ (omega arith, omega (arith, up i k 0 after inside, get_or_from_slice_get keys k m 0 h.1))
+      ]
+
+  pub next-some : (found : Option ℕ) → i < length keys → ((n : ℕ) → found ≡ Some n ↔ ((n < 4294967296) × (get_or keys i 0 ≡ key_of lock n))) →
+      IsNext bound (λ n. (n < 4294967296) × Contains keys (key_of lock n)) found
+  next-some found inside exact = record {
+    sound = λ n f.
+        let h = (exact n).0 f in
+        let more = over inside in
+        (omega (arith, more, h.1), (h.0, subst (Contains keys) h.1 (contains_had keys (get_or keys i 0) (i, slice_get-get_or keys i 0 inside))));
+    least = λ m (more, (small, c)).
+        let within = (least-key (key_of lock m) (omega (arith, more)) c).1 in
+        let above = over inside in
+        let n = get_or keys i 0 - lock * 4294967296 in
+        let is : get_or keys i 0 ≡ key_of lock n = omega (arith, above) in
+        (n, (exact n).1 (omega (arith, within, small, is), is), omega (arith, within, is));
+  }
+
+  pub next-none : length keys ≤ i → IsNext bound (λ n. (n < 4294967296) × Contains keys (key_of lock n)) None
+  next-none end = record {
+    sound = λ n f. absurd (none-some n f);
+    least = λ m (more, (small, c)). absurd (omega (arith, end, (least-key (key_of lock m) (omega (arith, more)) c).0));
+  }
 
 pub least-same : (P Q : ℕ → Type 0) (least : Option ℕ) → ((m : ℕ) → P m → Q m) → ((m : ℕ) → Q m → P m) → IsLeast P least → IsLeast Q least
 least-same P Q least f g p = record { sound = λ n e. f n (p.sound n e); least = λ m q. p.least m (g m q) }
@@ -99,8 +127,8 @@ least-join P Q R a b f g h p q = record {
 }
 
 -- The acquirers of the first member's locks are exactly the dependencies that close the path.
-pub listed-takes_back : (ds : List Dependency) (path : List ℕ) (first : Dependency) (acquirers : ℕ → List ℕ) (m : ℕ) → 0 < length path →
-    slice_get ds (get_or path 0 0) ≡ Some first → AreAcquirers ds acquirers → IsListed acquirers first.held (length first.held) m ↔ ClosesBack ds path m
+pub listed-takes_back : (ds : List Dependency) (path : List ℕ) (first : Dependency) (acquirers : Acquirers) (m : ℕ) → 0 < length path →
+    slice_get ds (get_or path 0 0) ≡ Some first → AreAcquirers ds acquirers → IsListed (Acquires acquirers) first.held (length first.held) m ↔ ClosesBack ds path m
 listed-takes_back ds path first acquirers m begun head t = (
   (λ (k, l, c).
       let (d, at, takes) = (t.exact (get_or first.held k 0) m).0 c in (

@@ -1,33 +1,31 @@
 -- Which dependencies acquire which lock, and the least of some numbers.
-use Rattle.std.specs.Prelude.{◌≡◌, ◌<◌, ◌≤◌, ◌↔◌, ℕ, nat_eq, min, List, [], ◌∷◌, ◌++◌, if◌then◌else◌, slice_get, slice_index, Option, Some, None}
+use Rattle.std.specs.Prelude.{◌≡◌, ◌<◌, ◌≤◌, ◌+◌, ◌*◌, ◌↔◌, ℕ, min, List, slice_get, slice_index, Option, Some, None}
 use Rattle.std.specs.List.{Contains}
-use Rattle.std.specs.List.Sorted.{IsStrictlyIncreasing}
+use Rattle.std.specs.List.Sorted.{IsNonDecreasing}
 use Rattle.trace_model.specs.Theory.Dependencies.{Dependency}
-use Rattle.lock_graph.specs.Lists.{listed}
 use Rattle.cycle_search.specs.declared.acquirers.Acquirers.{Acquirers}
 
--- The list of a lock in the index.
-abbrev pub acquirers_of : Acquirers → ℕ → List ℕ
-acquirers_of table lock = listed table.lists lock
+-- The key of a lock and a number: keys are ordered by the lock, then by the number.
+abbrev pub key_of : ℕ → ℕ → ℕ
+key_of lock number = lock * 4294967296 + number
+
+-- The index has the number for the lock.
+abbrev pub Acquires : Acquirers → ℕ → ℕ → Type 0
+Acquires acquirers lock number =
+    (number < 4294967296) × Contains acquirers.keys.items (key_of lock number)
 
 -- The dependency with the number acquires the lock.
 abbrev pub AcquiresLock : List Dependency → ℕ → ℕ → Type 0
 AcquiresLock ds number lock = (d : Dependency) × (slice_get ds number ≡ Some d) × (d.lock ≡ lock)
 
--- For each lock exactly the dependencies that acquire it, ascending.
-pub record AreAcquirers (ds : List Dependency) (acquirers : ℕ → List ℕ) : Type 0 where
-  pub exact : (lock number : ℕ) → Contains (acquirers lock) number ↔ AcquiresLock ds number lock
-  pub ascends : (lock : ℕ) → IsStrictlyIncreasing (acquirers lock)
+-- For each lock exactly the dependencies that acquire it, by ascending keys.
+pub record AreAcquirers (ds : List Dependency) (acquirers : Acquirers) : Type 0 where
+  pub exact : (lock number : ℕ) → Acquires acquirers lock number ↔ AcquiresLock ds number lock
+  pub ascends : IsNonDecreasing acquirers.keys.items
 
--- The number is appended to the list of the lock, and the other lists are unchanged.
-abbrev pub HasOneMore : (ℕ → List ℕ) → ℕ → ℕ → (ℕ → List ℕ) → Type 0
-HasOneMore old lock number new = (other : ℕ) →
-    new other ≡ (if nat_eq lock other then old other ++ number ∷ [] else old other)
-
--- The number is in the list of one of the first `i` locks.
-abbrev pub IsListed : (ℕ → List ℕ) → List ℕ → ℕ → ℕ → Type 0
-IsListed acquirers locks i number = (k : ℕ) × (k < i)
-    × Contains (acquirers (slice_index locks k)) number
+-- The index has the number for one of the first `i` locks.
+abbrev pub IsListed : (ℕ → ℕ → Type 0) → List ℕ → ℕ → ℕ → Type 0
+IsListed acquires locks i number = (k : ℕ) × (k < i) × acquires (slice_index locks k) number
 
 -- The least number with the property, or `None` if no number has it.
 pub record IsLeast (P : ℕ → Type 0) (found : Option ℕ) : Type 0 where

@@ -3,7 +3,7 @@ use Rattle.std.specs.Prelude.{◌≡◌, ◌≤◌, ℕ, Bool, true, List, lengt
 use Rattle.std.specs.List.{Contains}
 use Rattle.trace_model.specs.Theory.Dependencies.{Dependency}
 use Rattle.cycle_search.specs.declared.components.Components.{Components}
-use Rattle.cycle_search.specs.Acquirers.{acquirers_of, AreAcquirers}
+use Rattle.cycle_search.specs.Acquirers.{AreAcquirers}
 
 -- A component number for each dependency, which does not decrease from a dependency to one that
 -- holds its lock, and is less unless that one is cyclic; and for each lock the dependencies that
@@ -18,7 +18,7 @@ pub record AreComponents (ds : List Dependency) (components : Components) : Type
       Contains b.held a.lock →
       slice_index components.numbers.items m ≡ slice_index components.numbers.items n →
       slice_get components.cyclic.items n ≡ Some true
-  pub acquirers : AreAcquirers ds (acquirers_of components.acquirers)
+  pub acquirers : AreAcquirers ds components.acquirers
 
 -- A dependency that holds a lock of the component of the lock that it acquires is marked.
 pub record AreCyclic (ds : List Dependency) (component : ℕ → ℕ) (cyclic : List Bool) : Type 0 where

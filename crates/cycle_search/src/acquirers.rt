@@ -1,26 +1,20 @@
 //! An index from locks to the dependencies that acquire them.
 
-ghost use Rattle.std.specs.Prelude.{◌≡◌, ℕ, length, IfOk, OnOk};
-ghost use Rattle.std.specs.List.{Contains};
-ghost use Rattle.std.specs.List.Sorted.{IsStrictlyIncreasing};
+ghost use Rattle.std.specs.Prelude.{◌≡◌, ◌<◌, ◌↔◌, ℕ, length, IfOk, Some};
+ghost use Rattle.std.specs.List.Sorted.{IsNonDecreasing};
 ghost use Rattle.dependencies.specs.Tables.{known};
-ghost use Rattle.lock_graph.specs.Lists.{listed};
-ghost use Rattle.cycle_search.specs.Acquirers.{acquirers_of, AreAcquirers, HasOneMore, IsListed, IsNext, least_of};
+ghost use Rattle.cycle_search.specs.Acquirers.{key_of, Acquires, AreAcquirers, IsListed, IsNext, least_of};
 
-use crate::ascending::above;
 use dependencies::DepTable;
 use std::alloc::Global;
-use std::collections::HashMap;
-use std::collections::hash_map::RandomState;
 use trace_model::NoMemory;
 
-/// Ascending numbers for each lock.
-type Lists = HashMap<u32, Vec<u32>, RandomState>;
-
-/// For each lock the numbers of the dependencies that acquire it, ascending.
+/// For each lock the numbers of the dependencies that acquire it: ascending keys, found by binary
+/// search. The key of a lock and a number has the lock in its upper half and the number in its
+/// lower half.
 #[derive(Drop)]
 pub(crate) struct Acquirers {
-    lists: Lists,
+    keys: Vec<u64>,
 }
 
 impl Acquirers {
@@ -28,36 +22,35 @@ impl Acquirers {
     ///
     /// # Errors
     /// `NoMemory` if an allocation fails.
-    pub(crate) fn new(
-        alloc: Global,
-        state: RandomState,
-        table: &DepTable,
-    ) -> Result<Acquirers, NoMemory>
-        ensures { IfOk result (λ acquirers. AreAcquirers (known table.now)
-            (acquirers_of acquirers)) }
+    pub(crate) fn new(alloc: Global, table: &DepTable) -> Result<Acquirers, NoMemory>
+        ensures { IfOk result (AreAcquirers (known table.now)) }
     {
-        let mut lists = HashMap::with_hasher(alloc, state);
+        let mut keys = Vec::new(alloc);
         for number in 0..table.len() {
             let number = number as u32;
-            add(&mut lists, alloc, table.get(number).lock, number)?;
+            keys.push(key(table.get(number).lock, number))?;
         }
-        Ok(Acquirers { lists })
+        keys.sort_unstable();
+        Ok(Acquirers { keys })
     }
 
     /// Returns the total number of dependencies that acquire one of the locks.
     pub(crate) fn count(&self, locks: &[u32]) -> usize {
         let mut count = 0usize;
         for lock in locks {
-            count = count.saturating_add(self.of(*lock).len());
+            let first = key(*lock, 0);
+            let last = key(*lock, u32::MAX);
+            let start = self.keys.partition_point(|key| *key < first);
+            let end = self.keys.partition_point(|key| *key <= last);
+            count = count.saturating_add(end.saturating_sub(start));
         }
         count
     }
 
     /// Returns the least dependency above `bound` that acquires one of the locks.
     pub(crate) fn next(&self, locks: &[u32], bound: u32) -> Option<u32>
-        requires { (lock : ℕ) → IsStrictlyIncreasing (acquirers_of self.now lock) }
-        ensures { IsNext bound
-            (IsListed (acquirers_of self.now) locks.now (length locks.now)) result }
+        requires { IsNonDecreasing self.now.keys.items }
+        ensures { IsNext bound (IsListed (Acquires self.now) locks.now (length locks.now)) result }
     {
         let mut least = None;
         for lock in locks {
@@ -68,34 +61,36 @@ impl Acquirers {
 
     /// Returns the least dependency above `bound` that acquires `lock`.
     fn next_of(&self, lock: u32, bound: u32) -> Option<u32>
-        requires { IsStrictlyIncreasing (acquirers_of self.now lock) }
-        ensures { IsNext bound (Contains (acquirers_of self.now lock)) result }
+        requires { IsNonDecreasing self.now.keys.items }
+        ensures { IsNext bound (Acquires self.now lock) result }
     {
-        above(self.of(lock), bound).first().copied()
-    }
-
-    /// Returns the dependencies that acquire `lock`, ascending.
-    fn of(&self, lock: u32) -> &[u32]
-        ensures { result.now ≡ acquirers_of self.now lock }
-    {
-        match self.lists.get(&lock) {
-            Some(list) => list.as_slice(),
-            None => &[],
+        let keys = self.keys.as_slice();
+        let first = key(lock, bound);
+        let index = keys.partition_point(|key| *key <= first);
+        if index >= keys.len() {
+            return None;
         }
+        number_of(keys[index], lock)
     }
 }
 
-/// Appends `number` to the list of `lock`.
-fn add(lists: &mut Lists, alloc: Global, lock: u32, number: u32) -> Result<(), NoMemory>
-    ensures { OnOk result (HasOneMore (listed lists.old) lock number (listed lists.new)) }
+/// Returns the key of a lock and a number.
+fn key(lock: u32, number: u32) -> u64
+    ensures { result ≡ key_of lock number }
 {
-    if !lists.contains_key(&lock) {
-        lists.insert(lock, Vec::new(alloc))?;
+    u64::from(lock) * 4_294_967_296 + u64::from(number)
+}
+
+/// Returns the number of a key of `lock`, or `None` for a key of another lock.
+fn number_of(key: u64, lock: u32) -> Option<u32>
+    ensures { (number : ℕ) → result ≡ Some number ↔
+        ((number < 4294967296) × (key ≡ key_of lock number)) }
+{
+    let number = key.checked_sub(u64::from(lock) * 4_294_967_296)?;
+    if number > u64::from(u32::MAX) {
+        return None;
     }
-    if let Some(list) = lists.get_mut(&lock) {
-        list.push(number)?;
-    }
-    Ok(())
+    Some(number as u32)
 }
 
 /// Returns the lesser of two optional numbers.

@@ -51,7 +51,7 @@ impl Drop for Components {
 impl Components {
     /// Computes the components of the dependencies of `table`. `graph` must contain their edges; it
     /// may contain edges of later dependencies, which are ignored. Takes time in proportion to the
-    /// number of locks that the dependencies hold, and keeps 13 bytes for each dependency.
+    /// number of locks that the dependencies hold, and keeps 17 bytes for each dependency.
     ///
     /// # Errors
     /// `NoMemory` if an allocation fails.
@@ -69,7 +69,7 @@ impl Components {
         let numbers = components.by_dependency(alloc, table)?;
         let cyclic = cyclic_in(alloc, table, &components)?;
         let positions = positions_in(alloc, table, graph)?;
-        let acquirers = Acquirers::new(alloc, state, table)?;
+        let acquirers = Acquirers::new(alloc, table)?;
         Ok(Components {
             numbers,
             positions,

@@ -8,7 +8,7 @@ ghost use Rattle.cycle_search.specs.Search.{IsPath};
 use crate::Searched;
 use crate::search::{Path, successors};
 
-/// The number of visited successors that cost as much as one binary search in the list of a lock.
+/// The number of visited successors that cost as much as one binary search in the index of acquirers.
 const VISITS_PER_SEARCH: usize = 4;
 
 /// For each dependency, the number of visited successors that cost as much as computing the

@@ -1,23 +1,23 @@
-use Rattle.std.proofs.Common.{◌≤◌, length, map, subst, arith}
-use Rattle.std.proofs.lemmas.List.{take_all}
+use Rattle.std.proofs.Common.{◌≡◌, ◌+◌, ◌++◌, ◌∷◌, [], ℕ, length, sym, ap, ◌∙◌, subst, arith}
+use Rattle.std.proofs.lemmas.List.Sorted.{IsNonDecreasingBy-from_sort}
 use Rattle.trace_model.specs.Theory.Dependencies.{Dependency}
 use Rattle.dependencies.specs.Tables.{known}
-use Rattle.lock_graph.specs.Lists.{listed}
-use Rattle.lock_graph.specs.Graph.{IsGraphOf}
-use Rattle.cycle_search.specs.Acquirers.{HasOneMore}
-use Rattle.cycle_search.proofs.Listed.{turned, acquirers-more, acquirers-from_graph}
+use Rattle.cycle_search.specs.Acquirers.{key_of}
+use Rattle.cycle_search.proofs.Listed.{HasKeys, keys-more, keys-sorted, acquirers-known}
 use Rattle.cycle_search.proofs.acquirers.Acquirers.new.Goals as goal
 
 pub loop-number-preserved : goal.loop-number-preserved
 loop-number-preserved c =
+    let ds = known c.args.table.now in
     let i = c.loop-number.number in
-    acquirers-more (known c.args.table.now) i c.get.result.now _ _ c.get.ensures
-    (subst (λ (d : Dependency). HasOneMore (listed c.loop-number.lists) d.lock i (listed c.add.new.lists)) c.behind-table.view_is c.in_ok-add.ensures)
-    c.loop-number.invariant
+    let same = c.key.ensures ∙ ap (λ (d : Dependency). key_of d.lock i) c.behind-table.view_is in
+    subst (HasKeys ds (i + 1)) (sym (c.in_ok-push.ensures.items ∙ ap (λ (k : ℕ). c.loop-number.keys.items ++ k ∷ []) same))
+    (keys-more ds i c.get.result.now c.loop-number.keys.items c.get.ensures c.loop-number.invariant)
 
 pub returns : goal.returns
 returns c =
     let ds = known c.args.table.now in
-    let i = c.loop-number.number in
-    let end : length ds ≤ i = omega (arith, c.loop-number-test.false, c.len-number-end.ensures.value) in
-    acquirers-from_graph ds _ (subst (λ xs. IsGraphOf (map turned xs) (listed c.loop-number.lists)) (take_all i ds end) c.loop-number.invariant)
+    let end : length ds ≡ c.loop-number.number = omega arith in
+    acquirers-known ds _ c.len-number-end.ensures.few
+    (subst (λ (n : ℕ). HasKeys ds n c.sort_unstable.new.self.items) (sym end) (keys-sorted ds _ _ _ c.sort_unstable.ensures.permutation c.loop-number.invariant))
+    (IsNonDecreasingBy-from_sort (λ y. y) _ c.sort_unstable.ensures.sorted)
