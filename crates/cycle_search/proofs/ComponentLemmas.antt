@@ -1,19 +1,19 @@
 -- If components do not decrease along edges, all members of a cycle have the same one.
-use Rattle.std.proofs.Common.{◌≡◌, ℕ, zero, suc, ◌<◌, ◌≤◌, List, [], ◌∷◌, ◌++◌, true, false, length, map, take, option_map, slice_get, get_or, Some, refl, sym, ap, ◌∙◌, subst, inl, inr, arith}
-use Rattle.std.proofs.lemmas.Option.{none-some, slice_get_within, same_Some, slice_get-map, slice_get-get_or, get_or_from_slice_get}
-use Rattle.std.proofs.lemmas.List.{length-append, length-map}
+use Rattle.std.proofs.Common.{◌≡◌, ℕ, zero, suc, ◌<◌, ◌≤◌, List, [], ◌∷◌, ◌++◌, true, false, length, slice_get, get_or, Some, refl, sym, ap, ◌∙◌, subst, inl, inr, arith}
+use Rattle.std.proofs.lemmas.Option.{slice_get_within, same_Some, slice_get-get_or, get_or_from_slice_get}
+use Rattle.std.proofs.lemmas.List.{length-append}
 use Rattle.std.proofs.lemmas.Bool.{cases_eq, false≢true}
-use Rattle.std.specs.List.{Contains, All}
+use Rattle.std.specs.List.{All}
 use Rattle.trace_model.specs.Theory.Dependencies.{Dependency}
 use Rattle.trace_model.specs.Theory.Cycles.{Member, next, IsCycle}
-use Rattle.trace_model.proofs.Theory.Unique.{has_contained, contains_had}
+use Rattle.trace_model.proofs.Theory.Unique.{contains_had}
 use Rattle.cycle_search.specs.Search.{CycleFrom, CycleThrough, AreAll}
-use Rattle.lock_graph.specs.Graph.{IsGraphOf}
 use Rattle.cycle_search.specs.declared.components.Components.{Components}
-use Rattle.cycle_search.specs.Components.{AreComponents, AreCyclic, IsTopological}
+use Rattle.cycle_search.specs.Components.{AreComponents}
+use Rattle.cycle_search.specs.Edges.{FallAtMost, AreMarked}
 use Rattle.cycle_search.specs.Acquirers.{AreAcquirers}
 use Rattle.cycle_search.proofs.Listing.{all-none, get-left}
-use Rattle.cycle_search.proofs.Paths.{all-had, found, next-inside, next-last, at-end}
+use Rattle.cycle_search.proofs.Paths.{found, next-inside, next-last, at-end}
 
 module _ (ds : List Dependency) (bound : ℕ) (numbers : List ℕ) (c : IsCycle ds bound numbers) (components : Components) (are : AreComponents ds components) where
   pub member-of : (i : ℕ) → i < length numbers → (d : Dependency) × Member ds numbers i d
@@ -94,37 +94,12 @@ none-from ds bound root components are off = all-none (CycleFrom ds bound root) 
     let on = member-cyclic ds bound numbers h.0 components are 0 (omega (arith, h.0.at_least_two)) in
     false≢true (same_Some _ _ (sym off ∙ ap (slice_get components.cyclic.items) (sym here) ∙ on)))
 
--- The components of the locks that the dependencies acquire.
-pub map-more : {X Y : Type 0} (f : X → Y) (xs : List X) (i : ℕ) (x : X) → slice_get xs i ≡ Some x → map f (take (suc i) xs) ≡ map f (take i xs) ++ f x ∷ []
-map-more f [] i x h = absurd (none-some x h)
-map-more f (y ∷ xs) zero x h = ap (λ z. f z ∷ []) (same_Some y x h)
-map-more f (y ∷ xs) (suc i) x h = ap (λ ys. f y ∷ ys) (map-more f xs i x h)
-
--- The number of a dependency is that of the lock that it acquires.
-pub of-lock : (ds : List Dependency) (of : ℕ → ℕ) (numbers : List ℕ) → numbers ≡ map (λ d. of d.lock) ds →
-    (m : ℕ) (a : Dependency) → slice_get ds m ≡ Some a → get_or numbers m 0 ≡ of a.lock
-of-lock ds of numbers e m a x = get_or_from_slice_get numbers m (of a.lock) 0
-    (ap (λ (xs : List ℕ). slice_get xs m) e ∙ slice_get-map (λ d. of d.lock) ds m ∙ ap (option_map (λ d. of d.lock)) x)
-
-pub components-ascend : (ds : List Dependency) (component : ℕ → ℕ) (components : Components) → components.numbers.items ≡ map (λ d. component d.lock) ds → IsTopological ds component →
-    AreCyclic ds component components.cyclic.items → AreAcquirers ds components.acquirers → AreComponents ds components
-components-ascend ds component components e up cyclic acquirers = record {
-  each = ap (λ (xs : List ℕ). length xs) e ∙ length-map ds (λ d. component d.lock);
-  ascend = λ m n a b x y c. omega (arith, of-lock ds component components.numbers.items e m a x, of-lock ds component components.numbers.items e n b y, up n a.lock b y c);
-  marked = cyclic.each;
-  cyclic = λ m n a b x y c same. cyclic.marked n a.lock b y c
-      (sym (of-lock ds component components.numbers.items e m a x) ∙ same ∙ of-lock ds component components.numbers.items e n b y);
+pub components-ascend : (ds : List Dependency) (components : Components) → length components.numbers.items ≡ length ds → FallAtMost ds components.numbers.items 0 0 →
+    AreMarked ds components.numbers.items components.cyclic.items → AreAcquirers ds components.acquirers → AreComponents ds components
+components-ascend ds components each up marks acquirers = record {
+  each = each;
+  ascend = λ m n a b x y c. omega (arith, up m n a b (omega arith) x y c);
+  marked = marks.each;
+  cyclic = marks.marked;
   acquirers = acquirers;
 }
-
--- A number that the graph lists for a lock is that of a dependency.
-pub listed-known : (ds : List Dependency) (graph : ℕ → List ℕ) → IsGraphOf ds graph → (lock n : ℕ) (listed : List ℕ) → listed ≡ graph lock → Contains listed n → n < length ds
-listed-known ds graph g lock n listed e h =
-    let held = (g.exact lock n).0 (subst (λ (xs : List ℕ). Contains xs n) e h) in
-    slice_get_within ds n held.0 held.1
-
--- A property of all locks of a held set holds for each lock that the dependency holds.
-pub each-held : (P : ℕ → Type 0) (locks : List ℕ) (d e : Dependency) (lock : ℕ) → locks ≡ d.held → d ≡ e → All P locks → Contains e.held lock → P lock
-each-held P locks d e lock same is all holds =
-    let k = has_contained locks lock (subst (λ xs. Contains xs lock) (sym (same ∙ ap (λ (x : Dependency). x.held) is)) holds) in
-    all-had P locks all k.0 lock k.1

@@ -1,22 +1,21 @@
 -- A member of a cycle is followed by at least as many members as its distance.
-use Rattle.std.proofs.Common.{◌≡◌, ℕ, zero, suc, ◌+◌, ◌<◌, ◌≤◌, List, [], ◌∷◌, ◌++◌, length, map, slice_get, get_or, Some, sym, ◌∙◌, subst, arith}
+use Rattle.std.proofs.Common.{◌≡◌, ℕ, zero, suc, ◌+◌, ◌<◌, ◌≤◌, List, [], ◌∷◌, ◌++◌, length, slice_get, get_or, Some, sym, ◌∙◌, subst, arith}
 use Rattle.std.proofs.lemmas.Option.{slice_get-get_or, get_or_from_slice_get}
 use Rattle.std.proofs.lemmas.List.{length-append}
 use Rattle.trace_model.specs.Theory.Dependencies.{Dependency}
 use Rattle.trace_model.specs.Theory.Cycles.{Member, IsCycle}
 use Rattle.trace_model.proofs.Theory.Unique.{contains_had}
 use Rattle.cycle_search.specs.Search.{CycleThrough, AreAll}
-use Rattle.cycle_search.specs.Distances.{AreDistances, AreLockDistances}
+use Rattle.cycle_search.specs.Edges.{FallAtMost}
+use Rattle.cycle_search.specs.Distances.{AreDistances, AreZeroAtRoot}
 use Rattle.cycle_search.proofs.Listing.{all-none, get-left}
 use Rattle.cycle_search.proofs.Paths.{found, all-from, member-at, next-inside, next-last, at-end}
-use Rattle.cycle_search.proofs.ComponentLemmas.{of-lock}
 
--- The numbers of the locks that the dependencies acquire.
-pub distances-lead : (ds : List Dependency) (root : ℕ) (distance : ℕ → ℕ) (distances : List ℕ) → distances ≡ map (λ d. distance d.lock) ds → AreLockDistances ds root distance → AreDistances ds root distances
-distances-lead ds root distance distances e leads = record {
-  home = λ m a d x y holds. of-lock ds distance distances e m a x ∙ leads.home a.lock d y holds;
-  along = λ m n a b above x y holds. let near = leads.along n a.lock b above y holds in
-      let more : get_or distances m 0 ≤ suc (get_or distances n 0) = omega (arith, of-lock ds distance distances e m a x, of-lock ds distance distances e n b y, near) in more;
+pub distances-lead : (ds : List Dependency) (root : ℕ) (distances : List ℕ) → AreZeroAtRoot ds root distances → FallAtMost ds distances root 1 → AreDistances ds root distances
+distances-lead ds root distances home fall = record {
+  home = home;
+  along = λ m n a b above x y holds. let near = fall m n a b above x y holds in
+      let more : get_or distances m 0 ≤ suc (get_or distances n 0) = omega (arith, near) in more;
 }
 
 module _ (ds : List Dependency) (bound root : ℕ) (distances : List ℕ) (are : AreDistances ds root distances)

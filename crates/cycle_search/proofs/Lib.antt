@@ -1,6 +1,7 @@
 pub mod Listing
 pub mod Paths
 pub mod Turns
+pub mod EdgeLemmas
 pub mod ComponentLemmas
 pub mod Listed
 pub mod Remaining

@@ -16,7 +16,7 @@ use Rattle.trace_model.specs.Theory.Held.{has}
 use Rattle.held_sets.proofs.Locks.{has_contains, contains_has}
 use Rattle.guards.specs.Compatible.{NumbersApart, IsCompatible}
 use Rattle.lock_graph.specs.Graph.{HoldsLock, IsGraphOf}
-use Rattle.cycle_search.specs.Searched.{AreHolders}
+use Rattle.cycle_search.specs.Edges.{AreHolders}
 use Rattle.cycle_search.specs.Search.{IsPath, Follows, Closes, LinksTo, ClosesBack, AboveFirst, AreNexts}
 use Rattle.cycle_search.proofs.Listing.{get-left}
 

@@ -1,11 +1,10 @@
 -- The remaining work decreases when an edge is followed, and when a lock is entered or left.
-use Rattle.std.proofs.Common.{◌≡◌, ℕ, zero, suc, ◌+◌, ◌<◌, ◌≤◌, Bool, false, ◌||◌, List, [], ◌∷◌, ◌++◌, length, slice_get, slice_set, get_or, Some, nat_eq, if◌then◌else◌, refl, ap, ◌∙◌, arith}
+use Rattle.std.proofs.Common.{◌≡◌, ◌≢◌, ℕ, zero, suc, ◌+◌, ◌<◌, List, [], ◌∷◌, ◌++◌, length, slice_get, slice_set, get_or, Some, nat_eq, if◌then◌else◌, ap, arith}
 use Rattle.std.proofs.lemmas.Option.{none-some, same_Some}
-use Rattle.std.proofs.lemmas.Grind.{common_steps}
-use Rattle.trace_model.specs.Theory.Dependencies.{Dependency}
+use Rattle.std.proofs.lemmas.Bool.Decides.{nat_tests}
 use Rattle.cycle_search.specs.declared.tarjan.Frame.{Frame}
 use Rattle.cycle_search.specs.declared.tarjan.Walk.{Walk}
-use Rattle.cycle_search.specs.Walk.{is_visited, left_at, left_on, left_beyond, left, Stays, Enters}
+use Rattle.cycle_search.specs.Walk.{left_at, left_on, left_beyond, left, Stays, Enters}
 
 pub on-push : (graph : ℕ → List ℕ) (path : List Frame) (frame : Frame) → left_on graph (path ++ frame ∷ []) ≡ left_on graph path + left_at graph frame
 unfolding left_on
@@ -34,43 +33,38 @@ on-followed graph path i frame l at more =
 pub on-left : (graph : ℕ → List ℕ) (path rest : List Frame) (frame : Frame) → path ≡ rest ++ frame ∷ [] → left_on graph rest < left_on graph path
 on-left graph path rest frame e = omega (arith, ap (left_on graph) e, on-push graph rest frame)
 
-beyond-same : (visited visited' : ℕ → Bool) (graph : ℕ → List ℕ) (ds : List Dependency) → ((lock : ℕ) → visited' lock ≡ visited lock) →
-    left_beyond visited' graph ds ≡ left_beyond visited graph ds
+-- The index 0 counts, and no other.
+counts : (n index : ℕ) → index ≡ 0 → (if nat_eq index 0 then n else 0) ≡ n
+counts n index none = grind (arith, nat_tests)
+
+counts-not : (n index : ℕ) → index ≢ 0 → (if nat_eq index 0 then n else 0) ≡ 0
+counts-not n index some = grind (arith, nat_tests)
+
+-- A lock gets an index.
+beyond-set : (graph : ℕ → List ℕ) (lock : ℕ) (indices : List ℕ) (k index : ℕ) → slice_get indices k ≡ Some 0 → index ≢ 0 →
+    left_beyond graph lock (slice_set indices k index) + length (graph (lock + k)) + 2 ≡ left_beyond graph lock indices
 unfolding left_beyond
-beyond-same visited visited' graph [] e = refl
-beyond-same visited visited' graph (d ∷ ds) e = rw (e d.lock) (ap (λ n. (if visited d.lock then 0 else length (graph d.lock) + 2) + n) (beyond-same visited visited' graph ds e))
+beyond-set graph lock [] k index at some = absurd (none-some 0 at)
+beyond-set graph lock (x ∷ xs) zero index at some =
+    let n = length (graph lock) + 2 in
+    let same : length (graph (lock + 0)) ≡ length (graph lock) = ap (λ l. length (graph l)) (omega arith) in
+    omega (arith, counts n x (same_Some x 0 at), counts-not n index some, same)
+beyond-set graph lock (x ∷ xs) (suc k) index at some =
+    let same : length (graph (suc lock + k)) ≡ length (graph (lock + suc k)) = ap (λ l. length (graph l)) (omega arith) in
+    omega (arith, beyond-set graph (suc lock) xs k index at some, same)
 
-module _ (visited visited' : ℕ → Bool) (graph : ℕ → List ℕ) (lock : ℕ) (e : (other : ℕ) → visited' other ≡ (nat_eq lock other || visited other)) where
-  here-less : (other : ℕ) → (if visited' other then 0 else length (graph other) + 2) ≤ (if visited other then 0 else length (graph other) + 2)
-  here-less other = let h = e other in grind (arith, common_steps)
+pub stays-left : (graph : ℕ → List ℕ) (old new : Walk) → Stays old new → left graph new ≡ left graph old
+stays-left graph old new s = omega (arith, ap (left_on graph) s.path, ap (left_beyond graph 0) s.indices)
 
-  beyond-less : (ds : List Dependency) → left_beyond visited' graph ds ≤ left_beyond visited graph ds
-  unfolding left_beyond
-  beyond-less [] = omega arith
-  beyond-less (d ∷ ds) = omega (arith, here-less d.lock, beyond-less ds)
-
-  here-visited : visited lock ≡ false → (other : ℕ) → other ≡ lock →
-      (if visited' other then 0 else length (graph other) + 2) + length (graph lock) + 2 ≤ (if visited other then 0 else length (graph other) + 2)
-  here-visited unmet other same = let h = e other in grind (arith, common_steps)
-
-  pub beyond-visited : visited lock ≡ false → (ds : List Dependency) (n : ℕ) (d : Dependency) → slice_get ds n ≡ Some d → d.lock ≡ lock →
-      left_beyond visited' graph ds + length (graph lock) + 2 ≤ left_beyond visited graph ds
-  unfolding left_beyond
-  beyond-visited unmet [] n d at same = absurd (none-some d at)
-  beyond-visited unmet (x ∷ ds) zero d at same = omega (arith, here-visited unmet x.lock (ap (λ (z : Dependency). z.lock) (same_Some x d at) ∙ same), beyond-less ds)
-  beyond-visited unmet (x ∷ ds) (suc n) d at same = omega (arith, here-less x.lock, beyond-visited unmet ds n d at same)
-
-pub stays-left : (graph : ℕ → List ℕ) (ds : List Dependency) (old new : Walk) → Stays old new → left graph ds new ≡ left graph ds old
-stays-left graph ds old new s =
-    let a = ap (left_on graph) s.path in
-    let b = beyond-same (is_visited old) (is_visited new) graph ds s.visited in
-    omega (arith, a, b)
-
-pub enters-left : (graph : ℕ → List ℕ) (ds : List Dependency) (old new : Walk) (lock n : ℕ) (d : Dependency) → Enters old lock new → is_visited old lock ≡ false →
-    slice_get ds n ≡ Some d → d.lock ≡ lock → left graph ds new < left graph ds old
-enters-left graph ds old new lock n d s unmet at same =
+pub enters-left : (graph : ℕ → List ℕ) (old new : Walk) (lock : ℕ) → Enters old lock new → left graph new < left graph old
+enters-left graph old new lock s =
     let frame : Frame = record { lock = lock; followed = 0 } in
-    let a = ap (left_on graph) s.path in
-    let p = on-push graph old.path.items frame in
-    let b = beyond-visited (is_visited old) (is_visited new) graph lock s.visited unmet ds n d at same in
-    omega (arith, a, p, b)
+    let same : length (graph (0 + lock)) ≡ length (graph lock) = ap (λ l. length (graph l)) (omega arith) in
+    omega (
+      arith,
+      same,
+      ap (left_on graph) s.path,
+      on-push graph old.path.items frame,
+      ap (left_beyond graph 0) s.indices,
+      beyond-set graph 0 old.indices.items lock s.index s.unmet s.some,
+    )

@@ -1,5 +1,5 @@
 -- Components of dependencies, and the index of acquirers.
-use Rattle.std.specs.Prelude.{◌≡◌, ◌≤◌, ℕ, Bool, true, List, length, slice_get, slice_index, Some}
+use Rattle.std.specs.Prelude.{◌≡◌, ◌≤◌, ℕ, true, List, length, slice_get, slice_index, Some}
 use Rattle.std.specs.List.{Contains}
 use Rattle.trace_model.specs.Theory.Dependencies.{Dependency}
 use Rattle.cycle_search.specs.declared.components.Components.{Components}
@@ -19,15 +19,3 @@ pub record AreComponents (ds : List Dependency) (components : Components) : Type
       slice_index components.numbers.items m ≡ slice_index components.numbers.items n →
       slice_get components.cyclic.items n ≡ Some true
   pub acquirers : AreAcquirers ds components.acquirers
-
--- A dependency that holds a lock of the component of the lock that it acquires is marked.
-pub record AreCyclic (ds : List Dependency) (component : ℕ → ℕ) (cyclic : List Bool) : Type 0 where
-  pub each : length cyclic ≡ length ds
-  pub marked : (n lock : ℕ) (d : Dependency) → slice_get ds n ≡ Some d → Contains d.held lock →
-      component lock ≡ component d.lock → slice_get cyclic n ≡ Some true
-
--- No dependency holds a lock of a higher component than that of the lock that it acquires.
-abbrev pub IsTopological : List Dependency → (ℕ → ℕ) → Type 0
-IsTopological ds component = (n lock : ℕ) (d : Dependency) →
-    slice_get ds n ≡ Some d → Contains d.held lock →
-    component lock ≤ component d.lock

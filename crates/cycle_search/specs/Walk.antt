@@ -1,15 +1,9 @@
 -- How much work a depth-first search has left. It decreases at each step.
-use Rattle.std.specs.Prelude.{◌≡◌, ℕ, ◌+◌, ◌-◌, ◌⊎◌, Bool, false, ◌||◌, List, [], ◌∷◌, ◌++◌, length, nat_eq, is_some, if◌then◌else◌}
-use Rattle.std.specs.HashMap.{get}
-use Rattle.trace_model.specs.Theory.Dependencies.{Dependency}
+use Rattle.std.specs.Prelude.{◌≡◌, ◌≢◌, ℕ, suc, ◌+◌, ◌-◌, ◌⊎◌, List, [], ◌∷◌, ◌++◌, length, nat_eq, slice_get, slice_set, Some, if◌then◌else◌}
 use Rattle.lock_graph.specs.declared.graph.LockGraph.{LockGraph}
-use Rattle.lock_graph.specs.Graph.{holders_below}
+use Rattle.lock_graph.specs.Graph.{holders_at}
 use Rattle.cycle_search.specs.declared.tarjan.Frame.{Frame}
 use Rattle.cycle_search.specs.declared.tarjan.Walk.{Walk}
-
--- The lock was visited.
-abbrev pub is_visited : Walk → ℕ → Bool
-is_visited walk lock = is_some (get nat_eq walk.visited lock)
 
 -- The edges of the frame's lock that were not followed, and one step to leave it.
 abbrev pub left_at : (ℕ → List ℕ) → Frame → ℕ
@@ -20,30 +14,33 @@ unfoldable pub left_on : (ℕ → List ℕ) → List Frame → ℕ
 left_on graph [] = 0
 left_on graph (frame ∷ path) = left_at graph frame + left_on graph path
 
--- The work left for the locks of the dependencies that were not visited.
-unfoldable pub left_beyond : (ℕ → Bool) → (ℕ → List ℕ) → List Dependency → ℕ
-left_beyond visited graph [] = 0
-left_beyond visited graph (d ∷ ds) = (if visited d.lock then 0 else length (graph d.lock) + 2) +
-    left_beyond visited graph ds
+-- The work left for the locks, from `lock` on, that were not visited: those with the index 0.
+unfoldable pub left_beyond : (ℕ → List ℕ) → ℕ → List ℕ → ℕ
+left_beyond graph lock [] = 0
+left_beyond graph lock (index ∷ indices) =
+    (if nat_eq index 0 then length (graph lock) + 2 else 0) + left_beyond graph (suc lock) indices
 
 -- All the work left.
-abbrev pub left : (ℕ → List ℕ) → List Dependency → Walk → ℕ
-left graph ds walk = left_on graph walk.path.items + left_beyond (is_visited walk) graph ds
+abbrev pub left : (ℕ → List ℕ) → Walk → ℕ
+left graph walk = left_on graph walk.path.items + left_beyond graph 0 walk.indices.items
 
--- All the work left in a graph that contains the edges of these dependencies.
-abbrev pub left_in : List Dependency → LockGraph → Walk → ℕ
-left_in ds g walk = left (holders_below g (length ds)) ds walk
+-- All the work left in a graph with the numbers below this total.
+abbrev pub left_in : ℕ → LockGraph → Walk → ℕ
+left_in total g walk = left (holders_at g total) walk
 
 -- The path is unchanged, and the same locks are visited.
 pub record Stays (old new : Walk) : Type 0 where
   pub path : new.path.items ≡ old.path.items
-  pub visited : (lock : ℕ) → is_visited new lock ≡ is_visited old lock
+  pub indices : new.indices.items ≡ old.indices.items
 
--- The lock is visited and appended to the path.
+-- A lock that was not visited is visited and appended to the path.
 pub record Enters (old : Walk) (lock : ℕ) (new : Walk) : Type 0 where
   pub path : new.path.items ≡ old.path.items ++ record { lock = lock; followed = 0 } ∷ []
-  pub visited : (other : ℕ) → is_visited new other ≡ nat_eq lock other || is_visited old other
+  pub unmet : slice_get old.indices.items lock ≡ Some 0
+  pub index : ℕ
+  pub some : index ≢ 0
+  pub indices : new.indices.items ≡ slice_set old.indices.items lock index
 
 -- The path is unchanged, or a lock that was not visited is entered.
 abbrev pub StaysOrEnters : Walk → ℕ → Walk → Type 0
-StaysOrEnters old lock new = Stays old new ⊎ ((is_visited old lock ≡ false) × Enters old lock new)
+StaysOrEnters old lock new = Stays old new ⊎ Enters old lock new

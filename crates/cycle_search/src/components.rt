@@ -6,10 +6,11 @@ ghost use Rattle.dependencies.specs.Tables.{known};
 ghost use Rattle.lock_graph.specs.Graph.{HasGraphOf};
 ghost use Rattle.trace_model.specs.Theory.Cycles.{IsCycle};
 ghost use Rattle.trace_model.specs.Theory.Dependencies.{Dependency};
-ghost use Rattle.cycle_search.specs.Components.{AreComponents, AreCyclic, IsTopological};
-ghost use Rattle.cycle_search.specs.LockNumbers.{number_in};
+ghost use Rattle.cycle_search.specs.Components.{AreComponents};
+ghost use Rattle.cycle_search.specs.Edges.{FallAtMost};
 
 use crate::acquirers::Acquirers;
+use crate::edges::{fall_at_most, same_along_edge};
 use crate::lock_numbers::LockNumbers;
 use crate::tarjan::lock_components;
 use dependencies::DepTable;
@@ -29,21 +30,18 @@ use trace_model::NoMemory;
 /// A dependency is cyclic if it holds a lock of its own component. Each member of a cycle is.
 pub struct Components {
     numbers: Vec<u32>,
-    /// Where the graph has the lock that each dependency acquires.
-    positions: Vec<u32>,
     cyclic: Vec<bool>,
     acquirers: Acquirers,
-    state: RandomState,
+    locks: LockNumbers,
 }
 
 impl Drop for Components {
     fn drop(self) {
         let Components {
             numbers: _,
-            positions: _,
             cyclic: _,
             acquirers: _,
-            state: _,
+            locks: _,
         } = self;
     }
 }
@@ -51,7 +49,7 @@ impl Drop for Components {
 impl Components {
     /// Computes the components of the dependencies of `table`. `graph` must contain their edges; it
     /// may contain edges of later dependencies, which are ignored. Takes time in proportion to the
-    /// number of locks that the dependencies hold, and keeps 17 bytes for each dependency.
+    /// number of locks that the dependencies hold, and keeps 21 bytes for each dependency.
     ///
     /// # Errors
     /// `NoMemory` if an allocation fails.
@@ -64,18 +62,16 @@ impl Components {
         requires { HasGraphOf (known table.now) graph.now }
         ensures { IfOk result (λ components. AreComponents (known table.now) components) }
     {
-        let found = lock_components(alloc, state, table, graph)?;
-        let components = topological_or_one(alloc, state, table, found);
-        let numbers = components.by_dependency(alloc, table)?;
-        let cyclic = cyclic_in(alloc, table, &components)?;
-        let positions = positions_in(alloc, table, graph)?;
+        let locks = LockNumbers::new(alloc, table, graph)?;
+        let found = component_numbers(alloc, table, graph, &locks)?;
+        let numbers = topological_or_one(alloc, table, graph, &locks, found)?;
+        let cyclic = same_along_edge(alloc, table, graph, &locks, &numbers)?;
         let acquirers = Acquirers::new(alloc, table)?;
         Ok(Components {
             numbers,
-            positions,
             cyclic,
             acquirers,
-            state,
+            locks,
         })
     }
 
@@ -113,15 +109,6 @@ impl Components {
         self.numbers[first as usize] == self.numbers[second as usize]
     }
 
-    /// Returns the position in the graph of the lock that the dependency `number` acquires. No
-    /// contract says where it is: the graph tests it.
-    pub(crate) fn position(&self, number: u32) -> u32 {
-        self.positions
-            .get(number as usize)
-            .copied()
-            .unwrap_or(u32::MAX)
-    }
-
     /// Returns the index from locks to the dependencies that acquire them.
     pub(crate) fn acquirers(&self) -> &Acquirers
         ensures { result.now ≡ self.now.acquirers }
@@ -129,9 +116,9 @@ impl Components {
         &self.acquirers
     }
 
-    /// Returns the state with which tables of locks are hashed.
-    pub(crate) fn state(&self) -> RandomState {
-        self.state
+    /// Returns the numbers of the locks.
+    pub(crate) fn locks(&self) -> &LockNumbers {
+        &self.locks
     }
 }
 
@@ -147,71 +134,47 @@ fn are_unset(flags: &[bool]) -> bool
     true
 }
 
-/// Returns for each dependency the position in the graph of the lock that it acquires.
+/// Returns for each dependency the number of the component of the lock that it acquires.
 ///
 /// # Errors
 /// `NoMemory` if an allocation fails.
-fn positions_in(
+fn component_numbers(
     alloc: Global,
     table: &DepTable,
     graph: &LockGraph,
-) -> Result<Vec<u32>, NoMemory> {
-    let mut positions = Vec::new(alloc);
+    locks: &LockNumbers,
+) -> Result<Vec<u32>, NoMemory>
+    requires { HasGraphOf (known table.now) graph.now }
+    ensures { IfOk result (λ numbers. length numbers.items ≡ length (known table.now)) }
+{
+    let components = lock_components(alloc, locks.positions(), graph)?;
+    let mut numbers = Vec::new(alloc);
     for number in 0..table.len() {
-        positions.push(graph.position(table.get(number as u32).lock))?;
+        // A lock that no dependency holds has no edges, and is in no component of `components`.
+        let component = components.get(locks.position(number as u32) as usize);
+        numbers.push(component.copied().unwrap_or(u32::MAX))?;
     }
-    Ok(positions)
+    Ok(numbers)
 }
 
-/// Returns for each dependency whether it holds a lock of the component of the lock that it
-/// acquires.
+/// Returns `numbers` if they are in topological order, else one component for all dependencies.
 ///
 /// # Errors
 /// `NoMemory` if an allocation fails.
-fn cyclic_in(
-    alloc: Global,
-    table: &DepTable,
-    components: &LockNumbers,
-) -> Result<Vec<bool>, NoMemory>
-    ensures { IfOk result (λ cyclic. AreCyclic (known table.now) (number_in components.now)
-        cyclic.items) }
-{
-    let mut cyclic = Vec::new(alloc);
-    for number in 0..table.len() {
-        let dependency = table.get(number as u32);
-        let component = components.of(dependency.lock);
-        cyclic.push(components.has(dependency.held.locks(), component))?;
-    }
-    Ok(cyclic)
-}
-
-/// Returns `components` if they are in topological order, else one component for all locks.
 fn topological_or_one(
     alloc: Global,
-    state: RandomState,
     table: &DepTable,
-    components: LockNumbers,
-) -> LockNumbers
-    ensures { IsTopological (known table.now) (number_in result) }
+    graph: &LockGraph,
+    locks: &LockNumbers,
+    numbers: Vec<u32>,
+) -> Result<Vec<u32>, NoMemory>
+    requires graph { HasGraphOf (known table.now) graph.now }
+    requires each { length numbers.items ≡ length (known table.now) }
+    ensures each { IfOk result (λ numbers. length numbers.items ≡ length (known table.now)) }
+    ensures ascend { IfOk result (λ numbers. FallAtMost (known table.now) numbers.items 0 0) }
 {
-    if is_topological(table, &components) {
-        components
-    } else {
-        LockNumbers::all(alloc, state, 0)
+    if fall_at_most(table, graph, locks, &numbers, 0, 0) {
+        return Ok(numbers);
     }
-}
-
-/// Returns whether no dependency holds a lock of a higher component than that of the lock that it
-/// acquires.
-fn is_topological(table: &DepTable, components: &LockNumbers) -> bool
-    ensures { IsTrue result → IsTopological (known table.now) (number_in components.now) }
-{
-    for number in 0..table.len() {
-        let dependency = table.get(number as u32);
-        let most = components.of(dependency.lock);
-        if !components.are_within(dependency.held.locks(), most) {
-            return false;
-        }
-    }
-    true
+    Ok(vec![in alloc; 0u32; table.len()]?)
 }

@@ -8,7 +8,8 @@ ghost use Rattle.cycle_search.specs.Search.{IsPath};
 use crate::Searched;
 use crate::search::{Path, successors};
 
-/// The number of visited successors that cost as much as one binary search in the index of acquirers.
+/// The number of visited successors that cost as much as one binary search for the acquirers of a
+/// lock.
 const VISITS_PER_SEARCH: usize = 4;
 
 /// For each dependency, the number of visited successors that cost as much as computing the

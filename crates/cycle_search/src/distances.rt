@@ -1,14 +1,12 @@
 //! Distances from each dependency back to the root of a search, by breadth-first search.
 
-ghost use Rattle.std.specs.Prelude.{◌<◌, length, IfOk, IsTrue};
-ghost use Rattle.dependencies.specs.Tables.{known};
-ghost use Rattle.cycle_search.specs.LockNumbers.{number_in};
-ghost use Rattle.cycle_search.specs.Distances.{AreDistances, AreLockDistances};
+ghost use Rattle.std.specs.Prelude.{◌≡◌, ◌<◌, length, slice_index, IfOk, IsTrue};
+ghost use Rattle.cycle_search.specs.Distances.{AreDistances, AreZeroAtRoot};
 
-use crate::lock_numbers::LockNumbers;
-use dependencies::DepTable;
+use crate::Searched;
+use crate::ascending::above;
+use crate::edges::fall_at_most;
 use std::alloc::Global;
-use std::collections::hash_map::RandomState;
 use trace_model::NoMemory;
 
 /// Returns for each dependency the least number of members that must follow it in a cycle of
@@ -19,70 +17,104 @@ use trace_model::NoMemory;
 /// `NoMemory` if an allocation fails.
 pub(crate) fn distances_to(
     alloc: Global,
-    state: RandomState,
-    table: &DepTable,
+    searched: &Searched<'_>,
     root: u32,
     most: u32,
 ) -> Result<Vec<u32>, NoMemory>
-    requires { root < length (known table.now) }
-    ensures { IfOk result (λ distances. AreDistances (known table.now) root distances.items) }
+    requires { root < length searched.now }
+    ensures { IfOk result (λ distances. AreDistances searched.now root distances.items) }
 {
-    let distances = breadth_first(alloc, state, table, root, most)?;
-    if !are_distances(table, root, &distances) {
-        return Ok(Vec::new(alloc));
+    let distances = breadth_first(alloc, searched, root, most)?;
+    if are_distances(searched, root, &distances) {
+        return Ok(distances);
     }
-    distances.by_dependency(alloc, table)
+    Ok(Vec::new(alloc))
 }
 
-/// Computes the distances of the locks by breadth-first search backwards from the root. No contract
-/// says what they are: the caller tests them.
+/// Computes the distances by breadth-first search backwards from the root. No contract says what
+/// they are: the caller tests them.
 fn breadth_first(
     alloc: Global,
-    state: RandomState,
-    table: &DepTable,
+    searched: &Searched<'_>,
     root: u32,
     most: u32,
-) -> Result<LockNumbers, NoMemory>
-    requires { root < length (known table.now) }
+) -> Result<Vec<u32>, NoMemory>
+    requires { root < length searched.now }
 {
-    let mut distances = LockNumbers::all(alloc, state, most);
-    distances.enter(table.get(root).held.locks(), 0)?;
+    let home = searched.table.get(root);
+    let mut distances = Vec::new(alloc);
+    for number in 0..searched.table.len() {
+        let lock = searched.table.get(number as u32).lock;
+        distances.push(if home.held.contains(lock) { 0 } else { most })?;
+    }
     for distance in 1..most {
-        expand(&mut distances, table, root, distance)?;
+        expand(searched, root, &mut distances, distance);
     }
     Ok(distances)
 }
 
-/// Sets the distance of each lock that is held by a dependency whose lock has distance `distance -
-/// 1`.
-fn expand(
-    distances: &mut LockNumbers,
-    table: &DepTable,
-    root: u32,
-    distance: u32,
-) -> Result<(), NoMemory> {
-    for number in root as usize..table.len() {
-        let dependency = table.get(number as u32);
-        if distances.of(dependency.lock).checked_add(1) == Some(distance) {
-            distances.enter(dependency.held.locks(), distance)?;
+/// Sets the distance of each dependency with a greater one that has an edge to one with a lesser
+/// distance.
+fn expand(searched: &Searched<'_>, root: u32, distances: &mut [u32], distance: u32) {
+    let locks = searched.components.locks();
+    for number in 0..searched.table.len() {
+        let number = number as u32;
+        let first = locks.first(number);
+        if first < number {
+            set(distances, number, distance_of(distances, first));
+        } else if distance < distance_of(distances, number)
+            && is_near(distances, above(searched.successors(number), root), distance)
+        {
+            set(distances, number, distance);
         }
     }
-    Ok(())
 }
 
-/// Returns whether the distances are valid lower bounds: 0 for each lock that the root holds, and
-/// for a held lock at most one more than for the lock that is acquired under it.
-fn are_distances(table: &DepTable, root: u32, distances: &LockNumbers) -> bool
-    requires { root < length (known table.now) }
-    ensures { IsTrue result → AreLockDistances (known table.now) root (number_in distances.now) }
+/// Returns the distance of a dependency.
+fn distance_of(distances: &[u32], number: u32) -> u32
+    ensures { result ≡ slice_index distances.now number }
 {
-    if !distances.are_within(table.get(root).held.locks(), 0) {
-        return false;
+    distances.get(number as usize).copied().unwrap_or(0)
+}
+
+/// Sets the distance of a dependency.
+fn set(distances: &mut [u32], number: u32, distance: u32) {
+    if let Some(old) = distances.get_mut(number as usize) {
+        *old = distance;
     }
-    for number in root as usize..table.len() {
-        let dependency = table.get(number as u32);
-        let most = distances.of(dependency.lock).saturating_add(1);
-        if !distances.are_within(dependency.held.locks(), most) {
+}
+
+/// Returns whether one of the dependencies has a lesser distance.
+fn is_near(distances: &[u32], numbers: &[u32], distance: u32) -> bool {
+    for number in numbers {
+        if distance_of(distances, *number) < distance {
+            return true;
+        }
+    }
+    false
+}
+
+/// Returns whether the distances are valid lower bounds: 0 if the root holds the acquired lock, and
+/// for each other dependency at most one more than for those that hold the lock that it acquires.
+fn are_distances(searched: &Searched<'_>, root: u32, distances: &[u32]) -> bool
+    requires { root < length searched.now }
+    ensures { IsTrue result → AreDistances searched.now root distances.now }
+{
+    let table = searched.table;
+    distances.len() == table.len()
+        && are_zero_at_root(searched, root, distances)
+        && fall_at_most(table, searched.graph, searched.components.locks(), distances, root, 1)
+}
+
+/// Returns whether the distance of each dependency that acquires a lock of the root is 0.
+fn are_zero_at_root(searched: &Searched<'_>, root: u32, distances: &[u32]) -> bool
+    requires { root < length searched.now }
+    ensures { IsTrue result → AreZeroAtRoot searched.now root distances.now }
+{
+    let home = searched.table.get(root);
+    for number in 0..searched.table.len() {
+        let lock = searched.table.get(number as u32).lock;
+        if home.held.contains(lock) && distance_of(distances, number as u32) > 0 {
             return false;
         }
     }

@@ -15,6 +15,7 @@ mod collector;
 mod components;
 mod costs;
 mod distances;
+mod edges;
 mod kept;
 mod lock_numbers;
 mod refused;

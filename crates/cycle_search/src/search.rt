@@ -138,9 +138,8 @@ fn distances_of(
     if !is_long(searched, path, bound.get() as usize) {
         return Ok(Vec::new(alloc));
     }
-    let state = searched.components.state();
     let most = u32::from(bound.get()).saturating_sub(1);
-    distances_to(alloc, state, searched.table, path[0], most)
+    distances_to(alloc, searched, path[0], most)
 }
 
 /// Gives to the collector all cycles that begin with the path and have more members.

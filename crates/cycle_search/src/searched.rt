@@ -1,6 +1,7 @@
 //! The tables that a search reads.
 
 use crate::Components;
+use crate::edges::successors;
 use dependencies::DepTable;
 use lock_graph::LockGraph;
 use std::marker::Model;
@@ -32,7 +33,7 @@ impl<'a> Searched<'a> {
     ghost use Rattle.dependencies.specs.Tables.{known};
     ghost use Rattle.lock_graph.specs.Graph.{HasGraphOf};
     ghost use Rattle.cycle_search.specs.Components.{AreComponents};
-    ghost use Rattle.cycle_search.specs.Searched.{AreHolders};
+    ghost use Rattle.cycle_search.specs.Edges.{AreHolders};
 
     /// Combines the three tables. Does not allocate.
     ///
@@ -60,8 +61,6 @@ impl<'a> Searched<'a> {
         requires { number < length self.now }
         ensures { AreHolders self.now number result.now }
     {
-        let lock = self.table.get(number).lock;
-        let position = self.components.position(number);
-        self.graph.successors_at(position, lock, self.table.len())
+        successors(self.table, self.graph, self.components.locks(), number)
     }
 }

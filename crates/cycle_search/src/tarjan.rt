@@ -1,57 +1,45 @@
 //! The strongly connected components of the graph of locks, by Tarjan's algorithm (Tarjan 1972).
 //!
-//! The graph has an edge from each held lock to each lock that is acquired while it is held. No
-//! contract says what the component numbers are: the caller tests the property that it needs.
+//! The graph has an edge from each held lock to each lock that is acquired while it is held. Locks
+//! are numbered by their positions in the graph. No contract says what the component numbers are:
+//! the caller tests the property that it needs.
 
-ghost use Rattle.std.specs.Prelude.{◌<◌, IfOk, IsTrue, OnOk};
-ghost use Rattle.dependencies.specs.Tables.{known};
-ghost use Rattle.lock_graph.specs.Graph.{HasGraphOf};
+ghost use Rattle.std.specs.Prelude.{◌≡◌, ◌<◌, ℕ, length, Some, slice_get, IfOk, IsTrue, OnOk};
+ghost use Rattle.std.specs.List.Sorted.{IsStrictlyIncreasing};
+ghost use Rattle.lock_graph.specs.Graph.{holders};
 ghost use Rattle.cycle_search.specs.Walk.{left_in, Enters, Stays, StaysOrEnters};
 
-use crate::lock_numbers::LockNumbers;
-use dependencies::DepTable;
 use lock_graph::LockGraph;
 use std::alloc::Global;
-use std::collections::HashMap;
-use std::collections::hash_map::RandomState;
 use trace_model::NoMemory;
 
-/// Returns a component number for each lock that a dependency of `table` acquires. The numbers of
-/// components are topological: no edge leads to a lower number.
+/// Returns a component number for each lock at one of the `positions`, which are those of the locks
+/// that the dependencies acquire. The numbers of components are topological: no edge leads to a
+/// lower number. They are below `u32::MAX`.
 ///
 /// # Errors
 /// `NoMemory` if an allocation fails.
 pub(crate) fn lock_components(
     alloc: Global,
-    state: RandomState,
-    table: &DepTable,
+    positions: &[u32],
     graph: &LockGraph,
-) -> Result<LockNumbers, NoMemory>
-    requires { HasGraphOf (known table.now) graph.now }
+) -> Result<Vec<u32>, NoMemory>
+    requires { (lock : ℕ) → IsStrictlyIncreasing (holders graph.now lock) }
 {
+    let locks = graph.lock_count();
     let mut walk = Walk {
-        visited: HashMap::with_hasher(alloc, state),
+        indices: vec![in alloc; 0u32; locks]?,
+        low_links: vec![in alloc; 0u32; locks]?,
+        components: vec![in alloc; 0u32; locks]?,
         path: Vec::new(alloc),
-        /// The visited locks that have no component yet, in the order of visits.
         stack: Vec::new(alloc),
-        components: HashMap::with_hasher(alloc, state),
-        /// The number of the next component to be closed.
-        component: u32::MAX,
+        visited: 0,
+        component: u32::MAX - 1,
     };
-    for number in 0..table.len() {
-        walk.run(table, graph, table.get(number as u32).lock)?;
+    for position in positions {
+        walk.run(positions, graph, *position)?;
     }
-    Ok(LockNumbers {
-        table: walk.components,
-        otherwise: 0,
-    })
-}
-
-/// A visited lock: its index in the order of visits, and the least index that it is known to reach.
-#[derive(Clone, Copy)]
-struct Visit {
-    index: usize,
-    low_link: usize,
+    Ok(walk.components)
 }
 
 /// A lock on the path of the search, with the number of its edges that were followed.
@@ -61,41 +49,53 @@ struct Frame {
     followed: usize,
 }
 
-/// The state of the depth-first search.
+/// The state of the depth-first search. The lists have a number for each lock, by its position.
 #[derive(Drop)]
 struct Walk {
-    visited: HashMap<u32, Visit, RandomState>,
+    /// The order of the visits, from 1; 0 for a lock that was not visited.
+    indices: Vec<u32>,
+    /// The least index that the lock is known to reach.
+    low_links: Vec<u32>,
+    /// 0 for a lock that has no component yet.
+    components: Vec<u32>,
     path: Vec<Frame>,
     /// The locks that were visited and have no component yet, in order.
     stack: Vec<u32>,
-    components: HashMap<u32, u32, RandomState>,
-    /// The component of the next component that is complete.
+    /// The number of visited locks.
+    visited: u32,
+    /// The number of the next component that is complete.
     component: u32,
 }
 
 impl Walk {
-    /// Searches from `lock`, unless it was visited.
-    fn run(&mut self, table: &DepTable, graph: &LockGraph, lock: u32) -> Result<(), NoMemory>
-        requires { HasGraphOf (known table.now) graph.now }
+    /// Searches from `lock`, unless it was visited or the graph does not have it.
+    fn run(&mut self, positions: &[u32], graph: &LockGraph, lock: u32) -> Result<(), NoMemory>
+        requires { (lock : ℕ) → IsStrictlyIncreasing (holders graph.now lock) }
     {
-        if self.visited.contains_key(&lock) {
-            return Ok(());
+        if let Some(0) = self.index(lock) {
+            self.enter(lock)?;
+            while self.step(positions, graph)? {}
         }
-        self.enter(lock)?;
-        while self.step(table, graph)? {}
         Ok(())
+    }
+
+    /// Returns the index of a lock, or `None` if the graph does not have it.
+    fn index(&self, lock: u32) -> Option<u32>
+        ensures { result ≡ slice_get self.now.indices.items lock }
+    {
+        self.indices.get(lock as usize).copied()
     }
 
     /// Visits `lock` and appends it to the path.
     fn enter(&mut self, lock: u32) -> Result<(), NoMemory>
+        requires { slice_get self.old.indices.items lock ≡ Some 0 }
         ensures { OnOk result (Enters self.old lock self.new) }
     {
-        let index = self.visited.len();
-        let visited = Visit {
-            index,
-            low_link: index,
-        };
-        self.visited.insert(lock, visited)?;
+        self.visited = self.visited.saturating_add(1);
+        self.indices[lock as usize] = self.visited;
+        if let Some(low_link) = self.low_links.get_mut(lock as usize) {
+            *low_link = self.visited;
+        }
         self.stack.push(lock)?;
         self.path.push(Frame { lock, followed: 0 })?;
         Ok(())
@@ -103,82 +103,89 @@ impl Walk {
 
     /// Follows one edge of the last lock of the path, or leaves that lock. Returns `false` if the
     /// path is empty. Each step reduces the work that remains, so the search ends.
-    fn step(&mut self, table: &DepTable, graph: &LockGraph) -> Result<bool, NoMemory>
-        requires { HasGraphOf (known table.now) graph.now }
+    fn step(&mut self, positions: &[u32], graph: &LockGraph) -> Result<bool, NoMemory>
+        requires { (lock : ℕ) → IsStrictlyIncreasing (holders graph.now lock) }
         ensures { IfOk result (λ more. IsTrue more
-            → left_in (known table.now) graph.now self.new <
-            left_in (known table.now) graph.now self.old) }
+            → left_in (length positions.now) graph.now self.new <
+            left_in (length positions.now) graph.now self.old) }
     {
         let Some(frame) = self.path.last_mut() else {
             return Ok(false);
         };
         let lock = frame.lock;
-        match graph
-            .successors_below(lock, table.len())
-            .get(frame.followed)
-        {
+        match graph.at(lock, positions.len()).get(frame.followed) {
             Some(number) => {
                 frame.followed += 1;
-                self.follow(lock, table.get(*number).lock)?;
+                let next = positions.get(*number as usize).copied();
+                self.follow(lock, next.unwrap_or(u32::MAX))?;
             },
             None => {
                 self.path.pop();
-                self.leave(lock)?;
+                self.leave(lock);
             },
         }
         Ok(true)
     }
 
-    /// Follows the edge from `lock` to `next`.
+    /// Follows the edge from `lock` to `next`, unless the graph does not have `next`.
     fn follow(&mut self, lock: u32, next: u32) -> Result<(), NoMemory>
         ensures { OnOk result (StaysOrEnters self.old next self.new) }
     {
-        let Some(visited) = self.visited.get(&next).copied() else {
-            return self.enter(next);
-        };
-        if !self.components.contains_key(&next) {
-            self.reaches(lock, visited.index);
+        match self.index(next) {
+            Some(0) => self.enter(next)?,
+            Some(index) if self.is_open(next) => self.reaches(lock, index),
+            _ => {},
         }
         Ok(())
     }
 
+    /// Returns whether the lock has no component yet.
+    fn is_open(&self, lock: u32) -> bool {
+        match self.components.get(lock as usize) {
+            Some(component) => *component == 0,
+            None => false,
+        }
+    }
+
     /// Notes that `lock` reaches the lock on the stack with this index.
-    fn reaches(&mut self, lock: u32, index: usize)
+    fn reaches(&mut self, lock: u32, index: u32)
         ensures { Stays self.old self.new }
     {
-        if let Some(visited) = self.visited.get_mut(&lock) {
-            visited.low_link = visited.low_link.min(index);
+        if let Some(low_link) = self.low_links.get_mut(lock as usize) {
+            *low_link = (*low_link).min(index);
         }
     }
 
     /// Leaves a lock all of whose edges were followed.
-    fn leave(&mut self, lock: u32) -> Result<(), NoMemory>
-        ensures { OnOk result (Stays self.old self.new) }
+    fn leave(&mut self, lock: u32)
+        ensures { Stays self.old self.new }
     {
-        let Some(visited) = self.visited.get(&lock).copied() else {
-            return Ok(());
+        let Some(low_link) = self.low_links.get(lock as usize).copied() else {
+            return;
         };
-        if visited.low_link == visited.index {
-            self.close(lock)?;
+        match self.index(lock) {
+            Some(index) if index == low_link => self.close(lock),
+            _ => {},
         }
         if let Some(before) = self.path.last().copied() {
-            self.reaches(before.lock, visited.low_link);
+            self.reaches(before.lock, low_link);
         }
-        Ok(())
     }
 
     /// Closes the component whose first visited lock is `first`: it consists of the locks on the
     /// stack from `first` on.
-    fn close(&mut self, first: u32) -> Result<(), NoMemory>
-        ensures { OnOk result (Stays self.old self.new) }
+    fn close(&mut self, first: u32)
+        ensures { Stays self.old self.new }
     {
+        let number = self.component;
         while let Some(lock) = self.stack.pop() {
-            self.components.insert(lock, self.component)?;
+            if let Some(component) = self.components.get_mut(lock as usize) {
+                *component = number;
+            }
             if lock == first {
                 break;
             }
         }
-        self.component = self.component.saturating_sub(1);
-        Ok(())
+        self.component = number.saturating_sub(1);
     }
 }

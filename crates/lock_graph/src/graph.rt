@@ -5,7 +5,7 @@ ghost use Rattle.std.specs.List.{filter};
 ghost use Rattle.std.specs.List.Sorted.{IsStrictlyIncreasing};
 ghost use Rattle.trace_model.specs.Theory.Dependencies.{Dependency as Triple};
 ghost use Rattle.lock_graph.specs.Lists.{listed_with};
-ghost use Rattle.lock_graph.specs.Graph.{IsGraphOf, HasRoom, holders, holders_below};
+ghost use Rattle.lock_graph.specs.Graph.{IsGraphOf, HasRoom, holders, holders_at, holders_below};
 
 use crate::lists::{Lists, record, reserve};
 use dependencies::Dependency;
@@ -109,6 +109,24 @@ impl LockGraph {
             Some((key, list)) if *key == lock => below(list.as_slice(), total),
             _ => self.successors_below(lock, total),
         }
+    }
+
+    /// Returns the numbers below `total` of the dependencies that hold the lock at `position`,
+    /// ascending, or none if no lock is there. Does not allocate.
+    pub fn at(&self, position: u32, total: usize) -> &[u32]
+        requires { (lock : ℕ) → IsStrictlyIncreasing (holders self.now lock) }
+        ensures { result.now ≡ holders_at self.now total position }
+    {
+        match self.lists.get_index(position as usize) {
+            Some((_, list)) => below(list.as_slice(), total),
+            None => &[],
+        }
+    }
+
+    /// Returns the number of locks that dependencies hold. Their positions are below it. Does not
+    /// allocate.
+    pub fn lock_count(&self) -> usize {
+        self.lists.len()
     }
 
     /// Returns the position of `lock`, a dense number: below the number of locks that dependencies

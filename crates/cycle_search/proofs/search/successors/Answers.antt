@@ -1,5 +1,5 @@
 use Rattle.std.proofs.Common.{◌∙◌, ◌-◌, List, ℕ, length, get_or, sym, ap, subst, arith}
-use Rattle.cycle_search.specs.Searched.{AreHolders}
+use Rattle.cycle_search.specs.Edges.{AreHolders}
 use Rattle.cycle_search.proofs.Paths.{found, nexts-known}
 use Rattle.cycle_search.proofs.search.successors.Goals as goal
 

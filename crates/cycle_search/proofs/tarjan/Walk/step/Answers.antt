@@ -1,43 +1,32 @@
-use Rattle.std.proofs.Common.{◌≡◌, ◌<◌, ◌-◌, ◌+◌, ◌++◌, ℕ, inl, inr, length, refl, sym, ap, ◌∙◌, arith}
+use Rattle.std.proofs.Common.{◌≡◌, ◌<◌, ◌-◌, ◌+◌, ◌++◌, inl, inr, length, refl, sym, ap, ◌∙◌, arith}
 use Rattle.std.proofs.lemmas.List.{set-get_or}
 use Rattle.std.specs.Prelude.{vec_len, option_to_list, slice_set}
 use Rattle.std.specs.Vec.{with_item}
-use Rattle.trace_model.specs.Theory.Dependencies.{Dependency}
-use Rattle.dependencies.specs.Tables.{known}
-use Rattle.lock_graph.specs.Graph.{holders_below}
+use Rattle.lock_graph.specs.Graph.{holders_at}
 use Rattle.cycle_search.specs.declared.tarjan.Walk.{Walk}
-use Rattle.cycle_search.proofs.ComponentLemmas.{listed-known}
 use Rattle.cycle_search.proofs.Remaining.{on-followed, on-left, stays-left, enters-left}
 use Rattle.cycle_search.proofs.tarjan.Walk.step.Goals as goal
 
-pub get-requires-in-Some-get : goal.get-requires-in-Some-get
-get-requires-in-Some-get c =
-    let found = c.in-Some-get.ensures.lookup in
-    listed-known (known c.args.table.now) (holders_below c.args.graph.now (length (known c.args.table.now))) c.requires.below _ c.in-Some-get.number.now c.successors_below.result.now (c.successors_below.ensures ∙ ap (λ (n : ℕ). holders_below c.args.graph.now n c.in-Some.frame.now.lock) c.len.ensures.value)
-    (c.in-Some.frame.now.followed, found.3.0, sym found.1)
-
 pub returns-in_ok-follow-in-Some-get : goal.returns-in_ok-follow-in-Some-get
 returns-in_ok-follow-in-Some-get c more =
-    let graph = holders_below c.args.graph.now (length (known c.args.table.now)) in
-    let ds = known c.args.table.now in
+    let graph = holders_at c.args.graph.now (length c.args.positions.now) in
     let walk = c.args.self.now in
     let frame = c.in-Some.frame.now in
     let item = c.in-Some.ensures.item in
     let edge = c.in-Some-get.ensures.lookup in
     let last = vec_len walk.path - 1 in
     let inside : last < length walk.path.items = omega (arith, item.3.0) in
-    let unread : frame.followed < length (graph frame.lock) = omega (arith, edge.3.0, ap length (c.successors_below.ensures ∙ ap (λ (n : ℕ). holders_below c.args.graph.now n c.in-Some.frame.now.lock) c.len.ensures.value)) in
+    let unread : frame.followed < length (graph frame.lock) = omega (arith, edge.3.0, ap length c.at.ensures) in
     let fell = on-followed graph walk.path.items last frame inside (c.in-Some.ensures.value) unread in
     let mid : Walk = record walk { path = with_item walk.path last (record { lock = frame.lock; followed = frame.followed + 1 }) } in
     elim c.in_ok-follow-in-Some-get.ensures [
-      | inl stays ↦ omega (arith, fell, stays-left graph ds mid c.follow.new.self stays)
-      | inr (unmet, enters) ↦ omega (arith, fell, enters-left graph ds mid c.follow.new.self _ _ _ enters unmet c.get-in-Some-get.ensures (sym (ap (λ (d : Dependency). d.lock) c.behind-table.view_is)))
+      | inl stays ↦ omega (arith, fell, stays-left graph mid c.follow.new.self stays)
+      | inr enters ↦ omega (arith, fell, enters-left graph mid c.follow.new.self _ enters)
     ]
 
-pub returns-in_ok-leave-in-None : goal.returns-in_ok-leave-in-None
-returns-in_ok-leave-in-None c more =
-    let graph = holders_below c.args.graph.now (length (known c.args.table.now)) in
-    let ds = known c.args.table.now in
+pub returns-in-None : goal.returns-in-None
+returns-in-None c more =
+    let graph = holders_at c.args.graph.now (length c.args.positions.now) in
     let walk = c.args.self.now in
     let frame = c.in-Some.frame.now in
     let last = vec_len walk.path - 1 in
@@ -46,4 +35,4 @@ returns-in_ok-leave-in-None c more =
     let parts = sym same ∙ c.pop.ensures.items ∙ ap (λ o. c.pop.new.self.items ++ option_to_list o) popped in
     let fell = on-left graph walk.path.items c.pop.new.self.items _ parts in
     let mid : Walk = record walk { path = c.pop.new.self } in
-    omega (arith, fell, stays-left graph ds mid c.leave.new.self c.in_ok-leave-in-None.ensures)
+    omega (arith, fell, stays-left graph mid c.leave.new.self c.leave.ensures)

@@ -1,0 +1,14 @@
+use Rattle.std.proofs.Common.{◌∙◌, ℕ, length, ap}
+use Rattle.trace_model.specs.Theory.Dependencies.{Dependency}
+use Rattle.dependencies.specs.Tables.{known}
+use Rattle.lock_graph.specs.Graph.{holders_below}
+use Rattle.cycle_search.proofs.Paths.{holders-known}
+use Rattle.cycle_search.proofs.edges.successors.Goals as goal
+
+pub returns : goal.returns
+returns c =
+    let ds = known c.args.table.now in
+    let graph = c.args.graph.now in
+    holders-known ds (holders_below graph (length ds)) c.requires.graph.below c.args.number c.get.result.now c.get.ensures c.successors_at.result.now
+    (c.successors_at.ensures ∙ ap (λ (d : Dependency). holders_below graph c.len.result d.lock) c.behind-table.view_is
+    ∙ ap (λ (n : ℕ). holders_below graph n c.get.result.now.lock) c.len.ensures.value)
