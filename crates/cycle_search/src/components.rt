@@ -49,13 +49,14 @@ impl Drop for Components {
 impl Components {
     /// Computes the components of the dependencies of `table`. `graph` must contain their edges; it
     /// may contain edges of later dependencies, which are ignored. Takes time in proportion to the
-    /// number of locks that the dependencies hold, and keeps 21 bytes for each dependency.
+    /// number of locks that the dependencies hold, and to sort the dependencies. Keeps 21 bytes for
+    /// each dependency. Hashes the lock of each dependency once, by the state of `graph`.
     ///
     /// # Errors
     /// `NoMemory` if an allocation fails.
     pub fn new(
         alloc: Global,
-        state: RandomState,
+        _state: RandomState,
         table: &DepTable,
         graph: &LockGraph,
     ) -> Result<Components, NoMemory>

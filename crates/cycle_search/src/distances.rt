@@ -63,7 +63,7 @@ fn expand(searched: &Searched<'_>, root: u32, distances: &mut [u32], distance: u
         if first < number {
             set(distances, number, distance_of(distances, first));
         } else if distance < distance_of(distances, number)
-            && is_near(distances, above(searched.successors(number), root), distance)
+            && is_near(searched, distances, root, number, distance)
         {
             set(distances, number, distance);
         }
@@ -84,10 +84,18 @@ fn set(distances: &mut [u32], number: u32, distance: u32) {
     }
 }
 
-/// Returns whether one of the dependencies has a lesser distance.
-fn is_near(distances: &[u32], numbers: &[u32], distance: u32) -> bool {
-    for number in numbers {
-        if distance_of(distances, *number) < distance {
+/// Returns whether the dependency `number` has an edge to one above the root with a lesser distance.
+fn is_near(
+    searched: &Searched<'_>,
+    distances: &[u32],
+    root: u32,
+    number: u32,
+    distance: u32,
+) -> bool
+    requires { number < length searched.now }
+{
+    for next in above(searched.successors(number), root) {
+        if distance_of(distances, *next) < distance {
             return true;
         }
     }
@@ -101,9 +109,10 @@ fn are_distances(searched: &Searched<'_>, root: u32, distances: &[u32]) -> bool
     ensures { IsTrue result → AreDistances searched.now root distances.now }
 {
     let table = searched.table;
+    let locks = searched.components.locks();
     distances.len() == table.len()
         && are_zero_at_root(searched, root, distances)
-        && fall_at_most(table, searched.graph, searched.components.locks(), distances, root, 1)
+        && fall_at_most(table, searched.graph, locks, distances, root, 1)
 }
 
 /// Returns whether the distance of each dependency that acquires a lock of the root is 0.
