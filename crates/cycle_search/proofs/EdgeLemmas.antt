@@ -1,9 +1,13 @@
 -- Numbers along the edges of the first dependencies.
-use Rattle.std.proofs.Common.{◌≡◌, ℕ, zero, suc, ◌+◌, ◌<◌, ◌≤◌, Bool, true, inl, inr, List, [], ◌∷◌, length, slice_get, slice_set, get_or, Some, refl, sym, ◌∙◌, subst, arith}
+use Rattle.std.proofs.Common.{◌≡◌, ℕ, zero, suc, ◌+◌, ◌<◌, ◌≤◌, Bool, true, inl, inr, List, [], ◌∷◌, length, slice_get, slice_set, get_or, Some, refl, sym, ◌∙◌, subst, arith, ◌++◌, ap, ltb}
 use Rattle.std.proofs.lemmas.Bool.{cases_lt}
-use Rattle.std.proofs.lemmas.Option.{none-some, slice_get_within}
-use Rattle.std.specs.List.{Contains}
+use Rattle.std.proofs.lemmas.Option.{none-some, same_Some, slice_get_within}
+use Rattle.std.specs.List.{filter, Contains}
 use Rattle.trace_model.specs.Theory.Dependencies.{Dependency}
+use Rattle.trace_model.proofs.Lists.{get-push}
+use Rattle.lock_graph.specs.declared.graph.LockGraph.{LockGraph}
+use Rattle.lock_graph.specs.Graph.{HasGraphOf, holders}
+use Rattle.cycle_search.specs.LockNumbers.{AreNumbered}
 use Rattle.cycle_search.specs.Edges.{AreHolders, IsRepeated}
 use Rattle.cycle_search.proofs.Paths.{found}
 
@@ -88,3 +92,22 @@ set-kept (x ∷ marks) zero zero h = refl
 set-kept (x ∷ marks) zero (suc n) h = h
 set-kept (x ∷ marks) (suc i) zero h = h
 set-kept (x ∷ marks) (suc i) (suc n) h = set-kept marks i n h
+
+-- A lock that the graph does not list is held by none.
+pub numbered-none : (ds : List Dependency) (g : LockGraph) → HasGraphOf ds g → (lock : ℕ) → holders g lock ≡ [] →
+    (n : ℕ) (b : Dependency) → slice_get ds n ≡ Some b → Contains b.held lock → ⊥
+numbered-none ds g has lock none n b at holds =
+    let (k, l, e) = subst (λ (xs : List ℕ). Contains (filter (λ m. ltb m (length ds)) xs) n) none ((has.below.exact lock n).1 (b, at, holds)) in
+    omega (arith, l)
+
+-- One more position.
+pub numbered-more : (ds : List Dependency) (positions : List ℕ) (i position : ℕ) (d : Dependency) → length positions ≡ i → slice_get ds i ≡ Some d →
+    (position ≡ 4294967295 → (n : ℕ) (b : Dependency) → slice_get ds n ≡ Some b → Contains b.held d.lock → ⊥) →
+    AreNumbered ds positions → AreNumbered ds (positions ++ position ∷ [])
+numbered-more ds positions i position d each at none before m n a b here x y holds = elim (get-push positions position m 4294967295 here) [
+  | inl u ↦ before m n a b u x y holds
+  | inr u ↦
+      let same : i ≡ m = omega (arith, each, u.0) in
+      let is : d ≡ a = same_Some d a (sym at ∙ ap (slice_get ds) same ∙ x) in
+      none u.1 n b y (subst (λ (z : Dependency). Contains b.held z.lock) (sym is) holds)
+]

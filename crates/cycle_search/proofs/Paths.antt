@@ -219,6 +219,17 @@ holders-known ds graph g number d at holders e = record {
   ascends = subst IsStrictlyIncreasing (sym e) (g.ascends d.lock);
 }
 
+-- No dependency holds the lock.
+pub holders-none : (ds : List Dependency) (number : ℕ) →
+    ((n : ℕ) (a b : Dependency) → slice_get ds number ≡ Some a → slice_get ds n ≡ Some b → Contains b.held a.lock → ⊥) → AreHolders ds number []
+holders-none ds number none = record {
+  exact = λ a at m. (
+    (λ (k, l, e). absurd (omega arith)),
+    (λ (b, here, holds). absurd (none m a b at here holds)),
+  );
+  ascends = λ k l. absurd (omega arith);
+}
+
 -- The members that the code reads.
 module _ (ds : List Dependency) (path : List ℕ) (p : IsPath ds path) (last : Dependency) (at : slice_get ds (get_or path (length path - 1) 0) ≡ Some last) where
   last-member : Member ds path (length path - 1) last

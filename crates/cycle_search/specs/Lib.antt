@@ -1,4 +1,5 @@
 pub mod Search
+pub mod LockNumbers
 pub mod Edges
 pub mod Components
 pub mod Searched

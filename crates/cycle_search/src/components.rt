@@ -8,6 +8,7 @@ ghost use Rattle.trace_model.specs.Theory.Cycles.{IsCycle};
 ghost use Rattle.trace_model.specs.Theory.Dependencies.{Dependency};
 ghost use Rattle.cycle_search.specs.Components.{AreComponents};
 ghost use Rattle.cycle_search.specs.Edges.{FallAtMost};
+ghost use Rattle.cycle_search.specs.LockNumbers.{AreNumbered};
 
 use crate::acquirers::Acquirers;
 use crate::edges::{fall_at_most, same_along_edge};
@@ -118,7 +119,9 @@ impl Components {
     }
 
     /// Returns the numbers of the locks.
-    pub(crate) fn locks(&self) -> &LockNumbers {
+    pub(crate) fn locks(&self) -> &LockNumbers
+        ensures { result.now ≡ self.now.locks }
+    {
         &self.locks
     }
 }
@@ -170,6 +173,7 @@ fn topological_or_one(
     numbers: Vec<u32>,
 ) -> Result<Vec<u32>, NoMemory>
     requires graph { HasGraphOf (known table.now) graph.now }
+    requires locks { AreNumbered (known table.now) locks.now.positions.items }
     requires each { length numbers.items ≡ length (known table.now) }
     ensures each { IfOk result (λ numbers. length numbers.items ≡ length (known table.now)) }
     ensures ascend { IfOk result (λ numbers. FallAtMost (known table.now) numbers.items 0 0) }

@@ -8,6 +8,7 @@ ghost use Rattle.std.specs.Prelude.{◌≡◌, ◌<◌, ◌≤◌, ℕ, length, 
 ghost use Rattle.std.specs.List.{Contains};
 ghost use Rattle.dependencies.specs.Tables.{known};
 ghost use Rattle.lock_graph.specs.Graph.{HasGraphOf};
+ghost use Rattle.cycle_search.specs.LockNumbers.{AreNumbered};
 ghost use Rattle.cycle_search.specs.Edges.{AreHolders, AreMarked, FallAtMost, IsRepeated};
 
 use crate::lock_numbers::LockNumbers;
@@ -25,9 +26,13 @@ pub(crate) fn successors<'a>(
     number: u32,
 ) -> &'a [u32]
     requires graph { HasGraphOf (known table.now) graph.now }
+    requires locks { AreNumbered (known table.now) locks.now.positions.items }
     requires number { number < length (known table.now) }
     ensures { AreHolders (known table.now) number result.now }
 {
+    if locks.is_unheld(number) {
+        return &[];
+    }
     let lock = table.get(number).lock;
     graph.successors_at(locks.position(number), lock, table.len())
 }
@@ -55,6 +60,7 @@ pub(crate) fn fall_at_most(
     step: u32,
 ) -> bool
     requires graph { HasGraphOf (known table.now) graph.now }
+    requires locks { AreNumbered (known table.now) locks.now.positions.items }
     requires each { length values.now ≡ length (known table.now) }
     ensures { IsTrue result → FallAtMost (known table.now) values.now from step }
 {
@@ -96,6 +102,7 @@ pub(crate) fn same_along_edge(
     values: &[u32],
 ) -> Result<Vec<bool>, NoMemory>
     requires graph { HasGraphOf (known table.now) graph.now }
+    requires locks { AreNumbered (known table.now) locks.now.positions.items }
     requires each { length values.now ≡ length (known table.now) }
     ensures { IfOk result (λ marks. AreMarked (known table.now) values.now marks.items) }
 {

@@ -1,12 +1,18 @@
 //! Two numbers for the lock of each dependency, so that a search hashes no lock.
 
+ghost use Rattle.std.specs.Prelude.{◌≡◌, Some, slice_get, IfOk, IsTrue};
+ghost use Rattle.dependencies.specs.Tables.{known};
+ghost use Rattle.lock_graph.specs.Graph.{HasGraphOf};
+ghost use Rattle.cycle_search.specs.LockNumbers.{AreNumbered};
+
 use dependencies::DepTable;
 use lock_graph::LockGraph;
 use std::alloc::Global;
 use trace_model::NoMemory;
 
-/// For the lock that each dependency acquires its position in the graph, and the first dependency
-/// that acquires it. No contract says what they are: they are tested where they are used.
+/// For the lock that each dependency acquires its position in the graph, 4,294,967,295 if no
+/// dependency holds it, and the first dependency that acquires it. No contract says more: the other
+/// numbers are tested where they are used.
 #[derive(Drop)]
 pub(crate) struct LockNumbers {
     positions: Vec<u32>,
@@ -22,7 +28,10 @@ impl LockNumbers {
         alloc: Global,
         table: &DepTable,
         graph: &LockGraph,
-    ) -> Result<LockNumbers, NoMemory> {
+    ) -> Result<LockNumbers, NoMemory>
+        requires { HasGraphOf (known table.now) graph.now }
+        ensures { IfOk result (λ locks. AreNumbered (known table.now) locks.positions.items) }
+    {
         let mut positions = Vec::new(alloc);
         let mut firsts = Vec::new(alloc);
         let mut first_at = vec![in alloc; u32::MAX; graph.lock_count()]?;
@@ -43,6 +52,16 @@ impl LockNumbers {
     /// Returns the position in the graph of the lock that the dependency `number` acquires.
     pub(crate) fn position(&self, number: u32) -> u32 {
         at(&self.positions, number)
+    }
+
+    /// Returns whether no dependency holds the lock that the dependency `number` acquires.
+    pub(crate) fn is_unheld(&self, number: u32) -> bool
+        ensures { IsTrue result → slice_get self.now.positions.items number ≡ Some 4294967295 }
+    {
+        match self.positions.get(number as usize) {
+            Some(position) => *position == u32::MAX,
+            None => false,
+        }
     }
 
     /// Returns the first dependency that acquires the same lock as the dependency `number`.

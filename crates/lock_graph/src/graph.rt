@@ -130,10 +130,14 @@ impl LockGraph {
     }
 
     /// Returns the position of `lock`, a dense number: below the number of locks that dependencies
-    /// hold. A lock that no dependency holds has none, and gets a greater number. Does not allocate.
-    pub fn position(&self, lock: u32) -> u32 {
+    /// hold, or 4,294,967,295 if no dependency holds it. Does not allocate.
+    pub fn position(&self, lock: u32) -> u32
+        ensures { result ≡ 4294967295 → holders self.now lock ≡ [] }
+    {
         match self.lists.get_index_of(&lock) {
-            Some(position) => position.min(u32::MAX as usize) as u32,
+            Some(position) if position < u32::MAX as usize => position as u32,
+            // There are fewer locks, so this is not reached. `successors_at` tests positions.
+            Some(_) => 0,
             None => u32::MAX,
         }
     }

@@ -2,8 +2,12 @@ use Rattle.std.proofs.Common.{◌∙◌, ℕ, length, ap}
 use Rattle.trace_model.specs.Theory.Dependencies.{Dependency}
 use Rattle.dependencies.specs.Tables.{known}
 use Rattle.lock_graph.specs.Graph.{holders_below}
-use Rattle.cycle_search.proofs.Paths.{holders-known}
+use Rattle.cycle_search.proofs.Paths.{holders-known, holders-none}
 use Rattle.cycle_search.proofs.edges.successors.Goals as goal
+
+pub returns-then-is_unheld : goal.returns-then-is_unheld
+returns-then-is_unheld c = holders-none (known c.args.table.now) c.args.number
+    (λ n a b x y holds. c.requires.locks c.args.number n a b (c.is_unheld.ensures c.if-is_unheld.true) x y holds)
 
 pub returns : goal.returns
 returns c =

@@ -9,4 +9,4 @@ returns c =
     let ds = known c.args.table.now in
     components-ascend ds (record { numbers = c.in_ok-numbers.numbers; cyclic = c.in_ok-cyclic.cyclic; acquirers = c.in_ok-acquirers.acquirers; locks = c.in_ok-locks.locks })
     c.in_ok-numbers.ensures.each c.in_ok-numbers.ensures.ascend
-    (subst (λ (xs : List ℕ). AreMarked ds xs c.in_ok-cyclic.cyclic.items) c.deref.ensures.value c.in_ok-cyclic.ensures) c.in_ok-acquirers.ensures
+    (subst (λ (xs : List ℕ). AreMarked ds xs c.in_ok-cyclic.cyclic.items) c.deref.ensures.value c.in_ok-cyclic.ensures) c.in_ok-locks.ensures c.in_ok-acquirers.ensures
