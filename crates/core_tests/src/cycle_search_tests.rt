@@ -153,9 +153,8 @@ fn tables_of(rt: &HostRuntime, sections: &[Sections]) -> Option<Tables>
     ensures components { IfSome result
         (λ t. AreComponents (known t.parts.dependencies) t.components) }
 {
-    let state = RandomState::new(rt).ok()?;
     let parts = parts_of(rt, sections)?;
-    match Components::new(rt.alloc(), state, &parts.dependencies, &parts.graph) {
+    match Components::new(rt.alloc(), &parts.dependencies, &parts.graph) {
         Ok(components) => Some(Tables { parts, components }),
         Err(_) => {
             drop(parts);

@@ -17,7 +17,6 @@ use crate::tarjan::lock_components;
 use dependencies::DepTable;
 use lock_graph::LockGraph;
 use std::alloc::Global;
-use std::collections::hash_map::RandomState;
 use trace_model::NoMemory;
 
 /// The strongly connected components of a table's dependencies, and an index from each lock to the
@@ -51,16 +50,11 @@ impl Components {
     /// Computes the components of the dependencies of `table`. `graph` must contain their edges; it
     /// may contain edges of later dependencies, which are ignored. Takes time in proportion to the
     /// number of locks that the dependencies hold, and to sort the dependencies. Keeps 21 bytes for
-    /// each dependency. Hashes the lock of each dependency once, by the state of `graph`.
+    /// each dependency. Hashes the lock of each dependency once.
     ///
     /// # Errors
     /// `NoMemory` if an allocation fails.
-    pub fn new(
-        alloc: Global,
-        _state: RandomState,
-        table: &DepTable,
-        graph: &LockGraph,
-    ) -> Result<Components, NoMemory>
+    pub fn new(alloc: Global, table: &DepTable, graph: &LockGraph) -> Result<Components, NoMemory>
         requires { HasGraphOf (known table.now) graph.now }
         ensures { IfOk result (λ components. AreComponents (known table.now) components) }
     {

@@ -134,7 +134,7 @@ impl Tables {
 fn components_of(alloc: Global, snapshot: &Snapshot) -> Result<Components, NoMemory>
     ensures { IfOk result (AreComponents (dependencies snapshot.now)) }
 {
-    Components::new(alloc, snapshot.state(), snapshot.table(), snapshot.graph())
+    Components::new(alloc, snapshot.table(), snapshot.graph())
 }
 
 /// Returns the requirements of the snapshot's events, or `None` if there is no cycle.

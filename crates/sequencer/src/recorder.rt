@@ -24,7 +24,6 @@ use wellformed::GateTables;
 #[derive(Drop)]
 pub struct Recorder {
     alloc: Global,
-    state: RandomState,
     limit: usize,
     gate: GateTables,
     index: TraceIndex,
@@ -65,7 +64,6 @@ impl Recorder {
     {
         Recorder {
             alloc,
-            state,
             limit: max_events,
             gate: GateTables::new(alloc, state),
             index: TraceIndex::new(alloc, state),
@@ -172,7 +170,7 @@ impl Recorder {
         let parts = self.tables.share(total, count)?;
         match self.index.share(count as usize, copies) {
             Ok(index) => {
-                let snapshot = Snapshot::of(self.state, index, parts);
+                let snapshot = Snapshot::of(index, parts);
                 Ok(Arc::new(self.alloc, snapshot)?)
             }
             Err(refused) => {

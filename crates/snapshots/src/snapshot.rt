@@ -25,7 +25,6 @@ use trace_model::{Event, NoMemory, Place};
 /// # Errors
 /// `NoMemory` if the index or the tables could not be allocated.
 fn assembled(
-    state: RandomState,
     parts: Result<LockParts, NoMemory>,
     index: Result<TraceIndex, NoMemory>,
 ) -> Result<Snapshot, NoMemory>
@@ -34,7 +33,7 @@ fn assembled(
         (λ _. IsErr result) }
 {
     match (parts, index) {
-        (Ok(parts), Ok(index)) => Ok(Snapshot::of(state, index, parts)),
+        (Ok(parts), Ok(index)) => Ok(Snapshot::of(index, parts)),
         (Ok(parts), Err(refused)) => {
             drop(parts);
             Err(refused)
@@ -50,7 +49,6 @@ fn assembled(
 /// A well-formed trace with its index, its dependencies and their graph, which agree by type.
 /// Contracts see it as the trace.
 pub struct Snapshot {
-    state: RandomState,
     index: TraceIndex,
     dependencies: DepTable,
     graph: Arc<LockGraph, Global>,
@@ -59,7 +57,6 @@ pub struct Snapshot {
 impl Drop for Snapshot {
     fn drop(self) {
         let Snapshot {
-            state: _,
             index: _,
             dependencies: _,
             graph: _,
@@ -105,14 +102,14 @@ impl Snapshot {
                 ensures { IfOk result (λ index. index.events ≡ events.entry.now) }
             { TraceIndex::build(alloc, state, events) },
         );
-        assembled(state, parts, index)
+        assembled(parts, index)
     }
 
     /// Returns the snapshot of the index's trace with these dependencies and this graph. Does not
     /// allocate.
     ///
     /// The caller passes the tables of the index's trace.
-    pub fn of(state: RandomState, index: TraceIndex, parts: LockParts) -> Snapshot
+    pub fn of(index: TraceIndex, parts: LockParts) -> Snapshot
         requires { ArePartsOf parts index.events }
         ensures { result ≡ index.events }
     {
@@ -121,7 +118,6 @@ impl Snapshot {
             graph,
         } = parts;
         Snapshot {
-            state,
             index,
             dependencies,
             graph,
@@ -172,10 +168,5 @@ impl Snapshot {
         ensures { HasGraphOf (dependencies self.now) result.now }
     {
         &self.graph
-    }
-
-    /// Returns the state with which tables on this trace are hashed.
-    pub fn state(&self) -> RandomState {
-        self.state
     }
 }
