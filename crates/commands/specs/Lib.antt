@@ -6,5 +6,6 @@ pub mod Replay
 pub mod Script
 pub mod ScriptFile
 pub mod ScriptRun
+pub mod ScriptTells
 pub mod Text
 pub mod Check

@@ -58,7 +58,7 @@ SaysLines (line ∷ lines) commands = (first rest : List Command) × SaysLine (l
 abbrev pub IsScriptOf : List Command → List ℕ → Type 0
 IsScriptOf commands file = SaysLines (pieces_at 10 file) commands
 
--- the line with this number, counted from 1, is the first that says no commands
+-- the line with this number, counted from 1, is one of the lines, and those before it say commands
 pub record IsFirstBadLine (lines : List (List ℕ)) (number : ℕ) : Type 0 where
   pub index : ℕ
   pub counts : number ≡ index + 1

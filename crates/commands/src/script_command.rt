@@ -3,13 +3,19 @@
 pub(crate) mod printing;
 pub(crate) mod reading;
 
-ghost use Rattle.std.specs.Prelude.{◌≡◌, false, IfErr, IfOk, OnOk};
+ghost use Rattle.std.specs.Prelude.{◌≡◌, ℕ, List, [], false, None, Some, Ok, IfErr, IfOk, OnOk};
+ghost use Rattle.std.specs.List.{All};
 ghost use Rattle.std.specs.Io.KnownBytes.{Appends};
+ghost use Rattle.trace_model.specs.declared.messages.session.Request.{Request};
+ghost use Rattle.trace_model.specs.Protocol.Frames.{IsRequest, frame};
+ghost use Rattle.trace_model.specs.Protocol.Machine.{State, opening};
 ghost use Rattle.sequencer.specs.Book.{IsLimit, RefusesSnapshot};
 ghost use Rattle.commands.specs.Exit.{status_of};
 ghost use Rattle.commands.specs.Script.{reply_text};
+ghost use Rattle.commands.specs.ScriptFile.{FitsCommand};
 ghost use Rattle.commands.specs.ScriptRun.{Delivers, DeliversOne, IsJobIn, RefusesTask, Works, told_line};
-ghost use Rattle.commands.specs.declared.exit.Status.TheVariants.{Error};
+ghost use Rattle.commands.specs.ScriptTells.{IsFrame, Prints, PrintsAll, Replies, ScriptTells, Writes};
+ghost use Rattle.commands.specs.declared.exit.Status.TheVariants.{Done, Error};
 
 use crate::exit::{CommandError, Status};
 use crate::files::read_file;
@@ -22,9 +28,9 @@ use sequencer::Book;
 use std::alloc::Global;
 use std::hash::RandomState;
 use std::io::{self, BufWriter, Write};
-use trace_model::{MAX_EVENTS, Refusal, Reply};
+use trace_model::{Fault, MAX_EVENTS, Refusal, Reply, Request};
 
-/// The session of a script, and its book.
+/// The session of a script, and its book. Between commands every byte of the session is read.
 #[derive(Drop)]
 struct ScriptSession {
     alloc: Global,
@@ -32,11 +38,18 @@ struct ScriptSession {
     book: Book,
     text: Vec<u8>,
     ghost open: { reader.ended ≡ false },
+    ghost read: { reader.rest ≡ [] },
+    ghost faultless: { reader.told ≡ None },
 }
 
 impl ScriptSession {
     /// Runs one command and writes its output.
-    fn run<O: Write>(&mut self, command: &Command, out: &mut O) -> Result<(), CommandError> {
+    fn run<O: Write>(&mut self, command: &Command, out: &mut O) -> Result<(), CommandError>
+        requires { FitsCommand command.now }
+        ensures printed { OnOk result (Writes (O.contents out.old) (O.contents out.new)
+            (Prints self.old.book.state command.now self.new.book.state)) }
+        ensures failed { IfErr result (λ error. status_of error ≡ Error) }
+    {
         match command {
             Command::Offer(event) => self.request(&offer_frame(event), out),
             Command::Batch(batch) => {
@@ -58,7 +71,12 @@ impl ScriptSession {
     }
 
     /// Runs the commands in order.
-    fn run_all<O: Write>(&mut self, commands: &[Command], out: &mut O) -> Result<(), CommandError> {
+    fn run_all<O: Write>(&mut self, commands: &[Command], out: &mut O) -> Result<(), CommandError>
+        requires { All FitsCommand commands.now }
+        ensures printed { OnOk result (Writes (O.contents out.old) (O.contents out.new)
+            (PrintsAll self.old.book.state commands.now self.new.book.state)) }
+        ensures failed { IfErr result (λ error. status_of error ≡ Error) }
+    {
         for command in commands {
             self.run(command, out)?;
         }
@@ -66,20 +84,23 @@ impl ScriptSession {
     }
 
     /// Sends a request frame through the reader to the book, and writes the reply.
-    fn request<O: Write>(&mut self, frame: &[u8], out: &mut O) -> Result<(), CommandError> {
-        self.reader.feed(frame)?;
-        while let Ok(Some(request)) = self.reader.next() {
-            let reply = self.book.call(&request);
-            let written = self.write(&reply, out);
-            drop(reply);
-            written?;
-        }
-        Ok(())
+    fn request<O: Write>(&mut self, bytes: &[u8], out: &mut O) -> Result<(), CommandError>
+        requires { IsFrame bytes.now }
+        ensures printed { OnOk result ((request : Request) → IsRequest request
+            → bytes.now ≡ frame request → Writes (O.contents out.old) (O.contents out.new)
+            (Replies self.old.book.state request self.new.book.state)) }
+        ensures failed { IfErr result (λ error. status_of error ≡ Error) }
+    {
+        self.reader.feed(bytes)?;
+        let request = request_in(self.reader.next());
+        let reply = self.book.call(&request);
+        let written = self.write(&reply, out);
+        drop(reply);
+        written
     }
 
     /// Writes the lines of a reply.
     fn write<O: Write>(&mut self, reply: &Reply, out: &mut O) -> Result<(), CommandError>
-        ensures reader { self.new.reader ≡ self.old.reader }
         ensures book { self.new.book ≡ self.old.book }
         ensures written { OnOk result
             (Appends (O.contents out.old) (O.contents out.new) (reply_text reply.now)) }
@@ -193,17 +214,31 @@ impl ScriptSession {
     }
 }
 
-/// Parses the whole script, and then runs it.
+/// Returns the request that was read from a whole frame.
+fn request_in(read: Result<Option<Request>, Fault>) -> Request
+    requires { (request : Request) × (read ≡ Ok (Some request)) }
+    ensures { read ≡ Ok (Some result) }
+{
+    match read {
+        Ok(Some(request)) => request,
+        _ => unreachable!(),
+    }
+}
+
+/// Runs the commands over an empty book, and flushes the output.
 fn run_commands<O: Write>(
     alloc: Global,
     state: RandomState,
-    file: &[u8],
+    commands: &[Command],
     limit: u32,
     out: &mut O,
 ) -> Result<(), CommandError>
-    requires { IsLimit limit }
+    requires limit { IsLimit limit }
+    requires fit { All FitsCommand commands.now }
+    ensures printed { OnOk result ((last : State) × Writes (O.contents out.old) (O.contents out.new)
+        (PrintsAll (opening limit) commands.now last)) }
+    ensures failed { IfErr result (λ error. status_of error ≡ Error) }
 {
-    let commands = read_script(alloc, file)?;
     let Ok(book) = Book::new(alloc, state, limit) else {
         unreachable!()
     };
@@ -213,9 +248,30 @@ fn run_commands<O: Write>(
         book,
         text: Vec::new(alloc),
     };
-    let ran = session.run_all(&commands, out);
+    let ran = session.run_all(commands, out);
     drop(session);
-    ran
+    let flushed = out.flush();
+    ran?;
+    flushed?;
+    Ok(())
+}
+
+/// Parses the whole script, and then runs it.
+fn run_file<O: Write>(
+    alloc: Global,
+    state: RandomState,
+    file: &[u8],
+    limit: u32,
+    out: &mut O,
+) -> Result<(), CommandError>
+    requires { IsLimit limit }
+    ensures done { OnOk result
+        (ScriptTells file.now limit Done (O.contents out.old) (O.contents out.new)) }
+    ensures failed { IfErr result (λ error.
+        ScriptTells file.now limit (status_of error) (O.contents out.old) (O.contents out.new)) }
+{
+    let commands = read_script(alloc, file)?;
+    run_commands(alloc, state, &commands, limit, out)
 }
 
 /// Runs the script in `file` over a book that accepts at most `limit` events (1 to `MAX_EVENTS`).
@@ -231,10 +287,9 @@ pub fn run_script<O: Write, E: Write>(
     err: &mut E,
 ) -> Status
     requires { IsLimit limit }
+    ensures { ScriptTells file.now limit result (O.contents out.old) (O.contents out.new) }
 {
-    let ran = run_commands(alloc, state, file, limit, out);
-    let written = out.flush().map_err(|_| CommandError::Output);
-    match ran.and(written) {
+    match run_file(alloc, state, file, limit, out) {
         Ok(()) => Status::Done,
         Err(error) => error.report(name, err),
     }
