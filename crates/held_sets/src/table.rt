@@ -84,11 +84,12 @@ impl HeldTable {
     ///
     /// # Errors
     ///
-    /// `NoMemory` if an allocation fails.
+    /// `NoMemory` if the thread has no entry and an allocation fails.
     #[inline(always)]
     pub fn reserve(&mut self, thread: u32) -> Result<(), NoMemory>
         ensures shown { (t : ℕ) → holding_in self.new t ≡ holding_in self.old t }
         ensures ok { OnOk result (HasEntry self.new thread) }
+        ensures wanting { OnErr result (¬ HasEntry self.old thread) }
     {
         if !self.threads.find(thread) {
             self.threads.reserve(thread, Holding::new())?;
