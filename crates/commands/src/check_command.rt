@@ -4,27 +4,20 @@ ghost use Rattle.trace_model.specs.Theory.Lawful.{IsWellFormed};
 ghost use Rattle.commands.specs.Check.{AreChecked, IsVerdictFor, checked_line, is_valid, refutation_words, row_words, sentence, step_words};
 
 use crate::admission::{Admission, admit_file};
-use crate::exit::{CommandError, Status};
+use crate::exit::{CommandError, Status, reported};
 use crate::explained_rows::{RowFault, row_fault};
-use crate::files::read_file;
+use crate::files::{NamedFile, read_file};
 use crate::offline_command::write_refused;
 use crate::text::{push_last, push_number};
 use dependencies::DepTable;
 use event_files::{Evidence, Explained, ExplainedMember, push_entry, read_explained};
 use lock_tables::{LockParts, LockTables};
 use offline_report::OfflineRefused;
-use replay::{RefutationVerdict, StepFault, Verdict, check, check_refutation};
+use replay::{RefutationChecker, RefutationVerdict, StepFault, Verdict, check};
 use std::alloc::Global;
 use std::hash::RandomState;
 use std::io::{self, BufWriter, Write};
 use trace_model::{Cycle, Derived, Event, Instance, NoMemory};
-
-/// The name and the contents of a file.
-#[derive(Clone, Copy)]
-pub struct NamedFile<'a> {
-    pub name: &'a str,
-    pub bytes: &'a [u8],
-}
 
 /// The result of the check of a cycle.
 #[derive(Drop)]
@@ -179,23 +172,21 @@ fn instance_of(alloc: Global, members: &[ExplainedMember]) -> Result<Option<Inst
 fn evidence_verdict(
     alloc: Global,
     state: RandomState,
-    events: &[Event],
+    checker: &RefutationChecker<'_>,
     explained: &Explained,
 ) -> Result<Option<CycleVerdict>, NoMemory>
-    requires { IsWellFormed events.now }
-    ensures { IfOk result (λ v. IfSome v (IsVerdictFor events.now explained.now)) }
+    ensures { IfOk result (λ v. IfSome v (IsVerdictFor checker.now explained.now)) }
 {
     match &explained.evidence {
         Evidence::Refutation(refutation) => {
-            let cycle = &explained.cycle;
-            let verdict = check_refutation(alloc, state, events, cycle, refutation)?;
+            let verdict = checker.check(&explained.cycle, refutation)?;
             Ok(Some(CycleVerdict::Refutation(verdict)))
         }
         Evidence::Witness(order) => {
             let Some(instance) = instance_of(alloc, &explained.members)? else {
                 return Ok(None);
             };
-            let verdict = check(alloc, state, events, order, &instance)?;
+            let verdict = check(alloc, state, checker.trace(), order, &instance)?;
             Ok(Some(CycleVerdict::Witness(verdict)))
         }
     }
@@ -205,17 +196,16 @@ fn evidence_verdict(
 fn verdict_of(
     alloc: Global,
     state: RandomState,
-    events: &[Event],
+    checker: &RefutationChecker<'_>,
     table: &DepTable,
     explained: &Explained,
 ) -> Result<CycleVerdict, NoMemory>
-    requires { IsWellFormed events.now }
-    ensures { IfOk result (IsVerdictFor events.now explained.now) }
+    ensures { IfOk result (IsVerdictFor checker.now explained.now) }
 {
     if let Some(fault) = row_fault(table, explained) {
         return Ok(CycleVerdict::Row(fault));
     }
-    match evidence_verdict(alloc, state, events, explained)? {
+    match evidence_verdict(alloc, state, checker, explained)? {
         Some(verdict) => Ok(verdict),
         None => Ok(CycleVerdict::Row(RowFault::NoCycle)),
     }
@@ -249,10 +239,11 @@ fn write_verdicts<O: Write>(
         (O.contents out.old) (O.contents out.new)) }
 {
     let table = dependencies_of(alloc, state, events)?;
+    let checker = RefutationChecker::new(alloc, state, events)?;
     let mut status = Status::Done;
     let mut text = Vec::new(alloc);
     for cycle in explained {
-        let verdict = verdict_of(alloc, state, events, &table, cycle)?;
+        let verdict = verdict_of(alloc, state, &checker, &table, cycle)?;
         if !is_valid(&verdict) {
             status = Status::Refused;
         }
@@ -276,14 +267,6 @@ fn check_cycles<O: Write>(
 {
     let explained = read_explained(alloc, file)?;
     write_verdicts(alloc, state, events, &explained, out)
-}
-
-/// Returns the status of a check, after an error message about the file `name` if it failed.
-fn reported<E: Write>(ended: Result<Status, CommandError>, name: &str, err: &mut E) -> Status {
-    match ended {
-        Ok(status) => status,
-        Err(error) => error.report(name, err),
-    }
 }
 
 /// Checks the cycles in `file`, as `explain` prints them, against the trace. Writes one line for

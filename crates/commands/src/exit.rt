@@ -108,6 +108,20 @@ impl CommandError {
     }
 }
 
+/// Returns the status of a command, after an error message about the file `name` if it failed.
+pub(crate) fn reported<E: Write>(
+    ended: Result<Status, CommandError>,
+    name: &str,
+    err: &mut E,
+) -> Status
+    ensures { MatchResult ended (λ status. result ≡ status) (λ error. result ≡ status_of error) }
+{
+    match ended {
+        Ok(status) => status,
+        Err(error) => error.report(name, err),
+    }
+}
+
 /// Writes the whole text to `out` and flushes it.
 ///
 /// # Errors

@@ -1,6 +1,13 @@
 //! The words of the command line, and files by name.
 use std::{env, fs, io};
 
+/// The name and the contents of a file.
+#[derive(Clone, Copy)]
+pub struct NamedFile<'a> {
+    pub name: &'a str,
+    pub bytes: &'a [u8],
+}
+
 /// Returns the words of the command line. The first one names the program.
 ///
 /// # Errors

@@ -1,5 +1,5 @@
 //! The command `replay`: the check of a witness against a trace.
-ghost use Rattle.std.specs.Prelude.{◌≡◌, ◌++◌, IfErr, IfOk, MatchResult, OnOk};
+ghost use Rattle.std.specs.Prelude.{◌≡◌, ◌++◌, IfErr, IfOk, OnOk};
 ghost use Rattle.std.specs.Io.KnownBytes.{Appends};
 ghost use Rattle.trace_model.specs.Theory.Lawful.{IsWellFormed};
 ghost use Rattle.replay.specs.declared.verdict.Verdict.{Verdict};
@@ -7,8 +7,8 @@ ghost use Rattle.commands.specs.Exit.{status_of};
 ghost use Rattle.commands.specs.Replay.{IsVerdictOn, ReplayTells, WitnessFails, verdict_line, verdict_status};
 
 use crate::admission::{Admission, admit_file};
-use crate::exit::{CommandError, Status, write_text};
-use crate::files::read_file;
+use crate::exit::{CommandError, Status, reported, write_text};
+use crate::files::{NamedFile, read_file};
 use crate::offline_command::write_refused;
 use crate::text::push_last;
 use event_files::read_witness;
@@ -18,20 +18,6 @@ use std::alloc::Global;
 use std::hash::RandomState;
 use std::io::{self, Write};
 use trace_model::{Event, NoMemory};
-
-/// The contents of the two files of a replay.
-#[derive(Clone, Copy)]
-pub struct Files<'a> {
-    pub trace: &'a [u8],
-    pub witness: &'a [u8],
-}
-
-/// The names of the two files, for error messages.
-#[derive(Clone, Copy)]
-pub struct Names<'a> {
-    pub trace: &'a str,
-    pub witness: &'a str,
-}
 
 /// Appends the line of a verdict.
 fn push_verdict(text: &mut Vec<u8>, verdict: &Verdict) -> Result<(), NoMemory>
@@ -83,41 +69,31 @@ fn write_verdict<O: Write>(
     Ok(status_of(&verdict))
 }
 
-/// Returns the status of a check, after an error message about the file `name` if it failed.
-fn reported<E: Write>(ended: Result<Status, CommandError>, name: &str, err: &mut E) -> Status
-    ensures { MatchResult ended (λ status. result ≡ status) (λ error. result ≡ status_of error) }
-{
-    match ended {
-        Ok(status) => status,
-        Err(error) => error.report(name, err),
-    }
-}
-
 /// Checks the witness against the trace. Writes one line to `out`: `reaches`; or the first test
 /// that fails, with its place; or the first event of the trace that is not lawful, with its index.
 /// An error message goes to `err`, with the name of the file at fault.
 pub fn run_replay<O: Write, E: Write>(
     alloc: Global,
     state: RandomState,
-    names: Names<'_>,
-    files: Files<'_>,
+    trace: NamedFile<'_>,
+    witness: NamedFile<'_>,
     out: &mut O,
     err: &mut E,
 ) -> Status
-    ensures { ReplayTells files.entry.trace.now files.entry.witness.now result
+    ensures { ReplayTells trace.entry.bytes.now witness.entry.bytes.now result
         (O.contents out.old) (O.contents out.new) }
 {
-    match admit_file(alloc, state, files.trace) {
+    match admit_file(alloc, state, trace.bytes) {
         Ok(Admission::Admitted(events)) => {
-            let ended = write_verdict(alloc, state, &events, files.witness, out);
+            let ended = write_verdict(alloc, state, &events, witness.bytes, out);
             drop(events);
-            reported(ended, names.witness, err)
+            reported(ended, witness.name, err)
         }
         Ok(Admission::Refused(first)) => {
             let ended = write_refused(alloc, OfflineRefused::Unlawful(first), out);
-            reported(ended, names.trace, err)
+            reported(ended, trace.name, err)
         }
-        Err(error) => error.report(names.trace, err),
+        Err(error) => error.report(trace.name, err),
     }
 }
 
@@ -134,13 +110,16 @@ pub fn replay_files(rt: &HostRuntime, trace: &str, witness: &str) -> io::Result<
     let Some(order) = read_file(rt, witness)? else {
         return Ok(Status::Error);
     };
-    let names = Names { trace, witness };
-    let files = Files {
-        trace: &events,
-        witness: &order,
+    let trace = NamedFile {
+        name: trace,
+        bytes: &events,
+    };
+    let witness = NamedFile {
+        name: witness,
+        bytes: &order,
     };
     let state = RandomState::new(rt)?;
     let mut out = rt.stdout();
     let mut err = rt.stderr();
-    Ok(run_replay(rt.alloc(), state, names, files, &mut out, &mut err))
+    Ok(run_replay(rt.alloc(), state, trace, witness, &mut out, &mut err))
 }

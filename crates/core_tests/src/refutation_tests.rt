@@ -7,7 +7,7 @@ use crate::traces::{Case, SetupFailed, are_known, case_of, gate_of};
 use cycle_search::Cycle;
 use explain::refutation_of;
 use fixtures::OPPOSITE_ORDERS;
-use replay::{RefutationVerdict, check_refutation};
+use replay::{RefutationChecker, RefutationVerdict};
 use std::hash::RandomState;
 use trace_model::{Derived, Place, Reason, Refutation};
 use wellformed::Gate;
@@ -94,13 +94,10 @@ fn verdict_on(
     numbers: &[u32],
     refutation: &Refutation,
 ) -> Option<RefutationVerdict> {
-    let Some(cycle) = Cycle::new(numbers) else {
-        return None;
-    };
-    let Ok(state) = RandomState::new(rt) else {
-        return None;
-    };
-    match check_refutation(rt.alloc(), state, gate.events(), &cycle, refutation) {
+    let cycle = Cycle::new(numbers)?;
+    let state = RandomState::new(rt).ok()?;
+    let checker = RefutationChecker::new(rt.alloc(), state, gate.events()).ok()?;
+    match checker.check(&cycle, refutation) {
         Ok(verdict) => Some(verdict),
         Err(_) => None,
     }

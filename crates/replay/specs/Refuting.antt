@@ -4,12 +4,23 @@ use Rattle.std.specs.List.{Contains}
 use Rattle.trace_model.specs.declared.refutations.Derived.{Derived}
 use Rattle.trace_model.specs.declared.refutations.Step.{Step}
 use Rattle.trace_model.specs.Theory.Trace.{Trace}
+use Rattle.trace_model.specs.Theory.Lawful.{IsWellFormed}
 use Rattle.trace_model.specs.Theory.Dependencies.{dependencies}
 use Rattle.trace_model.specs.Theory.Refutation.{Justifies, derived_places, IsDerivation, AreFirstPlaces, Derives, IsNextPlace}
+use Rattle.replay.specs.declared.facts.Facts.{Facts}
+use Rattle.replay.specs.Facts.{AreFacts}
+use Rattle.replay.specs.Numbers.{AreNumbers}
 use Rattle.replay.specs.declared.refutation_verdict.StepFault.{StepFault}
 use Rattle.replay.specs.declared.refutation_verdict.StepFault.TheVariants.{NoSuchMember, Unjustified, NotDerived}
 use Rattle.replay.specs.declared.refutation_verdict.RefutationVerdict.{RefutationVerdict}
 use Rattle.replay.specs.declared.refutation_verdict.RefutationVerdict.TheVariants.{Valid, UnknownNumber, WrongStep, AfterEnd, PlaceLeft}
+
+-- The trace is well-formed, and the tables are its facts and its numbers of dependencies.
+pub record AreTablesOf (s : Trace) (facts : Facts) (numbers : List (Option ℕ)) : Type 0 where
+  pub lawful : IsWellFormed s
+  pub facts_are : AreFacts s facts
+  pub numbers_are : AreNumbers s numbers
+  pub sized : length numbers ≡ length s
 
 -- The entry is the first of the derivation whose reason does not hold.
 abbrev pub IsUnjustified : Trace → List ℕ → List Derived → Derived → Type 0

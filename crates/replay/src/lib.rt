@@ -5,10 +5,10 @@
 //! the first test that fails, with its place. The reader of a witness needs to trust only this
 //! crate. Start reading at `order_rules.rt`, which has the tests.
 //!
-//! [`check_refutation`] reads a trace, a cycle and the steps of a refutation. It returns `Valid`
-//! exactly if the steps are a refutation of the cycle, else the first step that is wrong, with the
-//! reason. It takes the numbers of dependencies from the crate `dependencies`. Start reading at
-//! `reasons.rt`, which has the tests.
+//! [`RefutationChecker`] reads a trace once, and then cycles with the steps of a refutation. It
+//! returns `Valid` exactly if the steps are a refutation of the cycle, else the first step that is
+//! wrong, with the reason. It takes the numbers of dependencies from the crate `dependencies`. Start
+//! reading at `reasons.rt`, which has the tests.
 #![tactic(auto)]
 
 mod checking;
@@ -26,5 +26,5 @@ mod walked;
 
 pub use checking::check;
 pub use refutation_verdict::{RefutationVerdict, StepFault};
-pub use refuting::check_refutation;
+pub use refuting::RefutationChecker;
 pub use verdict::{Fault, Verdict};

@@ -16,48 +16,96 @@ use crate::reasons::{first_unjustified, is_marked};
 use crate::refutation_verdict::{RefutationVerdict, StepFault};
 use std::alloc::Global;
 use std::collections::hash_map::RandomState;
+use std::marker::Model;
 use trace_model::{Cycle, Derived, Event, NoMemory, Place, Refutation, Step};
 
-/// Follows the steps of a refutation from the first places of the cycle's members on. Returns the
-/// first step that is wrong, with the reason, or `Valid`.
-///
-/// `Valid` is returned exactly if the steps are a refutation of the cycle. Then no sync-preserving
-/// reordering of the trace reaches an instance of the cycle. The cycle and the refutation may
-/// contain any numbers. Takes a few passes over the trace and one over the refutation.
-///
-/// # Errors
-/// `NoMemory` if an allocation fails.
-///
-/// The caller passes a well-formed trace.
-pub fn check_refutation(
+/// A trace, with the tables by which refutations are checked against it. Contracts see it as the trace.
+#[derive(Drop)]
+pub struct RefutationChecker<'a> {
     alloc: Global,
-    state: RandomState,
-    trace: &[Event],
-    cycle: &Cycle,
-    refutation: &Refutation,
-) -> Result<RefutationVerdict, NoMemory>
-    requires { IsWellFormed trace.now }
-    ensures verdict { IfOk result (λ v.
-        IsRefutationVerdict trace.now cycle.now refutation.now v) }
-    ensures exact { IfOk result (λ v.
-        (v ≡ RefutationVerdict.Valid) ↔ IsRefutation trace.now cycle.now refutation.now) }
-{
-    let numbers = numbers_of(alloc, state, trace)?;
-    let facts = facts_of(alloc, state, trace)?;
-    let mut marks = no_marks(alloc, trace.len())?;
-    let mut places = Vec::with_capacity(alloc, cycle.numbers().len())?;
-    if let Some(unknown) = first_places(&numbers, cycle.numbers(), &mut places) {
-        return Ok(RefutationVerdict::UnknownNumber(unknown));
+    trace: &'a [Event],
+    facts: Facts,
+    numbers: Vec<Option<u32>>,
+}
+
+impl<'a> Model for RefutationChecker<'a> {
+    ghost use Rattle.trace_model.specs.Theory.Trace.{Trace};
+    ghost use Rattle.replay.specs.Refuting.{AreTablesOf};
+
+    ghost Value = { Trace };
+
+    ghost view = { λ c. c.trace.now };
+
+    ghost invariant = { λ c. AreTablesOf c.trace.now c.facts c.numbers.items };
+}
+
+impl<'a> RefutationChecker<'a> {
+    /// Computes the tables, by a few passes over the trace.
+    ///
+    /// # Errors
+    /// `NoMemory` if an allocation fails.
+    ///
+    /// The caller passes a well-formed trace.
+    pub fn new(
+        alloc: Global,
+        state: RandomState,
+        trace: &'a [Event],
+    ) -> Result<RefutationChecker<'a>, NoMemory>
+        requires { IsWellFormed trace.now }
+        ensures { IfOk result (λ checker. checker ≡ trace.now) }
+    {
+        let numbers = numbers_of(alloc, state, trace)?;
+        let facts = facts_of(alloc, state, trace)?;
+        Ok(RefutationChecker {
+            alloc,
+            trace,
+            facts,
+            numbers,
+        })
     }
-    Ok(follow(
-        trace,
-        &facts,
-        &numbers,
-        cycle.numbers(),
-        refutation.steps(),
-        &mut places,
-        &mut marks,
-    ))
+
+    /// Returns the trace. Does not allocate.
+    pub fn trace(&self) -> &[Event]
+        ensures value { result.now ≡ self.now }
+        ensures well_formed { IsWellFormed self.now }
+    {
+        self.trace
+    }
+
+    /// Follows the steps of a refutation from the first places of the cycle's members on. Returns
+    /// the first step that is wrong, with the reason, or `Valid`.
+    ///
+    /// `Valid` is returned exactly if the steps are a refutation of the cycle. Then no
+    /// sync-preserving reordering of the trace reaches an instance of the cycle. The cycle and the
+    /// refutation may contain any numbers. Takes one pass over the refutation.
+    ///
+    /// # Errors
+    /// `NoMemory` if an allocation fails.
+    pub fn check(
+        &self,
+        cycle: &Cycle,
+        refutation: &Refutation,
+    ) -> Result<RefutationVerdict, NoMemory>
+        ensures verdict { IfOk result (λ v.
+            IsRefutationVerdict self.now cycle.now refutation.now v) }
+        ensures exact { IfOk result (λ v.
+            (v ≡ RefutationVerdict.Valid) ↔ IsRefutation self.now cycle.now refutation.now) }
+    {
+        let mut marks = no_marks(self.alloc, self.trace.len())?;
+        let mut places = Vec::with_capacity(self.alloc, cycle.numbers().len())?;
+        if let Some(unknown) = first_places(&self.numbers, cycle.numbers(), &mut places) {
+            return Ok(RefutationVerdict::UnknownNumber(unknown));
+        }
+        Ok(follow(
+            self.trace,
+            &self.facts,
+            &self.numbers,
+            cycle.numbers(),
+            refutation.steps(),
+            &mut places,
+            &mut marks,
+        ))
+    }
 }
 
 /// Returns the mark 0 for each of these many places. Steps have other marks.

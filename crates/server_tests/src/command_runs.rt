@@ -1,7 +1,7 @@
 //! Runs commands over bytes in memory.
 ghost use Rattle.sequencer.specs.Book.{IsLimit};
 
-use commands::{Files, Names, NoProgress, run_offline, run_replay, run_script};
+use commands::{NamedFile, NoProgress, run_offline, run_replay, run_script};
 use fixtures::LIMIT;
 use std::hash::RandomState;
 use std::process::Abort;
@@ -86,12 +86,15 @@ pub(crate) fn replay(
     let mut out = Vec::new(alloc);
     let mut err = Vec::new(alloc);
     let state = RandomState::new(rt)?;
-    let names = Names {
-        trace: "TRACE",
-        witness: "WITNESS",
+    let trace = NamedFile {
+        name: "TRACE",
+        bytes: trace,
     };
-    let files = Files { trace, witness };
-    let status = run_replay(alloc, state, names, files, &mut out, &mut err);
+    let witness = NamedFile {
+        name: "WITNESS",
+        bytes: witness,
+    };
+    let status = run_replay(alloc, state, trace, witness, &mut out, &mut err);
     Ok(Outcome {
         status: status.code(),
         out,

@@ -5,8 +5,8 @@ ghost use Rattle.sequencer.specs.Book.{IsLimit};
 use anyhow::{Context, Result, bail};
 use command_line::Invocation;
 use commands::{
-    Files, NamedFile, Names, NoProgress, Status, cycle_of, run_check, run_explain, run_offline,
-    run_replay, run_script,
+    NamedFile, NoProgress, Status, cycle_of, run_check, run_explain, run_offline, run_replay,
+    run_script,
 };
 use std::alloc::Global;
 use std::hash::RandomState;
@@ -67,16 +67,20 @@ impl Outcome {
         Ok(())
     }
 
-    fn replay(&mut self, rt: &HostRuntime, names: Names<'_>) -> io::Result<()> {
+    fn replay(&mut self, rt: &HostRuntime, trace: &str, witness: &str) -> io::Result<()> {
         let state = RandomState::new(rt)?;
-        let events = fs::read(rt, names.trace)?;
-        let order = fs::read(rt, names.witness)?;
-        let files = Files {
-            trace: &events,
-            witness: &order,
+        let events = fs::read(rt, trace)?;
+        let order = fs::read(rt, witness)?;
+        let trace = NamedFile {
+            name: trace,
+            bytes: &events,
+        };
+        let witness = NamedFile {
+            name: witness,
+            bytes: &order,
         };
         let (out, err) = (&mut self.out, &mut self.err);
-        self.status = run_replay(rt.alloc(), state, names, files, out, err);
+        self.status = run_replay(rt.alloc(), state, trace, witness, out, err);
         Ok(())
     }
 }
@@ -137,7 +141,7 @@ pub(crate) fn run<T: Threads + Sync>(
             };
             outcome.offline(rt, threads, file, bound)?;
         }
-        Invocation::Replay { trace, witness } => outcome.replay(rt, Names { trace, witness })?,
+        Invocation::Replay { trace, witness } => outcome.replay(rt, trace, witness)?,
         Invocation::Explain { file, bound, cycle } => {
             let Some(bound) = Bound::new(*bound as u8) else {
                 unreachable!()

@@ -1,6 +1,6 @@
 //! Passes the witnesses of a report to the replay checker.
 use anyhow::{Context, Result};
-use commands::{Files, Names, Status, run_replay};
+use commands::{NamedFile, Status, run_replay};
 use std::alloc::Global;
 use std::hash::RandomState;
 use std::str;
@@ -10,17 +10,17 @@ fn is_accepted(rt: &HostRuntime, trace: &[u8], reach: &str, order: &str) -> Resu
     let alloc = rt.alloc();
     let state = RandomState::new(rt)?;
     let witness = format!(in alloc; "reach{reach}\norder{order}\n")?;
-    let names = Names {
-        trace: "the trace",
-        witness: "a witness",
+    let trace = NamedFile {
+        name: "the trace",
+        bytes: trace,
     };
-    let files = Files {
-        trace,
-        witness: witness.as_bytes(),
+    let witness = NamedFile {
+        name: "a witness",
+        bytes: witness.as_bytes(),
     };
     let mut out = Vec::new(alloc);
     let mut err = Vec::new(alloc);
-    let status = run_replay(alloc, state, names, files, &mut out, &mut err);
+    let status = run_replay(alloc, state, trace, witness, &mut out, &mut err);
     Ok(status == Status::Done && out.as_slice() == b"reaches\n".as_slice())
 }
 

@@ -2,6 +2,7 @@ use Rattle.std.proofs.Common.{ℕ, List, [], ◌∷◌, ◌++◌, take, sym, ap,
 use Rattle.std.proofs.lemmas.List.{take_all, take_more}
 use Rattle.std.specs.Io.KnownBytes.{Appends}
 use Rattle.event_files.specs.declared.explained_file.Explained.{Explained}
+use Rattle.trace_model.specs.Theory.Trace.{Trace}
 use Rattle.commands.specs.Check.{AreVerdicts, IsVerdictFor, checked_line, checked_lines}
 use Rattle.commands.proofs.CheckedCycles.{appends_more, keeps_after, lines_push, now_refused, still_done, zip_push}
 use Rattle.commands.proofs.check_command.write_verdicts.Goals as goal
@@ -20,7 +21,8 @@ loop-cycle-preserved g c =
     let written = subst (Appends (g.O.Write.contents c.loop-cycle.out) (g.O.Write.contents c.write_all.new.self)) (c.deref.ensures.value ∙ line) c.in_ok-write_all.ensures.bytes in
     let lines = ap (λ (xs : List Explained). checked_lines xs (ys ++ y ∷ [])) more ∙ lines_push (IsVerdictFor s) (take i all) ys x y are in (
       ys ++ y ∷ [],
-      subst (λ (xs : List Explained). AreVerdicts s xs (ys ++ y ∷ [])) (sym more) (zip_push (IsVerdictFor s) (take i all) ys x y are c.in_ok-verdict.ensures),
+      subst (λ (xs : List Explained). AreVerdicts s xs (ys ++ y ∷ [])) (sym more) (zip_push (IsVerdictFor s) (take i all) ys x y are
+          (subst (λ (t : Trace). IsVerdictFor t x y) c.in_ok-checker.ensures c.in_ok-verdict.ensures)),
       elim c.if-not-is_valid.branch [
         | then-not-is_valid w ↦ rw w.status-is (now_refused ys y (sym c.is_valid.ensures ∙ w.if-not-is_valid.true))
         | else-not-is_valid w ↦ rw w.status-is (still_done ys y c.loop-cycle.status so (sym c.is_valid.ensures ∙ w.if-not-is_valid.false))
