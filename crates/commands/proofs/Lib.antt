@@ -4,6 +4,7 @@ pub mod OfflineEnds
 pub mod PotentialRows
 pub mod ReplayEnds
 pub mod ScriptLines
+pub mod WrongLines
 pub mod ScriptPrints
 pub mod ScriptTasks
 pub mod CheckedCycles

@@ -38,11 +38,25 @@ abbrev pub IsOffer : Command → Type 0
 IsOffer (Offer event) = Unit {0}
 IsOffer _ = ⊥
 
+-- the command holds events: an offer or a batch
+abbrev pub HoldsEvents : Command → Type 0
+HoldsEvents (Offer event) = Unit {0}
+HoldsEvents (Batch events) = Unit {0}
+HoldsEvents _ = ⊥
+
+-- if the words say a command, it holds events
+abbrev pub SaysOnlyEvents : List (List ℕ) → Type 0
+SaysOnlyEvents words = (command : Command) → Says words command → HoldsEvents command
+
 -- the words of a line say these commands: offers only, or one command
 pub record SaysLine (words : List (List ℕ)) (commands : List Command) : Type 0 where
   pub said : flat_map command_words commands ≡ words
   pub fit : All FitsCommand commands
   pub alone : (length commands ≡ 1) ⊎ All IsOffer commands
+
+-- the words of a line say no commands
+abbrev pub IsNotUnderstood : List (List ℕ) → Type 0
+IsNotUnderstood words = (commands : List Command) → SaysLine words commands → ⊥
 
 -- the commands, and then those that the words of a line say
 abbrev pub AddsLine : List Command → List (List ℕ) → List Command → Type 0
@@ -58,7 +72,7 @@ SaysLines (line ∷ lines) commands = (first rest : List Command) × SaysLine (l
 abbrev pub IsScriptOf : List Command → List ℕ → Type 0
 IsScriptOf commands file = SaysLines (pieces_at 10 file) commands
 
--- the line with this number, counted from 1, is one of the lines, and those before it say commands
+-- the line with this number, counted from 1, is the first of the lines that says no commands
 pub record IsFirstBadLine (lines : List (List ℕ)) (number : ℕ) : Type 0 where
   pub index : ℕ
   pub counts : number ≡ index + 1
@@ -66,6 +80,7 @@ pub record IsFirstBadLine (lines : List (List ℕ)) (number : ℕ) : Type 0 wher
   pub before : SaysLines (take index lines) commands
   pub line : List ℕ
   pub at : slice_get lines index ≡ Some line
+  pub wrong : IsNotUnderstood (line_words line)
 
 -- the error of parsing the lines of a script is right
 abbrev pub RefusesCommands : List (List ℕ) → CommandError → Type 0

@@ -1,7 +1,7 @@
 //! Parses script files.
-ghost use Rattle.std.specs.Prelude.{◌≡◌, ◌∷◌, ◌++◌, [], true, IfErr, IfOk, IfSome, Ok, OnOk, codes, decimal, map};
-ghost use Rattle.event_files.specs.EventFile.{line_words, pieces_at};
-ghost use Rattle.commands.specs.ScriptFile.{AddsLine, IsScriptOf, RefusesCommands, Says, SaysLines};
+ghost use Rattle.std.specs.Prelude.{◌≡◌, ◌∷◌, ◌++◌, [], true, false, IfErr, IfNone, IfOk, IfSome, Ok, OnOk, codes, decimal, map};
+ghost use Rattle.event_files.specs.EventFile.{HasBadWord, line_words, pieces_at};
+ghost use Rattle.commands.specs.ScriptFile.{AddsLine, IsNotUnderstood, IsScriptOf, RefusesCommands, Says, SaysLines, SaysOnlyEvents};
 ghost use Rattle.commands.specs.declared.script_command.reading.Command.TheVariants.{Offer};
 
 use crate::exit::CommandError;
@@ -31,7 +31,8 @@ pub enum Command {
 
 /// Parses a keyword and its number.
 fn command_about(keyword: &[u8], number: u32) -> Option<Command>
-    ensures { IfSome result (Says (keyword.now ∷ decimal number ∷ [])) }
+    ensures some { IfSome result (Says (keyword.now ∷ decimal number ∷ [])) }
+    ensures none { IfNone result (SaysOnlyEvents (keyword.now ∷ decimal number ∷ [])) }
 {
     match str::from_utf8(keyword).ok()? {
         "ask" => Some(Command::Ask(u8::try_from(number).ok()?)),
@@ -44,7 +45,8 @@ fn command_about(keyword: &[u8], number: u32) -> Option<Command>
 
 /// Parses a keyword and its two numbers.
 fn delivery(keyword: &[u8], question: &[u8], task: &[u8]) -> Option<Command>
-    ensures { IfSome result (Says (keyword.now ∷ question.now ∷ task.now ∷ [])) }
+    ensures some { IfSome result (Says (keyword.now ∷ question.now ∷ task.now ∷ [])) }
+    ensures none { IfNone result (SaysOnlyEvents (keyword.now ∷ question.now ∷ task.now ∷ [])) }
 {
     match str::from_utf8(keyword).ok()? {
         "deliver" => Some(Command::Deliver {
@@ -57,7 +59,8 @@ fn delivery(keyword: &[u8], question: &[u8], task: &[u8]) -> Option<Command>
 
 /// Parses a line that is neither an event line nor a batch.
 fn parse_command(words: &[&[u8]]) -> Option<Command>
-    ensures { IfSome result (Says (map (λ word. word.now) words.now)) }
+    ensures some { IfSome result (Says (map (λ word. word.now) words.now)) }
+    ensures none { IfNone result (SaysOnlyEvents (map (λ word. word.now) words.now)) }
 {
     match words {
         [keyword, about] => command_about(keyword, number(about)?),
@@ -69,8 +72,10 @@ fn parse_command(words: &[&[u8]]) -> Option<Command>
 /// Appends a batch of the events that the words name. Returns whether these are 1 to `MAX_BATCH`
 /// event words.
 fn push_batch(alloc: Global, commands: &mut Vec<Command>, words: &[&[u8]]) -> Result<bool, NoMemory>
-    ensures { result ≡ Ok true → AddsLine commands.old.items
+    ensures added { result ≡ Ok true → AddsLine commands.old.items
         (codes "batch" ∷ map (λ word. word.now) words.now) commands.new.items }
+    ensures wrong { result ≡ Ok false →
+        IsNotUnderstood (codes "batch" ∷ map (λ word. word.now) words.now) }
 {
     let mut events = Vec::new(alloc);
     if !push_events(&mut events, words)? {
@@ -99,8 +104,9 @@ fn push_events_line(
     commands: &mut Vec<Command>,
     words: &[&[u8]],
 ) -> Result<bool, NoMemory>
-    ensures { result ≡ Ok true →
+    ensures added { result ≡ Ok true →
         AddsLine commands.old.items (map (λ word. word.now) words.now) commands.new.items }
+    ensures bad { result ≡ Ok false → HasBadWord (map (λ word. word.now) words.now) }
 {
     let mut events = Vec::new(alloc);
     if !push_events(&mut events, words)? {
@@ -116,8 +122,9 @@ fn push_commands(
     commands: &mut Vec<Command>,
     words: &[&[u8]],
 ) -> Result<bool, NoMemory>
-    ensures { result ≡ Ok true →
+    ensures added { result ≡ Ok true →
         AddsLine commands.old.items (map (λ word. word.now) words.now) commands.new.items }
+    ensures wrong { result ≡ Ok false → IsNotUnderstood (map (λ word. word.now) words.now) }
 {
     if let Some((keyword, events)) = words.split_first() {
         if *keyword == b"batch".as_slice() {
@@ -133,7 +140,9 @@ fn push_commands(
 
 /// Appends the commands of a line of the file. Returns whether the line is understood.
 fn push_line(alloc: Global, commands: &mut Vec<Command>, line: &[u8]) -> Result<bool, NoMemory>
-    ensures { result ≡ Ok true → AddsLine commands.old.items (line_words line.now) commands.new.items }
+    ensures added { result ≡ Ok true →
+        AddsLine commands.old.items (line_words line.now) commands.new.items }
+    ensures wrong { result ≡ Ok false → IsNotUnderstood (line_words line.now) }
 {
     let words = words_of(alloc, line)?;
     push_commands(alloc, commands, &words)

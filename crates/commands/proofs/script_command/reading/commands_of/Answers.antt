@@ -20,6 +20,7 @@ returns-then-not-branch-clause-refused c =
       before = c.loop-line.invariant.said;
       line = (get_or lines i none).now;
       at = slice_get-map shown lines i ∙ ap (option_map shown) (slice_get-get_or lines i none c.loop-line-test.true);
+      wrong = c.push_line.ensures.wrong (c.in_ok-push_line.was ∙ ap Ok c.if-not-branch.true);
     }
 
 pub returns-clause-commands : goal.returns-clause-commands
@@ -36,7 +37,7 @@ loop-line-preserved c =
     let i = c.loop-line.line-index in
     let here = get_or-map shown lines i (record { ref_ptr = (0, 0); now = [] }) [] c.loop-line-test.true in
     let within = subst (λ n. i < n) (sym (length-map lines shown)) c.loop-line-test.true in
-    let pushed = c.push_line.ensures (c.in_ok-push_line.was ∙ ap Ok c.if-not-branch.false) in
+    let pushed = c.push_line.ensures.added (c.in_ok-push_line.was ∙ ap Ok c.if-not-branch.false) in
     let added = subst (λ line. AddsLine c.loop-line.commands.items (line_words line) c.push_line.new.commands.items) (sym here) pushed in
     record {
       said = one_line_more (map shown lines) i c.loop-line.commands.items c.push_line.new.commands.items within c.loop-line.invariant.said added;

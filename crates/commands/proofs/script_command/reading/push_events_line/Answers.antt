@@ -8,8 +8,8 @@ use Rattle.commands.specs.declared.script_command.reading.Command.TheVariants.{O
 use Rattle.commands.proofs.ScriptLines.{says_offers}
 use Rattle.commands.proofs.script_command.reading.push_events_line.Goals as goal
 
-pub returns : goal.returns
-returns c = λ _.
+pub returns-clause-added : goal.returns-clause-added
+returns-clause-added c = λ _.
     let shown : Bor (List ℕ) → List ℕ = λ word. word.now in
     let words = map shown c.args.words.now in
     let events = c.push_events.new.events.items in
