@@ -20,6 +20,7 @@ ghost use Rattle.desk.specs.Together.{EndsByAll};
 
 use crate::locked::{DeskRefused, Locked};
 use crate::own::{OwnFinding, OwnJob};
+use crate::shared::SharedAnalysis;
 use board::{BoardReader, BoardValue, HistoryId, Receipt, Shown};
 use findings::{Finding, Snapshot};
 use sequencer::{Answer, AnswerRefused, AskRefused, Batched, Delivered, NoSuchQuestion, Opened};
@@ -34,6 +35,7 @@ use trace_model::{Bound, Event, Place, Refusal};
 /// the machine's after all of them.
 pub struct Desk<N: HistoryId, R: Wait + Copy, T: BoardValue<N>> {
     locked: Mutex<Locked<N, R, T>>,
+    analysis: Mutex<SharedAnalysis>,
     rt: R,
     alloc: Global,
 }
@@ -42,6 +44,7 @@ impl<N: HistoryId, R: Wait + Copy, T: BoardValue<N>> Drop for Desk<N, R, T> {
     fn drop(self) {
         let Desk {
             locked: _,
+            analysis: _,
             rt: _,
             alloc: _,
         } = self;
@@ -75,6 +78,7 @@ impl<N: HistoryId, R: Wait + Copy> Desk<N, R, Shown<N>> {
         let (locked, all) = Locked::new(alloc, state, rt, history, max_events, readers)?;
         let desk = Desk {
             locked: Mutex::new(locked),
+            analysis: Mutex::new(SharedAnalysis::new()),
             rt,
             alloc,
         };
@@ -157,8 +161,9 @@ impl<N: HistoryId, R: Wait + Copy, T: BoardValue<N>> Desk<N, R, T> {
         self.locked.lock(&self.rt).deliver(finding)
     }
 
-    /// Returns a job that computes the tasks of a question with this bound. Its analysis is computed
-    /// without the lock.
+    /// Returns a job that computes the tasks of a question with this bound. All jobs of a question share
+    /// its analysis: the first call computes it while the others wait. Calls that only need the book do
+    /// not wait for it.
     ///
     /// # Errors
     ///
@@ -167,7 +172,17 @@ impl<N: HistoryId, R: Wait + Copy, T: BoardValue<N>> Desk<N, R, T> {
         ensures { IfOk result (λ job. (job.question ≡ question) × (job.bound ≡ bound)) }
     {
         let (snapshot, receipt) = self.snapshot(question);
-        OwnJob::new(self.alloc, snapshot?, question, bound, receipt)
+        let snapshot = snapshot?;
+        let mut shared = self.analysis.lock(&self.rt);
+        let Ok(analysis) = shared.of(self.alloc, question, snapshot, bound) else {
+            return Err(Refusal::NoMemory);
+        };
+        Ok(OwnJob::new(self.alloc, analysis, question, receipt))
+    }
+
+    /// Ends a job, and with it the shared analysis of its question.
+    pub(crate) fn end_job(&self, job: OwnJob<N>) {
+        self.analysis.lock(&self.rt).end(job.question());
     }
 
     /// Delivers like `deliver`, for a finding that was computed from a snapshot of this desk. Its

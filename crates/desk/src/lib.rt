@@ -8,6 +8,7 @@ mod client;
 mod desk;
 mod locked;
 mod own;
+mod shared;
 mod worker;
 
 pub use client::Client;

@@ -8,11 +8,11 @@ ghost use Rattle.desk.specs.Questions.{AreEventsOf};
 ghost use Rattle.desk.specs.Turns.{HasTooMany};
 
 use board::{HistoryId, Receipt};
-use findings::{Analysis, ComputeRefused, Finding, Job, Snapshot};
+use findings::{Analysis, ComputeRefused, Finding, Job};
 use std::alloc::Global;
 use std::marker::Model;
 use std::sync::Arc;
-use trace_model::{Bound, Refusal};
+use trace_model::Bound;
 
 /// A job for a question of the desk, with a receipt after which the question was open. Contracts see
 /// it as the job.
@@ -42,28 +42,28 @@ impl<N: HistoryId> Model for OwnJob<N> {
 }
 
 impl<N: HistoryId> OwnJob<N> {
-    /// Computes the analysis of a question, and returns a job for it. After the receipt's steps the
-    /// question must cover exactly the snapshot's events.
-    ///
-    /// # Errors
-    ///
-    /// `NoMemory` if an allocation fails.
+    /// Returns a job for a question. After the receipt's steps the question must cover exactly the
+    /// analysis's events.
     pub(crate) fn new(
         alloc: Global,
-        snapshot: Arc<Snapshot, Global>,
+        analysis: Arc<Analysis, Global>,
         question: u32,
-        bound: Bound,
         receipt: Receipt<N>,
-    ) -> Result<OwnJob<N>, Refusal>
+    ) -> OwnJob<N>
         requires known { Afterwards N.limit receipt
-            (λ state. AreEventsOf state question (arc_value snapshot)) }
-        ensures { IfOk result (λ job. (job.question ≡ question) × (job.bound ≡ bound)) }
+            (λ state. AreEventsOf state question (arc_value analysis).events) }
+        ensures question { result.question ≡ question }
+        ensures bound { result.bound ≡ (arc_value analysis).bound }
     {
-        let Ok(analysis) = Analysis::new(alloc, snapshot, bound) else {
-            return Err(Refusal::NoMemory);
-        };
         let job = Job::new(alloc, analysis, question);
-        Ok(OwnJob { job, receipt })
+        OwnJob { job, receipt }
+    }
+
+    /// Returns the number of the question.
+    pub(crate) fn question(&self) -> u32
+        ensures { result ≡ self.now.question }
+    {
+        self.job.question()
     }
 
     /// Returns whether this is a job of the question with this number and bound.

@@ -129,7 +129,7 @@ impl<N: HistoryId, R: Wait + Copy, T: BoardValue<N>> Worker<N, R, T> {
         match found {
             Some(unsettled) => self.work_on(unsettled, hold),
             None => {
-                drop(self.job.take());
+                end(&self.desk, &mut self.job);
                 Turn::Idle
             }
         }
@@ -228,13 +228,23 @@ fn keep_job<N: HistoryId, R: Wait + Copy, T: BoardValue<N>>(
     {
         return Ok(());
     }
-    drop(kept.take());
+    end(desk, kept);
     match desk.own_job(question, bound) {
         Ok(job) => {
             *kept = Some(job);
             Ok(())
         }
         Err(refusal) => Err(refused(refusal)),
+    }
+}
+
+/// Ends the kept job, if there is one.
+fn end<N: HistoryId, R: Wait + Copy, T: BoardValue<N>>(
+    desk: &Desk<N, R, T>,
+    kept: &mut Option<OwnJob<N>>,
+) {
+    if let Some(job) = kept.take() {
+        desk.end_job(job);
     }
 }
 
