@@ -12,11 +12,11 @@ use std::sync::Wait;
 use std::test::{Fail, *};
 
 /// The bytes that a session sends, and the replies that it gets.
-type Exchange = (Vec<u8>, Vec<u8>);
+pub(crate) type Exchange = (Vec<u8>, Vec<u8>);
 
 /// Serves a session at the desk and asserts its replies. The session uses the last of the readers,
 /// which is put back afterwards.
-fn serves_exchange<D: TestDesk, R: Wait + Abort>(
+pub(crate) fn serves_exchange<D: TestDesk, R: Wait + Abort>(
     rt: &R,
     alloc: Global,
     desk: &D,

@@ -7,7 +7,9 @@ use crate::client_session_tests::serves_sessions;
 use crate::concurrent_offer_tests::{Offers, accepts_concurrent_offers};
 use crate::delivery_tests::{Way, delivers_concurrently, delivers_in_turn};
 use crate::desk_tests::{places_or_refuses_each, reports_repetitions};
+use crate::event_limit_tests::accepts_threads_and_locks;
 use crate::published_step_tests::publishes_each_step;
+use crate::question_limit_tests::shows_all_questions;
 use crate::test_desk::{TestDesk, new_desk};
 use crate::worker_order_tests::three_workers_deliver;
 use crate::worker_tests::{reports_abandoned_tasks, two_workers_deliver};
@@ -36,6 +38,8 @@ pub(crate) enum Script {
     AbandonedTasks,
     ThreeWorkers,
     Sessions,
+    Questions,
+    HeldLocks,
 }
 
 impl Script {
@@ -46,6 +50,7 @@ impl Script {
             Script::Sessions => 3,
             Script::TwoWorkers => 4,
             Script::ThreeWorkers => 5,
+            Script::Questions => 40,
             _ => 1,
         }
     }
@@ -127,5 +132,7 @@ fn run<D: TestDesk, R: RandomSource + AllocGlobal + Threads + Wait + Abort + Cop
         Script::AbandonedTasks => reports_abandoned_tasks(&rt, alloc, desk, reader, others),
         Script::ThreeWorkers => three_workers_deliver(rt, alloc, desk, reader, others),
         Script::Sessions => serves_sessions(&rt, alloc, desk, others),
+        Script::Questions => shows_all_questions(&rt, alloc, desk, reader, others),
+        Script::HeldLocks => accepts_threads_and_locks(&rt, desk, reader),
     })
 }

@@ -31,6 +31,8 @@ mod desk_scripts;
 #[cfg(test)]
 mod desk_tests;
 #[cfg(test)]
+mod event_limit_tests;
+#[cfg(test)]
 mod file_error_tests;
 #[cfg(test)]
 mod long_traces;
@@ -47,6 +49,8 @@ mod public_surface;
 #[cfg(test)]
 mod published_step_tests;
 #[cfg(test)]
+mod question_limit_tests;
+#[cfg(test)]
 mod reply_sending_tests;
 #[cfg(test)]
 mod segment_edges;
@@ -56,6 +60,8 @@ mod session_fault_tests;
 mod session_tests;
 #[cfg(test)]
 mod socket_tests;
+#[cfg(test)]
+mod stream_tests;
 #[cfg(test)]
 mod test_desk;
 #[cfg(test)]

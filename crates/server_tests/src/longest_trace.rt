@@ -1,5 +1,5 @@
 //! Tests of a trace with the maximum number of events.
-use crate::command_runs::{offline, report_ends_with};
+use crate::command_runs::{offline, replay, replay_ends_with, report_ends_with, script_ends_with};
 use crate::long_traces::rounds;
 use fixtures::report_of;
 use std::alloc::{AllocError, Global};
@@ -13,11 +13,16 @@ fn longest(alloc: Global) -> Result<Vec<u8>, AllocError> {
     Ok(file)
 }
 
+/// A witness of the first sections of opposite orders.
+const WITNESS: &[u8] = b"reach 3 7\norder 0 1 2 6\n";
+
 #[test]
 fn trace_of_max_events(rt: HostRuntime) -> Result<(), Fail> {
     let file = longest(rt.alloc())?;
     let report = report_of(rt.alloc(), 1_048_576)?;
     assert!(rt; report_ends_with(&rt, &file, &report)?);
+    assert!(rt; script_ends_with(&rt, &file, b"\nplaced 1048575\n")?);
+    assert!(rt; replay_ends_with(&rt, &file, WITNESS, b"reaches\n")?);
     Ok(())
 }
 
@@ -28,5 +33,9 @@ fn one_event_too_many(rt: HostRuntime) -> Result<(), Fail> {
     let outcome = offline(&rt, &file)?;
     assert_eq!(rt; outcome.status, 1);
     assert!(rt; outcome.out.as_slice() == b"refused 1 Full at 1048576\n".as_slice());
+    let replayed = replay(&rt, &file, WITNESS)?;
+    assert_eq!(rt; replayed.status, 1);
+    assert!(rt; replayed.out == outcome.out);
+    assert!(rt; script_ends_with(&rt, &file, b"\nplaced 1048575\nrefused 1 Full\n")?);
     Ok(())
 }
