@@ -1,5 +1,5 @@
-//! The program `goodlockd`: reads the command line and runs its command. `serve` is implemented here;
-//! the other commands are in the crate `commands`.
+//! The program `goodlockd`: reads the command line and runs its command. `serve` is
+//! `question_server::run_server`; the other commands are in the crate `commands`.
 #![tactic(auto)]
 
 ghost use Rattle.command_line.specs.CommandLine.{IsInRange, IsLimit, IsWithin};

@@ -37,7 +37,7 @@ impl Rest {
         }
     }
 
-    /// Counts a turn that delivered something.
+    /// Starts to count again after a turn that delivered something.
     pub fn delivered(&mut self)
         ensures { self.new ≡ record { awake = AWAKE; sleeps = self.old.sleeps; failed = 0 } }
     {
