@@ -11,12 +11,42 @@ case "${1-}" in
 esac
 work="$(mktemp -d)"
 server=
-trap '[ -z "$server" ] || kill "$server" 2>/dev/null || true; rm -rf "$work"' EXIT
+has_failed=
+trap at_end EXIT
 cd "$work"
+
+# at_end: names the command that ended the test, unless `fail` has named the fault; ends the server and removes the folder.
+at_end() {
+    local status=$? command="$BASH_COMMAND"
+    [ "$status" = 0 ] || [ -n "$has_failed" ] || echo "$(basename "$0"): status $status of: $command" >&2
+    [ -z "$server" ] || kill "$server" 2>/dev/null || true
+    clean_up
+    rm -rf "$work"
+}
+
+# clean_up: a test may define it anew.
+clean_up() { :; }
 
 fail() {
     echo "$(basename "$0"): $1" >&2
+    has_failed=1
     exit 1
+}
+
+# has FILE LINE: checks that a file has a line, which a pattern of grep describes.
+has() {
+    grep -qx -- "$2" "$1" || fail "$1 lacks the line $2: $(cat "$1")"
+}
+
+# refuses STATUS MESSAGE COMMAND ..: checks that a command ends with this status and a line on standard error, which a pattern of grep
+# describes, and that it prints nothing else and leaves no file.
+refuses() {
+    local wanted="$1" message="$2" status=0 before
+    shift 2
+    before="$(touch out err && ls)"
+    "$@" >out 2>err || status=$?
+    [ "$status" = "$wanted" ] && [ ! -s out ] && grep -qx -- "$message" err || fail "$*: status $status, $(cat out err)"
+    [ "$before" = "$(ls)" ] || fail "$*: files are left: $(ls)"
 }
 
 # start_server COMMAND ..: starts a server by this command. Its address is then in $address, its output in the file server.
