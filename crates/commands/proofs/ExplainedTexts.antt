@@ -1,17 +1,27 @@
 -- The texts of rows, with more of them.
-use Rattle.std.proofs.Common.{◌≡◌, ℕ, zero, suc, ◌+◌, ◌<◌, List, [], ◌∷◌, ◌++◌, ◌∙◌, length, take, slice_get, arith, map, option_map, inl, inr, subst, length-append, Option, Some, None, MatchOption, true, refl, sym, ap, true≢false}
-use Rattle.std.specs.Prelude.{is_some}
+use Rattle.std.proofs.Common.{◌≡◌, ◌≢◌, Bool, false, nat_eq, IfOk, ℕ, zero, suc, ◌+◌, ◌<◌, ◌≤◌, get_or, List, [], ◌∷◌, ◌++◌, ◌∙◌, length, take, slice_get, arith, map, option_map, inl, inr, subst, length-append, Option, Some, None, MatchOption, true, refl, sym, ap, true≢false}
+use Rattle.std.specs.Prelude.{is_some, Result, Ok, Err}
 use Rattle.std.specs.Io.KnownBytes.{Appends}
-use Rattle.std.specs.List.{AllZip, flat_map}
+use Rattle.std.specs.List.{All, AllZip, Contains, flat_map}
+use Rattle.std.specs.Cmp.Lexicographic.{pointwise, bytes_decides}
 use Rattle.std.proofs.lemmas.List.{append-nil}
+use Rattle.std.proofs.lemmas.List.Elements.{All-contains, All-map, Contains-get_or}
 use Rattle.std.proofs.lemmas.Option.{none-some, same_Some, slice_get-map, slice_get_within, get_or_from_slice_get}
 use Rattle.std.proofs.lemmas.List.Concat.{flat_map-append, flat_map-cons}
 use Rattle.trace_model.specs.Theory.Trace.{Trace}
-use Rattle.trace_model.specs.Theory.Rows.{IsRow}
+use Rattle.trace_model.specs.Theory.Rows.{IsRow, Row}
+use Rattle.trace_model.specs.Theory.Dependencies.{dependencies}
+use Rattle.trace_model.specs.Theory.Cycles.{IsCycle}
 use Rattle.reports.specs.Printed.{Printed}
 use Rattle.snapshots.specs.Found.{AreRowsOf}
+use Rattle.findings.specs.declared.computing.ComputeRefused.{ComputeRefused}
+use Rattle.findings.specs.declared.computing.ComputeRefused.TheVariants.{TooManyCycles}
 use Rattle.cycle_search.proofs.Listing.{get-split}
-use Rattle.commands.specs.Explain.{AddsExplanations, Explains, ExplainsTasks, IsExplanation}
+use Rattle.commands.specs.declared.exit.CommandError.{CommandError}
+use Rattle.commands.specs.declared.exit.Status.{Status}
+use Rattle.commands.specs.declared.exit.Status.TheVariants.{Done, Refused, Error, NotUnderstood}
+use Rattle.commands.specs.Replay.{AreLawfulEventsOf}
+use Rattle.commands.specs.Explain.{AddsExplanations, Explains, ExplainsChosen, ExplainsTasks, ExplainTells, HasTooMany, IsExplanation, RefusesChosen, RefusesTasks, too_many_line}
 use Rattle.commands.proofs.CheckedCycles.{appends_more}
 
 -- The second fact holds for each value, and there is one.
@@ -93,3 +103,49 @@ row_at s bound task rows i row at are =
     let there = slice_get-map (λ (p : Printed). p.row) rows i ∙ ap (option_map (λ (p : Printed). p.row)) at in
     let within = slice_get_within (map (λ (p : Printed). p.row) rows) i row.row there in
     subst (IsRow s) (get_or_from_slice_get (map (λ (p : Printed). p.row) rows) i row.row row.row there) (are.exact.exact i row.row within)
+
+-- The numbers of a row are a cycle.
+pub cycle_at : (s : Trace) (bound task : ℕ) (rows : List Printed) (i : ℕ) (row : Printed) → slice_get rows i ≡ Some row → AreRowsOf s bound task rows → IsCycle (dependencies s) bound row.row.cycle
+cycle_at s bound task rows i row at are =
+    let plain : List Row = map (λ (p : Printed). p.row) rows in
+    let cycles : List (List ℕ) = map (λ (r : Row). r.cycle) plain in
+    let here = slice_get-map (λ (p : Printed). p.row) rows i ∙ ap (option_map (λ (p : Printed). p.row)) at in
+    let there = slice_get-map (λ (r : Row). r.cycle) plain i ∙ ap (option_map (λ (r : Row). r.cycle)) here in
+    let within = slice_get_within cycles i row.row.cycle there in
+    let listed = subst (λ c. Contains cycles c) (get_or_from_slice_get cycles i row.row.cycle row.row.cycle there) (Contains-get_or cycles i row.row.cycle within) in
+    ((are.exact.cycles.exact row.row.cycle).0 listed).0
+
+-- Lists that a test tells apart are different.
+pub told_apart : (xs ys : List ℕ) (b : Bool) → b ≡ pointwise nat_eq xs ys → b ≡ false → xs ≢ ys
+told_apart xs ys b told apart same = true≢false (sym ((bytes_decides xs ys).1 same) ∙ sym told ∙ apart)
+
+-- If no row of the task has these numbers, then they are no cycle.
+pub no_such_cycle : (s : Trace) (bound task : ℕ) (rows : List Printed) (numbers : List ℕ) → AreRowsOf s bound task rows → slice_get numbers 0 ≡ Some task →
+    All (λ row. row.row.cycle ≢ numbers) rows → IsCycle (dependencies s) bound numbers → ⊥
+no_such_cycle s bound task rows numbers are first none is =
+    let row : Printed → Row = λ p. p.row in
+    let cycle : Row → List ℕ = λ r. r.cycle in
+    let differs : List ℕ → Type 0 = λ c. c ≢ numbers in
+    let all = All-map differs cycle (map row rows) (All-map (λ r. differs (cycle r)) row rows none) in
+    All-contains differs (map cycle (map row rows)) numbers all ((are.exact.cycles.exact numbers).1 (is, first)) refl
+
+pub first_is : (xs : List ℕ) → 2 ≤ length xs → slice_get xs 0 ≡ Some (get_or xs 0 0)
+first_is [] l = absurd (omega (arith, l))
+first_is (x ∷ xs) l = refl
+
+-- A task with too many cycles is refused, and the earlier ones are explained.
+pub refused_tasks : (s : Trace) (bound task : ℕ) (before middle after : Option (List ℕ)) (refused : ComputeRefused) (r : Result Status CommandError) → ExplainsTasks s bound task before middle →
+    (refused ≡ TooManyCycles → HasTooMany s bound task) → IfOk r (λ _. refused ≡ TooManyCycles) →
+    IfOk r (λ status. (status ≡ Refused) × Appends middle after too_many_line) → IfOk r (λ status. status ≡ Refused → RefusesTasks s bound before after)
+refused_tasks s bound task before middle after refused (Ok status) explained many reason written = λ _. (task, middle, many reason, explained, written.1)
+refused_tasks s bound task before middle after refused (Err error) explained many reason written = tt
+
+-- What a status says of lawful events, it says of their file.
+pub ended_tells : (file : List ℕ) (bound : ℕ) (cycle before after : Option (List ℕ)) (events : Trace) → AreLawfulEventsOf events file → (r : Result Status CommandError) →
+    IfOk r (λ status. status ≡ Done → ExplainsChosen events bound cycle before after) → IfOk r (λ status. status ≡ Refused → RefusesChosen events bound cycle before after) →
+    IfOk r (λ status. status ≢ NotUnderstood) → IfOk r (λ status. ExplainTells file bound cycle status before after)
+ended_tells file bound cycle before after events lawful (Ok Done) done refused understood = (events, lawful, done refl)
+ended_tells file bound cycle before after events lawful (Ok Refused) done refused understood = (events, lawful.0, inr (lawful.1, refused refl))
+ended_tells file bound cycle before after events lawful (Ok Error) done refused understood = tt
+ended_tells file bound cycle before after events lawful (Ok NotUnderstood) done refused understood = absurd (understood refl)
+ended_tells file bound cycle before after events lawful (Err error) done refused understood = tt

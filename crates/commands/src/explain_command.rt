@@ -1,16 +1,20 @@
 //! The command `explain`: the cycles of a file of events, each with its evidence.
-ghost use Rattle.std.specs.Prelude.{◌≡◌, ◌≢◌, ◌<◌, ◌≤◌, [], length, map, slice_get, Some, IfErr, IfOk, OnOk};
+ghost use Rattle.std.specs.Prelude.{◌≡◌, ◌≢◌, ◌<◌, ◌≤◌, [], length, map, slice_get, Some, None, IfErr, IfOk, IfSome, OnOk};
+ghost use Rattle.std.specs.Io.KnownBytes.{Appends};
+ghost use Rattle.std.specs.List.{All};
+ghost use Rattle.std.specs.Option.{ForSome};
 ghost use Rattle.std.specs.Arc.{arc_value};
 ghost use Rattle.trace_model.specs.Theory.Lawful.{IsWellFormed};
 ghost use Rattle.trace_model.specs.Theory.Dependencies.{dependencies};
 ghost use Rattle.reports.specs.Printed.{Printed};
 ghost use Rattle.snapshots.specs.Found.{AreRowsOf};
-ghost use Rattle.commands.specs.declared.exit.Status.TheVariants.{Done, NotUnderstood};
-ghost use Rattle.commands.specs.Explain.{AddsExplanations, AddsRefutation, ExplainTells, ExplainsChosen, ExplainsCycle, ExplainsTasks, IsExplanation, IsPotential};
+ghost use Rattle.findings.specs.declared.computing.ComputeRefused.TheVariants.{TooManyCycles};
+ghost use Rattle.commands.specs.declared.exit.Status.TheVariants.{Done, Refused, Error, NotUnderstood};
+ghost use Rattle.commands.specs.Explain.{AddsExplanations, AddsRefutation, ExplainTells, ExplainsChosen, ExplainsCycle, ExplainsTasks, IsExplanation, IsPotential, RefusesChosen, RefusesCycle, RefusesTasks, no_cycle_line, too_many_line};
 ghost use Rattle.commands.specs.Exit.{status_of};
 
 use crate::admission::{Admission, admit_file};
-use crate::exit::{CommandError, Status};
+use crate::exit::{CommandError, Status, write_text};
 use crate::files::read_file;
 use crate::offline_command::write_refused;
 use crate::text::{push_last, push_number};
@@ -30,38 +34,6 @@ use trace_model::{Bound, Cycle, Event, MAX_MEMBERS, NoMemory};
 
 /// The number of the question that is asked about a file.
 const QUESTION: u32 = 0;
-
-/// Why the cycles are not explained to the end.
-#[derive(Drop)]
-enum Ended {
-    /// A task has too many cycles.
-    TooManyCycles,
-    /// An allocation failed.
-    Memory,
-    /// A write to standard output failed.
-    Output,
-}
-
-impl From<NoMemory> for Ended {
-    fn from(_error: NoMemory) -> Ended {
-        Ended::Memory
-    }
-}
-
-impl From<io::Error> for Ended {
-    fn from(_error: io::Error) -> Ended {
-        Ended::Output
-    }
-}
-
-impl From<ComputeRefused> for Ended {
-    fn from(refused: ComputeRefused) -> Ended {
-        match refused {
-            ComputeRefused::TooManyCycles => Ended::TooManyCycles,
-            ComputeRefused::NoMemory => Ended::Memory,
-        }
-    }
-}
 
 /// Returns the threads of the members of a cycle.
 fn threads_of(alloc: Global, dependencies: &[Dependency]) -> Result<Vec<u32>, NoMemory>
@@ -130,13 +102,14 @@ fn write_rows<O: Write>(
     finding: &Finding,
     buffer: &mut TextBuffer,
     out: &mut O,
-) -> Result<(), Ended>
+) -> Result<(), CommandError>
     requires { buffer.old ≡ [] }
     ensures written { OnOk result (AddsExplanations finding.now.events finding.now.rows
         (O.contents out.old) (O.contents out.new)) }
     ensures exact { OnOk result (AreRowsOf finding.now.events finding.now.bound
         finding.now.task finding.now.rows) }
     ensures empty { OnOk result (buffer.new ≡ []) }
+    ensures failed { IfErr result (λ error. status_of error ≡ Error) }
 {
     for index in 0..finding.rows().len() {
         let text = text_of(alloc, state, finding, index, buffer)?;
@@ -145,23 +118,48 @@ fn write_rows<O: Write>(
     Ok(())
 }
 
-/// Writes the texts of all cycles of the analysis.
+/// Writes the line that says why a task has no rows. `NoMemory` has no line.
+fn write_uncomputed<O: Write>(
+    alloc: Global,
+    refused: ComputeRefused,
+    out: &mut O,
+) -> Result<Status, CommandError>
+    ensures reason { IfOk result (λ _. refused ≡ TooManyCycles) }
+    ensures written { IfOk result (λ status. (status ≡ Refused)
+        × Appends (O.contents out.old) (O.contents out.new) too_many_line) }
+    ensures failed { IfErr result (λ error. status_of error ≡ Error) }
+{
+    match refused {
+        ComputeRefused::TooManyCycles => write_refused(alloc, OfflineRefused::TooManyCycles, out),
+        ComputeRefused::NoMemory => Err(CommandError::Memory),
+    }
+}
+
+/// Writes the texts of all cycles of the analysis, up to a task with too many.
 fn write_all<O: Write>(
     alloc: Global,
     state: RandomState,
     analysis: Arc<Analysis, Global>,
     out: &mut O,
-) -> Result<Status, Ended>
-    ensures done { IfOk result (λ status. status ≡ Done) }
-    ensures written { IfOk result (λ _. ExplainsTasks (arc_value analysis).events
-        (arc_value analysis).bound (length (dependencies (arc_value analysis).events))
+) -> Result<Status, CommandError>
+    ensures done { IfOk result (λ status. status ≡ Done →
+        ExplainsTasks (arc_value analysis).events (arc_value analysis).bound
+        (length (dependencies (arc_value analysis).events))
         (O.contents out.old) (O.contents out.new)) }
+    ensures refused { IfOk result (λ status. status ≡ Refused →
+        RefusesTasks (arc_value analysis).events (arc_value analysis).bound
+        (O.contents out.old) (O.contents out.new)) }
+    ensures understood { IfOk result (λ status. status ≢ NotUnderstood) }
+    ensures failed { IfErr result (λ error. status_of error ≡ Error) }
 {
     let tasks = analysis.snapshot().tasks();
     let mut job = Job::new(alloc, analysis, QUESTION);
     let mut buffer = TextBuffer::new(alloc);
     for task in 0..tasks {
-        let finding = job.compute(task)?;
+        let finding = match job.compute(task) {
+            Ok(finding) => finding,
+            Err(refused) => return write_uncomputed(alloc, refused, out),
+        };
         write_rows(alloc, state, &finding, &mut buffer, out)?;
     }
     out.flush()?;
@@ -169,7 +167,9 @@ fn write_all<O: Write>(
 }
 
 /// Returns the line that says that the trace has no such cycle.
-fn no_cycle_line(alloc: Global, cycle: &Cycle, bound: Bound) -> Result<Vec<u8>, NoMemory> {
+fn no_cycle(alloc: Global, cycle: &Cycle, bound: Bound) -> Result<Vec<u8>, NoMemory>
+    ensures { IfOk result (λ text. text.items ≡ no_cycle_line cycle.now bound) }
+{
     let mut text = Vec::new(alloc);
     text.extend_from_slice(b"no cycle")?;
     for number in cycle.numbers() {
@@ -179,6 +179,24 @@ fn no_cycle_line(alloc: Global, cycle: &Cycle, bound: Bound) -> Result<Vec<u8>, 
     Ok(text)
 }
 
+/// Returns the index of the row with this cycle, or `None` if no row has it.
+fn index_of(finding: &Finding, cycle: &Cycle) -> Option<usize>
+    ensures found { IfSome result (λ index. ForSome (slice_get finding.now.rows index)
+        (λ row. row.row.cycle ≡ cycle.now)) }
+    ensures within { IfSome result (λ index. index < length finding.now.rows) }
+    ensures none { result ≡ None → All (λ row. row.row.cycle ≢ cycle.now) finding.now.rows }
+    ensures exact { AreRowsOf finding.now.events finding.now.bound finding.now.task
+        finding.now.rows }
+{
+    for index in 0..finding.rows().len() {
+        let row = &finding.rows()[index];
+        if row.cycle.numbers() == cycle.numbers() {
+            return Some(index);
+        }
+    }
+    None
+}
+
 /// Writes the text of one cycle of the analysis, or that there is no such cycle.
 fn write_one<O: Write>(
     alloc: Global,
@@ -186,28 +204,34 @@ fn write_one<O: Write>(
     analysis: Arc<Analysis, Global>,
     cycle: &Cycle,
     out: &mut O,
-) -> Result<Status, Ended>
+) -> Result<Status, CommandError>
     ensures done { IfOk result (λ status. status ≡ Done →
-        ExplainsCycle (arc_value analysis).events cycle.now
+        ExplainsCycle (arc_value analysis).events (arc_value analysis).bound cycle.now
+        (O.contents out.old) (O.contents out.new)) }
+    ensures refused { IfOk result (λ status. status ≡ Refused →
+        RefusesCycle (arc_value analysis).events (arc_value analysis).bound cycle.now
         (O.contents out.old) (O.contents out.new)) }
     ensures understood { IfOk result (λ status. status ≢ NotUnderstood) }
+    ensures failed { IfErr result (λ error. status_of error ≡ Error) }
 {
     let bound = analysis.bound();
-    let finding = Job::new(alloc, analysis, QUESTION).compute(cycle.numbers()[0])?;
-    for index in 0..finding.rows().len() {
-        let row = &finding.rows()[index];
-        if row.cycle.numbers() == cycle.numbers() {
+    let finding = match Job::new(alloc, analysis, QUESTION).compute(cycle.numbers()[0]) {
+        Ok(finding) => finding,
+        Err(refused) => return write_uncomputed(alloc, refused, out),
+    };
+    match index_of(&finding, cycle) {
+        Some(index) => {
             let mut buffer = TextBuffer::new(alloc);
             let text = text_of(alloc, state, &finding, index, &mut buffer)?;
-            out.write_all(&text)?;
-            out.flush()?;
-            return Ok(Status::Done);
+            write_text(out, &text)?;
+            Ok(Status::Done)
+        }
+        None => {
+            let line = no_cycle(alloc, cycle, bound)?;
+            write_text(out, &line)?;
+            Ok(Status::Refused)
         }
     }
-    let line = no_cycle_line(alloc, cycle, bound)?;
-    out.write_all(&line)?;
-    out.flush()?;
-    Ok(Status::Refused)
 }
 
 /// Returns the cycle with these numbers, which commas separate, or `None` unless there are 2 to 8.
@@ -241,7 +265,7 @@ fn analyze<R: Threads>(
     Analysis::new(alloc, snapshot, bound)
 }
 
-/// Writes the texts of the chosen cycles.
+/// Writes the texts of the chosen cycles, or why there are none or no more.
 fn write_chosen<R: Threads, O: Write>(
     rt: &R,
     alloc: Global,
@@ -250,11 +274,14 @@ fn write_chosen<R: Threads, O: Write>(
     bound: Bound,
     cycle: &Option<Cycle>,
     out: &mut O,
-) -> Result<Status, Ended>
+) -> Result<Status, CommandError>
     requires { IsWellFormed events.now }
     ensures done { IfOk result (λ status. status ≡ Done →
         ExplainsChosen events.now bound cycle.now (O.contents out.old) (O.contents out.new)) }
+    ensures refused { IfOk result (λ status. status ≡ Refused →
+        RefusesChosen events.now bound cycle.now (O.contents out.old) (O.contents out.new)) }
     ensures understood { IfOk result (λ status. status ≢ NotUnderstood) }
+    ensures failed { IfErr result (λ error. status_of error ≡ Error) }
 {
     let analysis = analyze(rt, alloc, state, events, bound)?;
     match cycle {
@@ -263,7 +290,7 @@ fn write_chosen<R: Threads, O: Write>(
     }
 }
 
-/// Writes the texts of the chosen cycles of the file's events, or why there are none.
+/// Writes the texts of the chosen cycles of the file's events, or why there are none or no more.
 fn explain_file<R: Threads, O: Write>(
     rt: &R,
     alloc: Global,
@@ -283,22 +310,16 @@ fn explain_file<R: Threads, O: Write>(
         Admission::Admitted(events) => {
             let ended = write_chosen(rt, alloc, state, &events, bound, cycle, out);
             drop(events);
-            match ended {
-                Ok(status) => Ok(status),
-                Err(Ended::TooManyCycles) => {
-                    write_refused(alloc, OfflineRefused::TooManyCycles, out)
-                }
-                Err(Ended::Memory) => Err(CommandError::Memory),
-                Err(Ended::Output) => Err(CommandError::Output),
-            }
+            ended
         }
     }
 }
 
 /// Writes the cycles of at most `bound` members of the events in `file` to `out`, or the given one:
 /// each as its row in the report, and if it is potential with a refutation. If an event is not
-/// lawful, there is no such cycle or the search is refused, `out` gets one line that says so, and
-/// the status is `Refused`. An error message about the file `name` goes to `err`.
+/// lawful, there is no such cycle or a task has too many, `out` gets a line that says so, and the
+/// status is `Refused`; the cycles of earlier tasks stay written. An error message about the file
+/// `name` goes to `err`.
 pub fn run_explain<R: Threads, O: Write, E: Write>(
     rt: &R,
     alloc: Global,

@@ -1,4 +1,4 @@
-use Rattle.std.proofs.Common.{◌≡◌, ℕ, List, length, ap, subst, ◌∙◌, arith}
+use Rattle.std.proofs.Common.{◌≡◌, Err, ℕ, List, length, ap, subst, ◌∙◌, arith}
 use Rattle.std.specs.Arc.{arc_value}
 use Rattle.trace_model.specs.Theory.Trace.{Trace}
 use Rattle.trace_model.specs.Theory.Dependencies.{dependencies}
@@ -6,9 +6,9 @@ use Rattle.reports.specs.Printed.{Printed}
 use Rattle.snapshots.specs.Found.{AreRowsOf}
 use Rattle.findings.specs.Analyses.{Analyzed}
 use Rattle.findings.specs.Found.{Asked}
-use Rattle.commands.specs.Explain.{AddsExplanations, ExplainsTasks}
+use Rattle.commands.specs.Explain.{AddsExplanations, ExplainsTasks, HasTooMany}
 use Rattle.commands.proofs.CheckedCycles.{keeps_after}
-use Rattle.commands.proofs.ExplainedTexts.{explained_more, explained_none}
+use Rattle.commands.proofs.ExplainedTexts.{explained_more, explained_none, refused_tasks}
 use Rattle.commands.proofs.explain_command.write_all.Goals as goal
 
 pub loop-task-init : goal.loop-task-init
@@ -30,22 +30,22 @@ pub loop-task-preserved : goal.loop-task-preserved
 loop-task-preserved g c =
     let a = arc_value c.args.analysis in
     let v = c.loop-task.invariant in
-    let f = c.in_ok-finding.finding in
-    let asked = c.in_ok-finding.ensures.asked in
+    let f = c.in-Ok.finding in
+    let asked = c.in-Ok.ensures.asked in
     let events = asked.3 ∙ v.events in
     let are = rows_as f.events a.events f.bound a.bound f.task c.loop-task.task f.rows events (asked.1 ∙ v.bound) asked.2 c.in_ok-write_rows.ensures.exact in
     let mid = g.O.Write.contents c.loop-task.out in
     let after = g.O.Write.contents c.write_rows.new.out in
     record {
-      events = ap (λ (q : Asked). q.events) c.in_ok-finding.ensures.same ∙ v.events;
-      bound = ap (λ (q : Asked). q.bound) c.in_ok-finding.ensures.same ∙ v.bound;
+      events = ap (λ (q : Asked). q.events) c.in-Ok.ensures.same ∙ v.events;
+      bound = ap (λ (q : Asked). q.bound) c.in-Ok.ensures.same ∙ v.bound;
       written = explained_more a.events a.bound c.loop-task.task f.rows (g.O.Write.contents c.args.out.now) mid after v.written are
           (subst (λ s. AddsExplanations s f.rows mid after) events c.in_ok-write_rows.ensures.written);
       empty = c.in_ok-write_rows.ensures.empty;
     }
 
-pub returns-clause-written : goal.returns-clause-written
-returns-clause-written g c =
+pub returns-clause-done : goal.returns-clause-done
+returns-clause-done g c _done =
     let a = arc_value c.args.analysis in
     let before = g.O.Write.contents c.args.out.now in
     let (tasks, upto, (text, is, grew)) = c.loop-task.invariant.written in
@@ -53,3 +53,13 @@ returns-clause-written g c =
     let end : c.loop-task.task ≡ length (dependencies a.events) = omega (arith, c.loop-task-test.false, c.loop-task.auto.task-end, c.tasks-tasks.ensures, ap (λ (s : Trace). length (dependencies s)) same) in
     subst (λ n. ExplainsTasks a.events a.bound n before (g.O.Write.contents c.flush.new.self)) end
     (tasks, upto, (text, is, keeps_after before (g.O.Write.contents c.loop-task.out) (g.O.Write.contents c.flush.new.self) text grew c.in_ok-flush.ensures.bytes))
+
+pub returns-in-Err-clause-refused : goal.returns-in-Err-clause-refused
+returns-in-Err-clause-refused g c =
+    let a = arc_value c.args.analysis in
+    let v = c.loop-task.invariant in
+    let task = c.loop-task.task in
+    refused_tasks a.events a.bound task (g.O.Write.contents c.args.out.now) (g.O.Write.contents c.loop-task.out) (g.O.Write.contents c.write_uncomputed.new.out) c.in-Err.refused c.write_uncomputed.result v.written
+    (λ too_many. subst (λ (s : Trace). HasTooMany s a.bound task) v.events
+    (subst (λ (b : ℕ). HasTooMany c.loop-task.job.events b task) v.bound (c.compute.ensures.too_many (c.in-Err.is ∙ ap Err too_many))))
+    c.write_uncomputed.ensures.reason c.write_uncomputed.ensures.written
