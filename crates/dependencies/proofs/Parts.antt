@@ -1,7 +1,7 @@
 -- The part of a table for a prefix of the trace.
 use Rattle.std.proofs.Common.{◌≡◌, ℕ, zero, suc, ◌<◌, ◌≤◌, ◌==◌, ltb, Bool, true, false, cond, List, [], ◌∷◌, length, take, map, slice_get, Some, refl, sym, ap, subst, ◌∙◌, arith}
 use Rattle.std.specs.Prelude.{◌↔◌}
-use Rattle.std.proofs.lemmas.Bool.{ltb-true, ltb-false}
+use Rattle.std.proofs.lemmas.Bool.{lt-ltb, ltb-true}
 use Rattle.std.proofs.lemmas.List.{length-take-le}
 use Rattle.std.proofs.lemmas.List.Kept.{IsStrictlyIncreasing-filter}
 use Rattle.std.proofs.lemmas.Option.{none-some, same_Some}
@@ -18,13 +18,6 @@ use Rattle.dependencies.proofs.Shown.{NoneBeyond, known_from, length_from, place
 
 abbrev pub below : ℕ → List ℕ → List ℕ
 below n xs = filter (λ p. ltb p n) xs
-
-ltb_is : (a b : ℕ) → a < b → ltb a b ≡ true
-ltb_is a b l = go (ltb a b) refl
-  where
-    go : (c : Bool) → ltb a b ≡ c → ltb a b ≡ true
-    go true e = e
-    go false e = let le = ltb-false a b e in absurd (omega arith)
 
 below_so : (n : ℕ) (xs : List ℕ) (k q : ℕ) → slice_get (below n xs) k ≡ Some q → (q < n) × Contains xs q
 below_so n [] k q h = absurd (none-some q h)
@@ -44,7 +37,7 @@ below_from n [] k q l h = absurd (none-some q h)
 below_from n (x ∷ xs) zero q l h =
     let same = same_Some x q h in
     let less : x < n = omega arith in
-    contains_at (below n (x ∷ xs)) q 0 (ap (λ b. slice_get (cond b (x ∷ below n xs) (below n xs)) 0) (ltb_is x n less) ∙ h)
+    contains_at (below n (x ∷ xs)) q 0 (ap (λ b. slice_get (cond b (x ∷ below n xs) (below n xs)) 0) (lt-ltb x n less) ∙ h)
 below_from n (x ∷ xs) (suc k) q l h = go (below_from n xs k q l h) (ltb x n)
   where
     go : Contains (below n xs) q → (b : Bool) → Contains (cond b (x ∷ below n xs) (below n xs)) q

@@ -74,7 +74,8 @@ impl Entries {
         requires kept { IsKept self.old }
         requires listing { IsListing (listing_of self.old) }
         requires below { EndBelow (listing_of self.old) place }
-        ensures noted { HaveOneMore (listing_of self.old) place dependency result (listing_of self.new) }
+        ensures noted { HaveOneMore (listing_of self.old) place dependency result
+            (listing_of self.new) }
         ensures kept { IsKept self.new }
     {
         let _index = place.get(); // for the proof: the range of a place bounds the numbers
@@ -97,7 +98,8 @@ impl Entries {
         requires kept { IsKept self.now }
         requires listing { IsListing (listing_of self.now) }
         requires total { IsTotal (listing_of self.now) total bound }
-        ensures part { IfOk result (λ part. IsPart (listing_of self.now) total bound (listing_of part)) }
+        ensures part { IfOk result (λ part.
+            IsPart (listing_of self.now) total bound (listing_of part)) }
         ensures listing { IfOk result (λ part. IsListing (listing_of part)) }
         ensures kept { IfOk result IsKept }
     {

@@ -10,7 +10,7 @@ use Rattle.std.proofs.lemmas.Str.Parse.{digit_from_value}
 use Rattle.std.proofs.lemmas.Fmt.{decimal_is_IsNumeral}
 use Rattle.trace_model.specs.declared.traces.event.Event.{Event}
 use Rattle.trace_model.specs.declared.traces.event.Op.{Op}
-use Rattle.trace_model.specs.declared.traces.event.Op.TheVariants.{Fork, Join, Acquire, Release, Read, Write}
+use Rattle.trace_model.specs.declared.traces.event.Op.TheVariants.{Fork}
 use Rattle.trace_model.specs.Protocol.Frames.{object_of}
 use Rattle.event_files.specs.EventFile.{is_no_digit, letter_of, event_word}
 
@@ -43,11 +43,7 @@ has_parts (x ∷ front) c back =
 
 letter_other : (op : Op) → is_ascii_digit (letter_of op) ≡ false
 letter_other (Fork child) = refl
-letter_other (Join child) = refl
-letter_other (Acquire lock) = refl
-letter_other (Release lock) = refl
-letter_other (Read variable) = refl
-letter_other (Write variable) = refl
+letter_other _ = refl
 
 -- the index of the letter of an event word, and the digits around it
 pub record IsTakenApart (word : List ℕ) (e : Event) (place : ℕ) : Type 0 where

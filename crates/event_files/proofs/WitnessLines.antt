@@ -1,19 +1,13 @@
 -- The lines of a witness file.
-use Rattle.std.proofs.Common.{◌≡◌, ℕ, suc, ◌+◌, ◌-◌, ◌<◌, ◌^◌, Bool, true, false, List, [], ◌∷◌, ◌++◌, Option, Some, None, decimal, get_or, length, map, take, if◌then◌else◌, ◌⊎◌, inl, inr, refl, sym, ap, subst, ◌∙◌, arith}
+use Rattle.std.proofs.Common.{◌≡◌, ℕ, suc, ◌+◌, ◌-◌, ◌<◌, ◌^◌, Bool, true, false, List, [], ◌∷◌, ◌++◌, Option, Some, None, decimal, get_or, length, map, take, if◌then◌else◌, refl, sym, ap, subst, ◌∙◌, arith}
 use Rattle.std.specs.Prelude.{slice_get, option_map, IfOk, MatchOption, Result, Ok, Err, is_some}
 use Rattle.std.proofs.lemmas.Bool.{true≢false}
 use Rattle.std.specs.List.{All, filter}
-use Rattle.std.proofs.lemmas.List.{append-nil, length-map, map-append, take_more}
-use Rattle.std.proofs.lemmas.List.Elements.{All-get_or, All-push, filter-append}
+use Rattle.std.proofs.lemmas.List.{length-map, map-append, take_more}
+use Rattle.std.proofs.lemmas.List.Elements.{All-get_or, filter-append}
 use Rattle.std.proofs.lemmas.Option.{none-some, same_Some, slice_get-map, slice_get_within, get_or_from_slice_get}
 use Rattle.event_files.specs.EventFile.{is_word, line_words}
-use Rattle.event_files.specs.WitnessFile.{AreNumerals, IsKeyed, IsReach, IsOrder, IsWitness, EndsEarly, IsBeginning, IsFirstWrong, IsReadOf, IsWrongNext, Reading, ReadsOn, has_words, worded, and_line, line_count}
-
--- one more word and its number
-pub one_more_numeral : (numbers : List ℕ) (words : List (List ℕ)) (n : ℕ) (word : List ℕ) → AreNumerals numbers words → n < 2 ^ 32 → word ≡ decimal n →
-    AreNumerals (numbers ++ n ∷ []) (words ++ word ∷ [])
-one_more_numeral numbers words n word are small is =
-    (All-push (λ m. m < 2 ^ 32) numbers n are.0 small, (λ i. are.1 i ++ is i ∷ []) ∙ sym (map-append decimal numbers (n ∷ [])))
+use Rattle.event_files.specs.WitnessFile.{AreNumerals, IsKeyed, IsOrder, IsWitness, IsBeginning, IsFirstWrong, IsReadOf, IsWrongNext, Reading, ReadsOn, has_words, worded, and_line, line_count}
 
 is_numeral : (numbers : List ℕ) (i : ℕ) (word : List ℕ) (o : Option ℕ) → All (λ n. n < 2 ^ 32) numbers → slice_get numbers i ≡ o → option_map decimal o ≡ Some word →
     (n : ℕ) × (n < 2 ^ 32) × (word ≡ decimal n)
@@ -31,40 +25,14 @@ kept : (words : List (List ℕ)) → has_words words ≡ true → filter has_wor
 kept [] some = absurd (cc)
 kept (word ∷ more) some = refl
 
--- a line without words changes nothing
-pub skipped : (lines : List (List (List ℕ))) (words : List (List ℕ)) → has_words words ≡ false → and_line lines words ≡ lines
-skipped lines [] none = append-nil lines
-skipped lines (word ∷ more) none = absurd (cc)
-
 -- a line with words is added
 pub added : (lines : List (List (List ℕ))) (words : List (List ℕ)) → has_words words ≡ true → and_line lines words ≡ lines ++ words ∷ []
 added lines words some = ap (λ l. lines ++ l) (kept words some)
-
-pub reads_reach : (words : List (List ℕ)) (instance : List ℕ) → has_words words ≡ true → IsReach instance words → ReadsOn words (None, None) (Some instance, None)
-reads_reach words instance some is = λ lines none. (words, added lines words some ∙ ap (λ l. l ++ words ∷ []) none, is)
-
-pub no_reach : (words : List (List ℕ)) → has_words words ≡ true → ((instance : List ℕ) → IsReach instance words → ⊥) → IsWrongNext words (None, None)
-no_reach words some never = λ lines none begins.
-    let one : IsBeginning (words ∷ []) = subst IsBeginning (added lines words some ∙ ap (λ l. l ++ words ∷ []) none) begins in
-    never one.0 one.1
-
-pub reads_order : (words : List (List ℕ)) (instance order : List ℕ) → has_words words ≡ true → IsOrder order words → ReadsOn words (Some instance, None) (Some instance, Some order)
-reads_order words instance order some is = λ lines read.
-    subst (IsWitness instance order) (sym (added lines words some ∙ ap (λ l. l ++ words ∷ []) read.1)) (read.2, is)
 
 pub no_order : (words : List (List ℕ)) (instance : List ℕ) → has_words words ≡ true → ((order : List ℕ) → IsOrder order words → ⊥) → IsWrongNext words (Some instance, None)
 no_order words instance some never = λ lines read begins.
     let two : IsBeginning (read.0 ∷ words ∷ []) = subst IsBeginning (added lines words some ∙ ap (λ l. l ++ words ∷ []) read.1) begins in
     never two.1 two.3
-
-three : (instance order : List ℕ) (lines : List (List (List ℕ))) (words : List (List ℕ)) → IsWitness instance order lines → IsBeginning (lines ++ words ∷ []) → ⊥
-three instance order [] words is begins = is
-three instance order (first ∷ []) words is begins = is
-three instance order (first ∷ second ∷ []) words is begins = begins
-three instance order (first ∷ second ∷ third ∷ more) words is begins = is
-
-pub no_third : (words : List (List ℕ)) (instance order : List ℕ) → has_words words ≡ true → IsWrongNext words (Some instance, Some order)
-no_third words instance order some = λ lines is begins. three instance order lines words is (subst IsBeginning (added lines words some) begins)
 
 witness_begins : (instance order : List ℕ) (lines : List (List (List ℕ))) → IsWitness instance order lines → IsBeginning lines
 witness_begins instance order [] is = tt
@@ -78,15 +46,6 @@ begins lines None None read = subst IsBeginning (sym read) tt
 begins lines None (Some order) read = absurd read
 begins lines (Some instance) None read = subst IsBeginning (sym read.1) (instance, read.2)
 begins lines (Some instance) (Some order) read = witness_begins instance order lines read
-
--- without the order they are no witness
-pub is_incomplete : (lines : List (List (List ℕ))) (instance order : Option (List ℕ)) → IsReadOf lines (instance, order) → (instance ≡ None) ⊎ (order ≡ None) →
-    (i o : List ℕ) → IsWitness i o lines → ⊥
-is_incomplete lines None None read none i o is = subst (IsWitness i o) read is
-is_incomplete lines None (Some order) read none i o is = read
-is_incomplete lines (Some instance) None read none i o is = subst (IsWitness i o) read.1 is
-is_incomplete lines (Some instance) (Some order) read (inl e) i o is = none-some _ (sym e)
-is_incomplete lines (Some instance) (Some order) read (inr e) i o is = none-some _ (sym e)
 
 -- the lines with words among the first ones, and the next one
 pub one_more_worded : (lines : List (List ℕ)) (i : ℕ) → i < length lines → worded (take (i + 1) lines) ≡ and_line (worded (take i lines)) (line_words (get_or lines i []))
@@ -160,15 +119,6 @@ is_wrong lines i number words instance order within counts are read wrong = reco
   wrong = λ more. wrong (worded (take i lines)) read (subst IsBeginning (one_more_worded lines i within ∙ ap (and_line (worded (take i lines))) (sym are)) more);
 }
 
--- the file ends before its second line
-pub ends_early : (lines : List (List ℕ)) (number : ℕ) (instance order : Option (List ℕ)) → number ≡ line_count lines + 1 → IsReadOf (worded lines) (instance, order) →
-    (instance ≡ None) ⊎ (order ≡ None) → EndsEarly lines number
-ends_early lines number instance order counts read none = record {
-  counts = counts;
-  before = begins (worded lines) instance order read;
-  missing = is_incomplete (worded lines) instance order read none;
-}
-
 -- the numbers after a keyword
 pub after_keyword : {X E : Type 0} (items : X → List ℕ) (keyword first : List ℕ) (rest words : List (List ℕ)) (r : Result (Option X) E) → words ≡ first ∷ rest → first ≡ keyword →
     IfOk r (λ told. MatchOption told ((numbers : List ℕ) → AreNumerals numbers rest → ⊥) (λ x. AreNumerals (items x) rest)) →
@@ -176,9 +126,6 @@ pub after_keyword : {X E : Type 0} (items : X → List ℕ) (keyword first : Lis
 after_keyword items keyword first rest words (Err e) are is h = tt
 after_keyword items keyword first rest words (Ok None) are is h = λ numbers keyed. h numbers (subst (IsKeyed keyword numbers) are keyed).1
 after_keyword items keyword first rest words (Ok (Some x)) are is h = subst (IsKeyed keyword (items x)) (sym are) (is, h)
-
-pub not_keyed : (keyword first : List ℕ) (rest words : List (List ℕ)) → words ≡ first ∷ rest → (first ≡ keyword → ⊥) → (n : List ℕ) → IsKeyed keyword n words → ⊥
-not_keyed keyword first rest words are other n keyed = other (subst (IsKeyed keyword n) are keyed).0
 
 pub have_words : {X : Type 0} (f : X → List ℕ) (xs : List X) → (length xs ≡ 0 → ⊥) → has_words (map f xs) ≡ true
 have_words f [] some = absurd (some refl)

@@ -81,7 +81,8 @@ pub record IsFirstBad (lines : List (List ℕ)) (number : ℕ) : Type 0 where
   pub at : slice_get lines index ≡ Some line
   pub bad : HasBadWord (line_words line)
 
--- The refusal of the lines is right: a line number is that of the first line that is not understood.
+-- The refusal of the lines is right: a line number is that of the first line that is not
+-- understood.
 abbrev pub RefusesLines : List (List ℕ) → FileRefused → Type 0
 RefusesLines lines (Line number) = IsFirstBad lines number
 RefusesLines lines NoMemory = Unit {0}

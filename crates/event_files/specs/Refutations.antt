@@ -34,8 +34,8 @@ entry_line d = reason_line d.reason d.place
 abbrev pub entry_text : Derived → List ℕ
 entry_text d = entry_line d ++ codes "\n"
 
--- The conclusion of a step, without the end of its line: the thread of the member cannot stop before
--- the place, which is derived.
+-- The conclusion of a step, without the end of its line: the thread of the member cannot stop
+-- before the place, which is derived.
 abbrev pub conclusion_line : ℕ → ℕ → List ℕ
 conclusion_line thread place = labeled (codes "  so place ") place ++
     labeled (codes " must run: thread ") thread ++ codes " cannot stop before it"

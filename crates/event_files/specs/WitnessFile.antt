@@ -50,7 +50,8 @@ IsBeginning (first ∷ second ∷ third ∷ more) = ⊥
 abbrev pub IsWitnessOf : List ℕ → List ℕ → List ℕ → Type 0
 IsWitnessOf instance order file = IsWitness instance order (worded (pieces_at 10 file))
 
--- The number of lines of a file that line feeds cut into these pieces: an empty last one is no line.
+-- The number of lines of a file that line feeds cut into these pieces: an empty last one is no
+-- line.
 abbrev pub line_count : List (List ℕ) → ℕ
 line_count [] = 0
 line_count (piece ∷ []) = if is_word piece then 1 else 0

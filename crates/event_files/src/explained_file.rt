@@ -295,14 +295,16 @@ fn is_skipped(line: &[u8]) -> bool {
     true
 }
 
-/// Returns the cycles of a file: each is a row of a report, and after a potential one the text of a
-/// refutation. Empty lines and comments are skipped.
+/// Returns the explained cycles of a file, in order. The lines of a cycle are those of its row in a
+/// report, and for a potential cycle then those of a refutation. Empty lines and comments are
+/// skipped.
 ///
 /// # Errors
 ///
-/// - `Line` with the number of the first line that is not understood, counted from 1. If the last
-///   cycle lacks a line, this is the number of lines, counted with an empty one after the last line
-///   feed.
+/// - `Line` if a line is not understood, or begins a cycle before the previous one has all its
+///   lines: the number of the first such line, counted from 1.
+/// - `Line` if the file ends before its last cycle has all its lines: the number of line feeds plus
+///   one.
 /// - `NoMemory` if an allocation fails.
 pub fn read_explained(alloc: Global, file: &[u8]) -> Result<Vec<Explained>, FileRefused> {
     let lines = lines_of(alloc, file)?;

@@ -102,11 +102,11 @@ fn push_step(text: &mut Vec<u8>, threads: &[u32], step: &Step) -> Result<(), NoM
 
 /// Appends the text of a refutation of a cycle whose members have these threads.
 ///
+/// The caller passes steps that name one of the threads and derive a place.
+///
 /// # Errors
 ///
 /// `NoMemory` if an allocation fails. A part of the text may have been appended.
-///
-/// The caller passes steps that name one of the threads and derive a place.
 pub fn push_refutation(text: &mut Vec<u8>, threads: &[u32], steps: &[Step]) -> Result<(), NoMemory>
     requires { All (IsWritable threads.now) steps.now }
     ensures { OnOk result (text.new.items ≡

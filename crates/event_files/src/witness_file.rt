@@ -75,8 +75,8 @@ fn reach(alloc: Global, words: &[&[u8]]) -> Result<Option<Instance>, NoMemory>
     }
 }
 
-/// Reads the words of the next line into `instance` or `order`. Returns false if no witness file has
-/// such a line there. A line without words is skipped.
+/// Reads the words of the next line into `instance` or `order`. Returns false if no witness file
+/// has such a line there. A line without words is skipped.
 fn read_words(
     alloc: Global,
     words: &[&[u8]],
@@ -102,8 +102,8 @@ fn read_words(
     Ok(false)
 }
 
-/// Returns one more than the number of lines of a file that line feeds cut into these pieces. A last
-/// piece without bytes is no line.
+/// Returns one more than the number of lines of a file that line feeds cut into these pieces. A
+/// last piece without bytes is no line.
 fn after_last(pieces: &[&[u8]]) -> usize
     ensures { result ≡ line_count (map (λ piece. piece.now) pieces.now) + 1 }
 {

@@ -24,7 +24,8 @@ use Rattle.fronts.specs.Requirements.{AreLocks}
 use Rattle.fronts.specs.Classes.{AreFirsts, AreClasses, next_class}
 use Rattle.fronts.specs.Firsts.{first_of_thread, first_of_lock, first_of, AreSlotsOf}
 use Rattle.fronts.proofs.ClassLemmas.{as_before, as_first}
-use Rattle.fronts.proofs.FrontLemmas.{of_thread_from, of_thread_so}
+use Rattle.trace_model.proofs.Theory.Computed.{of_thread_from}
+use Rattle.trace_model.proofs.Theory.Derivable.{of_thread_so}
 use Rattle.fronts.proofs.ThreadLemmas.{place_below}
 
 -- The first of the places with the property, at or before each of them.
@@ -42,18 +43,27 @@ least_listed f n p l h =
 
 -- Places grouped by their thread or lock: each place has the first place
 -- of its group.
-record HaveFirsts (On : ℕ → ℕ → Type 0) (first_of : ℕ → Option ℕ) (n : ℕ) : Type 0 where
-  first : (p k : ℕ) → On p k → (x : ℕ) × (first_of p ≡ Some x) × (x ≤ p) × On x k
+record HaveFirsts (On : ℕ → ℕ → Type 0) (listed : ℕ → Places) (first_of : ℕ → Option ℕ) (n : ℕ) : Type 0 where
+  at : (p k : ℕ) → On p k → first_of p ≡ slice_get (ascending (listed k) n) 0
+  so : (k x : ℕ) → listed k x ≡ true → On x k
+  from : (k x : ℕ) → On x k → listed k x ≡ true
   some : (p x : ℕ) → first_of p ≡ Some x → (k : ℕ) × On p k
   one : (p k l : ℕ) → On p k → On p l → k ≡ l
-  alike : (p q k : ℕ) → On p k → On q k → first_of q ≡ first_of p
   below : (p k : ℕ) → On p k → p < n
 
-module _ (On : ℕ → ℕ → Type 0) (first_of : ℕ → Option ℕ) (n : ℕ) (h : HaveFirsts On first_of n) where
+module _ (On : ℕ → ℕ → Type 0) (listed : ℕ → Places) (first_of : ℕ → Option ℕ) (n : ℕ) (h : HaveFirsts On listed first_of n) where
+  first_on : (p k : ℕ) → On p k → (x : ℕ) × (first_of p ≡ Some x) × (x ≤ p) × On x k
+  first_on p k o =
+      let (x, first, l, here, inside) = least_listed (listed k) n p (h.below p k o) (h.from k p o) in
+      (x, h.at p k o ∙ first, l, h.so k x here)
+
+  same_first : (p q k : ℕ) → On p k → On q k → first_of q ≡ first_of p
+  same_first p q k o oq = h.at q k oq ∙ sym (h.at p k o)
+
   -- A place that no place of its group precedes is the first.
   is_first : (p k : ℕ) → On p k → ((x : ℕ) → x < p → On x k → ⊥) → Some p ≡ first_of p
   is_first p k o none =
-      let (x, first, l, ox) = h.first p k o in
+      let (x, first, l, ox) = first_on p k o in
       elim (cases_lt x p) [
         | inl less ↦ absurd (none x less ox)
         | inr more ↦ let same : p ≡ x = omega arith in ap Some same ∙ sym first
@@ -64,38 +74,45 @@ module _ (On : ℕ → ℕ → Type 0) (first_of : ℕ → Option ℕ) (n : ℕ)
     firsts_are = record {
       first = λ p x e.
           let (k, o) = h.some p x (sym (same p) ∙ e) in
-          let (y, first, l, oy) = h.first p k o in
+          let (y, first, l, oy) = first_on p k o in
           let is : y ≡ x = same_Some y x (sym first ∙ (sym (same p) ∙ e)) in
-          (omega (arith, l, is), same x ∙ (h.alike p x k o (subst (λ z. On z k) is oy) ∙ (sym (same p) ∙ e)));
+          (omega (arith, l, is), same x ∙ (same_first p x k o (subst (λ z. On z k) is oy) ∙ (sym (same p) ∙ e)));
     }
 
     module _ (classes : ℕ → Option ℕ) (count : ℕ) (c : AreClasses firsts classes count n) where
       each_has : (p k : ℕ) → On p k → (a : ℕ) × (classes p ≡ Some a) × (a < count)
       each_has p k o =
-          let (x, first, l, ox) = h.first p k o in
+          let (x, first, l, ox) = first_on p k o in
           c.each p x (h.below p k o) (same p ∙ first)
 
       are_apart : (p q a k : ℕ) → classes p ≡ Some a → classes q ≡ Some a → On p k → On q k
       are_apart p q a k hp hq o =
-          let (x, first, l, ox) = h.first p k o in
+          let (x, first, l, ox) = first_on p k o in
           let fq = c.apart p q a x hp hq (same p ∙ first) in
           let (m, oq) = h.some q x (sym (same q) ∙ fq) in
-          let (y, first_q, j, oy) = h.first q m oq in
+          let (y, first_q, j, oy) = first_on q m oq in
           let is : y ≡ x = same_Some y x (sym first_q ∙ (sym (same q) ∙ fq)) in
           subst (On q) (sym (h.one x k m ox (subst (λ z. On z m) is oy))) oq
 
       are_alike : (p q a k : ℕ) → classes p ≡ Some a → On p k → On q k → classes q ≡ Some a
       are_alike p q a k hp o oq =
-          let (x, first, l, ox) = h.first p k o in
-          c.alike p q a x (h.below q k oq) hp (same p ∙ first) (same q ∙ (h.alike p q k o oq ∙ first))
+          let (x, first, l, ox) = first_on p k o in
+          c.alike p q a x (h.below q k oq) hp (same p ∙ first) (same q ∙ (same_first p q k o oq ∙ first))
+
+  -- From the previous place of the group.
+  new_class : (p k count : ℕ) (classes : ℕ → Option ℕ) → On p k → last_place (listed k) p ≡ None → Some count ≡ next_class classes (first_of p) p count
+  new_class p k count classes o none =
+      as_first first_of classes count p (is_first p k o (λ x less ox. last_place_none (listed k) p none x less (h.from k x ox)))
+
+  old_class : (p q k count : ℕ) (classes : ℕ → Option ℕ) → On p k → last_place (listed k) p ≡ Some q → AreClasses first_of classes count p →
+      classes q ≡ next_class classes (first_of p) p count
+  old_class p q k count classes o last known =
+      let is = last_place_some (listed k) p q last in
+      let (x, first, l, ox) = first_on p k o in
+      as_before first_of classes count p q x (firsts_are first_of (λ z. refl)) known is.0 (same_first p q k o (h.so k q is.1) ∙ first) first
 
 thread_at : (s : Trace) (p t : ℕ) → OfThread s p t → first_of_thread s p ≡ slice_get (ascending (of_thread s t) (length s)) 0
 thread_at s p t (o, h) = rw h refl
-
-thread_first : (s : Trace) (p t : ℕ) → OfThread s p t → (x : ℕ) × (first_of_thread s p ≡ Some x) × (x ≤ p) × OfThread s x t
-thread_first s p t o =
-    let (x, first, l, here, inside) = least_listed (of_thread s t) (length s) p (place_below s t p o) (of_thread_from s t p o) in
-    (x, thread_at s p t o ∙ first, l, of_thread_so s t x here)
 
 some_thread : (s : Trace) (p x : ℕ) → first_of_thread s p ≡ Some x → (t : ℕ) × OfThread s p t
 some_thread s p x h = go (slice_get s p) refl h
@@ -104,43 +121,29 @@ some_thread s p x h = go (slice_get s p) refl h
     go None e k = absurd (none-some x k)
     go (Some v) e k = (v.thread, (v.op, e))
 
-threads_have : (s : Trace) → HaveFirsts (OfThread s) (first_of_thread s) (length s)
+threads_have : (s : Trace) → HaveFirsts (OfThread s) (of_thread s) (first_of_thread s) (length s)
 threads_have s = record {
-  first = thread_first s;
+  at = thread_at s;
+  so = of_thread_so s;
+  from = of_thread_from s;
   some = some_thread s;
   one = at_thread s;
-  alike = λ p q t o oq. thread_at s q t oq ∙ sym (thread_at s p t o);
   below = λ p t o. place_below s t p o;
 }
 
 thread_slots : (s : Trace) (firsts slots : ℕ → Option ℕ) (count : ℕ) → ((p : ℕ) → firsts p ≡ first_of_thread s p) →
     AreClasses firsts slots count (length s) → AreSlots s slots count
 thread_slots s firsts slots count same c = record {
-  each = each_has (OfThread s) (first_of_thread s) (length s) (threads_have s) firsts same slots count c;
+  each = each_has (OfThread s) (of_thread s) (first_of_thread s) (length s) (threads_have s) firsts same slots count c;
   of_place = λ p a h. let (l, x, f) = c.has p a h in some_thread s p x (sym (same p) ∙ f);
-  apart = are_apart (OfThread s) (first_of_thread s) (length s) (threads_have s) firsts same slots count c;
-  alike = are_alike (OfThread s) (first_of_thread s) (length s) (threads_have s) firsts same slots count c;
+  apart = are_apart (OfThread s) (of_thread s) (first_of_thread s) (length s) (threads_have s) firsts same slots count c;
+  alike = are_alike (OfThread s) (of_thread s) (first_of_thread s) (length s) (threads_have s) firsts same slots count c;
 }
-
--- A place that no place of its thread precedes is the first one.
-thread_new : (s : Trace) (p t : ℕ) → OfThread s p t → last_place (of_thread s t) p ≡ None → Some p ≡ first_of_thread s p
-thread_new s p t o none = is_first (OfThread s) (first_of_thread s) (length s) (threads_have s) p t o
-    (λ x less ox. last_place_none (of_thread s t) p none x less (of_thread_from s t x ox))
-
-thread_old : (s : Trace) (p q t : ℕ) → OfThread s p t → last_place (of_thread s t) p ≡ Some q → (q < p) × (first_of_thread s q ≡ first_of_thread s p)
-thread_old s p q t o last =
-    let is = last_place_some (of_thread s t) p q last in
-    (is.0, thread_at s q t (of_thread_so s t q is.1) ∙ sym (thread_at s p t o))
 
 -- The same for locks.
 
 lock_at : (s : Trace) (p k : ℕ) → BeginsOn s p k → first_of_lock s p ≡ slice_get (ascending (begins_on s k) (length s)) 0
 lock_at s p k b = ap (option_and_then (λ l. slice_get (ascending (begins_on s l) (length s)) 0)) (begun_from s p k b)
-
-lock_first : (s : Trace) (p k : ℕ) → BeginsOn s p k → (x : ℕ) × (first_of_lock s p ≡ Some x) × (x ≤ p) × BeginsOn s x k
-lock_first s p k b =
-    let (x, first, l, here, inside) = least_listed (begins_on s k) (length s) p (slice_get_within s p _ b.1.0) (begins_from s k p b) in
-    (x, lock_at s p k b ∙ first, l, begins_so s k x here)
 
 some_lock : (s : Trace) (p x : ℕ) → first_of_lock s p ≡ Some x → (k : ℕ) × BeginsOn s p k
 some_lock s p x h = go (begun s p) refl h
@@ -152,27 +155,28 @@ some_lock s p x h = go (begun s p) refl h
 same_lock : (s : Trace) (p k l : ℕ) → BeginsOn s p k → BeginsOn s p l → k ≡ l
 same_lock s p k l a b = same_Some k l (sym (begun_from s p k a) ∙ begun_from s p l b)
 
-locks_have : (s : Trace) → HaveFirsts (BeginsOn s) (first_of_lock s) (length s)
+locks_have : (s : Trace) → HaveFirsts (BeginsOn s) (begins_on s) (first_of_lock s) (length s)
 locks_have s = record {
-  first = lock_first s;
+  at = lock_at s;
+  so = begins_so s;
+  from = begins_from s;
   some = some_lock s;
   one = same_lock s;
-  alike = λ p q k b bq. lock_at s q k bq ∙ sym (lock_at s p k b);
   below = λ p k b. slice_get_within s p _ b.1.0;
 }
 
 lock_slots : (s : Trace) (firsts locks : ℕ → Option ℕ) (count : ℕ) → ((p : ℕ) → firsts p ≡ first_of_lock s p) →
     AreClasses firsts locks count (length s) → AreLocks s locks count
 lock_slots s firsts locks count same c = record {
-  each = each_has (BeginsOn s) (first_of_lock s) (length s) (locks_have s) firsts same locks count c;
-  apart = are_apart (BeginsOn s) (first_of_lock s) (length s) (locks_have s) firsts same locks count c;
-  alike = are_alike (BeginsOn s) (first_of_lock s) (length s) (locks_have s) firsts same locks count c;
+  each = each_has (BeginsOn s) (begins_on s) (first_of_lock s) (length s) (locks_have s) firsts same locks count c;
+  apart = are_apart (BeginsOn s) (begins_on s) (first_of_lock s) (length s) (locks_have s) firsts same locks count c;
+  alike = are_alike (BeginsOn s) (begins_on s) (first_of_lock s) (length s) (locks_have s) firsts same locks count c;
 }
 
 -- The same for both.
 pub shared_firsts : (s : Trace) (shared : Shared) (firsts : ℕ → Option ℕ) → ((p : ℕ) → firsts p ≡ first_of s shared p) → AreFirsts firsts
-shared_firsts s Thread firsts same = firsts_are (OfThread s) (first_of_thread s) (length s) (threads_have s) firsts same
-shared_firsts s Lock firsts same = firsts_are (BeginsOn s) (first_of_lock s) (length s) (locks_have s) firsts same
+shared_firsts s Thread firsts same = firsts_are (OfThread s) (of_thread s) (first_of_thread s) (length s) (threads_have s) firsts same
+shared_firsts s Lock firsts same = firsts_are (BeginsOn s) (begins_on s) (first_of_lock s) (length s) (locks_have s) firsts same
 
 pub shared_slots : (s : Trace) (shared : Shared) (firsts : ℕ → Option ℕ) (classes : Classes) → ((p : ℕ) → firsts p ≡ first_of s shared p) →
     AreClasses firsts (slots_of classes) classes.count (length s) → AreSlotsOf s shared classes
@@ -183,37 +187,24 @@ pub some_within : (o : Option ℕ) (n : ℕ) → ((p : ℕ) → o ≡ Some p →
 some_within None n f = tt
 some_within (Some p) n f = f p refl
 
-lock_new : (s : Trace) (p k : ℕ) → BeginsOn s p k → last_place (begins_on s k) p ≡ None → Some p ≡ first_of_lock s p
-lock_new s p k b none = is_first (BeginsOn s) (first_of_lock s) (length s) (locks_have s) p k b
-    (λ x less bx. last_place_none (begins_on s k) p none x less (begins_from s k x bx))
-
-lock_old : (s : Trace) (p q k : ℕ) → BeginsOn s p k → last_place (begins_on s k) p ≡ Some q → (q < p) × (first_of_lock s q ≡ first_of_lock s p)
-lock_old s p q k b last =
-    let is = last_place_some (begins_on s k) p q last in
-    (is.0, lock_at s q k (begins_so s k q is.1) ∙ sym (lock_at s p k b))
-
 -- From the previous place.
 pub thread_new_class : (s : Trace) (p count : ℕ) (e : Event) (classes : ℕ → Option ℕ) → At s p e → None ≡ thread_before s p → Some count ≡ next_class classes (first_of_thread s p) p count
-thread_new_class s p count e classes a none = as_first (first_of_thread s) classes count p
-    (thread_new s p e.thread (e.op, a) (sym (none ∙ ap (option_and_then (λ x. last_place (of_thread s x.thread) p)) a)))
+thread_new_class s p count e classes a none =
+    new_class (OfThread s) (of_thread s) (first_of_thread s) (length s) (threads_have s) p e.thread count classes (e.op, a) (sym (none ∙ ap (option_and_then (λ x. last_place (of_thread s x.thread) p)) a))
 
 pub thread_old_class : (s : Trace) (p q count : ℕ) (e : Event) (classes : ℕ → Option ℕ) → At s p e → Some q ≡ thread_before s p → AreClasses (first_of_thread s) classes count p →
     classes q ≡ next_class classes (first_of_thread s p) p count
-thread_old_class s p q count e classes a some known =
-    let old = thread_old s p q e.thread (e.op, a) (sym (some ∙ ap (option_and_then (λ x. last_place (of_thread s x.thread) p)) a)) in
-    let (x, first, l, o) = thread_first s p e.thread (e.op, a) in
-    as_before (first_of_thread s) classes count p q x (shared_firsts s Thread (first_of_thread s) (λ z. refl)) known old.0 (old.1 ∙ first) first
+thread_old_class s p q count e classes a some =
+    old_class (OfThread s) (of_thread s) (first_of_thread s) (length s) (threads_have s) p q e.thread count classes (e.op, a) (sym (some ∙ ap (option_and_then (λ x. last_place (of_thread s x.thread) p)) a))
 
 pub lock_new_class : (s : Trace) (p k count : ℕ) (classes : ℕ → Option ℕ) → begun s p ≡ Some k → None ≡ acquire_before s p → Some count ≡ next_class classes (first_of_lock s p) p count
-lock_new_class s p k count classes b none = as_first (first_of_lock s) classes count p
-    (lock_new s p k (begun_so s p k b) (sym (none ∙ ap (option_and_then (λ l. last_place (begins_on s l) p)) b)))
+lock_new_class s p k count classes b none =
+    new_class (BeginsOn s) (begins_on s) (first_of_lock s) (length s) (locks_have s) p k count classes (begun_so s p k b) (sym (none ∙ ap (option_and_then (λ l. last_place (begins_on s l) p)) b))
 
 pub lock_old_class : (s : Trace) (p q k count : ℕ) (classes : ℕ → Option ℕ) → begun s p ≡ Some k → Some q ≡ acquire_before s p → AreClasses (first_of_lock s) classes count p →
     classes q ≡ next_class classes (first_of_lock s p) p count
-lock_old_class s p q k count classes b some known =
-    let old = lock_old s p q k (begun_so s p k b) (sym (some ∙ ap (option_and_then (λ l. last_place (begins_on s l) p)) b)) in
-    let (x, first, l, o) = lock_first s p k (begun_so s p k b) in
-    as_before (first_of_lock s) classes count p q x (shared_firsts s Lock (first_of_lock s) (λ z. refl)) known old.0 (old.1 ∙ first) first
+lock_old_class s p q k count classes b some =
+    old_class (BeginsOn s) (begins_on s) (first_of_lock s) (length s) (locks_have s) p q k count classes (begun_so s p k b) (sym (some ∙ ap (option_and_then (λ l. last_place (begins_on s l) p)) b))
 
 -- No section begins at the place.
 pub lock_no_class : (s : Trace) (p count : ℕ) (classes : ℕ → Option ℕ) → None ≡ begun s p → None ≡ next_class classes (first_of_lock s p) p count

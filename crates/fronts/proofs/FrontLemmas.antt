@@ -1,26 +1,15 @@
 -- Fronts as sets of places.
-use Rattle.std.proofs.Common.{◌≡◌, ℕ, ◌<◌, ◌≤◌, true, false, ◌==◌, nat_lt, Bor, List, length, slice_get, Option, Some, None, refl, sym, ap, ◌∙◌, arith}
+use Rattle.std.proofs.Common.{◌≡◌, ℕ, ◌<◌, ◌≤◌, true, false, nat_lt, Bor, List, length, slice_get, Some, None, refl, sym, ap, ◌∙◌, arith}
 use Rattle.std.specs.Option.{option_map_or}
 use Rattle.std.specs.Slice.{IsItemAt}
-use Rattle.std.proofs.lemmas.Bool.{eq-eqb, eqb-true, false≢true}
 use Rattle.std.proofs.lemmas.Bool.Decides.{nat_tests}
 use Rattle.std.proofs.lemmas.Option.{slice_get_read, slice_get_past}
-use Rattle.trace_model.specs.declared.traces.event.Event.{Event}
-use Rattle.trace_model.specs.Theory.Trace.{Trace, event, OfThread}
+use Rattle.trace_model.specs.Theory.Trace.{Trace, OfThread}
 use Rattle.trace_index.specs.Numbers.{of_thread, earlier_events}
 use Rattle.fronts.specs.declared.requirements.ThreadPrefix.{ThreadPrefix}
 use Rattle.fronts.specs.Slots.{among, front_test}
 use Rattle.fronts.proofs.Counts.{count_lt}
-
-pub of_thread_from : (s : Trace) (t p : ℕ) → OfThread s p t → of_thread s t p ≡ true
-of_thread_from s t p (o, h) = rw h (eq-eqb t t refl)
-
-pub of_thread_so : (s : Trace) (t p : ℕ) → of_thread s t p ≡ true → OfThread s p t
-of_thread_so s t p h = go (slice_get s p) refl h
-  where
-    go : (o : Option Event) → slice_get s p ≡ o → option_map_or (λ e. e.thread == t) o false ≡ true → OfThread s p t
-    go None e k = absurd (false≢true k)
-    go (Some v) e k = (v.op, e ∙ ap (λ u. Some (event u v.op)) (eqb-true v.thread t k))
+use Rattle.trace_model.proofs.Theory.Computed.{of_thread_from}
 
 pub lt_true : (a b : ℕ) → a < b → nat_lt a b ≡ true
 lt_true a b h = grind (arith, nat_tests)

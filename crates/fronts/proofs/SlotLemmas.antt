@@ -10,7 +10,8 @@ use Rattle.trace_index.specs.Numbers.{of_thread, earlier_events, number_at}
 use Rattle.segments.proofs.Counting.{length_ascending}
 use Rattle.fronts.specs.Slots.{AreSlots, HasPosition, in_front, HasFirst}
 use Rattle.fronts.proofs.Counts.{count_lt}
-use Rattle.fronts.proofs.FrontLemmas.{earlier_lt, of_thread_from, lt_true, lt_so}
+use Rattle.trace_model.proofs.Theory.Computed.{of_thread_from}
+use Rattle.fronts.proofs.FrontLemmas.{earlier_lt, lt_true, lt_so}
 use Rattle.fronts.proofs.ThreadLemmas.{numbered_at, place_below}
 
 pub number_of : (s : Trace) (p t : ℕ) → OfThread s p t → number_at s p ≡ Some (earlier_events s t p)

@@ -11,7 +11,8 @@ use Rattle.segments.proofs.Counting.{length_ascending}
 use Rattle.trace_index.specs.Numbers.{of_thread, earlier_events}
 use Rattle.fronts.specs.Threads.{IsNumbered, IsLastOf}
 use Rattle.fronts.proofs.Counts.{count_lt}
-use Rattle.fronts.proofs.FrontLemmas.{of_thread_from, of_thread_so}
+use Rattle.trace_model.proofs.Theory.Computed.{of_thread_from}
+use Rattle.trace_model.proofs.Theory.Derivable.{of_thread_so}
 
 -- A place is listed at its number.
 listed_at : (f : Places) (n k q : ℕ) → slice_get (ascending f n) k ≡ Some q → count_below f q ≡ k

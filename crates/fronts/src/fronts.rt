@@ -72,8 +72,8 @@ impl Front {
     }
 }
 
-/// A set of places that contains a prefix of each thread, all before some place. It takes four bytes
-/// for each thread; the table of the places' threads is shared.
+/// A set of places that contains a prefix of each thread, all before some place. It takes four
+/// bytes for each thread; the table of the places' threads is shared.
 #[derive(Drop)]
 pub struct Fronts {
     pub(crate) positions: Arc<Vec<ThreadPrefix>, Global>,

@@ -40,11 +40,11 @@ impl Propagation {
     /// Advances the members of the prefix's thread past the prefix, and includes all places before
     /// them. Returns `false` if a member has no further place.
     ///
-    /// # Errors
-    /// `NoMemory` if an allocation fails.
-    ///
     /// The caller passes requirements and members of the context's trace, and a prefix that is not
     /// shorter than the front.
+    ///
+    /// # Errors
+    /// `NoMemory` if an allocation fails.
     pub fn raise_to<L: Ledger>(
         &mut self,
         context: &Context<'_>,
@@ -84,11 +84,11 @@ impl Propagation {
     /// Includes the prefix, if it is not included. Returns `false` if a member has no further
     /// place.
     ///
-    /// # Errors
-    /// `NoMemory` if an allocation fails.
-    ///
     /// The caller passes requirements and members of the context's trace, with each member at the
     /// front of its thread.
+    ///
+    /// # Errors
+    /// `NoMemory` if an allocation fails.
     pub fn include<L: Ledger>(
         &mut self,
         context: &Context<'_>,
@@ -203,11 +203,11 @@ impl Propagation {
     /// Processes requirements until the worklist is empty: a fixpoint, at which all requirements of
     /// included places are met. Returns `false` if a member has no further place.
     ///
-    /// # Errors
-    /// `NoMemory` if an allocation fails.
-    ///
     /// The caller passes requirements and members of the context's trace, with each member at the
     /// front of its thread.
+    ///
+    /// # Errors
+    /// `NoMemory` if an allocation fails.
     pub fn run<L: Ledger>(
         &mut self,
         context: &Context<'_>,

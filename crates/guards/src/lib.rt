@@ -1,8 +1,8 @@
 //! Tests whether a dependency may join a cycle (guard sets; Bensalem and Havelund 2005).
 //!
-//! A cycle is a warning only if its members are from distinct threads and no two of them hold a
-//! common lock. A common lock is a gate lock: it excludes the deadlock. [`compatible`] decides this
-//! for one more member. Start reading there.
+//! The members of a cycle are dependencies of distinct threads, and no two of them hold a common
+//! lock. A common lock is a gate lock: it excludes the deadlock. [`compatible`] tests whether one
+//! more dependency may join the members. Start reading there.
 #![tactic(auto)]
 
 ghost use Rattle.std.specs.Prelude.{◌<◌, ◌↔◌, length, IsTrue};

@@ -1,14 +1,14 @@
 -- The graph with one more dependency.
-use Rattle.std.proofs.Common.{◌≡◌, ℕ, zero, suc, ◌+◌, ◌<◌, ◌↔◌, Bool, true, false, cond, List, [], ◌∷◌, ◌++◌, length, slice_get, get_or, Some, refl, sym, ap, ◌∙◌, subst, inl, inr, arith}
+use Rattle.std.proofs.Common.{◌≡◌, ℕ, zero, suc, ◌+◌, ◌↔◌, Bool, true, false, cond, List, [], ◌∷◌, ◌++◌, length, slice_get, Some, refl, sym, ap, ◌∙◌, subst, inl, inr}
 use Rattle.std.specs.Prelude.{nat_eq}
 use Rattle.std.specs.List.{Contains, list_any}
 use Rattle.std.specs.List.Sorted.{IsStrictlyIncreasing}
-use Rattle.std.proofs.lemmas.Bool.{eqb-true, eq-eqb, false≢true, or_cases, or_left, or_right, cases_lt}
-use Rattle.std.proofs.lemmas.List.{length-append}
-use Rattle.std.proofs.lemmas.Option.{slice_get_within, get_or_from_slice_get, slice_get-get_or, same_Some, none-some}
+use Rattle.std.proofs.lemmas.Bool.{eqb-true, eq-eqb, false≢true, or_cases, or_left, or_right}
+use Rattle.std.proofs.lemmas.Option.{slice_get_within, same_Some, none-some}
 use Rattle.trace_model.specs.Theory.Dependencies.{Dependency}
 use Rattle.trace_model.proofs.Lists.{get-push, get-push_kept, get-push_last}
 use Rattle.trace_model.proofs.Theory.Unique.{Has, has_contained, contains_had}
+use Rattle.dependencies.proofs.Noting.{push_increases}
 use Rattle.lock_graph.specs.Lists.{listed_with}
 use Rattle.lock_graph.specs.Graph.{HoldsLock, IsGraphOf}
 
@@ -25,19 +25,6 @@ has-any : (lock : ℕ) (locks : List ℕ) (k : ℕ) → slice_get locks k ≡ So
 has-any lock [] k h = absurd (none-some lock h)
 has-any lock (x ∷ xs) zero h = or_left (nat_eq x lock) (list_any (λ l. nat_eq l lock) xs) (eq-eqb x lock (same_Some x lock h))
 has-any lock (x ∷ xs) (suc k) h = or_right (nat_eq x lock) (list_any (λ l. nat_eq l lock) xs) (has-any lock xs k h)
-
--- a greater number at the end
-increasing-push : (xs : List ℕ) (n : ℕ) → IsStrictlyIncreasing xs → ((m : ℕ) → Contains xs m → m < n) → IsStrictlyIncreasing (xs ++ n ∷ [])
-increasing-push xs n up below k l = elim (cases_lt (k + 1) (length xs)) [
-  | inl inside ↦ omega (arith, same k (omega arith), same (k + 1) inside, up k inside)
-  | inr outside ↦
-      let last : k + 1 ≡ length xs = omega (arith, l, outside, length-append xs (n ∷ [])) in
-      let b : get_or (xs ++ n ∷ []) (k + 1) 0 ≡ n = ap (λ i. get_or (xs ++ n ∷ []) i 0) last ∙ get_or_from_slice_get (xs ++ n ∷ []) (length xs) n 0 (get-push_last xs n) in
-      omega (arith, same k (omega arith), b, below (get_or xs k 0) (contains_had xs (get_or xs k 0) (k, slice_get-get_or xs k 0 (omega arith))))
-]
-  where
-    same : (i : ℕ) → i < length xs → get_or (xs ++ n ∷ []) i 0 ≡ get_or xs i 0
-    same i inside = get_or_from_slice_get (xs ++ n ∷ []) i (get_or xs i 0) 0 (get-push_kept xs n i (get_or xs i 0) (slice_get-get_or xs i 0 inside))
 
 module _ (ds : List Dependency) (d : Dependency) (old : ℕ → List ℕ) (g : IsGraphOf ds old) (lock : ℕ) where
   kept : (n : ℕ) → HoldsLock ds n lock → HoldsLock (ds ++ d ∷ []) n lock
@@ -66,7 +53,7 @@ module _ (ds : List Dependency) (d : Dependency) (old : ℕ → List ℕ) (g : I
 
   rises : (b : Bool) → IsStrictlyIncreasing (cond b (old lock ++ length ds ∷ []) (old lock))
   rises false = g.ascends lock
-  rises true = increasing-push (old lock) (length ds) (g.ascends lock) (λ m c. let k = (g.exact lock m).0 c in slice_get_within ds m k.0 k.1)
+  rises true = push_increases (old lock) (length ds) (g.ascends lock) (λ m c. let k = (g.exact lock m).0 c in slice_get_within ds m k.0 k.1)
 
   pub exact-more : (n : ℕ) → Contains (listed_with d.held (length ds) lock (old lock)) n ↔ HoldsLock (ds ++ d ∷ []) n lock
   exact-more n = (forth (list_any (λ l. nat_eq l lock) d.held) refl n, back (list_any (λ l. nat_eq l lock) d.held) refl n)

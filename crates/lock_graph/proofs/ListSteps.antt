@@ -5,13 +5,10 @@ use Rattle.std.proofs.lemmas.Option.{slice_get_read, get_or_from_slice_get}
 use Rattle.std.specs.List.{list_any}
 use Rattle.std.proofs.lemmas.List.Folds.{list_any-append, Any-from_list_any}
 use Rattle.std.proofs.lemmas.List.{take_more, get_or-take}
+use Rattle.trace_model.proofs.Lists.{or-false}
 use Rattle.lock_graph.specs.Lists.{listed_with}
 use Rattle.std.specs.List.Sorted.{IsStrictlyIncreasing}
 use Rattle.std.proofs.lemmas.List.Kept.{AllPairs-from_increasing}
-
-or-false : (b : Bool) → (b || false) ≡ b
-or-false true = refl
-or-false false = refl
 
 -- locks at different indices differ
 pub apart : (locks : List ℕ) (i j : ℕ) → IsStrictlyIncreasing locks → i < j → j < length locks → get_or locks i 0 ≢ get_or locks j 0

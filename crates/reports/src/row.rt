@@ -5,9 +5,9 @@ use fronts::Fronts;
 use std::marker::Model;
 use trace_model::{Cycle, Instance};
 
-/// The least reached instance of a confirmed cycle, one place for each member, and the fronts of its
-/// closure. Contracts see these as the witness: the places of the least reordering that reaches the
-/// instance, ascending. They are found when the row is printed.
+/// The least reached instance of a confirmed cycle, one place for each member, and the fronts of
+/// its closure. Contracts see these as the witness: the places of the least reordering that reaches
+/// the instance, ascending. They are found when the row is printed.
 #[derive(Drop)]
 pub struct Found {
     pub places: Instance,

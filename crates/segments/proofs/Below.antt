@@ -1,6 +1,6 @@
 -- If places ascend, then the notes of places below a bound are a prefix.
-use Rattle.std.proofs.Common.{◌≡◌, ℕ, zero, suc, ◌<◌, ◌≤◌, Bool, true, false, cond, ltb, List, [], ◌∷◌, take, map, slice_get, Some, refl, sym, ap, ◌∙◌, arith}
-use Rattle.std.proofs.lemmas.Bool.{ltb-true, ltb-false}
+use Rattle.std.proofs.Common.{◌≡◌, ℕ, zero, suc, ◌<◌, ◌≤◌, cond, List, [], ◌∷◌, take, map, slice_get, Some, refl, sym, ap, ◌∙◌, arith}
+use Rattle.std.proofs.lemmas.Bool.{lt-ltb, le-ltb}
 use Rattle.std.proofs.lemmas.Option.{none-some, same_Some, slice_get_within, get_or_from_slice_get}
 use Rattle.std.proofs.lemmas.List.Kept.{AllPairs-from_increasing}
 use Rattle.segments.specs.Notes.{notes_below, Ascend}
@@ -13,24 +13,10 @@ AllFirst bound k notes = (i : ℕ) (e : ℕ × ℕ) → i < k → slice_get note
 abbrev pub AllRest : ℕ → ℕ → List (ℕ × ℕ) → Type 0
 AllRest bound k notes = (i : ℕ) (e : ℕ × ℕ) → k ≤ i → slice_get notes i ≡ Some e → bound ≤ e.1
 
-ltb_is : (a b : ℕ) → a < b → ltb a b ≡ true
-ltb_is a b l = go (ltb a b) refl
-  where
-    go : (c : Bool) → ltb a b ≡ c → ltb a b ≡ true
-    go true e = e
-    go false e = let le = ltb-false a b e in absurd (omega arith)
-
-ltb_not : (a b : ℕ) → b ≤ a → ltb a b ≡ false
-ltb_not a b l = go (ltb a b) refl
-  where
-    go : (c : Bool) → ltb a b ≡ c → ltb a b ≡ false
-    go true e = let lt = ltb-true a b e in absurd (omega arith)
-    go false e = e
-
 none_below : (bound : ℕ) (notes : List (ℕ × ℕ)) → AllRest bound 0 notes → notes_below bound notes ≡ []
 none_below bound [] rest = refl
 none_below bound (e ∷ notes) rest =
-    ap (λ b. cond b (e ∷ notes_below bound notes) (notes_below bound notes)) (ltb_not e.1 bound (rest 0 e (omega arith) refl))
+    ap (λ b. cond b (e ∷ notes_below bound notes) (notes_below bound notes)) (le-ltb e.1 bound (rest 0 e (omega arith) refl))
     ∙ none_below bound notes (λ i x l h. rest (suc i) x (omega arith) h)
 
 pub first_below : (bound k : ℕ) (notes : List (ℕ × ℕ)) → AllFirst bound k notes → AllRest bound k notes → take k notes ≡ notes_below bound notes
@@ -38,7 +24,7 @@ first_below bound zero notes first rest = sym (none_below bound notes rest)
 first_below bound (suc k) [] first rest = refl
 first_below bound (suc k) (e ∷ notes) first rest =
     ap (λ s. e ∷ s) (first_below bound k notes (λ i x l h. first (suc i) x (omega arith) h) (λ i x l h. rest (suc i) x (omega arith) h))
-    ∙ sym (ap (λ b. cond b (e ∷ notes_below bound notes) (notes_below bound notes)) (ltb_is e.1 bound (first 0 e (omega arith) refl)))
+    ∙ sym (ap (λ b. cond b (e ∷ notes_below bound notes) (notes_below bound notes)) (lt-ltb e.1 bound (first 0 e (omega arith) refl)))
 
 place_at : (notes : List (ℕ × ℕ)) (i : ℕ) (e : ℕ × ℕ) → slice_get notes i ≡ Some e → slice_get (map (λ x. x.1) notes) i ≡ Some e.1
 place_at [] i e h = absurd (none-some e h)

@@ -4,7 +4,7 @@ use Rattle.std.specs.Option.{option_map_or}
 use Rattle.std.proofs.lemmas.Bool.{eq-eqb, eqb-true, false≢true, and_parts}
 use Rattle.std.proofs.lemmas.Bool.Decides.{nat_tests}
 use Rattle.std.proofs.lemmas.Option.{same_Some, none-some, slice_get_within}
-use Rattle.trace_model.proofs.Lists.{at_index}
+use Rattle.trace_model.proofs.Lists.{at_index, same_bool}
 use Rattle.trace_model.specs.Theory.Trace.{Trace, OfThread}
 use Rattle.std.specs.Arc.{arc_value}
 use Rattle.std.specs.List.{Contains}
@@ -30,7 +30,10 @@ use Rattle.fronts.specs.Propagation.{State, IsFit, IsConsistent, sum_to}
 use Rattle.sp_closure.specs.declared.closer.Closer.{Closer}
 use Rattle.sp_closure.specs.Closers.{leads_to, CountsBut, HasBase, Keeps, KeepsFor, KeepsNothing, kept, prefix_before, total_over}
 use Rattle.fronts.proofs.Counts.{count_le}
-use Rattle.fronts.proofs.FrontLemmas.{of_thread_from, of_thread_so, lt_true}
+use Rattle.trace_model.proofs.Theory.Computed.{of_thread_from}
+use Rattle.trace_model.proofs.Theory.Derivable.{of_thread_so}
+use Rattle.fronts.proofs.FrontLemmas.{lt_true}
+use Rattle.fronts.proofs.PlaceLemmas.{false_from}
 use Rattle.fronts.proofs.ThreadLemmas.{place_below}
 use Rattle.fronts.proofs.SlotLemmas.{number_is}
 
@@ -84,14 +87,9 @@ pub slot_from : (slots : ℕ → Option ℕ) (a p : ℕ) → slots p ≡ Some a 
 unfolding in_slot
 slot_from slots a p e = rw e (eq-eqb a a refl)
 
-bool_same : (a b : Bool) → (a ≡ true → b ≡ true) → (b ≡ true → a ≡ true) → a ≡ b
-bool_same true b f g = sym (f refl)
-bool_same false true f g = g refl
-bool_same false false f g = refl
-
 -- The places of a place's thread are those of its slot.
 pub same_thread : (s : Trace) (slots : ℕ → Option ℕ) (count p a t : ℕ) → AreSlots s slots count → slots p ≡ Some a → OfThread s p t → (q : ℕ) → of_thread s t q ≡ in_slot slots a q
-same_thread s slots count p a t known at o q = bool_same (of_thread s t q) (in_slot slots a q)
+same_thread s slots count p a t known at o q = same_bool (of_thread s t q) (in_slot slots a q)
     (λ h. slot_from slots a q (known.alike p q a t at o (of_thread_so s t q h)))
     (λ h. of_thread_from s t q (known.apart p q a t at (slot_so slots a q h) o))
 
@@ -110,15 +108,11 @@ unfoldable pub one_of : Bool → ℕ
 one_of true = 1
 one_of false = 0
 
-pub bit_off : (b : Bool) → (b ≡ true → ⊥) → b ≡ false
-bit_off true h = absurd (h refl)
-bit_off false h = refl
-
 sum_off : (slots : ℕ → Option ℕ) (p n a : ℕ) → n ≤ a → slots p ≡ Some a → sum_to (λ b. one_of (in_slot slots b p)) n ≡ 0
 unfolding one_of
 sum_off slots p zero a l e = refl
 sum_off slots p (suc n) a l e =
-    let out : in_slot slots n p ≡ false = bit_off (in_slot slots n p) (λ h. omega (arith, l, same_Some n a (sym (slot_so slots n p h) ∙ e))) in
+    let out : in_slot slots n p ≡ false = false_from (in_slot slots n p) (λ h. omega (arith, l, same_Some n a (sym (slot_so slots n p h) ∙ e))) in
     omega (arith, sum_off slots p n a (omega (arith, l)) e, ap one_of out)
 
 sum_one : (slots : ℕ → Option ℕ) (p n : ℕ) → sum_to (λ a. one_of (in_slot slots a p)) n ≤ 1

@@ -16,8 +16,9 @@ use Rattle.fronts.specs.Slots.{slots_of, AreSlots, ArePositions, AreThreadSlots,
 use Rattle.fronts.specs.State.{count_of, places_in, size_in}
 use Rattle.fronts.specs.Propagation.{sum_to}
 use Rattle.fronts.proofs.FrontLemmas.{lt_true, lt_false}
+use Rattle.fronts.proofs.PlaceLemmas.{false_from}
 use Rattle.fronts.proofs.SlotLemmas.{has_number, number_is, in_front_at, in_front_so}
-use Rattle.sp_closure.proofs.BaseLemmas.{in_slot, slot_so, slot_from, one_of, bit_off, same_thread, first_counted, count_step, set_of_fronts, sum_none, sum_plus, sum_equal}
+use Rattle.sp_closure.proofs.BaseLemmas.{in_slot, slot_so, slot_from, one_of, same_thread, first_counted, count_step, set_of_fronts, sum_none, sum_plus, sum_equal}
 
 -- The place is of the slot, and included.
 abbrev slot_in : Trace → (ℕ → Option ℕ) → (ℕ → ℕ) → ℕ → Places
@@ -89,7 +90,7 @@ sum_in s slots count front p known = go (in_front s slots front p) refl
         let same : b ≡ a = same_Some b a (sym h ∙ x.slot) in
         sum_single (λ c. one_of (slot_in s slots front c p)) a count (omega (arith, less, same))
         (ap one_of (ap (λ c. c && in_front s slots front p) (slot_from slots a p x.slot) ∙ e))
-        (λ c apart. ap one_of (ap (λ d. d && in_front s slots front p) (bit_off (in_slot slots c p) (λ k. apart (same_Some c a (sym (slot_so slots c p k) ∙ x.slot))))))
+        (λ c apart. ap one_of (ap (λ d. d && in_front s slots front p) (false_from (in_slot slots c p) (λ k. apart (same_Some c a (sym (slot_so slots c p k) ∙ x.slot))))))
         ∙ sym (ap one_of e)
 
 sum_counted : (s : Trace) (slots : ℕ → Option ℕ) (count : ℕ) (front : ℕ → ℕ) (k : ℕ) → AreSlots s slots count →

@@ -1,10 +1,8 @@
 -- How the timestamps of places are computed and kept.
 use Rattle.std.proofs.Common.{◌≡◌, ℕ, ◌<◌, ◌⊎◌, inl, inr, List, [], length, slice_get, slice_set, Option, Some, Result, Ok, Err, IfOk, refl, subst, sym, ap, ◌∙◌, arith}
 use Rattle.std.specs.Global.{Vec}
-use Rattle.std.specs.Slice.{IsItemAt}
-use denote.Ref.{Bor}
 use Rattle.std.proofs.lemmas.Bool.Decides.{eqb_tells}
-use Rattle.std.proofs.lemmas.Option.{none-some, slice_get_read, slice_get_within, same_Some}
+use Rattle.std.proofs.lemmas.Option.{none-some, slice_get_within, same_Some}
 use Rattle.trace_model.specs.Theory.Trace.{Trace}
 use Rattle.trace_model.specs.Theory.Closure.{Places, IsClosed}
 use Rattle.trace_model.proofs.Theory.Ascending.{place_of}
@@ -18,10 +16,6 @@ use Rattle.fronts.specs.Slots.{AreSlots, HasPosition, HasFirst, HoldsFirst}
 use Rattle.sp_closure.specs.Timestamps.{AreTimelines, HasPrefix, IsTimeline, IsWithin, Puts, PutsAt, IsEntryAt, prefix_of_timestamp}
 use Rattle.fronts.proofs.SlotLemmas.{has_before, before_position}
 use Rattle.sp_closure.proofs.TableLemmas.{ArePlaces}
-
--- The value of a lookup.
-pub lent : {X : Type 0} (xs : List X) (k : ℕ) (x : Bor X) → IsItemAt xs k (Some x) → slice_get xs k ≡ Some x.now
-lent xs k x h = slice_get_read xs (length xs) k x.now refl h.3.0 h.1
 
 -- The entry of a new timeline: its place, and an empty timestamp.
 pub record IsMade (s : Trace) (slots : ℕ → Option ℕ) (xs : List ℕ) (slot k : ℕ) (x : Timestamp) : Type 0 where

@@ -306,10 +306,10 @@ impl Timestamps {
     /// trace has more than 64 threads, or more than 65,536 dependencies. Else it takes at most the
     /// time of one closure of the whole trace for each thread, and keeps at most 4,194,304 numbers.
     ///
+    /// The caller passes the requirements of the index's trace, and the table of its dependencies.
+    ///
     /// # Errors
     /// `NoMemory` if an allocation fails.
-    ///
-    /// The caller passes the requirements of the index's trace, and the table of its dependencies.
     pub fn new<L: Ledger>(
         alloc: Global,
         index: &TraceIndex,

@@ -4,7 +4,7 @@ use Rattle.std.proofs.lemmas.Bool.{eqb-true, leb-true, cases_lt}
 use Rattle.std.proofs.lemmas.Option.{none-some, same_Some, slice_get_within}
 use Rattle.trace_model.specs.declared.traces.event.Event.{Event}
 use Rattle.trace_model.specs.declared.traces.event.Op.{Op}
-use Rattle.trace_model.specs.declared.traces.event.Op.TheVariants.{Fork, Join, Acquire, Release, Read, Write}
+use Rattle.trace_model.specs.declared.traces.event.Op.TheVariants.{Acquire, Release}
 use Rattle.trace_model.specs.declared.limits.TheConstants.{MAX_EVENTS}
 use Rattle.trace_model.specs.declared.traces.owner.Owner.{Owner}
 use Rattle.trace_model.specs.Theory.Trace.{Trace, At}
@@ -33,28 +33,18 @@ owned_in s l = owned (owner s l)
 pub op_depth-agree : (f g : ℕ → ℕ) (o : Op) → ((l : ℕ) → f l ≡ g l) → op_depth f o ≡ op_depth g o
 op_depth-agree f g (Acquire l) h = h l
 op_depth-agree f g (Release l) h = h l
-op_depth-agree f g (Fork l) h = refl
-op_depth-agree f g (Join l) h = refl
-op_depth-agree f g (Read l) h = refl
-op_depth-agree f g (Write l) h = refl
+op_depth-agree f g _ h = refl
 
 -- before a lawful event, the depth of its lock is the depth for its thread
 lawful_depth : (s : Trace) → IsWellFormed s → (t : ℕ) (o : Op) → op_refusal_of s t o ≡ None →
     op_depth (owned_in s) o ≡ op_depth (depth s (length s) t) o
 lawful_depth s w t (Acquire l) h = sym (acquired_owned s w t l h)
 lawful_depth s w t (Release l) h = sym (released_owned s w t l h)
-lawful_depth s w t (Fork l) h = refl
-lawful_depth s w t (Join l) h = refl
-lawful_depth s w t (Read l) h = refl
-lawful_depth s w t (Write l) h = refl
+lawful_depth s w t _ h = refl
 
 lawful_shallow : (s : Trace) (t : ℕ) (o : Op) → op_refusal_of s t o ≡ None → IsShallow o (op_depth (depth s (length s) t) o)
 lawful_shallow s t (Acquire l) h = (lawful_acquire s t l h).0
-lawful_shallow s t (Release l) h = tt
-lawful_shallow s t (Fork l) h = tt
-lawful_shallow s t (Join l) h = tt
-lawful_shallow s t (Read l) h = tt
-lawful_shallow s t (Write l) h = tt
+lawful_shallow s t _ h = tt
 
 -- the row of a lawful acquire is below the limit
 pub next_shallow : (s : Trace) → IsWellFormed s → (e : Event) (d : ℕ) → refusal_of MAX_EVENTS s e ≡ None → d ≡ op_depth (owned_in s) e.op → IsShallow e.op d
@@ -98,10 +88,7 @@ noted_is s t (Release m) l = go (nat_eq m l) refl
     go : (b : Bool) → nat_eq m l ≡ b → cond b (owned_in s m - 1) (owned_in s l) ≡ owned (cond b (released (owner s l)) (owner s l))
     go true e = ap (λ k. owned_in s k - 1) (eqb-true m l e) ∙ sym (released_less (owner s l))
     go false e = refl
-noted_is s t (Fork c) l = refl
-noted_is s t (Join c) l = refl
-noted_is s t (Read v) l = refl
-noted_is s t (Write v) l = refl
+noted_is s t _ l = refl
 
 -- the depths after one more event
 pub depths_push : (s : Trace) (e : Event) (d : ℕ) (old : DepthTable) (new : DepthTable) → ((l : ℕ) → depth_in old l ≡ owned_in s l) →

@@ -9,7 +9,7 @@ use Rattle.std.specs.declared.alloc.Global.{Global}
 use Rattle.std.specs.HashMap.{HashMap, get}
 use Rattle.trace_model.specs.declared.traces.event.Event.{Event}
 use Rattle.trace_model.specs.declared.traces.event.Op.{Op}
-use Rattle.trace_model.specs.declared.traces.event.Op.TheVariants.{Fork, Join, Acquire, Release, Read, Write}
+use Rattle.trace_model.specs.declared.traces.event.Op.TheVariants.{Fork, Acquire, Release, Write}
 use Rattle.trace_model.specs.Theory.Trace.{Trace, event, At, op_eq, does, last_place}
 use Rattle.trace_model.specs.Theory.Held.{depth, Begins, Ends, BeginsOn, begins_on}
 use Rattle.trace_model.specs.Theory.Lookups.{release}
@@ -94,19 +94,11 @@ op_adds e d o q h s k a = ap (λ z. option_map_or (λ x. op_eq x.op o) z false) 
 
 fork_adds : (c d : ℕ) (x : Op) → op_eq x (Fork c) ≡ adds_to x d (ForkOf c)
 fork_adds c d (Fork a) = refl
-fork_adds c d (Join a) = refl
-fork_adds c d (Acquire a) = refl
-fork_adds c d (Release a) = refl
-fork_adds c d (Read a) = refl
-fork_adds c d (Write a) = refl
+fork_adds c d _ = refl
 
 write_adds : (v d : ℕ) (x : Op) → op_eq x (Write v) ≡ adds_to x d (WriteOf v)
-write_adds c d (Fork a) = refl
-write_adds c d (Join a) = refl
-write_adds c d (Acquire a) = refl
-write_adds c d (Release a) = refl
-write_adds c d (Read a) = refl
 write_adds c d (Write a) = refl
+write_adds c d _ = refl
 
 take_adds : (s : Trace) (k t l : ℕ) (x : Op) → (op_eq x (Acquire l) && (depth s k t l == 0)) ≡ adds_to x (op_depth (depth s k t) x) (AcquireOf l)
 take_adds s k t l (Acquire a) = go (a == l) refl
@@ -114,19 +106,11 @@ take_adds s k t l (Acquire a) = go (a == l) refl
     go : (b : Bool) → (a == l) ≡ b → (b && (depth s k t l == 0)) ≡ (b && (depth s k t a == 0))
     go true e = ap (λ m. depth s k t m == 0) (sym (eqb-true a l e))
     go false e = refl
-take_adds s k t l (Fork a) = refl
-take_adds s k t l (Join a) = refl
-take_adds s k t l (Release a) = refl
-take_adds s k t l (Read a) = refl
-take_adds s k t l (Write a) = refl
+take_adds s k t l _ = refl
 
 no_thread : (t d : ℕ) (x : Op) → adds_to x d (OfThread t) ≡ false
 no_thread t d (Fork a) = refl
-no_thread t d (Join a) = refl
-no_thread t d (Acquire a) = refl
-no_thread t d (Release a) = refl
-no_thread t d (Read a) = refl
-no_thread t d (Write a) = refl
+no_thread t d _ = refl
 
 or_none : (b c : Bool) → c ≡ false → (b || c) ≡ b
 or_none true c h = refl
@@ -263,11 +247,7 @@ ends_here s w k row h is deep a = go row.event.op refl
 
     go : (o : Op) → row.event.op ≡ o → ends_at s a k ≡ is_place (ended_by o row.depth row.object.earlier) a
     go (Release l) e = ended l e (row.depth == 1) refl
-    go (Fork l) e = plain (Fork l) e (λ m f. cc)
-    go (Join l) e = plain (Join l) e (λ m f. cc)
-    go (Acquire l) e = plain (Acquire l) e (λ m f. cc)
-    go (Read l) e = plain (Read l) e (λ m f. cc)
-    go (Write l) e = plain (Write l) e (λ m f. cc)
+    go o e = plain o e (λ m f. cc)
 
 -- ---- what tables say of the trace
 

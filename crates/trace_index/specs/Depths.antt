@@ -62,7 +62,8 @@ AreDepths s n table = (l : ℕ) → depth_in table l ≡ owned (owner (take n s)
 
 -- The table has the depths after the first `noted` rows, and the reserved row has the depth of its
 -- event.
-pub record IsDeep (rows : List IndexRow) (table : DepthTable) (noted : ℕ) (next : Option Ready) : Type 0 where
+pub record IsDeep (rows : List IndexRow) (table : DepthTable) (noted : ℕ)
+    (next : Option Ready) : Type 0 where
   pub depths_are : AreDepths (trace_of rows) noted table
   pub within : noted ≤ length rows
   pub all : (r : Ready) → next ≡ Some r → noted ≡ length rows

@@ -16,8 +16,8 @@ pub record HasPosition {S : Type 0} (places : HashMap Key ℕ S) (key : Key)
 
 -- Each other key keeps its position.
 abbrev pub KeepsPositions : {S T : Type 0} → HashMap Key ℕ S → Key → HashMap Key ℕ T → Type 0
-KeepsPositions old key new = (q : Key) (position : Option ℕ) → same_key key q ≡ false → HasPosition old q position →
-    HasPosition new q position
+KeepsPositions old key new = (q : Key) (position : Option ℕ) → same_key key q ≡ false →
+    HasPosition old q position → HasPosition new q position
 
 -- The positions of the two keys of an event.
 pub record ArePositions {S : Type 0} (places : HashMap Key ℕ S) (e : Event)

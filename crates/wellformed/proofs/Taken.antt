@@ -5,7 +5,7 @@ use Rattle.std.proofs.lemmas.List.Sums.{fold-append}
 use Rattle.std.proofs.lemmas.Option.{same_Some, slice_get_within}
 use Rattle.trace_model.specs.declared.traces.event.Event.{Event}
 use Rattle.trace_model.specs.declared.traces.event.Op.{Op}
-use Rattle.trace_model.specs.declared.traces.event.Op.TheVariants.{Fork, Join, Acquire, Release, Read, Write}
+use Rattle.trace_model.specs.declared.traces.event.Op.TheVariants.{Acquire, Release}
 use Rattle.trace_model.specs.declared.limits.TheConstants.{MAX_EVENTS}
 use Rattle.trace_model.specs.declared.traces.owner.Owner.{Owner}
 use Rattle.trace_model.specs.Theory.Trace.{Trace, event, At, op_eq}
@@ -110,11 +110,7 @@ module _ (s : Trace) (w : IsWellFormed s) (q : ℕ) (flat : IsFlatBelow s q) whe
   pub not_flat : (t : ℕ) (o : Op) → At s q (event t o) → acquires_taken (take q s) o ≡ true → IsFlat s → ⊥
   not_flat t (Acquire l) at h whole =
       let deep = ltb-true 0 (depth s q t l) (sym (taken-depth s w q t l flat at) ∙ h) in omega (arith, deep, whole q t l at)
-  not_flat t (Fork l) at h whole = false≢true h
-  not_flat t (Join l) at h whole = false≢true h
-  not_flat t (Release l) at h whole = false≢true h
-  not_flat t (Read l) at h whole = false≢true h
-  not_flat t (Write l) at h whole = false≢true h
+  not_flat t _ at h whole = false≢true h
 
   -- or it does not, so the longer prefix is flat
   pub flat_more : (e : Event) → At s q e → acquires_taken (take q s) e.op ≡ false → IsFlatBelow s (suc q)

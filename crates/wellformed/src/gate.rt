@@ -12,7 +12,8 @@ use std::hash::RandomState;
 use std::marker::Model;
 use trace_model::{Event, NoMemory, Refusal};
 
-/// The recorded events, each lawful after the events before it, and the reserved event.
+/// The recorded events, each lawful after the events before it, and the reserved event. Part of the
+/// public API; not called by the program, which uses [`GateTables`].
 ///
 /// Contracts see the limit, the events and the reserved event.
 #[derive(Drop)]

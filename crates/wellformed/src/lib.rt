@@ -1,9 +1,11 @@
 //! The gate: decides which events may follow the recorded ones.
 //!
-//! [`Gate`] records events, and [`GateTables`] is the gate without the list of events. `check`
-//! returns exactly the first refusal that applies, `reserve` allocates for an event, and `record`
-//! adds it without allocating. [`first_unlawful`] checks a whole list, and [`flat`] tests that a
-//! trace has no inner acquire. Start reading at [`Gate`].
+//! [`GateTables`] has what the gate needs of the recorded events. `check` returns exactly the first
+//! refusal that applies, `reserve` allocates for an event, and `record` adds it without allocating.
+//! [`first_unlawful`] checks a whole list. Start reading at [`GateTables`].
+//!
+//! Public API that the program does not call: [`Gate`], the gate with its list of events, and
+//! [`flat`], which tests that a trace has no inner acquire.
 #![tactic(auto)]
 
 mod entries;

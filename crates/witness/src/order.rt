@@ -16,10 +16,10 @@ use trace_model::{NoMemory, Place};
 /// one. It does not visit places after the greatest of the reached places. Part of the public API;
 /// not called by the program, which prints the places from the fronts.
 ///
+/// The caller passes the index of the trace over which the fronts were made.
+///
 /// # Errors
 /// `NoMemory` if an allocation fails.
-///
-/// The caller passes the index of the trace over which the fronts were made.
 pub fn write_witness(
     alloc: Global,
     index: &TraceIndex,

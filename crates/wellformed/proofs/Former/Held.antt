@@ -4,7 +4,7 @@ use Rattle.std.proofs.lemmas.Bool.{le-leb}
 use Rattle.std.specs.Option.{option_and_then}
 use Rattle.trace_model.specs.declared.traces.event.Event.{Event}
 use Rattle.trace_model.specs.declared.traces.event.Op.{Op}
-use Rattle.trace_model.specs.declared.traces.event.Op.TheVariants.{Fork, Join, Acquire, Release, Read, Write}
+use Rattle.trace_model.specs.declared.traces.event.Op.TheVariants.{Acquire, Release}
 use Rattle.trace_model.specs.Theory.Trace.{Trace, event, At, Does}
 use Rattle.trace_model.specs.Theory.Held.{depth, has, held, held_after, held_step, without_lock, BeginsOn}
 use Rattle.trace_model.specs.Theory.Dependencies.{dependency_of, dependency_at, dependencies_below, dependencies, with_new}
@@ -16,11 +16,7 @@ use Rattle.wellformed.proofs.Taken.{flat_below, flat_shallow}
 
 after_is : (depths : ℕ → ℕ) → ((l : ℕ) → depths l ≤ 1) → (op : Op) (ks : List ℕ) → former.held_after op ks ≡ held_after depths op ks
 after_is depths few (Release l) ks = ap (λ b. cond b (without_lock l ks) ks) (sym (le-leb (depths l) 1 (few l)))
-after_is depths few (Acquire l) ks = refl
-after_is depths few (Fork l) ks = refl
-after_is depths few (Join l) ks = refl
-after_is depths few (Read l) ks = refl
-after_is depths few (Write l) ks = refl
+after_is depths few _ ks = refl
 
 step_is : (depths : ℕ → ℕ) → ((l : ℕ) → depths l ≤ 1) → (o : Option Event) (t : ℕ) (ks : List ℕ) → former.held_step o t ks ≡ held_step depths o t ks
 step_is depths few None t ks = refl
@@ -58,11 +54,7 @@ module _ (s : Trace) (flat : IsFlat s) where
   op_dependency : (p t : ℕ) (op : Op) → At s p (event t op) →
       former_dependencies.dependency_of t op (held s p t) ≡ dependency_of t op (held s p t)
   op_dependency p t (Acquire l) at = free_dependency t l (held s p t) (lacks p t l at)
-  op_dependency p t (Release l) at = refl
-  op_dependency p t (Fork l) at = refl
-  op_dependency p t (Join l) at = refl
-  op_dependency p t (Read l) at = refl
-  op_dependency p t (Write l) at = refl
+  op_dependency p t _ at = refl
 
   pub dependency_at_is : (p : ℕ) → former_dependencies.dependency_at s p ≡ dependency_at s p
   dependency_at_is p = go (slice_get s p) refl

@@ -4,7 +4,7 @@ use Rattle.std.proofs.lemmas.Bool.{lt-leb, lt-ltb, ltb-true}
 use Rattle.std.proofs.lemmas.Option.{slice_get_within}
 use Rattle.std.specs.List.{list_any}
 use Rattle.trace_model.specs.declared.traces.event.Op.{Op}
-use Rattle.trace_model.specs.declared.traces.event.Op.TheVariants.{Fork, Join, Acquire, Release, Read, Write}
+use Rattle.trace_model.specs.declared.traces.event.Op.TheVariants.{Fork, Join, Acquire, Release}
 use Rattle.trace_model.specs.declared.refusal.Refusal.TheVariants.{Full, Unforked, Ended}
 use Rattle.trace_model.specs.declared.limits.TheConstants.{MAX_EVENTS, MAX_HELD}
 use Rattle.trace_model.specs.Theory.Trace.{Trace, event, stands}
@@ -42,10 +42,7 @@ module _ (s : Trace) (flat : IsFlat s) (t : ℕ) where
       let free : held_by s t l ≡ false = ap (ltb 0) (outermost l refl) in
       rw (by_is t l ∙ free, by_other_is l ∙ parts.1, few l (parts.2 free)) refl
   op_lawful (Release l) outermost h = rw (by_is t l ∙ lt-ltb 0 (depth s (length s) t l) (lawful_release s t l h)) refl
-  op_lawful (Fork l) outermost h = h
-  op_lawful (Join l) outermost h = h
-  op_lawful (Read l) outermost h = h
-  op_lawful (Write l) outermost h = h
+  op_lawful _ outermost h = h
 
 pub was_well_formed : (s : Trace) → IsWellFormed s → IsFlat s → former.IsWellFormed s
 was_well_formed s w flat p e at =

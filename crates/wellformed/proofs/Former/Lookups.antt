@@ -5,7 +5,7 @@ use Rattle.std.proofs.lemmas.Option.{same_Some}
 use Rattle.std.specs.Option.{option_and_then}
 use Rattle.trace_model.specs.declared.traces.event.Event.{Event}
 use Rattle.trace_model.specs.declared.traces.event.Op.{Op}
-use Rattle.trace_model.specs.declared.traces.event.Op.TheVariants.{Fork, Join, Acquire, Release, Read, Write}
+use Rattle.trace_model.specs.declared.traces.event.Op.TheVariants.{Acquire, Release}
 use Rattle.trace_model.specs.Theory.Trace.{Trace, event, At, Does, does, first_place}
 use Rattle.trace_model.specs.Theory.Held.{ends_of, Begins, Ends, InSection}
 use Rattle.trace_model.specs.Theory.Lawful.{IsWellFormed}
@@ -73,11 +73,7 @@ module _ (s : Trace) (w : IsWellFormed s) (flat : IsFlat s) where
   op_release p t (Acquire l) at =
       let begins : Begins s p t l = (at, flat p t l at) in
       first_is p t l (length s - suc p) begins ∙ sym (release_computes s p t l begins)
-  op_release p t (Release l) at = rw at refl
-  op_release p t (Fork l) at = rw at refl
-  op_release p t (Join l) at = rw at refl
-  op_release p t (Read l) at = rw at refl
-  op_release p t (Write l) at = rw at refl
+  op_release p t _ at = rw at refl
 
   pub release_is : (p : ℕ) → former.release s p ≡ release s p
   release_is p = go (slice_get s p) refl

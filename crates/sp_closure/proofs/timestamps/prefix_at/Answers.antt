@@ -1,6 +1,6 @@
 use Rattle.std.proofs.Common.{Some, refl, subst}
 use Rattle.std.specs.Slice.{IsItemAt}
-use Rattle.sp_closure.proofs.TimestampLemmas.{lent}
+use Rattle.fronts.proofs.FrontLemmas.{lent}
 use Rattle.sp_closure.proofs.timestamps.prefix_at.Goals as goal
 
 pub returns : goal.returns

@@ -51,12 +51,8 @@ pub invariant_of-self-in_err-follow : goal.invariant_of-self-in_err-follow
 invariant_of-self-in_err-follow c =
     let i = c.self.inside in
     let is = c.self.invariant in
-    let l = c.follow.new.self in
-    let m = c.reserve-2.new.self in
     record {
-      index = followed i.rows c.reserve.new.self i.tables.sealed.items m.sealed.items c.deref.result.now i.tables.tail m.tail i.last_places.places l.places i.last_places.noted l.noted i.next is.index
-          c.in_ok-reserve.ensures.shown c.deref.ensures.value
-          (subst (λ (n : ℕ). (s : Trace) → AreAllTables s n i.tables.sealed.items i.tables.tail → AreAllTables s n m.sealed.items m.tail) c.len-len.ensures c.in_ok-reserve-2.ensures.same)
+      index = followed _ c.reserve.new.self _ _ _ _ _ _ _ _ _ _ _ c.self.invariant.index c.in_ok-reserve.ensures.shown c.deref.ensures.value c.len-len.ensures c.in_ok-reserve-2.ensures.same
           c.in_err-follow.ensures.last_places c.in_err-follow.ensures.within;
       deep = deep_still i.rows.0 c.reserve.new.self.0 i.depths.table i.depths.noted is.deep.depths_are is.deep.within c.in_ok-reserve.ensures.shown;
     }
@@ -72,12 +68,8 @@ follow-requires-2 c =
     let i = c.self.inside in
     let deep = c.self.invariant.deep in
     let same = c.in_ok-reserve.ensures.shown in
-    let is = (let l = c.follow.new.self in
-    let m = c.reserve-2.new.self in
-    followed i.rows c.reserve.new.self i.tables.sealed.items m.sealed.items c.deref.result.now i.tables.tail m.tail i.last_places.places l.places i.last_places.noted l.noted i.next c.self.invariant.index
-    c.in_ok-reserve.ensures.shown c.deref.ensures.value
-    (subst (λ (n : ℕ). (s : Trace) → AreAllTables s n i.tables.sealed.items i.tables.tail → AreAllTables s n m.sealed.items m.tail) c.len-len.ensures c.in_ok-reserve-2.ensures.same)
-    c.in_ok-follow.ensures.last_places c.in_ok-follow.ensures.within) in
+    let is = followed _ c.reserve.new.self _ _ _ _ _ _ c.follow.new.self.places _ _ _ _ c.self.invariant.index c.in_ok-reserve.ensures.shown c.deref.ensures.value c.len-len.ensures c.in_ok-reserve-2.ensures.same
+    c.in_ok-follow.ensures.last_places c.in_ok-follow.ensures.within in
     record {
       well_formed = is.shown.well_formed;
       rows = is.shown.depths_are;
@@ -88,42 +80,27 @@ follow-requires-2 c =
 
 pub invariant_of-self-in_err-follow-2 : goal.invariant_of-self-in_err-follow-2
 invariant_of-self-in_err-follow-2 c =
-    let i = c.self.inside in
     let d = c.follow-2.new.self in
     let deep = c.in_err-follow-2.ensures in
     record {
-      index = (let l = c.follow.new.self in
-          let m = c.reserve-2.new.self in
-          followed i.rows c.reserve.new.self i.tables.sealed.items m.sealed.items c.deref.result.now i.tables.tail m.tail i.last_places.places l.places i.last_places.noted l.noted i.next c.self.invariant.index
-          c.in_ok-reserve.ensures.shown c.deref.ensures.value
-          (subst (λ (n : ℕ). (s : Trace) → AreAllTables s n i.tables.sealed.items i.tables.tail → AreAllTables s n m.sealed.items m.tail) c.len-len.ensures c.in_ok-reserve-2.ensures.same)
-          c.in_ok-follow.ensures.last_places c.in_ok-follow.ensures.within);
+      index = followed _ c.reserve.new.self _ _ _ _ _ _ _ _ _ _ _ c.self.invariant.index c.in_ok-reserve.ensures.shown c.deref.ensures.value c.len-len.ensures c.in_ok-reserve-2.ensures.same
+          c.in_ok-follow.ensures.last_places c.in_ok-follow.ensures.within;
       deep = deep_still c.reserve.new.self.0 c.reserve.new.self.0 d.table d.noted deep.depths deep.within refl;
     }
 
 pub invariant_of-self-in_err-reserve-3 : goal.invariant_of-self-in_err-reserve-3
 invariant_of-self-in_err-reserve-3 c =
-    let i = c.self.inside in
     let d = c.reserve-3.new.self in
     record {
-      index = (let l = c.follow.new.self in
-          let m = c.reserve-2.new.self in
-          followed i.rows c.reserve.new.self i.tables.sealed.items m.sealed.items c.deref.result.now i.tables.tail m.tail i.last_places.places l.places i.last_places.noted l.noted i.next c.self.invariant.index
-          c.in_ok-reserve.ensures.shown c.deref.ensures.value
-          (subst (λ (n : ℕ). (s : Trace) → AreAllTables s n i.tables.sealed.items i.tables.tail → AreAllTables s n m.sealed.items m.tail) c.len-len.ensures c.in_ok-reserve-2.ensures.same)
-          c.in_ok-follow.ensures.last_places c.in_ok-follow.ensures.within);
+      index = followed _ c.reserve.new.self _ _ _ _ _ _ _ _ _ _ _ c.self.invariant.index c.in_ok-reserve.ensures.shown c.deref.ensures.value c.len-len.ensures c.in_ok-reserve-2.ensures.same
+          c.in_ok-follow.ensures.last_places c.in_ok-follow.ensures.within;
       deep = deep_entered c.reserve.new.self.0 c.follow-2.new.self.table d.table c.follow-2.new.self.noted d.noted c.in_ok-follow-2.ensures.depths c.in_ok-follow-2.ensures.within
           c.in_err-reserve-3.ensures.shown c.in_err-reserve-3.ensures.noted;
     }
 
 is_index : (c : goal.After-ready_for-arg-3-1) → IsIndex c.reserve.new.self c.reserve-2.new.self.sealed.items c.reserve-2.new.self.tail c.follow.new.self.places c.follow.new.self.noted None
 is_index c =
-    let i = c.self.inside in
-    let l = c.follow.new.self in
-    let m = c.reserve-2.new.self in
-    followed i.rows c.reserve.new.self i.tables.sealed.items m.sealed.items c.deref.result.now i.tables.tail m.tail i.last_places.places l.places i.last_places.noted l.noted i.next c.self.invariant.index
-    c.in_ok-reserve.ensures.shown c.deref.ensures.value
-    (subst (λ (n : ℕ). (s : Trace) → AreAllTables s n i.tables.sealed.items i.tables.tail → AreAllTables s n m.sealed.items m.tail) c.len-len.ensures c.in_ok-reserve-2.ensures.same)
+    followed _ c.reserve.new.self _ _ _ _ _ _ _ _ _ _ _ c.self.invariant.index c.in_ok-reserve.ensures.shown c.deref.ensures.value c.len-len.ensures c.in_ok-reserve-2.ensures.same
     c.in_ok-follow.ensures.last_places c.in_ok-follow.ensures.within
 
 pub ready_for-ready-requires-clause-rows : goal.ready_for-ready-requires-clause-rows
@@ -159,11 +136,7 @@ invariant_of-self-2 c =
     let all : d.noted ≡ length rows = c.in_ok-reserve-3.ensures.noted ∙ c.in_ok-follow-2.ensures.ok in
     record {
       index = ready_next c.reserve.new.self m.sealed.items m.tail l.places l.noted r
-          (let l = c.follow.new.self in
-          let m = c.reserve-2.new.self in
-          followed i.rows c.reserve.new.self i.tables.sealed.items m.sealed.items c.deref.result.now i.tables.tail m.tail i.last_places.places l.places i.last_places.noted l.noted i.next c.self.invariant.index
-          c.in_ok-reserve.ensures.shown c.deref.ensures.value
-          (subst (λ (n : ℕ). (s : Trace) → AreAllTables s n i.tables.sealed.items i.tables.tail → AreAllTables s n m.sealed.items m.tail) c.len-len.ensures c.in_ok-reserve-2.ensures.same)
+          (followed _ c.reserve.new.self _ _ _ _ _ _ _ _ _ _ _ c.self.invariant.index c.in_ok-reserve.ensures.shown c.deref.ensures.value c.len-len.ensures c.in_ok-reserve-2.ensures.same
           c.in_ok-follow.ensures.last_places c.in_ok-follow.ensures.within)
           (record {
             row_is = c.ready_for-ready.ensures.row;

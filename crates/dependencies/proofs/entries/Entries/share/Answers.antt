@@ -38,20 +38,16 @@ returns-clause-kept c =
     (part_kept e.keys.keys c.in_ok-share.field-0.keys e.places.notes c.in_ok-share-2.field-0.notes e.places.numbers c.args.total c.args.bound
     c.requires.kept c.requires.listing c.requires.total c.in_ok-share.ensures c.in_ok-share-2.ensures.notes)
 
-pub returns-in_err-share-clause-part : goal.returns-in_err-share-clause-part
-returns-in_err-share-clause-part c = IfOk-from_err c.from_residual.result _ c.from_residual.ensures.0
+pub returns-in_err-share : goal.returns-in_err-share
+returns-in_err-share c = record {
+  part = IfOk-from_err c.from_residual.result _ c.from_residual.ensures.0;
+  listing = IfOk-from_err c.from_residual.result _ c.from_residual.ensures.0;
+  kept = IfOk-from_err c.from_residual.result _ c.from_residual.ensures.0;
+}
 
-pub returns-in_err-share-clause-listing : goal.returns-in_err-share-clause-listing
-returns-in_err-share-clause-listing c = IfOk-from_err c.from_residual.result _ c.from_residual.ensures.0
-
-pub returns-in_err-share-clause-kept : goal.returns-in_err-share-clause-kept
-returns-in_err-share-clause-kept c = IfOk-from_err c.from_residual.result _ c.from_residual.ensures.0
-
-pub returns-in_err-share-2-clause-part : goal.returns-in_err-share-2-clause-part
-returns-in_err-share-2-clause-part c = IfOk-from_err c.from_residual-in_err-share-2.result _ c.from_residual-in_err-share-2.ensures.0
-
-pub returns-in_err-share-2-clause-listing : goal.returns-in_err-share-2-clause-listing
-returns-in_err-share-2-clause-listing c = IfOk-from_err c.from_residual-in_err-share-2.result _ c.from_residual-in_err-share-2.ensures.0
-
-pub returns-in_err-share-2-clause-kept : goal.returns-in_err-share-2-clause-kept
-returns-in_err-share-2-clause-kept c = IfOk-from_err c.from_residual-in_err-share-2.result _ c.from_residual-in_err-share-2.ensures.0
+pub returns-in_err-share-2 : goal.returns-in_err-share-2
+returns-in_err-share-2 c = record {
+  part = IfOk-from_err c.from_residual-in_err-share-2.result _ c.from_residual-in_err-share-2.ensures.0;
+  listing = IfOk-from_err c.from_residual-in_err-share-2.result _ c.from_residual-in_err-share-2.ensures.0;
+  kept = IfOk-from_err c.from_residual-in_err-share-2.result _ c.from_residual-in_err-share-2.ensures.0;
+}

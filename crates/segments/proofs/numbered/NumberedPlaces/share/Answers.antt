@@ -21,14 +21,11 @@ returns-clause-notes c =
     let i = c.self.inside in
     ap pairs_of c.in_ok-notes.ensures ∙ pairs_take c.count_below-count.result i.notes.0 ∙ c.count_below-count.ensures.first ∙ ap (λ v. notes_below c.args.bound v.notes) c.self.view_is
 
-pub returns-in_err-notes-clause-notes : goal.returns-in_err-notes-clause-notes
-returns-in_err-notes-clause-notes c = IfOk-from_err c.from_residual.result _ c.from_residual.ensures.0
+pub returns-in_err-notes : goal.returns-in_err-notes
+returns-in_err-notes c = record { notes = IfOk-from_err c.from_residual.result _ c.from_residual.ensures.0; numbers = IfOk-from_err c.from_residual.result _ c.from_residual.ensures.0 }
 
-pub returns-in_err-notes-clause-numbers : goal.returns-in_err-notes-clause-numbers
-returns-in_err-notes-clause-numbers c = IfOk-from_err c.from_residual.result _ c.from_residual.ensures.0
-
-pub returns-in_err-heads-clause-notes : goal.returns-in_err-heads-clause-notes
-returns-in_err-heads-clause-notes c = IfOk-from_err c.from_residual-in_err-heads.result _ c.from_residual-in_err-heads.ensures.0
-
-pub returns-in_err-heads-clause-numbers : goal.returns-in_err-heads-clause-numbers
-returns-in_err-heads-clause-numbers c = IfOk-from_err c.from_residual-in_err-heads.result _ c.from_residual-in_err-heads.ensures.0
+pub returns-in_err-heads : goal.returns-in_err-heads
+returns-in_err-heads c = record {
+  notes = IfOk-from_err c.from_residual-in_err-heads.result _ c.from_residual-in_err-heads.ensures.0;
+  numbers = IfOk-from_err c.from_residual-in_err-heads.result _ c.from_residual-in_err-heads.ensures.0;
+}

@@ -1,6 +1,6 @@
 use Rattle.std.proofs.Common.{inr, Some, subst}
 use Rattle.std.specs.Slice.{IsItemAt}
-use Rattle.sp_closure.proofs.TimestampLemmas.{lent}
+use Rattle.fronts.proofs.FrontLemmas.{lent}
 use Rattle.sp_closure.proofs.timelines.Timestamps.front.Goals as goal
 
 pub returns-in-Some-get-2 : goal.returns-in-Some-get-2

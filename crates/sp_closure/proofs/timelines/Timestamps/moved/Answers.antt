@@ -1,6 +1,6 @@
 use Rattle.std.proofs.Common.{Some, subst}
 use Rattle.std.specs.Slice.{IsItemAt}
-use Rattle.sp_closure.proofs.TimestampLemmas.{lent}
+use Rattle.fronts.proofs.FrontLemmas.{lent}
 use Rattle.sp_closure.proofs.TimelineLemmas.{moves_after}
 use Rattle.sp_closure.proofs.timelines.Timestamps.moved.Goals as goal
 
