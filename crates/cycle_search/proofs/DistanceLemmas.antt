@@ -6,17 +6,9 @@ use Rattle.trace_model.specs.Theory.Dependencies.{Dependency}
 use Rattle.trace_model.specs.Theory.Cycles.{Member, IsCycle}
 use Rattle.trace_model.proofs.Theory.Unique.{contains_had}
 use Rattle.cycle_search.specs.Search.{CycleThrough, AreAll}
-use Rattle.cycle_search.specs.Edges.{FallAtMost}
-use Rattle.cycle_search.specs.Distances.{AreDistances, AreZeroAtRoot}
+use Rattle.cycle_search.specs.Distances.{AreDistances}
 use Rattle.cycle_search.proofs.Listing.{all-none, get-left}
 use Rattle.cycle_search.proofs.Paths.{found, all-from, member-at, next-inside, next-last, at-end}
-
-pub distances-lead : (ds : List Dependency) (root : ℕ) (distances : List ℕ) → AreZeroAtRoot ds root distances → FallAtMost ds distances root 1 → AreDistances ds root distances
-distances-lead ds root distances home fall = record {
-  home = home;
-  along = λ m n a b above x y holds. let near = fall m n a b above x y holds in
-      let more : get_or distances m 0 ≤ suc (get_or distances n 0) = omega (arith, near) in more;
-}
 
 module _ (ds : List Dependency) (bound root : ℕ) (distances : List ℕ) (are : AreDistances ds root distances)
     (numbers : List ℕ) (c : IsCycle ds bound numbers) (head : slice_get numbers 0 ≡ Some root) where

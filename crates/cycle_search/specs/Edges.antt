@@ -1,4 +1,5 @@
--- Numbers along the edges of dependencies: from each one to those that hold the lock that it acquires.
+-- Numbers along the edges of dependencies: from each one to those that hold the lock that it
+-- acquires.
 use Rattle.std.specs.Prelude.{◌≡◌, ◌<◌, ◌≤◌, ◌+◌, ◌↔◌, ℕ, Bool, true, List, length, slice_get, slice_index, Some}
 use Rattle.std.specs.List.{Contains}
 use Rattle.std.specs.List.Sorted.{IsStrictlyIncreasing}

@@ -12,10 +12,10 @@ pub trait Collector<T> {
 
     /// Takes the next result.
     ///
+    /// The caller passes a result that it accepts.
+    ///
     /// # Errors
     /// `Refused` if it does not take the result. Then the search ends.
-    ///
-    /// The caller passes a result that it accepts.
     fn take(&mut self, item: T) -> Result<(), Self::Refused>
         requires { taking.accepts self.old item }
         ensures { Takes taking self.old item result self.new };

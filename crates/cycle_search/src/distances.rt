@@ -84,7 +84,8 @@ fn set(distances: &mut [u32], number: u32, distance: u32) {
     }
 }
 
-/// Returns whether the dependency `number` has an edge to one above the root with a lesser distance.
+/// Returns whether the dependency `number` has an edge to one above the root with a lesser
+/// distance.
 fn is_near(
     searched: &Searched<'_>,
     distances: &[u32],

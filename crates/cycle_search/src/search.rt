@@ -45,11 +45,11 @@ struct Search<'a> {
 /// lexicographic order. The first member of a cycle is its least number, so each cycle is found
 /// from exactly one root.
 ///
+/// The caller passes a number of a dependency of `searched` as `root`.
+///
 /// # Errors
 /// - `TooMany` only if there are more than 4,294,967,295 such cycles.
 /// - `NoMemory` if an allocation fails.
-///
-/// The caller passes a number of a dependency of `searched` as `root`.
 pub fn cycles_from(
     alloc: Global,
     searched: &Searched<'_>,
@@ -88,15 +88,15 @@ pub fn cycles_within(
     Ok(kept.cycles)
 }
 
-/// Gives to the collector all cycles with at most `bound` members whose first member is `root`, each
-/// once, in lexicographic order, until it refuses one. Returns the refusal, if there is one. Keeps
-/// no cycle.
-///
-/// # Errors
-/// `NoMemory` if an allocation of the search fails. Then the collector was given no cycle.
+/// Gives to the collector all cycles with at most `bound` members whose first member is `root`,
+/// each once, in lexicographic order, until it refuses one. Returns the refusal, if there is one.
+/// Keeps no cycle.
 ///
 /// The caller passes a number of a dependency of `searched` as `root`, and a collector that accepts
 /// these cycles.
+///
+/// # Errors
+/// `NoMemory` if an allocation of the search fails. Then the collector was given no cycle.
 pub fn collect_cycles<C: Collector<Cycle>>(
     alloc: Global,
     searched: &Searched<'_>,

@@ -2,7 +2,7 @@
 use Rattle.std.proofs.Common.{◌≡◌, ℕ, ◌<◌, ◌⊎◌, inl, inr, Bool, true, false, cond, ◌==◌, List, [], ◌∷◌, ◌++◌, append_assoc, append-nil, length, slice_get, nat_eq, Option, Some, None, MatchOption, Result, Ok, Err, OnOk, refl, sym, ap, subst, ◌∙◌, arith}
 use Rattle.std.proofs.lemmas.Bool.{eqb-true, eq-eqb, false≢true}
 use Rattle.std.proofs.lemmas.List.{map-append, length-map}
-use Rattle.std.proofs.lemmas.Option.{none-some, same_Some, slice_get_within}
+use Rattle.std.proofs.lemmas.Option.{same_Some, slice_get_within}
 use Rattle.std.specs.HashMap.{get}
 use Rattle.std.specs.List.{Contains}
 use Rattle.trace_model.specs.declared.refutations.Reason.{Reason}
@@ -18,7 +18,7 @@ use Rattle.trace_model.proofs.Theory.Refutation.{entry_of}
 use Rattle.explain.specs.declared.tables.Prefix.{Prefix}
 use Rattle.explain.specs.declared.search.Search.{Search}
 use Rattle.explain.specs.Tables.{at}
-use Rattle.explain.specs.Search.{derived_by, HasIndices, IsBlank, IsUpTo, Has, Covers, IsIn, IsSearch, Extends, Adds, CoversAll}
+use Rattle.explain.specs.Search.{derived_by, HasIndices, IsUpTo, IsDerived, Covers, IsIn, IsSearch, Extends, Adds, CoversAll}
 
 pub extends_refl : (s : Trace) (x : Search) → Extends s x x
 extends_refl s x = record { entries = ([], sym (append-nil x.entries.items)); ranges = λ i r e. e; has = λ p h. h }
@@ -58,7 +58,7 @@ pub in_more : (s : Trace) (places : List ℕ) (x y : Search) → Extends s x y �
 in_more s places x y e r (h, c) = (e.has r.last h, covers_more s places x y e r c)
 
 -- the last place of a prefix is up to it
-pub last_up_to : (s : Trace) (x : Search) (p : ℕ) → Has s x p → IsUpTo s p (Some p)
+pub last_up_to : (s : Trace) (x : Search) (p : ℕ) → IsDerived s x p → IsUpTo s p (Some p)
 last_up_to s x p (r, (t, e, o, l)) = (p, t, refl, o, o, omega arith)
 
 -- each place with an entry is in the trace
@@ -69,10 +69,10 @@ derived_within s places x is p c =
     subst (λ q. q < length s) same (derivable_within s places _ d.place d.reason (is.derives k d here))
 
 -- an earlier place of a derived place's thread is derived
-pub has_earlier : (s : Trace) (x : Search) (p q : ℕ) → EarlierInThread s p q → Has s x q → Has s x p
+pub has_earlier : (s : Trace) (x : Search) (p q : ℕ) → EarlierInThread s p q → IsDerived s x q → IsDerived s x p
 has_earlier s x p q (u, a, b, less) (r, (t, e, o, l)) = (r, (t, e, subst (OfThread s p) (at_thread s q u t b o) a, omega (arith, less, l)))
 
-pub has_up_to : (s : Trace) (x : Search) (p q : ℕ) → IsUpTo s p (Some q) → Has s x q → Has s x p
+pub has_up_to : (s : Trace) (x : Search) (p q : ℕ) → IsUpTo s p (Some q) → IsDerived s x q → IsDerived s x p
 has_up_to s x p q (f, u, e, a, b, low) (r, (t, is, o, l)) =
     let same : q ≡ f = same_Some q f e in
     (r, (t, is, subst (OfThread s p) (at_thread s q u t (subst (λ z. OfThread s z u) (sym same) b) o) a, omega (arith, low, l, same)))
@@ -84,19 +84,6 @@ covers_before s places x q r (f, t, e, a, b, l) c p (g, u, k, o, h, m) =
     let same : q ≡ g = same_Some q g k in
     let thread : u ≡ t = at_thread s q u t (subst (λ z. OfThread s z u) (sym same) h) a in
     c p (f, t, e, subst (OfThread s p) thread o, b, omega (arith, l, m, same))
-
--- nothing is derived
-pub blank_search : (s : Trace) (places : List ℕ) (x : Search) → IsBlank x → IsSearch s places x
-blank_search s places x b = record {
-  derives = subst (IsDerivation s places) (sym b.entries) (λ k d h. absurd (none-some d h));
-  indices = λ p. subst (λ o. MatchOption o (Contains (derived_by x) p → ⊥) (λ i. slice_get (derived_by x) i ≡ Some p)) (sym (b.indices p))
-      (λ c. let (k, at) = place_of (derived_by x) p c in none-some p (subst (λ xs. slice_get (derived_places xs) k ≡ Some p) b.entries at));
-  distinct = λ i j p a c. absurd (none-some p (subst (λ xs. slice_get (derived_places xs) i ≡ Some p) b.entries a));
-  threads = λ t r e. absurd (none-some r (sym (b.threads t) ∙ e));
-  locks = λ l r e. absurd (none-some r (sym (b.locks l) ∙ e));
-  ranges = λ i r e. absurd (none-some r (subst (λ xs. slice_get xs i ≡ Some r) b.ranges e));
-  all = λ p (r, (t, e, o, l)). absurd (none-some r (sym (b.threads t) ∙ e));
-}
 
 pub found : (x : Search) → HasIndices x → (p i : ℕ) → get nat_eq x.indices p ≡ Some i → slice_get (derived_by x) i ≡ Some p
 found x h p i e = subst (λ o. MatchOption o (Contains (derived_by x) p → ⊥) (λ i. slice_get (derived_by x) i ≡ Some p)) e (h p)
@@ -178,7 +165,7 @@ pub covers_both : (s : Trace) (places : List ℕ) (x y z : Search) (P Q : ℕ �
     CoversAll s places x (λ p. P p ⊎ Q p) z
 covers_both s places x y z P Q (a, e, f) (b, g, h) = (b, extends_trans s x y z e g, λ p. both p)
   where
-    both : (p : ℕ) → P p ⊎ Q p → Has s z p
+    both : (p : ℕ) → P p ⊎ Q p → IsDerived s z p
     both p (inl k) = g.has p (f p k)
     both p (inr k) = h p k
 

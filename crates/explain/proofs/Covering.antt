@@ -14,7 +14,7 @@ use Rattle.explain.specs.declared.tables.Prefix.{Prefix}
 use Rattle.explain.specs.declared.search.Range.{Range}
 use Rattle.explain.specs.declared.search.Search.{Search}
 use Rattle.explain.specs.Tables.{at}
-use Rattle.explain.specs.Search.{derived_by, IsUpTo, Has, Covers, IsIn, InRange, IsSearch, Extends, CoversAll}
+use Rattle.explain.specs.Search.{derived_by, IsUpTo, IsDerived, Covers, IsIn, InRange, IsSearch, Extends, CoversAll}
 use Rattle.explain.proofs.Adding.{derived_within}
 
 -- the places up to a place with an entry
@@ -54,13 +54,13 @@ module _ (s : Trace) (places : List ℕ) (x z : Search) (t place : ℕ) (reason 
   known_last : (k : Prefix) → at x.threads t ≡ Some k → after ≡ Some k.last
   known_last k e = known ∙ ap (option_map (λ (k : Prefix). k.last)) e
 
-  has_new : (p : ℕ) → OfThread s p t → p ≤ place → Has s y p
+  has_new : (p : ℕ) → OfThread s p t → p ≤ place → IsDerived s y p
   has_new p o l = (prefix, (t, put t ∙ ap (λ b. cond b (Some prefix) (at x.threads t)) (eq-eqb t t refl), o, l))
 
-  keeps : (p : ℕ) → Has s x p → Has s y p
+  keeps : (p : ℕ) → IsDerived s x p → IsDerived s y p
   keeps p (r, (u, e, o, l)) = go (t == u) refl
     where
-      go : (b : Bool) → (t == u) ≡ b → Has s y p
+      go : (b : Bool) → (t == u) ≡ b → IsDerived s y p
       go true k =
           let same : t ≡ u = eqb-true t u k in
           let less : r.last < place = past r.last (known_last r (ap (at x.threads) same ∙ e)) in
@@ -91,7 +91,7 @@ module _ (s : Trace) (places : List ℕ) (x z : Search) (t place : ℕ) (reason 
     ((place, t, refl, o, here, l), from),
   )
 
-  in_old : (p : ℕ) → Has s x p → InSome p
+  in_old : (p : ℕ) → IsDerived s x p → InSome p
   in_old p h = let (i, r, e, within) = is.all p h in (i, r, kept_range i r e, within)
 
   in_thread : (p : ℕ) → OfThread s p t → p ≤ place → (o : Option Prefix) → at x.threads t ≡ o → InSome p
@@ -101,7 +101,7 @@ module _ (s : Trace) (places : List ℕ) (x z : Search) (t place : ℕ) (reason 
     | inr low ↦ in_old p (k, (t, e, o, low))
   ]
 
-  all : (p : ℕ) → Has s y p → InSome p
+  all : (p : ℕ) → IsDerived s y p → InSome p
   all p (r, (u, e, o, l)) = elim (cases_at u r e) [
     | inl (a, b) ↦ in_thread p (subst (OfThread s p) (sym a) o) (omega (arith, l, ap (λ (k : Prefix). k.last) b)) (at x.threads t) refl
     | inr a ↦ in_old p (r, (u, a, o, l))

@@ -1,5 +1,6 @@
 -- Searches that have followed places.
 use Rattle.std.proofs.Common.{◌≡◌, ℕ, ◌+◌, ◌<◌, ◌≤◌, ◌⊎◌, inl, inr, List, [], ◌∷◌, ◌++◌, length, slice_get, Option, Some, None, MatchOption, refl, sym, subst, ◌∙◌, arith}
+use Rattle.std.proofs.lemmas.List.Elements.{Contains-append_left, Contains-push}
 use Rattle.std.proofs.lemmas.Bool.{cases_lt}
 use Rattle.std.proofs.lemmas.Option.{none-some, same_Some}
 use Rattle.std.specs.List.{Contains}
@@ -18,8 +19,7 @@ use Rattle.explain.specs.declared.tables.Prefix.{Prefix}
 use Rattle.explain.specs.declared.search.Range.{Range}
 use Rattle.explain.specs.declared.search.Search.{Search}
 use Rattle.explain.specs.Tables.{at}
-use Rattle.explain.specs.Search.{IsUpTo, Has, IsIn, InRange, Extends, HasFork, IsBefore, IsLast, HasFollowed, IsCaughtNowhere}
-use Rattle.explain.proofs.Pushing.{push_kept, push_last}
+use Rattle.explain.specs.Search.{IsUpTo, IsDerived, IsIn, InRange, Extends, HasFork, IsBefore, IsLast, HasFollowed, IsCaughtNowhere}
 use Rattle.explain.proofs.Adding.{covers_more, covers_before, has_up_to}
 use Rattle.explain.proofs.LastSections.{follows_stays}
 use Rattle.explain.proofs.Walking.{before_some, before_none}
@@ -30,17 +30,17 @@ section_derived s xs H a b r l less x y ca cb e None h = absurd (h a ca x)
 section_derived s xs H a b r l less x y ca cb e (Some g) (c, d, f) = (f a ca x).1 (omega (arith, less, (f b cb y).0)) r e
 
 -- once each derived place is followed, the followed places are closed
-module _ (s : Trace) (followed : List ℕ) (x : Search) (f : HasFollowed s followed x) (all : (p : ℕ) → Has s x p → Contains followed p) where
+module _ (s : Trace) (followed : List ℕ) (x : Search) (f : HasFollowed s followed x) (all : (p : ℕ) → IsDerived s x p → Contains followed p) where
   closes : IsClosed s (listed followed)
   closes = record {
     threads = λ p q h e. contains_listed followed p (all p (f.required q p (listed_contains followed q h) (inl e)));
     forks_joins = λ p q h e. contains_listed followed p (all p (f.required q p (listed_contains followed q h) (inr (inl e))));
     writers = λ w q h e. contains_listed followed w (all w (f.required q w (listed_contains followed q h) (inr (inr e))));
     sections = λ a b r l less m n h k e. contains_listed followed r (all r
-        (section_derived s followed (Has s x) a b r l less m n (listed_contains followed a h) (listed_contains followed b k) e (at x.locks l) (f.sections l)));
+        (section_derived s followed (IsDerived s x) a b r l less m n (listed_contains followed a h) (listed_contains followed b k) e (at x.locks l) (f.sections l)));
   }
 
-  pub finished : IsWellFormed s → (places : List ℕ) → ((p : ℕ) → IsBefore s places p → Has s x p) → IsCaughtNowhere s x places → Reached s places
+  pub finished : IsWellFormed s → (places : List ℕ) → ((p : ℕ) → IsBefore s places p → IsDerived s x p) → IsCaughtNowhere s x places → Reached s places
   finished w places before nowhere = reached_from s w places (listed followed) closes
       (λ p q c e. contains_listed followed q (all q (before q (p, c, e))))
       (λ p c h. nowhere p c (f.derived p (listed_contains followed p h)))
@@ -50,7 +50,7 @@ pub nothing_followed : (s : Trace) (x : Search) → ((l : ℕ) → at x.locks l 
 nothing_followed s x none = record {
   derived = λ q (k, l, e). absurd (omega arith);
   required = λ q p (k, l, e). absurd (omega arith);
-  sections = λ l. subst (λ o. MatchOption o ((b : ℕ) → Contains [] b → BeginsOn s b l → ⊥) (λ r. IsLast s [] (Has s x) l r.last)) (sym (none l))
+  sections = λ l. subst (λ o. MatchOption o ((b : ℕ) → Contains [] b → BeginsOn s b l → ⊥) (λ r. IsLast s [] (IsDerived s x) l r.last)) (sym (none l))
       (λ b (k, less, e) h. omega arith);
 }
 
@@ -76,10 +76,10 @@ pub walk_goes_on : (s : Trace) (t last place : ℕ) (xs : List ℕ) → OfThread
     ((q : ℕ) → IsUpTo s q (Some last) → ((n : ℕ) → Some place ≡ Some n → n < q) → Contains xs q) →
     (q : ℕ) → IsUpTo s q (Some last) → ((n : ℕ) → thread_before s place ≡ Some n → n < q) → Contains (xs ++ place ∷ []) q
 walk_goes_on s t last place xs here ends h q (f, u, e, a, b, l) after = elim (cases_lt place q) [
-  | inl less ↦ push_kept xs place q (h q (f, u, e, a, b, l) (λ n k. omega (arith, less, same_Some place n k)))
+  | inl less ↦ Contains-append_left xs (place ∷ []) q (h q (f, u, e, a, b, l) (λ n k. omega (arith, less, same_Some place n k)))
   | inr low ↦ elim (cases_lt q place) [
     | inl less ↦ absurd (past less (thread_before s place) refl)
-    | inr up ↦ let same : place ≡ q = omega arith in subst (Contains (xs ++ place ∷ [])) same (push_last xs place)
+    | inr up ↦ let same : place ≡ q = omega arith in subst (Contains (xs ++ place ∷ [])) same (Contains-push xs place)
   ]
 ]
   where

@@ -1,5 +1,6 @@
 -- The last section on each lock that was followed.
 use Rattle.std.proofs.Common.{◌≡◌, ℕ, ◌<◌, ◌≤◌, inl, inr, Bool, true, false, cond, ◌==◌, List, [], ◌∷◌, ◌++◌, Option, Some, None, MatchOption, refl, sym, ap, subst, ◌∙◌, arith}
+use Rattle.std.proofs.lemmas.List.Elements.{Contains-append_left, Contains-push, Contains-push_cases}
 use Rattle.std.proofs.lemmas.Bool.{eqb-true, eq-eqb, false≢true, cases_lt}
 use Rattle.std.proofs.lemmas.Option.{none-some, same_Some}
 use Rattle.std.specs.List.{Contains}
@@ -11,8 +12,7 @@ use Rattle.trace_model.proofs.Theory.Begun.{begun_so, begun_from}
 use Rattle.explain.specs.declared.tables.Prefix.{Prefix}
 use Rattle.explain.specs.declared.search.Search.{Search}
 use Rattle.explain.specs.Tables.{at}
-use Rattle.explain.specs.Search.{Has, IsLast, IsIn, IsSearch, Extends, Follows}
-use Rattle.explain.proofs.Pushing.{in_push, push_kept, push_last}
+use Rattle.explain.specs.Search.{IsDerived, IsLast, IsIn, IsSearch, Extends, Follows}
 
 -- the entry of a lock
 abbrev pub Keeps : Trace → List ℕ → (ℕ → Type 0) → ℕ → Option Prefix → Type 0
@@ -28,11 +28,11 @@ module _ (s : Trace) (followed : List ℕ) (H K : ℕ → Type 0) (more : (p : �
   kept_entry l (Some a) (c, b, f) = (c, b, λ d k m. let r = f d k m in (r.0, λ less x e. more x (r.1 less x e)))
 
   pub other_entry : (q l : ℕ) → (BeginsOn s q l → ⊥) → (o : Option Prefix) → Keeps s followed H l o → Keeps s (followed ++ q ∷ []) K l o
-  other_entry q l none None h = λ b c k. elim (in_push followed q b c) [ inl a ↦ h b a k | inr a ↦ none (subst (λ x. BeginsOn s x l) (sym a) k) ]
+  other_entry q l none None h = λ b c k. elim (Contains-push_cases followed q b c) [ inl a ↦ h b a k | inr a ↦ none (subst (λ x. BeginsOn s x l) (sym a) k) ]
   other_entry q l none (Some a) (c, b, f) = (
-    push_kept followed q a.last c,
+    Contains-append_left followed (q ∷ []) a.last c,
     b,
-    λ d k m. elim (in_push followed q d k) [
+    λ d k m. elim (Contains-push_cases followed q d k) [
       | inl i ↦ let r = f d i m in (r.0, λ less x e. more x (r.1 less x e))
       | inr i ↦ absurd (none (subst (λ x. BeginsOn s x l) (sym i) m))
     ],
@@ -40,9 +40,9 @@ module _ (s : Trace) (followed : List ℕ) (H K : ℕ → Type 0) (more : (p : �
 
   pub first_entry : (q l : ℕ) (reason : Reason) → BeginsOn s q l → Keeps s followed H l None → Keeps s (followed ++ q ∷ []) K l (Some (record { last = q; reason = reason }))
   first_entry q l reason here h = (
-    push_last followed q,
+    Contains-push followed q,
     here,
-    λ d k m. elim (in_push followed q d k) [
+    λ d k m. elim (Contains-push_cases followed q d k) [
       | inl i ↦ absurd (h d i m)
       | inr i ↦ (omega arith, λ less. absurd (omega arith))
     ],
@@ -50,9 +50,9 @@ module _ (s : Trace) (followed : List ℕ) (H K : ℕ → Type 0) (more : (p : �
 
   pub earlier_entry : (q l : ℕ) (a : Prefix) → q < a.last → ((r : ℕ) → release s q ≡ Some r → K r) → Keeps s followed H l (Some a) → Keeps s (followed ++ q ∷ []) K l (Some a)
   earlier_entry q l a less ends (c, b, f) = (
-    push_kept followed q a.last c,
+    Contains-append_left followed (q ∷ []) a.last c,
     b,
-    λ d k m. elim (in_push followed q d k) [
+    λ d k m. elim (Contains-push_cases followed q d k) [
       | inl i ↦ let r = f d i m in (r.0, λ under x e. more x (r.1 under x e))
       | inr i ↦ (omega arith, λ under x e. ends x (ap (release s) i ∙ e))
     ],
@@ -61,9 +61,9 @@ module _ (s : Trace) (followed : List ℕ) (H K : ℕ → Type 0) (more : (p : �
   pub later_entry : (q l : ℕ) (reason : Reason) (a : Prefix) → a.last ≤ q → BeginsOn s q l → (a.last < q → (r : ℕ) → release s a.last ≡ Some r → K r) → Keeps s followed H l (Some a) →
       Keeps s (followed ++ q ∷ []) K l (Some (record { last = q; reason = reason }))
   later_entry q l reason a low here ends (c, b, f) = (
-    push_last followed q,
+    Contains-push followed q,
     here,
-    λ d k m. elim (in_push followed q d k) [
+    λ d k m. elim (Contains-push_cases followed q d k) [
       | inl i ↦
           let r = f d i m in (
             omega (arith, r.0),
@@ -78,42 +78,42 @@ module _ (s : Trace) (followed : List ℕ) (H K : ℕ → Type 0) (more : (p : �
 
 -- ---- the table of all locks
 
-pub follows_stays : (s : Trace) (followed : List ℕ) (x y : Search) → ((p : ℕ) → Has s x p → Has s y p) → y.locks ≡ x.locks →
+pub follows_stays : (s : Trace) (followed : List ℕ) (x y : Search) → ((p : ℕ) → IsDerived s x p → IsDerived s y p) → y.locks ≡ x.locks →
     Follows s followed x → Follows s followed y
-follows_stays s followed x y more same h l = subst (λ (m : _). Keeps s followed (Has s y) l (at m l)) (sym same)
-    (kept_entry s followed (Has s x) (Has s y) more l (at x.locks l) (h l))
+follows_stays s followed x y more same h l = subst (λ (m : _). Keeps s followed (IsDerived s y) l (at m l)) (sym same)
+    (kept_entry s followed (IsDerived s x) (IsDerived s y) more l (at x.locks l) (h l))
 
 pub follows_none : (s : Trace) (followed : List ℕ) (x : Search) (q : ℕ) → begun s q ≡ None → Follows s followed x → Follows s (followed ++ q ∷ []) x
 follows_none s followed x q none h l =
-    other_entry s followed (Has s x) (Has s x) (λ p c. c) q l (λ b. none-some l (sym none ∙ begun_from s q l b)) (at x.locks l) (h l)
+    other_entry s followed (IsDerived s x) (IsDerived s x) (λ p c. c) q l (λ b. none-some l (sym none ∙ begun_from s q l b)) (at x.locks l) (h l)
 
 -- an earlier place than the last one
 pub follows_earlier : (s : Trace) (followed : List ℕ) (x y : Search) (q l : ℕ) (a : Prefix) → begun s q ≡ Some l → at x.locks l ≡ Some a → q < a.last →
-    ((p : ℕ) → Has s x p → Has s y p) → y.locks ≡ x.locks → ((r : ℕ) → release s q ≡ Some r → Has s y r) →
+    ((p : ℕ) → IsDerived s x p → IsDerived s y p) → y.locks ≡ x.locks → ((r : ℕ) → release s q ≡ Some r → IsDerived s y r) →
     Follows s followed x → Follows s (followed ++ q ∷ []) y
 follows_earlier s followed x y q l a is last less more same ends h k =
-    subst (λ (m : _). Keeps s (followed ++ q ∷ []) (Has s y) k (at m k)) (sym same) (go (l == k) refl)
+    subst (λ (m : _). Keeps s (followed ++ q ∷ []) (IsDerived s y) k (at m k)) (sym same) (go (l == k) refl)
   where
-    go : (b : Bool) → (l == k) ≡ b → Keeps s (followed ++ q ∷ []) (Has s y) k (at x.locks k)
+    go : (b : Bool) → (l == k) ≡ b → Keeps s (followed ++ q ∷ []) (IsDerived s y) k (at x.locks k)
     go true e =
         let lock : l ≡ k = eqb-true l k e in
         let here : at x.locks k ≡ Some a = ap (at x.locks) (sym lock) ∙ last in
-        subst (Keeps s (followed ++ q ∷ []) (Has s y) k) (sym here)
-        (earlier_entry s followed (Has s x) (Has s y) more q k a less ends (subst (Keeps s followed (Has s x) k) here (h k)))
-    go false e = other_entry s followed (Has s x) (Has s y) more q k (λ b. false≢true (sym e ∙ eq-eqb l k (one_lock s q l k is b))) (at x.locks k) (h k)
+        subst (Keeps s (followed ++ q ∷ []) (IsDerived s y) k) (sym here)
+        (earlier_entry s followed (IsDerived s x) (IsDerived s y) more q k a less ends (subst (Keeps s followed (IsDerived s x) k) here (h k)))
+    go false e = other_entry s followed (IsDerived s x) (IsDerived s y) more q k (λ b. false≢true (sym e ∙ eq-eqb l k (one_lock s q l k is b))) (at x.locks k) (h k)
 
 -- the last place so far
 pub follows_later : (s : Trace) (followed : List ℕ) (x y : Search) (l : ℕ) (here : Prefix) (locks : List (ℕ × Option Prefix)) → begun s here.last ≡ Some l →
-    ((p : ℕ) → Has s x p → Has s y p) → y.locks ≡ x.locks →
+    ((p : ℕ) → IsDerived s x p → IsDerived s y p) → y.locks ≡ x.locks →
     ((k : ℕ) → at locks k ≡ cond (l == k) (Some here) (at y.locks k)) →
-    ((a : Prefix) → at x.locks l ≡ Some a → (a.last ≤ here.last) × (a.last < here.last → (r : ℕ) → release s a.last ≡ Some r → Has s y r)) →
+    ((a : Prefix) → at x.locks l ≡ Some a → (a.last ≤ here.last) × (a.last < here.last → (r : ℕ) → release s a.last ≡ Some r → IsDerived s y r)) →
     Follows s followed x → Follows s (followed ++ here.last ∷ []) (record y { locks = locks })
 follows_later s followed x y l here locks is more same put ends h k =
-    subst (Keeps s (followed ++ here.last ∷ []) (Has s y) k) (sym (put k)) (go (l == k) refl)
+    subst (Keeps s (followed ++ here.last ∷ []) (IsDerived s y) k) (sym (put k)) (go (l == k) refl)
   where
-    go : (b : Bool) → (l == k) ≡ b → Keeps s (followed ++ here.last ∷ []) (Has s y) k (cond b (Some here) (at y.locks k))
-    go false e = subst (λ (m : _). Keeps s (followed ++ here.last ∷ []) (Has s y) k (at m k)) (sym same)
-        (other_entry s followed (Has s x) (Has s y) more here.last k (λ b. false≢true (sym e ∙ eq-eqb l k (one_lock s here.last l k is b))) (at x.locks k) (h k))
+    go : (b : Bool) → (l == k) ≡ b → Keeps s (followed ++ here.last ∷ []) (IsDerived s y) k (cond b (Some here) (at y.locks k))
+    go false e = subst (λ (m : _). Keeps s (followed ++ here.last ∷ []) (IsDerived s y) k (at m k)) (sym same)
+        (other_entry s followed (IsDerived s x) (IsDerived s y) more here.last k (λ b. false≢true (sym e ∙ eq-eqb l k (one_lock s here.last l k is b))) (at x.locks k) (h k))
     go true e = by_last (at x.locks k) refl
       where
         lock : l ≡ k
@@ -122,14 +122,14 @@ follows_later s followed x y l here locks is more same put ends h k =
         begins : BeginsOn s here.last k
         begins = subst (BeginsOn s here.last) lock (begun_so s here.last l is)
 
-        by_last : (o : Option Prefix) → at x.locks k ≡ o → Keeps s (followed ++ here.last ∷ []) (Has s y) k (Some here)
-        by_last None f = first_entry s followed (Has s x) (Has s y) more here.last k here.reason begins (subst (Keeps s followed (Has s x) k) f (h k))
+        by_last : (o : Option Prefix) → at x.locks k ≡ o → Keeps s (followed ++ here.last ∷ []) (IsDerived s y) k (Some here)
+        by_last None f = first_entry s followed (IsDerived s x) (IsDerived s y) more here.last k here.reason begins (subst (Keeps s followed (IsDerived s x) k) f (h k))
         by_last (Some a) f =
             let r = ends a (ap (at x.locks) lock ∙ f) in
-            later_entry s followed (Has s x) (Has s y) more here.last k here.reason a r.0 begins r.1 (subst (Keeps s followed (Has s x) k) f (h k))
+            later_entry s followed (IsDerived s x) (IsDerived s y) more here.last k here.reason a r.0 begins r.1 (subst (Keeps s followed (IsDerived s x) k) f (h k))
 
-pub last_is : (s : Trace) (followed : List ℕ) (x : Search) (l : ℕ) (a : Prefix) → Follows s followed x → at x.locks l ≡ Some a → IsLast s followed (Has s x) l a.last
-last_is s followed x l a h e = subst (Keeps s followed (Has s x) l) e (h l)
+pub last_is : (s : Trace) (followed : List ℕ) (x : Search) (l : ℕ) (a : Prefix) → Follows s followed x → at x.locks l ≡ Some a → IsLast s followed (IsDerived s x) l a.last
+last_is s followed x l a h e = subst (Keeps s followed (IsDerived s x) l) e (h l)
 
 -- the table of locks gets a prefix that is derived
 pub with_lock : (s : Trace) (places : List ℕ) (x : Search) (l : ℕ) (here : Prefix) (locks : List (ℕ × Option Prefix)) →

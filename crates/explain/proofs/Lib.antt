@@ -1,4 +1,3 @@
-pub mod Pushing
 pub mod Adding
 pub mod Covering
 pub mod Walking

@@ -9,7 +9,7 @@ use Rattle.trace_model.specs.declared.refutations.Step.{Step}
 use Rattle.trace_model.specs.Theory.Trace.{Trace}
 use Rattle.trace_model.specs.Theory.Dependencies.{Dependency, dependency_at, dependencies}
 use Rattle.trace_model.specs.Theory.Refutation.{IsFirstFrom, AreFirstPlaces, Derives, IsNextPlace, Refutes}
-use Rattle.trace_model.proofs.Lists.{at_index, get-push_kept, get-push_last, get-set_same, get-set_other}
+use Rattle.trace_model.proofs.Lists.{at_index, get-set_same, get-set_other}
 use Rattle.trace_model.proofs.Theory.Ascending.{place_of, contains_at}
 use Rattle.trace_model.proofs.Theory.Dependencies.{dependency_so, numbered}
 use Rattle.trace_model.proofs.Theory.Unique.{increasing_ordered}
@@ -103,20 +103,6 @@ first_entries table numbers places entries len many first zeros i m p at here =
     let (q, also, there, ascends) = first i m (slice_get_within numbers i m at) at in
     let (e, is) = at_index entries i (omega (arith, many, slice_get_within numbers i m at)) in
     (e, is, ap (slice_get (places_of table m)) (zeros i e is) ∙ there ∙ sym also ∙ here)
-
-pub have_more : (table : Table) (numbers places : List ℕ) (n m p : ℕ) → length places ≡ n → slice_get numbers n ≡ Some m → slice_get (places_of table m) 0 ≡ Some p →
-    IsStrictlyIncreasing (places_of table m) → HaveFirst table numbers places n → HaveFirst table numbers (places ++ p ∷ []) (n + 1)
-have_more table numbers places n m p len at here ascends h i k l e = elim (cases_lt i n) [
-  | inl a ↦ let (q, there, is, up) = h i k a e in (q, get-push_kept places p i q there, is, up)
-  | inr a ↦
-      let same : i ≡ n = omega arith in
-      let number : m ≡ k = same_Some m k (sym at ∙ subst (λ z. slice_get numbers z ≡ Some k) same e) in (
-        p,
-        subst (λ z. slice_get (places ++ p ∷ []) z ≡ Some p) (len ∙ sym same) (get-push_last places p),
-        subst (λ z. slice_get (places_of table z) 0 ≡ Some p) number here,
-        subst (λ z. IsStrictlyIncreasing (places_of table z)) number ascends,
-      )
-]
 
 -- ---- a member moves
 

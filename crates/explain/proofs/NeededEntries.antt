@@ -1,5 +1,6 @@
 -- The entries that a place needs.
 use Rattle.std.proofs.Common.{◌≡◌, ℕ, suc, ◌+◌, ◌<◌, ◌⊎◌, inl, inr, Bool, true, false, List, [], ◌∷◌, ◌++◌, take, slice_get, Some, refl, sym, ap, subst, ◌∙◌, arith}
+use Rattle.std.proofs.lemmas.List.Elements.{Contains-append_left, Contains-push}
 use Rattle.std.proofs.lemmas.Bool.{false≢true, cases_lt}
 use Rattle.std.proofs.lemmas.Option.{none-some, same_Some, slice_get-map}
 use Rattle.std.specs.Option.{option_map}
@@ -16,7 +17,6 @@ use Rattle.trace_model.proofs.Theory.Refutation.{entry_of}
 use Rattle.explain.specs.declared.search.Search.{Search}
 use Rattle.explain.specs.Search.{derived_by, IsSearch}
 use Rattle.explain.specs.Needed.{Names, IsNeeded, IsKept, AreClosed, IsNeededDerivation}
-use Rattle.explain.proofs.Pushing.{push_kept, push_last}
 
 -- a reason holds if the places that it names are derived
 named : (s : Trace) (places xs : List ℕ) (r : Reason) (p q : ℕ) → Justifies s places xs r p → Names r q → Contains xs q
@@ -86,11 +86,11 @@ needed_more s places x needed i d made is closed mark at (h, f) = (
   one_more_derived s places made d h (justified_by_named s places _ (derived_places made) d.reason d.place
       (λ q n. let (j, less, here, k) = closed i q d (omega arith) mark at n in f j q less k here) (is.derives i d at)),
   λ j p l k here. subst (λ xs. Contains xs p) (sym (derived_push made d)) (elim (cases_lt j i) [
-    | inl a ↦ push_kept (derived_places made) d.place p (f j p a k here)
+    | inl a ↦ Contains-append_left (derived_places made) (d.place ∷ []) p (f j p a k here)
     | inr a ↦
         let same : j ≡ i = omega arith in
         let place : d.place ≡ p = same_Some d.place p (sym (entry_place x i d at) ∙ subst (λ z. slice_get (derived_by x) z ≡ Some p) same here) in
-        subst (Contains (derived_places made ++ d.place ∷ [])) place (push_last (derived_places made) d.place)
+        subst (Contains (derived_places made ++ d.place ∷ [])) place (Contains-push (derived_places made) d.place)
   ]),
 )
 

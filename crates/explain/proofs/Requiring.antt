@@ -1,5 +1,6 @@
 -- The places that a derived place requires.
 use Rattle.std.proofs.Common.{◌≡◌, ℕ, suc, ◌+◌, ◌⊎◌, inl, inr, List, take, slice_get, Option, Some, None, MatchOption, refl, sym, ap, subst, ◌∙◌, arith}
+use Rattle.std.proofs.lemmas.List.Elements.{Contains-push_cases}
 use Rattle.std.proofs.lemmas.Bool.{cases_lt}
 use Rattle.std.proofs.lemmas.Option.{none-some, same_Some}
 use Rattle.std.specs.Option.{option_and_then}
@@ -12,7 +13,6 @@ use Rattle.trace_model.proofs.Theory.Least.{at_thread}
 use Rattle.trace_index.specs.Numbers.{of_thread, thread_before}
 use Rattle.fronts.specs.Threads.{IsLastOf}
 use Rattle.explain.specs.Search.{IsUpTo, IsJoined, IsBefore, IsBeforeSome}
-use Rattle.explain.proofs.Pushing.{in_push}
 use Rattle.explain.proofs.Walking.{before_some, before_none}
 
 -- the places up to the previous one are those earlier in the thread
@@ -59,14 +59,11 @@ pub joined_cases : (s : Trace) (q c : ℕ) (e : Event) (fork last : Option ℕ) 
 joined_cases s q c e fork last at is f m p (d, j, inl k) = inl (f p (subst (λ x. Does s p (Fork x)) (sym (joins_one s q c d e at is j)) k))
 joined_cases s q c e fork last at is f m p (d, j, inr o) = inr (of_thread_up_to s c last m p (subst (OfThread s p) (sym (joins_one s q c d e at is j)) o))
 
-pub not_joined : (s : Trace) (q : ℕ) (e : Event) → At s q e → ((c : ℕ) → e.op ≡ Join c → ⊥) → (p : ℕ) → IsJoined s q p → ⊥
-not_joined s q e at none p (c, (t, h), k) = none c (ap (λ (x : Event). x.op) (same_Some e (event t (Join c)) (sym at ∙ h)))
-
 pub before_more : (s : Trace) (places : List ℕ) (k q p : ℕ) → slice_get places k ≡ Some q → IsBefore s (take (k + 1) places) p →
     IsBefore s (take k places) p ⊎ IsBeforeSome s (Some q) p
 before_more s places k q p at (z, c, e) =
     let up : k + 1 ≡ suc k = omega arith in
-    elim (in_push (take k places) q z (subst (λ xs. Contains xs z) (ap (λ n. take n places) up ∙ take_next k places q at) c)) [
+    elim (Contains-push_cases (take k places) q z (subst (λ xs. Contains xs z) (ap (λ n. take n places) up ∙ take_next k places q at) c)) [
       | inl a ↦ inl (z, a, e)
       | inr a ↦ inr (z, ap Some a, e)
     ]

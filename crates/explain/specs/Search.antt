@@ -33,8 +33,8 @@ abbrev pub Gives : Trace → Search → ℕ → Prefix → Type 0
 Gives s x p r = (t : ℕ) × (at x.threads t ≡ Some r) × OfThread s p t × (p ≤ r.last)
 
 -- The place is derived: the prefix of its thread contains it.
-abbrev pub Has : Trace → Search → ℕ → Type 0
-Has s x p = (r : Prefix) × Gives s x p r
+abbrev pub IsDerived : Trace → Search → ℕ → Type 0
+IsDerived s x p = (r : Prefix) × Gives s x p r
 
 -- Each place of the prefix has an entry, or the prefix's reason justifies it.
 abbrev pub Covers : Trace → List ℕ → Search → Prefix → Type 0
@@ -43,7 +43,7 @@ Covers s places x r = (p : ℕ) → IsUpTo s p (Some r.last) →
 
 -- The prefix is derived and covered.
 abbrev pub IsIn : Trace → List ℕ → Search → Prefix → Type 0
-IsIn s places x r = Has s x r.last × Covers s places x r
+IsIn s places x r = IsDerived s x r.last × Covers s places x r
 
 -- Place p is in the range.
 abbrev pub InRange : Trace → Range → ℕ → Type 0
@@ -61,7 +61,7 @@ pub record IsSearch (s : Trace) (places : List ℕ) (x : Search) : Type 0 where
   pub locks : (l : ℕ) (r : Prefix) → at x.locks l ≡ Some r → IsIn s places x r
   pub ranges : (i : ℕ) (r : Range) → slice_get x.ranges.items i ≡ Some r →
       IsIn s places x r.prefix
-  pub all : (p : ℕ) → Has s x p →
+  pub all : (p : ℕ) → IsDerived s x p →
       (i : ℕ) × (r : Range) × (slice_get x.ranges.items i ≡ Some r) × InRange s r p
 
 -- Nothing is derived.
@@ -77,7 +77,7 @@ pub record Extends (s : Trace) (old new : Search) : Type 0 where
   pub entries : (more : List Derived) × (new.entries.items ≡ old.entries.items ++ more)
   pub ranges : (i : ℕ) (r : Range) → slice_get old.ranges.items i ≡ Some r →
       slice_get new.ranges.items i ≡ Some r
-  pub has : (p : ℕ) → Has s old p → Has s new p
+  pub has : (p : ℕ) → IsDerived s old p → IsDerived s new p
 
 -- The new search has an entry for the place.
 abbrev pub Adds : Trace → List ℕ → Search → ℕ → Search → Type 0
@@ -86,7 +86,7 @@ Adds s places old p new = IsSearch s places new × Extends s old new × Contains
 -- The new search has derived each place with the property.
 abbrev pub CoversAll : Trace → List ℕ → Search → (ℕ → Type 0) → Search → Type 0
 CoversAll s places old P new = IsSearch s places new × Extends s old new
-    × ((p : ℕ) → P p → Has s new p)
+    × ((p : ℕ) → P p → IsDerived s new p)
 
 -- Place q is a join, and p is the fork or a place of the joined thread.
 abbrev pub IsJoined : Trace → ℕ → ℕ → Type 0
@@ -106,7 +106,7 @@ IsBeforeSome s place p = (q : ℕ) × (place ≡ Some q) × EarlierInThread s p 
 
 -- The fork of the place's thread is derived.
 abbrev pub HasFork : Trace → Search → ℕ → Type 0
-HasFork s x q = (t p : ℕ) → OfThread s q t → Does s p (Fork t) → Has s x p
+HasFork s x q = (t p : ℕ) → OfThread s q t → Does s p (Fork t) → IsDerived s x p
 
 -- Place a is the last of the followed places at which a section on lock l begins: of each earlier
 -- one, the release has the property.
@@ -119,12 +119,12 @@ IsLast s followed H l a = Contains followed a × BeginsOn s a l
 abbrev pub Follows : Trace → List ℕ → Search → Type 0
 Follows s followed x = (l : ℕ) → MatchOption (at x.locks l)
     ((b : ℕ) → Contains followed b → BeginsOn s b l → ⊥)
-    (λ r. IsLast s followed (Has s x) l r.last)
+    (λ r. IsLast s followed (IsDerived s x) l r.last)
 
 -- The followed places are derived, and so are the places that they require.
 pub record HasFollowed (s : Trace) (followed : List ℕ) (x : Search) : Type 0 where
-  pub derived : (q : ℕ) → Contains followed q → Has s x q
-  pub required : (q p : ℕ) → Contains followed q → IsRequired s q p → Has s x p
+  pub derived : (q : ℕ) → Contains followed q → IsDerived s x q
+  pub required : (q p : ℕ) → Contains followed q → IsRequired s q p → IsDerived s x p
   pub sections : Follows s followed x
 
 -- The new search has followed these places.
@@ -139,7 +139,7 @@ HasAlso s followed range all = ((q : ℕ) → Contains followed q → Contains a
 
 -- The place of this member is derived.
 abbrev pub IsCaughtAt : Trace → Search → List ℕ → ℕ → Type 0
-IsCaughtAt s x places i = (p : ℕ) × (slice_get places i ≡ Some p) × Has s x p
+IsCaughtAt s x places i = (p : ℕ) × (slice_get places i ≡ Some p) × IsDerived s x p
 
 -- The place of this member of a search is derived.
 abbrev pub IsCaughtIn : Trace → List ℕ → Search → ℕ → Type 0
@@ -147,4 +147,4 @@ IsCaughtIn s places x i = IsSearch s places x × IsCaughtAt s x places i
 
 -- The place of no member is derived.
 abbrev pub IsCaughtNowhere : Trace → Search → List ℕ → Type 0
-IsCaughtNowhere s x places = (p : ℕ) → Contains places p → Has s x p → ⊥
+IsCaughtNowhere s x places = (p : ℕ) → Contains places p → IsDerived s x p → ⊥

@@ -23,11 +23,11 @@ use trace_model::{Cycle, Derivation, NoMemory, Place, Refutation, Step};
 /// needs in a breadth-first search. Allocates in proportion to the refutation, and to the threads,
 /// locks and ranges of places that one search meets.
 ///
-/// # Errors
-/// `NoMemory` if an allocation fails.
-///
 /// The caller passes the table of the dependencies of the index's trace, and numbers below its
 /// length.
+///
+/// # Errors
+/// `NoMemory` if an allocation fails.
 pub fn refutation_of(
     alloc: Global,
     state: RandomState,

@@ -5,7 +5,7 @@ ghost use Rattle.std.specs.List.{Contains};
 ghost use Rattle.trace_model.specs.Theory.Trace.{Trace, At};
 ghost use Rattle.trace_model.specs.Theory.Reordering.{Reached};
 ghost use Rattle.trace_model.specs.Theory.Refutation.{Justifies};
-ghost use Rattle.explain.specs.Search.{derived_by, IsBlank, IsSearch, Has, Gives, IsIn, Adds, CoversAll, Extends, AddsFollowed, HasAlso, IsUpTo, IsJoined, IsBefore, IsBeforeSome, HasFork, Follows, HasFollowed, IsCaughtAt, IsCaughtIn, IsCaughtNowhere};
+ghost use Rattle.explain.specs.Search.{derived_by, IsBlank, IsSearch, IsDerived, Gives, IsIn, Adds, CoversAll, Extends, AddsFollowed, HasAlso, IsUpTo, IsJoined, IsBefore, IsBeforeSome, HasFork, Follows, HasFollowed, IsCaughtAt, IsCaughtIn, IsCaughtNowhere};
 
 use crate::tables::{IndexTable, Prefix, PrefixTable, index_at, prefix_at, put_index, put_prefix};
 use fronts::last_place;
@@ -79,9 +79,10 @@ impl Search {
         }
     }
 
-    /// Returns the prefix of derived places that contains the place, or `None` if it is not derived.
+    /// Returns the prefix of derived places that contains the place, or `None` if it is not
+    /// derived.
     fn prefix_of(&self, index: &TraceIndex, place: Place) -> Option<Prefix>
-        ensures { MatchOption result (Has index.now.events self.now place → ⊥)
+        ensures { MatchOption result (IsDerived index.now.events self.now place → ⊥)
             (Gives index.now.events self.now place) }
     {
         let event = index.event(place)?;
@@ -381,7 +382,7 @@ impl Search {
     /// `NoMemory` if an allocation fails.
     pub(crate) fn enter(&mut self, index: &TraceIndex, place: Place) -> Result<(), NoMemory>
         ensures { OnOk result ((places : List ℕ) → IsSearch index.now.events places self.old →
-            Has index.now.events self.old place →
+            IsDerived index.now.events self.old place →
             Adds index.now.events places self.old place self.new) }
     {
         match self.prefix_of(index, place) {

@@ -1,6 +1,5 @@
 -- What a collector of rows took, after one more cycle and at the end.
-use Rattle.std.proofs.Common.{◌≡◌, ℕ, List, [], ◌∷◌, ◌++◌, Result, Ok, Err, sym, subst, ◌∙◌}
-use Rattle.trace_model.specs.Theory.Trace.{Trace}
+use Rattle.std.proofs.Common.{◌≡◌, ℕ, List, [], ◌∷◌, ◌++◌, Result, Ok, Err, subst, ◌∙◌}
 use Rattle.reports.specs.Printed.{Printed}
 use Rattle.cycle_search.specs.Collecting.{Taking, TakesAll}
 use Rattle.findings.specs.Found.{AreRowsFor, IsRowFor}

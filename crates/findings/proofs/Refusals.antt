@@ -1,7 +1,5 @@
 -- The reasons of refusals are distinct.
 use Rattle.std.proofs.Common.{◌≡◌, Result, Ok, Err}
-use Rattle.cycle_search.specs.declared.refused.SearchRefused.{SearchRefused}
-use Rattle.cycle_search.specs.declared.refused.SearchRefused.TheVariants as search
 use Rattle.findings.specs.declared.computing.ComputeRefused.{ComputeRefused}
 use Rattle.findings.specs.declared.computing.ComputeRefused.TheVariants.{TooManyCycles, NoMemory}
 
@@ -10,9 +8,6 @@ found_not_refused found r h = absurd cc
 
 pub lacking_not_many : {A : Type 0} → ◌≡◌ {A = Result A ComputeRefused} (Err NoMemory) (Err TooManyCycles) → ⊥
 lacking_not_many h = absurd cc
-
-pub search_not_many : {A : Type 0} → ◌≡◌ {A = Result A SearchRefused} (Err search.NoMemory) (Err search.TooMany) → ⊥
-search_not_many h = absurd cc
 
 pub same_refusal : {A : Type 0} (r q : ComputeRefused) → ◌≡◌ {A = Result A ComputeRefused} (Err r) (Err q) → r ≡ q
 same_refusal r q h = cc

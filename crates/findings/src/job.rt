@@ -120,11 +120,11 @@ impl Job {
     /// Gives the rows of a task to the collector, in their order, and returns it. They are those of
     /// [`Job::compute`], but no row is kept. The job can compute further tasks after any result.
     ///
+    /// The caller passes a collector that accepts each row.
+    ///
     /// # Errors
     /// - `Refused` if the collector refuses a row.
     /// - `NoMemory` if an allocation fails.
-    ///
-    /// The caller passes a collector that accepts each row.
     pub fn collect<C: Collector<Row> + Drop>(
         &mut self,
         task: u32,

@@ -57,11 +57,11 @@ impl Tables {
     /// Returns the cycles of a task: those that begin with its dependency. A task past the last one
     /// has none.
     ///
+    /// The caller passes the snapshot from which the tables were computed.
+    ///
     /// # Errors
     /// - `TooMany` only if the task has more than `MAX_CYCLES` cycles.
     /// - `NoMemory` if an allocation fails.
-    ///
-    /// The caller passes the snapshot from which the tables were computed.
     pub(crate) fn cycles(
         &self,
         alloc: Global,
@@ -85,11 +85,11 @@ impl Tables {
     /// Gives the cycles of a task to the collector, in lexicographic order, until it refuses one.
     /// Returns the refusal, if there is one.
     ///
-    /// # Errors
-    /// `NoMemory` if an allocation of the search fails.
-    ///
     /// The caller passes the snapshot from which the tables were computed, and a collector that
     /// accepts the cycles.
+    ///
+    /// # Errors
+    /// `NoMemory` if an allocation of the search fails.
     pub(crate) fn collect<C: Collector<Cycle>>(
         &self,
         alloc: Global,

@@ -3,6 +3,7 @@ use Rattle.std.proofs.Common.{◌≡◌, ℕ, zero, suc, ◌+◌, ◌≤◌, Lis
 use Rattle.std.specs.List.{All, Contains, flat_map}
 use Rattle.std.proofs.lemmas.List.{map-append}
 use Rattle.std.proofs.lemmas.List.Concat.{flat_map-cons}
+use Rattle.std.proofs.lemmas.List.Elements.{All-map}
 use Rattle.std.proofs.lemmas.List.Sums.{sum_by-append, sum_by-cons}
 use Rattle.std.proofs.lemmas.Option.{none-some, same_Some, slice_get-map, slice_get_within, get_or_from_slice_get}
 use Rattle.trace_model.specs.Theory.Trace.{Trace}
@@ -13,7 +14,7 @@ use Rattle.trace_model.proofs.Theory.Unique.{Has, below_asym, contains_had, has_
 use Rattle.reports.specs.Printed.{Printed}
 use Rattle.cycle_search.specs.Search.{CycleFrom}
 use Rattle.findings.specs.Collecting.{AreSomeRows}
-use Rattle.findings.proofs.Members.{all_map, numbers_of}
+use Rattle.findings.proofs.Members.{numbers_of}
 use Rattle.offline_report.proofs.TaskRows.{plain}
 
 -- Lists in the order of keys. The weight of some of the elements is at most that of all.
@@ -85,7 +86,7 @@ module _ (s : Trace) (bound : ℕ) (weight : Row → ℕ) where
       let cycle = some.sound row.cycle (subst (λ (xs : List (List ℕ)). Contains xs row.cycle) same here) in
       let there = has_contained (map cycle_of all) row.cycle ((exact.cycles.exact row.cycle).1 cycle) in
       let (other, at, e) = from_map cycle_of all there.0 row.cycle there.1 in
-      let is = all_at (IsRow s) (plain rows) h.0 row (all_map (IsRow s) (λ p. p.row) rows are.exact) h.1 in
+      let is = all_at (IsRow s) (plain rows) h.0 row (All-map (IsRow s) (λ p. p.row) rows are.exact) h.1 in
       let unique = row_unique s other row e (all_at (IsRow s) all there.0 other exact.exact at) is in
       (there.0, at ∙ ap Some unique))
 

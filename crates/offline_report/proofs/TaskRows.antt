@@ -1,8 +1,9 @@
 -- The rows of all tasks, one task after another.
-use Rattle.std.proofs.Common.{◌≡◌, ℕ, zero, suc, ◌+◌, ◌<◌, ◌≤◌, inl, List, [], ◌∷◌, ◌++◌, map, slice_get, Some, refl, sym, subst, ◌∙◌, arith}
-use Rattle.std.specs.List.{All, flat_map}
+use Rattle.std.proofs.Common.{◌≡◌, ℕ, suc, ◌+◌, ◌<◌, ◌≤◌, inl, List, [], ◌∷◌, ◌++◌, map, slice_get, Some, refl, sym, subst, ◌∙◌, arith}
+use Rattle.std.specs.List.{flat_map}
 use Rattle.std.proofs.lemmas.List.{map-append}
 use Rattle.std.proofs.lemmas.List.Concat.{flat_map-cons}
+use Rattle.std.proofs.lemmas.List.Elements.{All-append, All-map}
 use Rattle.std.proofs.lemmas.Option.{none-some, same_Some}
 use Rattle.trace_model.specs.Theory.Trace.{Trace}
 use Rattle.trace_model.specs.Theory.Cycles.{AreCyclesFrom, IsCycle, ListBelow}
@@ -13,23 +14,18 @@ use Rattle.cycle_search.specs.Search.{AreSome, CycleFrom}
 use Rattle.cycle_search.proofs.Listing.{all-none, some-join, some-weaker}
 use Rattle.findings.specs.Collecting.{AreAllRows, AreSomeRows, rows_none}
 use Rattle.findings.specs.Found.{AreRowsFor}
-use Rattle.findings.proofs.Members.{all_map, numbers_of}
+use Rattle.findings.proofs.Members.{numbers_of}
 use Rattle.offline_report.specs.Offline.{AreExactRows}
 
 -- The rows without their dependencies.
 abbrev pub plain : List Printed → List Row
 plain rows = map (λ p. p.row) rows
 
-all_append : {X : Type 0} (P : X → Type 0) (xs ys : List X) → All P xs → All P ys → All P (xs ++ ys)
-all_append P [] ys h k i d l = k i d l
-all_append P (x ∷ xs) ys h k zero d l = h 0 x (omega arith)
-all_append P (x ∷ xs) ys h k (suc i) d l = all_append P xs ys (λ j e m. h (suc j) e (omega (arith, m))) k i d (omega (arith, l))
-
 rows_append : (s : Trace) (xs ys : List (List ℕ)) (rows more : List Printed) → AreRowsFor s xs rows → AreRowsFor s ys more → AreRowsFor s (xs ++ ys) (rows ++ more)
 rows_append s xs ys rows more h k = record {
   numbers = map-append (λ p. p.row.cycle) rows more ∙ (λ i. h.numbers i ++ k.numbers i);
-  exact = all_append (λ p. IsRow s p.row) rows more h.exact k.exact;
-  named = all_append (λ p. p ≡ with_dependencies (dependencies s) p.row) rows more h.named k.named;
+  exact = All-append (λ p. IsRow s p.row) rows more h.exact k.exact;
+  named = All-append (λ p. p ≡ with_dependencies (dependencies s) p.row) rows more h.named k.named;
 }
 
 -- Exactly the rows of a task.
@@ -39,14 +35,14 @@ task_rows s bound task rows (cycles, all, are) = record {
     exact = λ numbers. (all.some.sound numbers, all.complete numbers);
     in_order = all.some.in_order;
   });
-  exact = all_map (IsRow s) (λ p. p.row) rows are.exact;
+  exact = All-map (IsRow s) (λ p. p.row) rows are.exact;
 }
 
 -- Some rows of the report.
 pub some_rows : (s : Trace) (bound : ℕ) (P : List ℕ → Type 0) (rows : List Printed) → ((numbers : List ℕ) → P numbers → IsCycle (dependencies s) bound numbers) → AreSomeRows s P rows → AreExactRows s bound (plain rows)
 some_rows s bound P rows cycle (cycles, some, are) = record {
   cycles = subst (AreSome (IsCycle (dependencies s) bound)) (sym (numbers_of rows ∙ are.numbers)) (some-weaker P (IsCycle (dependencies s) bound) cycles cycle some);
-  exact = all_map (IsRow s) (λ p. p.row) rows are.exact;
+  exact = All-map (IsRow s) (λ p. p.row) rows are.exact;
 }
 
 -- A cycle whose first number is at least the root.

@@ -131,8 +131,8 @@ ArePartsOf s bound parts =
 abbrev pub AreWhole : List Part → Type 0
 AreWhole parts = All (λ part. part.is_whole ≡ true) parts
 
--- The parts of all tasks whose texts are written within a limit, or a reason that applies. Without a
--- limit each part is whole.
+-- The parts of all tasks whose texts are written within a limit, or a reason that applies. Without
+-- a limit each part is whole.
 abbrev pub ArePartsWithin : Trace → ℕ → ℕ → Result (Vec Part) OfflineRefused → Type 0
 ArePartsWithin s bound limit result = MatchResult result (λ parts. ArePartsOf s bound parts.items
     × (limit ≡ 2 ^ 64 - 1 → AreWhole parts.items)) IsNotComputed

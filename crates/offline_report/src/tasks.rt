@@ -26,8 +26,8 @@ mod early_end_tests;
 /// The number of the question that is asked about a file.
 const QUESTION: u32 = 0;
 
-/// The events and the bound of a question, and the limit of its texts, as ghost members. Only proofs
-/// read them.
+/// The events and the bound of a question, and the limit of its texts, as ghost members. Only
+/// proofs read them.
 pub trait About {
     ghost events: { Trace };
 
@@ -195,10 +195,10 @@ fn compute_all<A: About + Send + Sync, R: Threads + Sync, H: Hold + Sync>(
 /// the tasks have written more than `limit` bytes. Each task calls the hold when all its rows are
 /// computed.
 ///
+/// The caller passes the number of all tasks.
+///
 /// # Errors
 /// `NoMemory` if an allocation fails. Tasks that were not begun by then are not computed.
-///
-/// The caller passes the number of all tasks.
 fn parts_within<R: Threads + Sync, H: Hold + Sync>(
     rt: &R,
     alloc: Global,
@@ -218,13 +218,13 @@ fn parts_within<R: Threads + Sync, H: Hold + Sync>(
 }
 
 /// Returns the parts of all tasks of the analysis, in the order of the tasks. Each has all rows of
-/// its task, unless the texts of the parts are too long together for a report: then the tasks end as
-/// soon as this is so. Each task calls the hold when all its rows are computed.
+/// its task, unless the texts of the parts are too long together for a report: then the tasks end
+/// as soon as this is so. Each task calls the hold when all its rows are computed.
+///
+/// The caller passes the number of all tasks.
 ///
 /// # Errors
 /// `NoMemory` if an allocation fails. Tasks that were not begun by then are not computed.
-///
-/// The caller passes the number of all tasks.
 pub(crate) fn parts_of<R: Threads + Sync, H: Hold + Sync>(
     rt: &R,
     alloc: Global,

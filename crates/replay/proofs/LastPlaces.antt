@@ -1,6 +1,6 @@
 -- What the tables of a walk determine: in a walked list, one place decides for the others of its
 -- thread, or of its lock.
-use Rattle.std.proofs.Common.{◌≡◌, ℕ, zero, suc, ◌+◌, ◌<◌, ◌≤◌, inl, inr, Bool, true, false, not, cond, ◌==◌, List, [], ◌∷◌, ◌++◌, length, take, slice_get, get_or, set, nat_eq, replicate, ◌⊎◌, Option, Some, None, MatchOption, refl, sym, ◌∙◌, ap, subst, arith}
+use Rattle.std.proofs.Common.{◌≡◌, ℕ, zero, suc, ◌+◌, ◌<◌, inl, inr, Bool, true, false, not, cond, ◌==◌, List, [], ◌∷◌, ◌++◌, length, take, slice_get, get_or, set, nat_eq, replicate, Option, Some, None, MatchOption, refl, sym, ◌∙◌, ap, subst, arith}
 use Rattle.std.proofs.lemmas.Bool.{cases_lt, cases_eq, eqb-true, eq-eqb, false≢true}
 use Rattle.std.proofs.lemmas.Option.{none-some, same_Some, slice_get_within}
 use Rattle.std.specs.Option.{option_map_or}
@@ -17,11 +17,13 @@ use Rattle.replay.specs.declared.walked.Walked.{Walked}
 use Rattle.std.specs.HashMap.{get}
 use Rattle.std.specs.Bool.{Decides}
 use Rattle.trace_model.specs.declared.traces.event.Op.TheVariants.{Fork, Write}
-use Rattle.std.proofs.lemmas.List.{length-set, get_or-set_same, get_or-set_other}
+use Rattle.std.proofs.lemmas.List.{length-set, take_all, take-append-le, get_or-set_same, get_or-set_other}
+use Rattle.std.proofs.lemmas.List.Elements.{Contains-append_left, Contains-push, Contains-push_cases}
 use Rattle.std.proofs.Math.ListN.{length-replicate}
 use Rattle.trace_model.specs.Theory.Lawful.{IsWellFormed}
 use Rattle.replay.specs.Verdict.{order_tests, IsFirst}
 use Rattle.trace_model.proofs.Theory.Begun.{begun_so, begun_from}
+use Rattle.replay.proofs.Lists.{take_more}
 use Rattle.replay.proofs.Verdicts.{follows_so}
 use Rattle.trace_model.proofs.Theory.Walk.{front_so, front_from, walk_distinct}
 use Rattle.replay.specs.Tests.{NoWriteIn, MissesPlace, IsClosedIn, LeavesOpen, HasLater}
@@ -97,14 +99,6 @@ last_later s passed w l z q last (p, c, d, m) =
 pub later_last : (s : Trace) (passed : List ℕ) (l z q : ℕ) → IsLastAcquire s passed l z → q < z → HasLater s passed q l
 later_last s passed l z q (i, e, b, none) m = (z, contains_at passed z i e, b, m)
 
-pub take_more : (k : ℕ) (xs : List ℕ) (q : ℕ) → slice_get xs k ≡ Some q → take (k + 1) xs ≡ take k xs ++ q ∷ []
-take_more k [] q e = absurd (none-some q e)
-take_more zero (x ∷ xs) q e = ap (λ y. y ∷ []) (same_Some x q e)
-take_more (suc k) (x ∷ xs) q e =
-    let more = take_more k xs q e in
-    let up : suc k + 1 ≡ suc (k + 1) = omega arith in
-    rw up (ap (λ ys. x ∷ ys) more)
-
 -- A table after one more place.
 pub keeps_push : (passed : List ℕ) (P : ℕ → ℕ → Type 0) (test : ℕ → Bool) (q : ℕ) (table : ℕ → Option ℕ) → ((key : ℕ) → Decides (test key) (P key q)) →
     Keeps passed P table → Keeps (passed ++ q ∷ []) P (λ key. cond (test key) (Some q) (table key))
@@ -173,45 +167,26 @@ kept_write s passed w v (Some z) (i, e, d, none) = (
   d,
 )
 
-take_passed : (k : ℕ) (xs : List ℕ) (q : ℕ) → k ≤ length xs → take k (xs ++ q ∷ []) ≡ take k xs
-take_passed zero xs q l = refl
-take_passed (suc k) [] q l = absurd (omega arith)
-take_passed (suc k) (x ∷ xs) q l = ap (λ ys. x ∷ ys) (take_passed k xs q (omega arith))
-
-take_whole : (xs : List ℕ) → take (length xs) xs ≡ xs
-take_whole [] = refl
-take_whole (x ∷ xs) = ap (λ ys. x ∷ ys) (take_whole xs)
-
 -- The walk after one more place.
 pub walks_push : (s : Trace) (passed : List ℕ) (q : ℕ) → Walks s passed → Follows s passed q → Walks s (passed ++ q ∷ [])
 walks_push s passed q w f j u e = elim (get-push passed q j u e) [
-  | inl a ↦ subst (λ xs. Follows s xs u) (sym (take_passed j passed q (omega (arith, slice_get_within passed j u a)))) (w j u a)
+  | inl a ↦ subst (λ xs. Follows s xs u) (sym (take-append-le j passed (q ∷ []) (omega (arith, slice_get_within passed j u a)))) (w j u a)
   | inr a ↦
-      let at : passed ≡ take j (passed ++ q ∷ []) = sym (subst (λ k. take k (passed ++ q ∷ []) ≡ passed) (sym a.0) (take_passed (length passed) passed q (omega arith) ∙ take_whole passed)) in
+      let at : passed ≡ take j (passed ++ q ∷ []) = sym (subst (λ k. take k (passed ++ q ∷ []) ≡ passed) (sym a.0) (take-append-le (length passed) passed (q ∷ []) (omega arith) ∙ take_all (length passed) passed (omega arith))) in
       subst (λ x. Follows s (take j (passed ++ q ∷ [])) x) a.1 (subst (λ xs. Follows s xs q) at f)
 ]
-
-in_push : (passed : List ℕ) (q p : ℕ) → Contains (passed ++ q ∷ []) p → (Contains passed p) ⊎ (q ≡ p)
-in_push passed q p c = let r = place_of (passed ++ q ∷ []) p c in elim (get-push passed q r.0 p r.1) [
-  | inl a ↦ inl (contains_at passed p r.0 a)
-  | inr a ↦ inr a.1
-]
-
-push_in : (passed : List ℕ) (q p : ℕ) → (Contains passed p) ⊎ (q ≡ p) → Contains (passed ++ q ∷ []) p
-push_in passed q p (inl c) = let r = place_of passed p c in contains_at (passed ++ q ∷ []) p r.0 (get-push_kept passed q r.0 p r.1)
-push_in passed q p (inr e) = contains_at (passed ++ q ∷ []) p (length passed) (get-push_last passed q ∙ ap Some e)
 
 inside_push : (passed : List ℕ) (q : ℕ) (inside : List Bool) → q < length inside → ((p : ℕ) → Decides (get_or inside p false) (Contains passed p)) →
     (p : ℕ) → Decides (get_or (set inside q true) p false) (Contains (passed ++ q ∷ []) p)
 inside_push passed q inside l h p = elim (cases_eq q p) [
   | inl same ↦ (
-    λ _. push_in passed q p (inr same),
+    λ _. subst (Contains (passed ++ q ∷ [])) same (Contains-push passed q),
     λ _. subst (λ x. get_or (set inside q true) x false ≡ true) same (get_or-set_same inside q true false l),
   )
   | inr other ↦
       let kept : get_or (set inside q true) p false ≡ get_or inside p false = get_or-set_other inside q p true false (λ e. other (sym e)) in (
-        λ e. push_in passed q p (inl ((h p).0 (sym kept ∙ e))),
-        λ c. elim (in_push passed q p c) [ inl a ↦ kept ∙ (h p).1 a | inr e ↦ absurd (other e) ],
+        λ e. Contains-append_left passed (q ∷ []) p ((h p).0 (sym kept ∙ e)),
+        λ c. elim (Contains-push_cases passed q p c) [ inl a ↦ kept ∙ (h p).1 a | inr e ↦ absurd (other e) ],
       )
 ]
 
@@ -284,5 +259,5 @@ pub walked_next : (s : Trace) → IsWellFormed s → (order : List ℕ) (k q : �
     ((key : ℕ) → get nat_eq new.acquires key ≡ noted_begun b q key (get nat_eq old.acquires key)) →
     IsWalked s (take (k + 1) order) new
 walked_next s wf order k q done b old new e a f d w i x y z =
-    subst (λ xs. IsWalked s xs new) (sym (take_more k order q e))
+    subst (λ xs. IsWalked s xs new) (sym (take_more order k q e))
     (walked_push s (take k order) q done b old new a (follows_so s wf (take k order) q f) d w i x y z)

@@ -1,12 +1,17 @@
 -- Lists of places, and the event at a place.
-use Rattle.std.proofs.Common.{◌≡◌, ℕ, ◌⊎◌, inl, inr, Bool, true, false, not, List, slice_get, Option, Some, refl, ap, sym, subst, ◌∙◌}
+use Rattle.std.proofs.Common.{◌≡◌, ℕ, suc, ◌+◌, ◌⊎◌, inl, inr, Bool, true, false, not, List, [], ◌∷◌, ◌++◌, take, slice_get, Option, Some, refl, ap, sym, subst, ◌∙◌, arith}
 use Rattle.std.proofs.lemmas.Bool.{false≢true}
 use Rattle.std.proofs.lemmas.Option.{same_Some}
 use Rattle.std.specs.List.{Contains}
 use Rattle.trace_model.specs.declared.traces.event.Event.{Event}
 use Rattle.trace_model.specs.declared.traces.event.Op.{Op}
 use Rattle.trace_model.specs.Theory.Trace.{Trace, event, Does, OfThread}
+use Rattle.trace_model.proofs.Lists.{take_next}
 use Rattle.trace_model.proofs.Theory.Ascending.{listed, listed_contains, contains_listed}
+
+-- The list up to one more item.
+pub take_more : {X : Type 0} (xs : List X) (k : ℕ) (x : X) → slice_get xs k ≡ Some x → take (k + 1) xs ≡ take k xs ++ x ∷ []
+take_more xs k x at = let up : k + 1 ≡ suc k = omega arith in ap (λ n. take n xs) up ∙ take_next k xs x at
 
 -- It is in the list or not.
 pub in_cases : (passed : List ℕ) (q : ℕ) → Contains passed q ⊎ (Contains passed q → ⊥)

@@ -1,22 +1,19 @@
 -- The marks of the derived places.
-use Rattle.std.proofs.Common.{◌≡◌, ℕ, zero, suc, ◌+◌, ◌<◌, inl, inr, List, [], ◌∷◌, ◌++◌, length, take, slice_get, slice_set, Some, refl, sym, ap, subst, ◌∙◌, arith}
+use Rattle.std.proofs.Common.{◌≡◌, ℕ, zero, suc, ◌+◌, ◌<◌, inl, inr, List, [], ◌∷◌, ◌++◌, length, take, slice_get, slice_set, Some, refl, sym, ap, subst, ◌∙◌}
 use Rattle.std.proofs.lemmas.Option.{none-some}
 use Rattle.trace_model.specs.declared.refutations.Derived.{Derived}
 use Rattle.trace_model.specs.Theory.Trace.{Trace}
 use Rattle.trace_model.specs.Theory.Refutation.{Justifies, derived_places, IsDerivation}
-use Rattle.trace_model.proofs.Lists.{at_index, get-push, get-push_kept, get-push_last, get-set_same, take_next}
+use Rattle.trace_model.proofs.Lists.{at_index, get-push, get-push_kept, get-push_last, get-set_same}
 use Rattle.trace_model.proofs.Theory.Ascending.{place_of, contains_at}
 use Rattle.trace_model.proofs.Theory.Refutation.{set_cases}
 use Rattle.trace_model.proofs.Theory.Derivable.{derived_push, one_more_derived}
 use Rattle.replay.specs.Refuting.{AreMarked, KeepsMarks}
-
--- the entries with one more
-pub taken_more : (entries : List Derived) (k : ℕ) (d : Derived) → slice_get entries k ≡ Some d → take (k + 1) entries ≡ take k entries ++ d ∷ []
-taken_more entries k d at = let up : k + 1 ≡ suc k = omega arith in ap (λ n. take n entries) up ∙ take_next k entries d at
+use Rattle.replay.proofs.Lists.{take_more}
 
 pub derives_more : (s : Trace) (places : List ℕ) (entries : List Derived) (k : ℕ) (d : Derived) → slice_get entries k ≡ Some d →
     IsDerivation s places (take k entries) → Justifies s places (derived_places (take k entries)) d.reason d.place → IsDerivation s places (take (k + 1) entries)
-derives_more s places entries k d at h j = subst (IsDerivation s places) (sym (taken_more entries k d at)) (one_more_derived s places (take k entries) d h j)
+derives_more s places entries k d at h j = subst (IsDerivation s places) (sym (take_more entries k d at)) (one_more_derived s places (take k entries) d h j)
 
 set_keeps : (xs : List ℕ) (i j y : ℕ) → slice_get xs j ≡ Some y → slice_get (slice_set xs i y) j ≡ Some y
 set_keeps [] i j y h = absurd (none-some y h)
@@ -43,7 +40,7 @@ pub entry_marked : (marks : List ℕ) (mark p : ℕ) (entries : List Derived) (k
     AreMarked marks mark (derived_places (take k entries)) → AreMarked (slice_set marks p mark) mark (derived_places (take (k + 1) entries))
 entry_marked marks mark p entries k d at same within h =
     let more : derived_places (take (k + 1) entries) ≡ derived_places (take k entries) ++ p ∷ [] =
-    ap derived_places (taken_more entries k d at) ∙ derived_push (take k entries) d ∙ ap (λ x. derived_places (take k entries) ++ x ∷ []) (sym same) in
+    ap derived_places (take_more entries k d at) ∙ derived_push (take k entries) d ∙ ap (λ x. derived_places (take k entries) ++ x ∷ []) (sym same) in
     subst (AreMarked (slice_set marks p mark) mark) (sym more) (place_marked marks mark p (derived_places (take k entries)) within h)
 
 pub others_keep : (old marks : List ℕ) (mark p : ℕ) → KeepsMarks old mark marks → KeepsMarks old mark (slice_set marks p mark)

@@ -1,6 +1,6 @@
 -- The list of numbers, and the first places that it gives.
-use Rattle.std.proofs.Common.{◌≡◌, ℕ, suc, ◌<◌, ◌≤◌, ◌↔◌, ◌⊎◌, inl, inr, true, false, ◌==◌, Bool, List, [], ◌∷◌, ◌++◌, length, slice_get, Option, Some, None, MatchOption, refl, sym, ap, subst, ◌∙◌, arith}
-use Rattle.std.proofs.lemmas.Bool.{eqb-true, eq-eqb, false≢true, cases_lt}
+use Rattle.std.proofs.Common.{◌≡◌, ℕ, suc, ◌<◌, ◌≤◌, ◌↔◌, ◌⊎◌, inl, inr, List, [], ◌∷◌, ◌++◌, length, slice_get, Option, Some, None, MatchOption, sym, ap, subst, ◌∙◌, arith}
+use Rattle.std.proofs.lemmas.Bool.{cases_lt, cases_eq}
 use Rattle.std.proofs.lemmas.Option.{none-some, same_Some, slice_get_within}
 use Rattle.std.specs.List.{Contains}
 use Rattle.trace_model.specs.Theory.Trace.{Trace}
@@ -28,13 +28,6 @@ follows_more follow stay s n old new o (Some m) f is (d, some, noted) = (follow 
 abbrev pub Lists : List (Option ℕ) → Table → Type 0
 Lists numbers table = (p m : ℕ) → (slice_get numbers p ≡ Some (Some m)) ↔ Contains (places_of table m) p
 
-same_or_other : (m k : ℕ) → (m ≡ k) ⊎ (m ≡ k → ⊥)
-same_or_other m k = go (m == k) refl
-  where
-    go : (b : Bool) → (m == k) ≡ b → (m ≡ k) ⊎ (m ≡ k → ⊥)
-    go true e = inl (eqb-true m k e)
-    go false e = inr (λ h. false≢true (sym e ∙ eq-eqb m k h))
-
 pub lists_more : (old new : Table) (n : ℕ) (o : Option Dependency) (number : Option ℕ) (xs : List (Option ℕ)) → length xs ≡ n →
     Noted o old n number new → Lists xs old → Lists (xs ++ number ∷ []) new
 lists_more old new n o None xs len (none, same) h p m = (
@@ -46,14 +39,14 @@ lists_more old new n o None xs len (none, same) h p m = (
 )
 lists_more old new n o (Some k) xs len (d, some, noted) h p m = (
   (λ e. elim (get-push xs (Some k) p (Some m) e) [
-    | inl a ↦ elim (same_or_other m k) [
+    | inl a ↦ elim (cases_eq m k) [
       | inl is ↦ here is (kept (subst (λ x. Contains (placed old.shown x) p) is ((h p m).0 a)))
       | inr not_k ↦ subst (λ ps. Contains ps p) (sym (noted.elsewhere m not_k)) ((h p m).0 a)
     ]
     | inr a ↦ here (sym (same_Some k m a.1)) (contains_at (placed old.shown k ++ n ∷ []) p (length (placed old.shown k))
         (subst (λ x. slice_get (placed old.shown k ++ n ∷ []) (length (placed old.shown k)) ≡ Some x) (sym (a.0 ∙ len)) (get-push_last (placed old.shown k) n)))
   ]),
-  λ c. elim (same_or_other m k) [
+  λ c. elim (cases_eq m k) [
     | inl is ↦ there is (let (j, at) = place_of (placed old.shown k ++ n ∷ []) p (subst (λ ps. Contains ps p) noted.here (subst (λ x. Contains (placed new.shown x) p) is c)) in
         get-push (placed old.shown k) n j p at)
     | inr not_k ↦ get-push_kept xs (Some k) p (Some m) ((h p m).1 (subst (λ ps. Contains ps p) (noted.elsewhere m not_k) c))

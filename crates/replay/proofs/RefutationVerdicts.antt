@@ -1,12 +1,12 @@
 -- The verdict on a refutation.
-use Rattle.std.proofs.Common.{◌≡◌, ℕ, zero, suc, ◌+◌, ◌<◌, ◌≤◌, inl, inr, List, [], ◌∷◌, length, drop, slice_get, slice_set, Some, None, refl, sym, ap, subst, arith}
-use Rattle.std.proofs.lemmas.Option.{none-some, same_Some}
+use Rattle.std.proofs.Common.{◌≡◌, ℕ, zero, suc, ◌+◌, ◌<◌, inl, inr, List, [], ◌∷◌, length, drop, drop-cons, slice_get, slice_set, Some, None, refl, sym, ap, subst, ◌∙◌, arith}
+use Rattle.std.proofs.lemmas.Option.{slice_get_within, get_or_from_slice_get}
 use Rattle.trace_model.specs.declared.refutations.Step.{Step}
 use Rattle.trace_model.specs.Theory.Trace.{Trace}
 use Rattle.trace_model.specs.Theory.Refutation.{Derives, IsNextPlace}
 use Rattle.replay.specs.declared.refutation_verdict.StepFault.{StepFault}
 use Rattle.replay.specs.declared.refutation_verdict.RefutationVerdict.{RefutationVerdict}
-use Rattle.replay.specs.declared.refutation_verdict.RefutationVerdict.TheVariants.{WrongStep, AfterEnd, PlaceLeft}
+use Rattle.replay.specs.declared.refutation_verdict.RefutationVerdict.TheVariants.{WrongStep, AfterEnd}
 use Rattle.replay.specs.Refuting.{IsFault, IsEndVerdict, IsVerdictFrom, MarksUpTo, KeepsMarks}
 
 -- a step follows the end
@@ -16,15 +16,7 @@ end_more (step ∷ steps) zero n l = refl
 end_more (step ∷ steps) (suc k) n l = end_more steps k n (omega arith)
 
 drop_step : (steps : List Step) (k : ℕ) (step : Step) → slice_get steps k ≡ Some step → drop k steps ≡ step ∷ drop (suc k) steps
-drop_step [] k step h = absurd (none-some step h)
-drop_step (x ∷ steps) zero step h = ap (λ y. y ∷ steps) (same_Some x step h)
-drop_step (x ∷ steps) (suc k) step h = drop_step steps k step h
-
-drop_all : (steps : List Step) (k : ℕ) → length steps ≤ k → drop k steps ≡ []
-drop_all [] zero l = refl
-drop_all [] (suc k) l = refl
-drop_all (x ∷ steps) zero l = absurd (omega arith)
-drop_all (x ∷ steps) (suc k) l = drop_all steps k (omega arith)
+drop_step steps k step at = drop-cons steps k step (slice_get_within steps k step at) ∙ ap (λ x. x ∷ drop (suc k) steps) (get_or_from_slice_get steps k step step at)
 
 module _ (s : Trace) (numbers places : List ℕ) (steps : List Step) (k : ℕ) where
   pub fault_verdict : (step : Step) → slice_get steps k ≡ Some step → (fault : StepFault) → IsFault s places step fault →
@@ -44,9 +36,6 @@ module _ (s : Trace) (numbers places : List ℕ) (steps : List Step) (k : ℕ) w
       let up : k + 1 ≡ suc k = omega arith in
       subst (λ left. IsVerdictFrom s numbers places left k v) (sym (drop_step steps k step at))
       (inr (Some q, derives, next, subst (λ n. IsVerdictFrom s numbers (slice_set places step.member q) (drop n steps) n v) up rest))
-
-  pub left_verdict : length steps ≤ k → IsVerdictFrom s numbers places (drop k steps) k PlaceLeft
-  left_verdict l = subst (λ left. IsVerdictFrom s numbers places left k PlaceLeft) (sym (drop_all steps k l)) refl
 
 pub marks_more : (old new : List ℕ) (k : ℕ) → MarksUpTo old k → KeepsMarks old (k + 1) new → MarksUpTo new (k + 1)
 marks_more old new k h keeps p x e = elim (keeps p x e) [

@@ -24,10 +24,10 @@ use trace_model::{Event, Instance, NoMemory, Place};
 /// the places of the instance are in the trace. Takes a few passes over the trace and one over the
 /// list; the time depends only on both lengths.
 ///
+/// The caller passes a well-formed trace.
+///
 /// # Errors
 /// `NoMemory` if an allocation fails.
-///
-/// The caller passes a well-formed trace.
 pub fn check(
     alloc: Global,
     state: RandomState,

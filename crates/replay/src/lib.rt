@@ -2,13 +2,13 @@
 //!
 //! [`check`] reads a trace, a list of places and the places of an instance. It returns `Reaches`
 //! exactly if the list is a sync-preserving reordering of the trace that reaches the instance, else
-//! the first test that fails, with its place. The reader of a witness needs to trust only this
-//! crate. Start reading at `order_rules.rt`, which has the tests.
+//! the first test that fails, with its place. It takes only types from the other crates, those of
+//! `trace_model`. Start reading at `order_rules.rt`, which has the tests.
 //!
 //! [`RefutationChecker`] reads a trace once, and then cycles with the steps of a refutation. It
 //! returns `Valid` exactly if the steps are a refutation of the cycle, else the first step that is
-//! wrong, with the reason. It takes the numbers of dependencies from the crate `dependencies`. Start
-//! reading at `reasons.rt`, which has the tests.
+//! wrong, with the reason. It takes the numbers of dependencies from the crate `dependencies`.
+//! Start reading at `reasons.rt`, which has the tests.
 #![tactic(auto)]
 
 mod checking;

@@ -182,11 +182,11 @@ pub(crate) fn first_unjustified(
         × AreMarked marks.new.items mark (derived_places entries.now))
         (IsUnjustified trace.now places.now entries.now) }
 {
-    for k in 0..entries.len() {
-        if !is_justified(trace, facts, places, marks, mark, &entries[k]) {
-            return Some(entries[k]);
+    for entry in entries {
+        if !is_justified(trace, facts, places, marks, mark, entry) {
+            return Some(*entry);
         }
-        marks[entries[k].place.get() as usize] = mark;
+        marks[entry.place.get() as usize] = mark;
     }
     None
 }

@@ -17,9 +17,10 @@ use crate::refutation_verdict::{RefutationVerdict, StepFault};
 use std::alloc::Global;
 use std::collections::hash_map::RandomState;
 use std::marker::Model;
-use trace_model::{Cycle, Derived, Event, NoMemory, Place, Refutation, Step};
+use trace_model::{Cycle, Event, NoMemory, Place, Refutation, Step};
 
-/// A trace, with the tables by which refutations are checked against it. Contracts see it as the trace.
+/// A trace, with the tables by which refutations are checked against it. Contracts see it as the
+/// trace.
 #[derive(Drop)]
 pub struct RefutationChecker<'a> {
     alloc: Global,
@@ -42,10 +43,10 @@ impl<'a> Model for RefutationChecker<'a> {
 impl<'a> RefutationChecker<'a> {
     /// Computes the tables, by a few passes over the trace.
     ///
+    /// The caller passes a well-formed trace.
+    ///
     /// # Errors
     /// `NoMemory` if an allocation fails.
-    ///
-    /// The caller passes a well-formed trace.
     pub fn new(
         alloc: Global,
         state: RandomState,
@@ -143,14 +144,12 @@ fn present_of(places: &[Place], member: usize) -> Option<Place>
     places.get(member).copied()
 }
 
-/// Returns the first test that fails of the step of this member with these entries, at these present
-/// places, or `None`.
+/// Returns the first test of the step that fails at these present places, or `None`.
 fn step_fault(
     trace: &[Event],
     facts: &Facts,
     places: &[Place],
-    member: usize,
-    entries: &[Derived],
+    step: &Step,
     marks: &mut Vec<usize>,
     mark: usize,
 ) -> Option<StepFault>
@@ -160,12 +159,12 @@ fn step_fault(
     ensures sized { length marks.new.items ≡ length trace.now }
     ensures others { KeepsMarks marks.old.items mark marks.new.items }
     ensures fault { MatchOption result
-        (Derives trace.now places.now (record { member = member; derivation = entries.now }))
-        (IsFault trace.now places.now (record { member = member; derivation = entries.now })) }
+        (Derives trace.now places.now step.now) (IsFault trace.now places.now step.now) }
 {
-    let Some(present) = present_of(places, member) else {
+    let Some(present) = present_of(places, step.member) else {
         return Some(StepFault::NoSuchMember);
     };
+    let entries = step.derivation.entries();
     if let Some(entry) = first_unjustified(trace, facts, places, entries, marks, mark) {
         return Some(StepFault::Unjustified(entry));
     }
@@ -223,13 +222,12 @@ fn follow(
     ensures { IsVerdictFrom trace.now members.now places.old.items steps.now 0 result }
 {
     for k in 0..steps.len() {
-        let member = steps[k].member;
-        let entries = steps[k].derivation.entries();
-        if let Some(fault) = step_fault(trace, facts, places, member, entries, marks, k + 1) {
+        let step = &steps[k];
+        if let Some(fault) = step_fault(trace, facts, places, step, marks, k + 1) {
             return RefutationVerdict::WrongStep(k, fault);
         }
-        match next_place(numbers, members, places, member) {
-            Some(next) => places[member] = next,
+        match next_place(numbers, members, places, step.member) {
+            Some(next) => places[step.member] = next,
             None => return end_verdict(steps, k + 1),
         }
     }

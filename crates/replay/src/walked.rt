@@ -45,7 +45,8 @@ impl Walked {
         })
     }
 
-    /// Passes `place`. Its operation is `op`, and a section begins there on the lock `begun`, if any.
+    /// Passes `place`. Its operation is `op`, and a section begins there on the lock `begun`, if
+    /// any.
     ///
     /// # Errors
     /// `NoMemory` if an allocation fails.

@@ -4,11 +4,11 @@ use Rattle.std.proofs.lemmas.List.Sums.{sum_by-cons}
 use Rattle.std.proofs.lemmas.List.Folds.{sum_by-replicate}
 use Rattle.std.proofs.lemmas.Bool.{cases_lt}
 use Rattle.std.proofs.lemmas.Bool.Decides.{nat_tests}
-use Rattle.std.proofs.lemmas.Option.{slice_get-get_or, slice_get_past, slice_get_read}
+use Rattle.std.proofs.lemmas.Option.{slice_get-get_or, slice_get_past, slice_get_read, slice_get_within}
 use Rattle.std.specs.Prelude.{option_copied}
 use Rattle.std.specs.Slice.{IsItemAt}
 use denote.Ref.{Bor}
-use Rattle.std.proofs.lemmas.List.{length-replicate}
+use Rattle.std.proofs.lemmas.List.{length-map, length-replicate}
 use Rattle.std.proofs.Math.ListN.{length-set}
 use Rattle.std.proofs.Math.Nat.{mul-zero}
 use Rattle.reports.specs.Printed.{Printed}
@@ -89,27 +89,18 @@ least_missing ms rs n m order l = (
   ],
 )
 
-pub within_list : (ms : List Bool) (k : ℕ) (m : Bool) → slice_get ms k ≡ Some m → k < length ms
-within_list [] k m h = absurd (cc)
-within_list (x ∷ ms) zero m h = omega arith
-within_list (x ∷ ms) (suc k) m h = omega (arith, within_list ms k m h)
-
 pub none_missing : (ms : List Bool) (rs : List (List Printed)) (n m : ℕ) → IsInOrder ms rs n m → length ms ≤ m → (task : ℕ) → IsMissing (tasks_of ms rs) task → ⊥
 none_missing ms rs n m order l task h =
     let gone = unmarked ms rs task order.long h in
-    clash (slice_get ms task) (order.before task (omega (arith, within_list ms task false gone))) gone
-
-pub map_long : {X : Type 0} (g : X → List Printed) (xs : List X) → length (map g xs) ≡ length xs
-map_long g [] = refl
-map_long g (x ∷ xs) = ap (λ n. suc n) (map_long g xs)
+    clash (slice_get ms task) (order.before task (omega (arith, slice_get_within ms task false gone))) gone
 
 pub marked_more : {X : Type 0} (g : X → List Printed) (ms : List Bool) (rs : List X) (n m i last : ℕ) (r : X) → IsInOrder ms (map g rs) n m → slice_get ms i ≡ Some false →
     m ≤ last → last ≤ length (slice_set ms i true) → ((k : ℕ) → m ≤ k → k < last → slice_get (slice_set ms i true) k ≡ Some true) →
     (last < length (slice_set ms i true) → slice_get (slice_set ms i true) last ≡ Some false) →
     IsInOrder (slice_set ms i true) (map g (slice_set rs i r)) (n + 1) last
 marked_more g ms rs n m i last r order h from within before first = record {
-  long = length-set ms i true ∙ order.long ∙ map_long g rs ∙ sym (length-set rs i r) ∙ sym (map_long g (slice_set rs i r));
-  short = omega (arith, order.short, map_long g rs, length-set rs i r, map_long g (slice_set rs i r));
+  long = length-set ms i true ∙ order.long ∙ length-map rs g ∙ sym (length-set rs i r) ∙ sym (length-map (slice_set rs i r) g);
+  short = omega (arith, order.short, length-map rs g, length-set rs i r, length-map (slice_set rs i r) g);
   counted = ap (λ k. k + 1) order.counted ∙ sym (counted_more ms i h);
   within = within;
   before = λ k l. elim (cases_lt k m) [ inl e ↦ still_marked ms i k (order.before k e) | inr e ↦ before k e l ];

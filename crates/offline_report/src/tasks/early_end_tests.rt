@@ -120,8 +120,8 @@ fn no_task_goes_on_over_the_limit(rt: HostRuntime) -> Result<(), Fail> {
     Ok(())
 }
 
-/// Computes task 0 on a piece without a job, as if the memory for it was refused, and then task 1 on
-/// a piece with one. Returns whether both lack memory.
+/// Computes task 0 on a piece without a job, as if the memory for it was refused, and then task 1
+/// on a piece with one. Returns whether both lack memory.
 fn both_lack_memory<A: About + Send + Sync>(
     alloc: Global,
     analysis: &Arc<Analysis, Global>,

@@ -3,11 +3,12 @@ use Rattle.std.proofs.lemmas.Bool.{false≢true}
 use Rattle.replay.proofs.refuting.step_fault.Goals as goal
 
 pub returns-in-Some-first_unjustified-clause-fault : goal.returns-in-Some-first_unjustified-clause-fault
-returns-in-Some-first_unjustified-clause-fault c = (c.in-Some.present, sym c.in-Some.ensures, c.in-Some-first_unjustified.ensures.first)
+returns-in-Some-first_unjustified-clause-fault c =
+    (c.in-Some.present, sym c.in-Some.ensures, rw c.entries-entries.ensures at c.in-Some-first_unjustified.ensures.first)
 
 pub returns-then-not-is_marked-clause-fault : goal.returns-then-not-is_marked-clause-fault
 returns-then-not-is_marked-clause-fault c =
-    let h = c.in_default-first_unjustified.ensures.first in (
+    let h = rw c.entries-entries.ensures at c.in_default-first_unjustified.ensures.first in (
       sym c.in-Some.ensures,
       h.0,
       λ m. false≢true (sym c.if-not-is_marked.true
@@ -16,7 +17,7 @@ returns-then-not-is_marked-clause-fault c =
 
 pub returns-clause-fault : goal.returns-clause-fault
 returns-clause-fault c =
-    let h = c.in_default-first_unjustified.ensures.first in (
+    let h = rw c.entries-entries.ensures at c.in_default-first_unjustified.ensures.first in (
       c.in-Some.present,
       sym c.in-Some.ensures,
       h.0,

@@ -4,7 +4,7 @@ use Rattle.trace_model.specs.Theory.Lookups.{release}
 use Rattle.trace_model.proofs.Theory.Begun.{begun_so}
 use Rattle.explain.specs.declared.tables.Prefix.{Prefix}
 use Rattle.explain.specs.declared.search.Search.{Search}
-use Rattle.explain.specs.Search.{Has, IsSearch, Extends}
+use Rattle.explain.specs.Search.{IsDerived, IsSearch, Extends}
 use Rattle.explain.proofs.Adding.{on_ok_then, extends_refl, in_more}
 use Rattle.explain.proofs.LastSections.{follows_none, follows_earlier, follows_later, last_is, with_lock, extends_by_lock}
 use Rattle.explain.proofs.search.Search.add_section.Goals as goal
@@ -60,17 +60,17 @@ returns c =
     let begins = sym c.begun.ensures ∙ c.in-Some.is in
     let at = sym c.prefix_at.ensures ∙ c.in-Some-prefix_at.is in
     let is_last = last_is s followed x l last f at in
-    let mid : IsSearch s places y × Extends s x y × (y.locks ≡ x.locks) × (last.last < q → (r : ℕ) → release s last.last ≡ Some r → Has s y r) =
+    let mid : IsSearch s places y × Extends s x y × (y.locks ≡ x.locks) × (last.last < q → (r : ℕ) → release s last.last ≡ Some r → IsDerived s y r) =
     elim c.if-get-2.branch [
       | then-get-2+in_ok-require w ↦
           let z = w.require-then-get-2.new.self in
           let less : last.last < q = omega (arith, w.if-get-2.true, c.get-3.ensures, c.get-4.ensures) in
           let (a, e, all) = w.in_ok-require.ensures.required places is (is.locks l last at) here
           (λ r k xs d g. (d, g, less, (l, is_last.1, begun_so s q l begins), sym w.release_of-then-get-2.ensures ∙ k)) in
-          subst (λ (v : Search). IsSearch s places v × Extends s x v × (v.locks ≡ x.locks) × (last.last < q → (r : ℕ) → release s last.last ≡ Some r → Has s v r))
+          subst (λ (v : Search). IsSearch s places v × Extends s x v × (v.locks ≡ x.locks) × (last.last < q → (r : ℕ) → release s last.last ≡ Some r → IsDerived s v r))
           (sym w.self-is) (a, e, w.in_ok-require.ensures.locks, λ _ r k. all r (w.release_of-then-get-2.ensures ∙ k))
       | else-get-2 w ↦
-          subst (λ (v : Search). IsSearch s places v × Extends s x v × (v.locks ≡ x.locks) × (last.last < q → (r : ℕ) → release s last.last ≡ Some r → Has s v r))
+          subst (λ (v : Search). IsSearch s places v × Extends s x v × (v.locks ≡ x.locks) × (last.last < q → (r : ℕ) → release s last.last ≡ Some r → IsDerived s v r))
           (sym w.self-is) (is, extends_refl s x, refl, λ less. absurd (omega (arith, less, w.if-get-2.false, c.get-3.ensures, c.get-4.ensures)))
     ] in (
       with_lock s places y l c.args.here.now locks put (in_more s places x y mid.1 c.args.here.now here) mid.0,

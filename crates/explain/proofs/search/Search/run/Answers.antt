@@ -1,8 +1,9 @@
-use Rattle.std.proofs.Common.{ℕ, ◌<◌, List, [], length, Some, MatchOption, sym, ap, subst, ◌∙◌, arith}
+use Rattle.std.proofs.Common.{◌≡◌, ℕ, List, [], slice_get, Some, MatchOption, sym, ap, subst, ◌∙◌, arith}
 use Rattle.std.proofs.lemmas.Option.{slice_get_within, slice_get-get_or}
 use Rattle.explain.specs.Search.{AddsFollowed, HasAlso, IsCaughtIn}
 use Rattle.explain.proofs.Finished.{finished, nothing_followed, followed_stays, walked_more}
 use Rattle.explain.proofs.search.Search.run.Goals as goal
+use Rattle.explain.proofs.search.Search.run.Goals.{After-walk}
 
 pub loop-k-init : goal.loop-k-init
 loop-k-init c =
@@ -27,35 +28,23 @@ returns-then-k-len-clause-caught c =
     walked i r p (omega (arith, slice_get_within x.ranges.items i r at, c.if-k-len.true, c.len.ensures, x.ranges.ok)) at inside)
     c.len-len.ensures.well_formed c.args.places.now h.before c.in_default.ensures
 
-pub returns-in-Some-2-clause-search : goal.returns-in-Some-2-clause-search
-returns-in-Some-2-clause-search c =
-    let s = c.args.index.now.events in
-    let places = c.args.places.now in
-    let x = c.loop-k.self in
-    let y = c.walk.new.self in
-    let h = c.loop-k.invariant in
-    let k = c.loop-k.k in
-    let range = c.index.result.now in
-    let within : k < length x.ranges.items = omega (arith, c.if-k-len.false, c.len.ensures, x.ranges.ok) in
-    let here = slice_get-get_or x.ranges.items k range within ∙ ap Some (sym c.index.ensures) in
-    let (xs, f, walked) = h.followed in
-    (subst (λ o. MatchOption o ((all : List ℕ) × AddsFollowed s places x all y × HasAlso s xs range all) (IsCaughtIn s places y)) c.in-Some-2.is
-    (c.in_ok-member.ensures xs h.search (h.search.ranges k range here) f)).0
+range_at : (c : After-walk) → slice_get c.loop-k.self.ranges.items c.loop-k.k ≡ Some c.index.result.now
+range_at c =
+    let xs = c.loop-k.self.ranges in
+    slice_get-get_or xs.items c.loop-k.k c.index.result.now (omega (arith, c.if-k-len.false, c.len.ensures, xs.ok)) ∙ ap Some (sym c.index.ensures)
 
-pub returns-in-Some-2-clause-caught : goal.returns-in-Some-2-clause-caught
-returns-in-Some-2-clause-caught c =
+pub returns-in-Some-2 : goal.returns-in-Some-2
+returns-in-Some-2 c =
     let s = c.args.index.now.events in
     let places = c.args.places.now in
-    let x = c.loop-k.self in
     let y = c.walk.new.self in
     let h = c.loop-k.invariant in
-    let k = c.loop-k.k in
     let range = c.index.result.now in
-    let within : k < length x.ranges.items = omega (arith, c.if-k-len.false, c.len.ensures, x.ranges.ok) in
-    let here = slice_get-get_or x.ranges.items k range within ∙ ap Some (sym c.index.ensures) in
+    let here = range_at (goal.at.returns-in-Some-2 c).After-walk in
     let (xs, f, walked) = h.followed in
-    (subst (λ o. MatchOption o ((all : List ℕ) × AddsFollowed s places x all y × HasAlso s xs range all) (IsCaughtIn s places y)) c.in-Some-2.is
-    (c.in_ok-member.ensures xs h.search (h.search.ranges k range here) f)).1
+    let (is, caught) = subst (λ o. MatchOption o ((all : List ℕ) × AddsFollowed s places c.loop-k.self all y × HasAlso s xs range all) (IsCaughtIn s places y)) c.in-Some-2.is
+    (c.in_ok-member.ensures xs h.search (h.search.ranges c.loop-k.k range here) f) in
+    record { search = is; caught = caught }
 
 pub loop-k-preserved : goal.loop-k-preserved
 loop-k-preserved c =
@@ -66,8 +55,7 @@ loop-k-preserved c =
     let h = c.loop-k.invariant in
     let k = c.loop-k.k in
     let range = c.index.result.now in
-    let within : k < length x.ranges.items = omega (arith, c.if-k-len.false, c.len.ensures, x.ranges.ok) in
-    let here = slice_get-get_or x.ranges.items k range within ∙ ap Some (sym c.index.ensures) in
+    let here = range_at (goal.at.loop-k-preserved c).After-walk in
     let (xs, f, walked) = h.followed in
     let (all, (is, e, g), (sub, done)) = subst (λ o. MatchOption o ((all : List ℕ) × AddsFollowed s places x all y × HasAlso s xs range all) (IsCaughtIn s places y)) c.in_default-2.is
     (c.in_ok-member.ensures xs h.search (h.search.ranges k range here) f) in
@@ -75,5 +63,5 @@ loop-k-preserved c =
       search = is;
       before = λ p b. e.has p (h.before p b);
       within = omega (arith, slice_get_within y.ranges.items k range (e.ranges k range here));
-      followed = (all, g, walked_more s x y xs all k range e sub here within done walked);
+      followed = (all, g, walked_more s x y xs all k range e sub here (slice_get_within x.ranges.items k range here) done walked);
     }

@@ -1,10 +1,10 @@
 use Rattle.std.proofs.Common.{◌≡◌, ◌∷◌, [], ◌++◌, inl, inr, MatchOption, refl, sym, subst, ◌∙◌, arith}
+use Rattle.std.proofs.lemmas.List.Elements.{Contains-append_left}
 use Rattle.std.proofs.lemmas.Option.{same_Some}
 use Rattle.trace_model.specs.declared.traces.event.Op.TheVariants.{Fork}
 use Rattle.trace_model.specs.Theory.Trace.{Does, OfThread}
 use Rattle.trace_model.proofs.Theory.Least.{at_thread}
 use Rattle.explain.specs.Search.{IsCaughtAt, IsCaughtNowhere}
-use Rattle.explain.proofs.Pushing.{push_kept}
 use Rattle.explain.proofs.Adding.{extends_trans}
 use Rattle.explain.proofs.Walking.{before_some, walk_less}
 use Rattle.explain.proofs.Finished.{followed_stays, place_in, fork_at, walk_goes_on, walk_ends}
@@ -62,7 +62,7 @@ loop-next-preserved c =
           (fork_at s y last t place own on.0 fork) g in (
             all ++ place ∷ [],
             (j, extends_trans s x y z e k, also),
-            λ q m. push_kept all place q (sub q m),
+            λ q m. Contains-append_left all (place ∷ []) q (sub q m),
             λ u p o d. k.has p (fork u p o d),
             λ q m after. walk_goes_on s t last place all on.0 own (λ a b r. done a b (λ n v. r n (sym c.in-Some-next.is ∙ v))) q m
                 (λ n v. after n (c.thread_before-next.ensures ∙ v)),

@@ -1,19 +1,21 @@
 use Rattle.std.proofs.Common.{◌≡◌, Some, true, false, map, slice_get, slice_set, sym, ap, subst, ◌∙◌, arith}
+use Rattle.std.proofs.lemmas.Option.{slice_get_within}
+use Rattle.std.proofs.lemmas.List.{length-map}
 use Rattle.std.proofs.lemmas.List.Sums.{count_by-le-length}
 use Rattle.std.proofs.Math.ListN.{length-set}
 use Rattle.result_ledger.specs.Tasks.{IsMissing}
-use Rattle.result_ledger.proofs.TaskList.{unmarked, within_list, marked_at, counted_more, told_more, map_long}
+use Rattle.result_ledger.proofs.TaskList.{unmarked, marked_at, counted_more, told_more}
 use Rattle.result_ledger.proofs.ledger.Ledger.accept.Goals as goal
 
 pub index_mut-requires : goal.index_mut-requires
 index_mut-requires c =
     let gone : slice_get c.self.inside.marks.items c.args.task ≡ Some false = unmarked c.self.inside.marks.items (map (λ rows. rows.items) c.self.inside.rows.items) c.args.task c.self.invariant.long (subst (λ ts. IsMissing ts c.args.task) (sym c.self.view_is) c.in-Ok.ensures) in
-    omega (arith, within_list c.self.inside.marks.items c.args.task false gone, c.self.invariant.long, map_long (λ rows. rows.items) c.self.inside.rows.items, c.self.inside.rows.ok)
+    omega (arith, slice_get_within c.self.inside.marks.items c.args.task false gone, c.self.invariant.long, length-map c.self.inside.rows.items (λ rows. rows.items), c.self.inside.rows.ok)
 
 pub index_mut-requires-in-Ok : goal.index_mut-requires-in-Ok
 index_mut-requires-in-Ok c =
     let gone : slice_get c.self.inside.marks.items c.args.task ≡ Some false = unmarked c.self.inside.marks.items (map (λ rows. rows.items) c.self.inside.rows.items) c.args.task c.self.invariant.long (subst (λ ts. IsMissing ts c.args.task) (sym c.self.view_is) c.in-Ok.ensures) in
-    omega (arith, within_list c.self.inside.marks.items c.args.task false gone, c.self.inside.marks.ok)
+    omega (arith, slice_get_within c.self.inside.marks.items c.args.task false gone, c.self.inside.marks.ok)
 
 pub overflow_add-self : goal.overflow_add-self
 overflow_add-self c =
@@ -29,6 +31,6 @@ invariant_of-self c =
 pub returns-in-Ok : goal.returns-in-Ok
 returns-in-Ok c = (
   c.in-Ok.ensures,
-  told_more (λ rows. rows.items) c.self.inside.marks.items c.self.inside.rows.items c.args.task c.args.rows (omega (arith, c.self.invariant.long, map_long (λ rows. rows.items) c.self.inside.rows.items))
+  told_more (λ rows. rows.items) c.self.inside.marks.items c.self.inside.rows.items c.args.task c.args.rows (omega (arith, c.self.invariant.long, length-map c.self.inside.rows.items (λ rows. rows.items)))
       ∙ ap (λ tasks. slice_set tasks c.args.task (Some c.args.rows.items)) c.self.view_is,
 )

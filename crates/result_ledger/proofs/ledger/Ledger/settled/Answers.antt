@@ -1,11 +1,12 @@
 use Rattle.std.proofs.Common.{◌≡◌, ◌<◌, Some, length, map, sym, ap, subst, ◌∙◌, arith}
+use Rattle.std.proofs.lemmas.List.{length-map}
 use Rattle.result_ledger.specs.Tasks.{IsMissing}
-use Rattle.result_ledger.proofs.TaskList.{least_missing, all_told, map_long}
+use Rattle.result_ledger.proofs.TaskList.{least_missing, all_told}
 use Rattle.result_ledger.proofs.ledger.Ledger.settled.Goals as goal
 
 pub returns-then-self-len : goal.returns-then-self-len
 returns-then-self-len c =
-    let long = map_long (λ rows. rows.items) c.self.inside.rows.items in
+    let long = length-map c.self.inside.rows.items (λ rows. rows.items) in
     let counted = c.self.inside.rows.ok in
     let all : c.self.inside.missing ≡ length c.self.inside.marks.items = omega (arith, c.self.invariant.long, long, counted, c.if-self-len.true) in
     sym c.self.view_is
@@ -14,7 +15,7 @@ returns-then-self-len c =
 
 pub returns-else-self-len : goal.returns-else-self-len
 returns-else-self-len c =
-    let long = map_long (λ rows. rows.items) c.self.inside.rows.items in
+    let long = length-map c.self.inside.rows.items (λ rows. rows.items) in
     let counted = c.self.inside.rows.ok in
     let within = c.self.invariant.within in
     let some : c.self.inside.missing < length c.self.inside.marks.items = omega (arith, c.self.invariant.long, long, counted, c.if-self-len.false) in (
