@@ -7,7 +7,8 @@ use Rattle.board.specs.Fits.{ReaderView}
 use Rattle.board.specs.declared.entry.Busy.{Busy}
 use Rattle.board.specs.declared.entry.Busy.TheVariants.{Behind}
 
--- the board shows a legal run that extends what the reader has seen, but is shorter than what it knows
+-- the board shows a legal run that extends what the reader has seen, but is shorter than what it
+-- knows
 pub record IsBehind (seen known : List BoardStep) : Type 0 where
   pub shown : List BoardStep
   pub legal : IsLegal shown

@@ -21,8 +21,8 @@ pub record WriterView : Type 0 where
   pub published : List BoardStep
   pub waiting : List BoardStep
 
--- The content of the queue of changes while a step waits: an empty change, which reserves the memory
--- of the real one.
+-- The content of the queue of changes while a step waits: an empty change, which reserves the
+-- memory of the real one.
 abbrev pub room_of : {A : Type 0} → Option BoardStep → List (Option A)
 room_of None = []
 room_of (Some step) = None ∷ []

@@ -21,8 +21,8 @@ length_word b = record { tracked = true; key = 0; book = b }
 abbrev pub IsLonger : List BoardStep → List BoardStep → Type 0
 IsLonger xs ys = IsPrefix xs ys × (length xs < length ys)
 
--- Either the step was appended to all that was seen, or the history was longer, and all of it has now
--- been seen.
+-- Either the step was appended to all that was seen, or the history was longer, and all of it has
+-- now been seen.
 abbrev pub AddsStep : pages.Step BoardStep → View BoardStep ℕ → ℕ → View BoardStep ℕ → Type 0
 AddsStep s v found w = MatchBool (found == s.old) ((w.0 ≡ v.0 ++ s.ask ∷ []) × IsLegal w.0)
     ((length w.0 ≡ found) × IsLegal w.0)

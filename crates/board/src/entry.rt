@@ -1,5 +1,6 @@
 //! The entry to the kit's board.
-ghost use Rattle.std.specs.Prelude.{◌≡◌, length, IfOk, IfErr, OnOk, OnErr};
+ghost use Rattle.std.specs.Prelude.{◌≡◌, [], length, IfOk, IfErr, OnOk, OnErr, IsSome};
+ghost use Rattle.std.specs.Option.{option_map_or};
 ghost use mathlib.Core.List.{IsPrefix};
 ghost use Rattle.trace_model.specs.Protocol.Runs.{IsLegal};
 ghost use Rattle.left_right.specs.Sides.{view};
@@ -19,8 +20,8 @@ pub enum Busy {
     Behind,
 }
 
-/// The number of a reader's entries that failed, modulo 2^64. Only `enter` adds to it. So a contract
-/// states that a reader was busy only because an entry failed.
+/// The number of a reader's entries that failed, modulo 2^64. Only `enter` adds to it. So a
+/// contract states that a reader was busy only because an entry failed.
 #[derive(Drop)]
 pub struct FailedEntries {
     count: u64,
@@ -45,38 +46,47 @@ pub(crate) type RuledReader<N> = Reader<Shown<N>, SeenSteps, Shown<N>>;
 
 type RuledReading<N> = Reading<Shown<N>, SeenSteps, Shown<N>>;
 
-/// Enters the board. On failure the reader is returned, its view does not change, and the failed entry
-/// is counted.
+/// Enters the board. On failure the reader is put back, its view does not change, and the failed
+/// entry is counted.
 pub(crate) fn enter<N: HistoryId, K: KnownCount>(
-    reader: RuledReader<N>,
+    reader: &mut Option<RuledReader<N>>,
     known: &HistoryPrefix<N>,
     failed: &mut FailedEntries,
-) -> Result<RuledReading<N>, (RuledReader<N>, Busy)>
-    requires { K.count ≡ length known.now }
+) -> Result<RuledReading<N>, Busy>
+    requires some { IsSome reader.old }
+    requires count { K.count ≡ length known.now }
     ensures seen { IfOk result (λ r. view r.place ≡ r.part.value) }
-    ensures later { IfOk result (λ r. IsPrefix (view reader.place) r.part.value) }
+    ensures later { IfOk result (λ r.
+        IsPrefix (option_map_or (λ x. view x.place) reader.old []) r.part.value) }
     ensures learnt { IfOk result (λ r. IsPrefix known.now r.part.value) }
     ensures legal { IfOk result (λ r. IsLegal r.part.value) }
     ensures entered { OnOk result (failed.new ≡ failed.old) }
-    ensures same { IfErr result (λ r. view r.0.place ≡ view reader.place) }
+    ensures back { OnErr result (IsSome reader.new) }
+    ensures same { OnErr result (option_map_or (λ x. view x.place) reader.new [] ≡
+        option_map_or (λ x. view x.place) reader.old []) }
     ensures counted { OnErr result (failed.new.count ≡ one_more failed.old.count) }
-    ensures behind { IfErr result (λ r. r.1 ≡ Busy.Behind →
-        IsBehind (view reader.place) known.now) }
+    ensures behind { IfErr result (λ busy. busy ≡ Busy.Behind →
+        IsBehind (option_map_or (λ x. view x.place) reader.old []) known.now) }
 {
-    match reader.enter_as::<Enter<N, K>>() {
+    let Some(entering) = reader.take() else {
+        unreachable!();
+    };
+    match entering.enter_as::<Enter<N, K>>() {
         Ok(reading) => {
             if reading.get().prefix().len() < known.len() {
                 failed.add_one();
-                return Err((reading.leave(), Busy::Behind));
+                *reader = Some(reading.leave());
+                return Err(Busy::Behind);
             }
             // for the proof: both are prefixes of one history, so the shorter one is a prefix of
             // the longer one
             let _longer = known.longer(reading.get().prefix());
             Ok(reading)
         }
-        Err(reader) => {
+        Err(back) => {
             failed.add_one();
-            Err((reader, Busy::NoEntry))
+            *reader = Some(back);
+            Err(Busy::NoEntry)
         }
     }
 }

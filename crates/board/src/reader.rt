@@ -66,8 +66,8 @@ impl<N: HistoryId> Receipt<N> {
 
 /// A reader of the board. Contracts see two lists of steps: `seen`, the steps that it has seen,
 /// which changes only when it enters the board; and `known`, the steps that it has seen or learned
-/// from receipts. `seen` is a prefix of `known`, and `known` is a legal run. They also see `failed`,
-/// the number of its entries that failed, modulo 2^64.
+/// from receipts. `seen` is a prefix of `known`, and `known` is a legal run. They also see
+/// `failed`, the number of its entries that failed, modulo 2^64.
 pub struct BoardReader<N: HistoryId> {
     /// `None` only while a call of this reader is at work.
     reader: Option<RuledReader<N>>,
@@ -125,8 +125,8 @@ impl<N: HistoryId> BoardReader<N> {
     ///
     /// # Errors
     ///
-    /// `NoEntry` if the board gives no entry, `Behind` if it shows fewer steps than the reader knows
-    /// of. The failed entry is counted; else the reader does not change.
+    /// `NoEntry` if the board gives no entry, `Behind` if it shows fewer steps than the reader
+    /// knows of. The reader counts the failed entry, and changes in nothing else.
     pub fn status(&mut self) -> Result<Summary, Busy>
         ensures summary { IfOk result (λ s. Shows s self.new.seen) }
         ensures all { OnOk result (self.new.known ≡ self.new.seen) }
@@ -136,21 +136,11 @@ impl<N: HistoryId> BoardReader<N> {
         ensures entered { OnOk result (self.new.failed ≡ self.old.failed) }
         ensures busy { IfErr result (IsBusy self.old self.new) }
     {
-        let Some(reader) = self.reader.take() else {
-            unreachable!();
-        };
-        match enter::<N, Brand>(reader, &self.known, &mut self.failed) {
-            Ok(reading) => {
-                let summary = *reading.get().totals();
-                self.known = reading.get().prefix().again();
-                self.reader = Some(reading.leave());
-                Ok(summary)
-            }
-            Err((reader, busy)) => {
-                self.reader = Some(reader);
-                Err(busy)
-            }
-        }
+        let reading = enter::<N, Brand>(&mut self.reader, &self.known, &mut self.failed)?;
+        let summary = *reading.get().totals();
+        self.known = reading.get().prefix().again();
+        self.reader = Some(reading.leave());
+        Ok(summary)
     }
 
     /// Reads the board: returns the least question with a missing task whose entry in `passed_over`
@@ -172,25 +162,15 @@ impl<N: HistoryId> BoardReader<N> {
         ensures entered { OnOk result (self.new.failed ≡ self.old.failed) }
         ensures busy { IfErr result (IsBusy self.old self.new) }
     {
-        let Some(reader) = self.reader.take() else {
-            unreachable!();
-        };
-        match enter::<N, Brand>(reader, &self.known, &mut self.failed) {
-            Ok(reading) => {
-                let found = reading.get().totals().least_unsettled(passed_over);
-                self.known = reading.get().prefix().again();
-                self.reader = Some(reading.leave());
-                Ok(found)
-            }
-            Err((reader, busy)) => {
-                self.reader = Some(reader);
-                Err(busy)
-            }
-        }
+        let reading = enter::<N, Brand>(&mut self.reader, &self.known, &mut self.failed)?;
+        let found = reading.get().totals().least_unsettled(passed_over);
+        self.known = reading.get().prefix().again();
+        self.reader = Some(reading.leave());
+        Ok(found)
     }
 
-    /// Learns a receipt: every run that the reader sees from now on extends the receipt's steps. Does
-    /// not look at the board, allocate or wait.
+    /// Learns a receipt: every run that the reader sees from now on extends the receipt's steps.
+    /// Does not look at the board, allocate or wait.
     pub fn learn(&mut self, receipt: &Receipt<N>)
         ensures seen { self.new.seen ≡ self.old.seen }
         ensures begins { IsPrefix self.new.seen self.new.known }
@@ -203,8 +183,8 @@ impl<N: HistoryId> BoardReader<N> {
     }
 
     /// Learns a receipt that was made after all that the reader knows, like `learn`. If it was made
-    /// before, waits forever: for the receipt of a call that began after the reader learned the last
-    /// one this does not occur.
+    /// before, waits forever: for the receipt of a call that began after the reader learned the
+    /// last one this does not occur.
     pub fn catch_up<R: Wait>(&mut self, rt: &R, receipt: &Receipt<N>)
         ensures seen { self.new.seen ≡ self.old.seen }
         ensures own { IsPrefix self.old.known self.new.known }

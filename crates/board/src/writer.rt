@@ -25,8 +25,8 @@ pub struct NotMade;
 /// The writer of the kit's board, under the rule of this crate. Its view is the published list.
 type RuledWriter<N, T> = Writer<T, Option<StepDelta<N>>, SeenSteps, T>;
 
-/// Appends the change to the queue, which has memory for it. If an allocation fails all the same, it
-/// tries again: a committed step must be published.
+/// Appends the change to the queue, which has memory for it. If an allocation fails all the same,
+/// it tries again: a committed step must be published.
 fn append<N: HistoryId, R: Wait + Copy, T: BoardValue<N>>(
     rt: &R,
     publisher: &mut RuledWriter<N, T>,
@@ -118,14 +118,15 @@ impl<N: HistoryId, R: Wait + Copy, T: BoardValue<N>> Model for BoardWriter<N, R,
       waiting = list_of w.waiting;
     } };
 
-    ghost invariant = { λ w. (T.run w.publisher.desk.shown.value ≡ sides.view w.publisher.desk.place)
+    ghost invariant = { λ w.
+        (T.run w.publisher.desk.shown.value ≡ sides.view w.publisher.desk.place)
         × (w.prefix ≡ sides.view w.publisher.desk.place)
         × (drop w.publisher.behind w.publisher.log.items ≡ room_of w.waiting) };
 }
 
 impl<N: HistoryId, R: Wait + Copy, T: BoardValue<N>> BoardWriter<N, R, T> {
-    /// Reserves memory for publishing `step`, which then waits. No step may be waiting. The published
-    /// steps do not change.
+    /// Reserves memory for publishing `step`, which then waits. No step may be waiting. The
+    /// published steps do not change.
     ///
     /// # Errors
     ///
@@ -141,8 +142,8 @@ impl<N: HistoryId, R: Wait + Copy, T: BoardValue<N>> BoardWriter<N, R, T> {
         Ok(())
     }
 
-    /// Cuts the events of a waiting `Accept` step to the first `events`, at least 1. Other steps and
-    /// the published steps do not change. Does not allocate.
+    /// Cuts the events of a waiting `Accept` step to the first `events`, at least 1. Other steps
+    /// and the published steps do not change. Does not allocate.
     pub fn truncate(&mut self, events: usize)
         requires some { 1 ≤ events }
         ensures published { self.new.published ≡ self.old.published }
