@@ -2,6 +2,7 @@
 use Rattle.std.proofs.Common.{◌≡◌, ℕ, List, [], ◌∷◌, ◌++◌, None, Result, Ok, Err, IfOk, IfErr, sym, ap, subst, ◌∙◌}
 use Rattle.std.specs.Result.{OnOk, OnErr}
 use Rattle.trace_model.specs.declared.messages.step.BoardStep.{BoardStep}
+use Rattle.trace_model.specs.declared.refusal.Refusal.{Refusal}
 use Rattle.trace_model.specs.Protocol.Machine.{State}
 use Rattle.trace_model.specs.Protocol.Runs.{IsLegal}
 use Rattle.snapshots.specs.Found.{AreRowsOf, FoundRows}
@@ -59,15 +60,7 @@ pub record IsToldOf (limit : ℕ) (f : FoundRows) (outcome : Delivered) (run : L
 pub told_of : (limit : ℕ) (old new : DeskView) (f : FoundRows) (outcome : Delivered) (run : List BoardStep) → After limit old.published old.state → After limit new.published new.state →
     WentSo old new f outcome → run ≡ new.published → IsLegal new.published → IsToldOf limit f outcome run
 told_of limit old new f (Ok u) run before after went is legal = record {
-  taken = record {
-    before = old.published;
-    state = old.state;
-    next = new.state;
-    ends = is ∙ went.published;
-    was = before;
-    is = subst (λ (r : List BoardStep). After limit r new.state) (sym is) after;
-    took = went.taken;
-  };
+  taken = ended_by {E = Refusal × FoundRows} limit old new run (Ok u) (λ _. delivery_step f) (λ _ state next. delivery state f ≡ (None, next)) before after is went.published went.taken;
   exact = went.exact;
   refused = tt;
   back = tt;
@@ -76,7 +69,7 @@ told_of limit old new f (Ok u) run before after went is legal = record {
 told_of limit old new f (Err refused) run before after went is legal = record {
   taken = tt;
   exact = tt;
-  refused = (old.state, subst (λ (r : List BoardStep). After limit r old.state) (sym (is ∙ ap (λ (k : DeskView). k.published) went.same)) before, went.refuses);
+  refused = refused_after {A = Unit {0}} limit old new run (Err refused) (λ r state. RefusesFinding state f r.0) before is went.same went.refuses;
   back = went.back;
   legal = subst IsLegal (sym is) legal;
 }

@@ -1,15 +1,14 @@
 -- A run followed by one more step of the machine.
-use Rattle.std.proofs.Common.{◌≡◌, ℕ, zero, suc, ◌≤◌, List, [], ◌∷◌, ◌++◌, length, take, get_or, inl, inr, Option, Some, None, refl, sym, ap, subst, ◌∙◌, arith}
+use Rattle.std.proofs.Common.{◌≡◌, ℕ, zero, suc, ◌≤◌, List, [], ◌∷◌, ◌++◌, length, take, get_or, inl, Option, Some, None, refl, sym, ap, subst, ◌∙◌, arith}
 use Rattle.std.proofs.lemmas.List.{append-nil, length-map, length-take}
 use Rattle.std.proofs.lemmas.Option.{none-some, slice_get-get_or}
 use Rattle.trace_model.specs.declared.traces.event.Event.{Event}
 use Rattle.trace_model.specs.declared.limits.TheConstants.{MAX_CYCLES}
 use Rattle.trace_model.specs.declared.refusal.Refusal.{Refusal}
-use Rattle.trace_model.specs.declared.refusal.Refusal.TheVariants.{NoMemory}
 use Rattle.trace_model.specs.declared.messages.step.BoardStep.{BoardStep}
 use Rattle.trace_model.specs.declared.messages.step.BoardStep.TheVariants.{Accept, Open}
 use Rattle.trace_model.specs.declared.messages.session.Request.TheVariants.{Offer, Ask}
-use Rattle.trace_model.specs.declared.messages.session.Reply.TheVariants.{Placed, Refused}
+use Rattle.trace_model.specs.declared.messages.session.Reply.TheVariants.{Placed}
 use Rattle.trace_model.specs.Theory.Trace.{Trace}
 use Rattle.trace_model.specs.Theory.Lawful.{refusal_of}
 use Rattle.trace_model.specs.Protocol.Batches.{IsBatch}
@@ -19,12 +18,11 @@ use Rattle.trace_model.specs.Protocol.Machine.{State, opening, ask_refused, ask_
 use Rattle.trace_model.specs.Protocol.Runs.{IsLegal, TakesStep}
 use Rattle.trace_model.proofs.Protocol.Taking.{machine_steps, one_takes, run_legal, run_push}
 use Rattle.snapshots.specs.Found.{AreRowsOf, FoundRows}
-use Rattle.sequencer.specs.declared.asking.AskRefused.{AskRefused}
 use Rattle.sequencer.specs.declared.asking.Opened.{Opened}
 use Rattle.sequencer.specs.declared.batching.Batched.{Batched}
 use Rattle.sequencer.specs.Batched.{EndsBatch, FirstIsReserved, IsBatched}
 use Rattle.sequencer.specs.Book as books
-use Rattle.sequencer.specs.Book.{Refuses, RefusesAsk, RefusesOffer, IsAccepted, ask_refusal, findings_rows, opened_reply}
+use Rattle.sequencer.specs.Book.{RefusesOffer, findings_rows, opened_reply}
 use Rattle.sequencer.specs.Printing.{printing}
 use Rattle.sequencer.specs.Deliveries.{delivery}
 use Rattle.desk.specs.Batches.{accepting}
@@ -35,27 +33,12 @@ use Rattle.desk.specs.Refused.{RefusesFinding}
 abbrev pub Takes : State → BoardStep → State → Type 0
 Takes = TakesStep AreRows
 
--- the book and the published steps after one more step
-pub kept_on : (limit : ℕ) (run waiting shown rest : List BoardStep) (s next : State) (added : BoardStep) → IsDesk limit run waiting s → Takes s added next →
-    shown ≡ run ++ added ∷ [] → rest ≡ [] → IsDesk limit shown rest next
-kept_on limit run waiting shown rest s next added kept takes is none = record {
-  allowed = kept.allowed;
-  after = subst (λ x. After limit x next) (sym is) (run_push AreRows (opening limit) s next run added kept.after takes);
-  rests = none;
-}
-
 pub legal_kept : (limit : ℕ) (run waiting : List BoardStep) (s : State) → IsDesk limit run waiting s → IsLegal run
 legal_kept limit run waiting s kept = run_legal limit s run kept.allowed kept.after
 
 -- the same for their views
 pub after_shown : (limit : ℕ) (k shown : DeskView) → k ≡ shown → After limit k.published k.state → After limit shown.published shown.state
 after_shown limit k shown is = subst (λ (x : DeskView). After limit x.published x.state) is
-
--- one more step may be published
-pub legal_next : (limit : ℕ) (run waiting shown : List BoardStep) (s next : State) (added : BoardStep) → IsDesk limit run waiting s → Takes s added next →
-    shown ≡ run ++ added ∷ [] → IsLegal shown
-legal_next limit run waiting shown s next added kept takes is =
-    legal_kept limit shown [] next (kept_on limit run waiting shown [] s next added kept takes is refl)
 
 -- a call changed nothing under the lock, and the property holds of the machine before it
 pub record Stays (limit : ℕ) (now next : DeskView) (so : State → Type 0) : Type 0 where
@@ -86,15 +69,34 @@ pub record Goes (limit : ℕ) (now next : DeskView) (added : BoardStep) (so : St
   pub published : next.published ≡ now.published ++ added ∷ []
   pub legal : IsLegal next.published
 
-pub goes : (limit : ℕ) (run waiting shown rest : List BoardStep) (s next : State) (now : DeskView) (added : BoardStep) (so : State → Type 0) → IsDesk limit run waiting s → record { published = run; state = s } ≡ now →
-    IsDesk limit shown rest next → shown ≡ run ++ added ∷ [] → so s → Goes limit now (record { published = shown; state = next }) added so
-goes limit run waiting shown rest s next now added so kept view went published is = record {
-  before = after_shown limit _ now view kept.after;
-  after = went.after;
-  is = subst (λ (x : DeskView). so x.state) view is;
-  published = published ∙ ap (λ (x : DeskView). x.published ++ added ∷ []) view;
-  legal = legal_kept limit shown rest next went;
-}
+-- the machine takes one more step, with which the steps are those of `shown`
+pub record Moves (limit : ℕ) (run waiting shown : List BoardStep) (s next : State) (added : BoardStep) : Type 0 where
+  pub kept : IsDesk limit run waiting s
+  pub takes : Takes s added next
+  pub is : shown ≡ run ++ added ∷ []
+
+module _ {limit : ℕ} {run waiting shown : List BoardStep} {s next : State} {added : BoardStep} (m : Moves limit run waiting shown s next added) where
+  -- the desk once they are published
+  pub kept_on : (out rest : List BoardStep) → out ≡ shown → rest ≡ [] → IsDesk limit out rest next
+  kept_on out rest is none = record {
+    allowed = m.kept.allowed;
+    after = subst (λ x. After limit x next) (sym (is ∙ m.is)) (run_push AreRows (opening limit) s next run added m.kept.after m.takes);
+    rests = none;
+  }
+
+  -- they may be published
+  pub legal_next : IsLegal shown
+  legal_next = legal_kept limit shown [] next (kept_on shown [] refl refl)
+
+  pub goes : (out rest : List BoardStep) (now : DeskView) (so : State → Type 0) → record { published = run; state = s } ≡ now → out ≡ shown → rest ≡ [] → so s →
+      Goes limit now (record { published = out; state = next }) added so
+  goes out rest now so view is none holds = record {
+    before = after_shown limit _ now view m.kept.after;
+    after = (kept_on out rest is none).after;
+    is = subst (λ (x : DeskView). so x.state) view holds;
+    published = is ∙ (m.is ∙ ap (λ (x : DeskView). x.published ++ added ∷ []) view);
+    legal = legal_kept limit out rest next (kept_on out rest is none);
+  }
 
 -- ---- what the machine takes
 
@@ -151,23 +153,8 @@ first_admitted book s events d some shown reserved none =
 
 -- ---- what it refuses
 
-pub refuses_offer : (s : State) (e : Event) (r : Refusal) → RefusesOffer s e r → Refuses s (Offer e) (Refused r)
-refuses_offer s e r (inl is) = inl (ap (λ o. (offer_reply s o, offer_next s e o)) is)
-refuses_offer s e r (inr (is, none)) = inr (ap (λ x. Refused x) is, subst (λ o. IsAccepted (offer_reply s o)) (sym none) tt)
-
-pub refuses_ask : (s : State) (bound : ℕ) (r : AskRefused) → RefusesAsk s bound r → Refuses s (Ask bound) (Refused (ask_refusal r))
-refuses_ask s bound r (inl is) = inl (ap (λ o. (ask_reply s o, ask_next s bound o)) is)
-refuses_ask s bound r (inr (is, none)) = inr (ap (λ x. Refused (ask_refusal x)) is, subst (λ o. IsAccepted (ask_reply s o)) (sym none) tt)
-
 pub refuses_finding : (s : State) (f : FoundRows) (r : Refusal) → Some r ≡ deliver_refused s f.question f.bound f.events f.task → RefusesFinding s f r
 refuses_finding s f r is = inl (ap (λ o. (o, deliver_next s f.question f.task (findings_rows f) o)) (sym is))
-
--- a request that the machine accepts is refused since an allocation failed
-pub no_memory_offer : (s : State) (e : Event) → refusal_of s.limit s.accepted e ≡ None → Refuses s (Offer e) (Refused NoMemory)
-no_memory_offer s e none = inr (refl, subst (λ o. IsAccepted (offer_reply s o)) (sym none) tt)
-
-pub no_memory_ask : (s : State) (bound : ℕ) → ask_refused s bound ≡ None → Refuses s (Ask bound) (Refused NoMemory)
-no_memory_ask s bound none = inr (refl, subst (λ o. IsAccepted (ask_reply s o)) (sym none) tt)
 
 -- no event of a batch is accepted if its first event is refused
 pub none_batched : (s next : State) (events : List Event) (d : Event) (r : Refusal) (out : Batched) → next ≡ s → 1 ≤ length events → RefusesOffer s (get_or events 0 d) r →

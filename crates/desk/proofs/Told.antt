@@ -51,33 +51,27 @@ shown_there : (s : Summary) (counts : runs.Summary) (question : ℕ) (q : Shown)
 shown_there s counts question q found shows finds there within =
     finds ∙ (sym (cond_below question s.opened _ None (omega (arith, within, shows.opened))) ∙ shows.each question q there)
 
+-- the status with these counts
+abbrev status_with : ℕ → ℕ → ℕ → QuestionSummary → Reply
+status_with question accepted opened asked = replies.Status (record {
+  question = question;
+  accepted = accepted;
+  opened = opened;
+  length = asked.length;
+  bound = asked.bound;
+  total = asked.total;
+  delivered = asked.delivered;
+  cycles = asked.cycles;
+  confirmed = asked.confirmed;
+})
+
 -- the reply to a status if the question is open
 pub status_some : (s : Summary) (counts : runs.Summary) (question : ℕ) (asked : QuestionSummary) (found : Option QuestionSummary) → Finds s question found → found ≡ Some asked → ShowsCounts s counts →
-    replies.Status (record {
-      question = question;
-      accepted = s.accepted;
-      opened = s.opened;
-      length = asked.length;
-      bound = asked.bound;
-      total = asked.total;
-      delivered = asked.delivered;
-      cycles = asked.cycles;
-      confirmed = asked.confirmed;
-    }) ≡ shown_status counts question
+    status_with question s.accepted s.opened asked ≡ shown_status counts question
 status_some s counts question asked found finds is shows = elim (slice_get_cases counts.questions question).1 [
   | inl (q, within, there, _) ↦
       let same : asked ≡ shown_as q = same_Some asked (shown_as q) (sym is ∙ shown_there s counts question q found shows finds there within) in
-      (λ i. replies.Status (record {
-        question = question;
-        accepted = shows.accepted i;
-        opened = shows.opened i;
-        length = ap (λ (a : QuestionSummary). a.length) same i;
-        bound = ap (λ (a : QuestionSummary). a.bound) same i;
-        total = ap (λ (a : QuestionSummary). a.total) same i;
-        delivered = ap (λ (a : QuestionSummary). a.delivered) same i;
-        cycles = ap (λ (a : QuestionSummary). a.cycles) same i;
-        confirmed = ap (λ (a : QuestionSummary). a.confirmed) same i;
-      })) ∙ ap (shown_status_of counts question) (sym there)
+      (λ i. status_with question (shows.accepted i) (shows.opened i) (same i)) ∙ ap (shown_status_of counts question) (sym there)
   | inr (past, none) ↦
       absurd (none-some asked (cond_above question s.opened (slice_get s.questions question) None None (omega (arith, past, shows.opened)) refl ∙ (sym finds ∙ is)))
 ]

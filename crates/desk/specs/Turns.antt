@@ -38,8 +38,8 @@ MissesNone s number =
     (q : Question) → slice_get s.questions number ≡ Some q → (task : ℕ) →
     slice_get q.tasks task ≡ Some None → ⊥
 
--- the worker, which knew the `old` steps, saw that no question was unsettled, except of those that it
--- gave up; or that no task of the least such question was missing
+-- the worker, which knew the `old` steps, saw that no question was unsettled, except of those that
+-- it gave up; or that no task of the least such question was missing
 pub record IsIdle (limit : ℕ) (given_up : List Bool) (old known : List BoardStep) : Type 0 where
   pub shown : List BoardStep
   pub later : IsPrefix old shown

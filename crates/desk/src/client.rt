@@ -16,9 +16,9 @@ use std::marker::Model;
 use std::sync::{Arc, Wait};
 use trace_model::{Event, QuestionStatus, Refusal, Reply, Request};
 
-/// A desk and a reader of its board, for one session. The reader learns the receipt of each call, so a
-/// status, which is read from the board, covers every step that the session received a reply for. Contracts
-/// see a client as its reader.
+/// A desk and a reader of its board, for one session. The reader learns the receipt of each call,
+/// so a status, which is read from the board, covers every step that the session received a reply
+/// for. Contracts see a client as its reader.
 pub struct Client<N: HistoryId, R: Wait + Copy, T: BoardValue<N>> {
     desk: Arc<Desk<N, R, T>>,
     reader: BoardReader<N>,
@@ -142,8 +142,8 @@ fn status_in(summary: &Summary, question: u32) -> Reply
     }
 }
 
-/// A status is read from the board, and is `BoardBusy` if the board cannot be read. All other requests
-/// go to the desk.
+/// A status is read from the board, and is `BoardBusy` if the board cannot be read. All other
+/// requests go to the desk.
 impl<N: HistoryId, R: Wait + Copy, T: BoardValue<N>> Calls for Client<N, R, T> {
     ghost steps = { λ old request reply new. StepsAtDesk N.limit old request reply new };
 

@@ -29,10 +29,10 @@ use std::hash::RandomState;
 use std::sync::{Arc, Mutex, Wait};
 use trace_model::{Bound, Event, Place, Refusal};
 
-/// A book that threads share, with the board that shows it. Each call takes the lock once and may wait
-/// for it. The rows of tasks are computed without the lock. Contracts see a receipt as the steps that
-/// it names: `EndsBy` says that these end with the call's own step, `Afterwards` that the answer is
-/// the machine's after all of them.
+/// A book that threads share, with the board that shows it. Each call takes the lock once and may
+/// wait for it. The rows of tasks are computed without the lock. Contracts see a receipt as the
+/// steps that it names: `EndsBy` says that these end with the call's own step, `Afterwards` that
+/// the answer is the machine's after all of them.
 pub struct Desk<N: HistoryId, R: Wait + Copy, T: BoardValue<N>> {
     locked: Mutex<Locked<N, R, T>>,
     analysis: Mutex<SharedAnalysis>,
@@ -52,8 +52,8 @@ impl<N: HistoryId, R: Wait + Copy, T: BoardValue<N>> Drop for Desk<N, R, T> {
 }
 
 impl<N: HistoryId, R: Wait + Copy> Desk<N, R, Shown<N>> {
-    /// Creates a desk over a new history, and `readers` readers of its board. The book accepts at most
-    /// `max_events` events.
+    /// Creates a desk over a new history, and `readers` readers of its board. The book accepts at
+    /// most `max_events` events.
     ///
     /// # Errors
     ///
@@ -121,7 +121,8 @@ impl<N: HistoryId, R: Wait + Copy, T: BoardValue<N>> Desk<N, R, T> {
         self.locked.lock(&self.rt).offer_batch(events)
     }
 
-    /// Opens a question about the events accepted so far. The receipt ends with the question's step.
+    /// Opens a question about the events accepted so far. The receipt ends with the question's
+    /// step.
     ///
     /// # Errors
     ///
@@ -140,7 +141,8 @@ impl<N: HistoryId, R: Wait + Copy, T: BoardValue<N>> Desk<N, R, T> {
         self.locked.lock(&self.rt).ask(bound)
     }
 
-    /// Delivers the rows of one task. The receipt ends with the delivery's step.
+    /// Delivers the rows of one task. The receipt ends with the delivery's step. Part of the public
+    /// API; not called by the program.
     ///
     /// # Errors
     ///
@@ -161,9 +163,9 @@ impl<N: HistoryId, R: Wait + Copy, T: BoardValue<N>> Desk<N, R, T> {
         self.locked.lock(&self.rt).deliver(finding)
     }
 
-    /// Returns a job that computes the tasks of a question with this bound. All jobs of a question share
-    /// its analysis: the first call computes it while the others wait. Calls that only need the book do
-    /// not wait for it.
+    /// Returns a job that computes the tasks of a question with this bound. All jobs of a question
+    /// share its analysis: the first call computes it while the others wait. Calls that only need
+    /// the book do not wait for it.
     ///
     /// # Errors
     ///
@@ -174,7 +176,7 @@ impl<N: HistoryId, R: Wait + Copy, T: BoardValue<N>> Desk<N, R, T> {
         let (snapshot, receipt) = self.snapshot(question);
         let snapshot = snapshot?;
         let mut shared = self.analysis.lock(&self.rt);
-        let Ok(analysis) = shared.of(self.alloc, question, snapshot, bound) else {
+        let Ok(analysis) = shared.get_or_make(self.alloc, question, snapshot, bound) else {
             return Err(Refusal::NoMemory);
         };
         Ok(OwnJob::new(self.alloc, analysis, question, receipt))
@@ -207,8 +209,9 @@ impl<N: HistoryId, R: Wait + Copy, T: BoardValue<N>> Desk<N, R, T> {
         self.locked.lock(&self.rt).deliver_own(own)
     }
 
-    /// Delivers the findings in order, each like `deliver`, while holding the lock once. Returns the
-    /// outcome of each, in the same order. The receipt ends with the steps of those that were taken.
+    /// Delivers the findings in order, each like `deliver`, while holding the lock once. Returns
+    /// the outcome of each, in the same order. The receipt ends with the steps of those that were
+    /// taken. Part of the public API; not called by the program.
     ///
     /// # Errors
     ///

@@ -1,7 +1,7 @@
-//! The desk: one book behind a lock, shared by threads, and the board that shows its summary. Whenever
-//! the lock is free, the published steps are a legal run, the book is the machine's state after that
-//! run, and the board shows its summary; the type [`Locked`] states this. Each call returns a receipt,
-//! which names the steps published so far. Start reading at `locked`.
+//! The desk: one book behind a lock, shared by threads, and the board that shows its summary.
+//! Whenever the lock is free, the published steps are a legal run, the book is the machine's state
+//! after that run, and the board shows its summary; the type [`Locked`] states this. Each call
+//! returns a receipt, which names the steps published so far. Start reading at `locked`.
 #![tactic(auto)]
 
 mod client;

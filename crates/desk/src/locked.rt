@@ -48,8 +48,8 @@ pub enum DeskRefused {
     NotMade,
 }
 
-/// The book and the board's writer. Contracts see it as the published steps and the state of the book,
-/// which is the machine's state after these steps.
+/// The book and the board's writer. Contracts see it as the published steps and the state of the
+/// book, which is the machine's state after these steps.
 pub struct Locked<N: HistoryId, R: Wait + Copy, T: BoardValue<N>> {
     book: Book,
     board: BoardWriter<N, R, T>,
@@ -77,10 +77,7 @@ impl<N: HistoryId, R: Wait + Copy> Locked<N, R, Shown<N>> {
     ///
     /// # Errors
     ///
-    /// The first that applies:
-    /// - `BadLimit` if `max_events` is not 1 to `MAX_EVENTS`.
-    /// - `BadCount` if `readers` is not 1 to 40.
-    /// - `NotMade` if an allocation fails.
+    /// As of `Desk::new`.
     pub fn new(
         alloc: Global,
         state: RandomState,
@@ -154,8 +151,8 @@ impl<N: HistoryId, R: Wait + Copy, T: BoardValue<N>> Locked<N, R, T> {
         (Ok(place), publish(&mut self.board))
     }
 
-    /// Offers a batch of 1 to `MAX_BATCH` events. The events before the first refused one are accepted
-    /// and published as one step. If none is accepted, nothing changes.
+    /// Offers a batch of 1 to `MAX_BATCH` events. The events before the first refused one are
+    /// accepted and published as one step. If none is accepted, nothing changes.
     pub fn offer_batch(&mut self, events: &[Event]) -> (Batched, Receipt<N>)
         requires { IsBatch events.now }
         ensures before { After N.limit self.old.published self.old.state }
@@ -283,8 +280,8 @@ impl<N: HistoryId, R: Wait + Copy, T: BoardValue<N>> Locked<N, R, T> {
         }
     }
 
-    /// Delivers the findings in order, each like `deliver`; each one that is taken is published as its
-    /// own step. Returns the outcome of each, in the same order.
+    /// Delivers the findings in order, each like `deliver`; each one that is taken is published as
+    /// its own step. Returns the outcome of each, in the same order.
     ///
     /// # Errors
     ///

@@ -1,5 +1,5 @@
-//! Jobs and findings that were made from a snapshot of the desk. A receipt shows that their events are
-//! those of the question, so they are not compared again under the lock.
+//! Jobs and findings that were made from a snapshot of the desk. A receipt shows that their events
+//! are those of the question, so they are not compared again under the lock.
 
 ghost use Rattle.std.specs.Prelude.{◌≡◌, Err, IfOk, IsTrue};
 ghost use Rattle.std.specs.Arc.{arc_value};
@@ -14,8 +14,8 @@ use std::marker::Model;
 use std::sync::Arc;
 use trace_model::Bound;
 
-/// A job for a question of the desk, with a receipt after which the question was open. Contracts see
-/// it as the job.
+/// A job for a question of the desk, with a receipt after which the question was open. Contracts
+/// see it as the job.
 pub(crate) struct OwnJob<N: HistoryId> {
     job: Job,
     receipt: Receipt<N>,
@@ -91,8 +91,8 @@ impl<N: HistoryId> OwnJob<N> {
     }
 }
 
-/// A finding for a question of the desk, with a receipt after which the question was open. Contracts
-/// see it as the finding.
+/// A finding for a question of the desk, with a receipt after which the question was open.
+/// Contracts see it as the finding.
 pub(crate) struct OwnFinding<N: HistoryId> {
     finding: Finding,
     receipt: Receipt<N>,

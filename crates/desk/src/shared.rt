@@ -32,7 +32,7 @@ impl SharedAnalysis {
     /// # Errors
     ///
     /// `NoMemory` if an allocation fails. No analysis is kept then.
-    pub(crate) fn of(
+    pub(crate) fn get_or_make(
         &mut self,
         alloc: Global,
         question: u32,

@@ -60,9 +60,9 @@ struct Picked {
     left: bool,
 }
 
-/// Computes tasks for a desk. It keeps the job of a question while that is unsettled, and gives up a
-/// question whose least missing task has too many cycles. Contracts see a worker as the steps that
-/// its reader has seen or learned, and the questions that it gave up.
+/// Computes tasks for a desk. It keeps the job of a question while that is unsettled, and gives up
+/// a question whose least missing task has too many cycles. Contracts see a worker as the steps
+/// that its reader has seen or learned, and the questions that it gave up.
 pub struct Worker<N: HistoryId, R: Wait + Copy, T: BoardValue<N>> {
     desk: Arc<Desk<N, R, T>>,
     claimant: Claimant,
@@ -111,8 +111,8 @@ impl<N: HistoryId, R: Wait + Copy, T: BoardValue<N>> Worker<N, R, T> {
 
     /// Works on one task of the least unsettled question that was not given up. The task is a drawn
     /// number below the question's total, or the least missing task if all are drawn. Computes the
-    /// rows without the lock, calls `hold`, delivers, and learns the receipt. Gives the question up if
-    /// its least missing task has too many cycles.
+    /// rows without the lock, calls `hold`, delivers, and learns the receipt. Gives the question up
+    /// if its least missing task has too many cycles.
     pub fn turn(&mut self, hold: &impl Hold) -> Turn
         ensures later { IsPrefix self.old.known self.new.known }
         ensures delivered { result ≡ Turn.Delivered → (finding : FoundRows)

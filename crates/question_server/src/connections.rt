@@ -12,8 +12,8 @@ const PIECE: usize = 4096;
 /// The largest number of such reads.
 const PIECES: usize = 1024;
 
-/// Closes the write side, and reads and drops what the peer still sends, up to 4 MiB. Without this the
-/// close could reset the connection before the peer has read the last reply.
+/// Closes the write side, and reads and drops what the peer still sends, up to 4 MiB. Without this
+/// the close could reset the connection before the peer has read the last reply.
 fn linger(stream: &TcpStream) {
     if stream.shutdown(Shutdown::Write).is_err() {
         return;

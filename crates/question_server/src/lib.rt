@@ -1,6 +1,6 @@
-//! The server: one desk, a thread for each session over a TCP socket, and a thread for each worker. The
-//! crate also exports the session loop, the client and the offline report, which are in crates below.
-//! Start reading at [`run_server`].
+//! The server: one desk, a thread for each session over a TCP socket, and a thread for each worker.
+//! The crate also exports the session loop, the client and the offline report, which are in crates
+//! below. Start reading at [`run_server`].
 #![tactic(auto)]
 
 mod connections;

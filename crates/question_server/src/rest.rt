@@ -64,8 +64,8 @@ impl Rest {
         }
     }
 
-    /// Counts a turn that failed for lack of memory. The worker must sleep before its next turn: once
-    /// after the first such turn, and about twice as often after each further one, at most
+    /// Counts a turn that failed for lack of memory. The worker must sleep before its next turn:
+    /// once after the first such turn, and about twice as often after each further one, at most
     /// `MOST_SLEEPS` times.
     pub fn after_failure(&mut self)
         ensures failed { self.new.failed ≡ min (self.old.failed * 2 + 1) MOST_SLEEPS }

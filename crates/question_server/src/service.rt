@@ -9,8 +9,8 @@ pub enum ServerFault {
     NotMade,
 }
 
-/// The number of workers (1 to 16), the number of sessions to take (0: no end), and the largest number
-/// of events that the book accepts.
+/// The number of workers (1 to 16), the number of sessions to take (0: no end), and the largest
+/// number of events that the book accepts.
 #[derive(Clone, Copy)]
 pub struct Service {
     pub workers: u32,

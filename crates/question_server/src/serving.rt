@@ -22,8 +22,8 @@ use std::time::Clock;
 /// The largest number of sessions at a time.
 const MAX_SEATS: u64 = 16;
 
-/// Serves up to `most` sessions, each in its own thread, and returns their number once they have ended.
-/// A connection beyond `MAX_SEATS` or without a thread is closed and not counted.
+/// Serves up to `most` sessions, each in its own thread, and returns their number once they have
+/// ended. A connection beyond `MAX_SEATS` or without a thread is closed and not counted.
 fn take_sessions<R: Threads + Wait, D: Duties>(
     rt: &R,
     listener: &TcpListener,
@@ -152,12 +152,12 @@ fn serve_named<
     served
 }
 
-/// Serves the connections of the listener over one desk: one thread for each session, at most 16 at a
-/// time, and one for each worker. A further connection, or one without a thread, is closed without a
-/// reply and not counted. After `service.sessions` sessions it accepts no more. Once all have ended it
-/// stops the workers and returns the number of sessions. Each worker calls `hold` once per computed
-/// task. An idle worker looks for a question every two milliseconds. A worker whose turn failed for
-/// lack of memory tries again after at most two seconds.
+/// Serves the connections of the listener over one desk: one thread for each session, at most 16 at
+/// a time, and one for each worker. A further connection, or one without a thread, is closed
+/// without a reply and not counted. After `service.sessions` sessions it accepts no more. Once all
+/// have ended it stops the workers and returns the number of sessions. Each worker calls `hold`
+/// once per computed task. An idle worker looks for a question every two milliseconds. A worker
+/// whose turn failed for lack of memory tries again after at most two seconds.
 ///
 /// # Errors
 ///

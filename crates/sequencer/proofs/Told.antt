@@ -40,12 +40,13 @@ use Rattle.sequencer.proofs.Counted.{missing_row, row_missing}
 
 -- ---- an event that is taken
 
+-- a reply that accepts is not that of a refusal
+not_refused : (reply : Option Refusal → Reply) → ((r : Refusal) → IsAccepted (reply (Some r)) → ⊥) → (o : Option Refusal) → IsAccepted (reply o) → o ≡ None
+not_refused reply never None ok = refl
+not_refused reply never (Some r) ok = absurd (never r ok)
+
 pub accepted_offer : (s : State) (e : Event) (reply : Reply) → (step printing s (Offer e)).0 ≡ reply → IsAccepted reply → refusal_of s.limit s.accepted e ≡ None
-accepted_offer s e reply is ok = go (refusal_of s.limit s.accepted e) is
-  where
-    go : (o : Option Refusal) → offer_reply s o ≡ reply → o ≡ None
-    go None f = refl
-    go (Some r) f = absurd (subst IsAccepted (sym f) ok)
+accepted_offer s e reply is ok = not_refused (offer_reply s) (λ r accepts. accepts) (refusal_of s.limit s.accepted e) (subst IsAccepted (sym is) ok)
 
 pub taken_offer : (s next : State) (e : Event) (reply : Reply) → (step printing s (Offer e)).0 ≡ reply → IsAccepted reply → next ≡ with_event s e → step printing s (Offer e) ≡ (reply, next)
 taken_offer s next e reply is ok n =
@@ -54,11 +55,7 @@ taken_offer s next e reply is ok n =
 
 -- the same of a question that is opened
 pub accepted_ask : (s : State) (bound : ℕ) (reply : Reply) → (step printing s (Ask bound)).0 ≡ reply → IsAccepted reply → ask_refused s bound ≡ None
-accepted_ask s bound reply is ok = go (ask_refused s bound) is
-  where
-    go : (o : Option Refusal) → ask_reply s o ≡ reply → o ≡ None
-    go None f = refl
-    go (Some r) f = absurd (subst IsAccepted (sym f) ok)
+accepted_ask s bound reply is ok = not_refused (ask_reply s) (λ r accepts. accepts) (ask_refused s bound) (subst IsAccepted (sym is) ok)
 
 pub taken_ask : (s next : State) (bound : ℕ) (reply : Reply) → (step printing s (Ask bound)).0 ≡ reply → IsAccepted reply → next ≡ with_question s bound → step printing s (Ask bound) ≡ (reply, next)
 taken_ask s next bound reply is ok n =
@@ -129,27 +126,25 @@ other_at s r i l h = other_events s r (λ e.
 pub same_all : (s r : Trace) → s ≡ r → true ≡ same_events s r
 same_all s r e = sym (ap (same_events s) (sym e) ∙ same_events_itself s)
 
+-- what refuses a finding, by whether its bound differs and its events are those of its question
+tested : (s : State) (f : FoundRows) (q : Question) (differs same : Bool) → Some q ≡ slice_get s.questions f.question → differs ≡ not (f.bound == q.bound) → same ≡ same_events f.events (take q.length s.accepted) →
+    (if differs then Some OtherBound else (if not same then Some OtherTrace else task_refused (slice_get q.tasks f.task))) ≡ finding_refused s f
+tested s f q differs same found bound events =
+    (λ i. if bound i then Some OtherBound else (if not (events i) then Some OtherTrace else task_refused (slice_get q.tasks f.task)))
+    ∙ ap (λ o. deliver_refused_by s o f.bound f.events f.task) found
+
 -- a finding with another bound or other events
 pub other_bound : (s : State) (f : FoundRows) (q : Question) → Some q ≡ slice_get s.questions f.question → true ≡ not (f.bound == q.bound) → Some OtherBound ≡ finding_refused s f
-other_bound s f q found bound =
-    let told : Some OtherBound ≡ deliver_refused_by s (Some q) f.bound f.events f.task =
-    λ i. if bound i then Some OtherBound else (if not (same_events f.events (take q.length s.accepted)) then Some OtherTrace else task_refused (slice_get q.tasks f.task)) in
-    told ∙ ap (λ o. deliver_refused_by s o f.bound f.events f.task) found
+other_bound s f q found bound = tested s f q true (same_events f.events (take q.length s.accepted)) found bound refl
 
 pub other_trace : (s : State) (f : FoundRows) (q : Question) → Some q ≡ slice_get s.questions f.question → false ≡ not (f.bound == q.bound) → false ≡ same_events f.events (take q.length s.accepted) →
     Some OtherTrace ≡ finding_refused s f
-other_trace s f q found bound same =
-    let told : Some OtherTrace ≡ deliver_refused_by s (Some q) f.bound f.events f.task =
-    λ i. if bound i then Some OtherBound else (if not (same i) then Some OtherTrace else task_refused (slice_get q.tasks f.task)) in
-    told ∙ ap (λ o. deliver_refused_by s o f.bound f.events f.task) found
+other_trace s f q found bound same = tested s f q false false found bound same
 
 -- a finding with its question's events and bound can only be refused for its task
 pub same_test : (s : State) (f : FoundRows) (q : Question) → Some q ≡ slice_get s.questions f.question → false ≡ not (f.bound == q.bound) → true ≡ same_events f.events (take q.length s.accepted) →
     task_refused (slice_get q.tasks f.task) ≡ finding_refused s f
-same_test s f q found bound same =
-    let told : task_refused (slice_get q.tasks f.task) ≡ deliver_refused_by s (Some q) f.bound f.events f.task =
-    λ i. if bound i then Some OtherBound else (if not (same i) then Some OtherTrace else task_refused (slice_get q.tasks f.task)) in
-    told ∙ ap (λ o. deliver_refused_by s o f.bound f.events f.task) found
+same_test s f q found bound same = tested s f q false true found bound same
 
 pub known_test : (s : State) (f : FoundRows) (q : Question) → Some q ≡ slice_get s.questions f.question → false ≡ not (f.bound == q.bound) → AreKnown s f.question f.events →
     task_refused (slice_get q.tasks f.task) ≡ finding_refused s f

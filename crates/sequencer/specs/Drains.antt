@@ -33,7 +33,8 @@ pub record IsReadAt (s : ℕ) (past : List Input) (session : PlayedSession) : Ty
   pub told : session.reader.told ≡ fault_of s past
 
 -- in addition the session was sent exactly the bytes of `sent_to`
-pub record IsServed (s : ℕ) (start : State) (past : List Input) (session : PlayedSession) : Type 0 where
+pub record IsServed (s : ℕ) (start : State) (past : List Input)
+    (session : PlayedSession) : Type 0 where
   pub read : IsReadAt s past session
   pub sent : session.sent.items ≡ sent_to s start past
 
@@ -51,7 +52,8 @@ pub record IsNew (session : PlayedSession) : Type 0 where
   pub unsent : session.sent.items ≡ []
 
 abbrev pub AreNew : List PlayedSession → Type 0
-AreNew sessions = (s : ℕ) (d : PlayedSession) → s < length sessions → IsNew (slice_index_or sessions s d)
+AreNew sessions = (s : ℕ) (d : PlayedSession) → s < length sessions →
+    IsNew (slice_index_or sessions s d)
 
 -- the invariant of a run after the inputs so far
 pub record IsPlayed (start : State) (past : List Input) (run : Run) : Type 0 where

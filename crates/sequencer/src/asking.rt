@@ -36,8 +36,8 @@ impl AskRefused {
     }
 }
 
-/// An opened question: its number from 0, the number of events that it covers, and the number of its
-/// tasks.
+/// An opened question: its number from 0, the number of events that it covers, and the number of
+/// its tasks.
 #[derive(Clone, Copy, Debug, PartialEq, Eq)]
 pub struct Opened {
     pub question: u32,
@@ -66,8 +66,8 @@ impl Book {
         Ok(opened)
     }
 
-    /// Checks a bound, creates a question about the accepted events, and reserves memory for it. The
-    /// state does not change.
+    /// Checks a bound, creates a question about the accepted events, and reserves memory for it.
+    /// The state does not change.
     ///
     /// # Errors
     ///
@@ -102,8 +102,8 @@ impl Book {
         QuestionState::new(self.alloc, length, bound, total)
     }
 
-    /// Returns what `record_question` will open. `reserve_question` must have returned the question on
-    /// this state. Does not allocate.
+    /// Returns what `record_question` will open. `reserve_question` must have returned the question
+    /// on this state. Does not allocate.
     pub fn preview(&self, asked: &QuestionState) -> Opened
         requires allowed { ask_refused self.now.state asked.now.bound ≡ None }
         requires fresh { asked.now ≡ fresh self.now.state asked.now.bound }

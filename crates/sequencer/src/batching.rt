@@ -19,8 +19,8 @@ pub struct Batched {
 }
 
 impl Book {
-    /// Appends the events of a batch (1 to `MAX_BATCH`) up to the first one that is not lawful, or for
-    /// which an allocation fails. That event and those after it change nothing.
+    /// Appends the events of a batch (1 to `MAX_BATCH`) up to the first one that is not lawful, or
+    /// for which an allocation fails. That event and those after it change nothing.
     pub fn offer_batch(&mut self, events: &[Event]) -> Batched
         requires { IsBatch events.now }
         ensures { IsBatched self.old.state events.now result self.new.state }
@@ -35,8 +35,8 @@ impl Book {
         }
     }
 
-    /// Offers a batch like `offer_batch`. `reserve_event` must have succeeded for its first event on
-    /// this state, so that event is accepted without an allocation.
+    /// Offers a batch like `offer_batch`. `reserve_event` must have succeeded for its first event
+    /// on this state, so that event is accepted without an allocation.
     pub fn record_batch(&mut self, events: &[Event]) -> Batched
         requires batch { IsBatch events.now }
         requires admitted { FirstIsReserved self.old events.now }

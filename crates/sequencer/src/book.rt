@@ -166,7 +166,8 @@ impl Book {
         self.recorder.len() as u32
     }
 
-    /// Appends the event. `reserve_event` must have succeeded for it on this state. Does not allocate.
+    /// Appends the event. `reserve_event` must have succeeded for it on this state. Does not
+    /// allocate.
     pub fn record_event(&mut self, event: &Event)
         requires reserved { self.old.reserved ≡ Some event.now }
         requires lawful { refusal_of self.old.state.limit self.old.state.accepted event.now ≡ None }
@@ -175,7 +176,8 @@ impl Book {
         self.recorder.record(event);
     }
 
-    /// Adds the question. `reserve_question` must have returned it on this state. Does not allocate.
+    /// Adds the question. `reserve_question` must have returned it on this state. Does not
+    /// allocate.
     pub fn record_question(&mut self, asked: QuestionState)
         requires room { 0 < self.old.room }
         requires allowed { ask_refused self.old.state asked.bound ≡ None }

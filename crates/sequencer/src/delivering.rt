@@ -32,8 +32,8 @@ impl Book {
         self.take_if(admitted, finding)
     }
 
-    /// Delivers like `deliver`, without comparing the finding's events. The caller must know that they
-    /// are those of the question. Does not allocate.
+    /// Delivers like `deliver`, without comparing the finding's events. The caller must know that
+    /// they are those of the question. Does not allocate.
     ///
     /// # Errors
     ///
@@ -75,8 +75,8 @@ impl Book {
         asked.check(finding.task())
     }
 
-    /// Checks like `admits`, without comparing the finding's events. The caller must know that they are
-    /// those of the question. Does not allocate.
+    /// Checks like `admits`, without comparing the finding's events. The caller must know that they
+    /// are those of the question. Does not allocate.
     ///
     /// # Errors
     ///

@@ -1,8 +1,8 @@
-//! The book: the machine of the specification. It keeps one trace, which grows by lawful events, and
-//! the questions about prefixes of it. [`Book::prepare`] tests a request and makes every allocation;
-//! [`Book::commit`] carries it out and does not allocate. The main contract is [`play`]: for every list
-//! of pieces of bytes, ends of sessions and findings, each session is sent exactly the machine's
-//! replies. Start reading at `book`, then `step`.
+//! The book: the machine of the specification. It keeps one trace, which grows by lawful events,
+//! and the questions about prefixes of it. [`Book::prepare`] tests a request and makes every
+//! allocation; [`Book::commit`] carries it out and does not allocate. The main contract is
+//! [`play`]: for every list of pieces of bytes, ends of sessions and findings, each session is sent
+//! exactly the machine's replies. Start reading at `book`, then `step`.
 #![tactic(auto)]
 
 mod answering;

@@ -91,8 +91,8 @@ fn send(sent: &mut Vec<u8>, reply: Reply) -> Result<(), NoMemory>
     push_reply(sent, &reply)
 }
 
-/// Answers each whole request of the reader and sends the replies; then sends the fault, if there is
-/// one.
+/// Answers each whole request of the reader and sends the replies; then sends the fault, if there
+/// is one.
 fn drain(book: &mut Book, reader: &mut FrameReader, sent: &mut Vec<u8>) -> Result<(), NoMemory>
     requires { reader.old.told ≡ None }
     ensures { OnOk result
@@ -256,9 +256,10 @@ fn play_over(alloc: Global, book: Book, inputs: Vec<Input>) -> Result<Played, No
     Ok(Played { run })
 }
 
-/// Plays the inputs over a new book that accepts at most `max_events` events. Each session is sent the
-/// replies to its requests in order, and then its fault if it has one. Findings are delivered in
-/// between, in the order of the inputs. Inputs for a session after its fault or end are ignored.
+/// Plays the inputs over a new book that accepts at most `max_events` events. Each session is sent
+/// the replies to its requests in order, and then its fault if it has one. Findings are delivered
+/// in between, in the order of the inputs. Inputs for a session after its fault or end are ignored.
+/// Part of the public API; not called by the program.
 ///
 /// # Errors
 ///

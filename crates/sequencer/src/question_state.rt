@@ -13,8 +13,8 @@ use std::alloc::Global;
 use std::marker::Model;
 use trace_model::{Bound, NoMemory, Refusal};
 
-/// A question about the first `length` events of the trace, its bound, and the rows of its delivered
-/// tasks.
+/// A question about the first `length` events of the trace, its bound, and the rows of its
+/// delivered tasks.
 pub struct QuestionState {
     length: u32,
     bound: Bound,

@@ -19,8 +19,8 @@ use trace_index::{Copies, TraceIndex};
 use trace_model::{Event, NoMemory, Place, Refusal};
 use wellformed::GateTables;
 
-/// A well-formed trace with its gate tables, index and lock tables, and the event for which memory is
-/// reserved. Contracts see it as a gate.
+/// A well-formed trace with its gate tables, index and lock tables, and the event for which memory
+/// is reserved. Contracts see it as a gate.
 #[derive(Drop)]
 pub struct Recorder {
     alloc: Global,
@@ -125,8 +125,8 @@ impl Recorder {
         Ok(())
     }
 
-    /// Adds all dependencies to the graph, so that snapshots share it until the next event. An earlier
-    /// reservation is dropped.
+    /// Adds all dependencies to the graph, so that snapshots share it until the next event. An
+    /// earlier reservation is dropped.
     ///
     /// # Errors
     ///
@@ -150,8 +150,8 @@ impl Recorder {
         self.gate.record(event);
     }
 
-    /// Returns a snapshot of the first `count` events, which have `total` dependencies. Full segments
-    /// are shared, and at most one is copied; `copies` counts the copied events.
+    /// Returns a snapshot of the first `count` events, which have `total` dependencies. Full
+    /// segments are shared, and at most one is copied; `copies` counts the copied events.
     ///
     /// # Errors
     ///

@@ -31,8 +31,8 @@ impl Book {
         snapshot_of::<Brand>(self, question, Blank::new(1))
     }
 
-    /// Returns a snapshot like `snapshot`, and adds the number of copied events to `copies`: at most
-    /// 4,096. Full segments are shared.
+    /// Returns a snapshot like `snapshot`, and adds the number of copied events to `copies`: at
+    /// most 4,096. Full segments are shared.
     ///
     /// # Errors
     ///

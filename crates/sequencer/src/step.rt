@@ -47,13 +47,13 @@ impl Step {
 }
 
 impl Book {
-    /// Checks a request, which must not be a batch, and makes every allocation for it. The state does
-    /// not change.
+    /// Checks a request, which must not be a batch, and makes every allocation for it. The state
+    /// does not change.
     ///
     /// # Errors
     ///
-    /// The reply that refuses the request. It is `NoMemory` only if all checks passed, an allocation
-    /// failed, and the request would add an event or a question or print a report.
+    /// The reply that refuses the request. It is `NoMemory` only if all checks passed, an
+    /// allocation failed, and the request would add an event or a question or print a report.
     pub fn prepare(&mut self, request: &Request) -> Result<Step, Reply>
         requires { IsSingle request.now }
         ensures shown { self.new.state ≡ self.old.state }
@@ -136,7 +136,8 @@ impl Book {
         })
     }
 
-    /// Carries out a step that was prepared on this state, and returns its reply. Does not allocate.
+    /// Carries out a step that was prepared on this state, and returns its reply. Does not
+    /// allocate.
     pub fn commit(&mut self, planned: Step) -> Reply
         requires { IsPrepared self.old planned }
         ensures { machine.step printing self.old.state (request_of planned.change) ≡
@@ -152,7 +153,8 @@ impl Book {
     }
 
     /// Answers a request: offers a batch; prepares and commits any other request. If an allocation
-    /// fails the reply is `NoMemory`, and nothing changes except for the accepted events of a batch.
+    /// fails the reply is `NoMemory`, and nothing changes except for the accepted events of a
+    /// batch.
     pub fn call(&mut self, request: &Request) -> Reply
         ensures steps { StepsOrMemory self.old.state request.now result self.new.state }
         ensures wanting { WantsRightly self.old.state request.now result }

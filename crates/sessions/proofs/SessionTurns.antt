@@ -145,23 +145,29 @@ module _ {C : Type 0} (steps : C → Request → Reply → C → Type 0) (left w
     went = went;
   }
 
+  -- the session ended in the piece that it read last
+  ended_in : (piece : List ℕ) (left'' written'' sent : Option (List ℕ)) (calls'' : C) (done : List Call) (out : List ℕ) (result : Result Ended ServeFault) → Consumes left' left'' piece → length piece ≤ PIECE → Chain steps calls done calls'' → Appends written written'' out → EndsAs result (s.text ++ piece) left'' done out × WentOut result sent written'' → Served steps (standing left written calls) (standing left'' written'' calls'') sent result
+  ended_in piece left'' written'' sent calls'' done out result t short chain put ends = record {
+    text = s.text ++ piece;
+    took = took_then left left' left'' s.text piece s.took t;
+    stops = stops_after s.text piece s.sound short;
+    done = done;
+    chain = chain;
+    out = out;
+    put = put;
+    ends = ends.0;
+    went = ends.1;
+  }
+
   pub ends_unfed : (piece : List ℕ) (left'' sent : Option (List ℕ)) → Consumes left' left'' piece → length piece ≤ PIECE → IsBeginning sent written' → Served steps (standing left written calls) (standing left'' written' calls') sent (Err Memory)
   ends_unfed piece left'' sent t short b =
       let v : Reading = record reader { rest = reader.rest ++ piece } in
       let h = feeds reader piece v s.not_ended (refl, refl, λ _. refl) s.text (requests_called s.done) s.read in
       let l = leaves (s.text ++ piece) (requests_called s.done) v false h s.untold in
       let owed = owed_fault (requests_in v.rest) (fault_in (s.text ++ piece) false) in
-      record {
-        text = s.text ++ piece;
-        took = took_then left left' left'' s.text piece s.took t;
-        stops = stops_after s.text piece s.sound short;
-        done = s.done;
-        chain = s.chain;
-        out = frames_of s.done ++ [];
-        put = subst (λ (x : List ℕ). Appends written written' x) (sym (append-nil (frames_of s.done))) s.put;
-        ends = record { more = requests_in v.rest; called = sym l.requests; ended = false; at_end = λ e. absurd cc; begun = after_all s.done [] owed owed refl };
-        went = b;
-      }
+      ended_in piece left'' written' sent calls' s.done (frames_of s.done ++ []) (Err Memory) t short s.chain
+      (subst (λ (x : List ℕ). Appends written written' x) (sym (append-nil (frames_of s.done))) s.put)
+      (record { more = requests_in v.rest; called = sym l.requests; ended = false; at_end = λ e. absurd cc; begun = after_all s.done [] owed owed refl }, b)
 
   -- the earlier and the present calls
   pub record IsAnsweredBy (text : List ℕ) (ended : Bool) (fault : Option Fault) (written'' : Option (List ℕ)) (calls'' : C) : Type 0 where
@@ -210,17 +216,7 @@ module _ {C : Type 0} (steps : C → Request → Reply → C → Type 0) (left w
       let b = answered_by piece v written'' calls'' reader' answer h a in
       let out = frames_of b.done ++ fault_frames answer in
       let done = concluded (Frame fault) result sent written'' written''' m n (s.text ++ piece) b.done out left'' c (b.all, stands_in (s.text ++ piece) left'' v.ended fault at (b.stands ∙ e), ap (λ (x : Option Fault). frames_of b.done ++ fault_frames x) e) (all_begun (s.text ++ piece) left'' v.ended answer written'' calls'' b at) in
-      record {
-        text = s.text ++ piece;
-        took = took_then left left' left'' s.text piece s.took t;
-        stops = stops_after s.text piece s.sound short;
-        done = b.done;
-        chain = b.chain;
-        out = out;
-        put = put_kept written written'' written''' out b.put c.kept;
-        ends = done.0;
-        went = done.1;
-      }
+      ended_in piece left'' written''' sent calls'' b.done out result t short b.chain (put_kept written written'' written''' out b.put c.kept) done
 
   pub ends_input : (piece : List ℕ) (left'' : Option (List ℕ)) (v : Reading) (calls'' : C) (reader' : Reading) (written'' : Option (List ℕ)) (answer : Option Fault) (result : Result Ended ServeFault) (sent written''' : Option (List ℕ)) (m n : ℕ) → Consumes left' left'' piece → length piece ≤ PIECE → IsAtEnd left'' → IsHanded s.text (requests_called s.done) piece v → v ≡ record reader { ended = true } → Answered steps (between calls' v written') (between calls'' reader' written'') answer → answer ≡ None → IsConcluded Input result sent written'' written''' m n → Served steps (standing left written calls) (standing left'' written''' calls'') sent result
   ends_input piece left'' v calls'' reader' written'' answer result sent written''' m n t short at h v_is a e c =
@@ -229,17 +225,7 @@ module _ {C : Type 0} (steps : C → Request → Reply → C → Type 0) (left w
       let v_ended : v.ended ≡ true = ap (λ (x : Reading). x.ended) v_is in
       let no_fault : fault_in (s.text ++ piece) true ≡ None = ap (λ (x : Bool). fault_in (s.text ++ piece) x) (sym v_ended) ∙ (b.stands ∙ e) in
       let done = concluded Input result sent written'' written''' m n (s.text ++ piece) b.done out left'' c (b.all, no_fault, at, ap (λ (x : Option Fault). frames_of b.done ++ fault_frames x) e ∙ append-nil (frames_of b.done)) (all_begun (s.text ++ piece) left'' v.ended answer written'' calls'' b (λ _. at)) in
-      record {
-        text = s.text ++ piece;
-        took = took_then left left' left'' s.text piece s.took t;
-        stops = stops_after s.text piece s.sound short;
-        done = b.done;
-        chain = b.chain;
-        out = out;
-        put = put_kept written written'' written''' out b.put c.kept;
-        ends = done.0;
-        went = done.1;
-      }
+      ended_in piece left'' written''' sent calls'' b.done out result t short b.chain (put_kept written written'' written''' out b.put c.kept) done
 
   broken_ends : (fault : ServeFault) (m n : ℕ) (text : List ℕ) (left'' : Option (List ℕ)) (done : List Call) (out : List ℕ) (sent written'' : Option (List ℕ)) → IsCounted fault m n → Begins text left'' done out → IsBeginning sent written'' → EndsAs (Err fault) text left'' done out × WentOut (Err fault) sent written''
   broken_ends Read m n text left'' done out sent written'' c b w = absurd c
@@ -256,18 +242,9 @@ module _ {C : Type 0} (steps : C → Request → Reply → C → Type 0) (left w
         at_end = at;
         begun = subst (λ (x : Option Fault). AreBegun (s.done ++ b.fresh) (frames_of s.done ++ b.out) (owed_fault b.more x)) (sym l.fault) (begun_then s.done b.fresh b.out (owed_fault b.more (fault_in v.rest v.ended)) b.begun);
       } in
-      let done = broken_ends fault m n (s.text ++ piece) left'' (s.done ++ b.fresh) (frames_of s.done ++ b.out) sent written'' c begun w in
-      record {
-        text = s.text ++ piece;
-        took = took_then left left' left'' s.text piece s.took t;
-        stops = stops_after s.text piece s.sound short;
-        done = s.done ++ b.fresh;
-        chain = chain_then steps calls calls' calls'' s.done b.fresh s.chain b.chain;
-        out = frames_of s.done ++ b.out;
-        put = put_then written written' written'' (frames_of s.done) b.out s.put b.put;
-        ends = done.0;
-        went = done.1;
-      }
+      ended_in piece left'' written'' sent calls'' (s.done ++ b.fresh) (frames_of s.done ++ b.out) (Err fault) t short (chain_then steps calls calls' calls'' s.done b.fresh s.chain b.chain)
+      (put_then written written' written'' (frames_of s.done) b.out s.put b.put)
+      (broken_ends fault m n (s.text ++ piece) left'' (s.done ++ b.fresh) (frames_of s.done ++ b.out) sent written'' c begun w)
 
   pub serving_on : (piece : List ℕ) (left'' : Option (List ℕ)) (v : Reading) (calls'' : C) (reader' : Reading) (written'' : Option (List ℕ)) (answer : Option Fault) (reads'' writes'' : ℕ) → Consumes left' left'' piece → IsHanded s.text (requests_called s.done) piece v → v.ended ≡ false → Answered steps (between calls' v written') (between calls'' reader' written'') answer → answer ≡ None → reads'' ≡ reads' → writes'' ≡ writes' → IsServing steps left written calls reads writes reader' left'' written'' calls'' reads'' writes''
   serving_on piece left'' v calls'' reader' written'' answer reads'' writes'' t h n a e q w =

@@ -47,8 +47,8 @@ pub trait Sink {
     /// The number of failures.
     ghost failures: { Self → ℕ };
 
-    /// Takes some of the bytes, at least one, and returns their number. `bytes` must not be empty. May
-    /// wait.
+    /// Takes some of the bytes, at least one, and returns their number. `bytes` must not be empty.
+    /// May wait.
     ///
     /// # Errors
     ///

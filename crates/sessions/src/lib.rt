@@ -1,6 +1,7 @@
-//! Sessions: the loop that reads requests from a source, has them answered, and writes the replies to a
-//! sink. The main contract is [`serve`]: what is written is the replies to exactly the requests that
-//! were read, in order, and then the fault if there is one. Start reading at `ends`, then `serving`.
+//! Sessions: the loop that reads requests from a source, has them answered, and writes the replies
+//! to a sink. The main contract is [`serve`]: what is written is the replies to exactly the
+//! requests that were read, in order, and then the fault if there is one. Start reading at `ends`,
+//! then `serving`.
 #![tactic(auto)]
 
 mod books;

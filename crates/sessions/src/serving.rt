@@ -52,8 +52,8 @@ fn write_all<R: Wait, K: Sink>(rt: &R, sink: &mut K, bytes: &[u8]) -> Result<(),
     Ok(())
 }
 
-/// Writes a reply, or a prefix of it if a write fails. If it cannot be allocated, the earlier replies are
-/// sent.
+/// Writes a reply, or a prefix of it if a write fails. If it cannot be allocated, the earlier
+/// replies are sent.
 fn reply_with<R: Wait, K: Sink>(
     rt: &R,
     alloc: Global,
@@ -126,19 +126,19 @@ fn conclude<R: Wait, K: Sink>(rt: &R, sink: &mut K, ended: Ended) -> Result<Ende
     }
 }
 
-/// Serves a session: reads requests from the source, calls them in order, and writes the replies to the
-/// sink, until the input ends or has a fault. The fault is written last. Each reply is written whole
-/// before the next request is called. Buffered bytes are sent before each read, which may wait. A read
-/// takes at most 4,096 bytes, and nothing is read after the piece with the first fault. A frame is
-/// truncated only if the source is at its end.
+/// Serves a session: reads requests from the source, calls them in order, and writes the replies to
+/// the sink, until the input ends or has a fault. The fault is written last. Each reply is written
+/// whole before the next request is called. Buffered bytes are sent before each read, which may
+/// wait. A read takes at most 4,096 bytes, and nothing is read after the piece with the first
+/// fault. A frame is truncated only if the source is at its end.
 ///
 /// # Errors
 ///
 /// Calls that were made are not undone.
-/// - `Read` if the source failed in this call. The bytes read so far have no fault, and all replies to
-///   them were written and sent.
-/// - `Write` if the sink failed in this call, `Memory` if an allocation failed. A prefix of the replies
-///   was written, and at most one request was called whose reply is not whole.
+/// - `Read` if the source failed in this call. The bytes read so far have no fault, and all replies
+///   to them were written and sent.
+/// - `Write` if the sink failed in this call, `Memory` if an allocation failed. A prefix of the
+///   replies was written, and at most one request was called whose reply is not whole.
 pub fn serve<R: Wait, S: Source, K: Sink, C: Calls>(
     rt: &R,
     alloc: Global,

@@ -133,8 +133,8 @@ impl<I: Read + Drop> Source for ReadSource<I> {
     }
 }
 
-/// A sink over a writer, which buffers up to 4,096 bytes. An interrupted write is tried again; any other
-/// failure is counted, and so is a write of 0 bytes.
+/// A sink over a writer, which buffers up to 4,096 bytes. An interrupted write is tried again; any
+/// other failure is counted, and so is a write of 0 bytes.
 #[derive(Drop)]
 pub struct WriteSink<O: Write + Drop> {
     pub(crate) inner: O,

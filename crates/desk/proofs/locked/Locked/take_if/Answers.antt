@@ -6,33 +6,29 @@ use Rattle.sequencer.specs.Book.{finding_refused}
 use Rattle.sequencer.specs.Deliveries.{delivery}
 use Rattle.desk.specs.Published.{DeskView, delivery_step}
 use Rattle.desk.specs.Refused.{RefusesFinding}
-use Rattle.desk.proofs.Steps.{after_shown, goes, kept_on, legal_kept, legal_next, refuses_finding, stays, takes_finding}
+use Rattle.desk.proofs.Steps.{Moves, after_shown, goes, kept_on, legal_kept, legal_next, refuses_finding, stays, takes_finding}
 use Rattle.desk.proofs.locked.Locked.take_if.Goals as goal
+use Rattle.desk.proofs.locked.Locked.take_if.Goals.{After-take, In-Ok}
+use Rattle.desk.proofs.locked.Locked.take_if.Given.{Over}
+
+-- the machine accepts the finding
+none : (g : Over) (c : In-Ok g) → None ≡ finding_refused c.self.inside.book.state c.args.finding
+none g c =
+    ap result_err (sym c.in-Ok.is) ∙ (c.requires.admitted ∙ ap (λ (k : DeskView). finding_refused k.state c.args.finding) (sym c.self.view_is))
+
+taken : (g : Over) (c : After-take g) →
+    Moves g.N.HistoryId.limit c.self.inside.board.published c.self.inside.board.waiting (c.grow.new.self.published ++ c.grow.new.self.waiting) c.self.inside.book.state c.take.new.self.state (delivery_step c.args.finding)
+taken g c = record {
+  kept = c.self.invariant;
+  takes = takes_finding c.self.inside.book.state c.take.new.self.state c.args.finding (none g (goal.at.After-take g c).In-Ok) c.take.ensures.machine c.take.ensures.exact;
+  is = λ i. c.in-Ok-grow.ensures.published i ++ (c.in-Ok-grow.ensures.waiting ∙ ap (λ x. x ∷ []) c.step_of.ensures) i;
+}
 
 pub publish-requires-clause-legal : goal.publish-requires-clause-legal
-publish-requires-clause-legal g c =
-    let b = c.self.inside.board in
-    let s = c.self.inside.book.state in
-    let next = c.take.new.self.state in
-    let f = c.args.finding in
-    let none : None ≡ finding_refused s f =
-    ap result_err (sym c.in-Ok.is) ∙ (c.requires.admitted ∙ ap (λ (k : DeskView). finding_refused k.state f) (sym c.self.view_is)) in
-    let takes = takes_finding s next f none c.take.ensures.machine c.take.ensures.exact in
-    legal_next g.N.HistoryId.limit b.published b.waiting _ s next (delivery_step f) c.self.invariant takes
-    (λ i. c.in-Ok-grow.ensures.published i ++ (c.in-Ok-grow.ensures.waiting ∙ ap (λ x. x ∷ []) c.step_of.ensures) i)
+publish-requires-clause-legal g c = legal_next (taken g (goal.at.publish-requires-clause-legal g c).After-take)
 
 pub invariant_of-self-in-Ok-grow : goal.invariant_of-self-in-Ok-grow
-invariant_of-self-in-Ok-grow g c =
-    let b = c.self.inside.board in
-    let s = c.self.inside.book.state in
-    let next = c.take.new.self.state in
-    let f = c.args.finding in
-    let none : None ≡ finding_refused s f =
-    ap result_err (sym c.in-Ok.is) ∙ (c.requires.admitted ∙ ap (λ (k : DeskView). finding_refused k.state f) (sym c.self.view_is)) in
-    let takes = takes_finding s next f none c.take.ensures.machine c.take.ensures.exact in
-    kept_on g.N.HistoryId.limit b.published b.waiting _ _ s next (delivery_step f) c.self.invariant takes
-    (c.publish.ensures.published ∙ (λ i. c.in-Ok-grow.ensures.published i ++ (c.in-Ok-grow.ensures.waiting ∙ ap (λ x. x ∷ []) c.step_of.ensures) i))
-    c.publish.ensures.waiting
+invariant_of-self-in-Ok-grow g c = kept_on (taken g (goal.at.invariant_of-self-in-Ok-grow g c).After-take) _ _ c.publish.ensures.published c.publish.ensures.waiting
 
 pub returns-in-Err : goal.returns-in-Err
 returns-in-Err g c =
@@ -54,17 +50,10 @@ returns-in-Err-grow g c =
     let b = c.self.inside.board in
     let s = c.self.inside.book.state in
     let f = c.args.finding in
-    let none : None ≡ finding_refused s f =
-    ap result_err (sym c.in-Ok.is) ∙ (c.requires.admitted ∙ ap (λ (k : DeskView). finding_refused k.state f) (sym c.self.view_is)) in
-    let it = stays g.N.HistoryId.limit b.published b.waiting _ s s _ (λ x. RefusesFinding x f NoMemory) c.self.invariant c.self.view_is c.in-Err-grow.ensures.published refl (inr (refl, sym none)) in
+    let it = stays g.N.HistoryId.limit b.published b.waiting _ s s _ (λ x. RefusesFinding x f NoMemory) c.self.invariant c.self.view_is c.in-Err-grow.ensures.published refl (inr (refl, sym (none g (goal.at.returns-in-Err-grow g c).In-Ok))) in
     record { before = it.before; after = it.after; went = record { refuses = it.is; back = refl; same = it.same }; receipt = c.receipt-in-Err-grow.ensures; legal = it.legal }
 
 pub returns-in-Ok-grow : goal.returns-in-Ok-grow
 returns-in-Ok-grow g c =
-    let b = c.self.inside.board in
-    let s = c.self.inside.book.state in
-    let next = c.take.new.self.state in
-    let f = c.args.finding in
-    let it = goes g.N.HistoryId.limit b.published b.waiting _ _ s next _ (delivery_step f) (λ x. delivery x f ≡ (None, next)) c.self.invariant c.self.view_is (invariant_of-self-in-Ok-grow g c)
-    (c.publish.ensures.published ∙ (λ i. c.in-Ok-grow.ensures.published i ++ (c.in-Ok-grow.ensures.waiting ∙ ap (λ x. x ∷ []) c.step_of.ensures) i)) c.take.ensures.machine in
+    let it = goes (taken g (goal.at.returns-in-Ok-grow g c).After-take) _ _ _ (λ x. delivery x c.args.finding ≡ (None, c.take.new.self.state)) c.self.view_is c.publish.ensures.published c.publish.ensures.waiting c.take.ensures.machine in
     record { before = it.before; after = it.after; went = record { taken = it.is; published = it.published; exact = c.take.ensures.exact }; receipt = c.publish.ensures.receipt; legal = it.legal }
