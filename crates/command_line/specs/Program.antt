@@ -1,10 +1,9 @@
 -- The commands of the program, and what the words of a command line say.
-use Rattle.std.specs.Prelude.{◌≡◌, ℕ, pos, true, List, [], ◌∷◌, Option, Some, Result, Ok, codes, option_map}
+use Rattle.std.specs.Prelude.{◌≡◌, ℕ, pos, true, List, [], ◌∷◌, Option, Some, Ok, codes, option_map}
 use Rattle.std.specs.Str.Parse.{ParsesUnsigned}
 use Rattle.std.specs.Borrow.{Bor}
-use Rattle.clap.specs.Words.{App, Row, Rule, Text, app_of, first_of, new_app, new_rule, one_of, rule_of, subcommand_of, with_rule, with_subcommand}
+use Rattle.clap.specs.Words.{App, Row, Rule, Text, app_of, first_of, new_app, new_rule, one_of, subcommand_of, with_rule, with_subcommand}
 use Rattle.clap.specs.declared.builder.value_parser.ValueParser.TheVariants as parsers
-use Rattle.clap.specs.declared.builder.arg.Arg.{Arg}
 use Rattle.clap.specs.declared.builder.command.Command.{Command}
 use Rattle.command_line.specs.declared.Invocation.{Invocation}
 use Rattle.command_line.specs.declared.Invocation.TheVariants.{Serve, Script, Offline, Replay, Explain, Check}
@@ -75,19 +74,10 @@ goodlockd = with_subcommand (with_subcommand (with_subcommand (with_subcommand (
     (with_subcommand named_app serve_app.top) script_app.top) offline_app.top) replay_app.top)
     explain_app.top) check_app.top
 
--- the command has no setting that changes how words are read
-abbrev pub IsSimple : Command → Type 0
-IsSimple command = (app_of command).top.is_plain ≡ true
-
--- the command is the given one with one more argument
-abbrev pub TakesArgument : {E : Type 0} → Result Command E → Arg → Command → Type 0
-TakesArgument given argument new = (old : Command) × (given ≡ Ok old)
-    × (app_of new ≡ with_rule (app_of old) (rule_of argument))
-
--- the program is the old one with the given command
-abbrev pub TakesCommand : {E : Type 0} → Command → Result Command E → Command → Type 0
-TakesCommand old given new = (command : Command) × (given ≡ Ok command)
-    × (app_of new ≡ with_subcommand (app_of old) (app_of command).top)
+-- the program is the old one with this command
+abbrev pub TakesCommand : Command → Command → Command → Type 0
+TakesCommand old command new =
+    app_of new ≡ with_subcommand (app_of old) (app_of command).top
 
 -- the argument is this text
 abbrev pub SaysText : List Row → Text → Bor Text → Type 0

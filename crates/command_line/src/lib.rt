@@ -5,10 +5,10 @@
 
 mod words;
 
-ghost use Rattle.std.specs.Prelude.{◌≡◌, ◌≤◌, false, IfOk, IfSome, Ok, codes, map, option_map};
+ghost use Rattle.std.specs.Prelude.{◌≡◌, ◌≤◌, false, true, IfOk, IfSome, Ok, codes, map, option_map};
 ghost use Rattle.clap.specs.Words.{app_of, first_of, found_of, rows_of, rule_of, subcommand_rows_of};
 ghost use Rattle.command_line.specs.CommandLine.{IsWithin, IsInRange};
-ghost use Rattle.command_line.specs.Program.{IsSimple, SaysInvocation, SaysMatches, SaysNamed, SaysNumber, TakesArgument, TakesCommand, bound_rule, check_app, cycle_rule, explain_app, goodlockd, limit_rule, offline_app, positional, ranged, replay_app, script_app, serve_app, sessions_rule, workers_rule};
+ghost use Rattle.command_line.specs.Program.{SaysInvocation, SaysMatches, SaysNamed, SaysNumber, TakesCommand, bound_rule, check_app, cycle_rule, explain_app, goodlockd, limit_rule, named_app, offline_app, positional, ranged, replay_app, script_app, serve_app, sessions_rule, workers_rule};
 
 use clap::error::ErrorKind;
 use clap::{Arg, ArgMatches, Command, Error, value_parser};
@@ -113,69 +113,6 @@ fn bound<'a>(alloc: Global) -> Arg<'a>
         .required(true)
 }
 
-/// Returns the command with one more argument.
-fn taking<'a>(
-    command: Result<Command<'a>, AllocError>,
-    argument: Arg<'a>,
-) -> Result<Command<'a>, AllocError>
-    requires { argument.global ≡ false }
-    ensures { IfOk result (TakesArgument command.entry argument.entry) }
-{
-    match command {
-        Ok(command) => command.arg(argument),
-        Err(refused) => {
-            drop(argument);
-            Err(refused)
-        }
-    }
-}
-
-fn serve<'a>(alloc: Global) -> Result<Command<'a>, AllocError>
-    ensures { IfOk result (λ command. app_of command ≡ serve_app) }
-{
-    let command = Command::new(alloc, "serve")
-        .about("Serves agents and operators over TCP")
-        .arg(positional(
-            alloc,
-            "address",
-            "ADDRESS",
-            "Address and port, as in 127.0.0.1:7070",
-        ));
-    let command = taking(command, workers(alloc));
-    let command = taking(command, sessions(alloc));
-    taking(command, limit(alloc))
-}
-
-fn script<'a>(alloc: Global) -> Result<Command<'a>, AllocError>
-    ensures { IfOk result (λ command. app_of command ≡ script_app) }
-{
-    let command = Command::new(alloc, "script")
-        .about("Runs a script of events and questions and prints the replies")
-        .arg(positional(alloc, "file", "FILE", "The script"));
-    taking(command, limit(alloc))
-}
-
-fn offline<'a>(alloc: Global) -> Result<Command<'a>, AllocError>
-    ensures { IfOk result (λ command. app_of command ≡ offline_app) }
-{
-    let command = Command::new(alloc, "offline")
-        .about("Reports the lock cycles of a file of events")
-        .arg(positional(alloc, "file", "FILE", "The file of events"));
-    taking(command, bound(alloc))
-}
-
-fn replay<'a>(alloc: Global) -> Result<Command<'a>, AllocError>
-    ensures { IfOk result (λ command. app_of command ≡ replay_app) }
-{
-    let command = Command::new(alloc, "replay")
-        .about("Checks a witness against a trace")
-        .arg(positional(alloc, "trace", "TRACE", "The file of events"));
-    taking(
-        command,
-        positional(alloc, "witness", "WITNESS", "The witness file"),
-    )
-}
-
 fn cycle<'a>(alloc: Global) -> Arg<'a>
     ensures rule { rule_of result ≡ cycle_rule }
     ensures local { result.global ≡ false }
@@ -186,81 +123,101 @@ fn cycle<'a>(alloc: Global) -> Arg<'a>
         .help("Explain only the cycle with these dependency numbers")
 }
 
+fn serve<'a>(alloc: Global) -> Result<Command<'a>, AllocError>
+    ensures { IfOk result (λ command. app_of command ≡ serve_app) }
+{
+    Command::new(alloc, "serve")
+        .about("Serves agents and operators over TCP")
+        .arg(positional(
+            alloc,
+            "address",
+            "ADDRESS",
+            "Address and port, as in 127.0.0.1:7070",
+        ))?
+        .arg(workers(alloc))?
+        .arg(sessions(alloc))?
+        .arg(limit(alloc))
+}
+
+fn script<'a>(alloc: Global) -> Result<Command<'a>, AllocError>
+    ensures { IfOk result (λ command. app_of command ≡ script_app) }
+{
+    Command::new(alloc, "script")
+        .about("Runs a script of events and questions and prints the replies")
+        .arg(positional(alloc, "file", "FILE", "The script"))?
+        .arg(limit(alloc))
+}
+
+fn offline<'a>(alloc: Global) -> Result<Command<'a>, AllocError>
+    ensures { IfOk result (λ command. app_of command ≡ offline_app) }
+{
+    Command::new(alloc, "offline")
+        .about("Reports the lock cycles of a file of events")
+        .arg(positional(alloc, "file", "FILE", "The file of events"))?
+        .arg(bound(alloc))
+}
+
+fn replay<'a>(alloc: Global) -> Result<Command<'a>, AllocError>
+    ensures { IfOk result (λ command. app_of command ≡ replay_app) }
+{
+    Command::new(alloc, "replay")
+        .about("Checks a witness against a trace")
+        .arg(positional(alloc, "trace", "TRACE", "The file of events"))?
+        .arg(positional(alloc, "witness", "WITNESS", "The witness file"))
+}
+
 fn explain<'a>(alloc: Global) -> Result<Command<'a>, AllocError>
     ensures { IfOk result (λ command. app_of command ≡ explain_app) }
 {
-    let command = Command::new(alloc, "explain")
+    Command::new(alloc, "explain")
         .about("Explains the lock cycles of a file of events")
-        .arg(positional(alloc, "file", "FILE", "The file of events"));
-    let command = taking(command, bound(alloc));
-    taking(command, cycle(alloc))
+        .arg(positional(alloc, "file", "FILE", "The file of events"))?
+        .arg(bound(alloc))?
+        .arg(cycle(alloc))
 }
 
 fn check<'a>(alloc: Global) -> Result<Command<'a>, AllocError>
     ensures { IfOk result (λ command. app_of command ≡ check_app) }
 {
-    let command = Command::new(alloc, "check")
+    Command::new(alloc, "check")
         .about("Checks explained cycles against a trace")
-        .arg(positional(alloc, "trace", "TRACE", "The file of events"));
-    taking(
-        command,
-        positional(alloc, "file", "FILE", "The output of explain"),
-    )
+        .arg(positional(alloc, "trace", "TRACE", "The file of events"))?
+        .arg(positional(alloc, "file", "FILE", "The output of explain"))
 }
 
 /// Returns the program with one more command.
-fn with_command<'a>(
-    program: Command<'a>,
-    command: Result<Command<'a>, AllocError>,
-) -> Result<Command<'a>, AllocError>
-    requires { IfOk command IsSimple }
+fn with<'a>(program: Command<'a>, command: Command<'a>) -> Result<Command<'a>, AllocError>
+    requires { (app_of command).top.is_plain ≡ true }
     ensures { IfOk result (TakesCommand program.entry command.entry) }
 {
-    match command {
-        Ok(command) => program.subcommand(command),
-        Err(refused) => {
-            drop(program);
-            Err(refused)
-        }
-    }
+    program.subcommand(command)
 }
 
-/// Returns the program with one more command, or the first error.
-fn with<'a>(
-    program: Result<Command<'a>, AllocError>,
-    command: Result<Command<'a>, AllocError>,
-) -> Result<Command<'a>, AllocError>
-    requires { IfOk command IsSimple }
-    ensures { IfOk result (λ new. (old : _) × (program.entry ≡ Ok old)
-        × TakesCommand old command.entry new) }
+/// Returns the program before its commands are added.
+fn named<'a>(alloc: Global) -> Command<'a>
+    ensures { app_of result ≡ named_app }
 {
-    match program {
-        Ok(program) => with_command(program, command),
-        Err(refused) => {
-            drop(command);
-            Err(refused)
-        }
-    }
+    Command::new(alloc, "goodlockd")
+        .about("Predicts the deadlocks of a traced program from its events")
+        .version("2.0.0")
+        .subcommand_required(true)
 }
 
 fn program<'a>(alloc: Global) -> Result<Command<'a>, AllocError>
     ensures { IfOk result (λ program. app_of program ≡ goodlockd) }
 {
-    let program = Command::new(alloc, "goodlockd")
-        .about("Predicts the deadlocks of a traced program from its events")
-        .version("2.0.0")
-        .subcommand_required(true);
-    let program = with_command(program, serve(alloc));
-    let program = with(program, script(alloc));
-    let program = with(program, offline(alloc));
-    let program = with(program, replay(alloc));
-    let program = with(program, explain(alloc));
-    with(program, check(alloc))
+    let program = with(named(alloc), serve(alloc)?)?;
+    let program = with(program, script(alloc)?)?;
+    let program = with(program, offline(alloc)?)?;
+    let program = with(program, replay(alloc)?)?;
+    let program = with(program, explain(alloc)?)?;
+    with(program, check(alloc)?)
 }
 
 /// Returns the text of an argument, or `None` if it has none.
 fn text<'a>(matches: &ArgMatches<'a>, id: &str) -> Option<&'a str>
-    ensures { option_map (λ text. text.now) result ≡ first_of id.now (rows_of (found_of matches.now)) }
+    ensures { option_map (λ text. text.now) result ≡
+        first_of id.now (rows_of (found_of matches.now)) }
 {
     matches.get_str(id)
 }
@@ -379,8 +336,8 @@ fn invocation_of<'a>(
 ///
 /// # Errors
 ///
-/// `clap`'s error if the words are not understood or ask for help or the version. Its text is for the
-/// user.
+/// `clap`'s error if the words are not understood or ask for help or the version. Its text is for
+/// the user.
 pub fn parse<'a>(alloc: Global, words: &'a [&'a str]) -> Result<Invocation<'a>, Error>
     ensures range { IfOk result IsInRange }
     ensures said { IfOk result (SaysInvocation (map (λ word. word.now) words.entry.now)) }

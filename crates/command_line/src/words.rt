@@ -18,8 +18,8 @@ pub fn words_of<'a>(alloc: Global, arguments: &'a [String]) -> Result<Vec<&'a st
     Ok(words)
 }
 
-/// Prints the error, help or version text of `clap`. Returns whether it was help or the version, which
-/// is no error.
+/// Prints the error, help or version text of `clap`. Returns whether it was help or the version,
+/// which is no error.
 ///
 /// # Errors
 ///
