@@ -5,7 +5,6 @@ use Rattle.std.specs.Io.KnownBytes.{Appends}
 use Rattle.trace_model.specs.Theory.Trace.{Trace}
 use Rattle.replay.specs.declared.verdict.Verdict.{Verdict}
 use Rattle.replay.specs.declared.verdict.Verdict.TheVariants.{Reaches, Fails}
-use Rattle.commands.specs.Admission.{RefusesFile}
 use Rattle.commands.specs.Exit.{status_of}
 use Rattle.commands.specs.Replay.{AreLawfulEventsOf, IsVerdictOn, ReplayTells, WitnessFails, verdict_line, verdict_status}
 use Rattle.commands.specs.declared.exit.Status.{Status}
@@ -22,11 +21,6 @@ pub witness_tells : (trace witness : List ℕ) (events : Trace) (error : Command
 witness_tells trace witness events (Line number) before after are fails = (number, fails.1, inr (events, are, fails.0))
 witness_tells trace witness events Memory before after are fails = tt
 witness_tells trace witness events Output before after are fails = tt
-
-pub trace_tells : (trace witness : List ℕ) (error : CommandError) (before after : Option (List ℕ)) → after ≡ before → RefusesFile trace error → ReplayTells trace witness (status_of error) before after
-trace_tells trace witness (Line number) before after same bad = (number, same, inl bad)
-trace_tells trace witness Memory before after same bad = tt
-trace_tells trace witness Output before after same bad = tt
 
 -- how the check of the witness ended
 pub check_tells : (trace witness : List ℕ) (events : Trace) (ended : Result Status CommandError) (status : Status) (before after : Option (List ℕ)) → AreLawfulEventsOf events trace →

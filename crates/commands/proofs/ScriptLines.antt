@@ -1,23 +1,15 @@
 -- The commands that lines say.
-use Rattle.std.proofs.Common.{◌≡◌, ℕ, ◌+◌, ◌<◌, List, [], ◌∷◌, ◌++◌, length, map, take, get_or, inl, inr, refl, sym, ap, subst, ◌∙◌, append_assoc}
+use Rattle.std.proofs.Common.{◌≡◌, ℕ, ◌+◌, ◌<◌, List, [], ◌∷◌, ◌++◌, length, map, take, get_or, inr, refl, sym, ap, subst, ◌∙◌, append_assoc}
 use Rattle.std.specs.List.{All, flat_map}
 use Rattle.std.proofs.lemmas.List.{append-nil, take_more}
 use Rattle.std.proofs.lemmas.List.Concat.{flat_map-cons}
-use Rattle.std.proofs.lemmas.List.Elements.{All-cons, All-map, All-nil}
+use Rattle.std.proofs.lemmas.List.Elements.{All-map}
 use Rattle.trace_model.specs.declared.traces.event.Event.{Event}
 use Rattle.trace_model.specs.Protocol.Frames.{IsInRange}
 use Rattle.event_files.specs.EventFile.{event_word, line_words}
-use Rattle.commands.specs.ScriptFile.{AddsLine, FitsCommand, IsOffer, Says, SaysLine, SaysLines, command_words}
+use Rattle.commands.specs.ScriptFile.{AddsLine, FitsCommand, IsOffer, SaysLine, SaysLines, command_words}
 use Rattle.commands.specs.declared.script_command.reading.Command.{Command}
 use Rattle.commands.specs.declared.script_command.reading.Command.TheVariants.{Offer}
-
--- a line of one command
-pub says_alone : (words : List (List ℕ)) (command : Command) → Says words command → SaysLine words (command ∷ [])
-says_alone words command says = record {
-  said = flat_map-cons command_words command [] ∙ (append-nil (command_words command) ∙ says.1);
-  fit = All-cons FitsCommand command [] says.0 (All-nil FitsCommand);
-  alone = inl refl;
-}
 
 offered_words : (events : List Event) → flat_map command_words (map Offer events) ≡ map event_word events
 offered_words [] = refl

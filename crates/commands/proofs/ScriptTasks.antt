@@ -74,9 +74,6 @@ tells_more s next number task n told gave = λ q at.
     let count : count_by is_some new.tasks ≡ count_by is_some old.tasks + 1 = sum_told (λ x. cond (is_some x) 1 0) old.tasks task takes.1 refl takes.3 in
     subst (λ (x : Question). n + 1 ≤ count_by is_some x.tasks) same (omega (arith, count, told old takes.2))
 
-pub tells_none : (s : State) (number : ℕ) → HasTold s number 0
-tells_none s number = λ q at. omega arith
-
 -- a question has at most as many tasks as a trace has places
 pub none_beyond : (s : State) (number n : ℕ) → StateFits AreRows s → MAX_EVENTS < n → HasTold s number n → (q : Question) × (slice_get s.questions number ≡ Some q) → ⊥
 none_beyond s number n fits beyond told there =

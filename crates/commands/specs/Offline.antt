@@ -20,8 +20,8 @@ refused_line TooManyCycles = refusal_line refusals.TooManyCycles
 refused_line NoMemory = []
 
 -- What a status says of the file and of the output: the output grew by the report on the file's
--- events, or by the line of a refusal that is right for these events; or it did not grow, and a line of
--- the file is not understood. `Error` says nothing.
+-- events, or by the line of a refusal that is right for these events; or it did not grow, and a
+-- line of the file is not understood. `Error` says nothing.
 abbrev pub OfflineTells : List ℕ → ℕ → Status → Option (List ℕ) → Option (List ℕ) → Type 0
 OfflineTells file bound Done before after =
     (events : Trace) × (text : List ℕ) × AreEventsOf events file × IsReport events bound text

@@ -51,8 +51,8 @@ WitnessFails witness Output before after = Unit {0}
 
 -- What a status says of both files and of the output: the output grew by the line of the verdict on
 -- the witness, against the trace's events, which are lawful; or by the line of the first event that
--- is not lawful; or it did not grow, and a line is the first that is not understood, of the trace or,
--- if its events are lawful, of the witness. `Error` says nothing.
+-- is not lawful; or it did not grow, and a line is the first that is not understood, of the trace
+-- or, if its events are lawful, of the witness. `Error` says nothing.
 abbrev pub ReplayTells : List ℕ → List ℕ → Status → Option (List ℕ) → Option (List ℕ) → Type 0
 ReplayTells trace witness Done before after =
     (events : Trace) × AreLawfulEventsOf events trace × IsVerdictOn events witness Reaches

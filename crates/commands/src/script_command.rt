@@ -295,8 +295,8 @@ pub fn run_script<O: Write, E: Write>(
     }
 }
 
-/// Runs `script` over the file with this name, with a book that accepts at most `limit` events (1 to
-/// `MAX_EVENTS`). The status is `Error` if the file cannot be read.
+/// Runs `script` over the file with this name, with a book that accepts at most `limit` events (1
+/// to `MAX_EVENTS`). The status is `Error` if the file cannot be read.
 ///
 /// # Errors
 ///
