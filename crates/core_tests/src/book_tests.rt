@@ -19,12 +19,7 @@ fn is_settled(answer: Result<Answer, AnswerRefused>, report: &[u8]) -> bool {
 
 /// Returns whether the book accepts these events.
 fn accepts_all(book: &mut Book, events: &[Event]) -> bool {
-    for event in events {
-        if book.offer(*event).is_err() {
-            return false;
-        }
-    }
-    true
+    events.iter().all(|event| book.offer(*event).is_ok())
 }
 
 /// Returns whether the book opens question 0 over the ten events of the trace.
@@ -254,12 +249,7 @@ fn seventy_thousand_frames_in_one_piece(rt: HostRuntime) {
 
 /// Returns whether the book accepts `count` writes.
 fn accepts_writes(book: &mut Book, count: u32) -> bool {
-    for _ in 0..count {
-        if book.offer(event(0, Op::Write(1))).is_err() {
-            return false;
-        }
-    }
-    true
+    (0..count).all(|_| book.offer(event(0, Op::Write(1))).is_ok())
 }
 
 /// Returns whether the book accepts 4,092 writes and then the trace, and opens a question directly

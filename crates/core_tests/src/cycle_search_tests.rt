@@ -68,12 +68,7 @@ fn accepts_gated(gate: &mut Gate, thread: u32, lock: u32, inner: &[Event]) -> bo
 }
 
 fn accepts_many(gate: &mut Gate, thread: u32, outer: u32, first: u32, many: u32) -> bool {
-    for number in 0..many {
-        if !accepts_all(gate, &nested(thread, outer, first.wrapping_add(number))) {
-            return false;
-        }
-    }
-    true
+    (0..many).all(|number| accepts_all(gate, &nested(thread, outer, first.wrapping_add(number))))
 }
 
 fn accepts_one_order(gate: &mut Gate, first: u32) -> bool {
@@ -101,12 +96,7 @@ fn accepts_sections(gate: &mut Gate, sections: Sections) -> bool {
 }
 
 fn accepts_each(gate: &mut Gate, sections: &[Sections]) -> bool {
-    for one in sections {
-        if !accepts_sections(gate, *one) {
-            return false;
-        }
-    }
-    true
+    sections.iter().all(|one| accepts_sections(gate, *one))
 }
 
 /// Returns a gate that accepted the forks of the threads 1 to 8 and then these sections.

@@ -9,7 +9,7 @@ use explain::refutation_of;
 use fixtures::OPPOSITE_ORDERS;
 use replay::{RefutationChecker, RefutationVerdict};
 use std::hash::RandomState;
-use trace_model::{Derived, Place, Reason, Refutation};
+use trace_model::{Derived, Place, Reason, Refutation, Step};
 use wellformed::Gate;
 
 /// An entry of a derivation: a place, and the reason for it.
@@ -103,36 +103,28 @@ fn verdict_on(
     }
 }
 
-/// Returns whether these are exactly the wanted entries, in order.
-fn are_entries(entries: &[Derived], wanted: &[Derived]) -> bool {
-    if entries.len() != wanted.len() {
-        return false;
-    }
-    for index in 0..wanted.len() {
-        if entries[index] != wanted[index] {
-            return false;
-        }
-    }
-    true
+/// Returns whether each step moves the wanted member and has exactly the wanted entries.
+fn are_steps(steps: &[Step], wanted: &[(usize, &[Derived])]) -> bool {
+    steps.len() == wanted.len()
+        && steps.iter().zip(wanted.iter()).all(|(step, (member, entries))| {
+            step.member == *member && step.derivation.entries() == *entries
+        })
 }
 
-/// Returns whether step `index` moves the member and has exactly these entries.
-fn is_step(refutation: &Refutation, index: usize, member: usize, wanted: &[Derived]) -> bool {
-    match refutation.steps().get(index) {
-        Some(step) => step.member == member && are_entries(step.derivation.entries(), wanted),
-        None => false,
-    }
-}
-
-/// Returns whether the cycle of the trace is refuted in one step, with exactly these entries, and
-/// the check finds this refutation valid.
-fn refutes_by(rt: &HostRuntime, words: &str, numbers: &[u32], wanted: &[Derived]) -> bool {
+/// Returns whether the cycle of the trace is refuted in exactly these steps, and the check finds
+/// this refutation valid.
+fn refutes_in(
+    rt: &HostRuntime,
+    words: &str,
+    numbers: &[u32],
+    wanted: &[(usize, &[Derived])],
+) -> bool {
     let Some(gate) = gate_of(rt, words) else {
         return false;
     };
     let refutes = match refutation_in(rt, &gate, numbers) {
         Ok(Some(refutation)) => {
-            let is_wanted = refutation.steps().len() == 1 && is_step(&refutation, 0, 0, wanted);
+            let is_wanted = are_steps(refutation.steps(), wanted);
             let valid = matches!(
                 verdict_on(rt, &gate, numbers, &refutation),
                 Some(RefutationVerdict::Valid)
@@ -144,6 +136,11 @@ fn refutes_by(rt: &HostRuntime, words: &str, numbers: &[u32], wanted: &[Derived]
     };
     drop(gate);
     refutes
+}
+
+/// Returns whether the cycle of the trace is refuted in one step with exactly these entries.
+fn refutes_by(rt: &HostRuntime, words: &str, numbers: &[u32], wanted: &[Derived]) -> bool {
+    refutes_in(rt, words, numbers, &[(0, wanted)])
 }
 
 #[test]
@@ -204,34 +201,12 @@ fn a_join_refutes(rt: HostRuntime) {
 const TWO_STEPS: &str =
     "0f1 0f2 1a10 1a20 1r20 1r10 1w7 2d7 2a20 2a10 2r10 2r20 2w8 1d8 1a10 1a20 ";
 
-/// Returns whether the cycle is refuted in these two steps.
-fn refutes_in_two(rt: &HostRuntime) -> bool {
-    let Some(gate) = gate_of(rt, TWO_STEPS) else {
-        return false;
-    };
-    let refutes = match refutation_in(rt, &gate, &[0, 1]) {
-        Ok(Some(refutation)) => {
-            let first = [before(7, 9), written(6, 7), earlier(3, 6)];
-            let second = [before(13, 15), written(12, 13), earlier(9, 12)];
-            let is_wanted = refutation.steps().len() == 2
-                && is_step(&refutation, 0, 0, &first)
-                && is_step(&refutation, 1, 1, &second);
-            let valid = matches!(
-                verdict_on(rt, &gate, &[0, 1], &refutation),
-                Some(RefutationVerdict::Valid)
-            );
-            drop(refutation);
-            is_wanted && valid
-        }
-        _ => false,
-    };
-    drop(gate);
-    refutes
-}
-
 #[test]
 fn a_member_moves(rt: HostRuntime) {
-    assert!(rt; refutes_in_two(&rt));
+    let first = [before(7, 9), written(6, 7), earlier(3, 6)];
+    let second = [before(13, 15), written(12, 13), earlier(9, 12)];
+    let wanted = [(0, first.as_slice()), (1, second.as_slice())];
+    assert!(rt; refutes_in(&rt, TWO_STEPS, &[0, 1], &wanted));
 }
 
 /// Returns whether the cycle of opposite orders has no refutation.

@@ -123,12 +123,7 @@ const OF_NESTED_PLACES: [Wanted; 13] = [
 
 /// Returns whether the index gives each wanted answer.
 fn has_answers(index: &TraceIndex, wanted: &[Wanted]) -> bool {
-    for (look, number, answer) in wanted {
-        if look_up(index, *look, *number) != *answer {
-            return false;
-        }
-    }
-    true
+    wanted.iter().all(|(look, number, answer)| look_up(index, *look, *number) == *answer)
 }
 
 /// Returns whether these are exactly the wanted places, in order.
@@ -136,12 +131,7 @@ fn are_places(places: KeyPlaces<'_>, wanted: &[u32]) -> bool {
     if places.len() != wanted.len() {
         return false;
     }
-    for index in 0..places.len() {
-        if places.get(index).get() != wanted[index] {
-            return false;
-        }
-    }
-    true
+    (0..places.len()).all(|index| places.get(index).get() == wanted[index])
 }
 
 #[test]
@@ -208,12 +198,7 @@ fn long_event(place: u32) -> Event {
 }
 
 fn accepts_long(gate: &mut Gate) -> bool {
-    for place in 0..LENGTH {
-        if !accepts(gate, &long_event(place)) {
-            return false;
-        }
-    }
-    true
+    (0..LENGTH).all(|place| accepts(gate, &long_event(place)))
 }
 
 fn long_gate(rt: &HostRuntime) -> Option<Gate> {
@@ -283,12 +268,9 @@ fn are_every_fourth(places: KeyPlaces<'_>, first: u32, count: usize) -> bool {
 }
 
 fn has_all_places(index: &TraceIndex, len: u32) -> bool {
-    for facts in &LONG_PLACES {
-        if !has_place(index, len, *facts) {
-            return false;
-        }
-    }
-    true
+    LONG_PLACES
+        .iter()
+        .all(|facts| has_place(index, len, *facts))
 }
 
 /// Returns whether this is an index of the first `len` events. `writes` is the number of places of
@@ -385,12 +367,7 @@ fn is_shared(index: &TraceIndex, lengths: (u32, usize, usize)) -> bool {
 }
 
 fn are_shared(index: &TraceIndex) -> bool {
-    for lengths in &SHARED {
-        if !is_shared(index, *lengths) {
-            return false;
-        }
-    }
-    true
+    SHARED.iter().all(|lengths| is_shared(index, *lengths))
 }
 
 #[test]

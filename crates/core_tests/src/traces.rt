@@ -42,22 +42,12 @@ pub(crate) fn accepts(gate: &mut Gate, event: &Event) -> bool {
 
 /// Returns whether the gate accepts these events in order.
 pub(crate) fn accepts_all(gate: &mut Gate, events: &[Event]) -> bool {
-    for event in events {
-        if !accepts(gate, event) {
-            return false;
-        }
-    }
-    true
+    events.iter().all(|event| accepts(gate, event))
 }
 
 /// Returns whether the gate accepts these events `times` times in sequence.
 fn accepts_times(gate: &mut Gate, events: &[Event], times: u32) -> bool {
-    for _ in 0..times {
-        if !accepts_all(gate, events) {
-            return false;
-        }
-    }
-    true
+    (0..times).all(|_| accepts_all(gate, events))
 }
 
 /// Returns whether the gate accepts the events of `words` `times` times in sequence.

@@ -23,12 +23,7 @@ fn are_places(places: &[Place], wanted: &[u32]) -> bool {
     if places.len() != wanted.len() {
         return false;
     }
-    for index in 0..wanted.len() {
-        if places[index].get() != wanted[index] {
-            return false;
-        }
-    }
-    true
+    (0..wanted.len()).all(|index| places[index].get() == wanted[index])
 }
 
 /// Returns whether the instance has exactly the wanted places, in order.
@@ -151,12 +146,7 @@ fn finds(rt: &HostRuntime, wanted: &Wanted) -> bool {
 }
 
 fn finds_each(rt: &HostRuntime, wanted: &[Wanted]) -> bool {
-    for one in wanted {
-        if !finds(rt, one) {
-            return false;
-        }
-    }
-    true
+    wanted.iter().all(|one| finds(rt, one))
 }
 
 #[test]
@@ -209,12 +199,9 @@ const THREE_HUNDRED: [(&str, u32); 5] = [
 ];
 
 fn accepts_three_hundred(alloc: Global, gate: &mut Gate) -> bool {
-    for (words, times) in &THREE_HUNDRED {
-        if !accepts_words(alloc, gate, words, *times) {
-            return false;
-        }
-    }
-    true
+    THREE_HUNDRED
+        .iter()
+        .all(|(words, times)| accepts_words(alloc, gate, words, *times))
 }
 
 fn three_hundred_gate(rt: &HostRuntime) -> Option<Gate> {
@@ -238,12 +225,7 @@ fn is_three_hundredth(found: &Found) -> bool {
     if !are_members(&found.places, &[2405, 1205]) {
         return false;
     }
-    for place in 0..2406 {
-        if found.witness.has(Place::new(place)) != (place < 1205 || place == 2404) {
-            return false;
-        }
-    }
-    true
+    (0..2406).all(|place| found.witness.has(Place::new(place)) == (place < 1205 || place == 2404))
 }
 
 /// Returns whether that instance is found for the cycle of the dependencies 0 and 1.

@@ -20,12 +20,9 @@ pub(crate) fn offer<D: TestDesk>(
 
 /// Returns whether the desk accepts all of these events.
 pub(crate) fn accepts<D: TestDesk>(desk: &D, reader: &mut D::Reader, events: &[Event]) -> bool {
-    for event in events {
-        if offer(desk, reader, *event).is_err() {
-            return false;
-        }
-    }
-    true
+    events
+        .iter()
+        .all(|event| offer(desk, reader, *event).is_ok())
 }
 
 /// Returns whether the desk accepts the trace of opposite orders and opens a question with the

@@ -1,4 +1,5 @@
-//! Tests of a desk with the greatest numbers of threads, of held locks and of events, and of one more.
+//! Tests of a desk with the greatest numbers of threads, of held locks and of events, and of one
+//! more.
 
 ghost use Rattle.std.specs.Prelude.{◌≡◌};
 
@@ -21,8 +22,8 @@ fn threads_and_held_locks(rt: HostRuntime) -> Result<(), Fail> {
     run_at_desk(rt, Script::HeldLocks)
 }
 
-/// Asserts that the desk knows 1,024 threads, that thread 0 holds 32 locks, and that it acquires one
-/// of them 255 times, and that one thread, lock and acquire more are refused.
+/// Asserts that the desk knows 1,024 threads, that thread 0 holds 32 locks, and that it acquires
+/// one of them 255 times, and that one thread, lock and acquire more are refused.
 pub(crate) fn accepts_threads_and_locks<D: TestDesk, R: Abort>(
     rt: &R,
     desk: &D,

@@ -1,6 +1,6 @@
-//! Tests that each call of a desk publishes the step that it answers, and no other step. A contract of
-//! these calls names the call's own step. It cannot exclude a second one, since other threads publish
-//! at the same time.
+//! Tests that each call of a desk publishes the step that it answers, and no other step. A contract
+//! of these calls names the call's own step. It cannot exclude a second one, since other threads
+//! publish at the same time.
 
 use crate::delivery_tests::{FIRST, FindingSource, SECOND};
 use crate::desk_calls::{accepts, answer, ask, deliver, missing, offer};
@@ -30,8 +30,8 @@ pub(crate) fn publishes_each_step<D: TestDesk, R: RandomSource + AllocGlobal + A
     publishes_deliveries(rt, desk, reader, &source)
 }
 
-/// What the board shows: the numbers of accepted events, of opened questions, and of delivered tasks of
-/// question 0.
+/// What the board shows: the numbers of accepted events, of opened questions, and of delivered
+/// tasks of question 0.
 type Counts = (u32, u32, u32);
 
 /// Asserts that the board shows these numbers.

@@ -34,7 +34,8 @@ impl Read for InterruptedReader<'_> {
     }
 }
 
-/// A writer into a vector that takes at most 1,000 bytes per write. Every other call is interrupted.
+/// A writer into a vector that takes at most 1,000 bytes per write. Every other call is
+/// interrupted.
 #[derive(Drop)]
 struct InterruptedWriter<'a> {
     bytes: &'a mut Vec<u8>,
@@ -169,8 +170,8 @@ fn settles(alloc: Global, book: &mut Book, bound: Bound) -> bool {
         && delivers(alloc, book, bound, 1)
 }
 
-/// Requests the answer of question 0 over the long trace. Returns how the session ends, or `None` if
-/// the question cannot be settled.
+/// Requests the answer of question 0 over the long trace. Returns how the session ends, or `None`
+/// if the question cannot be settled.
 fn answer_into(
     rt: &(impl RandomSource + AllocGlobal + Wait),
     source: &mut MemorySource,

@@ -1,7 +1,8 @@
 //! Runs the worked traces in its folder `data` by the functions of the commands, and compares their
 //! exit status and output with the expected files. It also runs each script as one session with
 //! findings, which must give the same text, passes each witness of a report to the replay checker,
-//! and explains each cycle of a report and passes that to the checker. Each folder of `data` is a command; `sessions` is a run of sessions. Start with `main`.
+//! and explains each cycle of a report and passes that to the checker. Each folder of `data` is a
+//! command; `sessions` is a run of sessions. Start with `main`.
 #![tactic(auto)]
 
 ghost use Rattle.command_line.specs.CommandLine.{IsInRange};
@@ -50,7 +51,8 @@ fn difference_in(
 }
 
 /// Checks a second way to the same answer: of a script, its run as a session; of a report, its
-/// witnesses and the explanations of its cycles; of an explanation, its check. Returns what is wrong, or `None` if nothing is.
+/// witnesses and the explanations of its cycles; of an explanation, its check. Returns what is
+/// wrong, or `None` if nothing is.
 fn fault_in_other_ways<T: Threads>(
     rt: &HostRuntime,
     threads: &T,
