@@ -281,6 +281,9 @@ def compare_refusals(program, path, seed, events):
 
 
 def main(arguments):
+    if arguments in (["--help"], ["-h"]):
+        print(__doc__.strip())
+        return
     if len(arguments) > 3 or not all(word.isdecimal() for word in arguments):
         sys.exit(__doc__.strip())
     root = os.path.dirname(os.path.dirname(os.path.abspath(__file__)))

@@ -158,6 +158,9 @@ KINDS = {
 
 
 def main(arguments):
+    if arguments in (["--help"], ["-h"]):
+        print(__doc__.strip())
+        return
     if len(arguments) < 2 or arguments[0] not in KINDS:
         sys.exit(__doc__.strip())
     words = KINDS[arguments[0]](*[int(argument) for argument in arguments[1:]])
