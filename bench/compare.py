@@ -23,14 +23,12 @@ import sys
 import tempfile
 
 import traces
+from goodlock.traces import EventReader
 
 
 def parse(words):
-    events = []
-    for word in words:
-        thread, kind, target = re.fullmatch(r"(\d+)([fjardw])(\d+)", word).groups()
-        events.append((int(thread), kind, int(target)))
-    return events
+    """Returns the events of a line's words, each a thread, a letter and a target."""
+    return [event[:3] for event in EventReader("").events_of(" ".join(words))]
 
 
 def depth(events, thread, lock):

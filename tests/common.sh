@@ -4,6 +4,10 @@ set -euo pipefail
 root="$(cd "$(dirname "${BASH_SOURCE[0]}")/.." && pwd)"
 program="${GOODLOCKD_PROGRAM:-$root/goodlockd}"
 export GOODLOCKD_PROGRAM="$program"
+python=/usr/bin/python3 # has the modules of Debian's packages
+[ -x "$python" ] || python=python3
+unset PYTHONDONTWRITEBYTECODE
+export PYTHONPYCACHEPREFIX="$root/out/pycache" # the tools start often, and leave nothing beside their sources
 case "${1-}" in
     --help | -h) sed -n '2,/^[^#]/s/^# \{0,1\}//p' "$0"; exit ;;
     "") ;;
@@ -31,6 +35,12 @@ fail() {
     echo "$(basename "$0"): $1" >&2
     has_failed=1
     exit 1
+}
+
+# skip REASON: says that a part is not tested. With CI=true, where tests/packages are installed, that is a failure.
+skip() {
+    [ "${CI-}" != true ] || fail "$1: tests/packages lists what the tests need"
+    echo "$(basename "$0"): skipped: $1"
 }
 
 # has FILE LINE: checks that a file has a line, which a pattern of grep describes.

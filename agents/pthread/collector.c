@@ -20,7 +20,7 @@
 #include <time.h>
 
 enum { MOST_CHECKS = 4, MOST_WINDOWS_WAITING = 40, MICROSECONDS = 500, STALLED_ROUNDS = 4000, GRACE_ROUNDS = 2000, AHEAD = 1000,
-       LOOK_EVERY = 200, WRONG = 2 };
+       LOOK_EVERY = 200, WRONG = 2, FAILED = 3, MOST_CONFIGURED = 64, CONFIGURED_BYTES = 1 << 16 };
 
 /* The agent for Python uses these offsets, and it and the crate for Rust these numbers of kinds. */
 _Static_assert(R_UNLOCK == 12 && R_UNLOCK_EITHER == 17 && R_GIVE == 19 && R_NEW == 22, "goodlock_agent.py, recorder.rs");
@@ -29,7 +29,9 @@ _Static_assert(offsetof(struct ring, consumed) == 64 && offsetof(struct ring, th
                offsetof(struct ring, waits) == 1048768 && offsetof(struct ring, slots) == 2097344 && sizeof(struct ring) == 18874560 &&
                sizeof(struct record) == 64 && sizeof(struct wait) == 64, "goodlock_agent.py");
 
-struct options options = {.bound = 4, .error_status = -1, .frames = 1, .window = MOST_EVENTS};
+static const struct options defaults = {.bound = 4, .error_status = -1, .frames = 1, .window = MOST_EVENTS};
+static const char *const gate_names[GATE_OPTIONS] = {"--suppress", "--baseline", "--fail-on", "--root"};
+struct options options;
 struct ring *ring;
 static const char *reporter;
 static pid_t program, follows, deadlock_report, checks[MOST_CHECKS];
@@ -70,13 +72,20 @@ const char *in_work(char *path, const char *name) {
 
 /* ---- the report's program ---- */
 
-static pid_t start_reporter(const char *task, const char *number) {
+/* `output` is the reporter's standard output, or -1: that of the collector. */
+static pid_t start_reporter(const char *task, const char *number, int output) {
     char bound[12];
+    const char *words[9 + 2 * GATE_OPTIONS] = {"python3", reporter, task, options.program, bound, options.out, number};
+    size_t count = 7;
     pid_t child = fork();
     if (child) return child;
     snprintf(bound, sizeof bound, "%d", options.bound);
+    for (int one = 0; one < GATE_OPTIONS; one++)
+        if (options.gate[one]) words[count++] = gate_names[one], words[count++] = options.gate[one];
+    if (options.has_no_config) words[count++] = "--no-config";
     signal(SIGTERM, SIG_IGN);
-    execlp("python3", "python3", reporter, task, options.program, bound, options.out, number, (char *)NULL);
+    if (output >= 0) dup2(output, STDOUT_FILENO);
+    execvp("python3", (char **)words);
     say("cannot run python3; the traces are kept");
     _exit(WRONG);
 }
@@ -99,7 +108,7 @@ void window_closed(uint32_t closed) {
     }
     if (slot == MOST_CHECKS) return;
     snprintf(number, sizeof number, "%u", closed);
-    checks[slot] = start_reporter("check", number);
+    checks[slot] = start_reporter("check", number, -1);
 }
 
 /* Returns whether there are other processes: those whose parents have ended become the collector's. */
@@ -174,7 +183,7 @@ static void collect(void) {
         flush_stream();
         give_up_if_stalled(&stalled);
         if (!is_reported && (is_over || ++rounds % LOOK_EVERY == 0) && look_for_deadlock(is_over))
-            deadlock_report = start_reporter("deadlock", "0"), is_reported = 1;
+            deadlock_report = start_reporter("deadlock", "0", -1), is_reported = 1;
         if (!is_over) nanosleep(&moment, NULL);
     }
 }
@@ -235,9 +244,10 @@ static uint32_t number_of(const char *word, uint32_t least, uint32_t most, const
 
 static char **read_options(int count, char **words) {
     static const struct option known[] = {{"bound", 1, 0, 'b'}, {"out", 1, 0, 'o'}, {"server", 1, 0, 's'}, {"error-exitcode", 1, 0, 'e'},
-                                          {"stacks", 1, 0, 't'}, {"window", 1, 0, 'w'}, {0, 0, 0, 0}};
+                                          {"stacks", 1, 0, 't'}, {"window", 1, 0, 'w'}, {"no-config", 0, 0, 'n'}, {"suppress", 1, 0, '0'},
+                                          {"baseline", 1, 0, '1'}, {"fail-on", 1, 0, '2'}, {"root", 1, 0, '3'}, {0, 0, 0, 0}};
     char here[PATHS] = "", *out = "goodlock";
-    opterr = 0;
+    opterr = optind = 0;
     for (int letter; (letter = getopt_long(count, words, "+", known, NULL)) >= 0;) switch (letter) {
         case 'b': options.bound = (int)number_of(optarg, 2, 8, "--bound is 2 to 8"); break;
         case 'o': out = optarg; break;
@@ -245,13 +255,66 @@ static char **read_options(int count, char **words) {
         case 'e': options.error_status = (int)number_of(optarg, 0, 255, "--error-exitcode is 0 to 255"); break;
         case 't': options.frames = (int)number_of(optarg, 1, MOST_FRAMES, "--stacks is 1 to 5"); break;
         case 'w': options.window = number_of(optarg, 100, MOST_EVENTS, "--window is 100 to 1048576"); break;
+        case 'n': options.has_no_config = 1; break;
+        case '0': case '1': case '2': case '3': options.gate[letter - '0'] = optarg; break;
         default: refuse("an option is unknown or lacks its value");
     }
     if (!getcwd(here, sizeof here)) here[0] = 0;
     if (strlen(here) + strlen(out) > 3900) refuse("the name of --out is too long");
+    options.out[0] = 0;
     if (out[0] != '/') strcat(strcpy(options.out, here), "/");
     strcat(options.out, out);
     return words + optind;
+}
+
+/* Whether the working folder or one above it has a configuration file. The reporter knows whether it is the one to read. */
+static int may_be_configured(void) {
+    char folder[PATHS], path[PATHS + 20];
+    if (!getcwd(folder, sizeof folder)) return 0;
+    for (size_t length = strlen(folder);;) {
+        snprintf(path, sizeof path, "%.*s/goodlock.toml", (int)length, folder);
+        if (!access(path, F_OK)) return 1;
+        if (!length) return 0;
+        while (length && folder[--length] != '/') continue;
+    }
+}
+
+/* Reads the options that the configuration file gives; each ends with a zero byte. Ends if it, or an option of the gate, has a fault.
+ * Returns how many there are. */
+static int read_configured(char **words) {
+    static char text[CONFIGURED_BYTES];
+    size_t used = 0;
+    ssize_t size;
+    int ends[2], count = 0;
+    if (pipe2(ends, O_CLOEXEC) < 0) refuse("there is no pipe for the configuration file");
+    pid_t child = start_reporter("options", "0", ends[1]);
+    close(ends[1]);
+    while ((size = read(ends[0], text + used, sizeof text - 1 - used)) > 0) used += (size_t)size;
+    close(ends[0]);
+    if (wait_for(child)) exit(WRONG);
+    for (size_t at = 0; at < used && count < MOST_CONFIGURED; at += strlen(text + at) + 1) words[count++] = text + at;
+    return count;
+}
+
+/* Reads the command line, after the options of the configuration file: an option on the command line wins. */
+static char **read_all_options(int count, char **words, const char *goodlockd, int is_python) {
+    struct options first = defaults;
+    char **program, **all = calloc((size_t)count + MOST_CONFIGURED + 2, sizeof *all);
+    int needs_reporter = 0, configured;
+    if (!all) refuse("there is no memory");
+    first.program = goodlockd, first.is_python = is_python;
+    options = first;
+    program = read_options(count, words);
+    for (int one = 0; one < GATE_OPTIONS; one++) needs_reporter |= options.gate[one] != NULL;
+    if (needs_reporter || (!options.has_no_config && may_be_configured())) {
+        configured = read_configured(all + 1);
+        all[0] = words[0];
+        memcpy(all + 1 + configured, words + 1, (size_t)count * sizeof *all); /* the last one is NULL */
+        options = first;
+        program = read_options(count + configured, all);
+    }
+    if (options.gate[FAIL_ON] && options.error_status < 0) options.error_status = FAILED;
+    return program;
 }
 
 static void write_summary(void) {
@@ -278,7 +341,7 @@ static int finish(void) {
     if (deadlock_report) wait_for(deadlock_report);
     for (int slot = 0; slot < MOST_CHECKS; slot++) if (checks[slot]) wait_for(checks[slot]);
     snprintf(number, sizeof number, "%u", window);
-    return wait_for(start_reporter("finish", number));
+    return wait_for(start_reporter("finish", number, -1));
 }
 
 int main(int count, char **words) {
@@ -286,10 +349,9 @@ int main(int count, char **words) {
     struct sigaction action = {.sa_handler = forward};
     if (count < 4) refuse("goodlock starts this program");
     const char *library = words[1];
-    options.program = words[2], reporter = words[3];
-    options.is_python = !strcmp(library, "-") || !strcmp(library, "=");
+    reporter = words[3];
     if (!strcmp(library, "=")) follows = getppid();
-    words = read_options(count - 3, words + 3);
+    words = read_all_options(count - 3, words + 3, words[2], follows || !strcmp(library, "-"));
     if (!words[0] && !follows) refuse("there is no program to run");
     signal(SIGINT, SIG_IGN), signal(SIGQUIT, SIG_IGN), signal(SIGPIPE, SIG_IGN), signal(SIGXFSZ, SIG_IGN);
     in_work(path, "");
@@ -306,7 +368,7 @@ int main(int count, char **words) {
     sigaction(SIGTERM, &action, NULL), sigaction(SIGHUP, &action, NULL);
     if (follows) {
         ring->program = (uint32_t)follows;
-        printf("%s\n", name);
+        printf("%s %d\n", name, options.frames);
         fclose(stdout);
     } else {
         prctl(PR_SET_CHILD_SUBREAPER, 1);
@@ -321,5 +383,6 @@ int main(int count, char **words) {
         rmdir(in_work(path, ""));
     } else verdict = finish();
     ring->finished = 2;
+    if (follows && verdict == WRONG) return WRONG; /* there is no report, and no status of a program */
     return verdict == 1 && options.error_status >= 0 ? options.error_status : status;
 }

@@ -1,6 +1,7 @@
 /* Shared by the files of the collector: collector.c runs the program and reads its records, encode.c turns records into the events
  * of traces, deadlock.c finds threads that wait for each other, sites.c names callers, server.c streams to a server. */
 #define _GNU_SOURCE
+#include "limits.h"
 #include "ring.h"
 
 #include <stddef.h>
@@ -9,13 +10,14 @@
 #include <string.h>
 #include <unistd.h>
 
-enum { PATHS = 4096, MOST_EVENTS = 1 << 20 };
+enum { PATHS = 4096, GATE_OPTIONS = 4, FAIL_ON = 2 };
 
 /* What the command line says. */
 struct options {
-    const char *server, *program; /* program: goodlockd */
-    char out[PATHS];              /* absolute */
-    int bound, error_status, frames, is_python;
+    const char *server, *program;   /* program: goodlockd */
+    const char *gate[GATE_OPTIONS]; /* of the options --suppress, --baseline, --fail-on, --root: for the reporter */
+    char out[PATHS];                /* absolute */
+    int bound, error_status, frames, is_python, has_no_config;
     uint32_t window;
 };
 extern struct options options;

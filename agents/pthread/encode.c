@@ -1,15 +1,11 @@
 /* Turns records into events of traces; docs/agents.md says which and why. A window is one trace: OUT.trace, OUT.2.trace and others.
  *
  * In the first window a thread's number is the recorder's, and thread 0 is the first thread. In each later window thread 0 is an
- * artificial root, which forks each thread at its first event there, and the first thread is FIRST. Markers are locks that only one
+ * artificial root, which forks each thread at its first event there, and the first thread is FIRST_THREAD. Markers are locks that only one
  * thread acquires. A helper is an artificial thread that holds a lock for a thread that holds too many. */
 #include "collector.h"
 
-enum { TABLE = 1 << 16, MOST_HELD = 32, MOST_DEPTH = 255, MOST_FORKS = 1023, SLACK = 400, BUFFER = 1 << 16 };
-#define FIRST 1000000000u
-#define HELPERS 2000000000u
-#define TRY_MARKERS 3000000000u
-#define TIMED_MARKERS 3500000000u
+enum { TABLE = 1 << 16, MOST_FORKS = MOST_THREADS - 1, SLACK = 400, BUFFER = 1 << 16 };
 enum { WRITTEN, READ, HANDED }; /* of a lock's variables: writers' ends; readers' ends; orders and releases by other threads */
 
 struct thread *threads;
@@ -111,7 +107,7 @@ static struct thread *find_thread(uint32_t number) {
     return &threads[number];
 }
 
-uint32_t name_in_trace(uint32_t thread) { return thread == 0 && window > 1 ? FIRST : thread; }
+uint32_t name_in_trace(uint32_t thread) { return thread == 0 && window > 1 ? FIRST_THREAD : thread; }
 
 /* The thread's number in this window. The root forks it, if nobody has. */
 static uint32_t name(uint32_t thread) {

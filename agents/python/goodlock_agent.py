@@ -309,11 +309,11 @@ class Patches:
 def gives(real):
     """The call gives: what the caller did before is before what a receiver does."""
 
-    def method(self, *words, **named):
+    def method(self, *args, **named):
         if recorder.is_inside() or is_of_the_library():
-            return real(self, *words, **named)
+            return real(self, *args, **named)
         recorder.record(R_GIVE, address_of(self))
-        return real(self, *words, **named)
+        return real(self, *args, **named)
 
     return method
 
@@ -321,11 +321,11 @@ def gives(real):
 def takes(real):
     """The call receives if it returns a true value."""
 
-    def method(self, *words, **named):
+    def method(self, *args, **named):
         if recorder.is_inside() or is_of_the_library():
-            return real(self, *words, **named)
+            return real(self, *args, **named)
         with recorder.inside():
-            result = real(self, *words, **named)
+            result = real(self, *args, **named)
         if result:
             recorder.record(R_TAKE, address_of(self))
         return result
@@ -336,10 +336,10 @@ def takes(real):
 def meets(real):
     """The call gives, and receives when it returns."""
 
-    def method(self, *words, **named):
+    def method(self, *args, **named):
         recorder.record(R_GIVE, address_of(self))
         with recorder.inside():
-            result = real(self, *words, **named)
+            result = real(self, *args, **named)
         recorder.record(R_TAKE, address_of(self))
         return result
 
@@ -390,8 +390,10 @@ def joins(real):
         if child is None or not recorder.is_on or os.getpid() != recorder.process:
             return real(thread, timeout)
         recorder.record(R_JOINS, child + 1)
-        waiting = recorder.waiting(WAITS_FOR_THREAD, child + 1) if timeout is None else contextlib.nullcontext()
-        with waiting, recorder.inside():
+        with contextlib.ExitStack() as stack:
+            if timeout is None:
+                stack.enter_context(recorder.waiting(WAITS_FOR_THREAD, child + 1))
+            stack.enter_context(recorder.inside())
             real(thread, timeout)
         if not thread.is_alive():
             recorder.record(R_JOINED, child + 1)
@@ -423,23 +425,29 @@ def attach(path, frames):
 
 
 class Run:
-    """What `tracing` gives: after the block, `has_deadlock` says whether a deadlock was confirmed, or is None without a report."""
+    """What `tracing` gives. After the block, `has_deadlock` says whether the gate fails, by default because a deadlock was confirmed or has
+    happened, or is None without a report. `is_traced` says whether the block is recorded."""
 
-    has_deadlock = None
+    has_deadlock, is_traced = None, False
 
 
 @contextlib.contextmanager
-def tracing(out="goodlock", bound=4, server=None, stacks=1):
-    """Records the threads and locks made in the block, and writes OUT.report and OUT.trace at its end."""
+def tracing(out="goodlock", bound=None, server=None, stacks=None, options=()):
+    """Records the threads and locks made in the block, and writes OUT.report and OUT.trace at its end. `options` are further options of
+    `goodlock`, such as `--fail-on=new`."""
     run, collector, patches = Run(), None, None
     try:
         subprocess.run([os.path.join(ROOT, "agents", "pthread", "build")], check=True)
         program = os.environ.get("GOODLOCKD_PROGRAM", os.path.join(ROOT, "goodlockd"))
-        words = [COLLECTOR, "=", program, os.path.join(ROOT, "agents", "report.py"), "--error-exitcode", "1", "--out", out]
-        words += ["--bound", str(bound), "--stacks", str(stacks)] + (["--server", server] if server else [])
-        collector = subprocess.Popen(words, stdout=subprocess.PIPE, text=True)
-        path = collector.stdout.readline().strip()
-        patches = attach(path, stacks)
+        command = [COLLECTOR, "=", program, os.path.join(ROOT, "tools", "agent_report")]
+        named = [("bound", bound), ("server", server), ("stacks", stacks), ("out", out), ("error-exitcode", 1)]
+        command += [*options, *("--{}={}".format(name, value) for name, value in named if value is not None)]
+        collector = subprocess.Popen(command, stdout=subprocess.PIPE, universal_newlines=True)
+        path, _, frames = collector.stdout.readline().strip().rpartition(" ")
+        if not path:
+            raise OSError("the collector has not started")
+        patches = attach(path, int(frames or 1))
+        run.is_traced = True
     except (OSError, subprocess.SubprocessError) as error:
         say(f"cannot trace: {error}; the program runs on")
     try:

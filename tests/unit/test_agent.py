@@ -1,0 +1,211 @@
+"""Tests the agents' reports: the names of sites, the search in a window, and what is written, from files as the collector writes them."""
+import contextlib
+import io
+import os
+from unittest.mock import patch
+
+from goodlock.agent.gate import settings_from
+from goodlock.agent.report import finish
+from goodlock.agent.run import Run, shortly
+from goodlock.agent.search import HELPERS_OF_TRIES, NoReport, check, drop_part_of_line, kind_of, search, without_tries
+from goodlock.agent.sites import Sites, Source, name_lines_of, source_of
+from goodlock.errors import InputError
+from goodlock.limits import FIRST_THREAD, HELPERS, TIMED_MARKERS, TRY_MARKERS
+from goodlock.reports import Cycle, Member
+from goodlock.traces import read_trace
+from written import OPPOSITE_REPORT, InFolder
+
+SITES = "1\tmain.py:9 in main\n2\tbank.py:34 in transfer\tmain.py:7 in run\n3\tbank.py:35 in transfer\n4\t/usr/lib/threading.py:3 in run\tx.py:1 in f\n"
+TRACE = "# at 1\n0f1\n0f2\n# at 2\n1a10\n# at 3\n1a20\n1r20\n1r10\n# at 2\n2a20\n# at 3\n2a10\n2r10\n2r20\n"
+SUMMARY = "attached 1\nlock_events 8\nthreads 3\nread_locks 0\nunseen 0\noverflowing 0\noff 0\nframes 1\n"
+WRITTEN = """question 0 length 10 bound 2 cycles 1 confirmed 1
+cycle 0 1 confirmed
+  thread 1 lock 20 holds 10 place 3
+    thread 1 from main.py:9 in main
+    lock 20 at bank.py:35 in transfer
+    lock 10 since bank.py:34 in transfer
+  thread 2 lock 10 holds 20 place 7
+    thread 2 from main.py:9 in main
+    lock 10 at bank.py:35 in transfer
+    lock 20 since bank.py:34 in transfer
+  witness 0 1 2 6
+"""
+
+
+class OfRun(InFolder):
+    def setUp(self) -> None:
+        super().setUp()
+        os.mkdir("run.tmp")
+        self.run_ = Run("run", "/nowhere", 2)
+        self.write("run.tmp/sites", SITES)
+        self.write("run.tmp/summary", SUMMARY)
+        self.window(TRACE, OPPOSITE_REPORT)
+
+    def window(self, trace: str, answer: str, number: int = 1) -> None:
+        self.write(self.run_.window(number, "trace"), trace)
+        self.write(f"run.tmp/{number}.answer", answer)
+
+    def finish(self, windows: int = 1) -> tuple[int, str]:
+        errors = io.StringIO()
+        with contextlib.redirect_stderr(errors):
+            return finish(self.run_, windows, settings_from([])), errors.getvalue()
+
+
+class Finishes(OfRun):
+    def test_report(self) -> None:
+        self.assertEqual(self.finish(), (1, "goodlock: 10 events, 1 cycle, 1 confirmed: run.report, run.trace\n"))
+        self.assertEqual(self.read("run.report"), WRITTEN)
+        self.assertEqual(self.read("run.trace").split("\n")[:5],
+                         ["# at main.py:9 in main", "0f1", "0f2", "# at bank.py:34 in transfer", "1a10"])
+        self.assertEqual(sorted(os.listdir()), ["run.report", "run.trace"])
+
+    def test_callers(self) -> None:
+        self.write("run.tmp/summary", SUMMARY.replace("frames 1", "frames 2"))
+        self.finish()
+        self.assertIn("    lock 10 since bank.py:34 in transfer < main.py:7 in run\n", self.read("run.report"))
+
+    def test_notes(self) -> None:
+        for old, new, note in [
+            ("attached 1", "attached 0", "no events: the agent was not loaded; the program is statically linked, has other rights, or clears .*"),
+            ("lock_events 8", "lock_events 0", "no lock events: the program has started 2 threads and called no lock function; .*"),
+            ("read_locks 0", "read_locks 1", "1 reader-writer lock had readers: their sections were recorded as ordering only"),
+            ("unseen 0", "unseen 2", "2 threads started in a way that is not seen: what came before the start is not ordered"),
+            ("overflowing 0", "overflowing 1", "1 acquire beyond 31 held locks were recorded for an artificial thread"),
+            ("off 0", "off 1", "the recording stopped before the program ended"),
+        ]:
+            self.setUp()
+            self.write("run.tmp/summary", SUMMARY.replace(old, new))
+            self.assertRegex(self.finish()[1], f"^goodlock: {note}\ngoodlock: 10 events")
+            self.assertRegex(self.read("run.report"), f"^question .*\n    {note}\ncycle")
+
+    def test_deadlock_that_happened(self) -> None:
+        self.write("run.tmp/deadlock", "deadlock of 2 threads, which wait for each other\nthread 1 waits for lock 20 at @3@\n  lock 10 since @2@\n")
+        self.window(TRACE, "question 0 length 10 bound 2 cycles 0 confirmed 0\n")
+        self.assertEqual(self.finish()[0], 1)
+        self.assertEqual(self.read("run.report").splitlines()[1:], [
+            "    deadlock of 2 threads, which wait for each other", "    thread 1 waits for lock 20 at bank.py:35 in transfer",
+            "    lock 10 since bank.py:34 in transfer"])
+
+    def test_windows(self) -> None:
+        """A window without a new cycle is removed; a cycle at the same lines counts for the first one."""
+        self.window(TRACE, OPPOSITE_REPORT, 2)
+        self.window(TRACE.replace("# at 3\n2a10", "# at 1\n2a10"), OPPOSITE_REPORT, 3)
+        self.assertEqual(self.finish(3), (1, "goodlock: 30 events, 2 cycles, 2 confirmed: run.report, run.trace, run.3.report, run.3.trace\n"))
+        self.assertIn("    window 3: run.3.report\n", self.read("run.report"))
+        self.assertIn("    and 1 more cycle at these lines, 1 of them confirmed\n", self.read("run.report"))
+        self.assertFalse(os.path.exists("run.2.trace"))
+
+    def test_no_report(self) -> None:
+        for answer, reason in [("no\n", "no"), ("", "goodlockd prints no report"), (OPPOSITE_REPORT.replace("place 3", "place 9"), "run.trace:3: .*")]:
+            self.setUp()
+            self.window(TRACE, answer)
+            status, text = self.finish()
+            self.assertEqual(status, 2)
+            self.assertRegex(text, f"^goodlock: there is no report: {reason}; the trace is kept: run.trace\n$")
+            self.assertIn("# at bank.py:34 in transfer\n", self.read("run.trace"))
+
+    def test_refused_event(self) -> None:
+        self.window("0f1\n1a5\n0a5\n", "refused 10 HeldByOther at 2\n")
+        self.assertIn("there is no report: run.trace:3: 0a5: thread 1 holds lock 5 since place 1; ", self.finish()[1])
+
+    def test_no_program(self) -> None:
+        os.remove("run.tmp/1.answer")
+        self.assertIn("there is no report: [Errno 2] No such file or directory: '/nowhere'; the trace is kept", self.finish()[1])
+
+
+class Searches(OfRun):
+    def test_tried_and_timed(self) -> None:
+        for marker, tried, confirmed, text in [(TRY_MARKERS, 1, 0, "cycles 0 confirmed 0\n    1 cycle left out: a member does not wait"),
+                                               (TIMED_MARKERS, 0, 0, "cycles 0 confirmed 0\n    timed: this cycle ends when a timeout does\n")]:
+            self.setUp()
+            marked = TRACE.replace("# at 3\n1a20\n", f"1a{marker + 1}\n# at 3\n1a20\n1r{marker + 1}\n")
+            report = OPPOSITE_REPORT.replace("length 10", "length 12").replace("lock 20 holds 10 place 3", f"lock 20 holds 10 {marker + 1} place 4")
+            self.window(marked, report.replace("holds 20 place 7", "holds 20 place 9").replace("0 1 2 6", "0 1 2 3 8"))
+            window = search(self.run_, 1, 2)
+            self.assertEqual((window.tried, sum(found.confirmed for found in window.found)), (tried, confirmed))
+            self.assertEqual(self.finish()[0], 0)
+            self.assertIn(text, self.read("run.report"))
+            self.assertIn(f"# mark {marker + 1}\n1a{marker + 1}\n", self.read("run.trace"))
+        self.assertIn("    timed: thread 1 holds lock 10 since bank.py:34 in transfer\n", self.read("run.report"))
+        self.assertNotIn(f"holds lock {TIMED_MARKERS + 1}", self.read("run.report"))
+
+    def test_kinds(self) -> None:
+        for held, kind in [((10,), "confirmed"), ((10, TRY_MARKERS + 2), "tried"), ((10, TIMED_MARKERS + 2), "timed"),
+                           ((TRY_MARKERS + 2, TIMED_MARKERS + 2), "tried"), ((TRY_MARKERS - 1,), "confirmed")]:
+            self.assertEqual(kind_of(Cycle((0, 1), True, [Member(1, 20, held, 3), Member(2, 10, (20,), 7)])), kind)
+
+    def test_too_many_groups(self) -> None:
+        report = OPPOSITE_REPORT.replace("cycles 1 confirmed 1", "cycles 2 confirmed 2")
+        other = "cycle 2 3 confirmed\n  thread 1 lock 40 holds 30 place 11\n  thread 2 lock 30 holds 40 place 15\n  witness 0 1 2 3 4 5 6 7 8 9 10 14\n"
+        more = "# at 1\n1a30\n1a40\n1r40\n1r30\n2a40\n2a30\n2r30\n2r40\n"
+        self.window(TRACE + more, report.replace("length 10", "length 18") + other)
+        with patch("goodlock.agent.search.MOST_GROUPS", 1):
+            self.assertEqual(search(self.run_, 1, 2).notes, ["1 cycle left out, 1 confirmed: these are in too many further groups"])
+        self.assertEqual((len(search(self.run_, 1, 2).found), search(self.run_, 1, 2).notes), (2, []))
+
+    def test_report_that_is_too_long(self) -> None:
+        """First the acquires that do not wait are recorded for artificial threads, then the bound becomes smaller."""
+        os.remove("run.tmp/1.answer")
+        self.write("program", '#!/bin/sh\n[ "$4" = 2 ] && exec cat answer\necho "refused 23 ReportTooLong"; exit 1\n')
+        os.chmod("program", 0o755)
+        self.write("answer", OPPOSITE_REPORT)
+        self.run_.program, self.run_.bound = os.path.abspath("program"), 3
+        check(self.run_, 1)
+        self.assertIn("the reports for larger bounds are too long: the bound is 2", self.finish()[1])
+        self.write("program", "#!/bin/sh\necho 'refused 23 ReportTooLong'; exit 1\n")
+        with self.assertRaisesRegex(NoReport, "the report is too long with each bound"):
+            check(self.run_, 1)
+
+    def test_without_tries(self) -> None:
+        marker, helper = TRY_MARKERS + 1, HELPERS_OF_TRIES + 1
+        lines = [f"{word}\n" for word in ["0f1", "1a10", f"1a{marker}", "1a20", f"1r{marker}", "1r20", "1r10"]]
+        order = TRY_MARKERS + 20
+        words = "".join(without_tries(lines)).split()
+        self.assertEqual(words, ["0f1", "1a10", f"1f{helper}", f"1d{order}", f"1w{order}", f"{helper}d{order}", f"{helper}a20", f"{helper}d{order}",
+                                 f"{helper}w{order}", f"1d{order}", f"1d{order}", f"1w{order}", f"{helper}d{order}", f"{helper}r20", "1r10"])
+        self.write("x.trace", "".join(f"{word}\n" for word in words))
+        self.assertEqual(len(read_trace("x.trace").events), len(words))
+
+    def test_part_of_a_line(self) -> None:
+        for text, whole in [("0f1\n1a", "0f1\n"), ("0f1\n", "0f1\n"), ("", ""), ("0f", "")]:
+            drop_part_of_line(self.write("x", text))
+            self.assertEqual(self.read("x"), whole)
+
+
+class Names(OfRun):
+    def test_names(self) -> None:
+        one, two = Sites(self.run_, 1), Sites(self.run_, 2)
+        self.assertEqual([one.name(number) for number in (1, 2, 4, 9)], ["main.py:9 in main", "bank.py:34 in transfer", "x.py:1 in f", "?"])
+        self.assertEqual(two.name(2), "bank.py:34 in transfer < main.py:7 in run")
+        self.assertEqual(one.name_all("at @3@ and @1@"), "at bank.py:35 in transfer and main.py:9 in main")
+
+    def test_lines_of_addr2line(self) -> None:
+        for line, source in [
+            ("transfer at /x/bank.c:35", Source("/x/bank.c:35", "transfer")), ("f(a at b) at /x y/b.c:3 (discriminator 2)", Source("/x y/b.c:3", "f(a at b)")),
+            ("f at x.c:?", Source("x.c:?", "f")), ("?? ??:0", None), ("f at ??:?", None), ("f at ??:0", None), ("", None), ("f at x.c", None),
+        ]:
+            self.assertEqual(source_of(line), source, line)
+
+    def test_trace_that_cannot_be_written(self) -> None:
+        name_lines_of("missing.trace", Sites(self.run_, 1))
+        self.assertFalse(os.path.exists("missing.trace.new"))
+
+    def test_no_sites(self) -> None:
+        self.assertEqual(Sites(Run("other"), 1).name(1), "?")
+
+    def test_shortly(self) -> None:
+        self.assertEqual((shortly(os.path.abspath("x/y")), shortly("/usr/x")), ("x/y", "/usr/x"))
+
+    def test_threads(self) -> None:
+        """The first thread of a later window, and a helper."""
+        for thread, note in [(FIRST_THREAD, f"thread {FIRST_THREAD} is the first one"),
+                             (HELPERS + 1, f"thread {HELPERS + 1} holds a lock for a thread that holds more than 31, from main.py:9 in main")]:
+            self.setUp()
+            self.window(TRACE.replace("f1\n", f"f{thread}\n").replace("\n1", f"\n{thread}"), OPPOSITE_REPORT.replace("thread 1 ", f"thread {thread} "))
+            self.finish()
+            self.assertIn(f"    {note}\n", self.read("run.report"))
+
+    def test_fault_in_raw_trace(self) -> None:
+        self.write("run.trace", "0f1\nx\n")
+        with self.assertRaisesRegex(InputError, "^run.trace:2: x: not an event"):
+            search(self.run_, 1, 2)

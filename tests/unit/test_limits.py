@@ -1,0 +1,46 @@
+"""Compares the numbers that are written in C, in Rust and in the recorder for Python with those of the package."""
+import os
+import re
+import unittest
+
+from goodlock import limits
+from goodlock.program import ROOT
+
+AGENTS = os.path.join(ROOT, "agents")
+
+
+def text_of(*path: str) -> str:
+    with open(os.path.join(AGENTS, *path), encoding="utf-8") as file:
+        return file.read()
+
+
+def values_in(pattern: str, *path: str) -> dict[str, int]:
+    """Returns the names and the numbers that a pattern finds in a file."""
+    return {name: int(number.replace("_", "")) for name, number in re.findall(pattern, text_of(*path), re.M)}
+
+
+def kinds_of_the_ring() -> dict[str, int]:
+    """Returns the kinds of records in ring.h, which number themselves from 1."""
+    block = text_of("pthread", "ring.h").split("enum kind {")[1].split("};")[0]
+    return {name: number for number, name in enumerate(re.findall(r"\bR_[A-Z_]+", re.sub(r"/\*.*?\*/", "", block, flags=re.S)), 1)}
+
+
+class Compares(unittest.TestCase):
+    def test_limits_of_the_agent_for_pthreads(self) -> None:
+        found = values_in(r"^#define ([A-Z_]+) ([0-9]+)u$", "pthread", "limits.h") | values_in(r"\b(MOST_[A-Z]+) = ([0-9]+)", "pthread", "limits.h")
+        self.assertEqual(found, {name: getattr(limits, name) for name in (
+            "MOST_EVENTS", "MOST_THREADS", "MOST_HELD", "MOST_DEPTH", "FIRST_THREAD", "HELPERS", "TRY_MARKERS", "TIMED_MARKERS")})
+
+    def test_kinds_of_the_crate_for_rust(self) -> None:
+        found = values_in(r"^    ([A-Z][A-Za-z]+) = ([0-9]+),$", "rust", "src", "recorder.rs")
+        ring = {name[2:].replace("_", "").lower(): number for name, number in kinds_of_the_ring().items()}
+        self.assertEqual(found, {name: ring[name.lower()] for name in found})
+        self.assertGreater(len(found), 5)
+
+    def test_kinds_of_the_recorder_for_python(self) -> None:
+        namespace: dict[str, int] = {}
+        lines = re.findall(r"^R_[A-Z_, ]+ = .*$", text_of("python", "goodlock_agent.py"), re.M)
+        exec("\n".join(lines), {}, namespace)
+        ring = kinds_of_the_ring()
+        self.assertEqual(namespace, {name: ring[name] for name in namespace})
+        self.assertGreater(len(namespace), 10)

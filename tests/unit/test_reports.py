@@ -1,0 +1,87 @@
+"""Tests the reader of reports: what it returns, and how it refuses lines that are wrong or do not fit the trace."""
+import unittest
+
+from goodlock.errors import InputError
+from goodlock.reports import AnyEvents, Cycle, Member, Report, member_of, places_in, read_reports
+from written import OPPOSITE, OPPOSITE_REPORT, cycles_of, index_of
+
+POTENTIAL = """question 3 length 10 bound 4 cycles 1 confirmed 0
+cycle 0 1 potential
+  thread 1 lock 20 holds 10
+    lock 10 since a.c:1
+  thread 2 lock 10 holds 20
+    and 3 more cycles at these lines, 2 of them confirmed
+"""
+MEMBERS = [Member(1, 20, (10,), 3), Member(2, 10, (20,), 7)]
+
+
+class Reads(unittest.TestCase):
+    def test_confirmed(self) -> None:
+        report, cycles = cycles_of(index_of(OPPOSITE), OPPOSITE_REPORT)
+        self.assertEqual(report, Report(0, 10, 2, 1, 1))
+        self.assertEqual(cycles, [Cycle((0, 1), True, MEMBERS, [0, 1, 2, 6])])
+        self.assertEqual((cycles[0].name, cycles[0].verdict), ("0 1", "confirmed"))
+
+    def test_potential_of_an_agent(self) -> None:
+        _, cycles = cycles_of(index_of(OPPOSITE), POTENTIAL)
+        members = [member._replace(place=None) for member in MEMBERS]
+        self.assertEqual(cycles, [Cycle((0, 1), False, members, [], 3, 2)])
+
+    def test_output_of_a_script(self) -> None:
+        text = "placed 0\nrefused 2 Unforked\nopened 0 length 10 total 2\nworked 2\n" + OPPOSITE_REPORT + "status 0 accepted 10\n" + POTENTIAL
+        reports = list(read_reports("x", index_of(OPPOSITE), text.splitlines()))
+        self.assertEqual([(report.question, cycle is None) for report, cycle in reports], [(0, True), (0, False), (3, True), (3, False)])
+
+    def test_without_a_trace(self) -> None:
+        self.assertEqual(len(list(read_reports("x", AnyEvents(), OPPOSITE_REPORT.splitlines()))), 2)
+
+    def test_member(self) -> None:
+        self.assertEqual(member_of("  thread 1 lock 20 holds 7 10 place 3"), Member(1, 20, (7, 10), 3))
+        for line in ["  thread 1 lock 20 holds", "  thread 1 lock 20 holds 07", " thread 1 lock 2 holds 1", "  thread 1 lock 2 holds 1 place"]:
+            self.assertIsNone(member_of(line))
+
+    def test_places(self) -> None:
+        for text, places in [("", []), (" 1 2", [1, 2]), (" 1  2", None), ("1", None), (" -1", None), (" x", None), (" 01", None),
+                             (" 1 ", None), (" " + "9" * 5000, None)]:
+            self.assertEqual(places_in(text), places, text[:20])
+
+
+class Refuses(unittest.TestCase):
+    """Each case replaces a line of the report; the message is about that line, or about the one after the last."""
+
+    CASES = [
+        (1, "question 0 length 11 bound 2 cycles 1 confirmed 1", "1: length 11: does not fit the trace: the trace has fewer events"),
+        (1, "question 0 length 10 bound 2 cycles 0 confirmed 0", "2: cycle 0 1: the first line of the report has fewer cycles"),
+        (1, "question 0 length 10 bound 2 cycles 2 confirmed 1", "6: the report ends within its cycles: the first line has 2"),
+        (1, OPPOSITE_REPORT.split("\n")[0] + "\r", "1: question .*: carriage return: a line ends with a line feed alone"),
+        (1, "", "1: an empty line"),
+        (1, "refused 10 HeldByOther at 2", "2: cycle 0 1: the first line of the report has fewer cycles"),
+        (2, "cycle 0 confirmed", "2: cycle 0 confirmed: not a line of a report"),
+        (2, "cycle 0 1 potential", "3: thread 1 lock 20 holds 10 place 3: the members of a confirmed cycle have places, those .*"),
+        (3, "  thread 1 lock 20 holds 10 place 2", "3: thread 1 lock 20 holds 10 place 2: does not fit the trace, which has no such acquire"),
+        (3, "  thread 1 lock 20 holds 11 place 3", "3: .* which has no such acquire"),
+        (3, "cycle 0 1 confirmed", "3: cycle 0 1: cycle 0 1 before it lacks a line"),
+        (4, "  thread 1 lock 20 holds 10 place 3", "4: thread 1 .*: does not fit the cycle, whose members each hold the lock .*"),
+        (5, "  witness 1 0", "5: witness 1 0: does not fit the trace: these are not ascending places of the trace"),
+        (5, "  witness 10", "5: witness 10: does not fit the trace: .*"),
+        (5, "  witness x", "5: witness x: no witness of places is here"),
+        (5, "    and 1 more cycle at these lines, 0 of them confirmed", "5: and 1 more cycle .*: no cycle is before it"),
+        (5, "question 1 length 1 bound 2 cycles 0 confirmed 0", "5: question .*: the report before it has further cycles"),
+        (5, "  thread 1 lock 20 holds 10 place 3", "5: thread 1 .*: no cycle has a member here"),
+    ]
+
+    def test_lines(self) -> None:
+        for number, line, message in self.CASES:
+            with self.subTest(line=line):
+                lines = OPPOSITE_REPORT.splitlines()
+                lines[number - 1] = line
+                with self.assertRaisesRegex(InputError, f"^x:{message}$"):
+                    list(read_reports("x", index_of(OPPOSITE), lines))
+
+    def test_no_report(self) -> None:
+        for text, message in [("", "1: there is no report, which begins with a line such as .*"),
+                              ("placed 0\n", "2: there is no report, .*"),
+                              ("refused 10 HeldByOther at 2\n", "2: there is no report: goodlockd has refused the trace: refused 10 HeldByOther at 2"),
+                              ("0f1 0f2\n", "1: 0f1 0f2: not a line of a report")]:
+            with self.assertRaisesRegex(InputError, f"^x:{message}$"):
+                list(read_reports("x", index_of(OPPOSITE), text.splitlines()))

@@ -1,0 +1,123 @@
+"""What the commands share: exit statuses, numbers, and output that is written as a whole or not at all."""
+from __future__ import annotations
+
+import argparse
+import contextlib
+import os
+import sys
+from collections.abc import Callable
+from types import TracebackType
+from typing import IO, Optional
+
+from goodlock.errors import InputError, OutputError
+from goodlock.limits import LEAST_BOUND, MOST_BOUND
+
+BOUNDS = range(LEAST_BOUND, MOST_BOUND + 1)
+
+
+def plural(number: int, one: str) -> str:
+    return f"{number:,} {one if number == 1 else one + 's'}"
+
+
+def parser_of(prog: str, description: str, epilog: str = "") -> argparse.ArgumentParser:
+    """Returns a parser that prints these texts with their line feeds. The first line of the description is enough for it."""
+    return argparse.ArgumentParser(prog=prog, description=description, epilog=epilog, formatter_class=argparse.RawDescriptionHelpFormatter)
+
+
+def whole_number(least: int, most: Optional[int] = None) -> Callable[[str], int]:
+    """Returns a reader of an option's number in this range."""
+
+    def number_of(word: str) -> int:
+        number = int(word) if word.isascii() and word.isdecimal() and len(word) < 20 else least - 1
+        if number < least or most is not None and number > most:
+            raise argparse.ArgumentTypeError(f"not {least} or more" if most is None else f"not {least} to {most:,}")
+        return number
+
+    return number_of
+
+
+count = whole_number(0)
+
+
+def run(command: Callable[[], Optional[int]], interrupted: str = "interrupted") -> int:
+    """Runs a command and returns its exit status: 2 if a line of a file has a fault, 1 if a file cannot be read or written or if Ctrl-C
+    ends it, else what the command returns."""
+    try:
+        return command() or 0
+    except InputError as fault:
+        print(fault, file=sys.stderr)
+        return 2
+    except OutputError as fault:
+        print(f"cannot write: {fault}", file=sys.stderr)
+    except OSError as fault:
+        print(f"cannot read {fault.filename or 'a file'}: {fault.strerror or fault}", file=sys.stderr)
+    except MemoryError:
+        print("no memory", file=sys.stderr)
+    except KeyboardInterrupt:
+        print(interrupted, file=sys.stderr)
+    return 1
+
+
+def print_whole(text: str) -> None:
+    """Prints a text on standard output."""
+    try:
+        sys.stdout.buffer.write(text.encode("utf-8", "replace"))
+        sys.stdout.flush()
+    except OSError as fault:
+        with contextlib.suppress(OSError):  # else the interpreter writes the rest at exit, and reports it again
+            os.dup2(os.open(os.devnull, os.O_WRONLY), sys.stdout.fileno())
+        raise OutputError(fault) from None
+
+
+def write_whole(name: str, text: str) -> None:
+    """Writes a file. If that fails, an earlier file of this name is unchanged."""
+    with Outputs() as outputs:
+        outputs.open(name).write(text)
+
+
+class Outputs:
+    """Files that get their names when all of them are written, and are removed if an error occurs."""
+
+    def __init__(self) -> None:
+        self.names: list[str] = []
+        self.file: Optional[IO[str]] = None
+
+    def open(self, name: str) -> IO[str]:
+        """Ends the last file and begins one. Returns it. A device or a pipe is written directly."""
+        name = os.path.realpath(name)
+        is_plain = os.path.isfile(name) or not os.path.exists(name)
+        try:
+            self.end()
+            self.file = open(f"{name}.part" if is_plain else name, "w", encoding="utf-8", errors="replace")
+        except OSError as fault:
+            raise OutputError(fault) from None
+        if is_plain:
+            self.names.append(name)
+        return self.file
+
+    def end(self) -> None:
+        if self.file:
+            self.file.close()
+            self.file = None
+
+    def __enter__(self) -> Outputs:
+        return self
+
+    def __exit__(self, kind: Optional[type[BaseException]], fault: Optional[BaseException], _: Optional[TracebackType]) -> None:
+        try:
+            self.end()
+            if kind is None:
+                for name in self.names:
+                    os.replace(f"{name}.part", name)
+                return
+        except OSError as error:
+            self.remove()
+            raise OutputError(error) from None
+        self.remove()
+        if isinstance(fault, OSError) and fault.filename is None:  # a write, not an open
+            raise OutputError(fault) from None
+
+    def remove(self) -> None:
+        for name in self.names:
+            with contextlib.suppress(OSError):
+                os.remove(f"{name}.part")

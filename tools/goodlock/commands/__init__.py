@@ -1,0 +1,1 @@
+"""The command lines. Each module has `main`, which returns the exit status."""

@@ -1,0 +1,68 @@
+"""Draws the cycles of a report as a part of a page: `python3 -m goodlock.dashboard.draw REPORT [TRACE]`. With a trace it draws what
+tools/picture draws; without one, the ring of each cycle and its members. It is a process of its own, since a long trace needs much
+memory."""
+import sys
+from collections.abc import Iterator
+from html import escape
+
+from goodlock.commandline import plural, print_whole, run
+from goodlock.drawing.page import NO_CYCLES, WITNESS, drawn_reports, faint, lock_name, report_parts, section
+from goodlock.drawing.shapes import colours_of
+from goodlock.reports import AnyEvents, Cycle, Member, read_reports
+from goodlock.traces import Index, read_trace
+
+MOST_DRAWN, MOST_PLACES = 20, 200
+
+
+def drawn(report: str, trace: str) -> str:
+    """Returns the drawing with the events of the trace."""
+    index = Index(read_trace(trace))
+    wholes = drawn_reports(index, read_reports(report, index), MOST_DRAWN)
+    return "".join(part for whole in wholes for part in report_parts(index, whole, 0))
+
+
+def drawn_alone(name: str) -> str:
+    """Returns the drawing that needs no trace: the first cycles, confirmed ones first."""
+    kept: dict[bool, list[Cycle]] = {True: [], False: []}
+    for report, cycle in read_reports(name, AnyEvents()):
+        if cycle and len(kept[cycle.is_confirmed]) < MOST_DRAWN:
+            kept[cycle.is_confirmed].append(cycle)
+    shown = (kept[True] + kept[False])[:MOST_DRAWN]
+    head = faint(f'Question {report.question}: {plural(report.length, "event")}; cycles of at most {report.bound} members: '
+                 f"{report.cycles:,}, confirmed {report.confirmed:,}.")
+    if not report.cycles:
+        head += NO_CYCLES.format("")
+    elif len(shown) < report.cycles:
+        head += faint(f"The first {len(shown)} are drawn.")
+    return head + "".join(section_of(f"c{number}", cycle) for number, cycle in enumerate(shown))
+
+
+def section_of(name: str, cycle: Cycle) -> str:
+    colours = colours_of(member.lock for member in cycle.members)
+    return section(name, cycle, colours, rows_of(cycle, colours), witness(cycle) if cycle.is_confirmed else "")
+
+
+def rows_of(cycle: Cycle, colours: dict[int, str]) -> Iterator[str]:
+    for member in cycle.members:
+        yield f"<tr><td><b>thread {member.thread}</b></td><td>{member_lines(member, colours)}</td></tr>"
+
+
+def member_lines(member: Member, colours: dict[int, str]) -> str:
+    held = "".join(f"holds {lock_name(lock, colours)}<br>" for lock in member.held)
+    if member.place is None:
+        return f"{held}wants {lock_name(member.lock, colours)}"
+    return f"{held}waits for {lock_name(member.lock, colours)} at place {member.place}"
+
+
+def witness(cycle: Cycle) -> str:
+    places, count = cycle.witness, len(cycle.witness)
+    shown = " ".join(map(str, places[:MOST_PLACES])) + (" …" if count > MOST_PLACES else "")
+    return WITNESS.format(plural(count, "event")) + f'<p class="places">{escape(shown)}</p>'
+
+
+def main() -> None:
+    print_whole(drawn(*sys.argv[1:]) if len(sys.argv) == 3 else drawn_alone(sys.argv[1]))
+
+
+if __name__ == "__main__":
+    sys.exit(run(main))

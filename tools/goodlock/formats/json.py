@@ -1,0 +1,197 @@
+"""Writes results as JSON, and reads them again."""
+from __future__ import annotations
+
+import json
+from collections.abc import Sequence
+from typing import Any
+
+from goodlock.gates import Judgement
+from goodlock.groups import Location
+from goodlock.locations import Root
+from goodlock.results import (KeptApart, LeftOut, Numbers, Question, Result, ResultMember, Run, Spot, State, Verdict, Witness, WitnessStep,
+                              kept)
+
+VERSION = 1
+Object = dict[str, Any]
+
+
+def text_of(value: object) -> str:
+    return json.dumps(value, indent=2) + "\n"
+
+
+def summary_text(trace: str, report: str, questions: Sequence[Question], run: Run, judgement: Judgement) -> str:
+    """Returns the summary of the reports on a trace."""
+    return text_of({
+        "version": VERSION,
+        "trace": trace,
+        "report": report,
+        "questions": [question_object(question, run.most) for question in questions],
+        "unused_suppressions": list(run.unused),
+        **run_object(run, judgement),
+    })
+
+
+def many_text(run: Run, traces: int, judgement: Judgement) -> str:
+    """Returns the merged summary of many traces."""
+    numbers = run.numbers
+    return text_of({
+        "version": VERSION,
+        "traces": traces,
+        "events": numbers.events,
+        "cycles": numbers.confirmed + numbers.potential + numbers.tried,
+        "confirmed": numbers.confirmed,
+        "tried": numbers.tried,
+        "groups": [merged_object(result) for result in run.results],
+        "faults": dict(run.faults),
+        "unused_suppressions": list(run.unused),
+        **run_object(run, judgement),
+    })
+
+
+def run_object(run: Run, judgement: Judgement) -> Object:
+    """Returns what a summary of one trace and one of many have in common. `fingerprints` has all results: it is what a baseline needs."""
+    return {
+        "numbers": numbers_object(run.numbers),
+        "gate": {"fail_on": judgement.gate.fail_on, "failing": len(judgement.failing), "status": judgement.status},
+        "fingerprints": {result.fingerprint: result.verdict.value for result in run.results},
+    }
+
+
+def numbers_object(numbers: Numbers) -> Object:
+    return {
+        "events": numbers.events,
+        "threads": numbers.threads,
+        "locks": numbers.locks,
+        "dependencies": numbers.dependencies,
+        "cycles": {"confirmed": numbers.confirmed, "potential": numbers.potential, "tried": numbers.tried},
+        "happened": numbers.happened,
+        "seconds": round(numbers.seconds, 3),
+    }
+
+
+def question_object(question: Question, most: int) -> Object:
+    report, shown = question.report, kept(question.results)
+    return {
+        "question": report.question,
+        "length": report.length,
+        "bound": report.bound,
+        "cycles": report.cycles,
+        "confirmed": report.confirmed,
+        "groups": len(question.results),
+        "not_shown": max(0, len(shown) - most),
+        "suppressed": counts_object(question.results, State.SUPPRESSED),
+        "known": counts_object(question.results, State.KNOWN),
+        "left_out": left_out_object(question.left_out),
+        "notes": list(question.notes),
+        "shown": [result_object(result) for result in shown[:most]],
+    }
+
+
+def counts_object(results: Sequence[Result], state: State) -> Object:
+    found = [result for result in results if result.state is state]
+    return {"groups": len(found), "cycles": sum(result.cycles for result in found)}
+
+
+def left_out_object(left_out: LeftOut) -> Object:
+    return {"tried": left_out.tried, "further": left_out.further, "further_confirmed": left_out.further_confirmed}
+
+
+def result_object(result: Result) -> Object:
+    found: Object = {
+        **head_object(result),
+        "members": [member_object(member) for member in result.members],
+        "look_at": result.advice,
+    }
+    if result.witness:
+        steps = [step_object(step) for step in result.witness.steps]
+        found["witness"] = {"events": result.witness.events, "steps": steps, "left_out_at_end": result.witness.left_out}
+    if result.kept_apart:
+        apart = result.kept_apart
+        found["kept_apart"] = {"heading": apart.heading, "sentences": list(apart.sentences), "steps_left_out": apart.left_out,
+                               "command": apart.command}
+    return found
+
+
+def head_object(result: Result) -> Object:
+    return {
+        "verdict": result.verdict.value,
+        "state": result.state.value,
+        "fingerprint": result.fingerprint,
+        "cycles": result.cycles,
+        "confirmed": result.confirmed,
+        "example": list(result.example),
+    }
+
+
+def member_object(member: ResultMember) -> Object:
+    return {
+        "thread": member.thread,
+        "thread_name": member.name,
+        "holds": spot_object(member.hold),
+        "waits": spot_object(member.wait),
+        "held": list(member.held),
+    }
+
+
+def spot_object(spot: Spot) -> Object:
+    return {"lock": spot.lock, "lock_name": spot.name, "place": spot.place, **location_object(spot.location, spot.callers)}
+
+
+def location_object(location: Location, callers: Sequence[str]) -> Object:
+    return {"location": location.text, "file": location.file, "line": location.line, "function": location.function, "callers": list(callers)}
+
+
+def step_object(step: WitnessStep) -> Object:
+    where = location_object(step.location, step.callers) if step.location else {}
+    return {"place": step.place, "left_out_before": step.left_out, "thread": step.thread, "event": step.event, **where}
+
+
+def merged_object(result: Result) -> Object:
+    """Returns a result of many traces: its members are pairs of locations."""
+    return {
+        **head_object(result),
+        "members": [list(pair) for pair in result.pairs],
+        "look_at": result.advice,
+        "why": result.kept_apart.heading if result.kept_apart else "",
+        "traces": result.trace_count,
+        "first_traces": list(result.traces),
+    }
+
+
+# ---- reading ----
+
+
+def numbers_from(found: Object) -> Numbers:
+    cycles = found["cycles"]
+    return Numbers(found["events"], found["threads"], found["locks"], found["dependencies"], cycles["confirmed"], cycles["potential"],
+                   cycles["tried"], found["happened"], found["seconds"])
+
+
+def result_from(found: Object, root: Root) -> Result:
+    """Returns the result of a group in a summary, without its fingerprint and its state."""
+    witness, apart = found.get("witness"), found.get("kept_apart")
+    return Result(
+        verdict=Verdict(found["verdict"]),
+        members=tuple(member_from(member, root) for member in found["members"]),
+        advice=found["look_at"],
+        cycles=found["cycles"],
+        confirmed=found["confirmed"],
+        example=tuple(found["example"]),
+        witness=Witness(witness["events"], tuple(step_from(step, root) for step in witness["steps"]), witness["left_out_at_end"])
+        if witness else None,
+        kept_apart=KeptApart(apart["heading"], tuple(apart["sentences"]), apart["steps_left_out"], command=apart["command"]) if apart else None,
+    )
+
+
+def member_from(found: Object, root: Root) -> ResultMember:
+    return ResultMember(found["thread"], spot_from(found["holds"], root), spot_from(found["waits"], root), tuple(found["held"]),
+                        found["thread_name"])
+
+
+def spot_from(found: Object, root: Root) -> Spot:
+    return Spot(root.location(found["location"]), found["lock"], found["place"], tuple(found["callers"]), found["lock_name"])
+
+
+def step_from(found: Object, root: Root) -> WitnessStep:
+    location = root.location(found["location"]) if "location" in found else None
+    return WitnessStep(found["place"], found["thread"], found["event"], found["left_out_before"], location, tuple(found.get("callers", ())))

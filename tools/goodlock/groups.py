@@ -1,0 +1,191 @@
+"""Groups cycles by the code locations where their members hold and wait."""
+import re
+from collections import Counter
+from collections.abc import Iterable, Sequence
+from dataclasses import dataclass, field
+from typing import NamedTuple, Optional, Protocol, TypeVar
+
+from goodlock.reports import Cycle, Member, Report
+from goodlock.traces import Index
+
+LOCATION = re.compile(r"(.+?):([1-9][0-9]{0,8})(?::[0-9]+)?(?: in (.*))?")
+SHORT, MOST_GROUPS = 12, 10_000
+TRIED = "left out: a member does not wait, or not without end, since it tries to acquire its lock or has a timeout"
+
+
+class Side(NamedTuple):
+    """Where a member acquired the lock that the member before it wants, and where it waits: two places of the trace."""
+
+    hold: int
+    wait: int
+
+
+class Pair(NamedTuple):
+    """The code locations of a `Side`."""
+
+    hold: str
+    wait: str
+
+
+class Step(NamedTuple):
+    """A step of a witness, and how many events before it a short list leaves out."""
+
+    place: int
+    left_out: int
+
+
+class Location(NamedTuple):
+    """The parts of `bank.c:35 in transfer`; those that the text does not have are None."""
+
+    text: str
+    file: Optional[str]
+    line: Optional[int]
+    function: Optional[str]
+
+
+def location_of(text: str) -> Location:
+    match = LOCATION.fullmatch(text)
+    return Location(text, match[1], int(match[2]), match[3]) if match else Location(text, None, None, None)
+
+
+def key_of(pairs: Sequence[Pair]) -> tuple[Pair, ...]:
+    """Returns the locations of a cycle's members, from the member with which they are least."""
+    return min((*pairs[at:], *pairs[:at]) for at in range(len(pairs)))
+
+
+class Counted(Protocol):
+    """Cycles with the same locations, and a verdict."""
+
+    cycles: int
+    confirmed: int
+
+    @property
+    def is_confirmed(self) -> bool: ...
+
+
+Key = TypeVar("Key")
+Kept = TypeVar("Kept", bound=Counted)
+
+
+def merge(groups: dict[Key, Kept], key: Key, group: Kept) -> Kept:
+    """Counts a group with those of its key. The first confirmed one of a key is kept, or the first one if none is. Returns the kept one."""
+    kept = groups.setdefault(key, group)
+    if kept is not group:
+        kept, other = (group, kept) if group.is_confirmed and not kept.is_confirmed else (kept, group)
+        kept.cycles += other.cycles
+        kept.confirmed += other.confirmed
+        groups[key] = kept
+    return kept
+
+
+@dataclass
+class Group:
+    """Cycles with the same locations. `example` is the first confirmed one, or the first one if none is confirmed; `sides` has a side for
+    each of its members. `steps` are the events of its witness that a short list shows; `left_out` counts those after the last step."""
+
+    example: Cycle
+    sides: list[Side]
+    cycles: int
+    confirmed: int
+    steps: list[Step] = field(default_factory=list)
+    left_out: int = 0
+    witness_length: int = 0
+
+    @property
+    def is_confirmed(self) -> bool:
+        return self.example.is_confirmed
+
+    def take_steps(self, index: Index) -> None:
+        witness = self.example.witness
+        self.witness_length = len(witness)
+        shown = set(witness) if len(witness) <= SHORT else index.steps_to([side.wait for side in self.sides], near=1)
+        for place in witness:
+            if place in shown:
+                self.steps.append(Step(place, self.left_out))
+                self.left_out = 0
+            else:
+                self.left_out += 1
+
+    def locations(self, index: Index) -> list[Pair]:
+        """Returns for each member of the example the locations where it holds and waits."""
+        return pairs_of(index, self.sides)
+
+
+def sides_of(index: Index, members: list[Member]) -> list[Side]:
+    """Returns a side for each member, at its place, or at the first acquire with its dependency."""
+    instance = instance_of(index, members)
+    return [Side(index.since_of(place, members[at - 1].lock), place) for at, place in enumerate(instance)]
+
+
+def instance_of(index: Index, members: list[Member]) -> list[int]:
+    """Returns the place of each member: the one that the report gives, or else the first acquire with its dependency."""
+    return [index.places_of(member.dependency)[0] if member.place is None else member.place for member in members]
+
+
+def pairs_of(index: Index, sides: list[Side]) -> list[Pair]:
+    return [Pair(index.where(side.hold), index.where(side.wait)) for side in sides]
+
+
+class Groups:
+    """The groups of one report, in the order of the report. The first `whole` confirmed groups keep the witness of their example. At most
+    `most` groups begin with a confirmed cycle, and that many with a potential one: `further` and `further_confirmed` count the cycles
+    that would begin others. `tried` counts the cycles in which a member holds a mark."""
+
+    def __init__(self, index: Index, report: Report, whole: int = 0, most: int = MOST_GROUPS) -> None:
+        self.index, self.report, self.whole, self.most = index, report, whole, most
+        self.by_key: dict[tuple[Pair, ...], Group] = {}
+        self.begun: Counter[bool] = Counter()
+        self.confirmed_groups: list[Group] = []
+        self.tried, self.further, self.further_confirmed = 0, 0, 0
+
+    def add(self, cycle: Cycle) -> bool:
+        """Adds a cycle to its group, and returns whether it is in one."""
+        if self.is_tried(cycle):
+            self.tried += 1 + cycle.more
+            return False
+        sides = sides_of(self.index, cycle.members)
+        key = key_of(pairs_of(self.index, sides))
+        group = Group(cycle, sides, 1 + cycle.more, cycle.is_confirmed + cycle.more_confirmed)
+        if key not in self.by_key:
+            if self.begun[cycle.is_confirmed] == self.most:
+                self.further += group.cycles
+                self.further_confirmed += group.confirmed
+                return False
+            self.begun[cycle.is_confirmed] += 1
+        if merge(self.by_key, key, group) is group and group.is_confirmed:
+            group.take_steps(self.index)
+            self.confirmed_groups.append(group)
+            if len(self.confirmed_groups) > self.whole:
+                cycle.witness = []
+        return True
+
+    def is_tried(self, cycle: Cycle) -> bool:
+        marks = self.index.marks
+        return bool(marks) and any(lock in marks for member in cycle.members for lock in member.held)
+
+    def ordered(self) -> list[Group]:
+        """Returns the groups, confirmed ones first."""
+        return self.confirmed_groups + [group for group in self.by_key.values() if not group.is_confirmed]
+
+
+def groups_of(index: Index, reports: Iterable[tuple[Report, Optional[Cycle]]]) -> list[Groups]:
+    """Returns the groups of each report. `reports` yields reports and cycles, as `read_reports` does."""
+    found: list[Groups] = []
+    for report, cycle in reports:
+        if cycle is None:
+            found.append(Groups(index, report))
+        else:
+            found[-1].add(cycle)
+    return found
+
+
+def advice_for(pairs: Iterable[Pair]) -> str:
+    """Returns what to do about a confirmed group with these locations."""
+    distinct = set(pairs)
+    if any(location_of(text).file is None for pair in distinct for text in pair):
+        return "Acquire these locks in one order, or hold one lock around all of these acquires."
+    if len(distinct) == 1:
+        return ("One piece of code acquires its locks in an order that depends on its caller. Choose a fixed order, for example by "
+                "address, or hold one lock around both acquires.")
+    return (f"{len(distinct)} pieces of code acquire the same locks in different orders. Choose one order for all of them, or hold one "
+            "lock around each of them.")

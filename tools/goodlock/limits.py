@@ -1,0 +1,13 @@
+"""The limits of the formats (docs/formats.md), and the numbers that the agents choose (docs/agents.md). The tests compare
+agents/pthread/limits.h with it."""
+
+LARGEST = 4_294_967_295  # number of a thread, a lock or a variable
+MOST_EVENTS = 1_048_576
+MOST_THREADS = 1_024
+MOST_HELD = 32
+MOST_DEPTH = 255
+LEAST_BOUND, MOST_BOUND = 2, 8
+
+# In a window after the first one the program's first thread is FIRST_THREAD. Helpers are artificial threads. Markers are locks that mark
+# an acquire: one that does not wait from TRY_MARKERS on, one with a timeout from TIMED_MARKERS on.
+FIRST_THREAD, HELPERS, TRY_MARKERS, TIMED_MARKERS = 1_000_000_000, 2_000_000_000, 3_000_000_000, 3_500_000_000

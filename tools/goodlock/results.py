@@ -1,0 +1,366 @@
+"""What a format shows of a run: a result for each group of cycles and for a deadlock that happened, and the numbers of the run."""
+from __future__ import annotations
+
+import enum
+import hashlib
+from collections import Counter
+from collections.abc import Iterable, Sequence
+from dataclasses import dataclass, replace
+from typing import NamedTuple, Optional
+
+from goodlock.commandline import plural
+from goodlock.groups import Group, Groups, Location, Pair, advice_for
+from goodlock.locations import Root
+from goodlock.reports import Report
+from goodlock.traces import CALLED_BY, Index, description_of
+
+
+class Verdict(enum.Enum):
+    """What a result rests on. A deadlock that happened is the strongest evidence."""
+
+    POTENTIAL = "potential"
+    CONFIRMED = "confirmed"
+    HAPPENED = "happened"
+
+    @property
+    def is_certain(self) -> bool:
+        """Whether the run can deadlock so, or did."""
+        return self is not Verdict.POTENTIAL
+
+    @property
+    def rank(self) -> int:
+        return list(Verdict).index(self)
+
+
+class State(enum.Enum):
+    """Whether a result is new, is in the baseline, or is suppressed. A suppressed result may be in the baseline too."""
+
+    NEW = "new"
+    KNOWN = "known"
+    SUPPRESSED = "suppressed"
+
+
+TITLES = {
+    Verdict.POTENTIAL: "Potential deadlock",
+    Verdict.CONFIRMED: "Deadlock",
+    Verdict.HAPPENED: "Deadlock that happened",
+}
+
+
+def is_below_root(location: Location) -> bool:
+    return location.file is not None and not location.file.startswith(("/", "../"))
+
+
+def named(kind: str, number: int, name: Optional[str]) -> str:
+    """Returns `lock 1`, or `lock 1 (accounts)` if it has a name."""
+    return f"{kind} {number} ({name})" if name else f"{kind} {number}"
+
+
+@dataclass(frozen=True)
+class Spot:
+    """Where a thread acquired a lock or wants one. There is no place if the acquire never returned, and no lock if the thread waits for
+    the end of another one. `name` is that of the lock. `has_source`: the trace has the source line; else the location is made of the
+    thread and the lock."""
+
+    location: Location
+    lock: Optional[int] = None
+    place: Optional[int] = None
+    callers: tuple[str, ...] = ()
+    name: Optional[str] = None
+    has_source: bool = True
+
+    @property
+    def target(self) -> str:
+        """What a thread waits for here."""
+        return "the end of another thread" if self.lock is None else named("lock", self.lock, self.name)
+
+    @property
+    def source(self) -> str:
+        """The source line with its callers, or an empty text."""
+        return CALLED_BY.join((self.location.text, *self.callers)) if self.has_source else ""
+
+
+@dataclass(frozen=True)
+class ResultMember:
+    """A thread that waits while it holds what the member before it wants. `held` are all its locks."""
+
+    thread: int
+    hold: Spot
+    wait: Spot
+    held: tuple[int, ...] = ()
+    name: Optional[str] = None
+
+    @property
+    def title(self) -> str:
+        return named("thread", self.thread, self.name)
+
+    @property
+    def role(self) -> str:
+        """What it holds: a lock, or the end of its own thread, for which the member before it waits."""
+        return f"{'was started' if self.hold.lock is None else 'holds the lock acquired'} at {self.hold.location.text}"
+
+
+@dataclass(frozen=True)
+class WitnessStep:
+    """An event of a witness, and how many before it a short list leaves out. There is no location if the trace has none."""
+
+    place: int
+    thread: int
+    event: str
+    left_out: int = 0
+    location: Optional[Location] = None
+    callers: tuple[str, ...] = ()
+
+    @property
+    def source(self) -> str:
+        """The source line with its callers, or an empty text."""
+        return CALLED_BY.join((self.location.text, *self.callers)) if self.location else ""
+
+
+@dataclass(frozen=True)
+class Witness:
+    """An order of events that leads to the deadlock. `left_out` counts the events after the last step."""
+
+    events: int
+    steps: tuple[WitnessStep, ...]
+    left_out: int = 0
+
+
+@dataclass(frozen=True)
+class KeptApart:
+    """Why no order of the events leads to a potential deadlock: in a few words, step by step, and the command that prints it in full."""
+
+    heading: str
+    sentences: tuple[str, ...] = ()
+    left_out: int = 0
+    further: str = ""
+    command: str = ""
+    note: str = ""
+
+
+@dataclass(frozen=True)
+class Result:
+    """A group of cycles with the same code locations, or a deadlock that happened. `example` has the numbers of the cycle that the members
+    are of. `before` is the verdict in the baseline, `suppressed_by` the line of the suppressions. `traces` are the first traces with it,
+    of `trace_count`."""
+
+    verdict: Verdict
+    members: tuple[ResultMember, ...]
+    advice: str
+    cycles: int = 0
+    confirmed: int = 0
+    example: tuple[int, ...] = ()
+    witness: Optional[Witness] = None
+    kept_apart: Optional[KeptApart] = None
+    fingerprint: str = ""
+    state: State = State.NEW
+    before: Optional[Verdict] = None
+    suppressed_by: Optional[int] = None
+    traces: tuple[str, ...] = ()
+    trace_count: int = 1
+
+    @property
+    def rule(self) -> str:
+        return f"{self.verdict.value}-deadlock"
+
+    @property
+    def title(self) -> str:
+        return TITLES[self.verdict]
+
+    @property
+    def pairs(self) -> list[Pair]:
+        return [Pair(member.hold.location.text, member.wait.location.text) for member in self.members]
+
+    @property
+    def location(self) -> Location:
+        """The first location in a file below the root, where a member waits or else where one holds; or else that of the first wait."""
+        found = [member.wait.location for member in self.members] + [member.hold.location for member in self.members]
+        return next((location for location in found if is_below_root(location)), found[0])
+
+    @property
+    def counts(self) -> str:
+        """The number of cycles, and of traces if there are more: `3 cycles in 2 traces, 2 confirmed`. A deadlock that happened may have no
+        cycle."""
+        traces = f"in {self.trace_count:,} traces" if self.trace_count > 1 else ""
+        if not self.cycles:
+            return traces
+        return f"{plural(self.cycles, 'cycle')}{traces and ' '}{traces}, {self.confirmed:,} confirmed"
+
+    @property
+    def sides(self) -> str:
+        """Where each member holds and waits."""
+        return "; ".join(f"a thread that {member.role} waits at {member.wait.location.text}" for member in self.members)
+
+    @property
+    def message(self) -> str:
+        """The result as one paragraph."""
+        counts = f" ({self.counts})" if self.counts else ""
+        reason = f" {self.kept_apart.heading.rstrip('.')}." if self.kept_apart else ""
+        return f"{self.title}: {self.sides}{counts}.{reason} {self.advice}"
+
+
+@dataclass(frozen=True)
+class Numbers:
+    """The size of a run, and its cycles. `tried` ones have a member that does not wait without end."""
+
+    events: int = 0
+    threads: int = 0
+    locks: int = 0
+    dependencies: int = 0
+    confirmed: int = 0
+    potential: int = 0
+    tried: int = 0
+    happened: int = 0
+    seconds: float = 0.0
+
+
+class LeftOut(NamedTuple):
+    """Cycles that are in no group: a member does not wait without end, or there are too many groups."""
+
+    tried: int = 0
+    further: int = 0
+    further_confirmed: int = 0
+
+
+@dataclass(frozen=True)
+class Question:
+    """The results of one report."""
+
+    report: Report
+    results: tuple[Result, ...] = ()
+    left_out: LeftOut = LeftOut()
+    notes: tuple[str, ...] = ()
+
+
+@dataclass(frozen=True)
+class Run:
+    """The results of the reports on a trace, or of many traces, in the order of `ordered`. `name` is that of the trace or the folder. A
+    format shows the first `most` results that are not suppressed. `notes` say what was not examined, `faults` why a trace has no report.
+    `suppressions` is the name of a file relative to the root, `unused` are its lines that suppress nothing."""
+
+    name: str
+    results: tuple[Result, ...] = ()
+    numbers: Numbers = Numbers()
+    left_out: LeftOut = LeftOut()
+    most: int = 200
+    notes: tuple[str, ...] = ()
+    faults: tuple[tuple[str, str], ...] = ()
+    suppressions: Optional[str] = None
+    unused: tuple[int, ...] = ()
+    has_baseline: bool = False
+
+    def with_state(self, state: State) -> list[Result]:
+        return [result for result in self.results if result.state is state]
+
+    @property
+    def shown(self) -> list[Result]:
+        return kept(self.results)[:self.most]
+
+    @property
+    def remarks(self) -> list[str]:
+        """What a reader must know beside the results: what was not examined, and which suppressions are not used."""
+        found = [*self.notes, *(f"{trace}: {fault}" for trace, fault in self.faults)]
+        if self.left_out.further:
+            found.append(f"{plural(self.left_out.further, 'cycle')} in too many further groups, {self.left_out.further_confirmed:,} confirmed")
+        if len(kept(self.results)) > self.most:
+            found.append(f"{plural(len(kept(self.results)) - self.most, 'group')} not shown")
+        return found + [f"{self.suppressions} line {number} suppresses nothing" for number in self.unused]
+
+
+def kept(results: Iterable[Result]) -> list[Result]:
+    """Returns the results that are not suppressed."""
+    return [result for result in results if result.state is not State.SUPPRESSED]
+
+
+def ordered(results: Iterable[Result]) -> list[Result]:
+    """Returns the results: new ones first, then the known ones and those suppressed, of each state the strongest evidence first."""
+    return sorted(results, key=lambda result: (list(State).index(result.state), -result.verdict.rank))
+
+
+def headline(results: Sequence[Result]) -> str:
+    """Returns how many results are new, known and suppressed."""
+    counts = [(sum(result.state is state for result in results), state.value) for state in State]
+    found = ", ".join(f"{count:,} {word}" for count, word in counts if count)
+    return found or "none"
+
+
+# ---- from groups ----
+
+
+def spot_of(index: Index, place: int, lock: int, root: Root) -> Spot:
+    location, name = root.location(index.where(place)), index.names.get(("lock", lock))
+    return Spot(location, lock, place, callers_of(index, place), name, bool(index.events[place].where))
+
+
+def callers_of(index: Index, place: int) -> tuple[str, ...]:
+    return tuple((index.events[place].where or "").split(CALLED_BY)[1:])
+
+
+def result_of(index: Index, group: Group, root: Root) -> Result:
+    """Returns the result of a group. One that is not confirmed gets its reason by `explained`."""
+    members = group.example.members
+    return Result(
+        verdict=Verdict.CONFIRMED if group.is_confirmed else Verdict.POTENTIAL,
+        members=tuple(
+            ResultMember(member.thread, spot_of(index, side.hold, members[at - 1].lock, root), spot_of(index, side.wait, member.lock, root),
+                         member.held, index.names.get(("thread", member.thread)))
+            for at, (member, side) in enumerate(zip(members, group.sides))),
+        advice=advice_for(group.locations(index)) if group.is_confirmed else "Acquire the locks in one order.",
+        cycles=group.cycles,
+        confirmed=group.confirmed,
+        example=group.example.numbers,
+        witness=witness_of(index, group, root) if group.is_confirmed else None,
+        traces=(index.file,) if index.file else (),
+    )
+
+
+def witness_of(index: Index, group: Group, root: Root) -> Witness:
+    steps = []
+    for place, left_out in group.steps:
+        event = index.events[place]
+        location = root.location(index.where(place)) if event.where else None
+        steps.append(WitnessStep(place, event.thread, description_of(event), left_out, location, callers_of(index, place)))
+    return Witness(group.witness_length, tuple(steps), group.left_out)
+
+
+def numbers_of(index: Index, groups: Groups, happened: int, seconds: float) -> Numbers:
+    """Returns the numbers of a trace, and the cycles of one report on it. A marker is no lock."""
+    locks = {event.target for event in index.events if event.letter == "a"}
+    confirmed = sum(group.confirmed for group in groups.by_key.values()) + groups.further_confirmed
+    return Numbers(
+        events=len(index.events),
+        threads=1 + len(index.fork_of),
+        locks=len(locks - index.marks),
+        dependencies=len(index.dependencies),
+        confirmed=confirmed,
+        potential=sum(group.cycles for group in groups.by_key.values()) + groups.further - confirmed,
+        tried=groups.tried,
+        happened=happened,
+        seconds=seconds,
+    )
+
+
+# ---- fingerprints ----
+
+
+def fingerprint_of(pairs: Sequence[Pair], root: Root) -> str:
+    """Returns a name of the locations without their lines, from the member with which they are least: it outlives an edit elsewhere."""
+    key = [tuple(place_of(root.location(text)) for text in pair) for pair in pairs]
+    least = min(key[at:] + key[:at] for at in range(len(key)))
+    return hashlib.sha256(repr(least).encode("utf-8", "replace")).hexdigest()
+
+
+def place_of(location: Location) -> str:
+    return f"{location.file} in {location.function}" if location.function else location.text
+
+
+def numbered(results: Sequence[Result], root: Root) -> list[Result]:
+    """Returns the results with fingerprints. Those with the same functions are numbered from 1, the strongest evidence first: so the
+    numbers do not depend on how a tool orders them."""
+    seen: Counter[str] = Counter()
+    found = list(results)
+    for at, _ in sorted(enumerate(results), key=lambda item: -item[1].verdict.rank):
+        fingerprint = fingerprint_of(found[at].pairs, root)
+        seen[fingerprint] += 1
+        found[at] = replace(found[at], fingerprint=f"{fingerprint}:{seen[fingerprint]}")
+    return found

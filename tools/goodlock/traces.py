@@ -1,0 +1,376 @@
+"""Reads traces as `goodlockd offline` or `script` reads them, checks each event, and indexes them by thread and dependency."""
+import re
+from array import array
+from bisect import bisect_left
+from collections import defaultdict
+from collections.abc import Iterator
+from dataclasses import dataclass, field
+from functools import cached_property
+from typing import NamedTuple, Optional
+
+from goodlock.errors import InputError, fault_of_text, shown
+from goodlock.limits import LARGEST, MOST_DEPTH, MOST_EVENTS, MOST_HELD, MOST_THREADS
+
+NUMBER = r"(0|[1-9][0-9]{0,9})"
+EVENT = re.compile(NUMBER + "([fjardw])" + NUMBER)
+SPELT = re.compile("([0-9]+)[fjardw]([0-9]+)")
+SCRIPT_LINE = re.compile(rf"(ask|work|answer|status) +{NUMBER}|deliver +{NUMBER} +{NUMBER}")
+NAME = re.compile(rf"# (thread|lock) {NUMBER} is (.*)")
+MARK = re.compile(rf"# mark {NUMBER}")
+VERBS = {"f": "forks thread", "j": "joins thread", "a": "acquires lock", "r": "releases lock", "d": "reads", "w": "writes"}
+CALLED_BY = " < "  # between a source line and that of its caller
+
+
+class Event(NamedTuple):
+    """One event. `where` is its source line with its callers, if the trace has it."""
+
+    thread: int
+    letter: str
+    target: int
+    where: Optional[str] = None
+
+
+@dataclass
+class Trace:
+    """`names` maps ("thread", 1) and ("lock", 1) to names; `marks` are the locks that mark acquires which do not wait without end. `file`
+    is the name of the file, or None if it is a script, which has other lines too."""
+
+    events: list[Event] = field(default_factory=list)
+    names: dict[tuple[str, int], str] = field(default_factory=dict)
+    marks: set[int] = field(default_factory=set)
+    file: Optional[str] = None
+
+
+def description_of(event: Event) -> str:
+    """Returns what an event does: `acquires lock 10`."""
+    return f"{VERBS[event.letter]} {event.target}"
+
+
+def source_of(event: Event) -> str:
+    """Returns the event's source line without folders, `bank.c:35`, or an empty text if the trace has none."""
+    return event.where.split(" in ")[0].rsplit("/", 1)[-1] if event.where else ""
+
+
+def lines_of(name: str) -> Iterator[str]:
+    """Yields the lines of a file without their line feeds."""
+    with open(name, encoding="utf-8", errors="replace", newline="\n") as file:
+        for line in file:
+            yield line[:-1] if line.endswith("\n") else line
+
+
+def fault_of_word(word: str) -> str:
+    """Returns why a word of a trace is no event."""
+    if fault := fault_of_text(word):
+        return fault
+    if word.startswith("#"):
+        return "text after an event: a comment has a line of its own"
+    match = SPELT.fullmatch(word)
+    for number in match.groups() if match else ():
+        if number.startswith("0") and number != "0":
+            return "leading zero"
+        if len(number) > 10 or int(number) > LARGEST:
+            return f"number above {LARGEST}"
+    return "not an event, which is a thread, one of the letters f j a r d w, and an object, as in 1a10"
+
+
+class AdmissionCheck:
+    """Decides which events are lawful after the accepted ones. A refused event is not in the trace."""
+
+    def __init__(self, most_threads: int = MOST_THREADS) -> None:
+        self.most_threads, self.accepted = most_threads, 0
+        self.forked, self.joined = {0}, set[int]()
+        self.holder: dict[int, int] = {}
+        self.since: dict[int, int] = {}  # of a held lock: the place of its outermost acquire
+        self.depths: dict[int, dict[int, int]] = {}
+
+    def refusal_of(self, thread: int, letter: str, target: int) -> Optional[str]:
+        """Returns the name of the refusal, or None if the event is lawful."""
+        if thread not in self.forked:
+            return "Unforked"
+        if thread in self.joined:
+            return "Ended"
+        if letter == "f":
+            if target in self.forked:
+                return "AlreadyForked"
+            return "TooManyThreads" if len(self.forked) == self.most_threads else None
+        if letter == "j":
+            if target == thread:
+                return "JoinsItself"
+            if target == 0 or target not in self.forked:
+                return "JoinUnknown"
+            return "JoinedTwice" if target in self.joined else None
+        if letter == "a":
+            mine = self.depths.get(thread, {})
+            if mine.get(target) == MOST_DEPTH:
+                return "TooNested"
+            if self.holder.get(target, thread) != thread:
+                return "HeldByOther"
+            return "TooDeep" if target not in mine and len(mine) == MOST_HELD else None
+        return "NotHeld" if letter == "r" and target not in self.depths.get(thread, {}) else None
+
+    def accept(self, thread: int, letter: str, target: int) -> None:
+        """Accepts a lawful event."""
+        if letter == "f":
+            self.forked.add(target)
+        elif letter == "j":
+            self.joined.add(target)
+        elif letter == "a":
+            mine = self.depths.setdefault(thread, {})
+            if target not in mine:
+                self.holder[target], self.since[target] = thread, self.accepted
+            mine[target] = mine.get(target, 0) + 1
+        elif letter == "r":
+            mine = self.depths[thread]
+            mine[target] -= 1
+            if mine[target] == 0:
+                del mine[target], self.holder[target], self.since[target]
+        self.accepted += 1
+
+    def reason_of(self, refusal: str, thread: int, target: int) -> str:
+        """Returns a refusal as a sentence."""
+        reasons = {
+            "Full": f"the trace has {MOST_EVENTS} events, the most",
+            "Unforked": f"thread {thread} is not forked",
+            "Ended": f"thread {thread} has been joined",
+            "AlreadyForked": f"thread {target} is forked already" if target else "thread 0 exists from the beginning",
+            "TooManyThreads": f"there are {self.most_threads} threads, the most",
+            "JoinsItself": f"thread {thread} joins itself",
+            "JoinUnknown": f"thread {target} is not forked" if target else "thread 0 cannot be joined",
+            "JoinedTwice": f"thread {target} has been joined already",
+            "TooNested": f"thread {thread} has acquired lock {target} {MOST_DEPTH} times, the most",
+            "HeldByOther": f"thread {self.holder.get(target)} holds lock {target} since place {self.since.get(target)}",
+            "TooDeep": f"thread {thread} holds {MOST_HELD} locks, the most",
+            "NotHeld": f"thread {thread} does not hold lock {target}",
+        }
+        return reasons[refusal]
+
+
+class EventReader:
+    """Reads the lines of an event file one after another. A comment `# at WHERE` is the source line of the events after it."""
+
+    def __init__(self, name: str) -> None:
+        self.name, self.number, self.trace = name, 0, Trace()
+        self.where: Optional[str] = None
+        self.known: dict[str, Event] = {}  # the words that were read at this source line: equal events share one object
+        self.known_at: dict[Optional[str], dict[str, Event]] = {None: self.known}
+
+    def events_of(self, line: str) -> list[Event]:
+        """Returns the events of the next line."""
+        self.number += 1
+        if line in self.known:
+            return [self.known[line]]
+        words = words_of(line)
+        if words and not words[0].startswith("#"):
+            return [self.event_of(word) for word in words]
+        self.take_comment(line, words)
+        return []
+
+    def take_comment(self, line: str, words: list[str]) -> None:
+        if words[:2] == ["#", "at"]:
+            self.where = " ".join(words[2:])
+            self.known = self.known_at.setdefault(self.where, {})
+        elif match := NAME.fullmatch(line):
+            self.trace.names[match[1], int(match[2])] = match[3]
+        elif match := MARK.fullmatch(line):
+            self.trace.marks.add(int(match[1]))
+
+    def event_of(self, word: str) -> Event:
+        if word in self.known:
+            return self.known[word]
+        match = EVENT.fullmatch(word)
+        if not match or int(match[1]) > LARGEST or int(match[3]) > LARGEST:
+            raise InputError(self.name, self.number, f"{shown(word)}: {fault_of_word(word)}")
+        event = self.known[word] = Event(int(match[1]), match[2], int(match[3]), self.where)
+        return event
+
+
+def words_of(line: str) -> list[str]:
+    return [word for word in line.split(" ") if word]
+
+
+def events_in(name: str) -> Iterator[Event]:
+    """Yields the events of an event file, lawful or not."""
+    reader = EventReader(name)
+    for line in lines_of(name):
+        yield from reader.events_of(line)
+
+
+class TraceReader(EventReader):
+    """Reads the lines of an event file or a script, and accepts the lawful events. `refused` is the fault of the first event that is not
+    lawful, `refused_at` the number of events before it."""
+
+    def __init__(self, name: str) -> None:
+        super().__init__(name)
+        self.check, self.is_script, self.refused_at = AdmissionCheck(), False, 0
+        self.refused: Optional[InputError] = None
+
+    def take(self, line: str) -> None:
+        words = words_of(line) if line.lstrip(" ")[:1].isalpha() else []
+        if not words:
+            for event in self.events_of(line):
+                self.take_event(event)
+        elif words[0] == "batch":  # the events after a refused one are not tried
+            self.is_script = True
+            all(self.take_event(event) for event in self.events_of(" ".join(words[1:])))
+        elif SCRIPT_LINE.fullmatch(" ".join(words)):
+            self.is_script = True
+            self.number += 1
+        else:
+            self.events_of(line)  # raises
+
+    def take_event(self, event: Event) -> bool:
+        """Takes an event, and returns whether it is lawful."""
+        thread, letter, target, _ = event
+        refusal = self.check.refusal_of(thread, letter, target)
+        if len(self.trace.events) == MOST_EVENTS:
+            refusal = "Full"
+        if refusal and not self.refused:
+            word, reason = f"{thread}{letter}{target}", self.check.reason_of(refusal, thread, target)
+            self.refused, self.refused_at = InputError(self.name, self.number, f"{word}: {reason}"), len(self.trace.events)
+        if refusal:
+            return False
+        self.check.accept(thread, letter, target)
+        self.trace.events.append(event)
+        return True
+
+
+def read_whole(name: str) -> TraceReader:
+    """Returns the reader of a file at its end."""
+    reader = TraceReader(name)
+    for line in lines_of(name):
+        reader.take(line)
+    return reader
+
+
+def read_trace(name: str) -> Trace:
+    """Returns the accepted events of a file, with the names and marks that its comments give. In a file that is no script each event
+    must be lawful."""
+    reader = read_whole(name)
+    if reader.refused and not reader.is_script:
+        raise reader.refused
+    reader.trace.file = None if reader.is_script else name
+    return reader.trace
+
+
+def fault_in(name: str) -> Optional[InputError]:
+    """Returns the first fault of an event file, or None if goodlockd accepts it."""
+    try:
+        read_trace(name)
+    except InputError as fault:
+        return fault
+    return None
+
+
+class Dependency(NamedTuple):
+    """What an acquire needs of its thread: it acquires a lock while it holds others."""
+
+    thread: int
+    lock: int
+    held: tuple[int, ...]  # ascending
+
+
+class Index:
+    """A trace by thread and dependency. `held` maps each acquire of a thread that holds other locks to these locks, and `since` to the
+    places where the thread acquired them. Inner acquires are in neither."""
+
+    def __init__(self, trace: Trace) -> None:
+        self.events, self.names, self.marks, self.file = trace.events, trace.names, trace.marks, trace.file
+        self.thread_places: dict[int, array[int]] = defaultdict(lambda: array("I"))
+        self.held: dict[int, tuple[int, ...]] = {}
+        self.since: dict[int, tuple[int, ...]] = {}
+        self.fork_of: dict[int, int] = {}
+        self.dependencies: dict[Dependency, list[int]] = defaultdict(list)
+        self.index_events()
+
+    def index_events(self) -> None:
+        depths: dict[int, dict[int, int]] = defaultdict(dict)
+        begun: dict[int, int] = {}  # of a held lock: its outermost acquire
+        for place, (thread, letter, target, _) in enumerate(self.events):
+            self.thread_places[thread].append(place)
+            if letter == "a":
+                mine = depths[thread]
+                if target not in mine:
+                    if mine:
+                        self.index_acquire(place, Dependency(thread, target, tuple(sorted(mine))), begun)
+                    mine[target] = 0
+                    begun[target] = place
+                mine[target] += 1
+            elif letter == "r":
+                mine = depths[thread]
+                mine[target] -= 1
+                if mine[target] == 0:
+                    del mine[target]
+            elif letter == "f":
+                self.fork_of[target] = place
+
+    def index_acquire(self, place: int, dependency: Dependency, begun: dict[int, int]) -> None:
+        places = self.dependencies[dependency]
+        self.held[place] = self.held[places[0]] if places else dependency.held  # equal ones share one object
+        self.since[place] = tuple([begun[lock] for lock in dependency.held])
+        places.append(place)
+
+    @cached_property
+    def sections(self) -> dict[int, Optional[int]]:
+        """Maps each outermost acquire to its release, or to None."""
+        found: dict[int, Optional[int]] = {}
+        begun: dict[int, tuple[int, int]] = {}  # of a held lock: its outermost acquire and its depth
+        for place, (_, letter, target, _) in enumerate(self.events):
+            if letter == "a":
+                begin, depth = begun.get(target, (place, 0))
+                begun[target] = begin, depth + 1
+                found.setdefault(begin, None)
+            elif letter == "r":
+                begin, depth = begun.pop(target)
+                if depth == 1:
+                    found[begin] = place
+                else:
+                    begun[target] = begin, depth - 1
+        return found
+
+    @cached_property
+    def ends(self) -> set[int]:
+        """The releases of outermost acquires."""
+        return {place for place in self.sections.values() if place is not None}
+
+    def __len__(self) -> int:
+        return len(self.events)
+
+    def places_of(self, dependency: Dependency) -> list[int]:
+        """Returns the places of the acquires with this dependency."""
+        return self.dependencies.get(dependency, [])
+
+    def is_acquire_of(self, dependency: Dependency, place: int) -> bool:
+        """Returns whether an acquire with this dependency is at a place."""
+        event = self.events[place]
+        return (event.thread, event.target) == dependency[:2] and self.held.get(place) == dependency.held
+
+    def since_of(self, place: int, lock: int) -> int:
+        """Returns the place where the thread of an outermost acquire acquired a lock that it held there."""
+        return self.since[place][self.held[place].index(lock)]
+
+    def where(self, place: int) -> str:
+        """Returns the source line of an event, without its callers; if the trace has none, its thread and its lock."""
+        event = self.events[place]
+        if event.where:
+            return event.where.split(CALLED_BY)[0]
+        return f"{self.name_of('thread', event.thread)} {self.name_of('lock', event.target)}"
+
+    def name_of(self, kind: str, number: int) -> str:
+        """Returns `thread 1` or `lock 1`, with the name that a comment of the trace gives it."""
+        name = self.names.get((kind, number))
+        return f"{kind} {number} ({name})" if name else f"{kind} {number}"
+
+    def steps_to(self, instance: list[int], near: int = 2) -> set[int]:
+        """Returns the places that a short list shows of the way to an instance: the forks that lead to its threads, the acquires of their
+        held locks, and the `near` events right before their acquires."""
+        steps: set[int] = set()
+        for place in instance:
+            thread = self.events[place].thread
+            steps.update(self.since.get(place, ()))
+            mine = self.thread_places[thread]
+            at = bisect_left(mine, place)
+            steps.update(mine[max(0, at - near):at])
+            while thread in self.fork_of:
+                steps.add(self.fork_of[thread])
+                thread = self.events[self.fork_of[thread]].thread
+        return steps
