@@ -1,17 +1,16 @@
 //! Tests in which at most one allocation fails: each call that fails with `NoMemory` is repeated.
 //! The tests pass if no allocation fails; `tests/refused` makes each allocation fail in turn.
 
-use crate::delivery_tests::{FIRST, FindingSource, SECOND};
-use crate::desk_calls::{answer, ask, is_report, missing, offer};
+use crate::book_tests::{FIRST, FindingSource, SECOND, is_report};
 use crate::desk_scripts::{Script, try_run_at_desk};
-use crate::test_desk::{TestDesk, TestReader, TestWorker};
+use crate::fixtures::{
+    ANSWER, ASKED, LIMIT, OPENED, OPPOSITE_EVENTS, REPLIES, REPORT, REPORT_HEAD, REQUESTS,
+};
+use crate::test_desk::{TestDesk, TestReader, TestWorker, ask, offer};
 use crate::workers::workers_at;
 use board::QuestionSummary;
 use desk::{Turn, TurnFailure};
 use findings::{Finding, NoHold};
-use fixtures::{
-    ANSWER, LIMIT, OPENED, REPORT, REPORT_HEAD, opposite_orders, placed, question_frames,
-};
 use sequencer::{AnswerRefused, AskRefused, Input, PlayRefused, Played, Session, play};
 use std::alloc::Global;
 use std::hash::RandomState;
@@ -40,14 +39,20 @@ fn push_inputs(
     session: Session,
     inputs: &mut Vec<Input>,
 ) -> Option<()> {
-    push_piece(inputs, session, question_frames(rt.alloc()).ok())?;
+    push_piece(rt.alloc(), inputs, session, &REQUESTS[..ASKED])?;
     push_findings(rt, inputs)?;
-    push_piece(inputs, session, Vec::from_slice(rt.alloc(), &ANSWER).ok())
+    push_piece(rt.alloc(), inputs, session, &ANSWER)
 }
 
-/// Adds a piece of these bytes. Returns `None` if `bytes` is `None`, or an allocation fails.
-fn push_piece(inputs: &mut Vec<Input>, session: Session, bytes: Option<Vec<u8>>) -> Option<()> {
-    inputs.push(Input::Piece(session, bytes?)).ok()
+/// Adds a piece of these bytes. Returns `None` if an allocation fails.
+fn push_piece(
+    alloc: Global,
+    inputs: &mut Vec<Input>,
+    session: Session,
+    bytes: &[u8],
+) -> Option<()> {
+    let bytes = Vec::from_slice(alloc, bytes).ok()?;
+    inputs.push(Input::Piece(session, bytes)).ok()
 }
 
 /// Returns the inputs of a run with one session: the frames of the events and of a question, the
@@ -61,15 +66,10 @@ fn inputs(rt: &(impl RandomSource + AllocGlobal), session: Session) -> Option<Ve
 /// were accepted, and the answer is the report.
 fn is_full(run: &Played, session: Session) -> bool {
     let sent = run.sent(session);
-    let mut right = sent.len() == 276;
-    for place in 0..10u8 {
-        let start = 9 * place as usize;
-        right &= sent.get(start..start + 9) == Some(placed(place).as_slice());
-    }
-    right &= sent.get(90..107) == Some(OPENED.as_slice());
-    right &= sent.get(107..116) == Some(REPORT_HEAD.as_slice());
-    right &= sent.get(116..) == Some(REPORT);
-    right && matches!(run.deliveries(), [Ok(()), Ok(())])
+    sent.get(..OPENED) == Some(&REPLIES[..OPENED])
+        && sent.get(107..116) == Some(REPORT_HEAD.as_slice())
+        && sent.get(116..) == Some(REPORT)
+        && matches!(run.deliveries(), [Ok(()), Ok(())])
 }
 
 #[test]
@@ -123,9 +123,7 @@ fn offers_with_retry<D: TestDesk, R: Abort>(
 /// board.
 fn asks_with_retry<D: TestDesk, R: Abort>(rt: &R, desk: &D, reader: &mut D::Reader) {
     let before = board_state(reader);
-    let (first, receipt) = desk.ask(2);
-    D::learn(reader, &receipt);
-    drop(receipt);
+    let first = ask(desk, 2);
     if first.is_ok() {
         return;
     }
@@ -150,7 +148,7 @@ fn delivers<D: TestDesk, R: Abort>(
     }
     assert_eq!(rt; turn, Turn::Failed(TurnFailure::NoMemory));
     assert_eq!(rt; board_state(reader), before);
-    assert_eq!(rt; missing(desk, 0), Some(Some(done)));
+    assert_eq!(rt; desk.missing(), Some(Some(done)));
     false
 }
 
@@ -179,10 +177,10 @@ fn works_with_retry<D: TestDesk, R: Abort>(
 /// the board.
 fn answers_with_retry<D: TestDesk, R: Abort>(rt: &R, desk: &D, reader: &mut D::Reader) {
     let before = board_state(reader);
-    let mut first = answer(desk);
+    let mut first = desk.answer();
     if matches!(first, Err(AnswerRefused::NoMemory)) {
         assert_eq!(rt; board_state(reader), before);
-        first = answer(desk);
+        first = desk.answer();
     }
     assert!(rt; is_report(&first, REPORT));
 }
@@ -222,7 +220,7 @@ fn completes_question<D: TestDesk, R: Abort>(
     reader: &mut D::Reader,
     worker: &mut D::Worker,
 ) {
-    for event in opposite_orders() {
+    for event in OPPOSITE_EVENTS {
         offers_with_retry(rt, desk, reader, event);
     }
     asks_with_retry(rt, desk, reader);

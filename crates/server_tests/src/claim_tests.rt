@@ -62,10 +62,3 @@ fn four_threads_draw_a_thousand_each(rt: HostRuntime) -> Result<(), Fail> {
     assert!(rt; totals[0] == 4000 && totals[1] == 0 && totals[255] == 0);
     Ok(())
 }
-
-#[test]
-fn sixty_four_claimants_draw_ten_each(rt: HostRuntime) -> Result<(), Fail> {
-    let totals = race(&rt, rt.alloc(), 64, 255, 10)?;
-    assert!(rt; totals[255] == 640 && totals[0] == 0 && totals[254] == 0);
-    Ok(())
-}

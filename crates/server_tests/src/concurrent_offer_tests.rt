@@ -1,8 +1,7 @@
 //! Tests of a desk to which several threads offer single events or batches.
 
-use crate::desk_calls::accepted;
 use crate::desk_scripts::{Script, run_at_desk};
-use crate::test_desk::TestDesk;
+use crate::test_desk::{TestDesk, accepted};
 use std::alloc::{AllocError, Global};
 use std::process::Abort;
 use std::test::*;
@@ -28,33 +27,34 @@ const WRITE: Event = Event {
     op: Op::Write(1),
 };
 
-/// Offers single events. Returns their places and the receipts.
-fn offers_single<D: TestDesk>(alloc: Global, desk: &D) -> Result<Offered<D>, AllocError> {
-    let mut places = Vec::new(alloc);
-    let mut receipts = Vec::new(alloc);
-    for _ in 0..100 {
-        let (answer, receipt) = desk.offer(WRITE);
-        receipts.push(receipt)?;
-        if let Ok(place) = answer {
-            places.push(place.get())?;
+impl Offers {
+    /// Returns the number of offers of a thread, of events of an offer, and of events of all eight
+    /// threads.
+    fn numbers(self) -> (u32, u32, u32) {
+        match self {
+            Offers::Single => (100, 1, 800),
+            Offers::Batches => (10, 64, 5_120),
         }
     }
-    Ok((places, receipts))
 }
 
-/// Offers batches. Returns the first place of each batch that is accepted completely, and the
-/// receipts.
-fn offers_batches<D: TestDesk>(alloc: Global, desk: &D) -> Result<Offered<D>, AllocError> {
-    let mut places = Vec::new(alloc);
-    let mut receipts = Vec::new(alloc);
-    for _ in 0..10 {
-        let (batched, receipt) = desk.offer_batch(&[WRITE; MAX_BATCH]);
-        receipts.push(receipt)?;
-        if usize::from(batched.accepted) == MAX_BATCH && batched.refusal.is_none() {
-            places.push(batched.length)?;
+/// Offers an event or a batch. Returns the place of its first event if all are accepted, and the
+/// receipt.
+fn offers_once<D: TestDesk>(desk: &D, how: Offers) -> (Option<u32>, D::Receipt) {
+    match how {
+        Offers::Single => {
+            let (answer, receipt) = desk.offer(WRITE);
+            match answer {
+                Ok(place) => (Some(place.get()), receipt),
+                Err(_) => (None, receipt),
+            }
+        }
+        Offers::Batches => {
+            let (batched, receipt) = desk.offer_batch(&[WRITE; MAX_BATCH]);
+            let are_accepted = usize::from(batched.accepted) == MAX_BATCH;
+            (are_accepted.then_some(batched.length), receipt)
         }
     }
-    Ok((places, receipts))
 }
 
 /// Offers the events of one thread. Returns the places and the receipts.
@@ -63,10 +63,17 @@ fn offer_events<D: TestDesk>(
     desk: &D,
     how: Offers,
 ) -> Result<Offered<D>, AllocError> {
-    match how {
-        Offers::Single => offers_single(alloc, desk),
-        Offers::Batches => offers_batches(alloc, desk),
+    let mut places = Vec::new(alloc);
+    let mut receipts = Vec::new(alloc);
+    let (offers, _, _) = how.numbers();
+    for _ in 0..offers {
+        let (place, receipt) = offers_once(desk, how);
+        receipts.push(receipt)?;
+        if let Some(place) = place {
+            places.push(place)?;
+        }
     }
+    Ok((places, receipts))
 }
 
 #[test]
@@ -107,13 +114,9 @@ fn learn_offered<D: TestDesk>(
     before.extend_from_slice(&given)
 }
 
-/// Returns whether these are the expected places, ascending: the first 800 places, or the first
-/// places of 80 batches.
+/// Returns whether these are the places of all offers, ascending.
 fn are_expected_places(places: &[u32], how: Offers) -> bool {
-    let (count, size) = match how {
-        Offers::Single => (800, 1),
-        Offers::Batches => (80, 64),
-    };
+    let (_, size, total) = how.numbers();
     let mut expected = 0u32;
     for place in places {
         if *place != expected {
@@ -121,15 +124,7 @@ fn are_expected_places(places: &[u32], how: Offers) -> bool {
         }
         expected = expected.wrapping_add(size);
     }
-    places.len() == count
-}
-
-/// Returns the number of events that all threads offer.
-fn total_offered(how: Offers) -> u32 {
-    match how {
-        Offers::Single => 800,
-        Offers::Batches => 5_120,
-    }
+    expected == total
 }
 
 /// Offers events from eight threads concurrently. Returns the places, ascending. The reader learns
@@ -156,6 +151,7 @@ pub(crate) fn accepts_concurrent_offers<D: TestDesk, R: Threads + Abort + Sync>(
 ) -> Result<(), Fail> {
     let places = places_of_concurrent_offers(rt, alloc, desk, reader, how)?;
     assert!(rt; are_expected_places(&places, how));
-    assert_eq!(rt; accepted(reader), Some(total_offered(how)));
+    let (_, _, total) = how.numbers();
+    assert_eq!(rt; accepted(reader), Some(total));
     Ok(())
 }

@@ -1,145 +1,35 @@
 //! Tests of the delivery of valid and invalid findings: one by one, as lists, and by several
 //! threads.
 
-use crate::desk_calls::asks_about_opposite_orders;
+use crate::book_tests::{FIRST, FindingKey, FindingSource, SECOND, is_report};
 use crate::desk_scripts::{Script, run_at_desk};
-use crate::test_desk::{TestDesk, TestReader};
-use findings::{Finding, Snapshot};
-use fixtures::{LIMIT, event, opposite_orders};
-use sequencer::{Book, Delivered};
+use crate::fixtures::REPORT;
+use crate::test_desk::{TestDesk, TestReader, ask, asks_about_opposite_orders};
+use findings::Finding;
+use sequencer::Delivered;
 use std::alloc::{AllocError, Global};
-use std::hash::RandomState;
 use std::process::Abort;
 use std::random::RandomSource;
-use std::sync::Arc;
 use std::test::*;
 use std::thread;
 use std::thread::Threads;
-use trace_model::{Bound, Event, Op, Refusal};
+use trace_model::Refusal;
 
 const THREADS: usize = 8;
 
-/// The question, the bound and the task of a finding. If `has_other_end`, the finding covers events
-/// that differ from the trace in the last one.
-#[derive(Clone, Copy)]
-pub(crate) struct FindingKey {
-    question: u32,
-    bound: u8,
-    task: u32,
-    has_other_end: bool,
-}
+const PAST_THE_LAST: FindingKey = FindingKey { task: 2, ..FIRST };
 
-pub(crate) const FIRST: FindingKey = FindingKey {
-    question: 0,
-    bound: 2,
-    task: 0,
-    has_other_end: false,
-};
-
-pub(crate) const SECOND: FindingKey = FindingKey {
-    question: 0,
-    bound: 2,
-    task: 1,
-    has_other_end: false,
-};
-
-const PAST_THE_LAST: FindingKey = FindingKey {
-    question: 0,
-    bound: 2,
-    task: 2,
-    has_other_end: false,
-};
-
-const OTHER_BOUND: FindingKey = FindingKey {
-    question: 0,
-    bound: 3,
-    task: 0,
-    has_other_end: false,
-};
+const OTHER_BOUND: FindingKey = FindingKey { bound: 3, ..FIRST };
 
 const OTHER_TRACE: FindingKey = FindingKey {
-    question: 0,
-    bound: 2,
-    task: 0,
     has_other_end: true,
+    ..FIRST
 };
 
 const OTHER_QUESTION: FindingKey = FindingKey {
     question: 1,
-    bound: 2,
-    task: 0,
-    has_other_end: false,
+    ..FIRST
 };
-
-/// A source of findings over the trace of opposite orders, and over the same trace with a write of
-/// 20 as its last event.
-#[derive(Drop)]
-pub(crate) struct FindingSource {
-    alloc: Global,
-    same: Arc<Snapshot, Global>,
-    other: Arc<Snapshot, Global>,
-}
-
-impl FindingSource {
-    /// Returns a source of findings, or `None` if an allocation fails.
-    pub(crate) fn new(rt: &(impl RandomSource + AllocGlobal)) -> Option<FindingSource> {
-        let mut others = opposite_orders();
-        others[9] = event(2, Op::Write(20));
-        let same = snapshot_of(rt, &opposite_orders());
-        let (same, other) = same.zip(snapshot_of(rt, &others))?;
-        Some(FindingSource {
-            alloc: rt.alloc(),
-            same,
-            other,
-        })
-    }
-
-    /// Returns the finding with this key, or `None` if an allocation fails.
-    pub(crate) fn finding(&self, key: FindingKey) -> Option<Finding> {
-        let shared = if key.has_other_end {
-            &self.other
-        } else {
-            &self.same
-        };
-        let bound = Bound::new(key.bound)?;
-        let shared = Arc::try_clone(shared).ok()?;
-        findings::compute(self.alloc, shared, key.question, bound, key.task).ok()
-    }
-
-    /// Returns the findings with these keys, or `None` if an allocation fails.
-    pub(crate) fn findings(&self, all: &[FindingKey]) -> Option<Vec<Finding>> {
-        let mut findings = Vec::new(self.alloc);
-        self.push_findings(all, &mut findings).and(Some(findings))
-    }
-
-    fn push_findings(&self, all: &[FindingKey], findings: &mut Vec<Finding>) -> Option<()> {
-        for key in all {
-            findings.push(self.finding(*key)?).ok()?;
-        }
-        Some(())
-    }
-}
-
-/// Adds the events to the book and asks question 0. Returns its snapshot.
-fn ask_over(book: &mut Book, events: &[Event]) -> Option<Arc<Snapshot, Global>> {
-    for event in events {
-        book.offer(*event).ok()?;
-    }
-    book.ask(2).ok()?;
-    book.snapshot(0).ok()
-}
-
-/// Returns a snapshot of these events from a new book.
-fn snapshot_of(
-    rt: &(impl RandomSource + AllocGlobal),
-    events: &[Event],
-) -> Option<Arc<Snapshot, Global>> {
-    let state = RandomState::new(rt).ok()?;
-    let mut book = Book::new(rt.alloc(), state, LIMIT).ok()?;
-    let snapshot = ask_over(&mut book, events);
-    drop(book);
-    snapshot
-}
 
 /// The way in which findings are delivered.
 #[derive(Clone, Copy)]
@@ -161,18 +51,20 @@ fn refusal_in(outcome: Delivered) -> Option<Refusal> {
     }
 }
 
-fn deliver_findings<D: TestDesk>(
-    alloc: Global,
+/// Delivers the findings with these keys. Returns `None` if an allocation fails.
+fn deliver_keys<D: TestDesk>(
     desk: &D,
-    findings: Vec<Finding>,
+    source: &FindingSource,
+    keys: &[FindingKey],
     way: Way,
-) -> Result<Outcomes<D>, AllocError> {
-    let mut outcomes = (Vec::new(alloc), Vec::new(alloc));
+) -> Option<Outcomes<D>> {
+    let findings = source.findings(keys)?;
+    let mut outcomes = (Vec::new(source.alloc), Vec::new(source.alloc));
     let delivered = match way {
         Way::OneByOne => deliver_one_by_one(desk, findings, &mut outcomes),
         Way::Together => deliver_together(desk, findings, &mut outcomes),
     };
-    delivered.and(Ok(outcomes))
+    delivered.ok().and(Some(outcomes))
 }
 
 fn deliver_one_by_one<D: TestDesk>(
@@ -247,7 +139,8 @@ const LISTS: [Wanted; 4] = [
     ),
 ];
 
-/// Asks question 0, and delivers each list of `LISTS` in sequence.
+/// Asks question 0, delivers each list of `LISTS` in sequence, and gets the report. Asserts that
+/// each call publishes its own step and no other, which its contract cannot exclude.
 pub(crate) fn delivers_in_turn<D: TestDesk, R: RandomSource + AllocGlobal + Abort>(
     rt: &R,
     desk: &D,
@@ -255,10 +148,16 @@ pub(crate) fn delivers_in_turn<D: TestDesk, R: RandomSource + AllocGlobal + Abor
     way: Way,
 ) -> Result<(), Fail> {
     assert!(rt; asks_about_opposite_orders(desk, reader));
-    let source = FindingSource::new(rt).ok_or("a stranger")?;
+    // Without a receipt.
+    board_shows(rt, reader, (0, 0, 0))?;
+    let source = FindingSource::new(rt).ok_or("a source of findings")?;
     let delivered = delivers_lists(rt, desk, reader, &source, way);
     drop(source);
-    delivered
+    delivered?;
+    assert_eq!(rt; desk.missing(), Some(None));
+    assert!(rt; is_report(&desk.answer(), REPORT));
+    assert!(rt; ask(desk, 1).is_err());
+    board_shows(rt, reader, (2, 1, 1))
 }
 
 /// Delivers each list in sequence. Asserts the outcomes and what the board shows after it.
@@ -284,8 +183,7 @@ fn delivers_list<D: TestDesk, R: Abort>(
     wanted: Wanted,
 ) -> Result<(), Fail> {
     let (list, refusals, counts) = wanted;
-    let findings = source.findings(list).ok_or("findings")?;
-    let (outcomes, receipts) = deliver_findings(source.alloc, desk, findings, way)?;
+    let (outcomes, receipts) = deliver_keys(desk, source, list, way).ok_or("findings")?;
     assert_eq!(rt; outcomes.as_slice(), refusals);
     learn_all::<D>(reader, &receipts);
     drop(receipts);
@@ -301,9 +199,10 @@ fn learn_all<D: TestDesk>(reader: &mut D::Reader, receipts: &[D::Receipt]) {
 /// The numbers of delivered tasks, of their cycles, and of their confirmed cycles.
 type Counts = (u32, u64, u64);
 
-/// Asserts that the board shows these counts of question 0.
+/// Asserts that the board shows the ten events, one question, and these counts of it.
 fn board_shows(rt: &impl Abort, reader: &mut impl TestReader, counts: Counts) -> Result<(), Fail> {
     let summary = reader.status().ok_or("busy")?;
+    assert_eq!(rt; (summary.accepted, summary.opened), (10, 1));
     let question = summary.question(0).ok_or("a question")?;
     assert_eq!(rt;
         (question.length, question.bound.get(), question.total),
@@ -326,23 +225,6 @@ fn concurrent_deliveries_of_lists(rt: HostRuntime) -> Result<(), Fail> {
     run_at_desk(rt, Script::ListsConcurrently(Way::Together))
 }
 
-/// Returns the findings of each thread: four for each.
-fn lists_of_four(rt: &(impl RandomSource + AllocGlobal)) -> Option<Vec<Vec<Finding>>> {
-    let source = FindingSource::new(rt)?;
-    let mut lists = Vec::new(rt.alloc());
-    let pushed = push_lists(&source, &mut lists);
-    drop(source);
-    pushed.and(Some(lists))
-}
-
-fn push_lists(source: &FindingSource, lists: &mut Vec<Vec<Finding>>) -> Option<()> {
-    for _ in 0..THREADS {
-        let list = source.findings(&[FIRST, SECOND, OTHER_BOUND, OTHER_TRACE])?;
-        lists.push(list).ok()?;
-    }
-    Some(())
-}
-
 /// Each of eight threads delivers both tasks, a finding with another bound, and one over other
 /// events. Asserts that two findings are accepted, and each other one is refused for its reason.
 pub(crate) fn delivers_concurrently<
@@ -350,29 +232,34 @@ pub(crate) fn delivers_concurrently<
     R: RandomSource + AllocGlobal + Threads + Abort + Sync,
 >(rt: &R, alloc: Global, desk: &D, reader: &mut D::Reader, way: Way) -> Result<(), Fail> {
     assert!(rt; asks_about_opposite_orders(desk, reader));
-    let lists = lists_of_four(rt).ok_or("findings")?;
-    let outcomes = deliver_lists_concurrently(rt, alloc, desk, reader, lists, way)?;
-    has_expected_outcomes(rt, &outcomes);
+    let source = FindingSource::new(rt).ok_or("a source of findings")?;
+    let outcomes = deliver_concurrently(rt, alloc, desk, reader, &source, way);
+    drop(source);
+    has_expected_outcomes(rt, &outcomes?);
     board_shows(rt, reader, (2, 1, 1))
 }
 
-/// Delivers each list on its own thread. Returns the outcomes of the findings.
-fn deliver_lists_concurrently<D: TestDesk, R: Threads + Abort + Sync>(
+/// What each thread delivers.
+const FOUR: [FindingKey; 4] = [FIRST, SECOND, OTHER_BOUND, OTHER_TRACE];
+
+/// Delivers four findings on each of eight threads. Returns the outcomes of the findings.
+fn deliver_concurrently<D: TestDesk, R: Threads + Abort + Sync>(
     rt: &R,
     alloc: Global,
     desk: &D,
     reader: &mut D::Reader,
-    lists: Vec<Vec<Finding>>,
+    source: &FindingSource,
     way: Way,
 ) -> Result<Vec<Option<Refusal>>, Fail> {
-    let done = thread::map_vec(
+    let done = thread::map_indices(
         rt,
-        lists,
-        &|findings| deliver_findings(alloc, desk, findings, way),
+        alloc,
+        THREADS,
+        &|_| deliver_keys(desk, source, &FOUR, way),
     )?;
     let mut refusals = Vec::new(alloc);
     for one in done {
-        learn_outcomes::<D>(reader, one?, &mut refusals)?;
+        learn_outcomes::<D>(reader, one.ok_or("findings")?, &mut refusals)?;
     }
     Ok(refusals)
 }

@@ -3,18 +3,14 @@
 ghost use Rattle.std.specs.Prelude.{◌≡◌};
 
 use crate::allocation_failures::completes_despite_failure;
-use crate::client_session_tests::serves_sessions;
 use crate::concurrent_offer_tests::{Offers, accepts_concurrent_offers};
 use crate::delivery_tests::{Way, delivers_concurrently, delivers_in_turn};
-use crate::desk_tests::{places_or_refuses_each, reports_repetitions};
-use crate::event_limit_tests::accepts_threads_and_locks;
-use crate::published_step_tests::publishes_each_step;
-use crate::question_limit_tests::shows_all_questions;
+use crate::desk_tests::{accepts_repetitions, places_or_refuses_each};
+use crate::fixtures::LIMIT;
 use crate::test_desk::{TestDesk, new_desk};
 use crate::worker_order_tests::three_workers_deliver;
 use crate::worker_tests::{reports_abandoned_tasks, two_workers_deliver};
 use board::{HistoryId, NewHistory};
-use fixtures::LIMIT;
 use std::alloc::Global;
 use std::hash::RandomState;
 use std::marker::Brand;
@@ -28,7 +24,6 @@ use std::thread::Threads;
 #[derive(Clone, Copy)]
 pub(crate) enum Script {
     Refusals,
-    Steps,
     Repetitions,
     EightThreads(Offers),
     ListsInTurn(Way),
@@ -37,9 +32,6 @@ pub(crate) enum Script {
     TwoWorkers,
     AbandonedTasks,
     ThreeWorkers,
-    Sessions,
-    Questions,
-    HeldLocks,
 }
 
 impl Script {
@@ -47,10 +39,8 @@ impl Script {
     fn readers(self) -> usize {
         match self {
             Script::AllocationFailure | Script::AbandonedTasks => 2,
-            Script::Sessions => 3,
             Script::TwoWorkers => 4,
             Script::ThreeWorkers => 5,
-            Script::Questions => 40,
             _ => 1,
         }
     }
@@ -120,8 +110,7 @@ fn run<D: TestDesk, R: RandomSource + AllocGlobal + Threads + Wait + Abort + Cop
 ) -> Option<Result<(), Fail>> {
     Some(match script {
         Script::Refusals => places_or_refuses_each(&rt, desk, reader),
-        Script::Steps => publishes_each_step(&rt, desk, reader),
-        Script::Repetitions => reports_repetitions(&rt, alloc, desk, reader),
+        Script::Repetitions => accepts_repetitions(&rt, alloc, desk, reader),
         Script::EightThreads(how) => accepts_concurrent_offers(&rt, alloc, desk, reader, how),
         Script::ListsInTurn(way) => delivers_in_turn(&rt, desk, reader, way),
         Script::ListsConcurrently(way) => delivers_concurrently(&rt, alloc, desk, reader, way),
@@ -131,8 +120,5 @@ fn run<D: TestDesk, R: RandomSource + AllocGlobal + Threads + Wait + Abort + Cop
         Script::TwoWorkers => two_workers_deliver(&rt, alloc, desk, reader, others),
         Script::AbandonedTasks => reports_abandoned_tasks(&rt, alloc, desk, reader, others),
         Script::ThreeWorkers => three_workers_deliver(rt, alloc, desk, reader, others),
-        Script::Sessions => serves_sessions(&rt, alloc, desk, others),
-        Script::Questions => shows_all_questions(&rt, alloc, desk, reader, others),
-        Script::HeldLocks => accepts_threads_and_locks(&rt, desk, reader),
     })
 }

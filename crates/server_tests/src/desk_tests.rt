@@ -1,22 +1,20 @@
-//! Tests of a desk by its own calls.
+//! Tests of a desk by its own calls: replies, receipts, and limits.
 
 ghost use Rattle.std.specs.Prelude.{◌≡◌};
 
-use crate::desk_calls::{accepted, accepts, answer, ask, deliver, missing, offer, reports};
 use crate::desk_scripts::{Script, run_at_desk};
-use crate::test_desk::TestDesk;
-use board::{HistoryId, Shown};
+use crate::fixtures::{LIMIT, rounds};
+use crate::test_desk::{TestDesk, accepted, accepts, offer};
+use board::{HistoryId, NewHistory, Shown};
 use desk::{Desk, DeskRefused};
-use findings::Finding;
-use fixtures::{LIMIT, event, opposite_orders, report_of};
-use sequencer::{Answer, AskRefused, Opened};
-use std::alloc::{AllocError, Global};
+use event_files::read_events;
+use std::alloc::Global;
 use std::hash::RandomState;
 use std::marker::Brand;
 use std::process::Abort;
 use std::sync::Wait;
 use std::test::*;
-use trace_model::{Bound, Event, Op, Refusal};
+use trace_model::{Event, Op, Refusal};
 
 #[test]
 fn each_refusal_once(rt: HostRuntime) -> Result<(), Fail> {
@@ -31,7 +29,7 @@ pub(crate) fn places_or_refuses_each<D: TestDesk, R: Abort>(
     reader: &mut D::Reader,
 ) -> Result<(), Fail> {
     for (thread, op, reply) in EVENTS {
-        assert_eq!(rt; placed(desk, reader, event(thread, op)), reply);
+        assert_eq!(rt; placed(desk, reader, Event { thread, op }), reply);
     }
     assert_eq!(rt; accepted(reader), Some(6));
     Ok(())
@@ -63,6 +61,24 @@ fn placed<D: TestDesk>(desk: &D, reader: &mut D::Reader, event: Event) -> Result
     Ok(place.get())
 }
 
+#[test]
+fn two_hundred_repetitions(rt: HostRuntime) -> Result<(), Fail> {
+    run_at_desk(rt, Script::Repetitions)
+}
+
+/// Asserts that a reader reads all events whose receipts it learned.
+pub(crate) fn accepts_repetitions<D: TestDesk, R: Abort>(
+    rt: &R,
+    alloc: Global,
+    desk: &D,
+    reader: &mut D::Reader,
+) -> Result<(), Fail> {
+    let events = read_events(alloc, &rounds(alloc, 200)?)?;
+    assert!(rt; accepts(desk, reader, &events));
+    assert_eq!(rt; accepted(reader), Some(1602));
+    Ok(())
+}
+
 /// A limit, a number of readers, and why such a desk cannot be made.
 const LIMITS: [(u32, usize, Option<DeskRefused>); 5] = [
     (0, 0, Some(DeskRefused::BadLimit)),
@@ -76,15 +92,9 @@ const LIMITS: [(u32, usize, Option<DeskRefused>); 5] = [
 fn limits_of_a_desk(rt: HostRuntime) -> Result<(), Fail> {
     let state = RandomState::new(&rt)?;
     for (limit, readers, refused) in LIMITS {
-        let made = refused_by::<Brand, _>(
-            rt,
-            rt.alloc(),
-            state,
-            board::NewHistory::new(),
-            limit,
-            readers,
-        );
-        assert_eq!(rt; made, refused);
+        let history = NewHistory::new();
+        let made = refused_by::<Brand, _>(rt, rt.alloc(), state, history, limit, readers);
+        assert_eq!(rt; made, refused, "limit {limit}, {readers} readers");
     }
     Ok(())
 }
@@ -94,7 +104,7 @@ fn refused_by<N: HistoryId, R: Wait + Copy>(
     rt: R,
     alloc: Global,
     state: RandomState,
-    history: board::NewHistory,
+    history: NewHistory,
     limit: u32,
     readers: usize,
 ) -> Option<DeskRefused>
@@ -102,94 +112,4 @@ fn refused_by<N: HistoryId, R: Wait + Copy>(
     requires limit { limit ≡ N.limit }
 {
     Desk::<N, R, Shown<N>>::new(alloc, state, rt, history, limit, readers).err()
-}
-
-#[test]
-fn two_hundred_repetitions(rt: HostRuntime) -> Result<(), Fail> {
-    run_at_desk(rt, Script::Repetitions)
-}
-
-/// Asserts that question 0, over sections that repeat two hundred times, is reported.
-pub(crate) fn reports_repetitions<D: TestDesk, R: Abort>(
-    rt: &R,
-    alloc: Global,
-    desk: &D,
-    reader: &mut D::Reader,
-) -> Result<(), Fail> {
-    assert!(rt; accepts_repetitions(desk, reader));
-    assert_eq!(rt; accepted(reader), Some(1602));
-    delivers_both(rt, alloc, desk)?;
-    assert_eq!(rt; missing(desk, 0), Some(None));
-    assert_eq!(rt; missing(desk, 1), None);
-    assert_eq!(rt; refusal_of_snapshot(desk, 1), Some(Refusal::NoSuchQuestion));
-    assert!(rt; reports_all(alloc, desk)?);
-    Ok(())
-}
-
-/// Returns whether the answer of question 0 is the report on all events.
-fn reports_all<D: TestDesk>(alloc: Global, desk: &D) -> Result<bool, AllocError> {
-    Ok(reports(desk, &report_of(alloc, 1602)?))
-}
-
-/// Returns whether the desk accepts the forks, and the sections two hundred times.
-fn accepts_repetitions<D: TestDesk>(desk: &D, reader: &mut D::Reader) -> bool {
-    let events = opposite_orders();
-    let (forks, sections) = events.split_at(2);
-    let mut accepted = accepts(desk, reader, forks);
-    for _ in 0..200 {
-        accepted &= accepts(desk, reader, sections);
-    }
-    accepted
-}
-
-fn refusal_of_snapshot<D: TestDesk>(desk: &D, question: u32) -> Option<Refusal> {
-    let (snapshot, receipt) = desk.snapshot(question);
-    drop(receipt);
-    snapshot.err()
-}
-
-/// Question 0 over all events.
-const OPENED: Opened = Opened {
-    question: 0,
-    length: 1602,
-    total: 2,
-};
-
-/// Asserts that question 0 is opened. Returns the number of its tasks.
-fn opens<D: TestDesk, R: Abort>(rt: &R, desk: &D) -> u32 {
-    assert_eq!(rt; ask(desk, 1), Err(AskRefused::BadBound));
-    assert_eq!(rt; ask(desk, 2), Ok(OPENED));
-    OPENED.total
-}
-
-/// Returns the finding of a task of question 0.
-fn finding_of<D: TestDesk>(alloc: Global, desk: &D, bound: Bound, task: u32) -> Option<Finding> {
-    let (snapshot, receipt) = desk.snapshot(0);
-    drop(receipt);
-    findings::compute(alloc, snapshot.ok()?, 0, bound, task).ok()
-}
-
-/// Asserts that the task is the least missing one and the answer is pending. Then delivers the
-/// task.
-fn delivers<D: TestDesk, R: Abort>(
-    rt: &R,
-    alloc: Global,
-    desk: &D,
-    bound: Bound,
-    task: u32,
-) -> Result<(), Fail> {
-    assert_eq!(rt; missing(desk, 0), Some(Some(task)));
-    assert!(rt; matches!(answer(desk), Ok(Answer::Pending { .. })));
-    let finding = finding_of(alloc, desk, bound, task).ok_or("a finding")?;
-    assert!(rt; deliver(desk, finding));
-    Ok(())
-}
-
-/// Opens question 0 and delivers its two tasks.
-fn delivers_both<D: TestDesk, R: Abort>(rt: &R, alloc: Global, desk: &D) -> Result<(), Fail> {
-    let two = Bound::new(2).ok_or("a bound")?;
-    for task in 0..opens(rt, desk) {
-        delivers(rt, alloc, desk, two, task)?;
-    }
-    Ok(())
 }

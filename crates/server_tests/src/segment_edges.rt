@@ -2,15 +2,15 @@
 //! an event again after `NoMemory`. It passes if no allocation fails; `tests/refused` makes each
 //! allocation fail in turn.
 
+use crate::fixtures::LIMIT;
 use findings::Snapshot;
-use fixtures::{LIMIT, event};
 use sequencer::{AskRefused, Book, Opened};
 use std::alloc::Global;
 use std::hash::RandomState;
 use std::process::Abort;
 use std::sync::Arc;
 use std::test::*;
-use trace_model::{Op, Place, Refusal};
+use trace_model::{Event, Op, Place, Refusal};
 
 /// The number of forked threads, and the number of locks that each of them nests: each lock in each
 /// other lock.
@@ -26,13 +26,14 @@ const EVENTS: u32 = FORKED + 4 * DEPENDENCIES;
 
 /// Offers an event, and once more after `NoMemory`. Asserts that the failed offer adds no event.
 fn offers_with_retry(rt: &impl Abort, book: &mut Book, thread: u32, op: Op) {
+    let event = Event { thread, op };
     let before = book.len();
-    let Err(refused) = book.offer(event(thread, op)) else {
+    let Err(refused) = book.offer(event) else {
         return;
     };
     assert_eq!(rt; refused, Refusal::NoMemory);
     assert_eq!(rt; book.len(), before);
-    assert!(rt; book.offer(event(thread, op)).is_ok());
+    assert!(rt; book.offer(event).is_ok());
 }
 
 /// Offers the events of a thread that nests each lock in each other one.

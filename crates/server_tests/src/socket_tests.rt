@@ -1,11 +1,11 @@
 //! Tests of the server over sockets.
 
-use crate::closed_client_tests::one_closes_early;
+use crate::fixtures::{
+    ANSWER, ASKED, LIMIT, OPENED, REPLIES, REPORT, REPORT_HEAD, REQUESTS, SETTLED, STATUS, WRITE,
+};
+use crate::meeting::Meeting;
 use crate::workers::TasksMeet;
 use findings::{Hold, NoHold};
-use fixtures::{
-    ANSWER, LIMIT, Meeting, OPENED, REPORT, REPORT_HEAD, SETTLED, STATUS, placed, question_frames,
-};
 use question_server::{Service, run_server};
 use std::alloc::Global;
 use std::hash::RandomState;
@@ -45,24 +45,22 @@ fn reply(alloc: Global, mut stream: &TcpStream) -> io::Result<Vec<u8>> {
 }
 
 /// Sends the request. Returns the body of the reply.
-pub(crate) fn reply_to(
-    alloc: Global,
-    mut stream: &TcpStream,
-    request: &[u8],
-) -> io::Result<Vec<u8>> {
+fn reply_to(alloc: Global, mut stream: &TcpStream, request: &[u8]) -> io::Result<Vec<u8>> {
     stream.write_all(request)?;
     reply(alloc, stream)
 }
 
-/// Sends the trace of opposite orders and a question. Returns whether each reply is right.
-fn send_opposite_orders(alloc: Global, mut stream: &TcpStream) -> io::Result<bool> {
-    stream.write_all(&question_frames(alloc)?)?;
-    let mut right = true;
-    for place in 0..10u8 {
-        right &= reply(alloc, stream)?.as_slice() == &placed(place)[4..];
-    }
-    right &= reply(alloc, stream)?.as_slice() == &OPENED[4..];
-    Ok(right)
+/// Sends these requests. Returns whether these are their replies.
+fn exchange(
+    alloc: Global,
+    mut stream: &TcpStream,
+    requests: &[u8],
+    replies: &[u8],
+) -> io::Result<bool> {
+    stream.write_all(requests)?;
+    let mut read = vec![in alloc; 0u8; replies.len()]?;
+    stream.read_exact(&mut read)?;
+    Ok(read.as_slice() == replies)
 }
 
 /// Requests the answer of question 0 until it is not pending. Returns the body of that reply.
@@ -84,16 +82,16 @@ fn whole_session<R: Net<Stream = TcpStream>>(
     address: SocketAddr,
 ) -> io::Result<bool> {
     let stream = TcpStream::connect(rt, address)?;
-    let mut right = send_opposite_orders(alloc, &stream)?;
+    let mut right = exchange(alloc, &stream, &REQUESTS[..ASKED], &REPLIES[..OPENED])?;
     let report = poll_answer(alloc, &stream)?;
     right &= report.as_slice().strip_prefix(&REPORT_HEAD[4..]) == Some(REPORT);
-    right &= reply_to(alloc, &stream, &STATUS)?.as_slice() == &SETTLED[4..];
+    right &= exchange(alloc, &stream, &STATUS, &SETTLED)?;
     Ok(right)
 }
 
 /// The clients that connect to a server.
 #[derive(Clone, Copy)]
-pub(crate) enum Peers {
+enum Peers {
     WholeSession,
     Seventeen,
     OneClosesEarly,
@@ -126,7 +124,7 @@ impl Peers {
 
 /// Runs a server and these clients. Asserts that each reply is right, and that the server serves
 /// exactly the sessions of the clients.
-pub(crate) fn serves<
+fn serves<
     R: Threads
         + Wait
         + Clock
@@ -242,5 +240,47 @@ fn seventeen_connections(rt: HostRuntime) -> Result<(), Fail> {
         RandomState::new(&rt)?,
         &NoHold,
         Peers::Seventeen,
+    )
+}
+
+/// The greatest number of writes that the other client offers.
+const MOST_WRITES: u32 = 10_000;
+
+/// One client offers a write and closes its socket without reading. Another client offers writes
+/// until one is placed above the number of its own earlier writes, which shows that the first
+/// client's write was accepted. Returns whether that happens within `MOST_WRITES` writes.
+fn one_closes_early<R: Net<Stream = TcpStream>>(
+    rt: &R,
+    alloc: Global,
+    address: SocketAddr,
+) -> io::Result<bool> {
+    let closed = TcpStream::connect(rt, address)?;
+    (&mut &closed).write_all(&WRITE)?;
+    drop(closed);
+    let stream = TcpStream::connect(rt, address)?;
+    for earlier in 0..MOST_WRITES {
+        if place_of_a_write(alloc, &stream)? > earlier {
+            return Ok(true);
+        }
+    }
+    Ok(false)
+}
+
+/// Offers a write. Returns its place.
+fn place_of_a_write(alloc: Global, stream: &TcpStream) -> io::Result<u32> {
+    match reply_to(alloc, stream, &WRITE)?.as_slice() {
+        [65, a, b, c, d] => Ok(u32::from_be_bytes([*a, *b, *c, *d])),
+        _ => Err(io::Error::from(io::ErrorKind::InvalidData)),
+    }
+}
+
+#[test]
+fn a_client_that_closes_without_reading(rt: HostRuntime) -> Result<(), Fail> {
+    serves(
+        rt,
+        rt.alloc(),
+        RandomState::new(&rt)?,
+        &NoHold,
+        Peers::OneClosesEarly,
     )
 }

@@ -3,12 +3,12 @@
 ghost use Rattle.std.specs.Prelude.{◌≡◌};
 ghost use Rattle.trace_model.specs.Protocol.Batches.{IsBatch};
 
+use crate::fixtures::OPPOSITE_EVENTS;
 use board::{BoardReader, HistoryId, NewHistory, Receipt, Shown, Summary};
 use claims::Claimant;
-use desk::{Client, Desk, Turn, Worker};
-use findings::{Finding, Hold, Snapshot};
-use sequencer::{Answer, AnswerRefused, AskRefused, Batched, Delivered, NoSuchQuestion};
-use sessions::{Ended, MemorySink, MemorySource, ServeFault, serve};
+use desk::{Desk, Turn, Worker};
+use findings::{Finding, Hold};
+use sequencer::{Answer, AnswerRefused, AskRefused, Batched, Delivered, Opened};
 use std::alloc::Global;
 use std::hash::RandomState;
 use std::sync::{Arc, Wait};
@@ -28,17 +28,18 @@ pub(crate) trait TestDesk: Sized + Sync + Drop {
     fn offer_batch(&self, events: &[Event]) -> (Batched, Self::Receipt)
         requires { IsBatch events.now };
 
-    fn ask(&self, bound: u8) -> (Result<sequencer::Opened, AskRefused>, Self::Receipt);
+    fn ask(&self, bound: u8) -> (Result<Opened, AskRefused>, Self::Receipt);
 
     fn deliver(&self, finding: Finding) -> (Delivered, Self::Receipt);
 
     fn deliver_all(&self, findings: Vec<Finding>) -> Option<(Vec<Delivered>, Self::Receipt)>;
 
-    fn answer(&self, question: u32) -> (Result<Answer, AnswerRefused>, Self::Receipt);
+    /// Returns the answer of question 0.
+    fn answer(&self) -> Result<Answer, AnswerRefused>;
 
-    fn snapshot(&self, question: u32) -> (Result<Arc<Snapshot, Global>, Refusal>, Self::Receipt);
-
-    fn missing(&self, question: u32) -> (Result<Option<u32>, NoSuchQuestion>, Self::Receipt);
+    /// Returns the least missing task of question 0; the inner `None` if no task is missing.
+    /// Returns `None` if there is no such question.
+    fn missing(&self) -> Option<Option<u32>>;
 
     fn learn(reader: &mut Self::Reader, receipt: &Self::Receipt);
 
@@ -46,16 +47,6 @@ pub(crate) trait TestDesk: Sized + Sync + Drop {
     fn shared(&self) -> Option<Self>;
 
     fn worker(self, claimant: Claimant, reader: Self::Reader) -> Self::Worker;
-
-    /// Serves a session with a client of the desk. Returns how the session ended, and the reader.
-    fn serve_session(
-        self,
-        rt: &impl Wait,
-        alloc: Global,
-        source: &mut MemorySource,
-        sink: &mut MemorySink,
-        reader: Self::Reader,
-    ) -> (Result<Ended, ServeFault>, Self::Reader);
 }
 
 /// A reader of the board of a desk.
@@ -97,7 +88,7 @@ impl<N: HistoryId + Send + Sync, R: Wait + Copy + Send + Sync> TestDesk
         Desk::offer_batch(self, events)
     }
 
-    fn ask(&self, bound: u8) -> (Result<sequencer::Opened, AskRefused>, Receipt<N>) {
+    fn ask(&self, bound: u8) -> (Result<Opened, AskRefused>, Receipt<N>) {
         Desk::ask(self, bound)
     }
 
@@ -109,16 +100,16 @@ impl<N: HistoryId + Send + Sync, R: Wait + Copy + Send + Sync> TestDesk
         Desk::deliver_all(self, findings).ok()
     }
 
-    fn answer(&self, question: u32) -> (Result<Answer, AnswerRefused>, Receipt<N>) {
-        Desk::answer(self, question)
+    fn answer(&self) -> Result<Answer, AnswerRefused> {
+        let (answer, receipt) = Desk::answer(self, 0);
+        drop(receipt);
+        answer
     }
 
-    fn snapshot(&self, question: u32) -> (Result<Arc<Snapshot, Global>, Refusal>, Receipt<N>) {
-        Desk::snapshot(self, question)
-    }
-
-    fn missing(&self, question: u32) -> (Result<Option<u32>, NoSuchQuestion>, Receipt<N>) {
-        Desk::missing(self, question)
+    fn missing(&self) -> Option<Option<u32>> {
+        let (missing, receipt) = Desk::missing(self, 0);
+        drop(receipt);
+        missing.ok()
     }
 
     fn learn(reader: &mut BoardReader<N>, receipt: &Receipt<N>) {
@@ -131,19 +122,6 @@ impl<N: HistoryId + Send + Sync, R: Wait + Copy + Send + Sync> TestDesk
 
     fn worker(self, claimant: Claimant, reader: BoardReader<N>) -> Worker<N, R, Shown<N>> {
         Worker::new(self, claimant, reader)
-    }
-
-    fn serve_session(
-        self,
-        rt: &impl Wait,
-        alloc: Global,
-        source: &mut MemorySource,
-        sink: &mut MemorySink,
-        reader: BoardReader<N>,
-    ) -> (Result<Ended, ServeFault>, BoardReader<N>) {
-        let mut client = Client::new(self, reader);
-        let ended = serve(rt, alloc, source, sink, &mut client);
-        (ended, client.into_reader())
     }
 }
 
@@ -166,4 +144,44 @@ pub(crate) fn new_desk<N: HistoryId, R: Wait + Copy>(
     let made = Desk::<N, R, Shown<N>>::new(alloc, state, rt, history, limit, readers);
     let (desk, readers) = made.ok()?;
     Arc::new(alloc, desk).ok().zip(Some(readers))
+}
+
+/// Offers the event. The reader learns the receipt.
+pub(crate) fn offer<D: TestDesk>(
+    desk: &D,
+    reader: &mut D::Reader,
+    event: Event,
+) -> Result<Place, Refusal> {
+    let (answer, receipt) = desk.offer(event);
+    D::learn(reader, &receipt);
+    answer
+}
+
+/// Returns whether the desk accepts all of these events.
+pub(crate) fn accepts<D: TestDesk>(desk: &D, reader: &mut D::Reader, events: &[Event]) -> bool {
+    for event in events {
+        if offer(desk, reader, *event).is_err() {
+            return false;
+        }
+    }
+    true
+}
+
+/// Asks a question with this bound. No reader learns the receipt.
+pub(crate) fn ask<D: TestDesk>(desk: &D, bound: u8) -> Result<Opened, AskRefused> {
+    let (opened, receipt) = desk.ask(bound);
+    drop(receipt);
+    opened
+}
+
+/// Returns whether the desk accepts the trace of opposite orders and opens a question with the
+/// bound 2 over it.
+pub(crate) fn asks_about_opposite_orders<D: TestDesk>(desk: &D, reader: &mut D::Reader) -> bool {
+    accepts(desk, reader, &OPPOSITE_EVENTS) && ask(desk, 2).is_ok()
+}
+
+/// Returns the number of accepted events that the board shows, or `None` if the board is busy.
+pub(crate) fn accepted(reader: &mut impl TestReader) -> Option<u32> {
+    let summary = reader.status()?;
+    Some(summary.accepted)
 }

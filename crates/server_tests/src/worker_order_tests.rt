@@ -1,12 +1,12 @@
 //! Tests of three workers that deliver in an order which the board gives them.
 
-use crate::desk_calls::{accepts, ask, reports};
+use crate::book_tests::is_report;
 use crate::desk_scripts::{Script, run_at_desk};
-use crate::test_desk::{TestDesk, TestReader};
+use crate::test_desk::{TestDesk, TestReader, accepts, ask};
 use crate::worker_tests::all_deliver;
 use crate::workers::workers_at;
+use event_files::read_events;
 use findings::Hold;
-use fixtures::event;
 use std::alloc::Global;
 use std::process::Abort;
 use std::sync::atomic::{AtomicU64, Ordering};
@@ -14,7 +14,6 @@ use std::sync::{Mutex, Wait};
 use std::test::*;
 use std::thread;
 use std::thread::Threads;
-use trace_model::{Event, Op};
 
 const YIELDS: u32 = 1_000_000;
 
@@ -26,27 +25,9 @@ cycle 0 1 2 confirmed
   witness 0 1 2 3 7 11
 ";
 
-/// Returns the events of
-/// `0f1 0f2 0f3 1a10 1a20 1r20 1r10 2a20 2a30 2r30 2r20 3a30 3a10 3r10 3r30`.
-fn ring_of_three() -> [Event; 15] {
-    [
-        event(0, Op::Fork(1)),
-        event(0, Op::Fork(2)),
-        event(0, Op::Fork(3)),
-        event(1, Op::Acquire(10)),
-        event(1, Op::Acquire(20)),
-        event(1, Op::Release(20)),
-        event(1, Op::Release(10)),
-        event(2, Op::Acquire(20)),
-        event(2, Op::Acquire(30)),
-        event(2, Op::Release(30)),
-        event(2, Op::Release(20)),
-        event(3, Op::Acquire(30)),
-        event(3, Op::Acquire(10)),
-        event(3, Op::Release(10)),
-        event(3, Op::Release(30)),
-    ]
-}
+/// Three threads nest three locks in a ring.
+const RING_OF_THREE: &[u8] =
+    b"0f1 0f2 0f3 1a10 1a20 1r20 1r10 2a20 2a30 2r30 2r20 3a30 3a10 3r10 3r30";
 
 /// A hold that blocks each task until all three tasks are held. Then it blocks task 0 until the
 /// board shows two delivered tasks, and task 1 until it shows one.
@@ -124,7 +105,8 @@ pub(crate) fn three_workers_deliver<D: TestDesk, R: Threads + Wait + Abort + Cop
     reader: &mut D::Reader,
     others: &mut Vec<D::Reader>,
 ) -> Result<(), Fail> {
-    assert!(rt; accepts(desk, reader, &ring_of_three()));
+    let events = read_events(alloc, RING_OF_THREE)?;
+    assert!(rt; accepts(desk, reader, &events));
     assert!(rt; ask(desk, 3).is_ok());
     let order = Order::new(rt, others.pop().ok_or("a reader")?);
     let delivered = deliver_in_order(&rt, alloc, desk, others, &order);
@@ -142,6 +124,6 @@ fn deliver_in_order<D: TestDesk, R: Threads + Wait + Abort + Copy + Send + Sync>
     let workers = workers_at(alloc, desk, readers, 3).ok_or("workers")?;
     all_deliver(rt, workers, order)?;
     assert!(rt; order.was_kept());
-    assert!(rt; reports(desk, REPORT));
+    assert!(rt; is_report(&desk.answer(), REPORT));
     Ok(())
 }

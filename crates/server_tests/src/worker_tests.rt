@@ -1,13 +1,14 @@
 //! Tests of workers at a desk.
 
-use crate::desk_calls::{asks_about_opposite_orders, reports};
+use crate::book_tests::is_report;
 use crate::desk_scripts::{Script, run_at_desk};
-use crate::test_desk::{TestDesk, TestWorker};
+use crate::fixtures::REPORT;
+use crate::meeting::Meeting;
+use crate::test_desk::{TestDesk, TestWorker, asks_about_opposite_orders};
 use crate::workers::{TasksMeet, delivers_two, worker, workers_at};
 use claims::{Claimant, claimants};
 use desk::Turn;
 use findings::Hold;
-use fixtures::{Meeting, REPORT};
 use std::alloc::Global;
 use std::process::Abort;
 use std::test::*;
@@ -32,7 +33,7 @@ pub(crate) fn two_workers_deliver<D: TestDesk, R: Threads + Abort + Sync>(
     let meeting = meeting_of_two(rt, alloc, desk, others)?;
     assert_eq!(rt; meeting.came(), (1, 1));
     assert!(rt; !meeting.gave_up());
-    assert!(rt; reports(desk, REPORT));
+    assert!(rt; is_report(&desk.answer(), REPORT));
     Ok(())
 }
 
@@ -92,7 +93,7 @@ pub(crate) fn reports_abandoned_tasks<D: TestDesk, R: Abort>(
 ) -> Result<(), Fail> {
     assert!(rt; asks_about_opposite_orders(desk, reader));
     delivers_abandoned(rt, alloc, desk, others)?;
-    assert!(rt; reports(desk, REPORT));
+    assert!(rt; is_report(&desk.answer(), REPORT));
     Ok(())
 }
 

@@ -2,11 +2,11 @@
 
 ghost use Rattle.std.specs.Prelude.{◌≤◌};
 
+use crate::meeting::Meeting;
 use crate::test_desk::{TestDesk, TestWorker};
 use claims::{Claimant, claimants};
 use desk::Turn;
 use findings::{Hold, NoHold};
-use fixtures::Meeting;
 use std::alloc::Global;
 use std::process::Abort;
 
@@ -51,18 +51,6 @@ fn push_workers<D: TestDesk>(
         workers.push(worker).ok()?;
     }
     Some(())
-}
-
-/// Returns one worker, which uses the last of the readers.
-pub(crate) fn one_worker<D: TestDesk>(
-    alloc: Global,
-    desk: &D,
-    readers: &mut Vec<D::Reader>,
-) -> Option<D::Worker> {
-    let mut claims = claimants(alloc, 1).ok()?;
-    let worker = worker(desk, &mut claims, readers);
-    drop(claims);
-    worker
 }
 
 /// Asserts that the worker delivers two tasks and is then idle.

@@ -1,8 +1,7 @@
 //! Runs the worked traces in its folder `data` by the functions of the commands, and compares their
-//! exit status and output with the expected files. It also runs each script as one session with
-//! findings, which must give the same text, passes each witness of a report to the replay checker,
-//! and explains each cycle of a report and passes that to the checker. Each folder of `data` is a
-//! command; `sessions` is a run of sessions. Start with `main`.
+//! exit status and output with the expected files. It also passes each witness of a report to the
+//! replay checker, and explains each cycle of a report and passes that to the checker. Each folder
+//! of `data` is a command; `sessions` is a run of sessions. Start with `main`.
 #![tactic(auto)]
 
 ghost use Rattle.command_line.specs.CommandLine.{IsInRange};
@@ -10,8 +9,6 @@ ghost use Rattle.command_line.specs.CommandLine.{IsInRange};
 mod case;
 mod command_runs;
 mod explanations;
-mod replies;
-mod script_runs;
 mod session_cases;
 mod witnesses;
 
@@ -21,7 +18,6 @@ use command_line::{Invocation, parse};
 use command_runs::{Outcome, run};
 use commands::Status;
 use explanations::{are_explained, are_valid};
-use script_runs::play_script;
 use session_cases::run_sessions;
 use std::fs;
 use std::process::ExitCode;
@@ -50,9 +46,8 @@ fn difference_in(
     Ok(None)
 }
 
-/// Checks a second way to the same answer: of a script, its run as a session; of a report, its
-/// witnesses and the explanations of its cycles; of an explanation, its check. Returns what is
-/// wrong, or `None` if nothing is.
+/// Checks a second way to the same answer: of a report, its witnesses and the explanations of its
+/// cycles; of an explanation, its check. Returns what is wrong, or `None` if nothing is.
 fn fault_in_other_ways<T: Threads>(
     rt: &HostRuntime,
     threads: &T,
@@ -62,13 +57,6 @@ fn fault_in_other_ways<T: Threads>(
     requires { IsInRange invocation.now }
 {
     match invocation {
-        Invocation::Script { file, limit } if outcome.status == Status::Done => {
-            let bytes = fs::read(rt, *file)?;
-            let whole = play_script(rt, &bytes, *limit, 11)?;
-            let cut = play_script(rt, &bytes, *limit, 1)?;
-            let is_same = whole == outcome.out && cut == outcome.out;
-            Ok((!is_same).then_some("its run as a session"))
-        }
         Invocation::Offline { file, bound } if outcome.status == Status::Done => {
             let trace = fs::read(rt, *file)?;
             let Some(bound) = Bound::new(*bound as u8) else {

@@ -1,15 +1,14 @@
 //! Runs cases of sessions: pieces of bytes, ends of sessions, and findings in one run.
-use crate::replies::print_refusal;
 use anyhow::{Context, Result, bail};
 use event_files::{event, lines_of, number, words_of};
 use findings::{Finding, Snapshot};
-use sequencer::{Book, Input, Played, Session, play};
+use sequencer::{Book, Delivered, Input, Played, Session, play};
 use std::alloc::Global;
 use std::hash::RandomState;
 use std::io::Write;
 use std::str;
 use std::sync::Arc;
-use trace_model::{Bound, MAX_EVENTS};
+use trace_model::{Bound, MAX_EVENTS, refusal_name};
 
 /// Returns the session with this number, 0 to 63.
 fn session_of(word: &[u8]) -> Result<Session> {
@@ -98,9 +97,16 @@ fn finding_in(rt: &HostRuntime, words: &[&[u8]]) -> Result<Input> {
     Ok(Input::Finding(finding_of(rt, key, events)?))
 }
 
-/// Returns the input of a line.
-fn input_of(rt: &HostRuntime, words: &[&[u8]]) -> Result<Input> {
-    let (keyword, rest) = words.split_first().context("a word")?;
+/// Reads the limit of the book.
+fn limit_in(words: &[&[u8]]) -> Result<u32> {
+    let [limit] = words else {
+        bail!("a limit is one number");
+    };
+    number(limit).context("a number")
+}
+
+/// Returns the input of a line that begins with this keyword.
+fn input_of(rt: &HostRuntime, keyword: &[u8], rest: &[&[u8]]) -> Result<Input> {
     match str::from_utf8(keyword).ok() {
         Some("piece") => piece_in(rt.alloc(), rest),
         Some("end") => end_in(rest),
@@ -124,17 +130,33 @@ fn print_sent(text: &mut Vec<u8>, run: &Played, number: u8) -> Result<()> {
     Ok(())
 }
 
-/// Returns the inputs of the lines of a file, in order.
-fn inputs_of(rt: &HostRuntime, file: &[u8]) -> Result<Vec<Input>> {
+/// Returns the limit of the book and the inputs of the lines of a file, in order.
+fn inputs_of(rt: &HostRuntime, file: &[u8]) -> Result<(u32, Vec<Input>)> {
     let alloc = rt.alloc();
+    let mut limit = MAX_EVENTS as u32;
     let mut inputs = Vec::new(alloc);
     for line in &lines_of(alloc, file)? {
         let words = words_of(alloc, line)?;
-        if !words.is_empty() {
-            inputs.push(input_of(rt, &words)?)?;
+        match words.split_first() {
+            None => {}
+            Some((keyword, rest)) if *keyword == b"limit".as_slice() => limit = limit_in(rest)?,
+            Some((keyword, rest)) => inputs.push(input_of(rt, keyword, rest)?)?,
         }
     }
-    Ok(inputs)
+    Ok((limit, inputs))
+}
+
+/// Prints the outcome of a finding.
+fn print_outcome(text: &mut Vec<u8>, delivered: &Delivered) -> Result<()> {
+    match delivered {
+        Ok(()) => writeln!(text, "taken")?,
+        Err((refusal, _)) => {
+            let number = refusal.number();
+            let name = refusal_name(number).context("a refusal without a name")?;
+            writeln!(text, "refused {number} {name}")?;
+        }
+    }
+    Ok(())
 }
 
 /// Prints the bytes that were sent to each session, one line for each, and then the outcome of each
@@ -144,22 +166,20 @@ fn print_run(text: &mut Vec<u8>, run: &Played) -> Result<()> {
         print_sent(text, run, number)?;
     }
     for delivered in run.deliveries() {
-        match delivered {
-            Ok(()) => writeln!(text, "taken")?,
-            Err((refusal, _)) => print_refusal(text, refusal.number())?,
-        }
+        print_outcome(text, delivered)?;
     }
     Ok(())
 }
 
 /// Runs the inputs of a file, one per line: `piece S BYTES`, `end S`, or `finding Q K J EVENTS`,
-/// with a session S, a question Q, a bound K and a task J. Returns the text with the bytes sent to
-/// each session and the outcomes of the findings.
+/// with a session S, a question Q, a bound K and a task J. A line `limit L` gives the book another
+/// limit than the greatest one. Returns the text with the bytes sent to each session and the
+/// outcomes of the findings.
 pub(crate) fn run_sessions(rt: &HostRuntime, file: &[u8]) -> Result<Vec<u8>> {
     let alloc = rt.alloc();
     let state = RandomState::new(rt)?;
-    let inputs = inputs_of(rt, file)?;
-    let run = play(alloc, state, MAX_EVENTS as u32, inputs)?;
+    let (limit, inputs) = inputs_of(rt, file)?;
+    let run = play(alloc, state, limit, inputs)?;
     let mut text = Vec::new(alloc);
     let printed = print_run(&mut text, &run);
     drop(run);

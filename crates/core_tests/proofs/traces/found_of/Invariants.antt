@@ -1,4 +1,0 @@
-use Rattle.core_tests.proofs.traces.found_of.Given as goal
-
-abbrev pub ghosts-found_from : goal.ghosts-found_from
-ghosts-found_from a = record { name = a.blank.name; parts = a.blank.parts }

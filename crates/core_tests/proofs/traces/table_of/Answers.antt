@@ -1,4 +1,0 @@
-use Rattle.core_tests.proofs.traces.table_of.Goals as goal
-
-pub returns : goal.returns
-returns c = (c.in_ok-dependencies.ensures c.args.events.now c.in_ok-tables.ensures).dependencies

@@ -1,0 +1,155 @@
+//! Tests of a book by its own calls, and findings for other tests.
+
+use crate::fixtures::{LIMIT, OPPOSITE_EVENTS, REPORT};
+use findings::{Finding, Snapshot};
+use sequencer::{Answer, AnswerRefused, Book};
+use std::alloc::Global;
+use std::hash::RandomState;
+use std::random::RandomSource;
+use std::sync::Arc;
+use trace_model::{Bound, Event, Op};
+
+/// The question, the bound and the task of a finding. If `has_other_end`, the finding covers events
+/// that differ from the trace in the last one.
+#[derive(Clone, Copy)]
+pub(crate) struct FindingKey {
+    pub(crate) question: u32,
+    pub(crate) bound: u8,
+    pub(crate) task: u32,
+    pub(crate) has_other_end: bool,
+}
+
+/// The finding of task 0 of question 0.
+pub(crate) const FIRST: FindingKey = FindingKey {
+    question: 0,
+    bound: 2,
+    task: 0,
+    has_other_end: false,
+};
+
+/// The finding of task 1 of question 0.
+pub(crate) const SECOND: FindingKey = FindingKey { task: 1, ..FIRST };
+
+/// Adds the events to the book and asks question 0. Returns its snapshot.
+fn ask_over(book: &mut Book, events: &[Event]) -> Option<Arc<Snapshot, Global>> {
+    for event in events {
+        book.offer(*event).ok()?;
+    }
+    book.ask(2).ok()?;
+    book.snapshot(0).ok()
+}
+
+/// Returns a snapshot of these events from a new book.
+fn snapshot_of(
+    rt: &(impl RandomSource + AllocGlobal),
+    events: &[Event],
+) -> Option<Arc<Snapshot, Global>> {
+    let state = RandomState::new(rt).ok()?;
+    let mut book = Book::new(rt.alloc(), state, LIMIT).ok()?;
+    let snapshot = ask_over(&mut book, events);
+    drop(book);
+    snapshot
+}
+
+/// Returns the finding with this key over a snapshot, or `None` if an allocation fails.
+fn finding_over(
+    alloc: Global,
+    snapshot: &Arc<Snapshot, Global>,
+    key: FindingKey,
+) -> Option<Finding> {
+    let bound = Bound::new(key.bound)?;
+    let shared = Arc::try_clone(snapshot).ok()?;
+    findings::compute(alloc, shared, key.question, bound, key.task).ok()
+}
+
+/// A source of findings over the trace of opposite orders, and over the same trace with a write of
+/// 20 as its last event.
+#[derive(Drop)]
+pub(crate) struct FindingSource {
+    pub(crate) alloc: Global,
+    same: Arc<Snapshot, Global>,
+    other: Arc<Snapshot, Global>,
+}
+
+impl FindingSource {
+    /// Returns a source of findings, or `None` if an allocation fails.
+    pub(crate) fn new(rt: &(impl RandomSource + AllocGlobal)) -> Option<FindingSource> {
+        let mut others = OPPOSITE_EVENTS;
+        others[9] = Event {
+            thread: 2,
+            op: Op::Write(20),
+        };
+        let same = snapshot_of(rt, &OPPOSITE_EVENTS);
+        let (same, other) = same.zip(snapshot_of(rt, &others))?;
+        Some(FindingSource {
+            alloc: rt.alloc(),
+            same,
+            other,
+        })
+    }
+
+    /// Returns the finding with this key, or `None` if an allocation fails.
+    fn finding(&self, key: FindingKey) -> Option<Finding> {
+        if key.has_other_end {
+            finding_over(self.alloc, &self.other, key)
+        } else {
+            finding_over(self.alloc, &self.same, key)
+        }
+    }
+
+    /// Returns the findings with these keys, or `None` if an allocation fails.
+    pub(crate) fn findings(&self, keys: &[FindingKey]) -> Option<Vec<Finding>> {
+        let mut findings = Vec::new(self.alloc);
+        self.push_findings(keys, &mut findings).and(Some(findings))
+    }
+
+    fn push_findings(&self, keys: &[FindingKey], findings: &mut Vec<Finding>) -> Option<()> {
+        for key in keys {
+            findings.push(self.finding(*key)?).ok()?;
+        }
+        Some(())
+    }
+}
+
+/// Returns whether the answer is this report.
+pub(crate) fn is_report(answer: &Result<Answer, AnswerRefused>, report: &[u8]) -> bool {
+    match answer {
+        Ok(Answer::Settled(text)) => text.as_slice() == report,
+        _ => false,
+    }
+}
+
+/// Returns whether the book accepts the finding with this key.
+fn delivers(
+    alloc: Global,
+    book: &mut Book,
+    snapshot: &Arc<Snapshot, Global>,
+    key: FindingKey,
+) -> bool {
+    match finding_over(alloc, snapshot, key) {
+        Some(finding) => book.deliver(finding).is_ok(),
+        None => false,
+    }
+}
+
+/// Returns whether the book accepts the trace, a question, and the findings of its tasks, and then
+/// answers with the report.
+fn reports(alloc: Global, book: &mut Book) -> bool {
+    let Some(snapshot) = ask_over(book, &OPPOSITE_EVENTS) else {
+        return false;
+    };
+    let delivered = delivers(alloc, book, &snapshot, FIRST)
+        && delivers(alloc, book, &snapshot, SECOND);
+    drop(snapshot);
+    delivered && is_report(&book.answer(0), REPORT)
+}
+
+#[test]
+fn opposite_orders_by_calls_of_a_book(rt: HostRuntime) {
+    let state = RandomState::new(&rt).expect(&rt, "random keys");
+    let mut book = Book::new(rt.alloc(), state, LIMIT)
+        .ok()
+        .expect(&rt, "a book");
+    assert!(rt; reports(rt.alloc(), &mut book));
+    drop(book);
+}
