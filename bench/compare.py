@@ -23,6 +23,10 @@ import sys
 import tempfile
 
 import traces
+
+ROOT = os.path.dirname(os.path.dirname(os.path.abspath(__file__)))
+sys.path.insert(0, os.path.join(ROOT, "tools"))
+
 from goodlock.traces import EventReader
 
 
