@@ -9,18 +9,16 @@
 
 #include <errno.h>
 #include <fcntl.h>
-#include <getopt.h>
 #include <signal.h>
 #include <stdarg.h>
 #include <sys/mman.h>
 #include <sys/prctl.h>
 #include <sys/resource.h>
-#include <sys/stat.h>
 #include <sys/wait.h>
 #include <time.h>
 
 enum { MOST_CHECKS = 4, MOST_WINDOWS_WAITING = 40, MICROSECONDS = 500, STALLED_ROUNDS = 4000, GRACE_ROUNDS = 2000, AHEAD = 1000,
-       LOOK_EVERY = 200, WRONG = 2, FAILED = 3, MOST_CONFIGURED = 64, CONFIGURED_BYTES = 1 << 16 };
+       MOST_ANCESTORS = 1000, LOOK_EVERY = 200, DEADLOCKED = 1 };
 
 /* The agent for Python uses these offsets, and it and the crate for Rust these numbers of kinds. */
 _Static_assert(R_UNLOCK == 12 && R_UNLOCK_EITHER == 17 && R_GIVE == 19 && R_NEW == 22, "goodlock_agent.py, recorder.rs");
@@ -29,13 +27,13 @@ _Static_assert(offsetof(struct ring, consumed) == 64 && offsetof(struct ring, th
                offsetof(struct ring, waits) == 1048768 && offsetof(struct ring, slots) == 2097344 && sizeof(struct ring) == 18874560 &&
                sizeof(struct record) == 64 && sizeof(struct wait) == 64, "goodlock_agent.py");
 
-static const struct options defaults = {.bound = 4, .error_status = -1, .frames = 1, .window = MOST_EVENTS};
 static const char *const gate_names[GATE_OPTIONS] = {"--suppress", "--baseline", "--fail-on", "--root"};
-struct options options;
 struct ring *ring;
 static const char *reporter;
 static pid_t program, follows, deadlock_report, checks[MOST_CHECKS];
-static int program_status, has_program_ended;
+static int library_file = -1, is_spoilt, program_status, has_program_ended;
+static int go = -1, unstarted_by = -1; /* pipes: the program may start; why it did not */
+static uint64_t consumed; /* that of the ring is for the recorder */
 static uint32_t windows_waiting;
 static volatile sig_atomic_t signal_to_forward;
 
@@ -46,6 +44,12 @@ void say(const char *format, ...) {
     vsnprintf(line, sizeof line, format, arguments);
     va_end(arguments);
     dprintf(STDERR_FILENO, "goodlock: %s\n", line);
+}
+
+uint64_t now(void) {
+    struct timespec time;
+    clock_gettime(CLOCK_MONOTONIC, &time);
+    return (uint64_t)time.tv_sec * 1000 + (uint64_t)time.tv_nsec / 1000000;
 }
 
 void *allocate(size_t bytes) {
@@ -65,19 +69,19 @@ void *grow(void *array, size_t count, size_t *room, size_t item) {
     return larger;
 }
 
-const char *in_work(char *path, const char *name) {
-    snprintf(path, PATHS, "%.4000s.tmp/%s", options.out, name);
-    return path;
+void stop_recording(const char *why) {
+    __atomic_store_n(&ring->off, 1, __ATOMIC_RELAXED);
+    say("%s, so nothing more is recorded; the program runs on", why);
 }
 
 /* ---- the report's program ---- */
 
-/* `output` is the reporter's standard output, or -1: that of the collector. */
-static pid_t start_reporter(const char *task, const char *number, int output) {
+pid_t start_reporter(const char *task, const char *number, int output) {
     char bound[12];
     const char *words[9 + 2 * GATE_OPTIONS] = {"python3", reporter, task, options.program, bound, options.out, number};
     size_t count = 7;
     pid_t child = fork();
+    if (child < 0) say("cannot start a process for the report: %s", strerror(errno));
     if (child) return child;
     snprintf(bound, sizeof bound, "%d", options.bound);
     for (int one = 0; one < GATE_OPTIONS; one++)
@@ -85,12 +89,13 @@ static pid_t start_reporter(const char *task, const char *number, int output) {
     if (options.has_no_config) words[count++] = "--no-config";
     signal(SIGTERM, SIG_IGN);
     if (output >= 0) dup2(output, STDOUT_FILENO);
+    keep_name_locked();
     execvp("python3", (char **)words);
-    say("cannot run python3; the traces are kept");
+    say("cannot run python3, which makes the report: install it; the traces are kept");
     _exit(WRONG);
 }
 
-static int wait_for(pid_t child) {
+int wait_for(pid_t child) {
     int status = 0;
     while (child > 0 && waitpid(child, &status, 0) < 0 && errno == EINTR) continue;
     return child > 0 && WIFEXITED(status) ? WEXITSTATUS(status) : WRONG;
@@ -108,7 +113,7 @@ void window_closed(uint32_t closed) {
     }
     if (slot == MOST_CHECKS) return;
     snprintf(number, sizeof number, "%u", closed);
-    checks[slot] = start_reporter("check", number, -1);
+    if ((checks[slot] = start_reporter("check", number, -1)) < 0) checks[slot] = 0;
 }
 
 /* Returns whether there are other processes: those whose parents have ended become the collector's. */
@@ -125,15 +130,35 @@ static int reap(void) {
 
 /* ---- records ---- */
 
+/* Whether the program, a process that it started or that one's parent is the collector's: the number may be any. */
+static int is_descendant(pid_t process) {
+    char name[40], line[400], *end;
+    for (int steps = 0; process > 1 && steps < MOST_ANCESTORS; steps++) {
+        FILE *file = (snprintf(name, sizeof name, "/proc/%d/stat", process), fopen(name, "re"));
+        size_t size = file ? fread(line, 1, sizeof line - 1, file) : 0;
+        if (file) fclose(file);
+        line[size] = 0;
+        if (!(end = strrchr(line, ')')) || sscanf(end + 1, " %*c %d", &process) != 1) return 0;
+        if (process == getpid()) return 1;
+    }
+    return 0;
+}
+
 /* A daemon has a second to start its first thread after its parent has ended. */
 static int is_running(void) {
     static int rounds;
     if (follows) return !ring->finished && getppid() == follows;
     int has_others = reap();
-    uint32_t owner = ring->owner;
+    pid_t owner = (pid_t)ring->owner;
     if (!has_program_ended) return 1;
     if (!owner) return has_others && ++rounds < GRACE_ROUNDS;
-    return (pid_t)owner != program && kill((pid_t)owner, 0) == 0;
+    return has_others && owner > 0 && owner != program && kill(owner, 0) == 0;
+}
+
+/* To the program, or to the daemon that it has become. */
+static void pass_on(int number) {
+    pid_t to = has_program_ended ? (pid_t)ring->owner : program;
+    if (to > 0 && (!has_program_ended || (to != program && is_descendant(to)))) kill(to, number);
 }
 
 /* The place after the last record. The agent for Python does not count: an empty place may be before others. */
@@ -147,43 +172,52 @@ static uint64_t end_of_records(uint64_t at) {
 
 /* Reads the records that are there. Returns how many. `is_over`: an empty place is of a thread that has died. */
 static uint64_t drain(int is_over) {
-    uint64_t at = ring->consumed, first = at, next = end_of_records(at);
-    for (; at < next && at - first < SLOTS; at++) {
+    uint64_t at = consumed, read = 0, next = end_of_records(at);
+    struct record record;
+    for (uint64_t first = at; at < next && at - first < SLOTS; at++) {
         struct record *slot = &ring->slots[at % SLOTS];
-        if (__atomic_load_n(&slot->ready, __ATOMIC_ACQUIRE) == at + 1) encode(slot);
-        else if (!is_over) break;
+        if (__atomic_load_n(&slot->ready, __ATOMIC_ACQUIRE) == at + 1) {
+            copy_shared(&record, slot, sizeof record);
+            read++;
+            if (!is_spoilt && !encode(&record)) is_spoilt = 1, stop_recording("the program has overwritten the shared memory");
+        } else if (!is_over) break;
         if (at % 256 == 255) __atomic_store_n(&ring->consumed, at + 1, __ATOMIC_RELEASE);
     }
-    __atomic_store_n(&ring->consumed, at, __ATOMIC_RELEASE);
-    return at - first;
+    __atomic_store_n(&ring->consumed, consumed = at, __ATOMIC_RELEASE);
+    return read;
 }
 
 /* If a stopped thread does not fill its place, and all places behind it are used, the program would wait for it. */
 static void give_up_if_stalled(int *rounds) {
     if (options.is_python) { /* an interrupted thread leaves a place empty */
-        *rounds = end_of_records(ring->consumed) > ring->consumed ? *rounds + 1 : 0;
-        if (*rounds > STALLED_ROUNDS) ring->consumed++, *rounds = 0;
-    } else if (ring->off || __atomic_load_n(&ring->next, __ATOMIC_RELAXED) - ring->consumed < SLOTS) *rounds = 0;
-    else if (++*rounds > STALLED_ROUNDS) {
-        __atomic_store_n(&ring->off, 1, __ATOMIC_RELAXED);
-        say("a thread was stopped while it recorded an event, so nothing more is recorded; the program runs on");
-    }
+        *rounds = end_of_records(consumed) > consumed ? *rounds + 1 : 0;
+        if (*rounds > STALLED_ROUNDS) __atomic_store_n(&ring->consumed, ++consumed, __ATOMIC_RELEASE), *rounds = 0;
+    } else if (ring->off || __atomic_load_n(&ring->next, __ATOMIC_RELAXED) - consumed < SLOTS) *rounds = 0;
+    else if (++*rounds > STALLED_ROUNDS) stop_recording("a thread was stopped while it recorded an event");
 }
 
+/* Reports the deadlock, and ends the process in which it is, if the user wants that. */
+static void report_deadlock(int is_over) {
+    pid_t owner = (pid_t)ring->owner, to = follows ? follows : owner != program && is_descendant(owner) ? owner : program;
+    deadlock_report = start_reporter("deadlock", "0", -1);
+    if (!options.kills || is_over || (to == program && has_program_ended)) return;
+    wait_for(deadlock_report), deadlock_report = 0;
+    kill(to, SIGKILL);
+}
 
 static void collect(void) {
     struct timespec moment = {0, MICROSECONDS * 1000};
     int rounds = 0, stalled = 0, is_reported = 0;
     for (int is_over = 0; !is_over;) {
         is_over = !is_running();
-        if (signal_to_forward && program) kill(program, signal_to_forward), signal_to_forward = 0;
+        if (signal_to_forward) pass_on(signal_to_forward), signal_to_forward = 0;
         if (drain(is_over) > 0 && !is_over) continue;
         while (is_over && drain(1) > 0) continue;
         if (options.server) flush_trace(), close_sites(); /* the dashboard reads them while the program runs */
         flush_stream();
         give_up_if_stalled(&stalled);
         if (!is_reported && (is_over || ++rounds % LOOK_EVERY == 0) && look_for_deadlock(is_over))
-            deadlock_report = start_reporter("deadlock", "0", -1), is_reported = 1;
+            report_deadlock(is_over), is_reported = 1;
         if (!is_over) nanosleep(&moment, NULL);
     }
 }
@@ -192,139 +226,89 @@ static void collect(void) {
 
 /* The limit of file sizes is for files: it is restored when the shared memory is there. */
 static void make_ring(char *name, size_t size) {
-    int file = memfd_create("goodlock", MFD_CLOEXEC);
+    int file = memfd_create("goodlock", MFD_CLOEXEC | MFD_ALLOW_SEALING);
     struct rlimit limit, most;
     getrlimit(RLIMIT_FSIZE, &limit);
     most = (struct rlimit){limit.rlim_max, limit.rlim_max};
     setrlimit(RLIMIT_FSIZE, &most);
-    if (file < 0 || ftruncate(file, sizeof(struct ring)) < 0 ||
+    if (file < 0 || ftruncate(file, sizeof(struct ring)) < 0 || fcntl(file, F_ADD_SEALS, RING_SEALS) < 0 ||
         (ring = mmap(NULL, sizeof(struct ring), PROT_READ | PROT_WRITE, MAP_SHARED, file, 0)) == MAP_FAILED) {
         say("cannot make the shared memory: %s", strerror(errno));
         exit(WRONG);
     }
     setrlimit(RLIMIT_FSIZE, &limit);
-    ring->threads = 1, ring->collector = (uint32_t)getpid();
+    ring->magic = RING_MAGIC, ring->threads = 1, ring->collector = (uint32_t)getpid();
     snprintf(name, size, "/proc/%d/fd/%d", getpid(), file);
 }
 
 static void forward(int number) { signal_to_forward = number; }
 
-static void start_program(char **words, const char *library, const char *name) {
-    char preload[PATHS + 1000];
+/* LD_PRELOAD is a list with spaces and colons. A library in a folder with these is named as an open file of the collector. */
+static void preload(const char *library) {
+    static char *list, by_number[40];
     const char *before = getenv("LD_PRELOAD");
-    program = fork();
-    if (program) return;
+    if (strpbrk(library, " :")) snprintf(by_number, sizeof by_number, "/proc/%d/fd/%d", getppid(), library_file), library = by_number;
+    if (asprintf(&list, "%s%s%s", library, before ? ":" : "", before ? before : "") < 0) _exit(NOT_STARTED);
+    setenv("LD_PRELOAD", list, 1);
+}
+
+/* The runtime of gcc's AddressSanitizer refuses to come after another library. What the user has set comes later, and wins. */
+static void permit_order_of_sanitizer(void) {
+    static char *list;
+    const char *before = getenv("ASAN_OPTIONS");
+    if (asprintf(&list, "verify_asan_link_order=0%s%s", before ? ":" : "", before ? before : "") < 0) _exit(NOT_STARTED);
+    setenv("ASAN_OPTIONS", list, 1);
+}
+
+static void __attribute__((noreturn)) execute(char **words, const char *library, const char *name) {
+    char text[12];
     for (int number = 1; number < 32; number++) if (number != SIGKILL && number != SIGSTOP) signal(number, SIG_DFL);
-    ring->program = (uint32_t)getpid();
     setenv("GOODLOCK_RING", name, 1);
     if (options.is_python) {
-        snprintf(preload, sizeof preload, "%d", options.frames);
-        setenv("GOODLOCK_STACKS", preload, 1);
-    } else {
-        snprintf(preload, sizeof preload, "%s%s%s", library, before ? ":" : "", before ? before : "");
-        setenv("LD_PRELOAD", preload, 1);
-    }
+        snprintf(text, sizeof text, "%d", options.frames);
+        setenv("GOODLOCK_STACKS", text, 1);
+    } else preload(library), permit_order_of_sanitizer();
     execvp(words[0], words);
-    say("cannot run %s: %s", words[0], strerror(errno));
-    ring->finished = 1;
-    _exit(errno == ENOENT ? 127 : 126);
+    _exit(write(unstarted_by, &errno, sizeof errno) ? NOT_FOUND : NOT_STARTED);
 }
 
-static void __attribute__((noreturn)) refuse(const char *what) {
-    say("%s; --help explains the options", what);
-    exit(WRONG);
-}
-
-static uint32_t number_of(const char *word, uint32_t least, uint32_t most, const char *what) {
-    char *end;
-    unsigned long value = strtoul(word, &end, 10);
-    if (*end || end == word || word[0] == '-' || value < least || value > most) refuse(what);
-    return (uint32_t)value;
-}
-
-static char **read_options(int count, char **words) {
-    static const struct option known[] = {{"bound", 1, 0, 'b'}, {"out", 1, 0, 'o'}, {"server", 1, 0, 's'}, {"error-exitcode", 1, 0, 'e'},
-                                          {"stacks", 1, 0, 't'}, {"window", 1, 0, 'w'}, {"no-config", 0, 0, 'n'}, {"suppress", 1, 0, '0'},
-                                          {"baseline", 1, 0, '1'}, {"fail-on", 1, 0, '2'}, {"root", 1, 0, '3'}, {0, 0, 0, 0}};
-    char here[PATHS] = "", *out = "goodlock";
-    opterr = optind = 0;
-    for (int letter; (letter = getopt_long(count, words, "+", known, NULL)) >= 0;) switch (letter) {
-        case 'b': options.bound = (int)number_of(optarg, 2, 8, "--bound is 2 to 8"); break;
-        case 'o': out = optarg; break;
-        case 's': options.server = optarg; break;
-        case 'e': options.error_status = (int)number_of(optarg, 0, 255, "--error-exitcode is 0 to 255"); break;
-        case 't': options.frames = (int)number_of(optarg, 1, MOST_FRAMES, "--stacks is 1 to 5"); break;
-        case 'w': options.window = number_of(optarg, 100, MOST_EVENTS, "--window is 100 to 1048576"); break;
-        case 'n': options.has_no_config = 1; break;
-        case '0': case '1': case '2': case '3': options.gate[letter - '0'] = optarg; break;
-        default: refuse("an option is unknown or lacks its value");
+/* Makes the program's process, so that its number is known. It waits until `release_program`. */
+static void prepare_program(char **words, const char *library, const char *name) {
+    int may_go[2], fault[2];
+    char byte;
+    if (strpbrk(library, " :")) library_file = open(library, O_RDONLY | O_CLOEXEC);
+    if (pipe2(may_go, O_CLOEXEC) < 0 || pipe2(fault, O_CLOEXEC) < 0 || (program = fork()) < 0) {
+        say("cannot start a process: %s", strerror(errno));
+        exit(NOT_STARTED);
     }
-    if (!getcwd(here, sizeof here)) here[0] = 0;
-    if (strlen(here) + strlen(out) > 3900) refuse("the name of --out is too long");
-    options.out[0] = 0;
-    if (out[0] != '/') strcat(strcpy(options.out, here), "/");
-    strcat(options.out, out);
-    return words + optind;
-}
-
-/* Whether the working folder or one above it has a configuration file. The reporter knows whether it is the one to read. */
-static int may_be_configured(void) {
-    char folder[PATHS], path[PATHS + 20];
-    if (!getcwd(folder, sizeof folder)) return 0;
-    for (size_t length = strlen(folder);;) {
-        snprintf(path, sizeof path, "%.*s/goodlock.toml", (int)length, folder);
-        if (!access(path, F_OK)) return 1;
-        if (!length) return 0;
-        while (length && folder[--length] != '/') continue;
+    if (!program) {
+        close(may_go[1]);
+        unstarted_by = fault[1];
+        if (read(may_go[0], &byte, 1) != 1) _exit(WRONG);
+        execute(words, library, name);
     }
+    close(may_go[0]), close(fault[1]);
+    go = may_go[1], unstarted_by = fault[0];
+    ring->program = (uint32_t)program;
 }
 
-/* Reads the options that the configuration file gives; each ends with a zero byte. Ends if it, or an option of the gate, has a fault.
- * Returns how many there are. */
-static int read_configured(char **words) {
-    static char text[CONFIGURED_BYTES];
-    size_t used = 0;
-    ssize_t size;
-    int ends[2], count = 0;
-    if (pipe2(ends, O_CLOEXEC) < 0) refuse("there is no pipe for the configuration file");
-    pid_t child = start_reporter("options", "0", ends[1]);
-    close(ends[1]);
-    while ((size = read(ends[0], text + used, sizeof text - 1 - used)) > 0) used += (size_t)size;
-    close(ends[0]);
-    if (wait_for(child)) exit(WRONG);
-    for (size_t at = 0; at < used && count < MOST_CONFIGURED; at += strlen(text + at) + 1) words[count++] = text + at;
-    return count;
+/* Returns 0 when the program has started, else why it has not. */
+static int release_program(void) {
+    int fault = 0;
+    ssize_t size = write(go, "", 1);
+    while (size == 1 && (size = read(unstarted_by, &fault, sizeof fault)) < 0 && errno == EINTR) size = 1;
+    close(go), close(unstarted_by);
+    return fault;
 }
 
-/* Reads the command line, after the options of the configuration file: an option on the command line wins. */
-static char **read_all_options(int count, char **words, const char *goodlockd, int is_python) {
-    struct options first = defaults;
-    char **program, **all = calloc((size_t)count + MOST_CONFIGURED + 2, sizeof *all);
-    int needs_reporter = 0, configured;
-    if (!all) refuse("there is no memory");
-    first.program = goodlockd, first.is_python = is_python;
-    options = first;
-    program = read_options(count, words);
-    for (int one = 0; one < GATE_OPTIONS; one++) needs_reporter |= options.gate[one] != NULL;
-    if (needs_reporter || (!options.has_no_config && may_be_configured())) {
-        configured = read_configured(all + 1);
-        all[0] = words[0];
-        memcpy(all + 1 + configured, words + 1, (size_t)count * sizeof *all); /* the last one is NULL */
-        options = first;
-        program = read_options(count + configured, all);
-    }
-    if (options.gate[FAIL_ON] && options.error_status < 0) options.error_status = FAILED;
-    return program;
-}
-
-static void write_summary(void) {
-    char path[PATHS];
-    FILE *file = fopen(in_work(path, "summary"), "we");
+static void write_summary(int is_whole) {
+    FILE *file = create_in_work("summary");
     if (!file) return;
     fprintf(file,
             "events %u\nwindows %u\nattached %u\nowner %u\nthreads %u\n"
-            "lock_events %lu\nunseen %lu\noverflowing %lu\nread_locks %lu\noff %u\n",
-            events, window, ring->attached, ring->owner, ring->threads, lock_events, unseen, overflowing, read_locks, ring->off);
+            "lock_events %lu\nunseen %lu\noverflowing %lu\nread_locks %lu\noff %u\ntruncated %d\n",
+            events, window, ring->attached, ring->owner, ring->threads - (uint32_t)unstarted, lock_events, unseen, overflowing, read_locks,
+            ring->off || is_spoilt, !is_whole);
     fprintf(file, "frames %d\npython %d\n", options.frames, options.is_python);
     fclose(file);
 }
@@ -332,20 +316,44 @@ static void write_summary(void) {
 static int finish(void) {
     char path[PATHS], number[12];
     int is_whole = end_run();
-    if (options.server && window == 1 && is_whole) {
-        in_work(path, "1.answer");
-        if (!ask_server(events, path)) unlink(path);
-    }
+    if (options.server && window == 1 && is_whole && !ask_server(events, "1.answer")) unlink(in_work(path, "1.answer"));
     close_sites();
-    write_summary();
-    if (deadlock_report) wait_for(deadlock_report);
+    write_summary(is_whole);
+    if (deadlock_report > 0) wait_for(deadlock_report);
     for (int slot = 0; slot < MOST_CHECKS; slot++) if (checks[slot]) wait_for(checks[slot]);
     snprintf(number, sizeof number, "%u", window);
     return wait_for(start_reporter("finish", number, -1));
 }
 
+/* A deadlock first, then the program's own fault. A run that was not analysed, or only in part, does not pass. */
+static int status_of_run(int verdict) {
+    int status = WIFSIGNALED(program_status) ? 128 + WTERMSIG(program_status) : WEXITSTATUS(program_status);
+    if (options.error_status < 0 || !verdict) return status;
+    if (verdict == DEADLOCKED) return options.error_status;
+    if (!status) say("the exit status is %d: the run was not analysed, or only in part, as said above", NOT_ANALYSED);
+    return status ? status : NOT_ANALYSED;
+}
+
+/* Takes the name of the run and the server. Ends if that is not possible: then nothing has run, and nothing is written. */
+static void prepare_run(void) {
+    name_run(follows ? follows : program);
+    take_name();
+    if (!options.server || connect_to_server(options.server)) return;
+    leave_name();
+    refuse("--server is an IPv4 address and a port");
+}
+
+static int start(char **words) {
+    int fault = follows ? 0 : release_program();
+    if (!fault) return 1;
+    leave_name();
+    say("cannot run %s: %s", words[0], strerror(fault));
+    program_status = (fault == ENOENT ? NOT_FOUND : NOT_STARTED) << 8;
+    return 0;
+}
+
 int main(int count, char **words) {
-    char name[60], path[PATHS];
+    char name[60];
     struct sigaction action = {.sa_handler = forward};
     if (count < 4) refuse("goodlock starts this program");
     const char *library = words[1];
@@ -354,35 +362,22 @@ int main(int count, char **words) {
     words = read_all_options(count - 3, words + 3, words[2], follows || !strcmp(library, "-"));
     if (!words[0] && !follows) refuse("there is no program to run");
     signal(SIGINT, SIG_IGN), signal(SIGQUIT, SIG_IGN), signal(SIGPIPE, SIG_IGN), signal(SIGXFSZ, SIG_IGN);
-    in_work(path, "");
-    if (mkdir(path, 0700) < 0 && errno != EEXIST) {
-        say("cannot write files named %s: %s", options.out, strerror(errno));
-        exit(WRONG);
-    }
     make_ring(name, sizeof name);
-    if (options.server && !connect_to_server(options.server)) {
-        rmdir(path);
-        refuse("--server is an IPv4 address and a port");
-    }
-    begin_run();
+    prctl(PR_SET_CHILD_SUBREAPER, !follows);
+    if (follows) ring->program = (uint32_t)follows;
+    else prepare_program(words, library, name);
+    prepare_run();
     sigaction(SIGTERM, &action, NULL), sigaction(SIGHUP, &action, NULL);
+    if (!start(words)) return WEXITSTATUS(program_status);
+    begin_run();
     if (follows) {
-        ring->program = (uint32_t)follows;
         printf("%s %d\n", name, options.frames);
         fclose(stdout);
-    } else {
-        prctl(PR_SET_CHILD_SUBREAPER, 1);
-        start_program(words, library, name);
     }
     collect();
-    int status = WIFSIGNALED(program_status) ? 128 + WTERMSIG(program_status) : WEXITSTATUS(program_status);
-    int is_unstarted = ring->finished && !ring->attached && !follows, verdict = 0;
-    if (is_unstarted) {
-        end_run();
-        window_name(path, 1, "trace"), unlink(path);
-        rmdir(in_work(path, ""));
-    } else verdict = finish();
+    int verdict = finish();
+    leave_name();
     ring->finished = 2;
-    if (follows && verdict == WRONG) return WRONG; /* there is no report, and no status of a program */
-    return verdict == 1 && options.error_status >= 0 ? options.error_status : status;
+    if (follows && options.error_status < 0 && verdict > DEADLOCKED) return NOT_ANALYSED;
+    return status_of_run(verdict);
 }

@@ -10,14 +10,18 @@
 #include <string.h>
 #include <unistd.h>
 
-enum { PATHS = 4096, GATE_OPTIONS = 4, FAIL_ON = 2 };
+enum { PATHS = 4096, MOST_NAME = 3900, GATE_OPTIONS = 4, FAIL_ON = 2 };
+/* Exit statuses: a wrong command line; the program could not be started; the gate passes only a run that was analysed. */
+enum { WRONG = 2, NOT_STARTED = 126, NOT_FOUND = 127, NOT_ANALYSED = 125 };
+/* A number above this is no thread: the shared memory belongs to the program, which may write anything to it. */
+enum { MOST_NUMBERS = 1 << 20 };
 
 /* What the command line says. */
 struct options {
     const char *server, *program;   /* program: goodlockd */
     const char *gate[GATE_OPTIONS]; /* of the options --suppress, --baseline, --fail-on, --root: for the reporter */
     char out[PATHS];                /* absolute */
-    int bound, error_status, frames, is_python, has_no_config;
+    int bound, error_status, frames, is_python, has_no_config, kills; /* kills: the program, if it deadlocks */
     uint32_t window;
 };
 extern struct options options;
@@ -25,14 +29,48 @@ extern struct ring *ring;
 
 /* Prints one line. */
 void say(const char *format, ...) __attribute__((format(printf, 1, 2)));
+/* Milliseconds. */
+uint64_t now(void);
 void *allocate(size_t bytes);
 /* Returns the array with room for one more item than `count`. */
 void *grow(void *array, size_t count, size_t *room, size_t item);
-/* Writes the name of a file that belongs to this run: OUT.tmp/NAME. */
-const char *in_work(char *path, const char *name);
+/* Says that nothing more is recorded, and why; the program runs on. */
+void stop_recording(const char *why);
+/* Runs a task of the reporter. `output` is its standard output, or -1: that of the collector. Returns -1 if there is no process. */
+pid_t start_reporter(const char *task, const char *number, int output);
+/* Returns the exit status of a process; WRONG if it has none. */
+int wait_for(pid_t child);
 
 /* A window's trace is complete: its cycles are searched while the program runs. */
 void window_closed(uint32_t window);
+
+/* Copies from the shared memory. What is checked afterwards is the copy: the compiler cannot read the memory again. */
+static inline void copy_shared(void *to, const void *from, size_t size) {
+    memcpy(to, from, size);
+    __asm__ volatile("" ::: "memory");
+}
+
+/* ---- options.c ---- */
+
+void refuse(const char *what) __attribute__((noreturn));
+/* Reads the command line, after the options of the configuration file. Returns the program and its arguments. */
+char **read_all_options(int count, char **words, const char *goodlockd, int is_python);
+
+/* ---- work.c ---- */
+
+/* Replaces each %p in the name of the run by a process number. */
+void name_run(pid_t program);
+/* Makes OUT.tmp, and locks the name until this process and its reporters end. Ends the process if another run uses the name. */
+void take_name(void);
+/* Removes OUT.tmp. */
+void leave_name(void);
+/* In a reporter, before it is executed: the name stays locked until the reporter ends, too. */
+void keep_name_locked(void);
+/* The path OUT.tmp/NAME. */
+const char *in_work(char *path, const char *name);
+/* Open a file for writing: OUT.tmp/NAME, or a new one at this path. Return NULL if that is not possible. */
+FILE *create_in_work(const char *name);
+FILE *create_anew(const char *path);
 
 /* ---- encode.c ---- */
 
@@ -55,9 +93,10 @@ struct thread {
 extern struct thread *threads;
 extern size_t threads_count;
 extern uint32_t events, window;
-extern unsigned long unseen, overflowing, read_locks, lock_events;
+extern unsigned long unseen, unstarted, overflowing, read_locks, lock_events;
 
-void encode(const struct record *record);
+/* Takes a copy of a record. Returns 0 if it is not one that the recorder writes. */
+int encode(const struct record *record);
 /* Opens the first window. */
 void begin_run(void);
 /* Closes the last window. Returns 0 if a trace could not be written. */
@@ -89,5 +128,5 @@ int connect_to_server(const char *address);
 void stream(uint8_t kind, uint32_t thread, uint32_t object);
 /* Sends what is collected, and reads the replies. */
 void flush_stream(void);
-/* Asks for the report of `length` events and writes it to a file. Returns 0 if there is none. */
-int ask_server(uint32_t length, const char *path);
+/* Asks for the report of `length` events and writes it to OUT.tmp/NAME. Returns 0 if there is none. */
+int ask_server(uint32_t length, const char *name);

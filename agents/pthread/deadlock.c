@@ -3,8 +3,6 @@
  * had the lock that another one waited for. A single thread may have been at an inner acquire of its own lock. */
 #include "collector.h"
 
-#include <time.h>
-
 enum { MOST_MEMBERS = 64, MILLISECONDS = 1000 };
 
 static struct wait waits[MOST_MEMBERS];
@@ -12,16 +10,12 @@ static uint32_t members[MOST_MEMBERS], before[MOST_MEMBERS], before_count;
 static uint64_t waited_for[MOST_MEMBERS], since;
 static int was_reported;
 
-static uint64_t now(void) {
-    struct timespec time;
-    clock_gettime(CLOCK_MONOTONIC, &time);
-    return (uint64_t)time.tv_sec * 1000 + (uint64_t)time.tv_nsec / 1000000;
-}
-
 /* What a thread waits for; address 0 if for nothing. */
 static struct wait wait_of(uint32_t thread) {
-    struct wait wait = ring->waits[thread % WAITS];
+    struct wait wait;
+    copy_shared(&wait, &ring->waits[thread % WAITS], sizeof wait);
     if (wait.thread != thread || !__atomic_load_n(&ring->waits[thread % WAITS].address, __ATOMIC_ACQUIRE)) wait.address = 0;
+    if (wait.frames > MOST_FRAMES) wait.frames = 0;
     return wait;
 }
 
@@ -72,13 +66,12 @@ static void write_members(FILE *file, uint32_t count) {
 }
 
 int look_for_deadlock(int is_over) {
-    char path[PATHS];
     int is_same;
     if (was_reported) return 1;
     uint32_t count = find(&is_same);
     if (!is_same) since = now();
     if (!count || (is_over ? count < 2 : now() - since < MILLISECONDS)) return 0;
-    FILE *file = fopen(in_work(path, "deadlock"), "we");
+    FILE *file = create_in_work("deadlock");
     if (!file) return 0;
     write_members(file, count);
     fclose(file);

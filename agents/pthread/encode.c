@@ -11,7 +11,7 @@ enum { WRITTEN, READ, HANDED }; /* of a lock's variables: writers' ends; readers
 struct thread *threads;
 size_t threads_count;
 uint32_t events, window;
-unsigned long unseen, overflowing, read_locks, lock_events;
+unsigned long unseen, unstarted, overflowing, read_locks, lock_events;
 static size_t threads_room;
 static struct lock **table;
 static size_t table_size, locks_count;
@@ -347,7 +347,7 @@ static void end_thread(uint32_t number) {
 static void open_trace(void) {
     char path[PATHS];
     window_name(path, window, "trace");
-    trace = fopen(path, "we");
+    trace = create_anew(path);
     if (!trace && !has_failed) has_failed = 1, say("cannot write %s; the program runs on", path);
     events = forks = buffered = last_site = 0;
     memset(seen, 0, seen_size * sizeof *seen), seen_count = 0;
@@ -365,6 +365,9 @@ void begin_run(void) {
     seen_size = TABLE, seen = allocate(TABLE * sizeof *seen);
     window = 1;
     find_thread(0)->exists = 1, threads[0].in_window = 1;
+    char path[PATHS];
+    window_name(path, 1, "report");
+    unlink(path); /* an earlier run's, which would not fit the new trace */
     open_trace();
 }
 
@@ -423,7 +426,15 @@ void next_window(void) {
     repeat_held();
 }
 
-void encode(const struct record *record) {
+/* Whether the recorder may have written this. */
+static int is_valid(const struct record *record) {
+    int has_number = record->kind == R_FORK || record->kind == R_NAMED || record->kind == R_UNSTARTED;
+    return record->kind >= R_FORK && record->kind <= R_UNSTARTED && record->frames <= MOST_FRAMES && record->thread < MOST_NUMBERS &&
+           (!has_number || record->other < MOST_NUMBERS);
+}
+
+int encode(const struct record *record) {
+    if (!is_valid(record)) return 0;
     uint64_t callers[MOST_FRAMES] = {0};
     for (int at = 0; at < record->frames; at++) memcpy(&callers[at], record->callers[at], 6);
     uint32_t thread = record->thread, site = site_of(callers, record->kind == R_START ? 0 : record->frames), child;
@@ -473,5 +484,7 @@ void encode(const struct record *record) {
         if ((lock = known_lock(record->address))) renew(lock);
         break;
     case R_FREE: free_memory(record->address, record->other); break;
+    case R_UNSTARTED: find_thread((uint32_t)record->other)->is_joined = 1, unstarted++; break;
     }
+    return 1;
 }

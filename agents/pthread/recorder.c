@@ -18,6 +18,7 @@
 #include <string.h>
 #include <sys/mman.h>
 #include <sys/resource.h>
+#include <sys/stat.h>
 #include <sys/syscall.h>
 #include <threads.h>
 #include <time.h>
@@ -55,7 +56,8 @@ THREAD_LOCAL uint64_t stated; /* the caller of this thread's next calls, if the 
     X(pthread_rwlock_trywrlock) X(pthread_rwlock_timedwrlock) X(pthread_rwlock_clockwrlock) X(pthread_rwlock_unlock) \
     X(pthread_rwlock_init) X(pthread_rwlock_destroy) X(sem_post) X(sem_wait) X(sem_trywait) X(sem_timedwait) X(sem_clockwait) \
     X(mtx_lock) X(mtx_trylock) X(mtx_timedlock) X(mtx_unlock) X(mtx_init) X(mtx_destroy) X(cnd_wait) X(cnd_timedwait) \
-    X(cnd_signal) X(cnd_broadcast) X(thrd_create) X(thrd_join) X(call_once) X(munmap) X(free) X(realloc)
+    X(cnd_signal) X(cnd_broadcast) X(thrd_create) X(thrd_join) X(call_once) X(munmap) X(free) X(realloc) \
+    X(execve) X(execv) X(execvp) X(execvpe) X(fexecve)
 #define DECLARE(name) static __typeof__(&name) real_##name;
 REALS(DECLARE)
 static size_t (*real_malloc_usable_size)(void *); /* NULL if it does not belong to the same allocator as `free` */
@@ -183,6 +185,11 @@ static struct start *new_start(uint64_t stack_size) {
     return NULL;
 }
 
+static void give_up_start(struct start *start, uint32_t number, const struct site *site) {
+    __atomic_store_n(&start->taken, 0, __ATOMIC_RELEASE);
+    tell(R_UNSTARTED, NULL, number, site);
+}
+
 static void tell_end(void *unused) {
     struct site none = {.count = 0};
     tell(R_END, unused, 0, &none);
@@ -230,7 +237,7 @@ EXPORT int pthread_create(pthread_t *handle, const pthread_attr_t *attributes, v
     uint32_t number = start->number;
     tell(R_FORK, NULL, number, &site);
     int error = REAL(pthread_create)(handle, attributes, begin, start);
-    if (error) __atomic_store_n(&start->taken, 0, __ATOMIC_RELEASE);
+    if (error) give_up_start(start, number, &site);
     else tell(R_NAMED, (void *)*handle, number, &site);
     return error;
 }
@@ -245,7 +252,7 @@ EXPORT int thrd_create(thrd_t *handle, thrd_start_t run, void *argument) {
     uint32_t number = start->number;
     tell(R_FORK, NULL, number, &site);
     int error = REAL(thrd_create)(handle, begin_c11, start);
-    if (error != thrd_success) __atomic_store_n(&start->taken, 0, __ATOMIC_RELEASE);
+    if (error != thrd_success) give_up_start(start, number, &site);
     else tell(R_NAMED, (void *)*handle, number, &site);
     return error;
 }
@@ -493,7 +500,8 @@ EXPORT void *realloc(void *memory, size_t size) {
     EXPORT void name(void *memory, size_t size, size_t alignment) { \
         if (!real_##name) real_##name = (void (*)(void *, size_t, size_t))dlsym(RTLD_NEXT, #name), frees_##name = is_of_allocator(real_##name); \
         if (frees_##name) frees(memory); \
-        real_##name(memory, size, alignment); \
+        if (real_##name) real_##name(memory, size, alignment); \
+        else free(memory); \
     }
 
 /* Returns whether a function belongs to the allocator whose `malloc_usable_size` is known. */
@@ -504,6 +512,24 @@ static int is_of_allocator(void (*function)(void *, size_t, size_t)) {
 }
 
 DELETES(DELETE)
+
+/* A library of C++ that a program of C loads for itself has a function of this name that RTLD_NEXT does not find. Then this library
+ * must not come before it: the loader passes over a symbol without a value. */
+static void hide_unless_next(const char *name, void *own) {
+    Dl_info of_own, of_this;
+    ElfW(Sym) *symbol;
+    if (dlsym(RTLD_NEXT, name) || !dladdr1(own, &of_own, (void **)&symbol, RTLD_DL_SYMENT) || !symbol ||
+        !dladdr((void *)hide_unless_next, &of_this) || of_own.dli_fbase != of_this.dli_fbase) return;
+    uint64_t page = (uint64_t)sysconf(_SC_PAGESIZE), first = (uint64_t)symbol & -page, end = (uint64_t)(symbol + 1);
+    if (mprotect((void *)first, end - first, PROT_READ | PROT_WRITE)) return;
+    symbol->st_value = 0;
+    mprotect((void *)first, end - first, PROT_READ);
+}
+
+static void hide_deletes(void) {
+#define HIDE(name) hide_unless_next(#name, (void *)name);
+    DELETES(HIDE)
+}
 
 EXPORT int munmap(void *memory, size_t size) {
     struct site none = {.count = 0};
@@ -577,8 +603,45 @@ static int claim(int starts_thread) {
     return 1;
 }
 
+/* The next program of the process may come without this library: only if it has it, the process is seen again. */
+static struct ring *before_exec(void) {
+    struct ring *to = ring;
+    uint32_t mine = (uint32_t)getpid();
+    if (!to || mine != to->program || (to->owner && to->owner != mine)) return NULL;
+    to->attached = 0;
+    return to;
+}
+
+static int exec_failed(struct ring *to) {
+    if (to) to->attached = 1;
+    return -1;
+}
+
+#define EXEC(call) ({ struct ring *to = before_exec(); (void)call; exec_failed(to); })
+
+EXPORT int execve(const char *path, char *const words[], char *const environment[]) {
+    return EXEC(REAL(execve)(path, words, environment));
+}
+EXPORT int execv(const char *path, char *const words[]) { return EXEC(REAL(execv)(path, words)); }
+EXPORT int execvp(const char *name, char *const words[]) { return EXEC(REAL(execvp)(name, words)); }
+EXPORT int execvpe(const char *name, char *const words[], char *const environment[]) {
+    return EXEC(REAL(execvpe)(name, words, environment));
+}
+EXPORT int fexecve(int file, char *const words[], char *const environment[]) { return EXEC(REAL(fexecve)(file, words, environment)); }
+
 static void in_child(void) { /* another process is not in this trace, except if its parent has recorded nothing */
     if (is_claimed) ring = NULL;
+}
+
+/* The name may be that of a run which has ended, and by now of any file: only memory that cannot be cut is mapped. */
+static struct ring *map_ring(const char *path) {
+    struct stat it;
+    int file = open(path, O_RDWR | O_CLOEXEC | O_NONBLOCK | O_NOCTTY);
+    if (file < 0) return NULL;
+    int is_ring = fstat(file, &it) == 0 && it.st_size == sizeof(struct ring) && fcntl(file, F_GET_SEALS) == RING_SEALS;
+    void *mapped = is_ring ? mmap(NULL, sizeof(struct ring), PROT_READ | PROT_WRITE, MAP_SHARED, file, 0) : MAP_FAILED;
+    close(file);
+    return mapped == MAP_FAILED ? NULL : mapped;
 }
 
 extern void *__libc_stack_end;
@@ -588,13 +651,15 @@ __attribute__((constructor)) static void at_start(void) {
     struct rlimit limit;
     pthread_attr_t attributes;
     size_t size = 8 << 20;
+    hide_deletes();
     if (!path) return;
     find_reals();
-    int file = open(path, O_RDWR | O_CLOEXEC);
-    if (file < 0) return;
-    struct ring *mapped = mmap(NULL, sizeof(struct ring), PROT_READ | PROT_WRITE, MAP_SHARED, file, 0);
-    close(file);
-    if (mapped == MAP_FAILED || mapped->off || (mapped->owner && mapped->owner != (uint32_t)getpid())) return;
+    struct ring *mapped = map_ring(path);
+    if (!mapped) return;
+    if (mapped->magic != RING_MAGIC || mapped->off || (mapped->owner && mapped->owner != (uint32_t)getpid())) {
+        munmap(mapped, sizeof *mapped);
+        return;
+    }
     if (pthread_getattr_default_np(&attributes) == 0) {
         pthread_attr_getstacksize(&attributes, &size);
         pthread_attr_destroy(&attributes);

@@ -3,6 +3,8 @@
 
 enum { SLOTS = 1 << 18, MOST_FRAMES = 5, WAITS = 1 << 14, TEXT = 1 << 20 };
 #define NOBODY UINT32_MAX
+#define RING_MAGIC 0x31676E69726C6467u /* another file is none, also if GOODLOCK_RING is of a run that has ended */
+#define RING_SEALS (F_SEAL_SHRINK | F_SEAL_GROW | F_SEAL_SEAL)
 
 enum kind {
     /* threads */
@@ -26,6 +28,7 @@ enum kind {
     /* memory */
     R_NEW,      /* the object at `address` was initialised or destroyed */
     R_FREE,     /* `other` bytes at `address` are freed */
+    R_UNSTARTED, /* a thread: `other` was forked, but the system has not started it */
 };
 
 /* One event of the program, in one cache line. `ready` is its place plus one, and is written last. */
@@ -48,6 +51,7 @@ struct wait {
 
 struct ring {
     _Alignas(64) uint64_t next;                            /* the next place; the recorder adds one for each event */
+    uint64_t magic;
     _Alignas(64) uint64_t consumed;                        /* the collector has read all places below */
     _Alignas(64) uint32_t threads;                         /* the next thread number */
     uint32_t owner, collector, program;                    /* processes: the one that records, the collector, the started one */

@@ -109,7 +109,7 @@ static long exchange(const uint8_t *request, size_t length, uint8_t *kind, uint8
     return first <= 16 && receive(rest, first) ? (long)(left - first) : -1;
 }
 
-int ask_server(uint32_t length, const char *path) {
+int ask_server(uint32_t length, const char *name) {
     uint8_t ask[4] = {0, 2, ASK, (uint8_t)options.bound}, answer[7] = {0, 5, ANSWER}, kind, rest[16];
     char text[4096];
     flush_stream();
@@ -123,7 +123,7 @@ int ask_server(uint32_t length, const char *path) {
         long left = exchange(answer, 7, &kind, rest);
         if (left < 0 || (kind != PENDING && kind != REPORT)) break;
         if (kind == PENDING) continue;
-        FILE *file = fopen(path, "we");
+        FILE *file = create_in_work(name);
         int is_whole = file != NULL;
         for (long part; left > 0 && is_whole; left -= part) {
             part = left < (long)sizeof text ? left : (long)sizeof text;

@@ -2,74 +2,130 @@
  * PATH+0xOFFSET, or the text of a site that is not an address. The report finds the source lines later. */
 #include "collector.h"
 
-enum { TABLE = 1 << 14 };
+enum { TABLE = 1 << 14, MOST_TEXT = 1000, PATH = 2000, PAUSE = 100 };
 struct site { uint64_t callers[MOST_FRAMES]; uint32_t count, number; struct site *next; };
 struct module { uint64_t base, low, high; char *path; };
 
 static struct site *table[TABLE];
 static uint32_t sites_count;
-static struct module *modules;
-static size_t modules_count, modules_room;
+static struct modules { struct module *all; size_t count, room; } told, mapped; /* by the recorder; by the system: sorted */
 static uint32_t text_read;
+static unsigned long size_when_read;
+static uint64_t read_at;
 static FILE *file;
 
-static void add_module(uint64_t base, uint64_t low, uint64_t high, const char *path) {
-    modules = grow(modules, modules_count, &modules_room, sizeof *modules);
-    modules[modules_count++] = (struct module){base, low, high, strdup(path)};
+static void add_module(struct modules *to, uint64_t base, uint64_t low, uint64_t high, const char *path) {
+    to->all = grow(to->all, to->count, &to->room, sizeof *to->all);
+    to->all[to->count++] = (struct module){base, low, high, path ? strdup(path) : NULL};
 }
 
 /* Reads the lines that the recorder has added to the text. */
 static void read_text(void) {
     uint32_t used = __atomic_load_n(&ring->text_used, __ATOMIC_ACQUIRE);
     unsigned long base, low, high;
-    char path[2000];
+    char line[PATH + 100], path[PATH];
     while (text_read < used && used <= TEXT) {
-        char *line = ring->text + text_read, *end = memchr(line, '\n', used - text_read);
-        if (!end) return;
-        text_read += (uint32_t)(end - line) + 1;
-        int length = (int)(end - line);
-        char copy[2100];
-        snprintf(copy, sizeof copy, "%.*s", length, line);
-        if (sscanf(copy, "module %lx %lx %lx %1999[^\n]", &base, &low, &high, path) == 4) add_module(base, low, high, path);
+        size_t size = used - text_read < sizeof line ? used - text_read : sizeof line - 1;
+        copy_shared(line, ring->text + text_read, size);
+        line[size] = 0;
+        char *end = strchr(line, '\n');
+        if (!end && size < sizeof line - 1) return;
+        text_read += end ? (uint32_t)(end - line) + 1 : (uint32_t)size;
+        if (end && sscanf(line, "module %lx %lx %lx %1999[^\n]", &base, &low, &high, path) == 4) add_module(&told, base, low, high, path);
     }
 }
 
-/* Files that the program has mapped since: the recorder does not report them. */
-static void read_maps(void) {
-    char name[40], line[2200], path[2000];
-    unsigned long low, high, offset;
-    snprintf(name, sizeof name, "/proc/%u/maps", ring->owner);
-    FILE *maps = fopen(name, "re");
-    while (maps && fgets(line, sizeof line, maps))
-        if (sscanf(line, "%lx-%lx %*s %lx %*s %*s %1999[^\n]", &low, &high, &offset, path) == 4 && path[0] == '/')
-            add_module(low - offset, low, high, path);
-    if (maps) fclose(maps);
+static FILE *open_of_program(const char *what) {
+    char name[40];
+    snprintf(name, sizeof name, "/proc/%u/%s", ring->owner, what);
+    return fopen(name, "re");
 }
 
-static const struct module *module_of(uint64_t address) {
-    for (size_t at = modules_count; at-- > 0;) if (address >= modules[at].low && address < modules[at].high) return &modules[at];
+/* The pages that the program has mapped: it is another number if it has mapped a file since, as good as always. 0 if it has ended. */
+static unsigned long size_of_program(void) {
+    FILE *statistics = open_of_program("statm");
+    unsigned long pages = 0;
+    if (statistics && fscanf(statistics, "%lu", &pages) != 1) pages = 0;
+    if (statistics) fclose(statistics);
+    return pages;
+}
+
+/* The addresses of a file begin where its first part is mapped. A part of memory without a file has no path. */
+static void read_maps(void) {
+    char line[PATH + 200], path[PATH], before[PATH] = "";
+    unsigned long low, high, offset, base = 0;
+    FILE *maps = open_of_program("maps");
+    if (!maps) return;
+    for (size_t at = 0; at < mapped.count; at++) free(mapped.all[at].path);
+    mapped.count = 0;
+    while (fgets(line, sizeof line, maps)) {
+        path[0] = 0;
+        if (sscanf(line, "%lx-%lx %*s %lx %*s %*s %1999[^\n]", &low, &high, &offset, path) < 3) continue;
+        if (path[0] != '/') add_module(&mapped, 0, low, high, NULL);
+        else {
+            if (strcmp(path, before)) base = low - offset;
+            add_module(&mapped, base, low, high, strcpy(before, path));
+        }
+    }
+    fclose(maps);
+}
+
+/* What the recorder has told are few files, which may have parts in each other's gaps. */
+static const struct module *told_module(uint64_t address) {
+    for (size_t at = told.count; at-- > 0;) if (address >= told.all[at].low && address < told.all[at].high) return &told.all[at];
     return NULL;
+}
+
+static const struct module *mapped_module(uint64_t address) {
+    size_t low = 0, high = mapped.count;
+    while (low < high) {
+        size_t middle = (low + high) / 2;
+        if (mapped.all[middle].high <= address) low = middle + 1;
+        else high = middle;
+    }
+    return low < mapped.count && mapped.all[low].low <= address ? &mapped.all[low] : NULL;
+}
+
+/* Whether to look again what is mapped. Memory without a file may have become that of one, but that is no reason to look each time. */
+static int may_have_changed(const struct module *found) {
+    if (found && now() - read_at < PAUSE) return 0;
+    unsigned long size = size_of_program();
+    if (!size || size == size_when_read) return 0;
+    size_when_read = size, read_at = now();
+    return 1;
+}
+
+/* The file that is mapped there, or NULL. */
+static const struct module *module_of(uint64_t address) {
+    const struct module *found = told_module(address);
+    if (found) return found;
+    found = mapped_module(address);
+    if ((!found || !found->path) && may_have_changed(found)) read_maps(), found = mapped_module(address);
+    return found && found->path ? found : NULL;
+}
+
+static void write_text(uint64_t from) {
+    char text[MOST_TEXT + 1];
+    size_t size = TEXT - from < MOST_TEXT ? TEXT - from : MOST_TEXT;
+    copy_shared(text, ring->text + from, size);
+    text[size] = 0;
+    text[strcspn(text, "\t\n")] = 0;
+    fprintf(file, "\t%s", from ? text : "?");
 }
 
 /* Frame pointers may lead to words that are no return addresses, so a frame outside every mapped file ends the list. */
 static void write_site(const struct site *site) {
-    char path[PATHS];
-    if (!file) file = fopen(in_work(path, "sites"), "we");
-    if (!file) return;
+    if (!file && !(file = create_in_work("sites"))) return;
     fprintf(file, "%u", site->number);
+    read_text();
     for (uint32_t at = 0; at < site->count; at++) {
         uint64_t caller = site->callers[at];
-        read_text();
-        if (caller < TEXT) {
-            const char *text = caller ? ring->text + caller : "?";
-            fprintf(file, "\t%.*s", (int)strcspn(text, "\n"), text);
-            continue;
-        }
-        if (!module_of(caller)) read_maps();
-        const struct module *module = module_of(caller);
-        if (!module && at > 0) break;
-        if (module) fprintf(file, "\t%s+0x%lx", module->path, (unsigned long)(caller - 1 - module->base));
-        else fprintf(file, "\t?+0x%lx", (unsigned long)caller);
+        int is_text = caller < TEXT && (at == 0 || options.is_python);
+        const struct module *module = is_text ? NULL : module_of(caller);
+        if (is_text) write_text(caller);
+        else if (module) fprintf(file, "\t%s+0x%lx", module->path, (unsigned long)(caller - 1 - module->base));
+        else if (at == 0) fprintf(file, "\t?+0x%lx", (unsigned long)caller);
+        else break;
     }
     fputc('\n', file);
 }

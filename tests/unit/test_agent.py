@@ -17,7 +17,7 @@ from written import OPPOSITE_REPORT, InFolder
 
 SITES = "1\tmain.py:9 in main\n2\tbank.py:34 in transfer\tmain.py:7 in run\n3\tbank.py:35 in transfer\n4\t/usr/lib/threading.py:3 in run\tx.py:1 in f\n"
 TRACE = "# at 1\n0f1\n0f2\n# at 2\n1a10\n# at 3\n1a20\n1r20\n1r10\n# at 2\n2a20\n# at 3\n2a10\n2r10\n2r20\n"
-SUMMARY = "attached 1\nlock_events 8\nthreads 3\nread_locks 0\nunseen 0\noverflowing 0\noff 0\nframes 1\n"
+SUMMARY = "attached 1\nlock_events 8\nthreads 3\nread_locks 0\nunseen 0\noverflowing 0\noff 0\ntruncated 0\nframes 1\npython 0\n"
 WRITTEN = """question 0 length 10 bound 2 cycles 1 confirmed 1
 cycle 0 1 confirmed
   thread 1 lock 20 holds 10 place 3
@@ -57,7 +57,6 @@ class Finishes(OfRun):
         self.assertEqual(self.read("run.report"), WRITTEN)
         self.assertEqual(self.read("run.trace").split("\n")[:5],
                          ["# at main.py:9 in main", "0f1", "0f2", "# at bank.py:34 in transfer", "1a10"])
-        self.assertEqual(sorted(os.listdir()), ["run.report", "run.trace"])
 
     def test_callers(self) -> None:
         self.write("run.tmp/summary", SUMMARY.replace("frames 1", "frames 2"))
@@ -72,11 +71,25 @@ class Finishes(OfRun):
             ("unseen 0", "unseen 2", "2 threads started in a way that is not seen: what came before the start is not ordered"),
             ("overflowing 0", "overflowing 1", "1 acquire beyond 31 held locks were recorded for an artificial thread"),
             ("off 0", "off 1", "the recording stopped before the program ended"),
+            ("truncated 0", "truncated 1", "the trace ends before the program did: it could not be written"),
         ]:
             self.setUp()
             self.write("run.tmp/summary", SUMMARY.replace(old, new))
             self.assertRegex(self.finish()[1], f"^goodlock: {note}\ngoodlock: 10 events")
             self.assertRegex(self.read("run.report"), f"^question .*\n    {note}\ncycle")
+
+    def test_runs_that_were_not_analysed(self) -> None:
+        """A deadlock comes first, then the fact that the run was not analysed."""
+        for old, new, without, status in [
+            ("", "", 0, 1), ("attached 1", "attached 0", 3, 1), ("off 0", "off 1", 3, 1), ("truncated 0", "truncated 1", 3, 1),
+            ("lock_events 8", "lock_events 0", 3, 1), ("lock_events 8\nthreads 3", "lock_events 0\nthreads 1", 0, 1),
+            ("lock_events 8\nthreads 3\nread_locks 0", "lock_events 0\nthreads 3\nread_locks 1", 0, 1),
+        ]:
+            for answer, wanted in [("question 0 length 10 bound 2 cycles 0 confirmed 0\n", without), (OPPOSITE_REPORT, status)]:
+                self.setUp()
+                self.write("run.tmp/summary", SUMMARY.replace(old, new))
+                self.window(TRACE, answer)
+                self.assertEqual(self.finish()[0], wanted, new)
 
     def test_deadlock_that_happened(self) -> None:
         self.write("run.tmp/deadlock", "deadlock of 2 threads, which wait for each other\nthread 1 waits for lock 20 at @3@\n  lock 10 since @2@\n")
@@ -152,6 +165,10 @@ class Searches(OfRun):
         self.run_.program, self.run_.bound = os.path.abspath("program"), 3
         check(self.run_, 1)
         self.assertIn("the reports for larger bounds are too long: the bound is 2", self.finish()[1])
+        self.write("answer", "question 0 length 10 bound 2 cycles 0 confirmed 0\n")
+        self.write("run.trace", TRACE)
+        check(self.run_, 1)
+        self.assertEqual(self.finish()[0], 3)  # a lower bound than asked
         self.write("program", "#!/bin/sh\necho 'refused 23 ReportTooLong'; exit 1\n")
         with self.assertRaisesRegex(NoReport, "the report is too long with each bound"):
             check(self.run_, 1)

@@ -1,6 +1,5 @@
 """Writes the reports of a run from the results of its windows."""
 import os
-import shutil
 from collections.abc import Iterable, Iterator
 
 from goodlock.agent.gate import judge
@@ -12,7 +11,7 @@ from goodlock.groups import key_of, merge
 from goodlock.limits import FIRST_THREAD, HELPERS, TRY_MARKERS
 from goodlock.settings import Settings
 
-DEADLOCK, NO_REPORT = 1, 2  # exit statuses
+DEADLOCK, NO_REPORT, IN_PART = 1, 2, 3  # exit statuses
 
 
 def plural(number: int, one: str) -> str:
@@ -56,23 +55,35 @@ def timed_lines(found: Found, sites: Sites) -> Iterator[str]:
                 yield f"    timed: thread {member.thread} holds lock {lock} since {line}"
 
 
+def has_locks(summary: dict[str, int]) -> bool:
+    return bool(summary["lock_events"] or summary["read_locks"])
+
+
+def gaps_of(summary: dict[str, int]) -> Iterator[str]:
+    """Yields why the run was not analysed, or only in part."""
+    if not summary["attached"]:
+        yield ("no events: the agent was not loaded; the program is statically linked, has other rights, or clears its environment: link it "
+               "dynamically, and start it with the rights of this user and with this environment")
+    elif summary["threads"] > 1 and not has_locks(summary) and not summary["python"]:
+        yield (f"no lock events: the program has started {plural(summary['threads'] - 1, 'thread')} and called no lock function; it may use "
+               "its own futex locks, which the agent does not see")
+    if summary["off"]:
+        yield "the recording stopped before the program ended"
+    if summary["truncated"]:
+        yield "the trace ends before the program did: it could not be written"
+
+
 def notes_of(summary: dict[str, int], tried: int) -> Iterator[str]:
     """Yields what the run did not see, and what the report leaves out."""
-    if not summary["attached"]:
-        yield "no events: the agent was not loaded; the program is statically linked, has other rights, or clears its environment"
-    elif not summary["lock_events"]:
-        started = summary["threads"] - 1
-        yield ("no lock events: the program has started "
-               + (f"{plural(started, 'thread')} and called no lock function; it may use its own futex locks" if started
-                  else "no thread and called no lock function"))
+    started = summary["threads"] - 1
+    if summary["attached"] and not has_locks(summary) and (not started or summary["python"]):
+        yield f"no lock events: the program has started {plural(started, 'thread') if started else 'no thread'} and used no lock"
     if summary["read_locks"]:
         yield f"{plural(summary['read_locks'], 'reader-writer lock')} had readers: their sections were recorded as ordering only"
     if summary["unseen"]:
         yield f"{plural(summary['unseen'], 'thread')} started in a way that is not seen: what came before the start is not ordered"
     if summary["overflowing"]:
         yield f"{plural(summary['overflowing'], 'acquire')} beyond 31 held locks were recorded for an artificial thread"
-    if summary["off"]:
-        yield "the recording stopped before the program ended"
     if tried:
         yield f"{plural(tried, 'cycle')} left out: a member does not wait, since it tries to acquire the lock"
 
@@ -124,7 +135,8 @@ def finish(run: Run, count: int, settings: Settings) -> int:
         say(f"there is no report: {fault}; the trace is kept: {shortly(run.window(1, 'trace'))}")
         return DEADLOCK if judge([], [], deadlock, sites, settings).status else NO_REPORT
     found = merged(windows, sites)
-    notes = list(notes_of(summary, sum(window.tried for window in windows.values())))
+    gaps = list(gaps_of(summary))
+    notes = [*gaps, *notes_of(summary, sum(window.tried for window in windows.values()))]
     notes += dict.fromkeys(note for window in windows.values() for note in window.notes)
     kept = [number for number in windows if number == 1 or any(group.window == number for group in found)]
     others = [f"window {number}: {os.path.basename(run.window(number, 'report'))}" for number in kept[1:]]
@@ -136,14 +148,15 @@ def finish(run: Run, count: int, settings: Settings) -> int:
     for note in notes:
         say(note)
     conclude(run, windows, kept, found)
-    return DEADLOCK if judge(windows.values(), found, deadlock, sites, settings).status else 0
+    if judge(windows.values(), found, deadlock, sites, settings).status:
+        return DEADLOCK
+    return IN_PART if gaps or any(window.bound < run.bound for window in windows.values()) else 0
 
 
 def conclude(run: Run, windows: dict[int, Window], kept: list[int], found: list[Found]) -> None:
-    """Prints what was found, and removes the files that were for this run only."""
+    """Prints what was found."""
     confirmed = sum(group.is_confirmed for group in found)
     shown = sum(group.kind != TIMED for group in found)
     length = sum(window.length for window in windows.values())
     names = [shortly(run.window(number, kind)) for number in kept for kind in ("report", "trace")]
     say(f"{plural(length, 'event')}, {plural(shown, 'cycle')}, {confirmed} confirmed: {', '.join(names)}")
-    shutil.rmtree(f"{run.out}.tmp", ignore_errors=True)

@@ -42,7 +42,7 @@ def read_sites(path: str) -> dict[int, list[str]]:
 
 
 def source_of(line: str) -> Optional[Source]:
-    """Returns the source of a line of addr2line, `transfer at /home/bank.c:35 (discriminator 2)`, or None if it has none."""
+    """Returns the source of a line of addr2line, `transfer at /src/bank.c:35 (discriminator 2)`, or None if it has none."""
     function, at, where = line.rpartition(" at ")
     where = where.partition(" (discriminator ")[0]
     path, _, number = where.rpartition(":")
@@ -50,7 +50,7 @@ def source_of(line: str) -> Optional[Source]:
 
 
 def absolute(where: str) -> str:
-    """Returns `/home/bank.py:35` for `bank.py:35`, if the working folder has this file. Other relative names are those of a compiler, which
+    """Returns `/src/bank.py:35` for `bank.py:35`, if the working folder has this file. Other relative names are those of a compiler, which
     may have worked elsewhere."""
     return os.path.abspath(where) if os.path.exists(where.rpartition(":")[0]) else where
 

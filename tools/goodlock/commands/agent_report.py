@@ -6,7 +6,8 @@
     agent_report options GOODLOCKD BOUND OUT 0 [GATE ..]     prints the options of goodlock.toml, each with a zero byte, and checks GATE
 
 GATE is --fail-on WORD, --baseline FILE, --suppress FILE, --root DIR, --no-config. Exit status of `finish`: 1 if the gate fails, by default
-if a deadlock was confirmed or has happened, 2 if there is no report, else 0. Of the others: 2 if a file or an option has a fault, else 0.
+if a deadlock was confirmed or has happened, 2 if there is no report, 3 if the run was analysed only in part, else 0. Of the others: 2 if a
+file or an option has a fault, else 0.
 """
 from __future__ import annotations
 

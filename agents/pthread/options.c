@@ -1,0 +1,103 @@
+/* The command line, and the configuration file that adds to it. */
+#include "collector.h"
+
+#include <fcntl.h>
+#include <getopt.h>
+
+enum { MOST_CONFIGURED = 64, CONFIGURED_BYTES = 1 << 16, FAILED = 3 };
+
+static const struct options defaults = {.bound = 4, .error_status = -1, .frames = 1, .window = MOST_EVENTS};
+struct options options;
+
+void refuse(const char *what) {
+    say("%s; --help explains the options", what);
+    exit(WRONG);
+}
+
+static uint32_t number_of(const char *word, uint32_t least, uint32_t most, const char *what) {
+    char *end;
+    unsigned long value = strtoul(word, &end, 10);
+    if (*end || end == word || word[0] == '-' || value < least || value > most) refuse(what);
+    return (uint32_t)value;
+}
+
+static char **read_options(int count, char **words) {
+    static const struct option known[] = {{"bound", 1, 0, 'b'}, {"out", 1, 0, 'o'}, {"server", 1, 0, 's'}, {"error-exitcode", 1, 0, 'e'},
+                                          {"stacks", 1, 0, 't'}, {"window", 1, 0, 'w'}, {"no-config", 0, 0, 'n'}, {"suppress", 1, 0, '0'},
+                                          {"baseline", 1, 0, '1'}, {"fail-on", 1, 0, '2'}, {"root", 1, 0, '3'}, {"on-deadlock", 1, 0, 'd'},
+                                          {0, 0, 0, 0}};
+    char here[PATHS] = "", *out = "goodlock";
+    opterr = optind = 0;
+    for (int letter; (letter = getopt_long(count, words, "+", known, NULL)) >= 0;) switch (letter) {
+        case 'b': options.bound = (int)number_of(optarg, 2, 8, "--bound is 2 to 8"); break;
+        case 'o': out = optarg; break;
+        case 's': options.server = optarg; break;
+        case 'e': options.error_status = (int)number_of(optarg, 0, 255, "--error-exitcode is 0 to 255"); break;
+        case 't': options.frames = (int)number_of(optarg, 1, MOST_FRAMES, "--stacks is 1 to 5"); break;
+        case 'w': options.window = number_of(optarg, 100, MOST_EVENTS, "--window is 100 to 1048576"); break;
+        case 'd':
+            options.kills = !strcmp(optarg, "kill");
+            if (!options.kills && strcmp(optarg, "report")) refuse("--on-deadlock is report or kill");
+            break;
+        case 'n': options.has_no_config = 1; break;
+        case '0': case '1': case '2': case '3': options.gate[letter - '0'] = optarg; break;
+        default: refuse("an option is unknown or lacks its value");
+    }
+    if (!getcwd(here, sizeof here)) here[0] = 0;
+    if (!out[0] || (!here[0] && out[0] != '/')) refuse("--out is the name of a file");
+    if (strlen(here) + strlen(out) > MOST_NAME) refuse("the name of --out is too long");
+    options.out[0] = 0;
+    if (out[0] != '/') strcat(strcpy(options.out, here), "/");
+    strcat(options.out, out);
+    return words + optind;
+}
+
+/* Whether the working folder or one above it has a configuration file. The reporter knows whether it is the one to read. */
+static int may_be_configured(void) {
+    char folder[PATHS], path[PATHS + 20];
+    if (!getcwd(folder, sizeof folder)) return 0;
+    for (size_t length = strlen(folder);;) {
+        snprintf(path, sizeof path, "%.*s/goodlock.toml", (int)length, folder);
+        if (!access(path, F_OK)) return 1;
+        if (!length) return 0;
+        while (length && folder[--length] != '/') continue;
+    }
+}
+
+/* Reads the options that the configuration file gives; each ends with a zero byte. Ends if it, or an option of the gate, has a fault.
+ * Returns how many there are. */
+static int read_configured(char **words) {
+    static char text[CONFIGURED_BYTES];
+    size_t used = 0;
+    ssize_t size;
+    int ends[2], count = 0;
+    if (pipe2(ends, O_CLOEXEC) < 0) refuse("there is no pipe for the configuration file");
+    pid_t child = start_reporter("options", "0", ends[1]);
+    close(ends[1]);
+    while ((size = read(ends[0], text + used, sizeof text - 1 - used)) > 0) used += (size_t)size;
+    close(ends[0]);
+    if (wait_for(child)) exit(WRONG);
+    for (size_t at = 0; at < used && count < MOST_CONFIGURED; at += strlen(text + at) + 1) words[count++] = text + at;
+    return count;
+}
+
+/* Reads the command line, after the options of the configuration file: an option on the command line wins. */
+char **read_all_options(int count, char **words, const char *goodlockd, int is_python) {
+    struct options first = defaults;
+    char **program, **all = calloc((size_t)count + MOST_CONFIGURED + 2, sizeof *all);
+    int needs_reporter = 0, configured;
+    if (!all) refuse("there is no memory");
+    first.program = goodlockd, first.is_python = is_python;
+    options = first;
+    program = read_options(count, words);
+    for (int one = 0; one < GATE_OPTIONS; one++) needs_reporter |= options.gate[one] != NULL;
+    if (needs_reporter || (!options.has_no_config && may_be_configured())) {
+        configured = read_configured(all + 1);
+        all[0] = words[0];
+        memcpy(all + 1 + configured, words + 1, (size_t)count * sizeof *all); /* the last one is NULL */
+        options = first;
+        program = read_options(count + configured, all);
+    }
+    if (options.gate[FAIL_ON] && options.error_status < 0) options.error_status = FAILED;
+    return program;
+}

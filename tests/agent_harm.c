@@ -1,0 +1,81 @@
+/* Cases of tests/agents_alone: programs that an agent cannot look into, or must not harm. */
+#define _GNU_SOURCE
+#include <dlfcn.h>
+#include <pthread.h>
+#include <stdio.h>
+#include <string.h>
+#include <sys/mman.h>
+
+static void *nothing(void *unused) { return unused; }
+
+/* no_threads: neither threads nor locks */
+static int no_threads(void) { return 0; }
+
+/* threads: two threads, which use no lock that is seen */
+static int threads(void) {
+    pthread_t two[2];
+    for (int at = 0; at < 2; at++) pthread_create(&two[at], NULL, nothing, NULL);
+    for (int at = 0; at < 2; at++) pthread_join(two[at], NULL);
+    return 0;
+}
+
+static void *reads(void *lock) {
+    pthread_rwlock_rdlock(lock);
+    pthread_rwlock_unlock(lock);
+    return NULL;
+}
+
+/* readers: a thread that only reads */
+static int readers(void) {
+    pthread_rwlock_t lock = PTHREAD_RWLOCK_INITIALIZER;
+    pthread_t one;
+    pthread_create(&one, NULL, reads, &lock);
+    return pthread_join(one, NULL);
+}
+
+/* unstarted: the system starts none of these threads */
+static int unstarted(void) {
+    pthread_attr_t attributes;
+    pthread_t one;
+    pthread_attr_init(&attributes);
+    pthread_attr_setstacksize(&attributes, (size_t)1 << 46);
+    for (int at = 0; at < 3; at++) if (!pthread_create(&one, &attributes, nothing, NULL)) return 1;
+    return pthread_attr_destroy(&attributes);
+}
+
+/* loads: libraries of C++ in a program of C, which each are loaded for themselves; one has an allocator of its own */
+static int loads(void) {
+    static const char *const files[] = {"./library.so", "./own_library.so"};
+    for (int round = 0; round < 6; round++) {
+        void *library = dlopen(files[round % 2], RTLD_NOW | RTLD_LOCAL);
+        int (*run)(void) = library ? (int (*)(void))dlsym(library, "run") : NULL;
+        if (!run || run()) return 1;
+        if (round > 2) dlclose(library);
+    }
+    return 0;
+}
+
+/* generated: 2,000 calls from code that is in no file. push rbp; mov rbp, rsp; mov rax, FUNCTION; call rax; pop rbp; ret */
+static int generated(void) {
+    static pthread_mutex_t lock = PTHREAD_MUTEX_INITIALIZER;
+    unsigned char code[] = {0x55, 0x48, 0x89, 0xe5, 0x48, 0xb8, 0, 0, 0, 0, 0, 0, 0, 0, 0xff, 0xd0, 0x5d, 0xc3};
+    int (*function)(pthread_mutex_t *) = pthread_mutex_lock;
+    char *memory = mmap(NULL, 2000 * sizeof code, PROT_READ | PROT_WRITE | PROT_EXEC, MAP_PRIVATE | MAP_ANONYMOUS, -1, 0);
+    if (memory == MAP_FAILED) return 1;
+    memcpy(code + 6, &function, sizeof function);
+    for (char *at = memory; at < memory + 2000 * sizeof code; at += sizeof code) {
+        memcpy(at, code, sizeof code);
+        ((int (*)(pthread_mutex_t *))at)(&lock);
+        pthread_mutex_unlock(&lock);
+    }
+    return 0;
+}
+
+static const struct { const char *name; int (*run)(void); } cases[] = {{"no_threads", no_threads}, {"threads", threads}, {"readers", readers},
+                                                               {"unstarted", unstarted}, {"loads", loads}, {"generated", generated}};
+
+int main(int count, char **words) {
+    for (size_t at = 0; count > 1 && at < sizeof cases / sizeof *cases; at++)
+        if (!strcmp(cases[at].name, words[1])) return cases[at].run();
+    return count > 1 ? 2 : 0;
+}
