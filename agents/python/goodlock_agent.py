@@ -12,14 +12,18 @@ or a part of a program:
 The collector is the one of the agent for pthreads. It is another process, outlives the program, and makes the report.
 
 `threading.Lock` and `threading.RLock` then make locks that record their acquires and releases. `Thread.start` records a fork,
-`Thread.join` a join. Semaphores, conditions, events and barriers record who goes on after whom. A release, a fork and what is given are
-recorded before the call, an acquire, a join and what is received after it. No thread waits for the agent.
+`Thread.join` a join. Semaphores, conditions, events, barriers, queues and futures record who goes on after whom. A release, a fork and what
+is given are recorded before the call, an acquire, a join and what is received after it. No thread waits for the agent.
 """
 import _thread
+import collections
 import contextlib
+import importlib.util
 import itertools
 import mmap
+import operator
 import os
+import queue
 import runpy
 import struct
 import subprocess
@@ -33,10 +37,11 @@ R_LOCK, R_TRIED, R_TIMED, R_UNLOCK = range(9, 13)
 R_GIVE, R_TAKE = 19, 20
 WAITS_FOR_LOCK, WAITS_FOR_THREAD = 1, 2
 # The shared memory; collector.c tests that these are the offsets in ring.h.
-NEXT, CONSUMED, THREADS, OWNER, ATTACHED, OFF, FINISHED, SITES_USED, TEXT = 0, 64, 128, 132, 144, 148, 152, 160, 164
+NEXT, MAGIC, CONSUMED, THREADS, OWNER, ATTACHED, OFF, FINISHED, SITES_USED, TEXT = 0, 8, 64, 128, 132, 144, 148, 152, 160, 164
 WAITS, SLOTS, SIZE, MOST_WAITS, MOST_SLOTS, MOST_TEXT = 1_048_768, 2_097_344, 18_874_560, 1 << 14, 1 << 18, 1 << 20
 RECORD, NUMBER, PLACE = struct.Struct("<QQIBB30s"), struct.Struct("I"), struct.Struct("Q")  # native: written in one step
 WAIT = struct.Struct("<IIQ5Q")
+RING_MAGIC = 0x31676E69726C6467
 SECONDS_WITHOUT_PROGRESS = 30
 
 HERE = os.path.dirname(os.path.abspath(__file__))
@@ -45,6 +50,8 @@ COLLECTOR = os.path.join(ROOT, "agents", "pthread", "out", "collector")
 REAL_LOCK, REAL_RLOCK = _thread.allocate_lock, threading.RLock
 OWN_FILES = {__file__, threading.__file__, contextlib.__file__, runpy.__file__}
 LIBRARY = tuple(os.path.join(path, "") for path in {sysconfig.get_path("stdlib"), os.path.dirname(os.__file__)})
+PACKAGES = tuple(os.path.join(path, name, "") for path in LIBRARY for name in ("site-packages", "dist-packages"))
+MOST_CALLERS = 100
 
 
 def say(text):
@@ -55,11 +62,17 @@ def say(text):
 class Recorder:
     """Writes records to the shared memory. Its methods use no lock: a signal handler or a finalizer may call them at any point."""
 
+    objects = itertools.count(8, 8)  # also unique in a process that is traced twice
+
     def __init__(self, path, frames):
+        if not getattr(sys, "_is_gil_enabled", lambda: True)():
+            raise OSError("this interpreter runs without the global interpreter lock, which the agent needs")
         with open(path, "r+b") as file:
             self.memory = mmap.mmap(file.fileno(), SIZE)
+        if PLACE.unpack_from(self.memory, MAGIC)[0] != RING_MAGIC or NUMBER.unpack_from(self.memory, ATTACHED)[0]:
+            raise OSError(f"{path} is of another run")
         self.frames = frames
-        self.places, self.numbers, self.objects = itertools.count(), itertools.count(1), itertools.count(8, 8)
+        self.places, self.numbers = itertools.count(), itertools.count(1)
         self.here = threading.local()
         self.here.number = 0
         self.sites, self.known, self.registers = {}, {}, REAL_LOCK()  # numbers by text, and by code and line
@@ -89,25 +102,33 @@ class Recorder:
         finally:
             self.registers.release()
 
+    def number_of_line(self, frame):
+        """Returns the number of the line that a frame executes."""
+        code, line = key = frame.f_code, frame.f_lineno
+        number = self.known.get(key)
+        if number is None:
+            text = f"{os.path.abspath(code.co_filename)}:{line} in {code.co_name.strip('<>')}"
+            number = self.sites.get(text)
+            if number is None:
+                number = self.register(text)
+            if number:
+                self.known[key] = number
+        return number
+
     def callers(self):
-        """Returns the numbers of the callers: the innermost lines outside the agent, until enough are outside the library too."""
-        frame, found, own = sys._getframe(2), [], 0
-        while frame and len(found) < 5 and own < self.frames:
+        """Returns the numbers of the innermost lines outside the agent and the library, or else of the library's innermost line."""
+        frame, found, innermost = sys._getframe(2), [], None
+        for _ in range(MOST_CALLERS):
+            if not frame or len(found) == self.frames:
+                break
             path = frame.f_code.co_filename
             if path not in OWN_FILES and not path.startswith("<frozen"):
-                key = (frame.f_code, frame.f_lineno)
-                number = self.known.get(key)
-                if number is None:
-                    text = f"{os.path.abspath(path)}:{frame.f_lineno} in {frame.f_code.co_name.strip('<>')}"
-                    number = self.sites.get(text)
-                    if number is None:
-                        number = self.register(text)
-                    if number:
-                        self.known[key] = number
-                found.append(number)
-                own += not path.startswith(LIBRARY)
+                if not path.startswith(LIBRARY) or path.startswith(PACKAGES):
+                    found.append(self.number_of_line(frame))
+                elif innermost is None:
+                    innermost = frame
             frame = frame.f_back
-        return found
+        return found if found or innermost is None else [self.number_of_line(innermost)]
 
     # ---- records ----
 
@@ -125,8 +146,11 @@ class Recorder:
         NUMBER.pack_into(self.memory, THREADS, number + 1)
         return number
 
+    def is_recording(self):
+        return self.is_on and os.getpid() == self.process  # a child by fork is not traced
+
     def record(self, kind, address, other=0):
-        if self.is_on and os.getpid() == self.process:  # a child by fork is not traced
+        if self.is_recording():
             self.write(self.number(), kind, address, other, self.callers())
 
     def write(self, thread, kind, address, other, callers):
@@ -155,7 +179,7 @@ class Recorder:
     @contextlib.contextmanager
     def waiting(self, kind, address):
         """Shows what this thread waits for."""
-        if not self.is_on or os.getpid() != self.process:
+        if not self.is_recording():
             yield
             return
         thread, callers = self.number(), self.callers()
@@ -194,8 +218,27 @@ def address_of(thing):
         return thing.goodlock_address
 
 
+def give(thing):
+    """What this thread did is before what a receiver does."""
+    recorder.record(R_GIVE, address_of(thing))
+    thing.goodlock_receivers = set()
+
+
+def receive(thing):
+    """This thread comes after those who gave. It is recorded once until somebody gives again: a loop may ask an event often."""
+    receivers = getattr(thing, "goodlock_receivers", None)
+    if receivers is None or not recorder.is_recording():
+        return
+    number = recorder.number()
+    if number not in receivers:
+        receivers.add(number)  # first: after the set is replaced, what is recorded comes after what was given
+        recorder.record(R_TAKE, address_of(thing))
+
+
 def is_of_the_library(depth=2):
-    return sys._getframe(depth).f_globals.get("__name__") == "threading"
+    """Whether the library calls for itself. `run` of a thread or a timer, `cancel` of a timer and `wait_for` call for the program."""
+    frame = sys._getframe(depth)
+    return frame.f_globals.get("__name__") == "threading" and frame.f_code.co_name not in ("run", "cancel", "wait_for")
 
 
 class TracedLock:
@@ -211,26 +254,20 @@ class TracedLock:
         return lock
 
     def acquire(self, blocking=True, timeout=-1):
-        if not self.within.acquire(False):
-            if not blocking:
-                return self.within.acquire(False, timeout)  # also raises the real lock's errors
-            if timeout != -1:
-                if not self.within.acquire(True, timeout):
-                    return False
-            else:
+        if blocking == 1 and timeout == -1:
+            if not self.within.acquire(False):
                 with recorder.waiting(WAITS_FOR_LOCK, self.address):
                     self.within.acquire()
-        elif timeout != -1 and not (blocking and timeout >= 0):
-            self.within.release()
-            self.within.acquire(blocking, timeout)  # raises
+        elif not self.within.acquire(blocking, timeout):
+            return False
         self.has_acquired(R_TRIED if not blocking else R_TIMED if timeout != -1 else R_LOCK)
         return True
 
     def has_acquired(self, kind):
         condition = getattr(recorder.here, "condition", None)
-        if condition:  # a wait acquires the lock again: what the notifier gave comes first
+        if condition is not None:  # a wait acquires the lock again: what the notifier gave comes first
             recorder.here.condition = None
-            recorder.record(R_TAKE, condition)
+            receive(condition)
         recorder.record(kind, self.address)
 
     def release(self):
@@ -290,80 +327,206 @@ class TracedRLock(TracedLock):
             recorder.record(R_LOCK, self.address)
 
 
+class Finder:
+    """Finds a module as the other finders do, and calls a function with it after its import. So the agent does not import it by itself:
+    the import of `concurrent.futures` makes locks."""
+
+    def __init__(self, name, then):
+        self.name, self.then = name, then
+
+    def find_spec(self, name, _path=None, _target=None):
+        if name != self.name:
+            return None
+        sys.meta_path.remove(self)
+        spec = importlib.util.find_spec(name)
+        if spec and hasattr(spec.loader, "exec_module"):
+            spec.loader.exec_module = self.exec_and_patch(spec.loader)
+        return spec
+
+    def exec_and_patch(self, loader):
+        def exec_module(module):
+            del loader.exec_module
+            loader.exec_module(module)
+            self.then(module)
+
+        return exec_module
+
+
 class Patches:
-    """Replaces functions of `threading`, and restores them."""
+    """Replaces functions of modules and classes, and restores them."""
 
     def __init__(self):
-        self.before = []
+        self.before, self.finders = [], []
+
+    def when_imported(self, name, then):
+        if name in sys.modules:
+            then(sys.modules[name])
+        else:
+            self.finders.append(Finder(name, then))
+            sys.meta_path.insert(0, self.finders[-1])
 
     def put(self, where, name, make):
-        before = getattr(where, name)
-        self.before.append((where, name, before))
-        setattr(where, name, make(before))
+        self.before.append((where, name, vars(where).get(name)))
+        setattr(where, name, make(getattr(where, name)))
 
     def restore(self):
+        sys.meta_path[:] = [finder for finder in sys.meta_path if finder not in self.finders]
         for where, name, before in reversed(self.before):
-            setattr(where, name, before)
+            if before is None:
+                delattr(where, name)  # it was inherited
+            else:
+                setattr(where, name, before)
 
 
-def gives(real):
-    """The call gives: what the caller did before is before what a receiver does."""
+def itself(thing):
+    return thing
+
+
+def always(_):
+    return True
+
+
+def gives(real, means=itself):
+    """The call gives: what the caller did before is before what a receiver does. `means` returns the object that hands over."""
 
     def method(self, *args, **named):
-        if recorder.is_inside() or is_of_the_library():
-            return real(self, *args, **named)
-        recorder.record(R_GIVE, address_of(self))
+        if not recorder.is_inside() and not is_of_the_library():
+            give(means(self))
         return real(self, *args, **named)
 
     return method
 
 
-def takes(real):
-    """The call receives if it returns a true value."""
+def takes(real, has_received=bool, means=itself):
+    """The call receives if `has_received` is true for what it returns, by default if that is true itself."""
 
     def method(self, *args, **named):
         if recorder.is_inside() or is_of_the_library():
             return real(self, *args, **named)
         with recorder.inside():
             result = real(self, *args, **named)
-        if result:
-            recorder.record(R_TAKE, address_of(self))
+        if has_received(result):
+            receive(means(self))
         return result
 
     return method
 
 
 def meets(real):
-    """The call gives, and receives when it returns."""
+    """The call gives, and receives when it ends, also by an exception: `abort` gives too."""
 
     def method(self, *args, **named):
-        recorder.record(R_GIVE, address_of(self))
-        with recorder.inside():
-            result = real(self, *args, **named)
-        recorder.record(R_TAKE, address_of(self))
-        return result
+        give(self)
+        try:
+            with recorder.inside():
+                return real(self, *args, **named)
+        finally:
+            receive(self)
 
     return method
 
 
+def receive_from(future):
+    """Receives from a future if it is done. Its `done` would acquire its lock."""
+    if future._state not in ("PENDING", "RUNNING"):
+        receive(future)
+
+
+def takes_outcome(real):
+    """The call receives if the future is done when it returns, or raises what the task has raised."""
+
+    def method(self, *args, **named):
+        try:
+            return real(self, *args, **named)
+        finally:
+            receive_from(self)
+
+    return method
+
+
+def takes_all_done(real):
+    def wait(*args, **named):
+        result = real(*args, **named)
+        for future in result.done:
+            receive_from(future)
+        return result
+
+    return wait
+
+
+def takes_each(real):
+    def as_completed(*args, **named):
+        for future in real(*args, **named):
+            receive_from(future)
+            yield future
+
+    return as_completed
+
+
+def calls_back(real):
+    """A callback comes after the task, also if the task is done and the caller runs it at once."""
+
+    def add_done_callback(self, function):
+        def receive_and_call(future):
+            receive_from(future)
+            return function(future)
+
+        return real(self, receive_and_call)
+
+    return add_done_callback
+
+
+def simple_queue(real):
+    class SimpleQueue(real):
+        """Each item in the queue hands over by itself: who gets it comes after the one who put it, and after no later one."""
+
+        def __new__(cls, *_, **__):
+            made = super().__new__(cls)
+            made.free = collections.deque()  # addresses that no item has; its methods are atomic
+            return made
+
+        def put(self, item, block=True, timeout=None):
+            try:
+                address = self.free.pop()
+            except IndexError:
+                address = next(recorder.objects)
+            recorder.record(R_GIVE, address)
+            super().put((address, item), block, timeout)
+
+        def get(self, block=True, timeout=None):
+            address, item = super().get(block, timeout)
+            recorder.record(R_TAKE, address)
+            self.free.append(address)
+            return item
+
+        def put_nowait(self, item):
+            self.put(item)
+
+        def get_nowait(self):
+            return self.get(False)
+
+    SimpleQueue.__module__, SimpleQueue.__qualname__ = real.__module__, real.__qualname__
+    return SimpleQueue
+
+
 def waits_for_notice(real):
     def wait(self, timeout=None):
-        if recorder.is_inside() or is_of_the_library() and sys._getframe(1).f_code.co_name != "wait_for":
+        if recorder.is_inside() or is_of_the_library():
             return real(self, timeout)
-        recorder.here.condition = address_of(self)
+        recorder.here.condition = self
         try:
             return real(self, timeout)
         finally:
-            if recorder.here.condition:
+            if recorder.here.condition is not None:
                 recorder.here.condition = None
-                recorder.record(R_TAKE, address_of(self))
+                receive(self)
 
     return wait
 
 
 def starts(real):
     def start(thread):
-        if not recorder.is_on or os.getpid() != recorder.process or thread._started.is_set():
+        if not recorder.is_recording() or thread._started.is_set():
             return real(thread)  # raises if it was started before
         child, run = recorder.new_number(), thread.run
 
@@ -387,7 +550,7 @@ def starts(real):
 def joins(real):
     def join(thread, timeout=None):
         child = getattr(thread, "goodlock_number", None)
-        if child is None or not recorder.is_on or os.getpid() != recorder.process:
+        if child is None or not recorder.is_recording():
             return real(thread, timeout)
         recorder.record(R_JOINS, child + 1)
         with contextlib.ExitStack() as stack:
@@ -401,6 +564,29 @@ def joins(real):
     return join
 
 
+def patch_queues(patches):
+    all_done = operator.attrgetter("all_tasks_done")
+    patches.put(queue.Queue, "put", gives)
+    patches.put(queue.Queue, "get", lambda real: takes(real, always))
+    patches.put(queue.Queue, "task_done", lambda real: gives(real, all_done))
+    patches.put(queue.Queue, "join", lambda real: takes(real, always, all_done))
+    if hasattr(queue, "SimpleQueue"):  # since Python 3.7
+        patches.put(queue, "SimpleQueue", simple_queue)
+
+
+def patch_futures(patches, base):
+    """`base` is concurrent.futures._base."""
+    for name in ("set_result", "set_exception", "cancel"):
+        patches.put(base.Future, name, gives)
+    for name in ("result", "exception", "done", "cancelled"):
+        patches.put(base.Future, name, takes_outcome)
+    patches.put(base.Future, "add_done_callback", calls_back)
+    for module in (base, sys.modules["concurrent.futures"]):
+        if hasattr(module, "wait"):  # the package imports these names of `base` later
+            patches.put(module, "wait", takes_all_done)
+            patches.put(module, "as_completed", takes_each)
+
+
 def attach(path, frames):
     """Records from here on. Returns the patches."""
     global recorder
@@ -408,6 +594,8 @@ def attach(path, frames):
     patches = Patches()
     patches.put(threading, "Lock", lambda _: TracedLock)
     patches.put(threading, "RLock", lambda _: TracedRLock)
+    patch_queues(patches)
+    patches.when_imported("concurrent.futures._base", lambda base: patch_futures(patches, base))
     patches.put(threading.Thread, "start", starts)
     patches.put(threading.Thread, "join", joins)
     for kind in (threading.Semaphore, threading.BoundedSemaphore):
@@ -417,7 +605,11 @@ def attach(path, frames):
         patches.put(kind, "__exit__", lambda _, kind=kind: lambda self, *_: self.release())
     patches.put(threading.Event, "set", gives)
     patches.put(threading.Event, "wait", takes)
+    for name in ("is_set", "isSet"):
+        if hasattr(threading.Event, name):
+            patches.put(threading.Event, name, takes)
     patches.put(threading.Barrier, "wait", meets)
+    patches.put(threading.Barrier, "abort", gives)
     patches.put(threading.Condition, "wait", waits_for_notice)
     patches.put(threading.Condition, "notify", gives)
     patches.put(threading.Condition, "notify_all", gives)
@@ -448,8 +640,10 @@ def tracing(out="goodlock", bound=None, server=None, stacks=None, options=()):
             raise OSError("the collector has not started")
         patches = attach(path, int(frames or 1))
         run.is_traced = True
-    except (OSError, subprocess.SubprocessError) as error:
+    except (OSError, ValueError, subprocess.SubprocessError) as error:
         say(f"cannot trace: {error}; the program runs on")
+        if collector:
+            collector.kill()  # it would wait for this process
     try:
         yield run
     finally:
@@ -468,7 +662,7 @@ def start():
     if path and not recorder:
         try:
             attach(path, int(os.environ.pop("GOODLOCK_STACKS", "1")))
-        except OSError as error:
+        except (OSError, ValueError) as error:  # mmap raises both
             say(f"cannot trace: {error}; the program runs on")
 
 
