@@ -1,5 +1,5 @@
 //! Tests of public calls that no command makes: the least reached instance of a cycle, its witness,
-//! the closure of places, and whether a trace has inner acquires.
+//! the closure of places, and the test for inner acquires.
 
 ghost use Rattle.std.specs.Prelude.{◌≡◌, ℕ, ◌<◌, length, IsTrue};
 ghost use Rattle.std.specs.List.{Contains};

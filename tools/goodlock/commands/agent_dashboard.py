@@ -126,6 +126,8 @@ def main() -> int:
         refuse("--dashboard takes a number of seconds; --help explains the options")
     if "--server" in options and not is_address(options["--server"]):
         refuse("--server is an IPv4 address and a port; --help explains the options")
+    if "%p" in trace:
+        refuse("--dashboard reads the trace while the program runs: choose a name without %p for --out")
     with server_at(options.get("--server")) as server, work_folder() as folder:
         dashboard = start(server, trace, "127.0.0.1", 0, folder)
         threading.Thread(target=dashboard.serve_forever, daemon=True).start()
