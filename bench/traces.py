@@ -11,6 +11,7 @@ usage: bench/traces.py KIND NUMBER ..
   pairs LOCKS          four threads acquire all pairs of LOCKS locks, in one order
   orders LOCKS         four threads acquire all pairs of LOCKS locks, in both orders
   ring LOCKS           eight threads acquire the pairs of LOCKS locks in a ring that are one to four apart
+  couples THREADS WRITES    each two of THREADS threads acquire two locks of their own in opposite orders; then thread 0 writes WRITES times
   small SEED EVENTS    a random lawful trace of four threads and four locks
 
 Each NUMBER is 1 or more, SEED 0 or more. goodlockd accepts at most 1048576 events.
@@ -109,6 +110,16 @@ def ring(locks):
     return words
 
 
+def couples(threads, writes):
+    """Each couple is a confirmed cycle. Its witness has at most the forks and the sections of two threads."""
+    words = forks(threads)
+    for first in range(1, threads + 1):
+        for second in range(first + 1, threads + 1):
+            locks = [first * threads + second, (first + threads) * threads + second]
+            words += section(first, locks) + section(second, locks[::-1])
+    return words + ["0w1"] * writes
+
+
 def small(seed, events):
     """Random lawful events of four threads, four locks and two variables. Some acquires are inner; thread 3 may be joined."""
     chooser = random.Random(seed)
@@ -153,6 +164,7 @@ KINDS = {
     "pairs": pairs,
     "orders": orders,
     "ring": ring,
+    "couples": couples,
     "small": small,
 }
 

@@ -182,7 +182,7 @@ fn check<'a>(alloc: Global) -> Result<Command<'a>, AllocError>
     Command::new(alloc, "check")
         .about("Checks explained cycles against a trace")
         .arg(positional(alloc, "trace", "TRACE", "The file of events"))?
-        .arg(positional(alloc, "file", "FILE", "The output of explain"))
+        .arg(positional(alloc, "file", "FILE", "The output of explain or offline"))
 }
 
 /// Returns the program with one more command.

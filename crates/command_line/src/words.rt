@@ -1,5 +1,7 @@
 //! The words of a command line, and printing what is not a command.
 
+ghost use Rattle.std.specs.Prelude.{◌≡◌, map, string_bytes, IfOk};
+
 use clap::Error;
 use clap::error::ErrorKind;
 use std::alloc::{AllocError, Global};
@@ -10,7 +12,10 @@ use std::io;
 /// # Errors
 ///
 /// If an allocation fails.
-pub fn words_of<'a>(alloc: Global, arguments: &'a [String]) -> Result<Vec<&'a str>, AllocError> {
+pub fn words_of<'a>(alloc: Global, arguments: &'a [String]) -> Result<Vec<&'a str>, AllocError>
+    ensures { IfOk result
+        (λ words. map (λ w. w.now) words.items ≡ map string_bytes arguments.now) }
+{
     let mut words = Vec::new(alloc);
     for argument in arguments {
         words.push(argument.as_str())?;

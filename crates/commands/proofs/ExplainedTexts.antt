@@ -1,10 +1,11 @@
 -- The texts of rows, with more of them.
-use Rattle.std.proofs.Common.{◌≡◌, ◌≢◌, Bool, false, nat_eq, IfOk, ℕ, zero, suc, ◌+◌, ◌<◌, ◌≤◌, get_or, List, [], ◌∷◌, ◌++◌, ◌∙◌, length, take, slice_get, arith, map, option_map, inl, inr, subst, length-append, Option, Some, None, MatchOption, true, refl, sym, ap, true≢false}
-use Rattle.std.specs.Prelude.{is_some, Result, Ok, Err}
-use Rattle.std.specs.Io.KnownBytes.{Appends}
-use Rattle.std.specs.List.{All, AllZip, Contains, flat_map}
+use Rattle.std.proofs.Common.{◌≡◌, ◌≢◌, Bool, false, nat_eq, ℕ, zero, suc, ◌+◌, ◌<◌, ◌≤◌, get_or, List, [], ◌∷◌, ◌++◌, ◌∙◌, length, take, slice_get, arith, map, option_map, inl, inr, subst, length-append, Option, Some, None, MatchOption, true, refl, sym, ap, true≢false}
+use Rattle.std.specs.Prelude.{is_some}
+use Rattle.std.specs.List.{All, AllZip, Contains}
 use Rattle.std.specs.Cmp.Lexicographic.{pointwise, bytes_decides}
+use Rattle.std.proofs.Math.Seq.{take-append-add}
 use Rattle.std.proofs.lemmas.List.{append-nil}
+use Rattle.std.proofs.Common.{append_assoc}
 use Rattle.std.proofs.lemmas.List.Elements.{All-contains, All-map, Contains-get_or}
 use Rattle.std.proofs.lemmas.Option.{none-some, same_Some, slice_get-map, slice_get_within, get_or_from_slice_get}
 use Rattle.std.proofs.lemmas.List.Concat.{flat_map-append, flat_map-cons}
@@ -12,17 +13,11 @@ use Rattle.trace_model.specs.Theory.Trace.{Trace}
 use Rattle.trace_model.specs.Theory.Rows.{IsRow, Row}
 use Rattle.trace_model.specs.Theory.Dependencies.{dependencies}
 use Rattle.trace_model.specs.Theory.Cycles.{IsCycle}
-use Rattle.reports.specs.Printed.{Printed}
-use Rattle.snapshots.specs.Found.{AreRowsOf}
-use Rattle.findings.specs.declared.computing.ComputeRefused.{ComputeRefused}
-use Rattle.findings.specs.declared.computing.ComputeRefused.TheVariants.{TooManyCycles}
+use Rattle.reports.specs.Printed.{Printed, with_dependencies}
+use Rattle.snapshots.specs.Found.{AreRowsOf, FoundRows}
 use Rattle.cycle_search.proofs.Listing.{get-split}
-use Rattle.commands.specs.declared.exit.CommandError.{CommandError}
-use Rattle.commands.specs.declared.exit.Status.{Status}
-use Rattle.commands.specs.declared.exit.Status.TheVariants.{Done, Refused, Error, NotUnderstood}
-use Rattle.commands.specs.Replay.{AreLawfulEventsOf}
-use Rattle.commands.specs.Explain.{AddsExplanations, Explains, ExplainsChosen, ExplainsTasks, ExplainTells, HasTooMany, IsExplanation, RefusesChosen, RefusesTasks, too_many_line}
-use Rattle.commands.proofs.CheckedCycles.{appends_more}
+use Rattle.commands.specs.Explain.{AreRowsUpTo, Explains, ExplainsSome, IsExplanation}
+use Rattle.commands.specs.ExplainFindings.{rows_in}
 
 -- The second fact holds for each value, and there is one.
 pub of_some : {X : Type 0} (o : Option X) (A B : Type 0) → is_some o ≡ true → B → MatchOption o A (λ _. B)
@@ -45,10 +40,6 @@ explains_more s rows others text more (xs, are, is) (ys, also, too) =
 pub explains_one : (s : Trace) (row : Printed) (text : List ℕ) → IsExplanation s row text → Explains s (row ∷ []) text
 explains_one s row text is = (text ∷ [], (is, tt), sym (flat_map-cons (λ (part : List ℕ). part) text [] ∙ append-nil text))
 
--- The output grew by the texts of some rows, and then by those of others.
-pub adds_more : (s : Trace) (rows others : List Printed) (a b c : Option (List ℕ)) → AddsExplanations s rows a b → AddsExplanations s others b c → AddsExplanations s (rows ++ others) a c
-adds_more s rows others a b c (x, is, grew) (y, also, more) = (x ++ y, explains_more s rows others x y is also, appends_more a b c x y grew more)
-
 -- The element at an index ends the list of one more element.
 at_suc : {X : Type 0} (xs : List X) (i : ℕ) → i < length xs → (x : X) × (slice_get xs i ≡ Some x) × (take (suc i) xs ≡ take i xs ++ x ∷ [])
 at_suc [] i l = absurd (omega (arith, l))
@@ -60,42 +51,6 @@ at_index xs i l =
     let (x, at, more) = at_suc xs i l in
     let next : i + 1 ≡ suc i = omega arith in
     (x, at, ap (λ n. take n xs) next ∙ more)
-
--- Nothing is written.
-pub adds_none : (s : Trace) (a : Option (List ℕ)) → AddsExplanations s [] a a
-adds_none s a = ([], explains_none s, unwritten a)
-  where
-    unwritten : (a : Option (List ℕ)) → Appends a a []
-    unwritten None = tt
-    unwritten (Some xs) = sym (append-nil xs)
-
-pub explained_none : (s : Trace) (bound : ℕ) (a : Option (List ℕ)) → ExplainsTasks s bound 0 a a
-explained_none s bound a = ([], record { total = refl; each = λ task rows is. absurd (none-some rows is) }, adds_none s a)
-
--- The texts of the rows of one more task.
-pub explained_more : (s : Trace) (bound n : ℕ) (rows : List Printed) (a b c : Option (List ℕ)) → ExplainsTasks s bound n a b → AreRowsOf s bound n rows → AddsExplanations s rows b c →
-    ExplainsTasks s bound (n + 1) a c
-explained_more s bound n rows a b c (tasks, upto, adds) are more = (
-  tasks ++ rows ∷ [],
-  record {
-    total = omega (arith, upto.total, length-append tasks (rows ∷ []));
-    each = λ task found is. elim (get-split tasks (rows ∷ []) task found is) [
-      | inl h ↦ upto.each task found h.0
-      | inr h ↦ last task found h.0 h.1 h.2
-    ];
-  },
-  subst (λ all. AddsExplanations s all a c) (sym joined) (adds_more s (flat_map (λ rows. rows) tasks) rows a b c adds more),
-)
-  where
-    joined : flat_map (λ (rows : List Printed). rows) (tasks ++ rows ∷ []) ≡ flat_map (λ (rows : List Printed). rows) tasks ++ rows
-    joined = flat_map-append (λ (rows : List Printed). rows) tasks (rows ∷ [])
-        ∙ ap (λ l. flat_map (λ (rows : List Printed). rows) tasks ++ l) (flat_map-cons (λ (rows : List Printed). rows) rows [] ∙ append-nil rows)
-
-    last : (task : ℕ) (found : List Printed) (j : ℕ) → task ≡ length tasks + j → slice_get (rows ∷ []) j ≡ Some found → AreRowsOf s bound task found
-    last task found zero e is =
-        let here : n ≡ task = omega (arith, e, upto.total) in
-        subst (λ k. AreRowsOf s bound k found) here (subst (AreRowsOf s bound n) (same_Some rows found is) are)
-    last task found (suc j) e is = absurd (none-some found is)
 
 -- The row of a task is exact.
 pub row_at : (s : Trace) (bound task : ℕ) (rows : List Printed) (i : ℕ) (row : Printed) → slice_get rows i ≡ Some row → AreRowsOf s bound task rows → IsRow s row.row
@@ -115,7 +70,7 @@ cycle_at s bound task rows i row at are =
     let listed = subst (λ c. Contains cycles c) (get_or_from_slice_get cycles i row.row.cycle row.row.cycle there) (Contains-get_or cycles i row.row.cycle within) in
     ((are.exact.cycles.exact row.row.cycle).0 listed).0
 
--- Lists that a test tells apart are different.
+-- Lists that a test finds different are different.
 pub told_apart : (xs ys : List ℕ) (b : Bool) → b ≡ pointwise nat_eq xs ys → b ≡ false → xs ≢ ys
 told_apart xs ys b told apart same = true≢false (sym ((bytes_decides xs ys).1 same) ∙ sym told ∙ apart)
 
@@ -133,19 +88,63 @@ pub first_is : (xs : List ℕ) → 2 ≤ length xs → slice_get xs 0 ≡ Some (
 first_is [] l = absurd (omega (arith, l))
 first_is (x ∷ xs) l = refl
 
--- A task with too many cycles is refused, and the earlier ones are explained.
-pub refused_tasks : (s : Trace) (bound task : ℕ) (before middle after : Option (List ℕ)) (refused : ComputeRefused) (r : Result Status CommandError) → ExplainsTasks s bound task before middle →
-    (refused ≡ TooManyCycles → HasTooMany s bound task) → IfOk r (λ _. refused ≡ TooManyCycles) →
-    IfOk r (λ status. (status ≡ Refused) × Appends middle after too_many_line) → IfOk r (λ status. status ≡ Refused → RefusesTasks s bound before after)
-refused_tasks s bound task before middle after refused (Ok status) explained many reason written = λ _. (task, middle, many reason, explained, written.1)
-refused_tasks s bound task before middle after refused (Err error) explained many reason written = tt
+-- The row has the dependencies of its numbers.
+pub named_at : (s : Trace) (bound task : ℕ) (rows : List Printed) (i : ℕ) (row : Printed) → slice_get rows i ≡ Some row → AreRowsOf s bound task rows → row ≡ with_dependencies (dependencies s) row.row
+named_at s bound task rows i row at are =
+    subst (λ (p : Printed). p ≡ with_dependencies (dependencies s) p.row) (get_or_from_slice_get rows i row row at) (are.named i row (slice_get_within rows i row at))
 
--- What a status says of lawful events, it says of their file.
-pub ended_tells : (file : List ℕ) (bound : ℕ) (cycle before after : Option (List ℕ)) (events : Trace) → AreLawfulEventsOf events file → (r : Result Status CommandError) →
-    IfOk r (λ status. status ≡ Done → ExplainsChosen events bound cycle before after) → IfOk r (λ status. status ≡ Refused → RefusesChosen events bound cycle before after) →
-    IfOk r (λ status. status ≢ NotUnderstood) → IfOk r (λ status. ExplainTells file bound cycle status before after)
-ended_tells file bound cycle before after events lawful (Ok Done) done refused understood = (events, lawful, done refl)
-ended_tells file bound cycle before after events lawful (Ok Refused) done refused understood = (events, lawful.0, inr (lawful.1, refused refl))
-ended_tells file bound cycle before after events lawful (Ok Error) done refused understood = tt
-ended_tells file bound cycle before after events lawful (Ok NotUnderstood) done refused understood = absurd (understood refl)
-ended_tells file bound cycle before after events lawful (Err error) done refused understood = tt
+-- ---- all tasks
+
+-- The rows of one more task.
+pub rows_more : (s : Trace) (bound n : ℕ) (tasks : List (List Printed)) (rows : List Printed) → AreRowsUpTo s bound n tasks → AreRowsOf s bound n rows → AreRowsUpTo s bound (n + 1) (tasks ++ rows ∷ [])
+rows_more s bound n tasks rows upto are = record {
+  total = omega (arith, upto.total, length-append tasks (rows ∷ []));
+  each = λ task found is. elim (get-split tasks (rows ∷ []) task found is) [
+    | inl h ↦ upto.each task found h.0
+    | inr h ↦ last task found h.0 h.1 h.2
+  ];
+}
+  where
+    last : (task : ℕ) (found : List Printed) (j : ℕ) → task ≡ length tasks + j → slice_get (rows ∷ []) j ≡ Some found → AreRowsOf s bound task found
+    last task found zero e is =
+        let here : n ≡ task = omega (arith, e, upto.total) in
+        subst (λ k. AreRowsOf s bound k found) here (subst (AreRowsOf s bound n) (same_Some rows found is) are)
+    last task found (suc j) e is = absurd (none-some found is)
+
+pub rows_none : (s : Trace) (bound : ℕ) → AreRowsUpTo s bound 0 []
+rows_none s bound = record { total = refl; each = λ task rows is. absurd (none-some rows is) }
+
+-- The same rows of the same task.
+pub rows_as : (s t : Trace) (b d k l : ℕ) (rows : List Printed) → s ≡ t → b ≡ d → k ≡ l → AreRowsOf s b k rows → AreRowsOf t d l rows
+rows_as s t b d k l rows p q r are =
+    subst (λ task. AreRowsOf t d task rows) r (subst (λ bound. AreRowsOf t bound k rows) q (subst (λ events. AreRowsOf events b k rows) p are))
+
+-- The rows of one more finding.
+pub rows_in_more : (fs : List FoundRows) (f : FoundRows) → rows_in (fs ++ f ∷ []) ≡ rows_in fs ++ f.rows
+rows_in_more fs f =
+    let g : FoundRows → List Printed = λ x. x.rows in
+    flat_map-append g fs (f ∷ []) ∙ ap (λ l. rows_in fs ++ l) (flat_map-cons g f [] ∙ append-nil f.rows)
+
+-- The first elements of a list are first ones of a longer list.
+first_of_more : {X : Type 0} (n : ℕ) (xs ys : List X) → (m : ℕ) × (take m (xs ++ ys) ≡ take n xs)
+first_of_more zero xs ys = (0, refl)
+first_of_more (suc n) [] ys = (0, refl)
+first_of_more (suc n) (x ∷ xs) ys = let (m, e) = first_of_more n xs ys in (suc m, ap (λ l. x ∷ l) e)
+
+-- The texts of some rows, and then of the first of others, are those of the first of all.
+pub some_more : (s : Trace) (rows others rest : List Printed) (text more : List ℕ) → Explains s rows text → ExplainsSome s others more → ExplainsSome s ((rows ++ others) ++ rest) (text ++ more)
+some_more s rows others rest text more is (n, also) =
+    let (m, e) = first_of_more n others rest in
+    let same : take (length rows + m) ((rows ++ others) ++ rest) ≡ rows ++ take n others =
+    ap (take (length rows + m)) (append_assoc rows others rest) ∙ take-append-add rows (others ++ rest) m ∙ ap (λ l. rows ++ l) e in
+    (length rows + m, subst (λ l. Explains s l (text ++ more)) (sym same) (explains_more s rows (take n others) text more is also))
+
+-- The texts of some rows are those of the first of all.
+pub some_all : (s : Trace) (rows rest : List Printed) (text : List ℕ) → Explains s rows text → ExplainsSome s (rows ++ rest) text
+some_all s rows rest text is =
+    let (m, e) = first_of_more (length rows) rows rest in
+    (m, subst (λ l. Explains s l text) (sym (e ∙ take_whole rows)) is)
+  where
+    take_whole : (xs : List Printed) → take (length xs) xs ≡ xs
+    take_whole [] = refl
+    take_whole (x ∷ xs) = ap (λ l. x ∷ l) (take_whole xs)

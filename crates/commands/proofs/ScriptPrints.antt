@@ -1,7 +1,5 @@
 -- What commands of a script print, one after the other.
 use Rattle.std.proofs.Common.{◌≡◌, ℕ, List, [], ◌∷◌, ◌++◌, Option, Some, None, Result, Ok, Err, length, get_or, refl, sym, ap, subst, ◌∙◌, append_assoc, arith}
-use Rattle.std.specs.Prelude.{IfErr}
-use Rattle.std.specs.Io.KnownBytes.{Appends}
 use Rattle.std.specs.List.{All}
 use Rattle.std.proofs.lemmas.List.{append-nil, append_cancel_left}
 use Rattle.std.proofs.lemmas.List.Elements.{All-append, All-nil}
@@ -17,10 +15,12 @@ use Rattle.sequencer.specs.Called.{StepsOrMemory, WantsRightly}
 use Rattle.commands.specs.Exit.{status_of}
 use Rattle.commands.specs.Script.{reply_text}
 use Rattle.commands.specs.ScriptFile.{FitsCommand, RefusesCommands, SaysLines}
-use Rattle.commands.specs.ScriptTells.{Prints, PrintsAll, Replies, ScriptTells}
-use Rattle.commands.specs.declared.exit.Status.TheVariants.{Error}
+use Rattle.commands.specs.Output.{Ends}
+use Rattle.commands.specs.ScriptTells.{HasWrongCommand, Prints, PrintsAll, Replies, ScriptPrints}
+use Rattle.commands.proofs.Outputs.{cut_none}
+use Rattle.commands.specs.declared.exit.Status.{Status}
 use Rattle.commands.specs.declared.exit.CommandError.{CommandError}
-use Rattle.commands.specs.declared.exit.CommandError.TheVariants.{Line, Memory, Output}
+use Rattle.commands.specs.declared.exit.CommandError.TheVariants.{Line, Merged, Memory, Output}
 use Rattle.commands.specs.declared.script_command.reading.Command.{Command}
 
 -- ---- a request
@@ -63,10 +63,6 @@ replied s mid next given request reply steps rightly same kept = (
 
 -- ---- commands
 
-pub appends_nothing : (known : Option (List ℕ)) → Appends known known []
-appends_nothing None = tt
-appends_nothing (Some bytes) = sym (append-nil bytes)
-
 pub lines_fit : (lines : List (List ℕ)) (commands : List Command) → SaysLines lines commands → All FitsCommand commands
 lines_fit [] commands said = subst (All FitsCommand) (sym said) (All-nil FitsCommand)
 lines_fit (line ∷ lines) commands (first, rest, here, said, is) =
@@ -83,16 +79,9 @@ prints_more s mid last (c ∷ commands) command text more (next, first, rest, ow
 -- ---- errors
 
 -- a file that is not understood prints nothing
-pub not_understood : (file : List ℕ) (limit : ℕ) (before : Option (List ℕ)) (error : CommandError) → RefusesCommands (pieces_at 10 file) error → ScriptTells file limit (status_of error) before before
-not_understood file limit before (Line number) refused = (number, refused, refl)
-not_understood file limit before Memory refused = tt
+pub not_understood : (file : List ℕ) (limit : ℕ) (before : Option (List ℕ)) (error : CommandError) → RefusesCommands (pieces_at 10 file) error →
+    Ends (ScriptPrints file limit) (HasWrongCommand file) (status_of error) before before
+not_understood file limit before (Line number) refused = ((number, refused), refl)
+not_understood file limit before (Merged number) refused = absurd refused
+not_understood file limit before Memory refused = cut_none before (λ text. (status : Status) × ScriptPrints file limit status text)
 not_understood file limit before Output refused = absurd refused
-
-failed_as : (file : List ℕ) (limit : ℕ) (before after : Option (List ℕ)) (error : CommandError) → status_of error ≡ Error → ScriptTells file limit (status_of error) before after
-failed_as file limit before after error failed = subst (λ status. ScriptTells file limit status before after) (sym failed) tt
-
--- a failed run says nothing of the file
-pub run_fails : (file : List ℕ) (limit : ℕ) (before after : Option (List ℕ)) (r : Result Unit CommandError) → IfErr r (λ error. status_of error ≡ Error) →
-    IfErr r (λ error. ScriptTells file limit (status_of error) before after)
-run_fails file limit before after (Ok u) failed = tt
-run_fails file limit before after (Err error) failed = failed_as file limit before after error failed

@@ -9,7 +9,7 @@ use Rattle.commands.specs.Text.{labeled_line, refusal_words}
 use Rattle.commands.specs.declared.admission.Admission.{Admission}
 use Rattle.commands.specs.declared.admission.Admission.TheVariants.{Admitted, Refused}
 use Rattle.commands.specs.declared.exit.CommandError.{CommandError}
-use Rattle.commands.specs.declared.exit.CommandError.TheVariants.{Line, Memory, Output}
+use Rattle.commands.specs.declared.exit.CommandError.TheVariants.{Line, Merged, Memory, Output}
 
 -- either the file's events, which form a well-formed trace, or the first of them that is not lawful
 abbrev pub IsAdmissionOf : List ℕ → Admission → Type 0
@@ -21,9 +21,14 @@ IsAdmissionOf file (Refused first) =
 abbrev pub IsFirstBadIn : List ℕ → ℕ → Type 0
 IsFirstBadIn file number = IsFirstBad (pieces_at 10 file) number
 
+-- a line of the file is the first that is not understood
+abbrev pub HasBadLine : List ℕ → Type 0
+HasBadLine file = (number : ℕ) × IsFirstBadIn file number
+
 -- the error of parsing the file is right
 abbrev pub RefusesFile : List ℕ → CommandError → Type 0
 RefusesFile file (Line number) = IsFirstBadIn file number
+RefusesFile file (Merged number) = ⊥
 RefusesFile file Memory = Unit {0}
 RefusesFile file Output = ⊥
 

@@ -1,28 +1,25 @@
 -- What `explain` prints (this project's profile).
-use Rattle.std.specs.Prelude.{◌≡◌, ℕ, ◌<◌, ◌⊎◌, List, [], ◌∷◌, ◌++◌, codes, length, map, slice_get, Option, Some, MatchOption}
-use Rattle.std.specs.Io.KnownBytes.{Appends}
-use Rattle.std.specs.List.{AllZip, Contains, flat_map}
+use Rattle.std.specs.Prelude.{◌≡◌, ℕ, ◌<◌, ◌≤◌, ◌^◌, ◌⊎◌, List, [], ◌++◌, codes, count_by, decimal, length, map, slice_get, take, Option, Some, None, Result, Ok, Err, MatchOption}
+use Rattle.std.specs.List.{All, AllZip, Contains, flat_map}
 use Rattle.trace_model.specs.declared.refutations.Step.{Step}
 use Rattle.trace_model.specs.declared.limits.TheConstants.{MAX_CYCLES}
 use Rattle.trace_model.specs.declared.refusal.Refusal.TheVariants.{TooManyCycles}
 use Rattle.trace_model.specs.Theory.Trace.{Trace}
-use Rattle.trace_model.specs.Theory.Lawful.{IsWellFormed}
 use Rattle.trace_model.specs.Theory.Cycles.{IsConfirmed, IsCycle}
 use Rattle.trace_model.specs.Theory.Dependencies.{dependencies}
 use Rattle.trace_model.specs.Theory.Refutation.{IsRefutation}
 use Rattle.event_files.specs.Refutations.{refutation_text}
 use Rattle.trace_model.specs.Theory.Rows.{IsRow}
-use Rattle.wellformed.specs.declared.whole_lists.FirstUnlawful.{FirstUnlawful}
-use Rattle.wellformed.specs.FirstUnlawful.{IsFirstUnlawful}
 use Rattle.cycle_search.specs.Search.{CycleFrom, MoreThan}
-use Rattle.event_files.specs.EventFile.{AreEventsOf}
-use Rattle.commands.specs.Admission.{IsFirstBadIn, refused_at_line}
+use Rattle.event_files.specs.EventFile.{pieces_at}
+use Rattle.commands.specs.Admission.{HasBadLine}
+use Rattle.commands.specs.Output.{Ends}
 use Rattle.commands.specs.Text.{labeled, labeled_line, refusal_line}
-use Rattle.commands.specs.Replay.{AreLawfulEventsOf}
+use Rattle.commands.specs.Replay.{AreLawfulEventsOf, UnlawfulPrints}
 use Rattle.commands.specs.declared.exit.Status.{Status}
 use Rattle.commands.specs.declared.exit.Status.TheVariants.{Done, Refused, Error, NotUnderstood}
 use Rattle.reports.specs.Printed.{Printed, with_dependencies}
-use Rattle.reports.specs.Text.{row_text}
+use Rattle.reports.specs.Text.{about, counts, is_confirmed, row_text}
 use Rattle.snapshots.specs.Found.{AreRowsOf}
 
 -- The row of a cycle that is not confirmed, with the dependencies of its members.
@@ -46,10 +43,9 @@ abbrev pub Explains : Trace → List Printed → List ℕ → Type 0
 Explains s rows text = (texts : List (List ℕ)) × AllZip (IsExplanation s) rows texts
     × (text ≡ flat_map (λ part. part) texts)
 
--- The output grew by the texts of these rows.
-abbrev pub AddsExplanations : Trace → List Printed → Option (List ℕ) → Option (List ℕ) → Type 0
-AddsExplanations s rows before after =
-    (text : List ℕ) × Explains s rows text × Appends before after text
+-- the texts of the first of these rows
+abbrev pub ExplainsSome : Trace → List Printed → List ℕ → Type 0
+ExplainsSome s rows text = (n : ℕ) × Explains s (take n rows) text
 
 -- exactly the rows of the first `n` tasks
 pub record AreRowsUpTo (s : Trace) (bound n : ℕ) (tasks : List (List Printed)) : Type 0 where
@@ -57,24 +53,32 @@ pub record AreRowsUpTo (s : Trace) (bound n : ℕ) (tasks : List (List Printed))
   pub each : (task : ℕ) (rows : List Printed) → slice_get tasks task ≡ Some rows →
       AreRowsOf s bound task rows
 
--- The output grew by the texts of exactly the rows of the first `n` tasks, in order.
-abbrev pub ExplainsTasks : Trace → ℕ → ℕ → Option (List ℕ) → Option (List ℕ) → Type 0
-ExplainsTasks s bound n before after = (tasks : List (List Printed))
-    × AreRowsUpTo s bound n tasks
-    × AddsExplanations s (flat_map (λ rows. rows) tasks) before after
+-- exactly the rows of the trace, in the order of the tasks
+abbrev pub AreAllRows : Trace → ℕ → List Printed → Type 0
+AreAllRows s bound rows = (tasks : List (List Printed))
+    × AreRowsUpTo s bound (length (dependencies s)) tasks
+    × (rows ≡ flat_map (λ task. task) tasks)
 
--- The numbers are a cycle up to the bound, and the output grew by the text of its exact row.
-abbrev pub ExplainsCycle : Trace → ℕ → List ℕ → Option (List ℕ) → Option (List ℕ) → Type 0
-ExplainsCycle s bound numbers before after = (row : Printed) × (row.row.cycle ≡ numbers)
-    × IsCycle (dependencies s) bound numbers × IsRow s row.row
-    × AddsExplanations s (row ∷ []) before after
+-- the first line of the report with these rows
+abbrev pub head_line : Trace → ℕ → List Printed → List ℕ
+head_line s bound rows =
+    about 0 (length s) bound ++ counts (length rows) (count_by is_confirmed rows)
 
--- The output grew by the texts of the chosen cycles: all up to the bound, or one.
-abbrev pub ExplainsChosen : Trace → ℕ → Option (List ℕ) →
-    Option (List ℕ) → Option (List ℕ) → Type 0
-ExplainsChosen s bound cycle before after = MatchOption cycle
-    (ExplainsTasks s bound (length (dependencies s)) before after)
-    (λ numbers. ExplainsCycle s bound numbers before after)
+-- The first line of the report, and then the texts of all rows of the trace.
+abbrev pub ExplainsAll : Trace → ℕ → List ℕ → Type 0
+ExplainsAll s bound text = (rows : List Printed) × (texts : List ℕ) × AreAllRows s bound rows
+    × Explains s rows texts × (text ≡ head_line s bound rows ++ texts)
+
+-- The first line of the report, and then the texts of the first rows of the trace.
+abbrev pub ExplainsFirst : Trace → ℕ → List ℕ → Type 0
+ExplainsFirst s bound text = (rows : List Printed) × (texts : List ℕ) × AreAllRows s bound rows
+    × ExplainsSome s rows texts × (text ≡ head_line s bound rows ++ texts)
+
+-- The numbers are a cycle up to the bound, and the text is that of its exact row.
+abbrev pub ExplainsCycle : Trace → ℕ → List ℕ → List ℕ → Type 0
+ExplainsCycle s bound numbers text = (p : Printed) × (p.row.cycle ≡ numbers)
+    × IsCycle (dependencies s) bound numbers × IsRow s p.row
+    × (p ≡ with_dependencies (dependencies s) p.row) × IsExplanation s p text
 
 -- ---- refusals
 
@@ -91,52 +95,70 @@ too_many_line = refusal_line TooManyCycles
 abbrev pub HasTooMany : Trace → ℕ → ℕ → Type 0
 HasTooMany s bound task = MoreThan (CycleFrom (dependencies s) bound task) MAX_CYCLES
 
--- A task has too many cycles. The output grew by the texts of exactly the rows of the earlier
--- tasks, and then by the line of the refusal.
-abbrev pub RefusesTasks : Trace → ℕ → Option (List ℕ) → Option (List ℕ) → Type 0
-RefusesTasks s bound before after = (task : ℕ) × (middle : Option (List ℕ))
-    × HasTooMany s bound task × ExplainsTasks s bound task before middle
-    × Appends middle after too_many_line
+-- A task has too many cycles.
+abbrev pub RefusesAll : Trace → ℕ → List ℕ → Type 0
+RefusesAll s bound text = (task : ℕ) × HasTooMany s bound task × (text ≡ too_many_line)
 
--- The task of this cycle has too many, and the output grew by the line of the refusal.
-abbrev pub RefusesTaskOf : Trace → ℕ → List ℕ → Option (List ℕ) → Option (List ℕ) → Type 0
-RefusesTaskOf s bound numbers before after = (task : ℕ) × (slice_get numbers 0 ≡ Some task)
-    × HasTooMany s bound task × Appends before after too_many_line
+-- The numbers are no cycle up to the bound, or the task of this cycle has too many.
+abbrev pub RefusesCycle : Trace → ℕ → List ℕ → List ℕ → Type 0
+RefusesCycle s bound numbers text =
+    ((IsCycle (dependencies s) bound numbers → ⊥) × (text ≡ no_cycle_line numbers bound))
+    ⊎ ((task : ℕ) × (slice_get numbers 0 ≡ Some task) × HasTooMany s bound task
+    × (text ≡ too_many_line))
 
--- The numbers are no cycle up to the bound, and the output grew by the line that says so; or the
--- task of this cycle is refused.
-abbrev pub RefusesCycle : Trace → ℕ → List ℕ → Option (List ℕ) → Option (List ℕ) → Type 0
-RefusesCycle s bound numbers before after =
-    ((IsCycle (dependencies s) bound numbers → ⊥)
-    × Appends before after (no_cycle_line numbers bound))
-    ⊎ RefusesTaskOf s bound numbers before after
+-- ---- the command
 
--- The refusal of the chosen cycles: all up to the bound, or one.
-abbrev pub RefusesChosen : Trace → ℕ → Option (List ℕ) →
-    Option (List ℕ) → Option (List ℕ) → Type 0
-RefusesChosen s bound cycle before after = MatchOption cycle
-    (RefusesTasks s bound before after)
-    (λ numbers. RefusesCycle s bound numbers before after)
+-- The text about all cycles is right with this status. With `Error` it has the first rows.
+abbrev pub PrintsAllOf : Trace → ℕ → Status → List ℕ → Type 0
+PrintsAllOf s bound Done text = ExplainsAll s bound text
+PrintsAllOf s bound Refused text = RefusesAll s bound text
+PrintsAllOf s bound Error text = ExplainsFirst s bound text
+PrintsAllOf s bound NotUnderstood text = ⊥
 
--- An event is not lawful, and the output grew by the line of the first such one; or the events are
--- lawful, and the chosen cycles are refused.
-abbrev pub RefusesExplanation : Trace → ℕ → Option (List ℕ) →
-    Option (List ℕ) → Option (List ℕ) → Type 0
-RefusesExplanation s bound cycle before after =
-    ((first : FirstUnlawful) × IsFirstUnlawful s first
-    × Appends before after (refused_at_line first))
-    ⊎ (IsWellFormed s × RefusesChosen s bound cycle before after)
+-- The text about one cycle is right with this status.
+abbrev pub PrintsOneOf : Trace → ℕ → List ℕ → Status → List ℕ → Type 0
+PrintsOneOf s bound numbers Done text = ExplainsCycle s bound numbers text
+PrintsOneOf s bound numbers Refused text = RefusesCycle s bound numbers text
+PrintsOneOf s bound numbers Error text = ⊥
+PrintsOneOf s bound numbers NotUnderstood text = ⊥
 
--- What a status says of the file and of the output: the output grew by the texts of the chosen
--- cycles of the file's events, which are lawful; or by the text of a refusal that is right for
--- these events; or it did not grow, and a line of the file is the first that is not understood.
--- `Error` says nothing.
+-- The text about the chosen cycles, all or one, is right with this status.
+abbrev pub PrintsChosen : Trace → ℕ → Option (List ℕ) → Status → List ℕ → Type 0
+PrintsChosen s bound cycle status text = MatchOption cycle (PrintsAllOf s bound status text)
+    (λ numbers. PrintsOneOf s bound numbers status text)
+
+-- The text is right with this status: that about the chosen cycles of the file's events, which are
+-- lawful, up to the bound; or the line of the first event that is not lawful.
+abbrev pub ExplainPrints : List ℕ → ℕ → Option (List ℕ) → Status → List ℕ → Type 0
+ExplainPrints file bound cycle status text =
+    ((events : Trace) × AreLawfulEventsOf events file × PrintsChosen events bound cycle status text)
+    ⊎ UnlawfulPrints file status text
+
+-- What a status says of the output of `explain` on this file.
 abbrev pub ExplainTells : List ℕ → ℕ → Option (List ℕ) → Status →
     Option (List ℕ) → Option (List ℕ) → Type 0
-ExplainTells file bound cycle Done before after = (events : Trace)
-    × AreLawfulEventsOf events file × ExplainsChosen events bound cycle before after
-ExplainTells file bound cycle Refused before after = (events : Trace)
-    × AreEventsOf events file × RefusesExplanation events bound cycle before after
-ExplainTells file bound cycle Error before after = Unit {0}
-ExplainTells file bound cycle NotUnderstood before after =
-    (number : ℕ) × IsFirstBadIn file number × (after ≡ before)
+ExplainTells file bound cycle status before after =
+    Ends (ExplainPrints file bound cycle) (HasBadLine file) status before after
+
+-- ---- the option --cycle
+
+-- The words denote these numbers, which fit in 32 bits.
+abbrev pub AreNumbers : List (List ℕ) → List ℕ → Type 0
+AreNumbers words numbers = All (λ n. n < 2 ^ 32) numbers × (map decimal numbers ≡ words)
+
+-- The words name these numbers, 2 to 8, which commas separate.
+abbrev pub NamesCycle : List ℕ → List ℕ → Type 0
+NamesCycle words numbers = (2 ≤ length numbers) × (length numbers ≤ 8)
+    × AreNumbers (pieces_at 44 words) numbers
+
+-- The words of the option name no cycle.
+abbrev pub NamesNone : List ℕ → Type 0
+NamesNone words = (numbers : List ℕ) → NamesCycle words numbers → ⊥
+
+-- What the option chooses: all cycles if it is not given, or the one that its words name. If they
+-- name none, the command line is not understood.
+abbrev pub IsChosen : Option (List ℕ) → Result (Option (List ℕ)) Status → Type 0
+IsChosen None chosen = chosen ≡ Ok None
+IsChosen (Some words) (Ok None) = ⊥
+IsChosen (Some words) (Ok (Some numbers)) = NamesCycle words numbers
+IsChosen (Some words) (Err status) = (status ≡ NotUnderstood) × NamesNone words

@@ -1,7 +1,9 @@
 pub mod Admission
 pub mod Exit
 pub mod Explain
+pub mod ExplainFindings
 pub mod Offline
+pub mod Output
 pub mod Replay
 pub mod Script
 pub mod ScriptFile
@@ -9,3 +11,5 @@ pub mod ScriptRun
 pub mod ScriptTells
 pub mod Text
 pub mod Check
+pub mod CheckWords
+pub mod ExplainedRows

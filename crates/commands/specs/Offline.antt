@@ -1,12 +1,12 @@
 -- How `offline` ends (this project's profile).
-use Rattle.std.specs.Prelude.{◌≡◌, ℕ, List, [], Option}
-use Rattle.std.specs.Io.KnownBytes.{Appends}
+use Rattle.std.specs.Prelude.{◌≡◌, ◌≢◌, ℕ, List, [], Option}
 use Rattle.trace_model.specs.Theory.Trace.{Trace}
 use Rattle.trace_model.specs.declared.refusal.Refusal.TheVariants as refusals
 use Rattle.offline_report.specs.declared.refused.OfflineRefused.{OfflineRefused}
 use Rattle.offline_report.specs.declared.refused.OfflineRefused.TheVariants.{Unlawful, TooLong, TooManyCycles, NoMemory}
 use Rattle.offline_report.specs.Offline.{IsReport, IsRefused}
-use Rattle.commands.specs.Admission.{IsFirstBadIn, refused_at_line}
+use Rattle.commands.specs.Admission.{HasBadLine, refused_at_line}
+use Rattle.commands.specs.Output.{Ends}
 use Rattle.commands.specs.Text.{refusal_line}
 use Rattle.event_files.specs.EventFile.{AreEventsOf}
 use Rattle.commands.specs.declared.exit.Status.{Status}
@@ -19,16 +19,21 @@ refused_line TooLong = refusal_line refusals.ReportTooLong
 refused_line TooManyCycles = refusal_line refusals.TooManyCycles
 refused_line NoMemory = []
 
--- What a status says of the file and of the output: the output grew by the report on the file's
--- events, or by the line of a refusal that is right for these events; or it did not grow, and a
--- line of the file is not understood. `Error` says nothing.
+-- The text is right with this status: the report on the events, or the line of a refusal that is
+-- right for them.
+abbrev pub ReportPrints : Trace → ℕ → Status → List ℕ → Type 0
+ReportPrints s bound Done text = IsReport s bound text
+ReportPrints s bound Refused text = (refused : OfflineRefused) × (refused ≢ NoMemory)
+    × IsRefused s bound refused × (text ≡ refused_line refused)
+ReportPrints s bound Error text = ⊥
+ReportPrints s bound NotUnderstood text = ⊥
+
+-- The text is right with this status for the file's events.
+abbrev pub OfflinePrints : List ℕ → ℕ → Status → List ℕ → Type 0
+OfflinePrints file bound status text =
+    (events : Trace) × AreEventsOf events file × ReportPrints events bound status text
+
+-- What a status says of the output of `offline` on this file.
 abbrev pub OfflineTells : List ℕ → ℕ → Status → Option (List ℕ) → Option (List ℕ) → Type 0
-OfflineTells file bound Done before after =
-    (events : Trace) × (text : List ℕ) × AreEventsOf events file × IsReport events bound text
-    × Appends before after text
-OfflineTells file bound Refused before after =
-    (events : Trace) × (refused : OfflineRefused) × AreEventsOf events file
-    × IsRefused events bound refused × Appends before after (refused_line refused)
-OfflineTells file bound Error before after = Unit {0}
-OfflineTells file bound NotUnderstood before after =
-    (number : ℕ) × IsFirstBadIn file number × (after ≡ before)
+OfflineTells file bound status before after =
+    Ends (OfflinePrints file bound) (HasBadLine file) status before after

@@ -1,11 +1,9 @@
 -- How `replay` ends (this project's profile).
 use Rattle.std.specs.Prelude.{◌≡◌, ◌⊎◌, ℕ, List, ◌++◌, Option, codes}
-use Rattle.std.specs.Io.KnownBytes.{Appends}
 use Rattle.trace_model.specs.Theory.Trace.{Trace}
 use Rattle.trace_model.specs.Theory.Lawful.{IsWellFormed}
 use Rattle.wellformed.specs.declared.whole_lists.FirstUnlawful.{FirstUnlawful}
 use Rattle.wellformed.specs.FirstUnlawful.{IsFirstUnlawful}
-use Rattle.replay.specs.declared.verdict.Fault.{Fault}
 use Rattle.replay.specs.declared.verdict.Verdict.{Verdict}
 use Rattle.replay.specs.declared.verdict.Verdict.TheVariants.{Reaches, Fails}
 use Rattle.replay.specs.Tests.{name_of}
@@ -13,12 +11,11 @@ use Rattle.replay.specs.Verdict.{IsVerdict}
 use Rattle.event_files.specs.EventFile.{AreEventsOf, pieces_at}
 use Rattle.event_files.specs.WitnessFile.{IsWitnessOf, RefusesWitness}
 use Rattle.event_files.specs.declared.refused.FileRefused.TheVariants as files
-use Rattle.commands.specs.Admission.{IsFirstBadIn, refused_at_line}
+use Rattle.commands.specs.Admission.{HasBadLine, refused_at_line}
+use Rattle.commands.specs.Output.{Ends}
 use Rattle.commands.specs.Text.{labeled_line}
-use Rattle.commands.specs.declared.exit.CommandError.{CommandError}
-use Rattle.commands.specs.declared.exit.CommandError.TheVariants.{Line, Memory, Output}
 use Rattle.commands.specs.declared.exit.Status.{Status}
-use Rattle.commands.specs.declared.exit.Status.TheVariants.{Done, Refused, Error, NotUnderstood}
+use Rattle.commands.specs.declared.exit.Status.TheVariants.{Done, Refused}
 
 -- the line of a verdict
 abbrev pub verdict_line : Verdict → List ℕ
@@ -43,27 +40,35 @@ IsVerdictOn events witness v = (instance order : List ℕ) × IsWitnessOf instan
 abbrev pub IsFirstWrongIn : List ℕ → ℕ → Type 0
 IsFirstWrongIn witness number = RefusesWitness (pieces_at 10 witness) (files.Line number)
 
--- what the error of checking a witness file says of that file and of the output
-abbrev pub WitnessFails : List ℕ → CommandError → Option (List ℕ) → Option (List ℕ) → Type 0
-WitnessFails witness (Line number) before after = IsFirstWrongIn witness number × (after ≡ before)
-WitnessFails witness Memory before after = Unit {0}
-WitnessFails witness Output before after = Unit {0}
+-- The text is the line of the verdict on the witness, and the status is that of the verdict.
+abbrev pub VerdictPrints : Trace → List ℕ → Status → List ℕ → Type 0
+VerdictPrints events witness status text = (v : Verdict) × IsVerdictOn events witness v
+    × (status ≡ verdict_status v) × (text ≡ verdict_line v)
 
--- What a status says of both files and of the output: the output grew by the line of the verdict on
--- the witness, against the trace's events, which are lawful; or by the line of the first event that
--- is not lawful; or it did not grow, and a line is the first that is not understood, of the trace
--- or, if its events are lawful, of the witness. `Error` says nothing.
+-- An event of the file is not lawful. The text is the line of the first such event.
+abbrev pub UnlawfulPrints : List ℕ → Status → List ℕ → Type 0
+UnlawfulPrints file status text = (events : Trace) × (first : FirstUnlawful)
+    × AreEventsOf events file × IsFirstUnlawful events first
+    × (status ≡ Refused) × (text ≡ refused_at_line first)
+
+-- The text is right with this status: the line of the verdict on the witness, against the trace's
+-- events, which are lawful; or the line of the first event that is not lawful.
+abbrev pub ReplayPrints : List ℕ → List ℕ → Status → List ℕ → Type 0
+ReplayPrints trace witness status text =
+    ((events : Trace) × AreLawfulEventsOf events trace × VerdictPrints events witness status text)
+    ⊎ UnlawfulPrints trace status text
+
+-- A line of the witness file is the first that is not understood.
+abbrev pub HasWrongWitness : List ℕ → Type 0
+HasWrongWitness witness = (number : ℕ) × IsFirstWrongIn witness number
+
+-- A line is the first that is not understood, of the trace or, if its events are lawful, of the
+-- witness.
+abbrev pub HasWrongLine : List ℕ → List ℕ → Type 0
+HasWrongLine trace witness = HasBadLine trace
+    ⊎ ((events : Trace) × AreLawfulEventsOf events trace × HasWrongWitness witness)
+
+-- What a status says of the output of `replay` on these files.
 abbrev pub ReplayTells : List ℕ → List ℕ → Status → Option (List ℕ) → Option (List ℕ) → Type 0
-ReplayTells trace witness Done before after =
-    (events : Trace) × AreLawfulEventsOf events trace × IsVerdictOn events witness Reaches
-    × Appends before after (verdict_line Reaches)
-ReplayTells trace witness Refused before after =
-    ((events : Trace) × (fault : Fault) × (place : ℕ) × AreLawfulEventsOf events trace
-    × IsVerdictOn events witness (Fails fault place)
-    × Appends before after (verdict_line (Fails fault place)))
-    ⊎ ((events : Trace) × (first : FirstUnlawful) × AreEventsOf events trace
-    × IsFirstUnlawful events first × Appends before after (refused_at_line first))
-ReplayTells trace witness Error before after = Unit {0}
-ReplayTells trace witness NotUnderstood before after = (number : ℕ) × (after ≡ before)
-    × (IsFirstBadIn trace number
-    ⊎ ((events : Trace) × AreLawfulEventsOf events trace × IsFirstWrongIn witness number))
+ReplayTells trace witness status before after =
+    Ends (ReplayPrints trace witness) (HasWrongLine trace witness) status before after

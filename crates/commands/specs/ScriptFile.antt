@@ -5,7 +5,7 @@ use Rattle.trace_model.specs.Protocol.Batches.{IsBatch}
 use Rattle.trace_model.specs.Protocol.Frames.{IsInRange}
 use Rattle.event_files.specs.EventFile.{event_word, line_words, pieces_at}
 use Rattle.commands.specs.declared.exit.CommandError.{CommandError}
-use Rattle.commands.specs.declared.exit.CommandError.TheVariants.{Line, Memory, Output}
+use Rattle.commands.specs.declared.exit.CommandError.TheVariants.{Line, Merged, Memory, Output}
 use Rattle.commands.specs.declared.script_command.reading.Command.{Command}
 use Rattle.commands.specs.declared.script_command.reading.Command.TheVariants.{Offer, Batch, Ask, Work, Deliver, Answer, Status}
 
@@ -85,5 +85,6 @@ pub record IsFirstBadLine (lines : List (List ℕ)) (number : ℕ) : Type 0 wher
 -- the error of parsing the lines of a script is right
 abbrev pub RefusesCommands : List (List ℕ) → CommandError → Type 0
 RefusesCommands lines (Line number) = IsFirstBadLine lines number
+RefusesCommands lines (Merged number) = ⊥
 RefusesCommands lines Memory = Unit {0}
 RefusesCommands lines Output = ⊥

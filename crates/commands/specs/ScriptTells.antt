@@ -1,6 +1,5 @@
 -- What a script prints, and how it ends (this project's profile).
-use Rattle.std.specs.Prelude.{◌≡◌, ℕ, List, [], ◌∷◌, ◌++◌, Option, Result, box_value, codes}
-use Rattle.std.specs.Io.KnownBytes.{Appends}
+use Rattle.std.specs.Prelude.{◌≡◌, ℕ, List, [], ◌∷◌, ◌++◌, Option, Result, box_value, codes, take}
 use Rattle.trace_model.specs.declared.refusal.Refusal.{Refusal}
 use Rattle.trace_model.specs.declared.messages.session.Request.{Request}
 use Rattle.trace_model.specs.declared.messages.session.Request.TheVariants as requests
@@ -9,6 +8,7 @@ use Rattle.trace_model.specs.Protocol.Frames.{IsRequest, frame}
 use Rattle.trace_model.specs.Protocol.Machine.{State, opening}
 use Rattle.event_files.specs.EventFile.{pieces_at}
 use Rattle.sequencer.specs.Called.{StepsOrMemory, WantsRightly}
+use Rattle.commands.specs.Output.{Ends}
 use Rattle.commands.specs.Script.{reply_text}
 use Rattle.commands.specs.ScriptFile.{IsFirstBadLine, IsScriptOf}
 use Rattle.commands.specs.ScriptRun.{DeliversOne, Works, told_line}
@@ -20,10 +20,6 @@ use Rattle.commands.specs.declared.script_command.reading.Command.TheVariants.{O
 -- the bytes are the frame of a request
 abbrev pub IsFrame : List ℕ → Type 0
 IsFrame bytes = (request : Request) × IsRequest request × (bytes ≡ frame request)
-
--- the output grew by a text with this property
-abbrev pub Writes : Option (List ℕ) → Option (List ℕ) → (List ℕ → Type 0) → Type 0
-Writes before after Is = (text : List ℕ) × Is text × Appends before after text
 
 -- the text is that of the machine's reply to the request; or of `NoMemory`, if the machine accepts
 -- the request and its reply needs an allocation
@@ -49,13 +45,36 @@ PrintsAll s [] last text = (last ≡ s) × (text ≡ [])
 PrintsAll s (command ∷ commands) last text = (mid : State) × (first rest : List ℕ)
     × Prints s command mid first × PrintsAll mid commands last rest × (text ≡ first ++ rest)
 
--- What a status says of the file, the limit and the output: the output grew by exactly what the
--- file's commands print, from the machine without events on; or it did not grow, and a line of the
--- file is the first that is not understood. `Error` says nothing. A script is never refused.
+-- the text is that of a reply to the request in this state
+abbrev pub IsReplyTo : State → Request → List ℕ → Type 0
+IsReplyTo s request text = (next : State) × Replies s request next text
+
+-- the text is what the command prints in this state
+abbrev pub IsPrintOf : State → Command → List ℕ → Type 0
+IsPrintOf s command text = (next : State) × Prints s command next text
+
+-- the text is what the first of the commands print
+abbrev pub PrintsFirst : State → List Command → List ℕ → Type 0
+PrintsFirst s commands text = (n : ℕ) × (last : State) × PrintsAll s (take n commands) last text
+
+-- The text is right with this status: what the commands print, from the machine without events on.
+-- With `Error` it is what the first of them print. A script is never refused.
+abbrev pub RunPrints : ℕ → List Command → Status → List ℕ → Type 0
+RunPrints limit commands Done text = (last : State) × PrintsAll (opening limit) commands last text
+RunPrints limit commands Refused text = ⊥
+RunPrints limit commands Error text = PrintsFirst (opening limit) commands text
+RunPrints limit commands NotUnderstood text = ⊥
+
+-- The text is right with this status for the file's commands.
+abbrev pub ScriptPrints : List ℕ → ℕ → Status → List ℕ → Type 0
+ScriptPrints file limit status text =
+    (commands : List Command) × IsScriptOf commands file × RunPrints limit commands status text
+
+-- A line of the file is the first that is not understood.
+abbrev pub HasWrongCommand : List ℕ → Type 0
+HasWrongCommand file = (number : ℕ) × IsFirstBadLine (pieces_at 10 file) number
+
+-- What a status says of the output of `script` on this file, with a book of this limit.
 abbrev pub ScriptTells : List ℕ → ℕ → Status → Option (List ℕ) → Option (List ℕ) → Type 0
-ScriptTells file limit Done before after = (commands : List Command) × (last : State)
-    × IsScriptOf commands file × Writes before after (PrintsAll (opening limit) commands last)
-ScriptTells file limit Refused before after = ⊥
-ScriptTells file limit Error before after = Unit {0}
-ScriptTells file limit NotUnderstood before after = (number : ℕ)
-    × IsFirstBadLine (pieces_at 10 file) number × (after ≡ before)
+ScriptTells file limit status before after =
+    Ends (ScriptPrints file limit) (HasWrongCommand file) status before after

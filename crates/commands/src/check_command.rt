@@ -1,214 +1,31 @@
 //! The command `check`: the check of explained cycles against a trace.
-ghost use Rattle.std.specs.Prelude.{◌≡◌, ◌++◌, Some, map, IfOk, IfSome, OnOk};
+ghost use Rattle.std.specs.Prelude.{IfOk, length};
 ghost use Rattle.trace_model.specs.Theory.Lawful.{IsWellFormed};
-ghost use Rattle.commands.specs.Check.{AreChecked, IsVerdictFor, checked_line, is_valid, refutation_words, row_words, sentence, step_words};
+ghost use Rattle.dependencies.specs.Tables.{FollowsTrace};
+ghost use Rattle.event_files.specs.ExplainedText.{IsContents, contents_of};
+ghost use Rattle.commands.specs.Check.{CheckTells, ChecksAs, IsCheckOf, IsNotExplained};
+ghost use Rattle.commands.specs.Output.{EndsAs};
 
 use crate::admission::{Admission, admit_file};
-use crate::exit::{CommandError, Status, reported};
-use crate::explained_rows::{RowFault, row_fault};
+use crate::check_words::{push_head, push_rows};
+use crate::exit::{CommandError, Status, reported, write_text};
 use crate::files::{NamedFile, read_file};
 use crate::offline_command::write_refused;
-use crate::text::{push_last, push_number};
 use dependencies::DepTable;
-use event_files::{Evidence, Explained, ExplainedMember, push_entry, read_explained};
+use event_files::{ExplainedFile, read_explained};
 use lock_tables::{LockParts, LockTables};
 use offline_report::OfflineRefused;
-use replay::{RefutationChecker, RefutationVerdict, StepFault, Verdict, check};
+use replay::EvidenceChecker;
 use std::alloc::Global;
 use std::hash::RandomState;
 use std::io::{self, BufWriter, Write};
-use trace_model::{Cycle, Derived, Event, Instance, NoMemory};
+use trace_model::{Event, NoMemory};
 
-/// The result of the check of a cycle.
+/// What the check of a file prints, and how it ends.
 #[derive(Drop)]
-enum CycleVerdict {
-    /// The row is not one of the trace.
-    Row(RowFault),
-    /// The check of the witness of a confirmed cycle.
-    Witness(Verdict),
-    /// The check of the refutation of a potential cycle.
-    Refutation(RefutationVerdict),
-}
-
-/// Appends the sentence of an entry, as a line.
-fn push_sentence(text: &mut Vec<u8>, entry: &Derived) -> Result<(), NoMemory>
-    ensures { OnOk result (text.new.items ≡ text.old.items ++ sentence entry.now) }
-{
-    let mut line = Vec::new(*text.allocator());
-    push_entry(&mut line, entry)?;
-    let Some(sentence) = line.get(1..) else {
-        unreachable!()
-    };
-    text.extend_from_slice(sentence)?;
-    Ok(())
-}
-
-/// Appends why a step is wrong.
-fn push_step_fault(text: &mut Vec<u8>, fault: &StepFault) -> Result<(), NoMemory>
-    ensures { OnOk result (text.new.items ≡ text.old.items ++ step_words fault.now) }
-{
-    match fault {
-        StepFault::NoSuchMember => {
-            text.extend_from_slice(b" has no such member\n")?;
-            Ok(())
-        }
-        StepFault::Unjustified(entry) => {
-            text.extend_from_slice(b" is wrong:")?;
-            push_sentence(text, entry)
-        }
-        StepFault::NotDerived(place) => {
-            push_last(text, b" does not derive place ", u64::from(place.get()))
-        }
-    }
-}
-
-/// Appends the verdict on a refutation.
-fn push_refutation_verdict(text: &mut Vec<u8>, verdict: &RefutationVerdict) -> Result<(), NoMemory>
-    ensures { OnOk result (text.new.items ≡ text.old.items ++ refutation_words verdict.now) }
-{
-    match verdict {
-        RefutationVerdict::Valid => {
-            text.extend_from_slice(b" valid\n")?;
-            Ok(())
-        }
-        RefutationVerdict::UnknownNumber(number) => {
-            push_last(text, b" unknown dependency ", u64::from(*number))
-        }
-        RefutationVerdict::WrongStep(step, fault) => {
-            push_number(text, b" step ", *step as u64)?;
-            push_step_fault(text, fault)
-        }
-        RefutationVerdict::AfterEnd(step) => {
-            push_number(text, b" step ", *step as u64)?;
-            text.extend_from_slice(b" comes after the end\n")?;
-            Ok(())
-        }
-        RefutationVerdict::PlaceLeft => {
-            text.extend_from_slice(b" ends with a place left\n")?;
-            Ok(())
-        }
-    }
-}
-
-/// Appends why a row is not one of the trace.
-fn push_row_fault(text: &mut Vec<u8>, fault: &RowFault) -> Result<(), NoMemory>
-    ensures { OnOk result (text.new.items ≡ text.old.items ++ row_words fault.now) }
-{
-    match fault {
-        RowFault::UnknownNumber(number) => {
-            push_last(text, b" unknown dependency ", u64::from(*number))
-        }
-        RowFault::OtherMember(number) => {
-            push_last(
-                text,
-                b" another member than dependency ",
-                u64::from(*number),
-            )
-        }
-        RowFault::NoCycle => {
-            text.extend_from_slice(b" is no cycle\n")?;
-            Ok(())
-        }
-        RowFault::OtherPlace(place) => {
-            push_last(
-                text,
-                b" no acquire of its member at place ",
-                u64::from(place.get()),
-            )
-        }
-    }
-}
-
-/// Appends the line of a verdict.
-fn push_verdict(text: &mut Vec<u8>, cycle: &Cycle, verdict: &CycleVerdict) -> Result<(), NoMemory>
-    ensures { OnOk result
-        (text.new.items ≡ text.old.items ++ checked_line cycle.now verdict.now) }
-{
-    text.extend_from_slice(b"cycle")?;
-    for number in cycle.numbers() {
-        push_number(text, b" ", u64::from(*number))?;
-    }
-    match verdict {
-        CycleVerdict::Row(fault) => push_row_fault(text, fault),
-        CycleVerdict::Witness(Verdict::Reaches) => {
-            text.extend_from_slice(b" valid\n")?;
-            Ok(())
-        }
-        CycleVerdict::Witness(Verdict::Fails(fault, place)) => {
-            text.extend_from_slice(b" fault ")?;
-            text.extend_from_slice(fault.name().as_bytes())?;
-            push_last(text, b" ", u64::from(place.get()))
-        }
-        CycleVerdict::Refutation(verdict) => push_refutation_verdict(text, verdict),
-    }
-}
-
-/// Returns whether the verdict is that the evidence is right.
-fn is_valid(verdict: &CycleVerdict) -> bool
-    ensures { result ≡ is_valid verdict.now }
-{
-    matches!(
-        verdict,
-        CycleVerdict::Witness(Verdict::Reaches) | CycleVerdict::Refutation(RefutationVerdict::Valid)
-    )
-}
-
-/// Returns the places of the members, or `None` if one has none.
-fn instance_of(alloc: Global, members: &[ExplainedMember]) -> Result<Option<Instance>, NoMemory>
-    ensures { IfOk result (λ found. IfSome found
-        (λ instance. map (λ m. m.place) members.now ≡ map Some instance)) }
-{
-    let mut places = Vec::with_capacity(alloc, members.len())?;
-    for member in members {
-        let Some(place) = member.place else {
-            return Ok(None);
-        };
-        places.push(place)?;
-    }
-    Ok(Instance::new(&places))
-}
-
-/// Returns the verdict on a cycle that is a row of the trace.
-fn evidence_verdict(
-    alloc: Global,
-    state: RandomState,
-    checker: &RefutationChecker<'_>,
-    explained: &Explained,
-) -> Result<Option<CycleVerdict>, NoMemory>
-    ensures { IfOk result (λ v. IfSome v (IsVerdictFor checker.now explained.now)) }
-{
-    match &explained.evidence {
-        Evidence::Refutation(refutation) => {
-            let verdict = checker.check(&explained.cycle, refutation)?;
-            Ok(Some(CycleVerdict::Refutation(verdict)))
-        }
-        Evidence::Witness(order) => {
-            let Some(instance) = instance_of(alloc, &explained.members)? else {
-                return Ok(None);
-            };
-            let verdict = check(alloc, state, checker.trace(), order, &instance)?;
-            Ok(Some(CycleVerdict::Witness(verdict)))
-        }
-    }
-}
-
-/// Returns the verdict on a cycle.
-fn verdict_of(
-    alloc: Global,
-    state: RandomState,
-    checker: &RefutationChecker<'_>,
-    table: &DepTable,
-    explained: &Explained,
-) -> Result<CycleVerdict, NoMemory>
-    ensures { IfOk result (IsVerdictFor checker.now explained.now) }
-{
-    if let Some(fault) = row_fault(table, explained) {
-        return Ok(CycleVerdict::Row(fault));
-    }
-    match evidence_verdict(alloc, state, checker, explained)? {
-        Some(verdict) => Ok(verdict),
-        None => Ok(CycleVerdict::Row(RowFault::NoCycle)),
-    }
+struct Checked {
+    text: Vec<u8>,
+    status: Status,
 }
 
 /// Returns the dependencies of the events.
@@ -218,6 +35,7 @@ fn dependencies_of(
     events: &[Event],
 ) -> Result<DepTable, NoMemory>
     requires { IsWellFormed events.now }
+    ensures { IfOk result (λ table. FollowsTrace table events.now (length events.now)) }
 {
     let LockParts {
         dependencies,
@@ -226,37 +44,33 @@ fn dependencies_of(
     Ok(dependencies)
 }
 
-/// Writes the verdict on each cycle. The status is `Done` if all are valid.
-fn write_verdicts<O: Write>(
+/// Checks the contents of a file of explained cycles.
+fn check_all(
     alloc: Global,
     state: RandomState,
     events: &[Event],
-    explained: &[Explained],
-    out: &mut O,
-) -> Result<Status, CommandError>
-    requires { IsWellFormed events.now }
-    ensures { IfOk result (λ status. AreChecked events.now explained.now status
-        (O.contents out.old) (O.contents out.new)) }
+    file: &ExplainedFile,
+) -> Result<Checked, NoMemory>
+    requires trace { IsWellFormed events.now }
+    requires file { IsContents (contents_of file.now) }
+    ensures { IfOk result (λ checked.
+        IsCheckOf events.now (contents_of file.now) checked.status checked.text.items) }
 {
     let table = dependencies_of(alloc, state, events)?;
-    let checker = RefutationChecker::new(alloc, state, events)?;
-    let mut status = Status::Done;
+    let checker = EvidenceChecker::new(alloc, state, events)?;
     let mut text = Vec::new(alloc);
-    for cycle in explained {
-        let verdict = verdict_of(alloc, state, &checker, &table, cycle)?;
-        if !is_valid(&verdict) {
-            status = Status::Refused;
-        }
-        text.clear();
-        push_verdict(&mut text, &cycle.cycle, &verdict)?;
-        out.write_all(&text)?;
-    }
-    out.flush()?;
-    Ok(status)
+    let is_head_valid = push_head(&mut text, events, file)?;
+    let are_rows_valid = push_rows(alloc, &checker, &table, &file.cycles, &mut text)?;
+    let status = if is_head_valid && are_rows_valid {
+        Status::Done
+    } else {
+        Status::Refused
+    };
+    Ok(Checked { text, status })
 }
 
-/// Parses the explained cycles and writes the verdict on each.
-fn check_cycles<O: Write>(
+/// Parses the explained cycles, checks them, and writes the verdicts.
+fn write_checked<O: Write>(
     alloc: Global,
     state: RandomState,
     events: &[Event],
@@ -264,15 +78,19 @@ fn check_cycles<O: Write>(
     out: &mut O,
 ) -> Result<Status, CommandError>
     requires { IsWellFormed events.now }
+    ensures { EndsAs (ChecksAs events.now file.now) (IsNotExplained file.now) result
+        (O.contents out.old) (O.contents out.new) }
 {
     let explained = read_explained(alloc, file)?;
-    write_verdicts(alloc, state, events, &explained, out)
+    let Checked { text, status } = check_all(alloc, state, events, &explained)?;
+    write_text(out, &text, status)
 }
 
-/// Checks the cycles in `file`, as `explain` prints them, against the trace. Writes one line for
-/// each to `out`: that its evidence is valid, or the first test that fails. Or it writes one line
-/// with the first event of the trace that is not lawful. An error message goes to `err`, with the
-/// name of the file at fault. The status is `Done` if all cycles are valid.
+/// Checks the cycles in `file`, as `explain` or `offline` prints them, against the trace. Writes a
+/// line for the first line of a report, if the file has it, and one for each cycle to `out`: that
+/// it is valid, or the first test that fails. Or it writes one line with the first event of the
+/// trace that is not lawful. An error message goes to `err`, with the name of the file at fault. The
+/// status is `Done` if all lines are valid.
 pub fn run_check<O: Write, E: Write>(
     alloc: Global,
     state: RandomState,
@@ -280,10 +98,13 @@ pub fn run_check<O: Write, E: Write>(
     file: NamedFile<'_>,
     out: &mut O,
     err: &mut E,
-) -> Status {
+) -> Status
+    ensures { CheckTells trace.entry.bytes.now file.entry.bytes.now result
+        (O.contents out.old) (O.contents out.new) }
+{
     match admit_file(alloc, state, trace.bytes) {
         Ok(Admission::Admitted(events)) => {
-            let ended = check_cycles(alloc, state, &events, file.bytes, out);
+            let ended = write_checked(alloc, state, &events, file.bytes, out);
             drop(events);
             reported(ended, file.name, err)
         }

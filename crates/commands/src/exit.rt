@@ -1,10 +1,11 @@
 //! Exit statuses, and why a command ends early.
-ghost use Rattle.std.specs.Prelude.{◌≡◌, IfErr, MatchResult, OnOk};
-ghost use Rattle.std.specs.Io.KnownBytes.{Appends};
+ghost use Rattle.std.specs.Prelude.{◌≡◌, ◌≢◌, ◌≤◌, ◌+◌, length, take, drop, IfErr, IfOk, MatchResult, OnErr, OnOk};
+ghost use Rattle.std.specs.Io.KnownBytes.{Appends, Keeps};
 ghost use Rattle.commands.specs.Exit.{status_of};
-ghost use Rattle.commands.specs.declared.exit.Status.TheVariants.{Error};
+ghost use Rattle.commands.specs.Output.{AppendsPart, EndsAs, IsJust};
+ghost use Rattle.commands.specs.declared.exit.Status.TheVariants.{Error, NotUnderstood};
 
-use event_files::FileRefused;
+use event_files::{ExplainedRefused, FileRefused};
 use std::io::{self, Write};
 use trace_model::NoMemory;
 
@@ -43,6 +44,8 @@ impl Status {
 pub enum CommandError {
     /// The first line that is not understood, counted from 1.
     Line(usize),
+    /// The line, counted from 1, which says that an agent merged cycles of the report.
+    Merged(usize),
     /// An allocation failed.
     Memory,
     /// A write to standard output failed.
@@ -74,6 +77,21 @@ impl From<FileRefused> for CommandError {
     }
 }
 
+impl From<ExplainedRefused> for CommandError {
+    ghost use Rattle.std.specs.Prelude.{◌≡◌};
+    ghost use Rattle.commands.specs.Exit.{explained_error};
+
+    ghost from_gives = { λ refused error. error ≡ explained_error refused };
+
+    fn from(refused: ExplainedRefused) -> CommandError {
+        match refused {
+            ExplainedRefused::Line(number) => CommandError::Line(number),
+            ExplainedRefused::Merged(number) => CommandError::Merged(number),
+            ExplainedRefused::NoMemory => CommandError::Memory,
+        }
+    }
+}
+
 impl From<io::Error> for CommandError {
     ghost use Rattle.std.specs.Prelude.{◌≡◌};
     ghost use Rattle.commands.specs.declared.exit.CommandError.TheVariants.{Output};
@@ -99,6 +117,14 @@ impl CommandError {
                 let _ = writeln!(err, "{name} line {line} not understood");
                 Status::NotUnderstood
             }
+            CommandError::Merged(line) => {
+                let _ = writeln!(
+                    err,
+                    "{name} line {line} not understood: a merged report leaves out cycles, check \
+                     what goodlockd offline or explain prints"
+                );
+                Status::NotUnderstood
+            }
             CommandError::Memory => {
                 let _ = writeln!(err, "no memory");
                 Status::Error
@@ -122,18 +148,64 @@ pub(crate) fn reported<E: Write>(
     }
 }
 
-/// Writes the whole text to `out` and flushes it.
+/// Writes the bytes from index `start` on once. Returns how many of them were written, which is 0 if
+/// the write was interrupted.
+///
+/// # Errors
+///
+/// `Output` if the writer fails, or writes none of one byte or more. Nothing is then written.
+fn write_from<O: Write>(out: &mut O, bytes: &[u8], start: usize) -> Result<usize, CommandError>
+    requires { start ≤ length bytes.now }
+    ensures count { IfOk result (λ n. start + n ≤ length bytes.now) }
+    ensures written { IfOk result
+        (λ n. Appends (O.contents out.old) (O.contents out.new) (take n (drop start bytes.now))) }
+    ensures kept { OnErr result (Keeps (O.contents out.old) (O.contents out.new)) }
+    ensures failed { IfErr result (λ error. status_of error ≡ Error) }
+{
+    match out.write(&bytes[start..]) {
+        Ok(0) => Err(CommandError::Output),
+        Ok(count) => Ok(count),
+        Err(error) if error.kind() == io::ErrorKind::Interrupted => Ok(0),
+        Err(_) => Err(CommandError::Output),
+    }
+}
+
+/// Writes all bytes to `out`.
+///
+/// # Errors
+///
+/// `Output` if the writer fails. A prefix of the bytes is then written.
+pub(crate) fn write_bytes<O: Write>(out: &mut O, bytes: &[u8]) -> Result<(), CommandError>
+    ensures written { OnOk result (Appends (O.contents out.old) (O.contents out.new) bytes.now) }
+    ensures cut { OnErr result (AppendsPart (O.contents out.old) (O.contents out.new) bytes.now) }
+    ensures failed { IfErr result (λ error. status_of error ≡ Error) }
+{
+    let mut at = 0usize;
+    for _turn in 0..u64::MAX {
+        if at == bytes.len() {
+            return Ok(());
+        }
+        at += write_from(out, bytes, at)?;
+    }
+    Err(CommandError::Output)
+}
+
+/// Writes the whole text to `out` and flushes it. Returns the status.
 ///
 /// # Errors
 ///
 /// `Output` if the writer fails. A prefix of the text is then written.
-pub(crate) fn write_text<O: Write>(out: &mut O, text: &[u8]) -> Result<(), CommandError>
-    ensures text { OnOk result (Appends (O.contents out.old) (O.contents out.new) text.now) }
-    ensures failed { IfErr result (λ error. status_of error ≡ Error) }
+pub(crate) fn write_text<O: Write>(
+    out: &mut O,
+    text: &[u8],
+    status: Status,
+) -> Result<Status, CommandError>
+    requires { status ≢ NotUnderstood }
+    ensures { EndsAs (IsJust status text.now) ⊥ result (O.contents out.old) (O.contents out.new) }
 {
-    out.write_all(text)?;
+    write_bytes(out, text)?;
     out.flush()?;
-    Ok(())
+    Ok(status)
 }
 
 /// Returns the status that the program ends with: the command's own, or `Error` after an I/O error.

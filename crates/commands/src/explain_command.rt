@@ -1,20 +1,23 @@
 //! The command `explain`: the cycles of a file of events, each with its evidence.
-ghost use Rattle.std.specs.Prelude.{◌≡◌, ◌≢◌, ◌<◌, ◌≤◌, [], length, map, slice_get, Some, None, IfErr, IfOk, IfSome, OnOk};
-ghost use Rattle.std.specs.Io.KnownBytes.{Appends};
+ghost use Rattle.std.specs.Prelude.{◌≡◌, ◌≢◌, ℕ, ◌<◌, ◌≤◌, List, [], length, map, slice_get, vec_capacity, Some, None, IfErr, IfOk, IfSome, MatchOption, OnErr, OnOk};
 ghost use Rattle.std.specs.List.{All};
-ghost use Rattle.std.specs.Option.{ForSome};
+ghost use Rattle.std.specs.Option.{ForSome, option_copied};
 ghost use Rattle.std.specs.Arc.{arc_value};
+ghost use Rattle.trace_model.specs.Theory.Trace.{Trace};
 ghost use Rattle.trace_model.specs.Theory.Lawful.{IsWellFormed};
-ghost use Rattle.trace_model.specs.Theory.Dependencies.{dependencies};
 ghost use Rattle.reports.specs.Printed.{Printed};
 ghost use Rattle.snapshots.specs.Found.{AreRowsOf};
 ghost use Rattle.findings.specs.declared.computing.ComputeRefused.TheVariants.{TooManyCycles};
-ghost use Rattle.commands.specs.declared.exit.Status.TheVariants.{Done, Refused, Error, NotUnderstood};
-ghost use Rattle.commands.specs.Explain.{AddsExplanations, AddsRefutation, ExplainTells, ExplainsChosen, ExplainsCycle, ExplainsTasks, IsExplanation, IsPotential, RefusesChosen, RefusesCycle, RefusesTasks, no_cycle_line, too_many_line};
+ghost use Rattle.commands.specs.declared.exit.Status.TheVariants.{Error, NotUnderstood};
+ghost use Rattle.event_files.specs.EventFile.{pieces_at};
+ghost use Rattle.commands.specs.Admission.{HasBadLine};
+ghost use Rattle.commands.specs.Explain.{AddsRefutation, ExplainPrints, ExplainTells, Explains, ExplainsSome, HasTooMany, IsExplanation, IsChosen, IsPotential, AreNumbers, NamesCycle, NamesNone, PrintsAllOf, PrintsChosen, PrintsOneOf, head_line, no_cycle_line};
+ghost use Rattle.commands.specs.ExplainFindings.{HasAllRows, IsTooMany, rows_in};
 ghost use Rattle.commands.specs.Exit.{status_of};
+ghost use Rattle.commands.specs.Output.{EndsAs, IsCutShort, Writes};
 
 use crate::admission::{Admission, admit_file};
-use crate::exit::{CommandError, Status, write_text};
+use crate::exit::{CommandError, Status, reported, write_bytes, write_text};
 use crate::files::read_file;
 use crate::offline_command::write_refused;
 use crate::text::{push_last, push_number};
@@ -24,13 +27,13 @@ use event_files::{number, push_refutation};
 use explain::refutation_of;
 use findings::{Analysis, ComputeRefused, Finding, Job, Snapshot};
 use offline_report::OfflineRefused;
-use reports::{Row, TextBuffer};
-use std::alloc::Global;
+use reports::{Row, TextBuffer, confirmed_in, head_text};
+use std::alloc::{AllocError, Global};
 use std::hash::RandomState;
 use std::io::{self, BufWriter, Write};
 use std::sync::Arc;
 use std::thread::Threads;
-use trace_model::{Bound, Cycle, Event, MAX_MEMBERS, NoMemory};
+use trace_model::{Bound, Cycle, Event, NoMemory};
 
 /// The number of the question that is asked about a file.
 const QUESTION: u32 = 0;
@@ -104,18 +107,85 @@ fn write_rows<O: Write>(
     out: &mut O,
 ) -> Result<(), CommandError>
     requires { buffer.old ≡ [] }
-    ensures written { OnOk result (AddsExplanations finding.now.events finding.now.rows
-        (O.contents out.old) (O.contents out.new)) }
-    ensures exact { OnOk result (AreRowsOf finding.now.events finding.now.bound
-        finding.now.task finding.now.rows) }
+    ensures written { OnOk result (Writes (O.contents out.old) (O.contents out.new)
+        (Explains finding.now.events finding.now.rows)) }
+    ensures cut { OnErr result (IsCutShort (O.contents out.old) (O.contents out.new)
+        (ExplainsSome finding.now.events finding.now.rows)) }
     ensures empty { OnOk result (buffer.new ≡ []) }
     ensures failed { IfErr result (λ error. status_of error ≡ Error) }
 {
     for index in 0..finding.rows().len() {
         let text = text_of(alloc, state, finding, index, buffer)?;
-        out.write_all(&text)?;
+        write_bytes(out, &text)?;
     }
     Ok(())
+}
+
+/// Writes the texts of the rows of all tasks.
+fn write_tasks<O: Write>(
+    alloc: Global,
+    state: RandomState,
+    tasks: &[Finding],
+    out: &mut O,
+) -> Result<(), CommandError>
+    ensures written { OnOk result ((s : Trace) → All (λ f. f.events ≡ s) tasks.now →
+        Writes (O.contents out.old) (O.contents out.new) (Explains s (rows_in tasks.now))) }
+    ensures cut { OnErr result ((s : Trace) → All (λ f. f.events ≡ s) tasks.now →
+        IsCutShort (O.contents out.old) (O.contents out.new)
+        (ExplainsSome s (rows_in tasks.now))) }
+    ensures failed { IfErr result (λ error. status_of error ≡ Error) }
+{
+    let mut buffer = TextBuffer::new(alloc);
+    for finding in tasks {
+        write_rows(alloc, state, finding, &mut buffer, out)?;
+    }
+    Ok(())
+}
+
+/// The findings of all tasks, with the numbers of their rows and of the confirmed ones.
+#[derive(Drop)]
+struct Findings {
+    tasks: Vec<Finding>,
+    cycles: u64,
+    confirmed: u64,
+}
+
+/// Returns the findings of all tasks of the analysis.
+///
+/// # Errors
+///
+/// - `TooManyCycles` if a task has too many.
+/// - `NoMemory` if an allocation fails.
+fn find_all(alloc: Global, analysis: Arc<Analysis, Global>) -> Result<Findings, ComputeRefused>
+    ensures found { IfOk result (HasAllRows (arc_value analysis).events
+        (arc_value analysis).bound) }
+    ensures refused { IfErr result (λ refused. refused ≡ TooManyCycles →
+        (task : ℕ) × HasTooMany (arc_value analysis).events (arc_value analysis).bound task) }
+{
+    let tasks = analysis.snapshot().tasks();
+    let mut job = Job::new(alloc, analysis, QUESTION);
+    let mut findings = no_findings(alloc, tasks)?;
+    let mut cycles = 0u64;
+    let mut confirmed = 0u64;
+    for task in 0..tasks {
+        let finding = job.compute(task)?;
+        cycles += finding.rows().len() as u64;
+        confirmed += confirmed_in(finding.rows()) as u64;
+        findings.push_reserved(finding);
+    }
+    Ok(Findings {
+        tasks: findings,
+        cycles,
+        confirmed,
+    })
+}
+
+/// Returns the empty list, with memory for the findings of these many tasks.
+fn no_findings(alloc: Global, tasks: u32) -> Result<Vec<Finding>, NoMemory>
+    ensures empty { IfOk result (λ findings. findings.items ≡ []) }
+    ensures room { IfOk result (λ findings. tasks ≤ vec_capacity findings) }
+{
+    Ok(Vec::with_capacity(alloc, tasks as usize)?)
 }
 
 /// Writes the line that says why a task has no rows. `NoMemory` has no line.
@@ -124,10 +194,7 @@ fn write_uncomputed<O: Write>(
     refused: ComputeRefused,
     out: &mut O,
 ) -> Result<Status, CommandError>
-    ensures reason { IfOk result (λ _. refused ≡ TooManyCycles) }
-    ensures written { IfOk result (λ status. (status ≡ Refused)
-        × Appends (O.contents out.old) (O.contents out.new) too_many_line) }
-    ensures failed { IfErr result (λ error. status_of error ≡ Error) }
+    ensures { EndsAs (IsTooMany refused) ⊥ result (O.contents out.old) (O.contents out.new) }
 {
     match refused {
         ComputeRefused::TooManyCycles => write_refused(alloc, OfflineRefused::TooManyCycles, out),
@@ -135,35 +202,43 @@ fn write_uncomputed<O: Write>(
     }
 }
 
-/// Writes the texts of all cycles of the analysis, up to a task with too many.
+/// Writes the first line of the report with these findings, and the texts of their rows.
+fn write_findings<O: Write>(
+    alloc: Global,
+    state: RandomState,
+    head: &[u8],
+    findings: &Findings,
+    out: &mut O,
+) -> Result<Status, CommandError>
+    ensures { (s : Trace) (bound : ℕ) → HasAllRows s bound findings.now →
+        head.now ≡ head_line s bound (rows_in findings.now.tasks.items) →
+        EndsAs (PrintsAllOf s bound) ⊥ result (O.contents out.old) (O.contents out.new) }
+{
+    write_bytes(out, head)?;
+    write_tasks(alloc, state, &findings.tasks, out)?;
+    out.flush()?;
+    Ok(Status::Done)
+}
+
+/// Writes the first line of the report and the texts of all cycles of the analysis, or that a task
+/// has too many.
 fn write_all<O: Write>(
     alloc: Global,
     state: RandomState,
     analysis: Arc<Analysis, Global>,
     out: &mut O,
 ) -> Result<Status, CommandError>
-    ensures done { IfOk result (λ status. status ≡ Done →
-        ExplainsTasks (arc_value analysis).events (arc_value analysis).bound
-        (length (dependencies (arc_value analysis).events))
-        (O.contents out.old) (O.contents out.new)) }
-    ensures refused { IfOk result (λ status. status ≡ Refused →
-        RefusesTasks (arc_value analysis).events (arc_value analysis).bound
-        (O.contents out.old) (O.contents out.new)) }
-    ensures understood { IfOk result (λ status. status ≢ NotUnderstood) }
-    ensures failed { IfErr result (λ error. status_of error ≡ Error) }
+    ensures { EndsAs (PrintsAllOf (arc_value analysis).events (arc_value analysis).bound) ⊥ result
+        (O.contents out.old) (O.contents out.new) }
 {
-    let tasks = analysis.snapshot().tasks();
-    let mut job = Job::new(alloc, analysis, QUESTION);
-    let mut buffer = TextBuffer::new(alloc);
-    for task in 0..tasks {
-        let finding = match job.compute(task) {
-            Ok(finding) => finding,
-            Err(refused) => return write_uncomputed(alloc, refused, out),
-        };
-        write_rows(alloc, state, &finding, &mut buffer, out)?;
-    }
-    out.flush()?;
-    Ok(Status::Done)
+    let (length, bound) = (analysis.snapshot().len() as u32, analysis.bound());
+    let findings = match find_all(alloc, analysis) {
+        Ok(findings) => findings,
+        Err(refused) => return write_uncomputed(alloc, refused, out),
+    };
+    let (cycles, confirmed) = (findings.cycles, findings.confirmed);
+    let head = head_text(alloc, QUESTION, length, bound, cycles, confirmed)?;
+    write_findings(alloc, state, &head, &findings, out)
 }
 
 /// Returns the line that says that the trace has no such cycle.
@@ -205,14 +280,8 @@ fn write_one<O: Write>(
     cycle: &Cycle,
     out: &mut O,
 ) -> Result<Status, CommandError>
-    ensures done { IfOk result (λ status. status ≡ Done →
-        ExplainsCycle (arc_value analysis).events (arc_value analysis).bound cycle.now
-        (O.contents out.old) (O.contents out.new)) }
-    ensures refused { IfOk result (λ status. status ≡ Refused →
-        RefusesCycle (arc_value analysis).events (arc_value analysis).bound cycle.now
-        (O.contents out.old) (O.contents out.new)) }
-    ensures understood { IfOk result (λ status. status ≢ NotUnderstood) }
-    ensures failed { IfErr result (λ error. status_of error ≡ Error) }
+    ensures { EndsAs (PrintsOneOf (arc_value analysis).events (arc_value analysis).bound cycle.now)
+        ⊥ result (O.contents out.old) (O.contents out.new) }
 {
     let bound = analysis.bound();
     let finding = match Job::new(alloc, analysis, QUESTION).compute(cycle.numbers()[0]) {
@@ -223,29 +292,53 @@ fn write_one<O: Write>(
         Some(index) => {
             let mut buffer = TextBuffer::new(alloc);
             let text = text_of(alloc, state, &finding, index, &mut buffer)?;
-            write_text(out, &text)?;
-            Ok(Status::Done)
+            write_text(out, &text, Status::Done)
         }
         None => {
             let line = no_cycle(alloc, cycle, bound)?;
-            write_text(out, &line)?;
-            Ok(Status::Refused)
+            write_text(out, &line, Status::Refused)
         }
     }
 }
 
-/// Returns the cycle with these numbers, which commas separate, or `None` unless there are 2 to 8.
-pub fn cycle_of(words: &[u8]) -> Option<Cycle> {
-    let mut numbers = [0u32; MAX_MEMBERS];
-    let mut count = 0usize;
-    for word in words.split(|byte| *byte == b',') {
-        if count >= MAX_MEMBERS {
-            return None;
-        }
-        numbers[count] = number(word)?;
-        count += 1;
+/// Returns the pieces of the words between commas.
+fn pieces_of(alloc: Global, words: &[u8]) -> Result<Vec<&[u8]>, AllocError>
+    ensures { IfOk result (λ pieces. map (λ piece. piece.now) pieces.items ≡
+        pieces_at 44 words.now) }
+{
+    words.split(|byte| *byte == b',').collect(alloc)
+}
+
+/// Returns the numbers that the words denote, or `None` if one of them denotes none.
+fn numbers_of(alloc: Global, words: &[&[u8]]) -> Result<Option<Vec<u32>>, AllocError>
+    ensures { IfOk result (λ found. MatchOption found
+        ((numbers : List ℕ) → AreNumbers (map (λ word. word.now) words.now) numbers → ⊥)
+        (λ numbers. AreNumbers (map (λ word. word.now) words.now) numbers.items)) }
+{
+    let mut numbers = Vec::with_capacity(alloc, words.len())?;
+    for word in words {
+        let Some(number) = number(word) else {
+            return Ok(None);
+        };
+        numbers.push_reserved(number);
     }
-    Cycle::new(&numbers[..count])
+    Ok(Some(numbers))
+}
+
+/// Returns the cycle with these numbers, which commas separate, or `None` unless there are 2 to 8.
+///
+/// # Errors
+///
+/// If an allocation fails.
+pub fn cycle_of(alloc: Global, words: &[u8]) -> Result<Option<Cycle>, AllocError>
+    ensures { IfOk result (λ named. MatchOption named
+        (NamesNone words.now) (NamesCycle words.now)) }
+{
+    let pieces = pieces_of(alloc, words)?;
+    match numbers_of(alloc, &pieces)? {
+        Some(numbers) => Ok(Cycle::new(&numbers)),
+        None => Ok(None),
+    }
 }
 
 /// Returns the shared analysis of the events.
@@ -276,12 +369,8 @@ fn write_chosen<R: Threads, O: Write>(
     out: &mut O,
 ) -> Result<Status, CommandError>
     requires { IsWellFormed events.now }
-    ensures done { IfOk result (λ status. status ≡ Done →
-        ExplainsChosen events.now bound cycle.now (O.contents out.old) (O.contents out.new)) }
-    ensures refused { IfOk result (λ status. status ≡ Refused →
-        RefusesChosen events.now bound cycle.now (O.contents out.old) (O.contents out.new)) }
-    ensures understood { IfOk result (λ status. status ≢ NotUnderstood) }
-    ensures failed { IfErr result (λ error. status_of error ≡ Error) }
+    ensures { EndsAs (PrintsChosen events.now bound cycle.now) ⊥ result
+        (O.contents out.old) (O.contents out.new) }
 {
     let analysis = analyze(rt, alloc, state, events, bound)?;
     match cycle {
@@ -300,10 +389,8 @@ fn explain_file<R: Threads, O: Write>(
     cycle: &Option<Cycle>,
     out: &mut O,
 ) -> Result<Status, CommandError>
-    ensures told { IfOk result (λ status. ExplainTells file.now bound cycle.now status
-        (O.contents out.old) (O.contents out.new)) }
-    ensures refused { IfErr result (λ error. ExplainTells file.now bound cycle.now
-        (status_of error) (O.contents out.old) (O.contents out.new)) }
+    ensures { EndsAs (ExplainPrints file.now bound cycle.now) (HasBadLine file.now) result
+        (O.contents out.old) (O.contents out.new) }
 {
     match admit_file(alloc, state, file)? {
         Admission::Refused(first) => write_refused(alloc, OfflineRefused::Unlawful(first), out),
@@ -316,10 +403,10 @@ fn explain_file<R: Threads, O: Write>(
 }
 
 /// Writes the cycles of at most `bound` members of the events in `file` to `out`, or the given one:
-/// each as its row in the report, and if it is potential with a refutation. If an event is not
-/// lawful, there is no such cycle or a task has too many, `out` gets a line that says so, and the
-/// status is `Refused`; the cycles of earlier tasks stay written. An error message about the file
-/// `name` goes to `err`.
+/// each as its row in the report, and if it is potential with a refutation. The first line of the
+/// report comes before all cycles, and is left out before one. If an event is not lawful, there is
+/// no such cycle or a task has too many, `out` gets only a line that says so, and the status is
+/// `Refused`. An error message about the file `name` goes to `err`.
 pub fn run_explain<R: Threads, O: Write, E: Write>(
     rt: &R,
     alloc: Global,
@@ -334,10 +421,8 @@ pub fn run_explain<R: Threads, O: Write, E: Write>(
     ensures { ExplainTells file.now bound cycle.now result (O.contents out.old)
         (O.contents out.new) }
 {
-    match explain_file(rt, alloc, state, file, bound, cycle, out) {
-        Ok(status) => status,
-        Err(error) => error.report(name, err),
-    }
+    let ended = explain_file(rt, alloc, state, file, bound, cycle, out);
+    reported(ended, name, err)
 }
 
 /// Runs `run_explain` over the bytes of a file, on the standard streams.
@@ -367,14 +452,13 @@ fn explain_bytes<T: Threads>(
 
 /// Returns the cycle that the words of an option name, if it is given. Returns `Err` after an error
 /// message if they name none.
-fn chosen_cycle(
-    rt: &HostRuntime,
-    words: Option<&str>,
-) -> io::Result<Result<Option<Cycle>, Status>> {
+fn chosen_cycle(rt: &HostRuntime, words: Option<&str>) -> io::Result<Result<Option<Cycle>, Status>>
+    ensures { IfOk result (IsChosen (option_copied words.entry)) }
+{
     let Some(words) = words else {
         return Ok(Ok(None));
     };
-    match cycle_of(words.as_bytes()) {
+    match cycle_of(rt.alloc(), words.as_bytes())? {
         Some(cycle) => Ok(Ok(Some(cycle))),
         None => {
             eprintln!(rt; "--cycle {words} not understood")?;
@@ -399,6 +483,8 @@ pub fn explain_named<T: Threads>(
 ) -> io::Result<Status>
     requires least { 2 ≤ bound }
     requires most { bound ≤ 8 }
+    ensures { IfSome (option_copied numbers.entry) (λ words. NamesNone words →
+        IfOk result (λ status. status ≡ NotUnderstood)) }
 {
     let Some(bound) = Bound::new(bound as u8) else {
         unreachable!()

@@ -1,9 +1,14 @@
 //! Compares the rows of explained cycles with the dependencies of a trace.
-ghost use Rattle.std.specs.Prelude.{◌<◌, length, IfNone};
-ghost use Rattle.std.specs.List.{All};
-ghost use Rattle.dependencies.specs.Tables.{known};
+ghost use Rattle.std.specs.Prelude.{◌≡◌, ℕ, ◌<◌, ◌≤◌, ◌↔◌, length, slice_get, Some, Contains, IsTrue, MatchOption};
+ghost use Rattle.trace_model.specs.declared.limits.TheConstants.{MAX_MEMBERS};
+ghost use Rattle.trace_model.specs.Theory.Trace.{Trace};
+ghost use Rattle.trace_model.specs.Theory.Cycles.{IsCycle};
+ghost use Rattle.dependencies.specs.Tables.{FollowsTrace, known, places_of};
+ghost use Rattle.event_files.specs.ExplainedText.{IsStatedCycle, stated_member, stated_cycle};
+ghost use Rattle.commands.specs.ExplainedRows.{AreApart, FailsFirst, FitsAt, HasPlaceAt, HoldsAtEach, IsApart, IsKnown, IsLinked, IsPlaced, IsRowFault, IsRowOf, States, stated};
 
-use dependencies::{DepTable, Dependency};
+use dependencies::laws::tables_follow;
+use dependencies::{DepTable, Dependency, PlacesOf};
 use event_files::{Explained, ExplainedMember};
 use trace_model::Place;
 
@@ -20,104 +25,188 @@ pub enum RowFault {
     OtherPlace(Place),
 }
 
+/// Returns the first number that is not that of a dependency.
+fn unknown_number(table: &DepTable, numbers: &[u32]) -> Option<u32>
+    ensures { MatchOption result (HoldsAtEach numbers.now (IsKnown (known table.now)))
+        (λ m. (i : ℕ) × FailsFirst numbers.now (IsKnown (known table.now)) i m) }
+{
+    for number in numbers {
+        if *number as usize >= table.len() {
+            return Some(*number);
+        }
+    }
+    None
+}
+
 /// Returns whether the line of the member states the dependency.
-fn states(member: &ExplainedMember, dependency: &Dependency) -> bool {
+fn states(member: &ExplainedMember, dependency: &Dependency) -> bool
+    ensures { IsTrue result ↔ (stated (stated_member member.now) ≡ dependency.now) }
+{
     member.thread == dependency.thread
         && member.lock == dependency.lock
         && member.held.as_slice() == dependency.held.locks()
 }
 
-/// Returns whether the place is one of the dependency with this number.
-fn has_place(table: &DepTable, number: u32, place: Place) -> bool
-    requires { number < length (known table.now) }
+/// Returns the first number whose member's line does not state its dependency.
+fn other_member(table: &DepTable, explained: &Explained) -> Option<u32>
+    requires row { IsStatedCycle (stated_cycle explained.now) }
+    requires known { HoldsAtEach explained.now.cycle (IsKnown (known table.now)) }
+    ensures { MatchOption result
+        (HoldsAtEach explained.now.cycle (States (known table.now) (stated_cycle explained.now)))
+        (λ m. (i : ℕ) ×
+        FailsFirst explained.now.cycle (States (known table.now) (stated_cycle explained.now)) i m) }
 {
-    let places = table.places(number);
-    for index in 0..places.len() {
-        if places.get(index) == place {
-            return true;
+    let numbers = explained.cycle.numbers();
+    let members = explained.members.as_slice();
+    for index in 0..numbers.len() {
+        let number = numbers[index];
+        if !states(&members[index], table.get(number)) {
+            return Some(number);
         }
     }
-    false
+    None
 }
 
-/// Returns whether two members of a cycle have distinct threads and locks, and no held lock in
+/// Returns whether two members of a cycle have different threads and locks, and no held lock in
 /// common.
-fn are_apart(first: &Dependency, second: &Dependency) -> bool {
-    first.thread != second.thread
-        && first.lock != second.lock
-        && first.held.is_disjoint(&second.held)
+fn are_apart(first: &Dependency, second: &Dependency) -> bool
+    ensures { IsTrue result ↔ AreApart first.now second.now }
+{
+    if first.thread == second.thread || first.lock == second.lock {
+        return false;
+    }
+    first.held.is_disjoint(&second.held)
 }
 
-/// Returns whether the numbers, which are below the table's length, are a cycle: the least first,
-/// the members apart, and each lock held by the next member.
-fn is_cycle(table: &DepTable, numbers: &[u32]) -> bool
-    requires { All (λ m. m < length (known table.now)) numbers.now }
+/// Returns whether the member with this index is apart from each earlier one.
+fn is_apart(table: &DepTable, numbers: &[u32], index: usize) -> bool
+    requires known { HoldsAtEach numbers.now (IsKnown (known table.now)) }
+    requires within { index < length numbers.now }
+    ensures { IsTrue result ↔ IsApart (known table.now) numbers.now index }
 {
-    for i in 0..numbers.len() {
-        let next = if i + 1 == numbers.len() { 0 } else { i + 1 };
-        if !table
-            .get(numbers[next])
-            .held
-            .contains(table.get(numbers[i]).lock)
-        {
+    let member = table.get(numbers[index]);
+    for earlier in 0..index {
+        if !are_apart(table.get(numbers[earlier]), member) {
             return false;
-        }
-        if numbers[i] < numbers[0] {
-            return false;
-        }
-        for j in 0..i {
-            if !are_apart(table.get(numbers[j]), table.get(numbers[i])) {
-                return false;
-            }
         }
     }
     true
 }
 
-/// Returns the first member whose number is not that of a dependency, or whose line does not state
-/// its dependency.
-fn member_fault(table: &DepTable, explained: &Explained) -> Option<RowFault>
-    ensures { IfNone result (All (λ m. m < length (known table.now)) explained.now.cycle) }
+/// Returns whether the next member of the cycle holds the lock of the member with this index.
+fn is_linked(table: &DepTable, numbers: &[u32], index: usize) -> bool
+    requires known { HoldsAtEach numbers.now (IsKnown (known table.now)) }
+    requires within { index < length numbers.now }
+    ensures { IsTrue result ↔ IsLinked (known table.now) numbers.now index }
 {
-    let numbers = explained.cycle.numbers();
-    for index in 0..numbers.len() {
-        let number = numbers[index];
-        if number as usize >= table.len() {
-            return Some(RowFault::UnknownNumber(number));
-        }
-        match explained.members.get(index) {
-            Some(member) if states(member, table.get(number)) => {}
-            _ => return Some(RowFault::OtherMember(number)),
-        }
-    }
-    None
+    let next = if index + 1 == numbers.len() {
+        0
+    } else {
+        index + 1
+    };
+    let lock = table.get(numbers[index]).lock;
+    table.get(numbers[next]).held.contains(lock)
 }
 
-/// Returns the first place of the members that is not one of its dependency, or `None`.
-fn place_fault(table: &DepTable, explained: &Explained) -> Option<RowFault>
-    requires { All (λ m. m < length (known table.now)) explained.now.cycle }
+/// Returns whether the member with this index fits into the cycle.
+fn fits(table: &DepTable, numbers: &[u32], index: usize) -> bool
+    requires known { HoldsAtEach numbers.now (IsKnown (known table.now)) }
+    requires within { index < length numbers.now }
+    ensures { IsTrue result ↔ FitsAt (known table.now) numbers.now index }
 {
-    let numbers = explained.cycle.numbers();
+    if numbers[index] < numbers[0] {
+        return false;
+    }
+    if !is_linked(table, numbers, index) {
+        return false;
+    }
+    is_apart(table, numbers, index)
+}
+
+/// Returns whether the numbers are a cycle.
+fn is_cycle(table: &DepTable, numbers: &[u32]) -> bool
+    requires known { HoldsAtEach numbers.now (IsKnown (known table.now)) }
+    requires some { 2 ≤ length numbers.now }
+    requires few { length numbers.now ≤ MAX_MEMBERS }
+    ensures { IsTrue result ↔ IsCycle (known table.now) MAX_MEMBERS numbers.now }
+{
     for index in 0..numbers.len() {
-        if let Some(member) = explained.members.get(index) {
-            if let Some(place) = member.place {
-                if !has_place(table, numbers[index], place) {
-                    return Some(RowFault::OtherPlace(place));
+        if !fits(table, numbers, index) {
+            return false;
+        }
+    }
+    true
+}
+
+/// Returns whether the list contains the place, by binary search.
+fn has_place(places: &PlacesOf<'_>, place: Place) -> bool
+    ensures { IsTrue result ↔ Contains places.now place }
+{
+    let wanted = place.get();
+    let mut low = 0usize;
+    let mut high = places.len();
+    while low < high {
+        let middle = low + (high - low) / 2;
+        let found = places.get(middle).get();
+        if found == wanted {
+            return true;
+        }
+        if found < wanted {
+            low = middle + 1;
+        } else {
+            high = middle;
+        }
+    }
+    false
+}
+
+/// Returns the first place of the members that is not one of its dependency.
+fn other_place(table: &DepTable, explained: &Explained) -> Option<Place>
+    requires row { IsStatedCycle (stated_cycle explained.now) }
+    requires known { HoldsAtEach explained.now.cycle (IsKnown (known table.now)) }
+    ensures { (s : Trace) → FollowsTrace table.now s (length s) → MatchOption result
+        (HoldsAtEach explained.now.cycle (IsPlaced s (stated_cycle explained.now)))
+        (λ p. (i m : ℕ) × HasPlaceAt (stated_cycle explained.now) i p ×
+        FailsFirst explained.now.cycle (IsPlaced s (stated_cycle explained.now)) i m) }
+{
+    tables_follow(); // for the proof
+    let numbers = explained.cycle.numbers();
+    let members = explained.members.as_slice();
+    for index in 0..numbers.len() {
+        let member = &members[index];
+        match member.place {
+            Some(place) => {
+                if !has_place(&table.places(numbers[index]), place) {
+                    return Some(place);
                 }
             }
+            None => {}
         }
     }
     None
 }
 
-/// Returns the first test that fails: each number is that of a dependency that its member's line
-/// states, the numbers are a cycle, and each place of a member is one of its dependency.
-pub(crate) fn row_fault(table: &DepTable, explained: &Explained) -> Option<RowFault> {
-    if let Some(fault) = member_fault(table, explained) {
-        return Some(fault);
+/// Returns the first test that fails: each number is that of a dependency, which the line of its
+/// member states, the numbers are a cycle, and each place of a member is one of its dependency.
+///
+/// The caller passes the table of a whole trace.
+pub(crate) fn row_fault(table: &DepTable, explained: &Explained) -> Option<RowFault>
+    requires { IsStatedCycle (stated_cycle explained.now) }
+    ensures { (s : Trace) → FollowsTrace table.now s (length s) → MatchOption result
+        (IsRowOf s (stated_cycle explained.now)) (IsRowFault s (stated_cycle explained.now)) }
+{
+    let numbers = explained.cycle.numbers();
+    if let Some(number) = unknown_number(table, numbers) {
+        return Some(RowFault::UnknownNumber(number));
     }
-    if !is_cycle(table, explained.cycle.numbers()) {
+    if let Some(number) = other_member(table, explained) {
+        return Some(RowFault::OtherMember(number));
+    }
+    if !is_cycle(table, numbers) {
         return Some(RowFault::NoCycle);
     }
-    place_fault(table, explained)
+    match other_place(table, explained) {
+        Some(place) => Some(RowFault::OtherPlace(place)),
+        None => None,
+    }
 }

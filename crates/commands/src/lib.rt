@@ -1,17 +1,21 @@
 //! The commands `script`, `offline`, `replay`, `explain` and `check`. Each one exists twice: over
 //! bytes and writers (`run_script`, `run_offline` and so on), which is what tests call, and over
 //! named files and the standard streams (`script_file`, `offline_file` and so on), which is what
-//! the program calls. The contracts of `run_script`, `run_offline`, `run_replay` and `run_explain`
-//! state what the output is for each status, as `ScriptTells`, `OfflineTells`, `ReplayTells` and
-//! `ExplainTells`. Start reading at `offline_command`; `exit` has the exit statuses.
+//! the program calls. The contracts of `run_script`, `run_offline`, `run_replay`, `run_explain` and
+//! `run_check` state what the output is for each status, as `ScriptTells`, `OfflineTells`,
+//! `ReplayTells`, `ExplainTells` and `CheckTells`; `laws` states what a valid file of `check` shows.
+//! Start reading at `offline_command`; `exit` has the exit statuses.
 #![tactic(auto)]
 
 mod admission;
 mod check_command;
+mod check_verdicts;
+mod check_words;
 mod exit;
 mod explain_command;
 mod explained_rows;
 mod files;
+pub mod laws;
 mod offline_command;
 mod progress;
 mod progress_line;

@@ -1,13 +1,13 @@
 //! The command `offline`: the report on a file of events.
 ghost use Rattle.std.specs.Prelude.{◌≡◌, ◌++◌, ◌≤◌, IfOk, IfErr, OnOk};
-ghost use Rattle.std.specs.Io.KnownBytes.{Appends};
-ghost use Rattle.commands.specs.declared.exit.Status.TheVariants.{Done, Error, Refused};
-ghost use Rattle.commands.specs.Exit.{status_of};
-ghost use Rattle.commands.specs.Offline.{OfflineTells, refused_line};
+ghost use Rattle.commands.specs.declared.exit.Status.TheVariants.{Done, Refused};
+ghost use Rattle.commands.specs.Admission.{HasBadLine};
+ghost use Rattle.commands.specs.Offline.{OfflinePrints, OfflineTells, refused_line};
+ghost use Rattle.commands.specs.Output.{EndsAs, IsJust};
 ghost use Rattle.offline_report.specs.Offline.{IsRefused, IsReport, whole};
 
 use crate::admission::push_refused_at;
-use crate::exit::{CommandError, Status, write_text};
+use crate::exit::{CommandError, Status, reported, write_bytes, write_text};
 use crate::files::read_file;
 use crate::progress::Progress;
 use crate::progress_line::ProgressLine;
@@ -53,12 +53,11 @@ fn report_on<R: Threads + Sync, P: Progress + Sync>(
 
 /// Writes the pieces of a report in order.
 fn write_pieces<O: Write>(out: &mut O, pieces: &[Vec<u8>]) -> Result<Status, CommandError>
-    ensures written { IfOk result (λ status. (status ≡ Done)
-        × Appends (O.contents out.old) (O.contents out.new) (whole pieces.now)) }
-    ensures failed { IfErr result (λ error. status_of error ≡ Error) }
+    ensures { EndsAs (IsJust Done (whole pieces.now)) ⊥ result
+        (O.contents out.old) (O.contents out.new) }
 {
     for piece in pieces {
-        out.write_all(piece)?;
+        write_bytes(out, piece)?;
     }
     out.flush()?;
     Ok(Status::Done)
@@ -70,14 +69,12 @@ pub(crate) fn write_refused<O: Write>(
     refused: OfflineRefused,
     out: &mut O,
 ) -> Result<Status, CommandError>
-    ensures written { IfOk result (λ status. (status ≡ Refused)
-        × Appends (O.contents out.old) (O.contents out.new) (refused_line refused)) }
-    ensures failed { IfErr result (λ error. status_of error ≡ Error) }
+    ensures { EndsAs (IsJust Refused (refused_line refused)) ⊥ result
+        (O.contents out.old) (O.contents out.new) }
 {
     let mut text = Vec::new(alloc);
     push_refused(&mut text, refused)?;
-    write_text(out, &text)?;
-    Ok(Status::Refused)
+    write_text(out, &text, Status::Refused)
 }
 
 /// Writes the report on the events of the file, or why there is none.
@@ -90,10 +87,8 @@ fn report<R: Threads + Sync, P: Progress + Sync, O: Write>(
     progress: &P,
     out: &mut O,
 ) -> Result<Status, CommandError>
-    ensures told { IfOk result (λ status.
-        OfflineTells file.now bound status (O.contents out.old) (O.contents out.new)) }
-    ensures refused { IfErr result (λ error.
-        OfflineTells file.now bound (status_of error) (O.contents out.old) (O.contents out.new)) }
+    ensures { EndsAs (OfflinePrints file.now bound) (HasBadLine file.now) result
+        (O.contents out.old) (O.contents out.new) }
 {
     let events = read_events(alloc, file)?;
     match report_on(rt, alloc, state, events, bound, progress) {
@@ -124,10 +119,8 @@ pub fn run_offline<R: Threads + Sync, P: Progress + Sync, O: Write, E: Write>(
 ) -> Status
     ensures { OfflineTells file.now bound result (O.contents out.old) (O.contents out.new) }
 {
-    match report(rt, alloc, state, file, bound, progress, out) {
-        Ok(status) => status,
-        Err(error) => error.report(name, err),
-    }
+    let ended = report(rt, alloc, state, file, bound, progress, out);
+    reported(ended, name, err)
 }
 
 /// Runs `run_offline` over the bytes of a file, on the standard streams.

@@ -1,10 +1,8 @@
 //! The command `replay`: the check of a witness against a trace.
-ghost use Rattle.std.specs.Prelude.{◌≡◌, ◌++◌, IfErr, IfOk, OnOk};
-ghost use Rattle.std.specs.Io.KnownBytes.{Appends};
+ghost use Rattle.std.specs.Prelude.{◌≡◌, ◌++◌, OnOk};
 ghost use Rattle.trace_model.specs.Theory.Lawful.{IsWellFormed};
-ghost use Rattle.replay.specs.declared.verdict.Verdict.{Verdict};
-ghost use Rattle.commands.specs.Exit.{status_of};
-ghost use Rattle.commands.specs.Replay.{IsVerdictOn, ReplayTells, WitnessFails, verdict_line, verdict_status};
+ghost use Rattle.commands.specs.Output.{EndsAs};
+ghost use Rattle.commands.specs.Replay.{HasWrongWitness, ReplayTells, VerdictPrints, verdict_line, verdict_status};
 
 use crate::admission::{Admission, admit_file};
 use crate::exit::{CommandError, Status, reported, write_text};
@@ -55,18 +53,14 @@ fn write_verdict<O: Write>(
     out: &mut O,
 ) -> Result<Status, CommandError>
     requires { IsWellFormed events.now }
-    ensures told { IfOk result (λ status. (v : Verdict) × IsVerdictOn events.now witness.now v
-        × (status ≡ verdict_status v)
-        × Appends (O.contents out.old) (O.contents out.new) (verdict_line v)) }
-    ensures failed { IfErr result (λ error.
-        WitnessFails witness.now error (O.contents out.old) (O.contents out.new)) }
+    ensures { EndsAs (VerdictPrints events.now witness.now) (HasWrongWitness witness.now) result
+        (O.contents out.old) (O.contents out.new) }
 {
     let witness = read_witness(alloc, witness)?;
     let verdict = check(alloc, state, events, &witness.order, &witness.instance)?;
     let mut text = Vec::new(alloc);
     push_verdict(&mut text, &verdict)?;
-    write_text(out, &text)?;
-    Ok(status_of(&verdict))
+    write_text(out, &text, status_of(&verdict))
 }
 
 /// Checks the witness against the trace. Writes one line to `out`: `reaches`; or the first test

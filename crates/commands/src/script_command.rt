@@ -3,21 +3,22 @@
 pub(crate) mod printing;
 pub(crate) mod reading;
 
-ghost use Rattle.std.specs.Prelude.{◌≡◌, ℕ, List, [], false, None, Some, Ok, IfErr, IfOk, OnOk};
+ghost use Rattle.std.specs.Prelude.{◌≡◌, ℕ, List, [], false, None, Some, Ok, IfErr, IfOk, OnErr, OnOk};
 ghost use Rattle.std.specs.List.{All};
 ghost use Rattle.std.specs.Io.KnownBytes.{Appends};
 ghost use Rattle.trace_model.specs.declared.messages.session.Request.{Request};
 ghost use Rattle.trace_model.specs.Protocol.Frames.{IsRequest, frame};
-ghost use Rattle.trace_model.specs.Protocol.Machine.{State, opening};
+ghost use Rattle.trace_model.specs.Protocol.Machine.{State};
 ghost use Rattle.sequencer.specs.Book.{IsLimit, RefusesSnapshot};
 ghost use Rattle.commands.specs.Exit.{status_of};
+ghost use Rattle.commands.specs.Output.{AppendsPart, EndsAs, IsCutShort, Writes};
 ghost use Rattle.commands.specs.Script.{reply_text};
 ghost use Rattle.commands.specs.ScriptFile.{FitsCommand};
 ghost use Rattle.commands.specs.ScriptRun.{Delivers, DeliversOne, IsJobIn, RefusesTask, Works, told_line};
-ghost use Rattle.commands.specs.ScriptTells.{IsFrame, Prints, PrintsAll, Replies, ScriptTells, Writes};
-ghost use Rattle.commands.specs.declared.exit.Status.TheVariants.{Done, Error};
+ghost use Rattle.commands.specs.ScriptTells.{HasWrongCommand, IsFrame, IsPrintOf, IsReplyTo, Prints, PrintsAll, PrintsFirst, Replies, RunPrints, ScriptPrints, ScriptTells};
+ghost use Rattle.commands.specs.declared.exit.Status.TheVariants.{Error};
 
-use crate::exit::{CommandError, Status};
+use crate::exit::{CommandError, Status, reported, write_bytes};
 use crate::files::read_file;
 use crate::text::push_last;
 use event_frames::{FrameReader, answer_frame, ask_frame, batch_frame, offer_frame, status_frame};
@@ -48,6 +49,8 @@ impl ScriptSession {
         requires { FitsCommand command.now }
         ensures printed { OnOk result (Writes (O.contents out.old) (O.contents out.new)
             (Prints self.old.book.state command.now self.new.book.state)) }
+        ensures cut { OnErr result (IsCutShort (O.contents out.old) (O.contents out.new)
+            (IsPrintOf self.old.book.state command.now)) }
         ensures failed { IfErr result (λ error. status_of error ≡ Error) }
     {
         match command {
@@ -75,6 +78,8 @@ impl ScriptSession {
         requires { All FitsCommand commands.now }
         ensures printed { OnOk result (Writes (O.contents out.old) (O.contents out.new)
             (PrintsAll self.old.book.state commands.now self.new.book.state)) }
+        ensures cut { OnErr result (IsCutShort (O.contents out.old) (O.contents out.new)
+            (PrintsFirst self.old.book.state commands.now)) }
         ensures failed { IfErr result (λ error. status_of error ≡ Error) }
     {
         for command in commands {
@@ -89,6 +94,9 @@ impl ScriptSession {
         ensures printed { OnOk result ((request : Request) → IsRequest request
             → bytes.now ≡ frame request → Writes (O.contents out.old) (O.contents out.new)
             (Replies self.old.book.state request self.new.book.state)) }
+        ensures cut { OnErr result ((request : Request) → IsRequest request
+            → bytes.now ≡ frame request → IsCutShort (O.contents out.old) (O.contents out.new)
+            (IsReplyTo self.old.book.state request)) }
         ensures failed { IfErr result (λ error. status_of error ≡ Error) }
     {
         self.reader.feed(bytes)?;
@@ -104,12 +112,13 @@ impl ScriptSession {
         ensures book { self.new.book ≡ self.old.book }
         ensures written { OnOk result
             (Appends (O.contents out.old) (O.contents out.new) (reply_text reply.now)) }
+        ensures cut { OnErr result
+            (AppendsPart (O.contents out.old) (O.contents out.new) (reply_text reply.now)) }
         ensures failed { IfErr result (λ error. status_of error ≡ Error) }
     {
         self.text.clear();
         push_reply(&mut self.text, reply)?;
-        out.write_all(&self.text)?;
-        Ok(())
+        write_bytes(out, &self.text)
     }
 
     /// Writes the label with the number, or the refusal.
@@ -122,14 +131,15 @@ impl ScriptSession {
         ensures book { self.new.book ≡ self.old.book }
         ensures written { OnOk result
             (Appends (O.contents out.old) (O.contents out.new) (told_line words.now told)) }
+        ensures cut { OnErr result
+            (AppendsPart (O.contents out.old) (O.contents out.new) (told_line words.now told)) }
         ensures failed { IfErr result (λ error. status_of error ≡ Error) }
     {
         match told {
             Ok(number) => {
                 self.text.clear();
                 push_last(&mut self.text, words, number as u64)?;
-                out.write_all(&self.text)?;
-                Ok(())
+                write_bytes(out, &self.text)
             }
             Err(refusal) => self.write(&Reply::Refused(refusal), out),
         }
@@ -232,12 +242,11 @@ fn run_commands<O: Write>(
     commands: &[Command],
     limit: u32,
     out: &mut O,
-) -> Result<(), CommandError>
+) -> Result<Status, CommandError>
     requires limit { IsLimit limit }
     requires fit { All FitsCommand commands.now }
-    ensures printed { OnOk result ((last : State) × Writes (O.contents out.old) (O.contents out.new)
-        (PrintsAll (opening limit) commands.now last)) }
-    ensures failed { IfErr result (λ error. status_of error ≡ Error) }
+    ensures { EndsAs (RunPrints limit commands.now) ⊥ result
+        (O.contents out.old) (O.contents out.new) }
 {
     let Ok(book) = Book::new(alloc, state, limit) else {
         unreachable!()
@@ -253,7 +262,7 @@ fn run_commands<O: Write>(
     let flushed = out.flush();
     ran?;
     flushed?;
-    Ok(())
+    Ok(Status::Done)
 }
 
 /// Parses the whole script, and then runs it.
@@ -263,12 +272,10 @@ fn run_file<O: Write>(
     file: &[u8],
     limit: u32,
     out: &mut O,
-) -> Result<(), CommandError>
+) -> Result<Status, CommandError>
     requires { IsLimit limit }
-    ensures done { OnOk result
-        (ScriptTells file.now limit Done (O.contents out.old) (O.contents out.new)) }
-    ensures failed { IfErr result (λ error.
-        ScriptTells file.now limit (status_of error) (O.contents out.old) (O.contents out.new)) }
+    ensures { EndsAs (ScriptPrints file.now limit) (HasWrongCommand file.now) result
+        (O.contents out.old) (O.contents out.new) }
 {
     let commands = read_script(alloc, file)?;
     run_commands(alloc, state, &commands, limit, out)
@@ -289,10 +296,8 @@ pub fn run_script<O: Write, E: Write>(
     requires { IsLimit limit }
     ensures { ScriptTells file.now limit result (O.contents out.old) (O.contents out.new) }
 {
-    match run_file(alloc, state, file, limit, out) {
-        Ok(()) => Status::Done,
-        Err(error) => error.report(name, err),
-    }
+    let ended = run_file(alloc, state, file, limit, out);
+    reported(ended, name, err)
 }
 
 /// Runs `script` over the file with this name, with a book that accepts at most `limit` events (1

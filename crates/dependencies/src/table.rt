@@ -83,16 +83,16 @@ impl DepTable {
         ensures ok { IfOk result (λ number. IsNoted self.old place dependency number self.new) }
         ensures err { OnErr result (self.new.shown ≡ self.old.shown) }
     {
-        self.reserve()?;
+        self.reserve(place, &dependency)?;
         Ok(self.record(place, dependency))
     }
 
-    /// Reserves memory for one place of any dependency. The dependencies and places do not change.
+    /// Reserves memory for one more place of `dependency`. The dependencies and places do not change.
     ///
     /// # Errors
     ///
     /// `NoMemory` if an allocation fails.
-    pub fn reserve(&mut self) -> Result<(), NoMemory>
+    pub fn reserve(&mut self, _place: Place, _dependency: &Dependency) -> Result<(), NoMemory>
         ensures shown { self.new.shown ≡ self.old.shown }
         ensures ok { OnOk result (self.new.room ≡ true) }
     {

@@ -128,7 +128,7 @@ told_batch limit run events b some h = by b.accepted refl
       took = subst (λ k. StepsOrMemory h.state (Batch events) (reply k) h.next) is steps;
     }
 
--- ---- what the desk told
+-- ---- what the desk replied
 
 abbrev WasPlaced : ℕ → List BoardStep → Event → Place → Type 0
 WasPlaced limit run event place = EndsBy limit run (Accept (event ∷ [])) (λ state next. step printing state (Offer event) ≡ (replies.Placed place, next))

@@ -10,7 +10,6 @@ use Rattle.trace_model.specs.Protocol.Runs.{IsRun}
 use Rattle.snapshots.specs.Found.{FoundRows}
 use Rattle.sequencer.specs.Book.{findings_rows}
 use Rattle.sequencer.specs.Deliveries.{delivery}
-use mathlib.Core.List.{IsPrefix}
 
 -- the state is that of the machine with this limit after the run
 abbrev pub After : ℕ → List BoardStep → State → Type 0
@@ -43,11 +42,10 @@ pub record EndsBy (limit : ℕ) (run : List BoardStep) (last : BoardStep) (went 
   pub is : After limit run next
   pub took : went state next
 
--- the finding was taken by the last step of a run, and the whole run has been seen
+-- the last step of the run takes the finding
 abbrev pub WasTaken : ℕ → FoundRows → List BoardStep → Type 0
-WasTaken limit f seen =
-    (run : List BoardStep) × EndsBy limit run (delivery_step f)
-    (λ state next. delivery state f ≡ (None, next)) × IsPrefix run seen
+WasTaken limit f run =
+    EndsBy limit run (delivery_step f) (λ state next. delivery state f ≡ (None, next))
 
 -- the property holds of the machine after the run
 abbrev pub Afterwards : ℕ → List BoardStep → (State → Type 0) → Type 0

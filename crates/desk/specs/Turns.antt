@@ -1,20 +1,18 @@
--- What a worker's turn tells (this project's profile).
-use Rattle.std.specs.Prelude.{◌≡◌, ℕ, ◌<◌, ◌⊎◌, Bool, true, List, [], ◌∷◌, ◌++◌, slice_get, slice_set, Option, Some, None, IfSome}
+-- What a worker's turn returns (this project's profile).
+use Rattle.std.specs.Prelude.{◌≡◌, ℕ, ◌<◌, Bool, true, List, [], ◌∷◌, ◌++◌, slice_set, Option, Some, None, IfSome}
 use Rattle.trace_model.specs.declared.limits.TheConstants.{MAX_CYCLES}
 use Rattle.trace_model.specs.declared.messages.step.BoardStep.{BoardStep}
 use Rattle.trace_model.specs.Theory.Dependencies.{dependencies}
 use Rattle.trace_model.specs.Theory.Trace.{Trace}
-use Rattle.trace_model.specs.Protocol.Machine.{Question, State}
+use Rattle.trace_model.specs.Protocol.Machine.{State}
+use Rattle.snapshots.specs.Found.{FoundRows}
 use Rattle.cycle_search.specs.Search.{CycleFrom, MoreThan}
 use Rattle.claims.specs.declared.Draw.{Draw}
 use Rattle.claims.specs.Draws.{draw}
 use Rattle.board.specs.declared.summary.Unsettled.{Unsettled}
 use Rattle.board.specs.Unsettled.{IsLeastUnsettled, open_questions}
-use Rattle.desk.specs.declared.worker.Turn.{Turn}
-use Rattle.desk.specs.declared.worker.Turn.TheVariants.{Failed}
-use Rattle.desk.specs.declared.worker.TurnFailure.TheVariants.{TooManyCycles}
-use Rattle.desk.specs.Published.{Afterwards}
-use Rattle.desk.specs.Questions.{AreEventsOf}
+use Rattle.desk.specs.Published.{Afterwards, WasTaken}
+use Rattle.desk.specs.Questions.{AreEventsOf, IsFirstMissing}
 use mathlib.Core.List.{IsPrefix}
 
 -- what contracts see of a worker: the steps that its reader has seen or learned, and for each
@@ -23,40 +21,59 @@ pub record WorkerView : Type 0 where
   pub known : List BoardStep
   pub given_up : List Bool
 
--- the property holds of the machine after a prefix of the known steps
-abbrev pub HeldOnce : ℕ → List BoardStep → (State → Type 0) → Type 0
-HeldOnce limit known so = (run : List BoardStep) × IsPrefix run known × Afterwards limit run so
-
 -- the task is below the total and was drawn for the question
 pub record IsDrawn (question total : ℕ) (before after : List Draw) (task : ℕ) : Type 0 where
   pub below : task < total
   pub drawn : after ≡ before ++ draw question task ∷ []
 
--- no task of the question is missing
-abbrev pub MissesNone : State → ℕ → Type 0
-MissesNone s number =
-    (q : Question) → slice_get s.questions number ≡ Some q → (task : ℕ) →
-    slice_get q.tasks task ≡ Some None → ⊥
-
--- the worker, which knew the `old` steps, saw that no question was unsettled, except of those that
--- it gave up; or that no task of the least such question was missing
-pub record IsIdle (limit : ℕ) (given_up : List Bool) (old known : List BoardStep) : Type 0 where
+-- The worker knew the `old` steps. In this turn it saw steps that extend these, and this was then
+-- the least unsettled question, except of those that it gave up. It knows the `known` steps now.
+pub record Chooses (given_up : List Bool) (old known : List BoardStep)
+    (found : Option Unsettled) : Type 0 where
   pub shown : List BoardStep
   pub later : IsPrefix old shown
   pub seen : IsPrefix shown known
-  pub found : Option Unsettled
   pub least : IsLeastUnsettled given_up (open_questions shown) found
-  pub none_left : IfSome found (λ one. HeldOnce limit known (λ state. MissesNone state one.number))
 
--- a task of the question has more cycles up to the bound than a search may find
-abbrev pub HasTooMany : ℕ → ℕ → ℕ → ℕ → Type 0
-HasTooMany limit question bound task =
-    (run : List BoardStep) × (events : Trace)
+-- the worker chose this question, and the property holds of it
+abbrev pub Chose : WorkerView → WorkerView → (Unsettled → Type 0) → Type 0
+Chose old new so =
+    (one : Unsettled) × Chooses old.given_up old.known new.known (Some one) × so one
+
+-- the last known step delivers the rows of a task of this question
+abbrev pub Delivers : ℕ → List BoardStep → Unsettled → Type 0
+Delivers limit known one = (finding : FoundRows) × (finding.question ≡ one.number)
+    × (finding.bound ≡ one.shown.bound) × WasTaken limit finding known
+
+-- no question was unsettled, except of those that the worker gave up; or no task of the least such
+-- question is missing after the known steps
+abbrev pub IsIdle : ℕ → WorkerView → WorkerView → Type 0
+IsIdle limit old new = (found : Option Unsettled)
+    × Chooses old.given_up old.known new.known found
+    × IfSome found (λ one. Afterwards limit new.known
+    (λ state. IsFirstMissing state one.number None))
+
+-- the task of this question has more cycles up to the bound than a search may find
+abbrev pub HasTooMany : ℕ → List BoardStep → ℕ → ℕ → ℕ → Type 0
+HasTooMany limit known question bound task =
+    (run : List BoardStep) × (events : Trace) × IsPrefix run known
     × Afterwards limit run (λ state. AreEventsOf state question events)
     × MoreThan (CycleFrom (dependencies events) bound task) MAX_CYCLES
 
--- a worker gives up at most one question, and only if a task had too many cycles
-abbrev pub GivesUp : Turn → List Bool → List Bool → Type 0
-GivesUp turn before after =
-    (after ≡ before)
-    ⊎ ((turn ≡ Failed TooManyCycles) × (number : ℕ) × (after ≡ slice_set before number true))
+-- a task of this question has too many cycles
+abbrev pub IsTooMuch : ℕ → List BoardStep → Unsettled → Type 0
+IsTooMuch limit known one =
+    (task : ℕ) × HasTooMany limit known one.number one.shown.bound task
+
+-- the property holds of the machine after steps between these
+abbrev pub HeldBetween : ℕ → List BoardStep → List BoardStep → (State → Type 0) → Type 0
+HeldBetween limit old known so = (run : List BoardStep) × IsPrefix old run × IsPrefix run known
+    × Afterwards limit run so
+
+-- the worker gives up this question, whose least missing task has too many cycles
+abbrev pub GivesUpOn : ℕ → WorkerView → WorkerView → Unsettled → Type 0
+GivesUpOn limit old new one = (task : ℕ)
+    × HasTooMany limit new.known one.number one.shown.bound task
+    × HeldBetween limit old.known new.known
+    (λ state. IsFirstMissing state one.number (Some task))
+    × (new.given_up ≡ slice_set old.given_up one.number true)

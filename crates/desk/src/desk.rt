@@ -1,10 +1,11 @@
 //! The desk: a lock around the book and the board's writer.
 
-ghost use Rattle.std.specs.Prelude.{◌≡◌, ◌<◌, [], ◌∷◌, length, slice_get, IfOk, IfErr, OnErr, OnOk, None};
+ghost use Rattle.std.specs.Prelude.{◌≡◌, ◌<◌, ◌⊎◌, List, [], ◌∷◌, length, slice_get, IfOk, IfErr, OnErr, OnOk, None};
 ghost use Rattle.std.specs.Arc.{arc_value};
 ghost use Rattle.trace_model.specs.Protocol.Batches.{IsBatch};
 ghost use Rattle.trace_model.specs.Protocol.Machine.{step};
 ghost use Rattle.trace_model.specs.Protocol.Runs.{IsLegal};
+ghost use Rattle.trace_model.specs.declared.messages.step.BoardStep.{BoardStep};
 ghost use Rattle.trace_model.specs.declared.messages.step.BoardStep.TheVariants as steps;
 ghost use Rattle.trace_model.specs.declared.messages.session.Request.TheVariants as requests;
 ghost use Rattle.trace_model.specs.declared.messages.session.Reply.TheVariants.{Placed, Refused};
@@ -171,7 +172,10 @@ impl<N: HistoryId, R: Wait + Copy, T: BoardValue<N>> Desk<N, R, T> {
     ///
     /// As of `snapshot`, or `NoMemory` if an allocation fails.
     pub(crate) fn own_job(&self, question: u32, bound: Bound) -> Result<OwnJob<N>, Refusal>
-        ensures { IfOk result (λ job. (job.question ≡ question) × (job.bound ≡ bound)) }
+        ensures job { IfOk result (λ job. (job.question ≡ question) × (job.bound ≡ bound)) }
+        ensures refused { IfErr result (λ refusal. (refusal ≡ Refusal.NoMemory)
+            ⊎ ((run : List BoardStep) × Afterwards N.limit run
+            (λ state. RefusesSnapshot state question refusal))) }
     {
         let (snapshot, receipt) = self.snapshot(question);
         let snapshot = snapshot?;

@@ -5,7 +5,9 @@ ghost use Rattle.std.specs.Prelude.{◌≡◌, Err, IfOk, IsTrue};
 ghost use Rattle.std.specs.Arc.{arc_value};
 ghost use Rattle.desk.specs.Published.{Afterwards};
 ghost use Rattle.desk.specs.Questions.{AreEventsOf};
-ghost use Rattle.desk.specs.Turns.{HasTooMany};
+ghost use Rattle.trace_model.specs.declared.limits.TheConstants.{MAX_CYCLES};
+ghost use Rattle.trace_model.specs.Theory.Dependencies.{dependencies};
+ghost use Rattle.cycle_search.specs.Search.{CycleFrom, MoreThan};
 
 use board::{HistoryId, Receipt};
 use findings::{Analysis, ComputeRefused, Finding, Job};
@@ -66,6 +68,14 @@ impl<N: HistoryId> OwnJob<N> {
         self.job.question()
     }
 
+    /// Returns a receipt after which the question covered exactly the job's events.
+    pub(crate) fn receipt(&self) -> Receipt<N>
+        ensures { Afterwards N.limit result
+            (λ state. AreEventsOf state self.now.question self.now.events) }
+    {
+        self.receipt.again()
+    }
+
     /// Returns whether this is a job of the question with this number and bound.
     pub(crate) fn is_of(&self, question: u32, bound: Bound) -> bool
         ensures { IsTrue result → (self.now.question ≡ question) × (self.now.bound ≡ bound) }
@@ -83,7 +93,7 @@ impl<N: HistoryId> OwnJob<N> {
         ensures asked { IfOk result (λ own. (own.question ≡ self.old.question)
             × (own.bound ≡ self.old.bound) × (own.task ≡ task)) }
         ensures too_many { result ≡ Err ComputeRefused.TooManyCycles →
-            HasTooMany N.limit self.old.question self.old.bound task }
+            MoreThan (CycleFrom (dependencies self.old.events) self.old.bound task) MAX_CYCLES }
     {
         let finding = self.job.compute(task)?;
         let receipt = self.receipt.again();

@@ -1,6 +1,6 @@
 //! The analysis that workers share.
 
-ghost use Rattle.std.specs.Prelude.{◌≡◌, slice_get, IfOk, IsTrue};
+ghost use Rattle.std.specs.Prelude.{◌≡◌, ◌≢◌, slice_get, IfOk, IsSomeAnd, IsTrue, None, OnErr};
 ghost use Rattle.std.specs.Arc.{arc_value};
 ghost use Rattle.std.specs.Option.{option_eq};
 ghost use Rattle.trace_model.specs.Protocol.Machine.{same_event};
@@ -19,7 +19,9 @@ pub(crate) struct SharedAnalysis {
 
 impl SharedAnalysis {
     /// Keeps no analysis.
-    pub(crate) fn new() -> SharedAnalysis {
+    pub(crate) fn new() -> SharedAnalysis
+        ensures { result.kept ≡ None }
+    {
         SharedAnalysis {
             question: 0,
             kept: None,
@@ -39,8 +41,11 @@ impl SharedAnalysis {
         snapshot: Arc<Snapshot, Global>,
         bound: Bound,
     ) -> Result<Arc<Analysis, Global>, NoMemory>
-        ensures { IfOk result (λ own. ((arc_value own).events ≡ arc_value snapshot)
+        ensures own { IfOk result (λ own. ((arc_value own).events ≡ arc_value snapshot)
             × ((arc_value own).bound ≡ bound)) }
+        ensures kept { IfOk result (λ own. (self.new.question ≡ question)
+            × IsSomeAnd self.new.kept (λ kept. arc_value kept ≡ arc_value own)) }
+        ensures none { OnErr result (self.new.kept ≡ None) }
     {
         if let Some(kept) = self.kept.take()
             && self.question == question
@@ -56,7 +61,10 @@ impl SharedAnalysis {
     }
 
     /// Drops the analysis if it is of the question.
-    pub(crate) fn end(&mut self, question: u32) {
+    pub(crate) fn end(&mut self, question: u32)
+        ensures ended { self.old.question ≡ question → self.new.kept ≡ None }
+        ensures others { self.old.question ≢ question → self.new ≡ self.old }
+    {
         if self.question == question {
             self.kept = None;
         }

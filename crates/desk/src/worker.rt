@@ -1,17 +1,18 @@
 //! Workers, which compute the rows of tasks without the lock.
 
-ghost use Rattle.std.specs.Prelude.{◌≡◌, ◌≢◌, ℕ, Some, Err, IfErr, IfNone, IfOk, IfSome, MatchBool, OnOk};
+ghost use Rattle.std.specs.Prelude.{◌≡◌, ◌≢◌, ◌⊎◌, false, true, replicate, slice_get, slice_set, None, Some, Err, IfErr, IfOk, MatchBool, MatchOption, OnErr, OnOk};
 ghost use mathlib.Core.List.{IsPrefix};
-ghost use Rattle.snapshots.specs.Found.{FoundRows};
-ghost use Rattle.desk.specs.Published.{WasTaken};
+ghost use Rattle.trace_model.specs.declared.limits.TheConstants.{MAX_QUESTIONS};
+ghost use Rattle.desk.specs.Published.{Afterwards, WasTaken};
 ghost use Rattle.desk.specs.Questions.{IsFirstMissing, IsJobOf};
-ghost use Rattle.desk.specs.Turns.{GivesUp, HasTooMany, HeldOnce, IsDrawn, IsIdle, MissesNone};
+ghost use Rattle.desk.specs.Turns.{Chose, Delivers, GivesUpOn, HasTooMany, IsDrawn, IsIdle, IsTooMuch};
 
 use crate::desk::Desk;
 use crate::own::{OwnFinding, OwnJob};
 use board::{BoardReader, BoardValue, HistoryId, Unsettled};
 use claims::Claimant;
 use findings::{ComputeRefused, Hold};
+use sequencer::NoSuchQuestion;
 use std::marker::Model;
 use std::sync::{Arc, Wait};
 use trace_model::{Bound, MAX_QUESTIONS, Refusal};
@@ -98,7 +99,8 @@ impl<N: HistoryId, R: Wait + Copy, T: BoardValue<N>> Worker<N, R, T> {
         claimant: Claimant,
         reader: BoardReader<N>,
     ) -> Worker<N, R, T>
-        ensures { result.known ≡ reader.known }
+        ensures known { result.known ≡ reader.known }
+        ensures given_up { result.given_up ≡ replicate MAX_QUESTIONS false }
     {
         Worker {
             desk,
@@ -115,13 +117,14 @@ impl<N: HistoryId, R: Wait + Copy, T: BoardValue<N>> Worker<N, R, T> {
     /// if its least missing task has too many cycles.
     pub fn turn(&mut self, hold: &impl Hold) -> Turn
         ensures later { IsPrefix self.old.known self.new.known }
-        ensures delivered { result ≡ Turn.Delivered → (finding : FoundRows)
-            × WasTaken N.limit finding self.new.known }
-        ensures idle { result ≡ Turn.Idle →
-            IsIdle N.limit self.old.given_up self.old.known self.new.known }
+        ensures delivered { result ≡ Turn.Delivered →
+            Chose self.old self.new (Delivers N.limit self.new.known) }
+        ensures idle { result ≡ Turn.Idle → IsIdle N.limit self.old self.new }
         ensures too_many { result ≡ Turn.Failed TurnFailure.TooManyCycles →
-            (question bound task : ℕ) × HasTooMany N.limit question bound task }
-        ensures gives_up { GivesUp result self.old.given_up self.new.given_up }
+            Chose self.old self.new (IsTooMuch N.limit self.new.known) }
+        ensures gives_up { (self.new.given_up ≡ self.old.given_up)
+            ⊎ ((result ≡ Turn.Failed TurnFailure.TooManyCycles)
+            × Chose self.old self.new (GivesUpOn N.limit self.old self.new)) }
     {
         let Ok(found) = self.reader.least_unsettled(&self.given_up) else {
             return Turn::Failed(TurnFailure::BoardBusy);
@@ -138,13 +141,15 @@ impl<N: HistoryId, R: Wait + Copy, T: BoardValue<N>> Worker<N, R, T> {
     /// Works on one task of this question.
     fn work_on(&mut self, unsettled: Unsettled, hold: &impl Hold) -> Turn
         ensures later { IsPrefix self.old.known self.new.known }
-        ensures delivered { result ≡ Turn.Delivered → (finding : FoundRows)
-            × WasTaken N.limit finding self.new.known }
-        ensures idle { result ≡ Turn.Idle → HeldOnce N.limit self.new.known
-            (λ state. MissesNone state unsettled.number) }
-        ensures too_many { result ≡ Turn.Failed TurnFailure.TooManyCycles → (task : ℕ)
-            × HasTooMany N.limit unsettled.number unsettled.shown.bound task }
-        ensures gives_up { GivesUp result self.old.given_up self.new.given_up }
+        ensures delivered { result ≡ Turn.Delivered →
+            Delivers N.limit self.new.known unsettled }
+        ensures idle { result ≡ Turn.Idle → Afterwards N.limit self.new.known
+            (λ state. IsFirstMissing state unsettled.number None) }
+        ensures too_many { result ≡ Turn.Failed TurnFailure.TooManyCycles →
+            IsTooMuch N.limit self.new.known unsettled }
+        ensures gives_up { (self.new.given_up ≡ self.old.given_up)
+            ⊎ ((result ≡ Turn.Failed TurnFailure.TooManyCycles)
+            × GivesUpOn N.limit self.old self.new unsettled) }
     {
         let Unsettled { number, shown } = unsettled;
         let picked = pick(
@@ -154,12 +159,16 @@ impl<N: HistoryId, R: Wait + Copy, T: BoardValue<N>> Worker<N, R, T> {
             number,
             shown.total,
         );
+        let Ok(picked) = picked else {
+            return Turn::Refused(Refusal::NoSuchQuestion);
+        };
         let Some(picked) = picked else {
             return Turn::Idle;
         };
         let question = u32::from(number);
         match compute(
             &self.desk,
+            &mut self.reader,
             &mut self.job,
             question,
             shown.bound,
@@ -170,45 +179,60 @@ impl<N: HistoryId, R: Wait + Copy, T: BoardValue<N>> Worker<N, R, T> {
                 deliver(&self.desk, &mut self.reader, own)
             }
             Err(turn) => {
-                if picked.left && turn == Turn::Failed(TurnFailure::TooManyCycles) {
-                    self.given_up[usize::from(number)] = true;
-                }
+                give_up(&mut self.given_up, number, picked.left, turn);
                 turn
             }
         }
     }
 }
 
-/// Returns a task that no other worker drew, or the least missing one, whose receipt the reader
-/// learns, or `None` if none is missing.
+/// Gives the question up if its least missing task has too many cycles.
+fn give_up(given_up: &mut [bool; MAX_QUESTIONS], number: u8, is_least: bool, turn: Turn)
+    ensures { (given_up.new ≡ given_up.old) ⊎ ((is_least ≡ true)
+        × (turn ≡ Turn.Failed TurnFailure.TooManyCycles)
+        × (given_up.new ≡ slice_set given_up.old number true)) }
+{
+    if is_least && matches!(turn, Turn::Failed(TurnFailure::TooManyCycles)) {
+        given_up[usize::from(number)] = true;
+    }
+}
+
+/// Returns a task that no other worker drew, or the least missing one, or `None` if none is missing.
+/// The reader learns the receipt of a look at the desk.
+///
+/// # Errors
+///
+/// `NoSuchQuestion` if the question is not open.
 fn pick<N: HistoryId, R: Wait + Copy, T: BoardValue<N>>(
     desk: &Desk<N, R, T>,
     reader: &mut BoardReader<N>,
     claimant: &mut Claimant,
     question: u8,
     total: u32,
-) -> Option<Picked>
+) -> Result<Option<Picked>, NoSuchQuestion>
     ensures later { IsPrefix reader.old.known reader.new.known }
-    ensures picked { IfSome result (λ picked. MatchBool picked.left
-        (HeldOnce N.limit reader.new.known
+    ensures picked { IfOk result (λ picked. MatchOption picked
+        (Afterwards N.limit reader.new.known (λ state. IsFirstMissing state question None))
+        (λ picked. MatchBool picked.left
+        (Afterwards N.limit reader.new.known
         (λ state. IsFirstMissing state question (Some picked.task)))
-        (IsDrawn question total claimant.old.draws claimant.new.draws picked.task)) }
-    ensures none { IfNone result (HeldOnce N.limit reader.new.known
-        (λ state. MissesNone state question)) }
+        (IsDrawn question total claimant.old.draws claimant.new.draws picked.task))) }
+    ensures unknown { OnErr result (Afterwards N.limit reader.new.known
+        (λ state. slice_get state.questions question ≡ None)) }
 {
     if let Ok(number) = claimant.draw(question)
         && number < u64::from(total)
     {
-        return Some(Picked {
+        return Ok(Some(Picked {
             task: number as u32,
             left: false,
-        });
+        }));
     }
-    let (missing, told) = desk.missing(u32::from(question));
-    reader.learn(&told);
-    match missing {
-        Ok(Some(task)) => Some(Picked { task, left: true }),
-        _ => None,
+    let (missing, receipt) = desk.missing(u32::from(question));
+    reader.catch_up(&desk.rt(), &receipt);
+    match missing? {
+        Some(task) => Ok(Some(Picked { task, left: true })),
+        None => Ok(None),
     }
 }
 
@@ -248,19 +272,22 @@ fn end<N: HistoryId, R: Wait + Copy, T: BoardValue<N>>(
     }
 }
 
-/// Computes the rows of the task without the lock, and keeps the job.
+/// Computes the rows of the task without the lock, and keeps the job. If the task has too many
+/// cycles, the reader learns a receipt that names the events of the job.
 fn compute<N: HistoryId, R: Wait + Copy, T: BoardValue<N>>(
     desk: &Desk<N, R, T>,
+    reader: &mut BoardReader<N>,
     kept: &mut Option<OwnJob<N>>,
     question: u32,
     bound: Bound,
     task: u32,
 ) -> Result<OwnFinding<N>, Turn>
+    ensures later { IsPrefix reader.old.known reader.new.known }
     ensures computed { IfOk result (λ own. (own.question ≡ question) × (own.bound ≡ bound)
         × (own.task ≡ task)) }
     ensures err { IfErr result (λ turn. (turn ≢ Turn.Delivered) × (turn ≢ Turn.Idle)) }
     ensures too_many { result ≡ Err (Turn.Failed TurnFailure.TooManyCycles) →
-        HasTooMany N.limit question bound task }
+        HasTooMany N.limit reader.new.known question bound task }
 {
     keep_job(desk, kept, question, bound)?;
     let Some(job) = kept else {
@@ -268,7 +295,10 @@ fn compute<N: HistoryId, R: Wait + Copy, T: BoardValue<N>>(
     };
     match job.compute(task) {
         Ok(own) => Ok(own),
-        Err(ComputeRefused::TooManyCycles) => Err(Turn::Failed(TurnFailure::TooManyCycles)),
+        Err(ComputeRefused::TooManyCycles) => {
+            reader.learn(&job.receipt());
+            Err(Turn::Failed(TurnFailure::TooManyCycles))
+        }
         Err(ComputeRefused::NoMemory) => Err(Turn::Failed(TurnFailure::NoMemory)),
     }
 }
@@ -284,7 +314,7 @@ fn deliver<N: HistoryId, R: Wait + Copy, T: BoardValue<N>>(
     ensures others { (result ≢ Turn.Idle) × (result ≢ Turn.Failed TurnFailure.TooManyCycles) }
 {
     let (delivered, receipt) = desk.deliver_own(own);
-    reader.learn(&receipt);
+    reader.catch_up(&desk.rt(), &receipt);
     match delivered {
         Ok(()) => Turn::Delivered,
         Err((refusal, finding)) => {

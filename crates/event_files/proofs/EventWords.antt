@@ -1,31 +1,20 @@
 -- The parts of an event word.
-use Rattle.std.proofs.Common.{◌≡◌, ℕ, suc, ◌+◌, ◌<◌, ◌≤◌, ◌^◌, true, false, cond, not, ltb, nat_lt, List, [], ◌∷◌, ◌++◌, length, take, drop, get_or, decimal, Some, None, refl, sym, ap, subst, ◌∙◌, arith, length-append}
-use Rattle.std.specs.List.{position, prefix_len}
+use Rattle.std.proofs.Common.{◌≡◌, ℕ, suc, ◌+◌, ◌<◌, ◌^◌, true, false, cond, not, ltb, nat_lt, List, [], ◌∷◌, ◌++◌, length, take, drop, get_or, decimal, Some, None, refl, sym, ap, subst, ◌∙◌, arith, length-append}
+use Rattle.std.specs.List.{position}
 use Rattle.std.specs.Char.{is_ascii_digit}
-use Rattle.std.specs.Str.Parse.{AllDigits}
 use Rattle.std.proofs.lemmas.Bool.{lt-ltb}
-use Rattle.std.proofs.lemmas.Bool.Decides.{nat_tests}
 use Rattle.std.proofs.lemmas.List.{take-append-drop, drop_more}
-use Rattle.std.proofs.lemmas.Str.Parse.{digit_from_value}
 use Rattle.std.proofs.lemmas.Fmt.{decimal_is_IsNumeral}
 use Rattle.trace_model.specs.declared.traces.event.Event.{Event}
 use Rattle.trace_model.specs.declared.traces.event.Op.{Op}
 use Rattle.trace_model.specs.declared.traces.event.Op.TheVariants.{Fork}
 use Rattle.trace_model.specs.Protocol.Frames.{object_of}
 use Rattle.event_files.specs.EventFile.{is_no_digit, letter_of, event_word}
-
-digit_is : (c : ℕ) → 48 ≤ c → c ≤ 57 → is_ascii_digit c ≡ true
-digit_is c low high = grind (arith, nat_tests)
-
-prefix_of : (ds : List ℕ) (c : ℕ) (rest : List ℕ) → AllDigits 10 ds → is_ascii_digit c ≡ false → prefix_len (λ b. not (is_no_digit b)) (ds ++ c ∷ rest) ≡ length ds
-prefix_of [] c rest all other = ap (λ b. cond (not (not b)) (1 + prefix_len (λ b. not (is_no_digit b)) rest) 0) other
-prefix_of (d ∷ ds) c rest all other =
-    let r = digit_from_value d all.0 in
-    ap (λ b. cond (not (not b)) (1 + prefix_len (λ b. not (is_no_digit b)) (ds ++ c ∷ rest)) 0) (digit_is d (omega (arith, r)) (omega (arith, r))) ∙ omega (arith, prefix_of ds c rest all.1 other)
+use Rattle.event_files.proofs.NumberedTexts.{digits_before}
 
 place_of : (n : ℕ) (c : ℕ) (rest : List ℕ) → n < 2 ^ 64 → is_ascii_digit c ≡ false → position is_no_digit (decimal n ++ c ∷ rest) ≡ Some (length (decimal n))
 place_of n c rest small other =
-    let p = prefix_of (decimal n) c rest (decimal_is_IsNumeral n small).0.1 other in
+    let p = digits_before (decimal n) (c ∷ rest) (decimal_is_IsNumeral n small).0.1 (ap not other) in
     let l : ltb (length (decimal n)) (length (decimal n ++ c ∷ rest)) ≡ true = lt-ltb _ _ (omega (arith, length-append (decimal n) (c ∷ rest))) in
     ap (λ k. cond (nat_lt k (length (decimal n ++ c ∷ rest))) (Some k) None) p ∙ ap (λ b. cond b (Some (length (decimal n))) None) l
 

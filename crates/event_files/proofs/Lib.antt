@@ -1,5 +1,13 @@
 pub mod EventWords
+pub mod ExplainedBeginnings
+pub mod ExplainedLoops
+pub mod ExplainedOrder
+pub mod ExplainedReadings
+pub mod ExplainedTexts
+pub mod ExplainedUnique
 pub mod Lines
+pub mod NumberedTexts
 pub mod Numerals
 pub mod RefutationTexts
+pub mod StatedLines
 pub mod WitnessLines

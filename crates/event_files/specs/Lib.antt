@@ -1,4 +1,9 @@
 pub mod EventFile
+pub mod ExplainedFile
+pub mod ExplainedLines
+pub mod ExplainedReading
+pub mod ExplainedText
+pub mod NumberedText
 pub mod Numbers
 pub mod Refutations
 pub mod WitnessFile

@@ -30,7 +30,7 @@ fn op_of(letter: u8, object: u32) -> Option<Op>
 }
 
 /// Returns the index of the first byte that is not a digit, or `None`.
-fn letter_place(word: &[u8]) -> Option<usize>
+pub(crate) fn letter_place(word: &[u8]) -> Option<usize>
     ensures { result ≡ position is_no_digit word.now }
 {
     word.iter().position(|byte| !byte.is_ascii_digit())

@@ -2,22 +2,29 @@
 //!
 //! [`read_events`] returns the events of a file; its contract says that the words of the file are
 //! exactly those of the events. Start reading there; [`read_witness`] reads the input of the replay
-//! checker. [`push_refutation`] writes the sentences of a refutation, and [`read_explained`] reads
-//! rows with their witnesses and refutations.
+//! checker. [`push_refutation`] writes the sentences of a refutation. [`read_explained`] reads rows
+//! with their witnesses and refutations; its contract says that the lines of the file are exactly
+//! those of what it returns.
 #![tactic(auto)]
 
 mod event_file;
 mod explained_file;
 mod explained_lines;
+mod explained_reading;
+mod explanations;
 pub mod laws;
+mod numbered_text;
 mod numbers;
 mod refused;
 mod refutation_text;
 mod witness_file;
 
 pub use event_file::{event, lines_of, push_events, read_events, words_of};
-pub use explained_file::{Evidence, Explained, ExplainedMember, read_explained};
+pub use explained_file::read_explained;
+pub use explanations::{
+    Evidence, Explained, ExplainedFile, ExplainedMember, ExplainedStep, ReportHead,
+};
 pub use numbers::number;
-pub use refused::FileRefused;
+pub use refused::{ExplainedRefused, FileRefused};
 pub use refutation_text::{push_entry, push_refutation};
 pub use witness_file::{WitnessFile, read_witness};

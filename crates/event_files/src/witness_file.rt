@@ -1,10 +1,10 @@
 //! Witness files: the places of an instance, and a list of places.
-ghost use Rattle.std.specs.Bool.{Decides};
 ghost use Rattle.std.specs.Prelude.{◌≡◌, ◌+◌, ℕ, List, true, false, IfErr, IfOk, MatchOption, codes, map};
 ghost use Rattle.event_files.specs.EventFile.{pieces_at};
 ghost use Rattle.event_files.specs.WitnessFile.{AreNumerals, IsKeyed, IsReach, IsWitness, IsWitnessOf, IsWrongNext, ReadsOn, RefusesWitness, line_count, places_in, worded};
 
 use crate::event_file::{lines_of, words_of};
+use crate::numbered_text::is_literal;
 use crate::numbers::number;
 use crate::refused::FileRefused;
 use std::alloc::Global;
@@ -34,13 +34,6 @@ fn places_of(alloc: Global, words: &[&[u8]]) -> Result<Option<Vec<Place>>, NoMem
     Ok(Some(places))
 }
 
-/// Returns whether the word is the keyword.
-fn is_keyword(word: &[u8], keyword: &[u8]) -> bool
-    ensures { Decides result (word.now ≡ keyword.now) }
-{
-    word == keyword
-}
-
 /// Returns the places after the keyword, or `None` if the first word is not `keyword` or another
 /// word is not a number.
 fn places_after(
@@ -56,7 +49,7 @@ fn places_after(
     let Some((first, rest)) = words.split_first() else {
         return Ok(None);
     };
-    if !is_keyword(first, keyword) {
+    if !is_literal(first, keyword) {
         return Ok(None);
     }
     places_of(alloc, rest)
@@ -104,7 +97,7 @@ fn read_words(
 
 /// Returns one more than the number of lines of a file that line feeds cut into these pieces. A
 /// last piece without bytes is no line.
-fn after_last(pieces: &[&[u8]]) -> usize
+pub(crate) fn after_last(pieces: &[&[u8]]) -> usize
     ensures { result ≡ line_count (map (λ piece. piece.now) pieces.now) + 1 }
 {
     let Some(last) = pieces.last() else {

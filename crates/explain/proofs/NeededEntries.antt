@@ -1,4 +1,5 @@
 -- The entries that a place needs.
+use Rattle.std.specs.Prelude.{◌≢◌}
 use Rattle.std.proofs.Common.{◌≡◌, ℕ, suc, ◌+◌, ◌<◌, ◌⊎◌, inl, inr, Bool, true, false, List, [], ◌∷◌, ◌++◌, take, slice_get, Some, refl, sym, ap, subst, ◌∙◌, arith}
 use Rattle.std.proofs.lemmas.List.Elements.{Contains-append_left, Contains-push}
 use Rattle.std.proofs.lemmas.Bool.{false≢true, cases_lt}
@@ -9,7 +10,7 @@ use Rattle.trace_model.specs.declared.refutations.Reason.{Reason}
 use Rattle.trace_model.specs.declared.refutations.Reason.TheVariants.{BeforeMember, ThreadOrder, ForkJoin, ReadsFrom, Sections}
 use Rattle.trace_model.specs.declared.refutations.Derived.{Derived}
 use Rattle.trace_model.specs.Theory.Trace.{Trace}
-use Rattle.trace_model.specs.Theory.Refutation.{Justifies, derived_places}
+use Rattle.trace_model.specs.Theory.Refutation.{Justifies, derived_places, IsDerivation}
 use Rattle.trace_model.proofs.Lists.{get-take, get-take_past}
 use Rattle.trace_model.proofs.Theory.Ascending.{place_of, contains_at}
 use Rattle.trace_model.proofs.Theory.Derivable.{derived_push, one_more_derived}
@@ -78,25 +79,37 @@ closed_skip x needed i n off next h m q e low mark there names = elim (cases_lt 
       absurd (false≢true (same_Some false true (sym off ∙ subst (λ z. slice_get needed z ≡ Some true) same mark)))
 ]
 
--- one more marked entry
-pub needed_more : (s : Trace) (places : List ℕ) (x : Search) (needed : List Bool) (i : ℕ) (d : Derived) (made : List Derived) → IsSearch s places x →
-    AreClosed x needed 0 → IsNeeded needed i → slice_get x.entries.items i ≡ Some d → IsNeededDerivation s places x needed i made →
-    IsNeededDerivation s places x needed (i + 1) (made ++ d ∷ [])
-needed_more s places x needed i d made is closed mark at (h, f) = (
-  one_more_derived s places made d h (justified_by_named s places _ (derived_places made) d.reason d.place
-      (λ q n. let (j, less, here, k) = closed i q d (omega arith) mark at n in f j q less k here) (is.derives i d at)),
-  λ j p l k here. subst (λ xs. Contains xs p) (sym (derived_push made d)) (elim (cases_lt j i) [
-    | inl a ↦ Contains-append_left (derived_places made) (d.place ∷ []) p (f j p a k here)
+-- one more marked entry is derived
+pub needed_derives : (s : Trace) (places : List ℕ) (x : Search) (needed : List Bool) (place i : ℕ) (d : Derived) (made : List Derived) → IsSearch s places x →
+    AreClosed x needed 0 → IsNeeded needed i → slice_get x.entries.items i ≡ Some d → IsNeededDerivation s places x needed place i made →
+    IsDerivation s places (made ++ d ∷ [])
+needed_derives s places x needed place i d made is closed mark at (h, f) =
+    one_more_derived s places made d h (justified_by_named s places _ (derived_places made) d.reason d.place
+    (λ q n. let (j, less, here, k) = closed i q d (omega arith) mark at n in (f j q less k here).0) (is.derives i d at))
+
+-- one more marked entry of another place
+pub needed_more : (s : Trace) (places : List ℕ) (x : Search) (needed : List Bool) (place i : ℕ) (d : Derived) (made : List Derived) → IsSearch s places x →
+    AreClosed x needed 0 → IsNeeded needed i → slice_get x.entries.items i ≡ Some d → d.place ≢ place → IsNeededDerivation s places x needed place i made →
+    IsNeededDerivation s places x needed place (i + 1) (made ++ d ∷ [])
+needed_more s places x needed place i d made is closed mark at other h = (
+  needed_derives s places x needed place i d made is closed mark at h,
+  λ j p l k here. elim (cases_lt j i) [
+    | inl a ↦
+        let (c, differs) = h.1 j p a k here in
+        (subst (λ xs. Contains xs p) (sym (derived_push made d)) (Contains-append_left (derived_places made) (d.place ∷ []) p c), differs)
     | inr a ↦
         let same : j ≡ i = omega arith in
-        let place : d.place ≡ p = same_Some d.place p (sym (entry_place x i d at) ∙ subst (λ z. slice_get (derived_by x) z ≡ Some p) same here) in
-        subst (Contains (derived_places made ++ d.place ∷ [])) place (Contains-push (derived_places made) d.place)
-  ]),
+        let is_place : d.place ≡ p = same_Some d.place p (sym (entry_place x i d at) ∙ subst (λ z. slice_get (derived_by x) z ≡ Some p) same here) in (
+          subst (λ xs. Contains xs p) (sym (derived_push made d))
+              (subst (Contains (derived_places made ++ d.place ∷ [])) is_place (Contains-push (derived_places made) d.place)),
+          λ e. other (is_place ∙ e),
+        )
+  ],
 )
 
-pub needed_skip : (s : Trace) (places : List ℕ) (x : Search) (needed : List Bool) (i : ℕ) (made : List Derived) → slice_get needed i ≡ Some false →
-    IsNeededDerivation s places x needed i made → IsNeededDerivation s places x needed (i + 1) made
-needed_skip s places x needed i made off (h, f) = (
+pub needed_skip : (s : Trace) (places : List ℕ) (x : Search) (needed : List Bool) (place i : ℕ) (made : List Derived) → slice_get needed i ≡ Some false →
+    IsNeededDerivation s places x needed place i made → IsNeededDerivation s places x needed place (i + 1) made
+needed_skip s places x needed place i made off (h, f) = (
   h,
   λ j p l k here. elim (cases_lt j i) [
     | inl a ↦ f j p a k here
@@ -106,5 +119,5 @@ needed_skip s places x needed i made off (h, f) = (
   ],
 )
 
-pub none_needed : (s : Trace) (places : List ℕ) (x : Search) (needed : List Bool) → IsNeededDerivation s places x needed 0 []
-none_needed s places x needed = (λ k d h. absurd (none-some d h), λ j p l. absurd (omega arith))
+pub none_needed : (s : Trace) (places : List ℕ) (x : Search) (needed : List Bool) (place : ℕ) → IsNeededDerivation s places x needed place 0 []
+none_needed s places x needed place = (λ k d h. absurd (none-some d h), λ j p l. absurd (omega arith))

@@ -1,5 +1,5 @@
 -- The entries of a search that one of its places needs.
-use Rattle.std.specs.Prelude.{◌≡◌, ℕ, ◌<◌, ◌≤◌, ◌⊎◌, List, Bool, true, slice_get, Some}
+use Rattle.std.specs.Prelude.{◌≡◌, ◌≢◌, ℕ, ◌<◌, ◌≤◌, ◌⊎◌, List, Bool, true, slice_get, Some}
 use Rattle.std.specs.List.{Contains}
 use Rattle.trace_model.specs.declared.refutations.Reason.{Reason}
 use Rattle.trace_model.specs.declared.refutations.Reason.TheVariants.{BeforeMember, ThreadOrder, ForkJoin, ReadsFrom, Sections}
@@ -32,8 +32,9 @@ AreClosed x needed n = (m q : ℕ) (d : Derived) → n ≤ m → IsNeeded needed
     slice_get x.entries.items m ≡ Some d → Names d.reason q →
     (j : ℕ) × (j < m) × (slice_get (derived_by x) j ≡ Some q) × IsNeeded needed j
 
--- The entries are a derivation of the places of the marked entries below index n.
-abbrev pub IsNeededDerivation : Trace → List ℕ → Search → List Bool → ℕ → List Derived → Type 0
-IsNeededDerivation s places x needed n made = IsDerivation s places made
+-- The entries are a derivation of the places of the marked entries below index n. None of these
+-- entries is about the place that is looked for.
+abbrev pub IsNeededDerivation : Trace → List ℕ → Search → List Bool → ℕ → ℕ → List Derived → Type 0
+IsNeededDerivation s places x needed place n made = IsDerivation s places made
     × ((j p : ℕ) → j < n → IsNeeded needed j → slice_get (derived_by x) j ≡ Some p →
-    Contains (derived_places made) p)
+    Contains (derived_places made) p × (p ≢ place))

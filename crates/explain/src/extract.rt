@@ -3,9 +3,9 @@
 ghost use Rattle.std.specs.Prelude.{◌≡◌, ℕ, ◌⊎◌, List, [], ◌∷◌, ◌++◌, length, slice_get, Some, IfOk, OnOk};
 ghost use Rattle.std.specs.List.{Contains};
 ghost use Rattle.trace_model.specs.Theory.Trace.{Trace};
-ghost use Rattle.trace_model.specs.Theory.Refutation.{derived_places, IsDerivation};
+ghost use Rattle.trace_model.specs.Theory.Refutation.{EndsAt, IsDerivation};
 ghost use Rattle.explain.specs.Search.{derived_by, HasIndices, IsSearch};
-ghost use Rattle.explain.specs.Needed.{Names, IsNeeded, IsKept, AreClosed, IsNeededDerivation};
+ghost use Rattle.explain.specs.Needed.{Names, IsNeeded, IsKept, AreClosed};
 
 use crate::search::Search;
 use crate::tables::index_at;
@@ -85,27 +85,37 @@ fn add_entry(made: &mut Vec<Derived>, place: Place, reason: &Reason) -> Result<(
     Ok(())
 }
 
-/// Adds the marked entries to `made`, in their order.
+/// Adds the marked entries to `made`, in their order, up to that of `place`.
 ///
 /// # Errors
 /// `NoMemory` if an allocation fails.
-fn add_marked(search: &Search, needed: &[bool], made: &mut Vec<Derived>) -> Result<(), NoMemory>
+fn add_marked(
+    search: &Search,
+    needed: &[bool],
+    place: Place,
+    made: &mut Vec<Derived>,
+) -> Result<(), NoMemory>
     requires sized { length needed.now ≡ length search.now.entries.items }
     requires empty { made.old.items ≡ [] }
     ensures { OnOk result ((s : Trace) (places : List ℕ) → IsSearch s places search.now →
-        AreClosed search.now needed.now 0 →
-        IsNeededDerivation s places search.now needed.now (length needed.now) made.new.items) }
+        AreClosed search.now needed.now 0 → (j : ℕ) → IsNeeded needed.now j →
+        slice_get (derived_by search.now) j ≡ Some place →
+        IsDerivation s places made.new.items × EndsAt made.new.items place) }
 {
     for i in 0..search.entries.len() {
         if needed[i] {
             let entry = &search.entries[i];
             add_entry(made, entry.place, &entry.reason)?;
+            if entry.place == place {
+                return Ok(());
+            }
         }
     }
     Ok(())
 }
 
-/// Returns the derivation of a derived place: the entries that it needs, in their order.
+/// Returns the derivation of a derived place: the entries that it needs, in their order. Its own
+/// entry is the last one.
 ///
 /// # Errors
 /// `NoMemory` if an allocation fails.
@@ -116,12 +126,12 @@ pub(crate) fn derivation_of(
 ) -> Result<Vec<Derived>, NoMemory>
     ensures { IfOk result (λ made. (s : Trace) (places : List ℕ) → IsSearch s places search.now →
         Contains (derived_by search.now) place →
-        IsDerivation s places made.items × Contains (derived_places made.items) place) }
+        IsDerivation s places made.items × EndsAt made.items place) }
 {
     let mut needed = vec![in alloc; false; search.entries.len()]?;
     mark(search, &mut needed, place);
     mark_all(search, &mut needed);
     let mut made = Vec::new(alloc);
-    add_marked(search, needed.as_slice(), &mut made)?;
+    add_marked(search, needed.as_slice(), place, &mut made)?;
     Ok(made)
 }

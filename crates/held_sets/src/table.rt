@@ -74,19 +74,19 @@ impl HeldTable {
         ensures ok { OnOk result (IsAfter self.old thread (Acquire lock) self.new) }
         ensures err { OnErr result ((t : ℕ) → holding_in self.new t ≡ holding_in self.old t) }
     {
-        self.reserve(thread)?;
+        self.reserve(thread, lock)?;
         self.record(thread, lock);
         Ok(())
     }
 
-    /// Reserves an entry for `thread`, which is about to acquire a lock. The held locks do not
-    /// change: an empty entry reads like no entry.
+    /// Reserves memory for an acquire of a lock by `thread`: its entry, which has room for all locks.
+    /// The held locks do not change: an empty entry reads like no entry.
     ///
     /// # Errors
     ///
     /// `NoMemory` if the thread has no entry and an allocation fails.
     #[inline(always)]
-    pub fn reserve(&mut self, thread: u32) -> Result<(), NoMemory>
+    pub fn reserve(&mut self, thread: u32, _lock: u32) -> Result<(), NoMemory>
         ensures shown { (t : ℕ) → holding_in self.new t ≡ holding_in self.old t }
         ensures ok { OnOk result (HasEntry self.new thread) }
         ensures wanting { OnErr result (¬ HasEntry self.old thread) }

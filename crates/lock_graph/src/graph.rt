@@ -48,7 +48,7 @@ impl LockGraph {
             IsGraphOf (ds ++ dependency.now ∷ []) (holders self.new)) }
         ensures err { OnErr result ((lock : ℕ) → holders self.new lock ≡ holders self.old lock) }
     {
-        self.reserve(dependency)?;
+        self.reserve(number, dependency)?;
         self.record(number, dependency);
         Ok(())
     }
@@ -59,7 +59,7 @@ impl LockGraph {
     /// # Errors
     ///
     /// `NoMemory` if an allocation fails.
-    pub fn reserve(&mut self, dependency: &Dependency) -> Result<(), NoMemory>
+    pub fn reserve(&mut self, _number: u32, dependency: &Dependency) -> Result<(), NoMemory>
         ensures shown { (lock : ℕ) → holders self.new lock ≡ holders self.old lock }
         ensures ok { OnOk result (HasRoom self.new dependency.now.held) }
     {

@@ -19,19 +19,24 @@ pub(crate) fn reserve_locks(held: &mut HeldTable, event: &Event) -> Result<(), N
     ensures ok { OnOk result (HasEntryFor held.new event.now) }
 {
     match event.op {
-        Op::Acquire(_) => held.reserve(event.thread),
+        Op::Acquire(lock) => held.reserve(event.thread, lock),
         _ => Ok(()),
     }
 }
 
-/// Reserves memory for the place of the event, if it may have a dependency.
-pub(crate) fn reserve_place(table: &mut DepTable, event: &Event) -> Result<(), NoMemory>
+/// Reserves memory for the place of the event, if it has a dependency.
+pub(crate) fn reserve_place(
+    table: &mut DepTable,
+    held: &HeldTable,
+    event: &Event,
+    place: Place,
+) -> Result<(), NoMemory>
     ensures shown { table.new.shown ≡ table.old.shown }
-    ensures ok { OnOk result ((held : Held.Table) → HasPlaceFor table.new held event.now) }
+    ensures ok { OnOk result (HasPlaceFor table.new held.now event.now) }
 {
-    match event.op {
-        Op::Acquire(_) => table.reserve(),
-        _ => Ok(()),
+    match next_dependency(held, *event) {
+        Some(dependency) => table.reserve(place, &dependency),
+        None => Ok(()),
     }
 }
 

@@ -94,7 +94,8 @@ impl LockTables {
         tables_follow(); // for the proof
         self.catch_up()?;
         reserve_locks(&mut self.held, event)?;
-        reserve_place(&mut self.dependencies, event)
+        let place = Place::new(self.events);
+        reserve_place(&mut self.dependencies, &self.held, event, place)
     }
 
     /// Records `event`, which must be the next lawful event. Memory must be reserved for it. Does

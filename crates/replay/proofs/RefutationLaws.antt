@@ -1,12 +1,11 @@
 -- The verdict is `Valid` exactly for a refutation.
-use Rattle.std.proofs.Common.{◌≡◌, ℕ, zero, suc, ◌<◌, ◌↔◌, inl, inr, List, [], ◌∷◌, length, replicate, slice_get, slice_set, Option, Some, None, MatchOption, refl, sym, ap, subst, ◌∙◌, arith}
+use Rattle.std.proofs.Common.{◌≡◌, ℕ, suc, ◌<◌, ◌↔◌, inl, inr, List, [], ◌∷◌, length, slice_get, slice_set, Option, Some, None, MatchOption, refl, sym, ap, subst, ◌∙◌, arith}
 use Rattle.std.proofs.lemmas.Bool.{cases_lt}
 use Rattle.std.proofs.lemmas.Option.{none-some, same_Some, slice_get_within}
-use Rattle.std.specs.List.{Contains}
 use Rattle.trace_model.specs.declared.refutations.Step.{Step}
 use Rattle.trace_model.specs.Theory.Trace.{Trace}
 use Rattle.trace_model.specs.Theory.Dependencies.{Dependency, dependencies}
-use Rattle.trace_model.specs.Theory.Refutation.{derived_places, IsFirstFrom, AreFirstPlaces, Derives, IsNextPlace, Refutes, IsRefutation}
+use Rattle.trace_model.specs.Theory.Refutation.{EndsAt, IsFirstFrom, AreFirstPlaces, Derives, IsNextPlace, Refutes, IsRefutation}
 use Rattle.trace_model.proofs.Lists.{at_index}
 use Rattle.trace_model.proofs.Theory.Refutation.{same_member}
 use Rattle.trace_model.proofs.Theory.Unique.{no_later_same}
@@ -14,7 +13,7 @@ use Rattle.replay.specs.declared.refutation_verdict.StepFault.{StepFault}
 use Rattle.replay.specs.declared.refutation_verdict.StepFault.TheVariants.{NoSuchMember, Unjustified, NotDerived}
 use Rattle.replay.specs.declared.refutation_verdict.RefutationVerdict.{RefutationVerdict}
 use Rattle.replay.specs.declared.refutation_verdict.RefutationVerdict.TheVariants.{Valid}
-use Rattle.replay.specs.Refuting.{IsFault, IsEndVerdict, IsVerdictFrom, IsFirstUnknown, IsRefutationVerdict, AreKnown, MarksUpTo}
+use Rattle.replay.specs.Refuting.{IsFault, IsEndVerdict, IsVerdictFrom, IsFirstUnknown, IsRefutationVerdict, AreKnown}
 
 -- ---- what is determined
 
@@ -55,10 +54,10 @@ none_unknown s numbers places m (len, first) (i, at, low, before) =
     omega (arith, same, low, slice_get_within (dependencies s) n d has)
 
 no_fault : (s : Trace) (places : List ℕ) (step : Step) (fault : StepFault) → Derives s places step → IsFault s places step fault → ⊥
-no_fault s places step NoSuchMember (p, at, derivation, caught) none = none-some p (sym none ∙ at)
-no_fault s places step (Unjustified d) (p, at, derivation, caught) (present, is, (k, e, before, wrong)) = wrong (derivation k d e)
-no_fault s places step (NotDerived q) (p, at, derivation, caught) (is, before, missing) =
-    missing (subst (Contains (derived_places step.derivation)) (same_Some p q (sym at ∙ is)) caught)
+no_fault s places step NoSuchMember (p, at, derivation, ends) none = none-some p (sym none ∙ at)
+no_fault s places step (Unjustified d) (p, at, derivation, ends) (present, is, (k, e, before, wrong)) = wrong (derivation k d e)
+no_fault s places step (NotDerived q) (p, at, derivation, ends) (is, before, missing) =
+    missing (subst (EndsAt step.derivation) (same_Some p q (sym at ∙ is)) ends)
 
 -- ---- from the verdict, and back
 
@@ -105,8 +104,3 @@ first_known s numbers places (len, first) i m at =
     let (p, is) = at_index places i (omega (arith, len, slice_get_within numbers i m at)) in
     let (d, (n, at', has), f) = first i p is in
     subst (λ x. x < length (dependencies s)) (same_Some n m (sym at' ∙ at)) (slice_get_within (dependencies s) n d has)
-
-pub no_marks_yet : (n : ℕ) → MarksUpTo (replicate n 0) 0
-no_marks_yet zero p x h = absurd (none-some x h)
-no_marks_yet (suc n) zero x h = omega (arith, same_Some 0 x h)
-no_marks_yet (suc n) (suc p) x h = no_marks_yet n p x h

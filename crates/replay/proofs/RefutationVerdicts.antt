@@ -7,7 +7,7 @@ use Rattle.trace_model.specs.Theory.Refutation.{Derives, IsNextPlace}
 use Rattle.replay.specs.declared.refutation_verdict.StepFault.{StepFault}
 use Rattle.replay.specs.declared.refutation_verdict.RefutationVerdict.{RefutationVerdict}
 use Rattle.replay.specs.declared.refutation_verdict.RefutationVerdict.TheVariants.{WrongStep, AfterEnd}
-use Rattle.replay.specs.Refuting.{IsFault, IsEndVerdict, IsVerdictFrom, MarksUpTo, KeepsMarks}
+use Rattle.replay.specs.Refuting.{IsFault, IsEndVerdict, IsVerdictFrom}
 
 -- a step follows the end
 pub end_more : (steps : List Step) (k n : ℕ) → k < length steps → IsEndVerdict (drop k steps) n (AfterEnd n)
@@ -36,9 +36,3 @@ module _ (s : Trace) (numbers places : List ℕ) (steps : List Step) (k : ℕ) w
       let up : k + 1 ≡ suc k = omega arith in
       subst (λ left. IsVerdictFrom s numbers places left k v) (sym (drop_step steps k step at))
       (inr (Some q, derives, next, subst (λ n. IsVerdictFrom s numbers (slice_set places step.member q) (drop n steps) n v) up rest))
-
-pub marks_more : (old new : List ℕ) (k : ℕ) → MarksUpTo old k → KeepsMarks old (k + 1) new → MarksUpTo new (k + 1)
-marks_more old new k h keeps p x e = elim (keeps p x e) [
-  | inl a ↦ omega arith
-  | inr a ↦ omega (arith, h p x a)
-]

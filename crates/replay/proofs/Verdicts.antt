@@ -2,6 +2,7 @@
 use Rattle.std.proofs.Common.{◌≡◌, ℕ, zero, suc, ◌+◌, ◌<◌, ◌⊎◌, inl, inr, List, [], ◌∷◌, length, take, eqb, slice_get, Option, Some, None, MatchOption, refl, sym, ap, subst, ◌∙◌, arith}
 use Rattle.std.proofs.lemmas.Bool.{cases_lt, false≢true, eqb-true, eq-eqb}
 use Rattle.std.proofs.lemmas.Option.{none-some, same_Some, slice_get_within}
+use Rattle.std.specs.Prelude.{◌↔◌, Result, Ok, Err, IfOk}
 use Rattle.std.specs.Bool.{Decides}
 use Rattle.std.specs.List.{Contains}
 use Rattle.std.specs.Option.{option_eq}
@@ -20,7 +21,7 @@ use Rattle.replay.specs.declared.verdict.Fault.TheVariants.{OutOfTrace, Repeated
 use Rattle.replay.specs.declared.verdict.Verdict.{Verdict}
 use Rattle.replay.specs.declared.verdict.Verdict.TheVariants.{Reaches, Fails}
 use Rattle.replay.specs.Tests.{NoForkIn, NoWriteIn, IsClosedIn, Breaks}
-use Rattle.replay.specs.Laws.{InTrace}
+use Rattle.replay.specs.Laws.{InTrace, IsWitnessFor}
 use Rattle.replay.specs.Verdict.{order_tests, instance_tests, IsFirst, Passes, StopsAt, OrderPasses, IsVerdict}
 use Rattle.replay.proofs.Lists.{in_unless}
 
@@ -231,3 +232,11 @@ passes_more fs s passed places n q h e x k p l d =
           let at : q ≡ p = same_Some q p (sym e ∙ subst (λ i. slice_get places i ≡ Some p) (sym same) d) in
           subst (λ i. IsFirst fs s (passed i) p None) same (subst (λ i. IsFirst fs s (passed n) i None) at x)
     ]
+
+-- a verdict is `Reaches` exactly for a witness
+pub exact_verdict : {E : Type 0} (s : Trace) → IsWellFormed s → (order places : List ℕ) (r : Result Verdict E) → IfOk r (λ v. IsVerdict s order places v) →
+    IfOk r (λ v. (v ≡ Reaches) ↔ IsWitnessFor s order places)
+exact_verdict s wf order places (Err e) h = h
+exact_verdict s wf order places (Ok v) h =
+    let law = reaches_law s wf order places in
+    (λ e. law.0 (subst (λ x. IsVerdict s order places x) e h), λ w. verdict_unique s order places v Reaches h (law.1 w))

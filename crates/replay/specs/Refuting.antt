@@ -1,12 +1,12 @@
 -- The verdict on a refutation: the first step that is wrong, and why.
-use Rattle.std.specs.Prelude.{◌≡◌, ℕ, suc, ◌<◌, ◌≤◌, ◌↔◌, ◌⊎◌, List, [], ◌∷◌, length, take, slice_get, slice_set, Option, Some, None, MatchOption}
+use Rattle.std.specs.Prelude.{◌≡◌, ℕ, suc, ◌<◌, ◌≤◌, ◌↔◌, ◌⊎◌, Bool, true, List, [], ◌∷◌, length, take, slice_get, slice_set, Option, Some, None, MatchOption}
 use Rattle.std.specs.List.{Contains}
 use Rattle.trace_model.specs.declared.refutations.Derived.{Derived}
 use Rattle.trace_model.specs.declared.refutations.Step.{Step}
 use Rattle.trace_model.specs.Theory.Trace.{Trace}
 use Rattle.trace_model.specs.Theory.Lawful.{IsWellFormed}
 use Rattle.trace_model.specs.Theory.Dependencies.{dependencies}
-use Rattle.trace_model.specs.Theory.Refutation.{Justifies, derived_places, IsDerivation, AreFirstPlaces, Derives, IsNextPlace}
+use Rattle.trace_model.specs.Theory.Refutation.{Justifies, derived_places, IsDerivation, EndsAt, AreFirstPlaces, Derives, IsNextPlace}
 use Rattle.replay.specs.declared.facts.Facts.{Facts}
 use Rattle.replay.specs.Facts.{AreFacts}
 use Rattle.replay.specs.Numbers.{AreNumbers}
@@ -36,7 +36,7 @@ IsFault s places step (Unjustified d) =
     × IsUnjustified s places step.derivation d
 IsFault s places step (NotDerived p) =
     (slice_get places step.member ≡ Some p) × IsDerivation s places step.derivation
-    × (Contains (derived_places step.derivation) p → ⊥)
+    × (EndsAt step.derivation p → ⊥)
 
 -- The verdict if a member has no next place: no step may follow.
 abbrev pub IsEndVerdict : List Step → ℕ → RefutationVerdict → Type 0
@@ -65,23 +65,13 @@ IsRefutationVerdict s numbers steps v =
     ⊎ ((places : List ℕ) × AreFirstPlaces s numbers places
     × IsVerdictFrom s numbers places steps 0 v)
 
--- Exactly the places of the list have this mark.
-abbrev pub AreMarked : List ℕ → ℕ → List ℕ → Type 0
-AreMarked marks mark derived =
-    (p : ℕ) → (slice_get marks p ≡ Some mark) ↔ Contains derived p
+-- Exactly the places of the list are marked.
+abbrev pub AreMarked : List Bool → List ℕ → Type 0
+AreMarked marks derived = (p : ℕ) → (slice_get marks p ≡ Some true) ↔ Contains derived p
 
--- No place has this mark.
-abbrev pub HasNoMark : List ℕ → ℕ → Type 0
-HasNoMark marks mark = (p : ℕ) → slice_get marks p ≡ Some mark → ⊥
-
--- Each place has this mark or the one that it had.
-abbrev pub KeepsMarks : List ℕ → ℕ → List ℕ → Type 0
-KeepsMarks old mark new = (p x : ℕ) → slice_get new p ≡ Some x →
-    (x ≡ mark) ⊎ (slice_get old p ≡ Some x)
-
--- No place has a mark above n.
-abbrev pub MarksUpTo : List ℕ → ℕ → Type 0
-MarksUpTo marks n = (p x : ℕ) → slice_get marks p ≡ Some x → x ≤ n
+-- No place is marked.
+abbrev pub IsUnmarked : List Bool → Type 0
+IsUnmarked marks = (p : ℕ) → slice_get marks p ≡ Some true → ⊥
 
 -- Each number is that of a dependency.
 abbrev pub AreKnown : Trace → List ℕ → Type 0

@@ -49,7 +49,7 @@ pub fn check(
 ///
 /// # Errors
 /// `NoMemory` if an allocation fails.
-fn walk(
+pub(crate) fn walk(
     trace: &[Event],
     order: &[Place],
     instance: &Instance,

@@ -5,10 +5,10 @@
 //! the first test that fails, with its place. It takes only types from the other crates, those of
 //! `trace_model`. Start reading at `order_rules.rt`, which has the tests.
 //!
-//! [`RefutationChecker`] reads a trace once, and then cycles with the steps of a refutation. It
-//! returns `Valid` exactly if the steps are a refutation of the cycle, else the first step that is
-//! wrong, with the reason. It takes the numbers of dependencies from the crate `dependencies`.
-//! Start reading at `reasons.rt`, which has the tests.
+//! [`EvidenceChecker`] reads a trace once, and then witnesses or refutations of many cycles. For a
+//! cycle with the steps of a refutation it returns `Valid` exactly if they are a refutation of the
+//! cycle, else the first step that is wrong, with the reason. It takes the numbers of dependencies
+//! from the crate `dependencies`. Start reading at `reasons.rt`, which has the tests.
 #![tactic(auto)]
 
 mod checking;
@@ -26,5 +26,5 @@ mod walked;
 
 pub use checking::check;
 pub use refutation_verdict::{RefutationVerdict, StepFault};
-pub use refuting::RefutationChecker;
+pub use refuting::EvidenceChecker;
 pub use verdict::{Fault, Verdict};

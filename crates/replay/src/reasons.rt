@@ -1,6 +1,6 @@
 //! The tests of the reasons of a derivation.
 
-ghost use Rattle.std.specs.Prelude.{◌≡◌, ℕ, ◌<◌, ◌↔◌, List, length, slice_get, IsTrue, Some, MatchOption};
+ghost use Rattle.std.specs.Prelude.{◌≡◌, ℕ, ◌<◌, ◌↔◌, List, length, slice_get, true, IsTrue, Some, MatchOption};
 ghost use Rattle.std.specs.List.{Contains};
 ghost use Rattle.trace_model.specs.declared.traces.event.Op.TheVariants.{Fork};
 ghost use Rattle.trace_model.specs.Theory.Trace.{Trace, EarlierInThread};
@@ -8,7 +8,7 @@ ghost use Rattle.trace_model.specs.Theory.Lookups.{release};
 ghost use Rattle.trace_model.specs.Theory.Reordering.{ForkOrJoin};
 ghost use Rattle.trace_model.specs.Theory.Refutation.{BeginOnOneLock, Justifies, IsDerivation, derived_places};
 ghost use Rattle.replay.specs.Facts.{AreFacts};
-ghost use Rattle.replay.specs.Refuting.{AreMarked, HasNoMark, KeepsMarks, IsUnjustified};
+ghost use Rattle.replay.specs.Refuting.{AreMarked, IsUnmarked, IsUnjustified};
 
 use crate::facts::Facts;
 use trace_model::{Derived, Event, Op, Place, Reason};
@@ -99,12 +99,12 @@ fn has_place(places: &[Place], place: Place) -> bool
     false
 }
 
-/// Returns whether the place has this mark.
-pub(crate) fn is_marked(marks: &[usize], mark: usize, place: Place) -> bool
-    ensures { IsTrue result ↔ (slice_get marks.now place ≡ Some mark) }
+/// Returns whether the place is marked.
+fn is_marked(marks: &[bool], place: Place) -> bool
+    ensures { IsTrue result ↔ (slice_get marks.now place ≡ Some true) }
 {
     match marks.get(place.get() as usize) {
-        Some(other) => *other == mark,
+        Some(marked) => *marked,
         None => false,
     }
 }
@@ -125,19 +125,17 @@ fn ends_first(facts: &Facts, first: Place, second: Place, place: Place) -> bool
     has_entry(&facts.releases, first, place)
 }
 
-/// Returns whether the reason of the entry holds. The earlier places of the derivation have this
-/// mark.
+/// Returns whether the reason of the entry holds. The earlier places of the derivation are marked.
 fn is_justified(
     trace: &[Event],
     facts: &Facts,
     places: &[Place],
-    marks: &[usize],
-    mark: usize,
+    marks: &[bool],
     entry: &Derived,
 ) -> bool
     requires facts { AreFacts trace.now facts.now }
     requires sized { length marks.now ≡ length trace.now }
-    ensures { (derived : List ℕ) → AreMarked marks.now mark derived →
+    ensures { (derived : List ℕ) → AreMarked marks.now derived →
         IsTrue result ↔ Justifies trace.now places.now derived entry.now.reason entry.now.place }
 {
     let place = entry.place;
@@ -145,48 +143,55 @@ fn is_justified(
         Reason::BeforeMember(member) => {
             has_place(places, member) && is_earlier(trace, place, member)
         }
-        Reason::ThreadOrder(later) => {
-            is_marked(marks, mark, later) && is_earlier(trace, place, later)
-        }
+        Reason::ThreadOrder(later) => { is_marked(marks, later) && is_earlier(trace, place, later) }
         Reason::ForkJoin(later) => {
-            is_marked(marks, mark, later) && is_fork_or_join(trace, place, later)
+            is_marked(marks, later) && is_fork_or_join(trace, place, later)
         }
         Reason::ReadsFrom(read) => {
-            is_marked(marks, mark, read) && has_entry(&facts.writers, read, place)
+            is_marked(marks, read) && has_entry(&facts.writers, read, place)
         }
         Reason::Sections(first, second) => {
-            is_marked(marks, mark, first)
-                && is_marked(marks, mark, second)
+            is_marked(marks, first)
+                && is_marked(marks, second)
                 && ends_first(facts, first, second, place)
         }
     }
 }
 
 /// Marks the places of the entries, in order, and returns the first entry whose reason does not
-/// hold, or `None`.
+/// hold, or `None`. No place may be marked before.
 pub(crate) fn first_unjustified(
     trace: &[Event],
     facts: &Facts,
     places: &[Place],
     entries: &[Derived],
-    marks: &mut Vec<usize>,
-    mark: usize,
+    marks: &mut Vec<bool>,
 ) -> Option<Derived>
     requires facts { AreFacts trace.now facts.now }
     requires sized { length marks.old.items ≡ length trace.now }
-    requires fresh { HasNoMark marks.old.items mark }
+    requires unmarked { IsUnmarked marks.old.items }
     ensures sized { length marks.new.items ≡ length trace.now }
-    ensures others { KeepsMarks marks.old.items mark marks.new.items }
     ensures first { MatchOption result
         (IsDerivation trace.now places.now entries.now
-        × AreMarked marks.new.items mark (derived_places entries.now))
+        × AreMarked marks.new.items (derived_places entries.now))
         (IsUnjustified trace.now places.now entries.now) }
 {
     for entry in entries {
-        if !is_justified(trace, facts, places, marks, mark, entry) {
+        if !is_justified(trace, facts, places, marks, entry) {
             return Some(*entry);
         }
-        marks[entry.place.get() as usize] = mark;
+        marks[entry.place.get() as usize] = true;
     }
     None
+}
+
+/// Removes the marks, which are those of the places of the entries.
+pub(crate) fn unmark(marks: &mut Vec<bool>, entries: &[Derived])
+    requires { AreMarked marks.old.items (derived_places entries.now) }
+    ensures sized { length marks.new.items ≡ length marks.old.items }
+    ensures unmarked { IsUnmarked marks.new.items }
+{
+    for entry in entries {
+        marks[entry.place.get() as usize] = false;
+    }
 }

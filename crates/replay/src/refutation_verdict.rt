@@ -9,7 +9,7 @@ pub enum StepFault {
     NoSuchMember,
     /// The reason of this entry of the derivation does not hold. It is the first such entry.
     Unjustified(Derived),
-    /// The derivation does not contain this place, the present place of the member.
+    /// The derivation does not end with this place, the present place of the member.
     NotDerived(Place),
 }
 

@@ -1,35 +1,42 @@
-//! Checks a refutation of a cycle against a trace.
+//! Checks the evidence of cycles, witnesses and refutations, against a trace.
 
-ghost use Rattle.std.specs.Prelude.{◌≡◌, ◌<◌, ◌≤◌, ◌↔◌, [], drop, length, replicate, slice_get, vec_capacity, IfOk, MatchOption};
+ghost use Rattle.std.specs.Prelude.{◌≡◌, ◌<◌, ◌≤◌, ◌↔◌, [], drop, length, replicate, slice_get, vec_capacity, false, IfNone, IfOk, IsTrue, MatchOption};
 ghost use Rattle.trace_model.specs.declared.limits.TheConstants.{MAX_EVENTS};
 ghost use Rattle.trace_model.specs.Theory.Trace.{Trace};
 ghost use Rattle.trace_model.specs.Theory.Lawful.{IsWellFormed};
-ghost use Rattle.trace_model.specs.Theory.Refutation.{AreFirstPlaces, Derives, IsNextPlace, IsRefutation};
+ghost use Rattle.trace_model.specs.Theory.Refutation.{AreFirstPlaces, Derives, EndsAt, IsNextPlace, IsRefutation};
 ghost use Rattle.replay.specs.declared.refutation_verdict.RefutationVerdict.{RefutationVerdict};
+ghost use Rattle.replay.specs.declared.verdict.Verdict.{Verdict};
+ghost use Rattle.replay.specs.Laws.{IsWitnessFor};
+ghost use Rattle.replay.specs.Verdict.{IsVerdict};
 ghost use Rattle.replay.specs.Facts.{AreFacts};
 ghost use Rattle.replay.specs.Numbers.{AreNumbers};
-ghost use Rattle.replay.specs.Refuting.{IsFault, IsFirstUnknown, IsEndVerdict, IsVerdictFrom, IsRefutationVerdict, HasNoMark, KeepsMarks, MarksUpTo, AreKnown};
+ghost use Rattle.replay.specs.Refuting.{IsFault, IsFirstUnknown, IsEndVerdict, IsVerdictFrom, IsRefutationVerdict, IsUnmarked, AreKnown};
 
+use crate::checking::walk;
 use crate::facts::{Facts, facts_of};
 use crate::numbers::{numbers_of, place_from};
-use crate::reasons::{first_unjustified, is_marked};
+use crate::reasons::{first_unjustified, unmark};
 use crate::refutation_verdict::{RefutationVerdict, StepFault};
+use crate::verdict::Verdict;
+use crate::walked::Walked;
 use std::alloc::Global;
 use std::collections::hash_map::RandomState;
 use std::marker::Model;
-use trace_model::{Cycle, Event, NoMemory, Place, Refutation, Step};
+use trace_model::{Cycle, Derived, Event, Instance, NoMemory, Place, Refutation, Step};
 
-/// A trace, with the tables by which refutations are checked against it. Contracts see it as the
-/// trace.
+/// A trace, with the tables by which witnesses and refutations are checked against it. Contracts see
+/// it as the trace.
 #[derive(Drop)]
-pub struct RefutationChecker<'a> {
+pub struct EvidenceChecker<'a> {
     alloc: Global,
+    state: RandomState,
     trace: &'a [Event],
     facts: Facts,
     numbers: Vec<Option<u32>>,
 }
 
-impl<'a> Model for RefutationChecker<'a> {
+impl<'a> Model for EvidenceChecker<'a> {
     ghost use Rattle.trace_model.specs.Theory.Trace.{Trace};
     ghost use Rattle.replay.specs.Refuting.{AreTablesOf};
 
@@ -40,7 +47,7 @@ impl<'a> Model for RefutationChecker<'a> {
     ghost invariant = { λ c. AreTablesOf c.trace.now c.facts c.numbers.items };
 }
 
-impl<'a> RefutationChecker<'a> {
+impl<'a> EvidenceChecker<'a> {
     /// Computes the tables, by a few passes over the trace.
     ///
     /// The caller passes a well-formed trace.
@@ -51,14 +58,15 @@ impl<'a> RefutationChecker<'a> {
         alloc: Global,
         state: RandomState,
         trace: &'a [Event],
-    ) -> Result<RefutationChecker<'a>, NoMemory>
+    ) -> Result<EvidenceChecker<'a>, NoMemory>
         requires { IsWellFormed trace.now }
         ensures { IfOk result (λ checker. checker ≡ trace.now) }
     {
         let numbers = numbers_of(alloc, state, trace)?;
         let facts = facts_of(alloc, state, trace)?;
-        Ok(RefutationChecker {
+        Ok(EvidenceChecker {
             alloc,
+            state,
             trace,
             facts,
             numbers,
@@ -73,6 +81,20 @@ impl<'a> RefutationChecker<'a> {
         self.trace
     }
 
+    /// Returns the verdict of [`check`](crate::check) on a list of places and an instance. Takes one
+    /// pass over the list.
+    ///
+    /// # Errors
+    /// `NoMemory` if an allocation fails.
+    pub fn check_witness(&self, order: &[Place], instance: &Instance) -> Result<Verdict, NoMemory>
+        ensures verdict { IfOk result (λ v. IsVerdict self.now order.now instance.now v) }
+        ensures exact { IfOk result (λ v.
+            (v ≡ Verdict.Reaches) ↔ IsWitnessFor self.now order.now instance.now) }
+    {
+        let mut walked = Walked::new(self.alloc, self.state, self.trace.len())?;
+        walk(self.trace, order, instance, &self.facts, &mut walked)
+    }
+
     /// Follows the steps of a refutation from the first places of the cycle's members on. Returns
     /// the first step that is wrong, with the reason, or `Valid`.
     ///
@@ -82,7 +104,7 @@ impl<'a> RefutationChecker<'a> {
     ///
     /// # Errors
     /// `NoMemory` if an allocation fails.
-    pub fn check(
+    pub fn check_refutation(
         &self,
         cycle: &Cycle,
         refutation: &Refutation,
@@ -109,14 +131,14 @@ impl<'a> RefutationChecker<'a> {
     }
 }
 
-/// Returns the mark 0 for each of these many places. Steps have other marks.
+/// Returns that none of these many places is marked.
 ///
 /// # Errors
 /// `NoMemory` if an allocation fails.
-fn no_marks(alloc: Global, places: usize) -> Result<Vec<usize>, NoMemory>
-    ensures { IfOk result (λ marks. marks.items ≡ replicate places 0) }
+fn no_marks(alloc: Global, places: usize) -> Result<Vec<bool>, NoMemory>
+    ensures { IfOk result (λ marks. marks.items ≡ replicate places false) }
 {
-    Ok(vec![in alloc; 0; places]?)
+    Ok(vec![in alloc; false; places]?)
 }
 
 /// Adds the first place of each member's dependency to `places`. Returns the first member that is
@@ -144,20 +166,29 @@ fn present_of(places: &[Place], member: usize) -> Option<Place>
     places.get(member).copied()
 }
 
+/// Returns whether the last entry is about the place.
+fn ends_at(entries: &[Derived], place: Place) -> bool
+    ensures { IsTrue result ↔ EndsAt entries.now place }
+{
+    match entries.last() {
+        Some(last) => last.place == place,
+        None => false,
+    }
+}
+
 /// Returns the first test of the step that fails at these present places, or `None`.
 fn step_fault(
     trace: &[Event],
     facts: &Facts,
     places: &[Place],
     step: &Step,
-    marks: &mut Vec<usize>,
-    mark: usize,
+    marks: &mut Vec<bool>,
 ) -> Option<StepFault>
     requires facts { AreFacts trace.now facts.now }
     requires sized { length marks.old.items ≡ length trace.now }
-    requires fresh { HasNoMark marks.old.items mark }
+    requires unmarked { IsUnmarked marks.old.items }
     ensures sized { length marks.new.items ≡ length trace.now }
-    ensures others { KeepsMarks marks.old.items mark marks.new.items }
+    ensures unmarked { IfNone result (IsUnmarked marks.new.items) }
     ensures fault { MatchOption result
         (Derives trace.now places.now step.now) (IsFault trace.now places.now step.now) }
 {
@@ -165,10 +196,11 @@ fn step_fault(
         return Some(StepFault::NoSuchMember);
     };
     let entries = step.derivation.entries();
-    if let Some(entry) = first_unjustified(trace, facts, places, entries, marks, mark) {
+    if let Some(entry) = first_unjustified(trace, facts, places, entries, marks) {
         return Some(StepFault::Unjustified(entry));
     }
-    if !is_marked(marks, mark, present) {
+    unmark(marks, entries);
+    if !ends_at(entries, present) {
         return Some(StepFault::NotDerived(present));
     }
     None
@@ -210,7 +242,7 @@ fn follow(
     members: &[u32],
     steps: &[Step],
     places: &mut Vec<Place>,
-    marks: &mut Vec<usize>,
+    marks: &mut Vec<bool>,
 ) -> RefutationVerdict
     requires facts { AreFacts trace.now facts.now }
     requires numbers { AreNumbers trace.now numbers.now }
@@ -218,12 +250,12 @@ fn follow(
     requires known { AreKnown trace.now members.now }
     requires as_many { length places.old.items ≡ length members.now }
     requires sized { length marks.old.items ≡ length trace.now }
-    requires unmarked { MarksUpTo marks.old.items 0 }
+    requires unmarked { IsUnmarked marks.old.items }
     ensures { IsVerdictFrom trace.now members.now places.old.items steps.now 0 result }
 {
     for k in 0..steps.len() {
         let step = &steps[k];
-        if let Some(fault) = step_fault(trace, facts, places, step, marks, k + 1) {
+        if let Some(fault) = step_fault(trace, facts, places, step, marks) {
             return RefutationVerdict::WrongStep(k, fault);
         }
         match next_place(numbers, members, places, step.member) {

@@ -18,7 +18,7 @@ use Rattle.trace_model.specs.Protocol.Batches.{AreLawful, IsLongest}
 use Rattle.trace_model.specs.Protocol.Machine.{Question, State, answer_of, ask_refused, ask_reply, delivered, offer_reply, status_of, step, with_events}
 use Rattle.trace_model.specs.Protocol.Replies.{IsReply}
 use Rattle.trace_model.proofs.Protocol.Batches.{longest_is}
-use Rattle.sequencer.specs.Book.{IsAccepted, IsRefusal, Refuses}
+use Rattle.sequencer.specs.Book.{IsRefusal, Refuses, TakesMemory}
 use Rattle.sequencer.specs.Batched.{EndsBatch, IsBatched}
 use Rattle.sequencer.specs.Called.{IsSingle, StepsOrMemory, WantsRightly, lacks_memory}
 use Rattle.sequencer.specs.Printing.{printing}
@@ -95,7 +95,7 @@ exact_steps s next (Status number) reply is = inl is
 exact_steps s next (Batch events) reply is = inl is
 
 refused_by : (s : State) (request : Request) (reply : Reply) → Refuses s request reply →
-    (step printing s request ≡ (reply, s)) ⊎ ((reply ≡ replies.Refused NoMemory) × (s ≡ s) × IsAccepted (step printing s request).0)
+    (step printing s request ≡ (reply, s)) ⊎ ((reply ≡ replies.Refused NoMemory) × (s ≡ s) × TakesMemory (step printing s request).0)
 refused_by s request reply (inl is) = inl is
 refused_by s request reply (inr (lacks, accepted)) = inr (lacks, refl, accepted)
 

@@ -71,20 +71,20 @@ placed_offer s e lawful = ap (offer_reply s) lawful
 pub refused_offer : (s : State) (e : Event) (r : Refusal) → RefusesOffer s e r → Refuses s (Offer e) (Refused r) × IsRefusal s (Offer e) (Refused r)
 refused_offer s e r (inl why) = (inl (λ i. (offer_reply s (why i), offer_next s e (why i))), (r, refl, inl (ap (offer_reply s) why)))
 refused_offer s e r (inr (lacks, lawful)) =
-    (inr (ap Refused lacks, subst (λ o. IsAccepted (offer_reply s o)) (sym lawful) tt), (r, refl, inr (lacks, subst (λ o. TakesMemory (offer_reply s o)) (sym lawful) tt)))
+    (inr (ap Refused lacks, subst (λ o. TakesMemory (offer_reply s o)) (sym lawful) tt), (r, refl, inr (lacks, subst (λ o. TakesMemory (offer_reply s o)) (sym lawful) tt)))
 
 pub refused_ask : (s : State) (bound : ℕ) (r : AskRefused) → RefusesAsk s bound r → Refuses s (Ask bound) (Refused (ask_refusal r)) × IsRefusal s (Ask bound) (Refused (ask_refusal r))
 refused_ask s bound r (inl why) = (inl (λ i. (ask_reply s (why i), ask_next s bound (why i))), (ask_refusal r, refl, inl (ap (ask_reply s) why)))
 refused_ask s bound r (inr (lacks, none)) = (
-  inr (ap (λ x. Refused (ask_refusal x)) lacks, subst (λ o. IsAccepted (ask_reply s o)) (sym none) tt),
+  inr (ap (λ x. Refused (ask_refusal x)) lacks, subst (λ o. TakesMemory (ask_reply s o)) (sym none) tt),
   (ask_refusal r, refl, inr (ap ask_refusal lacks, subst (λ o. TakesMemory (ask_reply s o)) (sym none) tt)),
 )
 
-pub refused_answer : (s : State) (number : ℕ) (r : AnswerRefused) → RefusesAnswer s number r → (r ≡ NoAnswer.NoMemory → TakesMemory (answer printing s number)) →
+pub refused_answer : (s : State) (number : ℕ) (r : AnswerRefused) → RefusesAnswer s number r →
     Refuses s (Answer number) (Refused (answer_refusal r)) × IsRefusal s (Answer number) (Refused (answer_refusal r))
-refused_answer s number r (inl why) takes = (inl (λ i. (why i, s)), (answer_refusal r, refl, inl why))
-refused_answer s number r (inr (lacks, accepted)) takes =
-    (inr (ap (λ x. Refused (answer_refusal x)) lacks, accepted), (answer_refusal r, refl, inr (ap answer_refusal lacks, takes lacks)))
+refused_answer s number r (inl why) = (inl (λ i. (why i, s)), (answer_refusal r, refl, inl why))
+refused_answer s number r (inr (lacks, takes)) =
+    (inr (ap (λ x. Refused (answer_refusal x)) lacks, takes), (answer_refusal r, refl, inr (ap answer_refusal lacks, takes)))
 
 pub accepted_answer : (number : ℕ) (told : Answered) → IsAccepted (answer_reply number told)
 accepted_answer number (AnswerPending delivered total) = tt
@@ -222,15 +222,6 @@ not_long n h = elim (cases_lt MAX_REPORT n) [ inl l ↦ absurd (h l) | inr g ↦
 
 pub text_not_refused : {A : Type 0} (text : A) (refused : TextRefused) → ◌≡◌ {A = Result A TextRefused} (Ok text) (Err refused) → ⊥
 text_not_refused text refused h = absurd cc
-
-pub told_not_refused : {A : Type 0} (told : A) (refused : AnswerRefused) → ◌≡◌ {A = Result A AnswerRefused} (Ok told) (Err refused) → ⊥
-told_not_refused told refused h = absurd cc
-
-pub unknown_not_lacking : {A : Type 0} → ◌≡◌ {A = Result A AnswerRefused} (Err NoAnswer.NoSuchQuestion) (Err NoAnswer.NoMemory) → ⊥
-unknown_not_lacking h = absurd cc
-
-pub long_not_lacking : {A : Type 0} → ◌≡◌ {A = Result A AnswerRefused} (Err NoAnswer.ReportTooLong) (Err NoAnswer.NoMemory) → ⊥
-long_not_lacking h = absurd cc
 
 pub not_too_long : {A : Type 0} → ◌≡◌ {A = Result A TextRefused} (Err NoMemory) (Err TooLong) → ⊥
 not_too_long h = absurd cc

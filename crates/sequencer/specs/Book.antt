@@ -117,17 +117,18 @@ abbrev pub RefusesAsk : State → ℕ → AskRefused → Type 0
 RefusesAsk s bound r = (ask_refused s bound ≡ Some (ask_refusal r))
     ⊎ ((r ≡ NoOpening.NoMemory) × (ask_refused s bound ≡ None))
 
--- the refusal of an answer: the machine's; or `NoMemory` if the machine accepts
+-- the refusal of an answer: the machine's; or `NoMemory` if the machine prints a report
 abbrev pub RefusesAnswer : State → ℕ → AnswerRefused → Type 0
 RefusesAnswer s number r =
     (answer printing s number ≡ Refused (answer_refusal r))
-    ⊎ ((r ≡ NoAnswer.NoMemory) × IsAccepted (answer printing s number))
+    ⊎ ((r ≡ NoAnswer.NoMemory) × TakesMemory (answer printing s number))
 
--- the reply is the machine's refusal; or it is `NoMemory` and the machine accepts the request
+-- the reply is the machine's refusal; or it is `NoMemory` and the machine's reply needs an
+-- allocation
 abbrev pub Refuses : State → Request → Reply → Type 0
 Refuses s request reply =
     (step printing s request ≡ (reply, s))
-    ⊎ ((reply ≡ Refused NoMemory) × IsAccepted (step printing s request).0)
+    ⊎ ((reply ≡ Refused NoMemory) × TakesMemory (step printing s request).0)
 
 -- the reply is a refusal: the machine's; or `NoMemory` if the machine's reply needs an allocation
 abbrev pub IsRefusal : State → Request → Reply → Type 0

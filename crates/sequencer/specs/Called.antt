@@ -9,7 +9,7 @@ use Rattle.trace_model.specs.declared.messages.session.Reply.TheVariants.{Batche
 use Rattle.trace_model.specs.Theory.Lawful.{refusal_of}
 use Rattle.trace_model.specs.Protocol.Replies.{reply_frame}
 use Rattle.trace_model.specs.Protocol.Machine.{State, step}
-use Rattle.sequencer.specs.Book.{IsAccepted, TakesMemory}
+use Rattle.sequencer.specs.Book.{TakesMemory}
 use Rattle.sequencer.specs.Printing.{printing}
 
 -- the request is not a batch
@@ -29,14 +29,14 @@ pub record EndsForMemory (s : State) (events : List Event) (reply : Reply)
       (Batched accepted None (length s.accepted), next)
   pub replies : reply ≡ Batched accepted (Some NoMemory) (length s.accepted)
 
--- the reply and the next state are the machine's; or the reply is `NoMemory`, the machine accepts,
--- and nothing changes except for the accepted events of a batch
+-- the reply and the next state are the machine's; or the reply is `NoMemory`, the machine's reply
+-- needs an allocation, and nothing changes except for the accepted events of a batch
 abbrev pub StepsOrMemory : State → Request → Reply → State → Type 0
 StepsOrMemory s (Batch events) reply next =
     (step printing s (Batch events) ≡ (reply, next)) ⊎ EndsForMemory s events reply next
 StepsOrMemory s request reply next =
     (step printing s request ≡ (reply, next))
-    ⊎ ((reply ≡ Refused NoMemory) × (next ≡ s) × IsAccepted (step printing s request).0)
+    ⊎ ((reply ≡ Refused NoMemory) × (next ≡ s) × TakesMemory (step printing s request).0)
 
 -- the reply is `NoMemory` only if the machine's reply needs an allocation
 abbrev pub WantsRightly : State → Request → Reply → Type 0

@@ -4,7 +4,7 @@ ghost use Rattle.std.specs.Prelude.{◌≡◌, Err, IfErr, IfOk};
 ghost use Rattle.trace_model.specs.Protocol.Machine as machine;
 ghost use Rattle.trace_model.specs.declared.refusal.Refusal.TheVariants as refusals;
 ghost use Rattle.trace_model.specs.declared.messages.session.Reply.TheVariants.{Refused, Status};
-ghost use Rattle.sequencer.specs.Book.{RefusesAnswer, TakesMemory, answer_refusal, answer_reply};
+ghost use Rattle.sequencer.specs.Book.{RefusesAnswer, answer_refusal, answer_reply};
 ghost use Rattle.sequencer.specs.Printing.{printing};
 
 use crate::book::{Book, NoSuchQuestion};
@@ -55,8 +55,6 @@ impl Book {
         ensures ok { IfOk result (λ told. machine.answer printing self.now.state question ≡
             answer_reply question told) }
         ensures refused { IfErr result (RefusesAnswer self.now.state question) }
-        ensures wanting { result ≡ Err AnswerRefused.NoMemory →
-            TakesMemory (machine.answer printing self.now.state question) }
     {
         let Some(asked) = self.question(question) else {
             return Err(AnswerRefused::NoSuchQuestion);

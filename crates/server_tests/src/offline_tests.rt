@@ -44,8 +44,8 @@ cycle 1 2101 potential
 /// The number of tasks, one for each dependency.
 const TASKS: u64 = 4_200;
 
-// Enough for a thread that must compute many tasks on a busy machine before a late task.
-const YIELDS: u32 = 20_000_000;
+// Enough for a thread that must compute a thousand tasks before a late one.
+const YIELDS: u32 = 1_000_000;
 
 /// The least late task.
 const LATE: u32 = 2_048;

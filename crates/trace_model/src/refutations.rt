@@ -56,7 +56,7 @@ impl Derivation {
     }
 }
 
-/// A step of a refutation: the derivation contains the present place of the member with this 0-based
+/// A step of a refutation: the derivation ends with the present place of the member with this 0-based
 /// index, so the member moves to the next place of its dependency.
 #[derive(Drop)]
 pub struct Step {

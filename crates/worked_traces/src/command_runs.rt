@@ -147,7 +147,7 @@ pub(crate) fn run<T: Threads + Sync>(
                 unreachable!()
             };
             let cycle = match cycle {
-                Some(words) => Some(cycle_of(words.as_bytes()).context("a cycle")?),
+                Some(words) => Some(cycle_of(rt.alloc(), words.as_bytes())?.context("a cycle")?),
                 None => None,
             };
             let bytes = fs::read(rt, *file)?;

@@ -19,7 +19,8 @@ pub(crate) fn are_valid(rt: &HostRuntime, trace: &[u8], text: &[u8]) -> Result<b
     Ok(checked(rt, trace, file)?.status == Status::Done)
 }
 
-/// Returns whether `explain` prints the rows of the report, and the checker accepts what it prints.
+/// Returns whether `explain` prints the first line and the rows of the report, and the checker accepts
+/// what it prints.
 pub(crate) fn are_explained<T: Threads>(
     rt: &HostRuntime,
     threads: &T,
@@ -32,7 +33,8 @@ pub(crate) fn are_explained<T: Threads>(
     let text = str::from_utf8(&outcome.out).ok().context("cycles in text")?;
     let mut rows = String::new(rt.alloc());
     for line in text.lines() {
-        if line.starts_with("cycle")
+        if line.starts_with("question")
+            || line.starts_with("cycle")
             || line.starts_with("  thread")
             || line.starts_with("  witness")
         {
@@ -40,8 +42,5 @@ pub(crate) fn are_explained<T: Threads>(
             rows.push_str("\n")?;
         }
     }
-    let Some((_, expected)) = report.split_once("\n") else {
-        return Ok(false);
-    };
-    Ok(rows.as_str() == expected && are_valid(rt, trace, &outcome.out)?)
+    Ok(rows.as_str() == report && are_valid(rt, trace, &outcome.out)?)
 }

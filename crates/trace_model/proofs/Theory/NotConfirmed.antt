@@ -10,13 +10,13 @@ use Rattle.trace_model.specs.Theory.Trace.{Trace, first_place}
 use Rattle.trace_model.specs.Theory.Lawful.{IsWellFormed}
 use Rattle.trace_model.specs.Theory.Dependencies.{Dependency, dependency_at, same_dependency, dependencies}
 use Rattle.trace_model.specs.Theory.Cycles.{Member, IsCycle, IsInstance, IsConfirmed}
-use Rattle.trace_model.specs.Theory.Refutation.{derived_places, IsFirstFrom, AreFirstPlaces, Refutes, IsRefutation}
+use Rattle.trace_model.specs.Theory.Refutation.{derived_places, IsDerivation, EndsAt, IsFirstFrom, AreFirstPlaces, Refutes, IsRefutation}
 use Rattle.trace_model.proofs.Lists.{at_index, some_passes, none_passes}
 use Rattle.trace_model.proofs.Theory.Places.{first_place_some, first_place_none}
 use Rattle.trace_model.proofs.Theory.Ascending.{place_of, contains_at, listed, listed_contains}
 use Rattle.trace_model.proofs.Theory.Stability.{reached_from}
 use Rattle.trace_model.proofs.Theory.Dependencies.{dependency_so, same_dependency_so, same_dependency_itself, numbered}
-use Rattle.trace_model.proofs.Theory.Refutation.{ArePresent, same_member, present_moves, first_present}
+use Rattle.trace_model.proofs.Theory.Refutation.{ArePresent, same_member, present_moves, first_present, ending_at}
 use Rattle.trace_model.proofs.Theory.Derivable.{IsWhole, whole_derivation, complete_closes, complete_holds}
 
 -- ---- the first place of a dependency from a place on
@@ -121,16 +121,17 @@ module _ (s : Trace) (w : IsWellFormed s) (numbers : List ℕ) (not_confirmed : 
       let (i, p, at, caught) = caught_member s w numbers places h not_confirmed entries whole in
       let (d, member, is) = h.members i p at in
       let (next, first) = first_from s d (suc p) in
-      go entries whole i p at caught d member next first
+      let (part, derivation, ends) = ending_at s places entries p whole.0 caught in
+      go part derivation i p at ends d member next first
     where
-      go : (entries : List Derived) → IsWhole s places entries → (i p : ℕ) → slice_get places i ≡ Some p → Contains (derived_places entries) p →
+      go : (entries : List Derived) → IsDerivation s places entries → (i p : ℕ) → slice_get places i ≡ Some p → EndsAt entries p →
           (d : Dependency) → Member (dependencies s) numbers i d → (next : Option ℕ) → IsFirstFrom s d (suc p) next →
           (steps : List Step) × Refutes s numbers places steps
-      go entries whole i p at caught d member None first =
-          (record { member = i; derivation = entries } ∷ [], (None, (p, at, whole.0, caught), (p, d, at, member, first), refl))
-      go entries whole i p at caught d member (Some q) first =
+      go entries derivation i p at ends d member None first =
+          (record { member = i; derivation = entries } ∷ [], (None, (p, at, derivation, ends), (p, d, at, member, first), refl))
+      go entries derivation i p at ends d member (Some q) first =
           let (steps, rest) = more i p q d at (omega (arith, first.0)) member first.1 in
-          (record { member = i; derivation = entries } ∷ steps, (Some q, (p, at, whole.0, caught), (p, d, at, member, first), rest))
+          (record { member = i; derivation = entries } ∷ steps, (Some q, (p, at, derivation, ends), (p, d, at, member, first), rest))
 
   steps_from : (n : ℕ) (places : List ℕ) → ArePresent s numbers places → remaining (length s) places ≤ n →
       (steps : List Step) × Refutes s numbers places steps

@@ -1,8 +1,9 @@
 -- A cycle with a refutation is not confirmed.
-use Rattle.std.proofs.Common.{◌≡◌, ℕ, zero, suc, ◌<◌, ◌≤◌, ◌⊎◌, inl, inr, List, [], ◌∷◌, length, take, get_or, slice_get, slice_set, Option, Some, None, MatchOption, refl, sym, ap, subst, ◌∙◌, arith}
+use Rattle.std.proofs.Common.{◌≡◌, ℕ, zero, suc, ◌<◌, ◌≤◌, ◌⊎◌, inl, inr, List, [], ◌∷◌, ◌++◌, length, take, get_or, slice_get, slice_set, Option, Some, None, MatchOption, refl, sym, ap, subst, ◌∙◌, arith}
 use Rattle.std.proofs.lemmas.Bool.{cases_lt}
 use Rattle.std.proofs.lemmas.List.{length-set}
 use Rattle.std.proofs.lemmas.Option.{none-some, same_Some, slice_get_within, slice_get-get_or}
+use Rattle.std.proofs.lemmas.List.Elements.{Contains-push}
 use Rattle.std.specs.List.{Contains}
 use Rattle.trace_model.specs.declared.refutations.Reason.{Reason}
 use Rattle.trace_model.specs.declared.refutations.Reason.TheVariants.{BeforeMember, ThreadOrder, ForkJoin, ReadsFrom, Sections}
@@ -16,10 +17,11 @@ use Rattle.trace_model.specs.Theory.Cycles.{Member, IsInstance, IsConfirmed}
 use Rattle.trace_model.specs.Theory.Reordering.{Reached}
 use Rattle.trace_model.specs.Theory.Rows.{NoLater}
 use Rattle.trace_model.specs.Theory.Laws.{OfSameThreads}
-use Rattle.trace_model.specs.Theory.Refutation.{Justifies, derived_places, IsDerivation, IsFirstFrom, AreFirstPlaces, Refutes, IsRefutation}
-use Rattle.trace_model.proofs.Lists.{get-take, get-take_past}
+use Rattle.trace_model.specs.Theory.Refutation.{Justifies, derived_places, IsDerivation, EndsAt, IsFirstFrom, AreFirstPlaces, Refutes, IsRefutation}
+use Rattle.trace_model.proofs.Lists.{get-take, get-take_past, take_next, take-take_below}
 use Rattle.trace_model.proofs.Theory.Ascending.{place_of}
 use Rattle.trace_model.proofs.Theory.Dependencies.{dependency_so}
+use Rattle.trace_model.proofs.Theory.Derivable.{derived_push}
 use Rattle.trace_model.proofs.Theory.Pointers.{caught_is_early}
 
 -- a place with a reason is in the closure, if the places before it are
@@ -50,6 +52,26 @@ first_derived s places entries h (suc n) k d l e =
     let low = get-take_past k entries i x b in
     subst (InClosure s places) m (first_derived s places entries h n i x (omega (arith, l, low)) (sym (get-take k entries i low) ∙ b)))
     d.reason d.place (h k d e)
+
+-- the last place of a derivation is derived
+pub end_is_derived : (entries : List Derived) (p : ℕ) → EndsAt entries p → Contains (derived_places entries) p
+end_is_derived entries p (before, d, whole, same) =
+    let split : derived_places entries ≡ derived_places before ++ d.place ∷ [] = ap derived_places whole ∙ derived_push before d in
+    subst (λ xs. Contains xs p) (sym split) (subst (Contains (derived_places before ++ d.place ∷ [])) same (Contains-push (derived_places before) d.place))
+
+-- the beginning of a derivation that ends at one of its places
+pub ending_at : (s : Trace) (places : List ℕ) (entries : List Derived) (p : ℕ) → IsDerivation s places entries → Contains (derived_places entries) p →
+    (first : List Derived) × IsDerivation s places first × EndsAt first p
+ending_at s places entries p h c =
+    let (i, a) = place_of (derived_places entries) p c in
+    let (x, at, same) = entry_of entries i p a in (
+      take (suc i) entries,
+      λ k d e.
+          let low = get-take_past (suc i) entries k d e in
+          subst (λ xs. Justifies s places (derived_places xs) d.reason d.place) (sym (take-take_below k (suc i) entries low))
+          (h k d (sym (get-take (suc i) entries k low) ∙ e)),
+      (take i entries, x, take_next i entries x at, same),
+    )
 
 pub derived_in_closure : (s : Trace) (places : List ℕ) (entries : List Derived) → IsDerivation s places entries →
     (p : ℕ) → Contains (derived_places entries) p → InClosure s places p
@@ -120,7 +142,7 @@ next_not_passed s numbers others places steps i q y d (Some x) later at dep past
 not_passed : (s : Trace) (numbers others : List ℕ) → IsInstance s numbers others → Reached s others → (steps : List Step) (places : List ℕ) →
     ArePresent s numbers places → NoLater places others → Refutes s numbers places steps → ⊥
 not_passed s numbers others is reached [] places h later r = r
-not_passed s numbers others is reached (step ∷ steps) places h later (next, (p, at, derivation, caught), (q, d, at_q, member, first), then) =
+not_passed s numbers others is reached (step ∷ steps) places h later (next, (p, at, derivation, ends), (q, d, at_q, member, first), then) =
     let i = step.member in
     let len : length places ≡ length others = h.as_many ∙ sym is.0 in
     let inside : i < length others = omega (arith, slice_get_within places i p at, len) in
@@ -130,7 +152,8 @@ not_passed s numbers others is reached (step ∷ steps) places h later (next, (p
     let threads : OfSameThreads s places others = λ k x z a b.
     let (e, m, dep) = h.members k x a in
     (e.thread, of_its_thread s x e dep, of_its_thread s z e (is.1 k m.0 z e m.1 m.2 b)) in
-    let early : p < y = caught_is_early s places others len threads later reached i p y at at_y (derived_in_closure s places step.derivation derivation p caught) in
+    let early : p < y = caught_is_early s places others len threads later reached i p y at at_y
+    (derived_in_closure s places step.derivation derivation p (end_is_derived step.derivation p ends)) in
     let same : p ≡ q = same_Some p q (sym at ∙ at_q) in
     next_not_passed s numbers others places steps i q y d next later at_y dep_y (omega (arith, early, same)) first then
     (λ x e. not_passed s numbers others is reached steps (slice_set places i x) (present_moves s numbers places i x d h member e))

@@ -1,5 +1,5 @@
 -- Refutations: why a cycle is not confirmed (this project's profile).
-use Rattle.std.specs.Prelude.{◌≡◌, ℕ, suc, ◌<◌, ◌≤◌, List, [], ◌∷◌, length, map, take, slice_get, slice_set, Option, Some, MatchOption}
+use Rattle.std.specs.Prelude.{◌≡◌, ℕ, suc, ◌<◌, ◌≤◌, List, [], ◌∷◌, ◌++◌, length, map, take, slice_get, slice_set, Option, Some, MatchOption}
 use Rattle.std.specs.List.{Contains}
 use Rattle.trace_model.specs.declared.refutations.Reason.{Reason}
 use Rattle.trace_model.specs.declared.refutations.Reason.TheVariants.{BeforeMember, ThreadOrder, ForkJoin, ReadsFrom, Sections}
@@ -53,11 +53,16 @@ AreFirstPlaces s numbers places =
     × ((i p : ℕ) → slice_get places i ≡ Some p →
     (d : Dependency) × Member (dependencies s) numbers i d × IsFirstFrom s d 0 (Some p))
 
--- The step derives the present place of its member (this project's profile).
+-- The last entry is about place p (this project's profile).
+abbrev pub EndsAt : List Derived → ℕ → Type 0
+EndsAt entries p = (before : List Derived) × (d : Derived) × (entries ≡ before ++ d ∷ [])
+    × (d.place ≡ p)
+
+-- The step derives the present place of its member, by its last entry (this project's profile).
 abbrev pub Derives : Trace → List ℕ → Step → Type 0
 Derives s places step =
     (p : ℕ) × (slice_get places step.member ≡ Some p)
-    × IsDerivation s places step.derivation × Contains (derived_places step.derivation) p
+    × IsDerivation s places step.derivation × EndsAt step.derivation p
 
 -- The next place of the dependency of member i after its present place, or none (this project's
 -- profile).

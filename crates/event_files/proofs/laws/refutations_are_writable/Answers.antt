@@ -1,18 +1,18 @@
-use Rattle.std.proofs.Common.{◌≡◌, ℕ, ◌<◌, List, [], ◌∷◌, length, map, sym, ap, subst, ◌∙◌, arith, Option, Some, None, slice_get, slice_set, MatchOption, length-set}
-use Rattle.std.specs.List.{All, AllByRecursion, Contains}
-use Rattle.std.proofs.lemmas.List.{length-map}
+use Rattle.std.proofs.Common.{◌≡◌, ℕ, ◌<◌, List, [], ◌∷◌, length, sym, subst, ◌∙◌, arith, Option, Some, None, slice_set, MatchOption, length-set}
+use Rattle.std.specs.List.{AllByRecursion}
+use Rattle.std.proofs.lemmas.List.{length-append}
 use Rattle.std.proofs.lemmas.Option.{slice_get_within}
 use Rattle.std.proofs.lemmas.List.Elements.{All-from_recursion}
 use Rattle.trace_model.specs.Theory.Trace.{Trace}
-use Rattle.trace_model.specs.Theory.Refutation.{Refutes, IsRefutation, Derives, derived_places}
+use Rattle.trace_model.specs.Theory.Refutation.{EndsAt, Refutes}
 use Rattle.trace_model.specs.declared.refutations.Derived.{Derived}
 use Rattle.trace_model.specs.declared.refutations.Step.{Step}
 use Rattle.event_files.specs.Refutations.{IsWritable}
 use Rattle.event_files.proofs.laws.refutations_are_writable.Goals as goal
 
--- a list that contains a place has an entry
-some_of : (entries : List Derived) (p : ℕ) → Contains (derived_places entries) p → 0 < length entries
-some_of entries p has = omega (arith, has.1, length-map entries (λ (d : Derived). d.place))
+-- a list that ends at a place has an entry
+some_of : (entries : List Derived) (p : ℕ) → EndsAt entries p → 0 < length entries
+some_of entries p (before, d, whole, same) = subst (λ xs. 0 < length xs) (sym whole) (omega (arith, length-append before (d ∷ [])))
 
 rest_writable : (s : Trace) (numbers places threads : List ℕ) (member : ℕ) (steps : List Step) (next : Option ℕ) → length places ≡ length threads →
     ((others : List ℕ) → length others ≡ length threads → Refutes s numbers others steps → AllByRecursion (IsWritable threads) steps) →

@@ -4,7 +4,7 @@ use Rattle.std.proofs.lemmas.Option.{slice_get-get_or, slice_get_within}
 use Rattle.trace_model.specs.Theory.Refutation.{Derives, IsNextPlace}
 use Rattle.replay.specs.Refuting.{IsFault}
 use Rattle.replay.specs.declared.refutation_verdict.RefutationVerdict.TheVariants.{WrongStep}
-use Rattle.replay.proofs.RefutationVerdicts.{fault_verdict, last_verdict, moved_verdict, marks_more}
+use Rattle.replay.proofs.RefutationVerdicts.{fault_verdict, last_verdict, moved_verdict}
 use Rattle.replay.proofs.refuting.follow.Goals as goal
 use Rattle.replay.proofs.refuting.follow.Goals.{After-index-steps-k}
 
@@ -55,6 +55,6 @@ loop-k-preserved c =
     record {
       as_many = length-set places step.member q ∙ h.as_many;
       sized = c.in_default.ensures.sized;
-      marked = marks_more c.loop-k.marks.items c.step_fault.new.marks.items k h.marked c.in_default.ensures.others;
+      unmarked = c.in_default.ensures.unmarked;
       verdict = λ v rest. h.verdict v (moved_verdict s members places c.args.steps.now k step at derives q next v rest);
     }

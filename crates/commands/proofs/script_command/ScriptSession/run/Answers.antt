@@ -11,7 +11,9 @@ use Rattle.trace_model.specs.Protocol.Machine.{State}
 use Rattle.sequencer.specs.Book.{BookView}
 use Rattle.commands.specs.ScriptFile.{FitsCommand}
 use Rattle.commands.specs.ScriptRun.{DeliversOne, Works, told_line}
-use Rattle.commands.specs.ScriptTells.{Prints, Replies, Writes}
+use Rattle.commands.specs.ScriptTells.{IsPrintOf, Prints, Replies}
+use Rattle.commands.proofs.Outputs.{cut_part, on_err}
+use Rattle.commands.specs.Output.{Writes}
 use Rattle.commands.specs.declared.exit.CommandError.{CommandError}
 use Rattle.commands.specs.declared.script_command.reading.Command.{Command}
 use Rattle.commands.proofs.script_command.ScriptSession.run.Goals as goal
@@ -87,3 +89,25 @@ returns-in-Deliver-clause-printed g c =
     let told = c.deliver-delivered.result in
     let did = subst (λ (b : BookView). DeliversOne s c.in-Deliver.question c.in-Deliver.task told b.state) (sym c.write_number-in-Deliver.ensures.book) c.deliver-delivered.ensures in
     on_ok_weaker c.write_number-in-Deliver.result (λ grew. subst (λ (x : Command). Writes before after (Prints s x next.state)) (sym c.in-Deliver.is) (told_line (codes "delivered ") told, (told, did, refl), grew)) c.write_number-in-Deliver.ensures.written
+
+pub returns-in-Work-clause-cut : goal.returns-in-Work-clause-cut
+returns-in-Work-clause-cut g c =
+    let s = c.args.self.now.book.state in
+    let next = c.write_number.new.self.book in
+    let before = g.O.Write.contents c.args.out.now in
+    let after = g.O.Write.contents c.write_number.new.out in
+    let told = c.work-worked.result in
+    let line = told_line (codes "worked ") told in
+    let did = subst (λ (b : BookView). Works s c.in-Work.question told b.state) (sym c.write_number.ensures.book) c.work-worked.ensures in
+    on_err c.write_number.result _ _ (λ part. cut_part before after (IsPrintOf s c.args.command.now) line (subst (λ (x : Command). IsPrintOf s x line) (sym c.in-Work.is) (next.state, (told, did, refl))) part) c.write_number.ensures.cut
+
+pub returns-in-Deliver-clause-cut : goal.returns-in-Deliver-clause-cut
+returns-in-Deliver-clause-cut g c =
+    let s = c.args.self.now.book.state in
+    let next = c.write_number-in-Deliver.new.self.book in
+    let before = g.O.Write.contents c.args.out.now in
+    let after = g.O.Write.contents c.write_number-in-Deliver.new.out in
+    let told = c.deliver-delivered.result in
+    let line = told_line (codes "delivered ") told in
+    let did = subst (λ (b : BookView). DeliversOne s c.in-Deliver.question c.in-Deliver.task told b.state) (sym c.write_number-in-Deliver.ensures.book) c.deliver-delivered.ensures in
+    on_err c.write_number-in-Deliver.result _ _ (λ part. cut_part before after (IsPrintOf s c.args.command.now) line (subst (λ (x : Command). IsPrintOf s x line) (sym c.in-Deliver.is) (next.state, (told, did, refl))) part) c.write_number-in-Deliver.ensures.cut

@@ -1,5 +1,6 @@
 use Rattle.std.proofs.Common.{take}
-use Rattle.commands.specs.ScriptTells.{PrintsAll, Writes}
+use Rattle.commands.specs.ScriptTells.{PrintsAll}
+use Rattle.commands.specs.Output.{Writes}
 use Rattle.commands.proofs.script_command.ScriptSession.run_all.Given as goal
 
 abbrev pub invariant-loop-command : goal.invariant-loop-command

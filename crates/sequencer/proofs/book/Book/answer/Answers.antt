@@ -4,12 +4,12 @@ use Rattle.trace_model.specs.declared.limits.TheConstants.{MAX_REPORT}
 use Rattle.trace_model.specs.declared.messages.session.Reply.TheVariants.{Refused, Report}
 use Rattle.trace_model.specs.declared.refusal.Refusal.TheVariants.{ReportTooLong}
 use Rattle.reports.specs.Text.{report}
-use Rattle.sequencer.specs.Book.{IsAccepted, TakesMemory}
+use Rattle.sequencer.specs.Book.{TakesMemory}
 use Rattle.sequencer.specs.Printing.{printing}
 use Rattle.trace_model.specs.Protocol.Machine.{answer, answer_of}
 use Rattle.reports.specs.declared.report.TextRefused.{TextRefused}
 use Rattle.reports.specs.declared.report.TextRefused.TheVariants as refusals
-use Rattle.sequencer.proofs.Told.{pending, reported, short_report, long_report, long_not_lacking, not_long, not_too_long, text_not_refused, told_not_refused, unknown_not_lacking}
+use Rattle.sequencer.proofs.Told.{pending, reported, short_report, long_report, not_long, not_too_long, text_not_refused}
 use Rattle.sequencer.proofs.book.Book.answer.Goals as goal
 use Rattle.sequencer.proofs.book.Book.answer.Goals.{After-bound}
 
@@ -48,23 +48,10 @@ printed c =
     (text d, short_report c.args.question (text d) _ short (answers d))
 
 pub returns-in-Err-NoMemory-clause-refused : goal.returns-in-Err-NoMemory-clause-refused
-returns-in-Err-NoMemory-clause-refused c = inr (refl, subst IsAccepted (sym (printed c).1) tt)
-
-pub returns-in-Err-NoMemory-clause-wanting : goal.returns-in-Err-NoMemory-clause-wanting
-returns-in-Err-NoMemory-clause-wanting c e = subst TakesMemory (sym (printed c).1) tt
+returns-in-Err-NoMemory-clause-refused c = inr (refl, subst TakesMemory (sym (printed c).1) tt)
 
 pub returns-in_default : goal.returns-in_default
 returns-in_default c = record {
   ok = tt;
   refused = inl (ap (answer_of printing c.args.self.now.state c.args.question) (sym c.in_default.ensures.value));
-  wanting = λ e. absurd (unknown_not_lacking e);
 }
-
-pub returns-in_default-settled-clause-wanting : goal.returns-in_default-settled-clause-wanting
-returns-in_default-settled-clause-wanting c e = absurd (told_not_refused _ _ e)
-
-pub returns-in-Ok-clause-wanting : goal.returns-in-Ok-clause-wanting
-returns-in-Ok-clause-wanting c e = absurd (told_not_refused _ _ e)
-
-pub returns-in-Err-TooLong-clause-wanting : goal.returns-in-Err-TooLong-clause-wanting
-returns-in-Err-TooLong-clause-wanting c e = absurd (long_not_lacking e)

@@ -1,7 +1,6 @@
-use Rattle.std.proofs.Common.{Err, refl, sym, ap, ◌∙◌, subst}
+use Rattle.std.proofs.Common.{refl, sym, ap, ◌∙◌, subst}
 use Rattle.trace_model.specs.declared.messages.session.Reply.TheVariants.{Refused}
 use Rattle.trace_model.specs.declared.messages.session.Request.TheVariants.{Answer}
-use Rattle.sequencer.specs.declared.answering.AnswerRefused.{AnswerRefused}
 use Rattle.sequencer.specs.Book.{IsAccepted, IsRefusal, Refuses}
 use Rattle.sequencer.proofs.Told.{accepted_answer, refused_answer}
 use Rattle.sequencer.proofs.book.Book.prepare_answer.Goals as goal
@@ -24,6 +23,6 @@ pub returns-in-Err : goal.returns-in-Err
 returns-in-Err c =
     let s = c.args.self.now.state in
     let request = Answer c.args.question in
-    let told = refused_answer s c.args.question c.in-Err.refused c.in-Err.ensures.refused (λ lacks. c.in-Err.ensures.wanting (ap (λ (r : AnswerRefused). Err r) lacks)) in
+    let told = refused_answer s c.args.question c.in-Err.refused c.in-Err.ensures.refused in
     let reply = ap Refused (sym c.refusal.ensures) in
     record { ok = tt; refused = subst (Refuses s request) reply told.0; refusal = subst (IsRefusal s request) reply told.1 }
