@@ -789,6 +789,57 @@ static void joins_holding(void) {
     pthread_join(handle, NULL);
 }
 
+/* reads_and_waits: one thread reads and wants a lock, whose holder wants to write; another reader has come and gone */
+static void *reads_then_a(void *unused) {
+    pthread_rwlock_rdlock(&gate);
+    next();
+    until(2);
+    pthread_mutex_lock(&a);
+    return unused;
+}
+
+static void *a_then_writes(void *unused) {
+    pthread_mutex_lock(&a);
+    until(1);
+    pthread_rwlock_rdlock(&gate);
+    pthread_rwlock_unlock(&gate);
+    next();
+    pthread_rwlock_wrlock(&gate);
+    return unused;
+}
+
+static void reads_and_waits(void) {
+    alarm(30);
+    run_two(reads_then_a, a_then_writes);
+}
+
+/* in_destructors: the functions of two threads have ended, and the destructors of their variables wait for each other */
+static pthread_key_t key;
+
+static void in_destructor(void *second) {
+    next();
+    until(2);
+    pthread_mutex_lock(second);
+}
+
+static void *ends_with_a(void *unused) {
+    pthread_mutex_lock(&a);
+    pthread_setspecific(key, &b);
+    return unused;
+}
+
+static void *ends_with_b(void *unused) {
+    pthread_mutex_lock(&b);
+    pthread_setspecific(key, &a);
+    return unused;
+}
+
+static void in_destructors(void) {
+    alarm(30);
+    pthread_key_create(&key, in_destructor);
+    run_two(ends_with_a, ends_with_b);
+}
+
 /* ---- each kind of ending, after the two orders ---- */
 
 static void ends_by_exit(void) { blocking(), exit(7); }
@@ -834,7 +885,8 @@ static void becomes_daemon(void) {
     X(writers) X(reader_then_writer) X(writer_then_reader) X(spins) X(c11) X(recursive) X(handed) \
     X(kept) X(kept_recursive) X(kept_robust) X(kept_c11) X(abandoned) X(ended) X(cancelled) X(processes) \
     X(renewed) X(freed) X(unmapped) X(left) X(many_held) X(many_tried) X(many_threads) X(many_events) X(windows) X(stopped) \
-    X(in_handler) X(deadlocks) X(waits_for_itself) X(joins_holding) X(ends_by_exit) X(ends_at_once) X(ends_quickly) X(ends_by_abort) \
+    X(in_handler) X(deadlocks) X(waits_for_itself) X(joins_holding) X(reads_and_waits) X(in_destructors) \
+    X(ends_by_exit) X(ends_at_once) X(ends_quickly) X(ends_by_abort) \
     X(ends_by_kill) X(ends_by_fault) X(ends_thread) X(closes_all) X(clears_environment) X(changes_folder) X(changes_user) \
     X(starts_another) X(becomes_daemon)
 

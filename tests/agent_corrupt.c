@@ -57,14 +57,14 @@ int main(int count, char **words) {
     CASE("frames") record((struct record){.kind = R_LOCK, .frames = 255});
     CASE("frames_6") record((struct record){.kind = R_LOCK, .frames = MOST_FRAMES + 1});
     CASE("kind_0") record((struct record){.kind = 0});
-    CASE("kind_25") record((struct record){.kind = R_UNSTARTED + 1});
-    CASE("thread") record((struct record){.kind = R_LOCK, .thread = 1 << 20});
+    CASE("kind_27") record((struct record){.kind = R_UNLOADED + 1});
+    CASE("thread") record((struct record){.kind = R_LOCK, .thread = 500000000});
     CASE("nobody") record((struct record){.kind = R_LOCK, .thread = NOBODY});
-    CASE("fork") record((struct record){.kind = R_FORK, .other = 1 << 20});
+    CASE("fork") record((struct record){.kind = R_FORK, .other = 500000000});
     CASE("fork_64") record((struct record){.kind = R_FORK, .other = (uint64_t)1 << 40});
     CASE("named") record((struct record){.kind = R_NAMED, .other = NOBODY});
     CASE("unstarted") record((struct record){.kind = R_UNSTARTED, .other = NOBODY});
-    CASE("last_thread") record((struct record){.kind = R_FORK, .other = (1 << 20) - 1});
+    CASE("last_thread") record((struct record){.kind = R_FORK, .other = 499999999});
     CASE("joined") record((struct record){.kind = R_JOINED});
     CASE("free") record((struct record){.kind = R_FREE, .address = 1, .other = UINT64_MAX});
     CASE("callers") callers(0xffffffffffff);
@@ -78,6 +78,8 @@ int main(int count, char **words) {
     CASE("consumed") ring->consumed = 1 << 20;
     CASE("owner_all") ring->owner = (uint32_t)-1;
     CASE("owner_1") ring->owner = 1;
+    CASE("others") memset(ring->others, 'x', sizeof ring->others);
+    CASE("asks") ring->others[0] = (struct other){.process = 1, .state = OTHER_ASKS}, ring->follows_others = 1;
     CASE("threads") ring->threads = 0;
     CASE("cut") return is_cut(path);
     else return 2;

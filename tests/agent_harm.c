@@ -1,10 +1,17 @@
 /* Cases of tests/agents_alone: programs that an agent cannot look into, or must not harm. */
 #define _GNU_SOURCE
 #include <dlfcn.h>
+#include <errno.h>
+#include <linux/futex.h>
 #include <pthread.h>
+#include <sched.h>
+#include <stdint.h>
 #include <stdio.h>
 #include <string.h>
 #include <sys/mman.h>
+#include <sys/syscall.h>
+#include <sys/wait.h>
+#include <unistd.h>
 
 static void *nothing(void *unused) { return unused; }
 
@@ -55,6 +62,51 @@ static int loads(void) {
     return 0;
 }
 
+/* reloads: a library is closed and loaded again, to the same place. Its locks are others then. */
+static int (*run_of_library)(int);
+static void *runs_in(void *order) { return run_of_library(order != NULL) ? order : NULL; }
+
+static int reloads(void) {
+    static int orders[2];
+    void *before = NULL;
+    for (int round = 0; round < 2; round++) {
+        void *library = dlopen("./locks.so", RTLD_NOW | RTLD_LOCAL);
+        pthread_t one;
+        if (!library || !(run_of_library = (int (*)(int))dlsym(library, "run"))) return 1;
+        if (before && before != (void *)run_of_library) fprintf(stderr, "the library is at another place\n");
+        before = (void *)run_of_library;
+        pthread_create(&one, NULL, runs_in, round ? &orders : NULL);
+        pthread_join(one, NULL);
+        dlclose(library);
+    }
+    return 0;
+}
+
+/* calls: the function `syscall`, also before the first thread is recorded: its results, errors and six arguments, a child that returns to the
+ * same stack, and futexes, of which one wait is recorded */
+static void *wakes(void *raw) {
+    uint32_t *word = raw;
+    while (syscall(SYS_futex, word, FUTEX_WAKE_PRIVATE, 1, NULL, NULL, 0) == 0) sched_yield();
+    return NULL;
+}
+
+static int calls(void) {
+    static uint32_t word = 1;
+    struct timespec soon = {0, 1000000};
+    pthread_t one;
+    int status = 0;
+    void *memory = (void *)syscall(SYS_mmap, NULL, 4096L, (long)PROT_READ, (long)(MAP_PRIVATE | MAP_ANONYMOUS), -1L, 0L);
+    if (memory == MAP_FAILED || syscall(SYS_getpid) != getpid() || syscall(SYS_close, -1) != -1 || errno != EBADF) return 1;
+    if (syscall(SYS_futex, &word, FUTEX_WAIT_PRIVATE, 2, NULL, NULL, 0) != -1 || errno != EAGAIN) return 2;
+    if (syscall(SYS_futex, &word, FUTEX_WAIT_PRIVATE, 1, &soon, NULL, 0) != -1 || errno != ETIMEDOUT) return 3;
+    pthread_create(&one, NULL, wakes, &word);
+    if (syscall(SYS_futex, &word, FUTEX_WAIT_PRIVATE, 1, NULL, NULL, 0)) return 4;
+    pthread_join(one, NULL);
+    pid_t child = (pid_t)syscall(SYS_fork);
+    if (!child) _exit(7);
+    return waitpid(child, &status, 0) == child && WEXITSTATUS(status) == 7 ? 0 : 5;
+}
+
 /* generated: 2,000 calls from code that is in no file. push rbp; mov rbp, rsp; mov rax, FUNCTION; call rax; pop rbp; ret */
 static int generated(void) {
     static pthread_mutex_t lock = PTHREAD_MUTEX_INITIALIZER;
@@ -72,7 +124,8 @@ static int generated(void) {
 }
 
 static const struct { const char *name; int (*run)(void); } cases[] = {{"no_threads", no_threads}, {"threads", threads}, {"readers", readers},
-                                                               {"unstarted", unstarted}, {"loads", loads}, {"generated", generated}};
+                                                               {"unstarted", unstarted}, {"loads", loads}, {"generated", generated},
+                                                               {"reloads", reloads}, {"calls", calls}};
 
 int main(int count, char **words) {
     for (size_t at = 0; count > 1 && at < sizeof cases / sizeof *cases; at++)

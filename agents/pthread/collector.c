@@ -4,7 +4,8 @@
  *     collector LIBRARY GOODLOCKD REPORTER [OPTION ..] PROGRAM [ARG ..]
  *
  * LIBRARY is the recorder; `-` means that the program brings its own and only needs GOODLOCK_RING. `=` means that the process
- * which starts the collector is the program: the collector prints the name of the shared memory and follows this process. */
+ * which starts the collector is the program: the collector prints the name of the shared memory and follows this process. `=NUMBER` names
+ * another process to follow, for the collector that started it. */
 #include "collector.h"
 
 #include <errno.h>
@@ -17,25 +18,33 @@
 #include <sys/wait.h>
 #include <time.h>
 
-enum { MOST_CHECKS = 4, MOST_WINDOWS_WAITING = 40, MICROSECONDS = 500, STALLED_ROUNDS = 4000, GRACE_ROUNDS = 2000, AHEAD = 1000,
-       MOST_ANCESTORS = 1000, LOOK_EVERY = 200, DEADLOCKED = 1 };
+enum { MOST_CHECKS = 4, MANY_WINDOWS = 16, MANY_EVENTS = 1 << 18, PATIENCE = 5000, NICE = 10 };
+enum { MICROSECONDS = 500, STALLED_ROUNDS = 4000, GRACE_ROUNDS = 2000, AHEAD = 1000, LOOK_EVERY = 200, COMMAND_SECONDS = 60 };
 
 /* The agent for Python uses these offsets, and it and the crate for Rust these numbers of kinds. */
 _Static_assert(R_UNLOCK == 12 && R_UNLOCK_EITHER == 17 && R_GIVE == 19 && R_NEW == 22, "goodlock_agent.py, recorder.rs");
 _Static_assert(offsetof(struct ring, consumed) == 64 && offsetof(struct ring, threads) == 128 && offsetof(struct ring, owner) == 132 &&
                offsetof(struct ring, attached) == 144 && offsetof(struct ring, sites_used) == 160 && offsetof(struct ring, text) == 164 &&
-               offsetof(struct ring, waits) == 1048768 && offsetof(struct ring, slots) == 2097344 && sizeof(struct ring) == 18874560 &&
-               sizeof(struct record) == 64 && sizeof(struct wait) == 64, "goodlock_agent.py");
+               offsetof(struct ring, waits) == 1048768 && offsetof(struct ring, slots) == 2097344 &&
+               offsetof(struct ring, others) == 18874560 && sizeof(struct ring) == 18891072 && sizeof(struct record) == 64 &&
+               sizeof(struct wait) == 64, "goodlock_agent.py");
 
 static const char *const gate_names[GATE_OPTIONS] = {"--suppress", "--baseline", "--fail-on", "--root"};
 struct ring *ring;
+int is_follower;
 static const char *reporter;
-static pid_t program, follows, deadlock_report, checks[MOST_CHECKS];
+static pid_t program, follows, deadlock_report, command, checks[MOST_CHECKS];
 static int library_file = -1, is_spoilt, program_status, has_program_ended;
 static int go = -1, unstarted_by = -1; /* pipes: the program may start; why it did not */
 static uint64_t consumed; /* that of the ring is for the recorder */
-static uint32_t windows_waiting;
+static uint32_t windows_closed, windows_checked; /* the last one that is complete; that is searched, or will be at the end */
+static uint64_t command_end;
+static uint64_t events_waiting, last_closed;     /* of windows that are not searched; when the last one was closed */
 static volatile sig_atomic_t signal_to_forward;
+
+static void forward(int number) { signal_to_forward = number; }
+
+int is_asked_to_end(void) { return signal_to_forward; }
 
 void say(const char *format, ...) {
     char line[PATHS + 200];
@@ -76,18 +85,20 @@ void stop_recording(const char *why) {
 
 /* ---- the report's program ---- */
 
-pid_t start_reporter(const char *task, const char *number, int output) {
-    char bound[12];
-    const char *words[9 + 2 * GATE_OPTIONS] = {"python3", reporter, task, options.program, bound, options.out, number};
-    size_t count = 7;
+pid_t start_reporter(const char *task, const char *number, uint64_t milliseconds, int output) {
+    char bound[12], seconds[24];
+    const char *words[10 + 2 * GATE_OPTIONS] = {"python3", reporter, task, options.program, bound, options.out, number, seconds};
+    size_t count = 8;
     pid_t child = fork();
     if (child < 0) say("cannot start a process for the report: %s", strerror(errno));
     if (child) return child;
-    snprintf(bound, sizeof bound, "%d", options.bound);
+    snprintf(bound, sizeof bound, options.bound ? "%d" : "auto", options.bound);
+    snprintf(seconds, sizeof seconds, "%.3f", (double)milliseconds / 1000);
     for (int one = 0; one < GATE_OPTIONS; one++)
         if (options.gate[one]) words[count++] = gate_names[one], words[count++] = options.gate[one];
     if (options.has_no_config) words[count++] = "--no-config";
-    signal(SIGTERM, SIG_IGN);
+    signal(SIGTERM, SIG_IGN), signal(SIGINT, SIG_IGN), signal(SIGUSR1, SIG_IGN), signal(SIGALRM, SIG_IGN);
+    if (!strcmp(task, "check")) setpriority(PRIO_PROCESS, 0, NICE);
     if (output >= 0) dup2(output, STDOUT_FILENO);
     keep_name_locked();
     execvp("python3", (char **)words);
@@ -95,25 +106,55 @@ pid_t start_reporter(const char *task, const char *number, int output) {
     _exit(WRONG);
 }
 
+static int status_of(int status) { return WIFEXITED(status) ? WEXITSTATUS(status) : WRONG; }
+
 int wait_for(pid_t child) {
     int status = 0;
     while (child > 0 && waitpid(child, &status, 0) < 0 && errno == EINTR) continue;
-    return child > 0 && WIFEXITED(status) ? WEXITSTATUS(status) : WRONG;
+    return child > 0 ? status_of(status) : WRONG;
 }
 
-/* A check that does not start now is made at the end; if too many wait, the collector waits for one. */
-void window_closed(uint32_t closed) {
-    char number[12];
-    int slot = 0;
-    close_sites();
-    while (slot < MOST_CHECKS && checks[slot]) slot++;
-    if (slot == MOST_CHECKS && ++windows_waiting > MOST_WINDOWS_WAITING) {
-        slot = 0;
-        wait_for(checks[0]);
+/* Waits for a reporter. From this time on, or after a signal, it is asked to end its search: it may not be ready to be asked. */
+static int wait_until(pid_t child, uint64_t end) {
+    struct timespec moment = {0, 4 * MICROSECONDS * 1000};
+    int status = 0;
+    pid_t ended = -1;
+    for (uint64_t rounds = 0; child > 0 && (ended = waitpid(child, &status, WNOHANG)) == 0; rounds++) {
+        if (rounds % 50 == 49 && (signal_to_forward || now() > end)) kill(child, signal_to_forward ? SIGUSR1 : SIGALRM);
+        nanosleep(&moment, NULL);
     }
-    if (slot == MOST_CHECKS) return;
-    snprintf(number, sizeof number, "%u", closed);
-    if ((checks[slot] = start_reporter("check", number, -1)) < 0) checks[slot] = 0;
+    return ended > 0 ? status_of(status) : WRONG;
+}
+
+/* ---- the search in windows that are complete ---- */
+
+/* If too many searches run, the windows wait for a later one: the program must not. */
+static void start_check(void) {
+    char range[24];
+    int slot = 0;
+    while (slot < MOST_CHECKS && checks[slot]) slot++;
+    if (slot == MOST_CHECKS || windows_closed == windows_checked) return;
+    snprintf(range, sizeof range, "%u-%u", windows_checked + 1, windows_closed);
+    if ((checks[slot] = start_reporter("check", range, options.seconds * 1000, -1)) < 0) checks[slot] = 0;
+    windows_checked = windows_closed, events_waiting = 0;
+}
+
+/* A process for each small window would cost more than the search. */
+void window_closed(uint32_t closed, uint32_t length) {
+    close_sites();
+    windows_closed = closed, events_waiting += length, last_closed = now();
+    if (events_waiting >= MANY_EVENTS || windows_closed - windows_checked >= MANY_WINDOWS) start_check();
+}
+
+static void end_command(int status) {
+    command = 0;
+    if (WIFSIGNALED(status) && now() >= command_end) say("the command of --on-deadlock was ended after %d s", COMMAND_SECONDS);
+    else if (status) say("the command of --on-deadlock has failed: status %d", WIFEXITED(status) ? WEXITSTATUS(status) : 128 + WTERMSIG(status));
+}
+
+int is_own_child(pid_t child) {
+    for (int slot = 0; slot < MOST_CHECKS; slot++) if (checks[slot] == child) return 1;
+    return child == deadlock_report || child == command;
 }
 
 /* Returns whether there are other processes: those whose parents have ended become the collector's. */
@@ -123,6 +164,8 @@ static int reap(void) {
     while ((ended = waitpid(-1, &status, WNOHANG)) > 0) {
         if (ended == program) has_program_ended = 1, program_status = status;
         if (ended == deadlock_report) deadlock_report = 0;
+        if (ended == command) end_command(status);
+        follower_has_ended(ended, status);
         for (int slot = 0; slot < MOST_CHECKS; slot++) if (checks[slot] == ended) checks[slot] = 0;
     }
     return ended == 0;
@@ -130,27 +173,14 @@ static int reap(void) {
 
 /* ---- records ---- */
 
-/* Whether the program, a process that it started or that one's parent is the collector's: the number may be any. */
-static int is_descendant(pid_t process) {
-    char name[40], line[400], *end;
-    for (int steps = 0; process > 1 && steps < MOST_ANCESTORS; steps++) {
-        FILE *file = (snprintf(name, sizeof name, "/proc/%d/stat", process), fopen(name, "re"));
-        size_t size = file ? fread(line, 1, sizeof line - 1, file) : 0;
-        if (file) fclose(file);
-        line[size] = 0;
-        if (!(end = strrchr(line, ')')) || sscanf(end + 1, " %*c %d", &process) != 1) return 0;
-        if (process == getpid()) return 1;
-    }
-    return 0;
-}
-
 /* A daemon has a second to start its first thread after its parent has ended. */
 static int is_running(void) {
-    static int rounds;
-    if (follows) return !ring->finished && getppid() == follows;
+    static int rounds, looks, is_there = 1;
+    if (is_follower && ++looks % LOOK_EVERY == 0) is_there = is_alive(follows);
     int has_others = reap();
+    if (follows) return !ring->finished && (is_follower ? is_there : getppid() == follows);
     pid_t owner = (pid_t)ring->owner;
-    if (!has_program_ended) return 1;
+    if (!has_program_ended || has_followers()) return 1;
     if (!owner) return has_others && ++rounds < GRACE_ROUNDS;
     return has_others && owner > 0 && owner != program && kill(owner, 0) == 0;
 }
@@ -159,6 +189,7 @@ static int is_running(void) {
 static void pass_on(int number) {
     pid_t to = has_program_ended ? (pid_t)ring->owner : program;
     if (to > 0 && (!has_program_ended || (to != program && is_descendant(to)))) kill(to, number);
+    if (has_program_ended) signal_followed(number);
 }
 
 /* The place after the last record. The agent for Python does not count: an empty place may be before others. */
@@ -196,13 +227,38 @@ static void give_up_if_stalled(int *rounds) {
     else if (++*rounds > STALLED_ROUNDS) stop_recording("a thread was stopped while it recorded an event");
 }
 
-/* Reports the deadlock, and ends the process in which it is, if the user wants that. */
-static void report_deadlock(int is_over) {
-    pid_t owner = (pid_t)ring->owner, to = follows ? follows : owner != program && is_descendant(owner) ? owner : program;
-    deadlock_report = start_reporter("deadlock", "0", -1);
-    if (!options.kills || is_over || (to == program && has_program_ended)) return;
-    wait_for(deadlock_report), deadlock_report = 0;
-    kill(to, SIGKILL);
+/* The process in which the deadlock is, or 0 if it has ended. */
+static pid_t deadlocked_process(void) {
+    pid_t owner = (pid_t)ring->owner, process = follows ? follows : owner != program && is_descendant(owner) ? owner : program;
+    return process == program && has_program_ended ? 0 : process;
+}
+
+/* Runs the user's command with the number of the process, in a group of its own. The program runs on meanwhile. */
+static void start_command(pid_t process) {
+    char number[12], path[PATHS], *line;
+    command_end = now() + COMMAND_SECONDS * 1000;
+    command = fork();
+    if (command < 0) say("cannot start the command of --on-deadlock: %s", strerror(errno));
+    if (command) return;
+    setpgid(0, 0);
+    for (int one = 1; one < 32; one++) if (one != SIGKILL && one != SIGSTOP) signal(one, SIG_DFL);
+    int nothing = open("/dev/null", O_RDONLY);
+    dup2(nothing, STDIN_FILENO);
+    snprintf(number, sizeof number, "%d", process);
+    setenv("GOODLOCK_DEADLOCK", in_work(path, "happened"), 1);
+    if (asprintf(&line, "%s \"$@\"", options.on_deadlock) > 0) execl("/bin/sh", "sh", "-c", line, "sh", number, NULL);
+    _exit(NOT_FOUND);
+}
+
+/* After the report of the deadlock: ends the process, or runs the command, if the user wants that. */
+static void act_on_deadlock(void) {
+    static int has_acted;
+    pid_t process = deadlocked_process();
+    if (command > 0 && now() >= command_end) kill(-command, SIGKILL);
+    if (has_acted || deadlock_report > 0 || !process || !strcmp(options.on_deadlock, "report")) return;
+    has_acted = 1;
+    if (!strcmp(options.on_deadlock, "kill")) kill(process, SIGKILL);
+    else start_command(process);
 }
 
 static void collect(void) {
@@ -211,13 +267,17 @@ static void collect(void) {
     for (int is_over = 0; !is_over;) {
         is_over = !is_running();
         if (signal_to_forward) pass_on(signal_to_forward), signal_to_forward = 0;
+        if (!follows) look_for_processes(program);
         if (drain(is_over) > 0 && !is_over) continue;
         while (is_over && drain(1) > 0) continue;
         if (options.server) flush_trace(), close_sites(); /* the dashboard reads them while the program runs */
         flush_stream();
         give_up_if_stalled(&stalled);
+        if (rounds % LOOK_EVERY == 0 && !options.is_python) look_at_maps();
+        if (windows_closed > windows_checked && now() - last_closed > PATIENCE) start_check();
         if (!is_reported && (is_over || ++rounds % LOOK_EVERY == 0) && look_for_deadlock(is_over))
-            report_deadlock(is_over), is_reported = 1;
+            deadlock_report = start_reporter("deadlock", "0", 0, -1), is_reported = 1;
+        if (is_reported && !is_over) act_on_deadlock();
         if (!is_over) nanosleep(&moment, NULL);
     }
 }
@@ -240,8 +300,6 @@ static void make_ring(char *name, size_t size) {
     ring->magic = RING_MAGIC, ring->threads = 1, ring->collector = (uint32_t)getpid();
     snprintf(name, size, "/proc/%d/fd/%d", getpid(), file);
 }
-
-static void forward(int number) { signal_to_forward = number; }
 
 /* LD_PRELOAD is a list with spaces and colons. A library in a folder with these is named as an open file of the collector. */
 static void preload(const char *library) {
@@ -306,29 +364,39 @@ static void write_summary(int is_whole) {
     if (!file) return;
     fprintf(file,
             "events %u\nwindows %u\nattached %u\nowner %u\nthreads %u\n"
-            "lock_events %lu\nunseen %lu\noverflowing %lu\nread_locks %lu\noff %u\ntruncated %d\n",
+            "lock_events %lu\nunseen %lu\noverflowing %lu\nread_locks %lu\noff %u\ntruncated %d\nclash %d\nprocesses %u\ncleared %u\nfutexes %lu\n",
             events, window, ring->attached, ring->owner, ring->threads - (uint32_t)unstarted, lock_events, unseen, overflowing, read_locks,
-            ring->off || is_spoilt, !is_whole);
-    fprintf(file, "frames %d\npython %d\n", options.frames, options.is_python);
+            ring->off || is_spoilt, !is_whole, is_shared_server,
+            write_processes(), ring->cleared, (unsigned long)ring->futexes);
+    fprintf(file, "frames %d\npython %d\nfollower %d\nfollows %d\n", options.frames, options.is_python, is_follower,
+            options.follows_others);
     fclose(file);
 }
 
+/* The report may take a time from here on. A signal ends it earlier. */
 static int finish(void) {
     char path[PATHS], number[12];
+    struct timespec moment = {0, 4 * MICROSECONDS * 1000};
+    uint64_t end = now() + options.seconds * 1000, at;
+    signal_to_forward = 0;
+    if (!follows) signal(SIGINT, forward);
     int is_whole = end_run();
     if (options.server && window == 1 && is_whole && !ask_server(events, "1.answer")) unlink(in_work(path, "1.answer"));
     close_sites();
+    write_libraries();
     write_summary(is_whole);
     if (deadlock_report > 0) wait_for(deadlock_report);
-    for (int slot = 0; slot < MOST_CHECKS; slot++) if (checks[slot]) wait_for(checks[slot]);
+    while (command > 0) act_on_deadlock(), reap(), nanosleep(&moment, NULL);
+    for (int slot = 0; slot < MOST_CHECKS; slot++) if (checks[slot]) wait_until(checks[slot], end);
     snprintf(number, sizeof number, "%u", window);
-    return wait_for(start_reporter("finish", number, -1));
+    at = now();
+    return wait_until(start_reporter("finish", number, at < end ? end - at : 0, -1), end);
 }
 
 /* A deadlock first, then the program's own fault. A run that was not analysed, or only in part, does not pass. */
 static int status_of_run(int verdict) {
     int status = WIFSIGNALED(program_status) ? 128 + WTERMSIG(program_status) : WEXITSTATUS(program_status);
-    if (options.error_status < 0 || !verdict) return status;
+    if (options.error_status < 0 || !verdict || (verdict == IN_PART && options.allows_partial)) return status;
     if (verdict == DEADLOCKED) return options.error_status;
     if (!status) say("the exit status is %d: the run was not analysed, or only in part, as said above", NOT_ANALYSED);
     return status ? status : NOT_ANALYSED;
@@ -352,18 +420,27 @@ static int start(char **words) {
     return 0;
 }
 
+/* How many of the words are options: the last ones are the program and its arguments. */
+static size_t options_in(int count, char **program_words) {
+    while (*program_words++) count--;
+    return (size_t)count;
+}
+
 int main(int count, char **words) {
     char name[60];
     struct sigaction action = {.sa_handler = forward};
     if (count < 4) refuse("goodlock starts this program");
     const char *library = words[1];
     reporter = words[3];
-    if (!strcmp(library, "=")) follows = getppid();
-    words = read_all_options(count - 3, words + 3, words[2], follows || !strcmp(library, "-"));
+    if (library[0] == '=') is_follower = library[1] != 0, follows = is_follower ? atoi(library + 1) : getppid();
+    char **all = words + 4;
+    words = read_all_options(count - 3, words + 3, words[2], (follows && !is_follower) || !strcmp(library, "-"));
     if (!words[0] && !follows) refuse("there is no program to run");
     signal(SIGINT, SIG_IGN), signal(SIGQUIT, SIG_IGN), signal(SIGPIPE, SIG_IGN), signal(SIGXFSZ, SIG_IGN);
     make_ring(name, sizeof name);
     prctl(PR_SET_CHILD_SUBREAPER, !follows);
+    if (options.follows_others && !follows) follow_with(options.program, reporter, all, options_in(count - 4, words));
+    if (is_follower) options.server = NULL;
     if (follows) ring->program = (uint32_t)follows;
     else prepare_program(words, library, name);
     prepare_run();
@@ -375,9 +452,10 @@ int main(int count, char **words) {
         fclose(stdout);
     }
     collect();
-    int verdict = finish();
+    int verdict = verdict_of_all(finish());
     leave_name();
     ring->finished = 2;
+    if (is_follower) return verdict;
     if (follows && options.error_status < 0 && verdict > DEADLOCKED) return NOT_ANALYSED;
     return status_of_run(verdict);
 }

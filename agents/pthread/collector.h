@@ -1,5 +1,6 @@
 /* Shared by the files of the collector: collector.c runs the program and reads its records, encode.c turns records into the events
- * of traces, deadlock.c finds threads that wait for each other, sites.c names callers, server.c streams to a server. */
+ * of traces, deadlock.c finds threads that wait for each other, tables.c keeps threads and locks, sites.c names callers, server.c streams
+ * to a server. */
 #define _GNU_SOURCE
 #include "limits.h"
 #include "ring.h"
@@ -13,20 +14,27 @@
 enum { PATHS = 4096, MOST_NAME = 3900, GATE_OPTIONS = 4, FAIL_ON = 2 };
 /* Exit statuses: a wrong command line; the program could not be started; the gate passes only a run that was analysed. */
 enum { WRONG = 2, NOT_STARTED = 126, NOT_FOUND = 127, NOT_ANALYSED = 125 };
-/* A number above this is no thread: the shared memory belongs to the program, which may write anything to it. */
-enum { MOST_NUMBERS = 1 << 20 };
+enum { MOST_BOUND = 8 };
+enum { DEADLOCKED = 1, IN_PART = 3 }; /* exit statuses of the reporter, besides WRONG */
+/* A number from this on is no thread: the shared memory belongs to the program, which may write anything to it. The markers of threads
+ * have numbers that far apart. */
+enum { MOST_NUMBERS = TIMED_MARKERS - TRY_MARKERS };
 
 /* What the command line says. */
 struct options {
     const char *server, *program;   /* program: goodlockd */
     const char *gate[GATE_OPTIONS]; /* of the options --suppress, --baseline, --fail-on, --root: for the reporter */
     char out[PATHS];                /* absolute */
-    int bound, error_status, frames, is_python, has_no_config, kills; /* kills: the program, if it deadlocks */
-    uint32_t window;
+    const char *on_deadlock;        /* report, kill, or a command */
+    int bound, error_status, frames, is_python, has_no_config, allows_partial, follows_others;
+    uint32_t window, seconds;       /* bound: 0 if each is searched up to the largest that can have a cycle */
 };
 extern struct options options;
 extern struct ring *ring;
+extern int is_follower; /* of a further process, for the collector that started it */
 
+/* Whether a signal has arrived that ends the search. */
+int is_asked_to_end(void);
 /* Prints one line. */
 void say(const char *format, ...) __attribute__((format(printf, 1, 2)));
 /* Milliseconds. */
@@ -36,13 +44,14 @@ void *allocate(size_t bytes);
 void *grow(void *array, size_t count, size_t *room, size_t item);
 /* Says that nothing more is recorded, and why; the program runs on. */
 void stop_recording(const char *why);
-/* Runs a task of the reporter. `output` is its standard output, or -1: that of the collector. Returns -1 if there is no process. */
-pid_t start_reporter(const char *task, const char *number, int output);
+/* Runs a task of the reporter, which may take this many milliseconds. `output` is its standard output, or -1: that of the collector. Returns
+ * -1 if there is no process. */
+pid_t start_reporter(const char *task, const char *number, uint64_t milliseconds, int output);
 /* Returns the exit status of a process; WRONG if it has none. */
 int wait_for(pid_t child);
 
-/* A window's trace is complete: its cycles are searched while the program runs. */
-void window_closed(uint32_t window);
+/* A window's trace is complete: its cycles are searched while the program runs. `length`: its events. */
+void window_closed(uint32_t window, uint32_t length);
 
 /* Copies from the shared memory. What is checked afterwards is the copy: the compiler cannot read the memory again. */
 static inline void copy_shared(void *to, const void *from, size_t size) {
@@ -68,6 +77,12 @@ void leave_name(void);
 void keep_name_locked(void);
 /* The path OUT.tmp/NAME. */
 const char *in_work(char *path, const char *name);
+/* Removes the report of an earlier run and all its further files, which say that they are of this name. */
+void remove_earlier(void);
+/* The beginning of such a file. */
+const char *mark_of_name(void);
+/* The name of a window's file: OUT.trace, OUT.2.trace and others. */
+void window_name(char *path, uint32_t window, const char *kind);
 /* Open a file for writing: OUT.tmp/NAME, or a new one at this path. Return NULL if that is not possible. */
 FILE *create_in_work(const char *name);
 FILE *create_anew(const char *path);
@@ -75,29 +90,37 @@ FILE *create_anew(const char *path);
 /* ---- encode.c ---- */
 
 enum how { BLOCKS, TRIES, TIMES_OUT };
+/* An entry of a hash table is the first member of what the table keeps, or is found from it. */
+struct entry { uint64_t key; struct entry *next; };
+struct table { struct entry **slots; size_t size, count; };
 struct lock {
+    struct entry entry;                                         /* by address */
+    struct lock *in_page, **before, *on_stack, **on_stack_before; /* the next ones in its page, and on its thread's stack */
     uint64_t address;
     uint32_t number, holder, depth, helper, site, variables[3]; /* number 0: the next acquire gets a new one; helper: see encode.c */
-    uint8_t how, was_read;
-    struct lock *next;
+    uint8_t how, was_read, is_tried;
+    struct reader { uint32_t thread, site; } *readers;          /* that hold it, for deadlocks that happen */
+    size_t readers_count, readers_room;
 };
 struct thread {
+    struct entry entry, by_handle;                              /* by number */
+    struct thread *older, *newer;
     uint64_t handle, stack_low, stack_high;
-    uint32_t begun, joining, depth;                             /* begun: the site of its fork; depth: locks that the trace shows */
+    uint32_t number, begun, joining, depth;                     /* begun: the site of its fork; depth: locks that the trace shows */
     uint32_t in_window;                                         /* the window in which it was forked last */
-    uint8_t exists, has_ended, is_joined;
-    struct lock **held, **on_stack;
+    uint32_t tries, tries_in_window;                            /* locks that it holds by an acquire which does not wait; the most of the window */
+    uint32_t looked;                                            /* the look for a deadlock that has passed it last */
+    uint8_t has_ended, is_forgotten;                            /* is_forgotten: nobody joins it */
+    struct lock **held, *on_stack;
     uint32_t *helpers;
-    size_t held_count, held_room, on_stack_count, on_stack_room, helpers_count, helpers_room;
+    size_t held_count, held_room, helpers_count, helpers_room;
 };
-extern struct thread *threads;
-extern size_t threads_count;
 extern uint32_t events, window;
 extern unsigned long unseen, unstarted, overflowing, read_locks, lock_events;
 
 /* Takes a copy of a record. Returns 0 if it is not one that the recorder writes. */
 int encode(const struct record *record);
-/* Opens the first window. */
+/* Opens the first window, and removes the files of an earlier run. */
 void begin_run(void);
 /* Closes the last window. Returns 0 if a trace could not be written. */
 int end_run(void);
@@ -105,11 +128,61 @@ int end_run(void);
 void flush_trace(void);
 /* Closes the window and opens the next one. */
 void next_window(void);
-struct lock *known_lock(uint64_t address);
-uint32_t number_of_handle(uint64_t handle);
 uint32_t name_in_trace(uint32_t thread);
-/* The name of a window's file: OUT.trace, OUT.2.trace and others. */
-void window_name(char *path, uint32_t window, const char *kind);
+/* The number of a lock in the traces. One that nobody has acquired gets one. */
+uint32_t number_of(struct lock *lock);
+
+/* ---- processes.c ---- */
+
+/* Whether a process is there, and no zombie; whether it descends from the collector. */
+int is_alive(pid_t process);
+int is_descendant(pid_t process);
+/* In collector.c: whether a child of the collector is one of its own tools. */
+int is_own_child(pid_t child);
+/* Further processes with threads are followed, with these options. */
+void follow_with(const char *goodlockd, const char *reporter, char **words, size_t count);
+/* Counts further processes with threads, and answers those that ask to be followed. `program`: the process that is started first. */
+void look_for_processes(pid_t program);
+/* Returns 0 if the child is no follower. */
+int follower_has_ended(pid_t child, int status);
+int has_followers(void);
+void signal_followed(int number);
+/* The verdict of this collector and of its followers. */
+int verdict_of_all(int verdict);
+/* Writes OUT.tmp/processes: a line `NUMBER TRACED NAME` for each. Returns how many were not traced. */
+uint32_t write_processes(void);
+
+/* ---- tables.c ---- */
+
+struct entry *find_entry(const struct table *table, uint64_t key);
+void add_entry(struct table *table, struct entry *entry, uint64_t key);
+void remove_entry(struct table *table, struct entry *entry);
+/* Removes and frees all entries. */
+void clear_table(struct table *table);
+
+extern struct thread *oldest_thread;
+/* Return NULL if there is none; `find` makes one. */
+struct thread *known_thread(uint32_t number);
+struct thread *find_thread(uint32_t number);
+/* Whether a record may make new ones. */
+int has_room_for_threads(void);
+/* The newest thread with this handle, and the one with this address on its stack. */
+struct thread *thread_of_handle(uint64_t handle);
+struct thread *thread_of_stack(uint64_t address);
+/* 0: none. */
+void set_handle(struct thread *thread, uint64_t handle);
+void set_stack(struct thread *thread, uint64_t low, uint64_t high);
+/* It holds no lock, and none is on its stack. */
+void remove_thread(struct thread *thread);
+
+struct lock *known_lock(uint64_t address);
+struct lock *find_lock(uint64_t address);
+/* Nobody holds it. */
+void remove_lock(struct lock *lock);
+void leave_stack_of(struct lock *lock);
+/* `act` may remove the lock that it gets. */
+void each_lock_in(uint64_t from, uint64_t size, void (*act)(struct lock *));
+void forget_all(void);
 
 /* ---- deadlock.c ---- */
 
@@ -121,9 +194,15 @@ int look_for_deadlock(int is_over);
 
 uint32_t site_of(const uint64_t *callers, uint32_t count);
 void close_sites(void);
+/* Reads which files are mapped, from time to time; writes the names of the libraries that were seen to OUT.tmp/libraries. */
+void look_at_maps(void);
+void write_libraries(void);
+/* Callers in this memory are others from now on. */
+void forget_sites(uint64_t from, uint64_t size);
 
 /* ---- server.c ---- */
 
+extern int is_shared_server; /* with another agent */
 int connect_to_server(const char *address);
 void stream(uint8_t kind, uint32_t thread, uint32_t object);
 /* Sends what is collected, and reads the replies. */

@@ -1,12 +1,12 @@
-/* Finds threads that wait for each other. Each thread shows in the ring what it waits for; the records say who holds a lock. A
- * cycle of these that stays the same for a second is a deadlock. If the program has ended, a cycle of two or more is one: each member
- * had the lock that another one waited for. A single thread may have been at an inner acquire of its own lock. */
+/* Finds threads that wait for each other. Each thread shows in the ring what it waits for; the records say who holds a lock, which may be
+ * several readers. A cycle of these that stays the same for a second is a deadlock. If the program has ended, a cycle of two or more is one:
+ * each member had the lock that another one waited for. A single thread may have been at an inner acquire of its own lock. */
 #include "collector.h"
 
 enum { MOST_MEMBERS = 64, MILLISECONDS = 1000 };
 
 static struct wait waits[MOST_MEMBERS];
-static uint32_t members[MOST_MEMBERS], before[MOST_MEMBERS], before_count;
+static uint32_t members[MOST_MEMBERS], before[MOST_MEMBERS], before_count, look;
 static uint64_t waited_for[MOST_MEMBERS], since;
 static int was_reported;
 
@@ -19,30 +19,36 @@ static struct wait wait_of(uint32_t thread) {
     return wait;
 }
 
-/* The thread that must go on before this wait ends. */
-static uint32_t waited(struct wait wait) {
-    struct lock *lock;
-    if (!wait.address) return NOBODY;
-    if (wait.kind == WAITS_FOR_THREAD) return number_of_handle(wait.address);
-    return (lock = known_lock(wait.address)) ? lock->holder : NOBODY;
-}
-
-/* Follows the waits from a thread. Returns the number of members of the cycle that contains it, or 0. */
-static uint32_t follow(uint32_t first) {
-    uint32_t thread = first, count = 0;
-    while (count < MOST_MEMBERS) {
-        waits[count] = wait_of(thread), members[count] = thread;
-        thread = waited(waits[count++]);
-        if (thread == NOBODY || thread >= threads_count || threads[thread].has_ended) return 0;
-        if (thread == first) return count;
+/* Follows the waits from a thread, which is at this place of a cycle that begins with `first`. Returns how many members it has, or 0. A thread
+ * whose function has ended still runs the destructors of its variables. */
+static uint32_t follow(uint32_t thread, uint32_t first, uint32_t place) {
+    struct thread *it = known_thread(thread), *joined;
+    if (thread == first && place) return place;
+    if (!it || place == MOST_MEMBERS || (place && it->looked == look)) return 0;
+    it->looked = look, members[place] = thread;
+    struct wait wait = waits[place] = wait_of(thread);
+    if (!wait.address) return 0;
+    if (wait.kind == WAITS_FOR_THREAD) return (joined = thread_of_handle(wait.address)) ? follow(joined->number, first, place + 1) : 0;
+    const struct lock *lock = known_lock(wait.address);
+    if (!lock || lock->holder != NOBODY) return lock ? follow(lock->holder, first, place + 1) : 0;
+    for (size_t at = 0; at < lock->readers_count; at++) {
+        uint32_t count = follow(lock->readers[at].thread, first, place + 1);
+        if (count) return count;
     }
     return 0;
 }
 
-/* The least thread of a cycle, and whether the cycle is that of the last look. */
+static uint32_t cycle_of(uint32_t first) {
+    look++;
+    return follow(first, first, 0);
+}
+
+/* A cycle, from its least thread on, and whether it is that of the last look. */
 static uint32_t find(int *is_same) {
-    uint32_t count = 0;
-    for (uint32_t at = 0; at < threads_count && !count; at++) if (threads[at].exists && !threads[at].is_joined) count = follow(at);
+    uint32_t count = 0, least = NOBODY;
+    for (struct thread *it = oldest_thread; it && !count; it = it->newer) count = cycle_of(it->number);
+    for (uint32_t at = 0; at < count; at++) if (members[at] < least) least = members[at];
+    if (count) count = cycle_of(least);
     *is_same = count && count == before_count && !memcmp(members, before, count * sizeof *members);
     for (uint32_t at = 0; at < count; at++) *is_same = *is_same && waits[at].address == waited_for[at];
     before_count = count;
@@ -53,15 +59,19 @@ static uint32_t find(int *is_same) {
 static void write_members(FILE *file, uint32_t count) {
     fprintf(file, "deadlock of %u %s\n", count, count == 1 ? "thread, which waits for itself" : "threads, which wait for each other");
     for (uint32_t at = 0; at < count; at++) {
-        const struct thread *thread = &threads[members[at]];
+        const struct thread *thread = known_thread(members[at]), *other = thread_of_handle(waits[at].address);
         uint32_t site = site_of(waits[at].callers, (uint32_t)waits[at].frames);
         struct lock *lock = waits[at].kind == WAITS_FOR_LOCK ? known_lock(waits[at].address) : NULL;
         fprintf(file, "thread %u waits for ", name_in_trace(members[at]));
-        if (lock) fprintf(file, "lock %u at @%u@\n", lock->number, site);
-        else fprintf(file, "thread %u at @%u@\n", name_in_trace(number_of_handle(waits[at].address)), site);
-        if (thread->begun) fprintf(file, "  thread %u from @%u@\n", name_in_trace(members[at]), thread->begun);
-        for (size_t one = 0; one < thread->held_count; one++)
+        if (lock) fprintf(file, "lock %u at @%u@\n", number_of(lock), site);
+        else fprintf(file, "thread %u at @%u@\n", name_in_trace(other ? other->number : NOBODY), site);
+        if (thread && thread->begun) fprintf(file, "  thread %u from @%u@\n", name_in_trace(members[at]), thread->begun);
+        for (size_t one = 0; thread && one < thread->held_count; one++)
             fprintf(file, "  lock %u since @%u@\n", thread->held[one]->number, thread->held[one]->site);
+        struct wait *wanted = &waits[(at ? at : count) - 1];
+        lock = wanted->kind == WAITS_FOR_LOCK ? known_lock(wanted->address) : NULL;
+        for (size_t one = 0; lock && lock->holder == NOBODY && one < lock->readers_count; one++)
+            if (lock->readers[one].thread == members[at]) fprintf(file, "  lock %u since @%u@\n", number_of(lock), lock->readers[one].site);
     }
 }
 

@@ -5,18 +5,14 @@
  * thread acquires. A helper is an artificial thread that holds a lock for a thread that holds too many. */
 #include "collector.h"
 
-enum { TABLE = 1 << 16, MOST_FORKS = MOST_THREADS - 1, SLACK = 400, BUFFER = 1 << 16 };
+enum { MOST_FORKS = MOST_THREADS - 1, SLACK = 400, GROWTH = 7, BUFFER = 1 << 16, LEAST_SEEN = 1 << 10, MOST_READERS = 1 << 10 };
 enum { WRITTEN, READ, HANDED }; /* of a lock's variables: writers' ends; readers' ends; orders and releases by other threads */
 
-struct thread *threads;
-size_t threads_count;
 uint32_t events, window;
 unsigned long unseen, unstarted, overflowing, read_locks, lock_events;
-static size_t threads_room;
-static struct lock **table;
-static size_t table_size, locks_count;
 static uint32_t numbered, variables, forks, helpers;
-static uint64_t *seen; /* pairs of a thread and an initialisation that it has received in this window, hashed */
+static uint32_t tried, tried_forks; /* sections in this window that begin by an acquire which does not wait; what they may need: see search.py */
+static uint64_t *seen; /* pairs of a thread and an initialisation that it has received in this window */
 static size_t seen_size, seen_count;
 static char buffer[BUFFER];
 static size_t buffered;
@@ -25,11 +21,6 @@ static FILE *trace;
 static int has_failed;
 
 /* ---- the trace file ---- */
-
-void window_name(char *path, uint32_t of, const char *kind) {
-    if (of == 1) snprintf(path, PATHS, "%.4000s.%s", options.out, kind);
-    else snprintf(path, PATHS, "%.4000s.%u.%s", options.out, of, kind);
-}
 
 static void write_out(void) {
     if (trace && fwrite(buffer, 1, buffered, trace) != buffered && !has_failed) {
@@ -66,46 +57,7 @@ static void event(uint32_t thread, char letter, uint32_t object, uint32_t site) 
     if (window == 1 && options.server) stream((uint8_t)(strchr(kinds, letter) - kinds + 1), thread, object);
 }
 
-/* ---- tables ---- */
-
-static size_t slot_of(uint64_t address) { return (size_t)((address >> 2) * 0x9E3779B97F4A7C15u >> 20) % table_size; }
-
-struct lock *known_lock(uint64_t address) {
-    struct lock *lock = table[slot_of(address)];
-    while (lock && lock->address != address) lock = lock->next;
-    return lock;
-}
-
-static void double_table(void) {
-    struct lock **before = table;
-    size_t size = table_size;
-    table_size *= 2;
-    table = allocate(table_size * sizeof *table);
-    for (size_t at = 0; at < size; at++)
-        for (struct lock *lock = before[at], *next; lock; lock = next) {
-            size_t slot = slot_of(lock->address);
-            next = lock->next, lock->next = table[slot], table[slot] = lock;
-        }
-    free(before);
-}
-
-static struct lock *find_lock(uint64_t address) {
-    struct lock *lock = known_lock(address);
-    if (lock) return lock;
-    if (locks_count++ > table_size) double_table();
-    size_t slot = slot_of(address);
-    lock = allocate(sizeof *lock);
-    *lock = (struct lock){.address = address, .holder = NOBODY, .next = table[slot]};
-    return table[slot] = lock;
-}
-
-static struct thread *find_thread(uint32_t number) {
-    while (number >= threads_count) {
-        threads = grow(threads, threads_count, &threads_room, sizeof *threads);
-        memset(&threads[threads_count++], 0, sizeof *threads);
-    }
-    return &threads[number];
-}
+/* ---- names ---- */
 
 uint32_t name_in_trace(uint32_t thread) { return thread == 0 && window > 1 ? FIRST_THREAD : thread; }
 
@@ -113,17 +65,10 @@ uint32_t name_in_trace(uint32_t thread) { return thread == 0 && window > 1 ? FIR
 static uint32_t name(uint32_t thread) {
     struct thread *it = find_thread(thread);
     if (it->in_window != window) {
-        it->in_window = window, it->helpers_count = 0, it->exists = 1;
+        it->in_window = window, it->helpers_count = 0, it->tries_in_window = 0;
         if (name_in_trace(thread)) event(0, 'f', name_in_trace(thread), it->begun);
     }
     return name_in_trace(thread);
-}
-
-/* The newest thread with this handle that no one has joined. */
-uint32_t number_of_handle(uint64_t handle) {
-    for (size_t at = threads_count; at-- > 0;)
-        if (threads[at].handle == handle && threads[at].exists && !threads[at].is_joined) return (uint32_t)at;
-    return NOBODY;
 }
 
 /* ---- orders ---- */
@@ -148,20 +93,25 @@ static void follow(uint32_t first, uint32_t second, uint32_t by, uint32_t site) 
 }
 
 static uint64_t *seen_slot(uint64_t key) {
-    size_t at = (size_t)(key >> 8) % seen_size;
+    size_t at = (size_t)(key * 0x9E3779B97F4A7C15u >> 20) % seen_size;
     while (seen[at] && seen[at] != key) at = (at + 1) % seen_size;
     return &seen[at];
 }
 
-/* Returns whether the thread receives this initialisation for the first time in this window. */
-static int is_first(uint32_t thread, uint64_t address) {
-    uint64_t key = (address * 0x9E3779B97F4A7C15u ^ (thread + 1) * 0xC2B2AE3D27D4EB4Fu) | 1, *slot = seen_slot(key);
+static void begin_seen(size_t size) {
+    seen = allocate(size * sizeof *seen);
+    seen_size = size;
+}
+
+/* Returns whether the thread receives this variable, which is not 0, for the first time in this window. */
+static int is_first(uint32_t thread, uint32_t from) {
+    uint64_t key = (uint64_t)from << 32 | thread, *slot = seen_slot(key);
     if (*slot) return 0;
     *slot = key;
     if (++seen_count * 2 > seen_size) {
         uint64_t *before = seen;
         size_t size = seen_size;
-        seen_size *= 2, seen = allocate(seen_size * sizeof *seen);
+        begin_seen(2 * size);
         for (size_t at = 0; at < size; at++) if (before[at]) *seen_slot(before[at]) = before[at];
         free(before);
     }
@@ -187,12 +137,44 @@ static uint32_t find_helper(uint32_t thread, uint32_t site) {
     return HELPERS + helpers;
 }
 
+/* The lock graph of this window: which thread has acquired a lock while it held another one. */
+struct edge { struct entry entry; uint32_t held, lock, thread; };
+static struct table edges;
+
+static void add_edge(uint32_t held, uint32_t lock, uint32_t thread) {
+    uint64_t key = ((uint64_t)held << 32 | lock) * 0x9E3779B97F4A7C15u ^ thread;
+    struct edge *edge = (struct edge *)find_entry(&edges, key);
+    while (edge && (edge->held != held || edge->lock != lock || edge->thread != thread)) edge = (struct edge *)edge->entry.next;
+    if (edge) return;
+    edge = allocate(sizeof *edge);
+    edge->held = held, edge->lock = lock, edge->thread = thread;
+    add_entry(&edges, &edge->entry, key);
+}
+
+static void count_try(struct thread *it, struct lock *lock) {
+    lock->is_tried = 1, tried++;
+    if (++it->tries > it->tries_in_window) it->tries_in_window++, tried_forks++;
+}
+
+/* Writes to OUT.tmp/N.window how many events and tries a window has, and its lock graph. */
+static void write_window(void) {
+    char name[24];
+    snprintf(name, sizeof name, "%u.window", window);
+    FILE *file = create_in_work(name);
+    if (file) fprintf(file, "%u %u\n", events, tried);
+    for (size_t slot = 0; slot < edges.size && file; slot++)
+        for (struct entry *entry = edges.slots[slot]; entry; entry = entry->next)
+            fprintf(file, "%u %u %u\n", ((struct edge *)entry)->held, ((struct edge *)entry)->lock, ((struct edge *)entry)->thread);
+    if (file) fputs("end\n", file), fclose(file);
+    clear_table(&edges);
+}
+
 /* The thread has acquired a lock that it did not hold. */
 static void begin_section(uint32_t thread, struct lock *lock, uint32_t site) {
     struct thread *it = find_thread(thread);
     uint32_t marker = (lock->how == TRIES ? TRY_MARKERS : TIMED_MARKERS) + thread, in_trace = name(thread);
     int is_marked = lock->how != BLOCKS && it->held_count > 0;
-    lock->helper = 0;
+    lock->helper = lock->is_tried = 0;
     if (it->depth + (is_marked ? 1 : 0) >= MOST_HELD) {
         lock->helper = find_helper(thread, site);
         follow(in_trace, lock->helper, variable(lock, HANDED), site);
@@ -202,8 +184,10 @@ static void begin_section(uint32_t thread, struct lock *lock, uint32_t site) {
         if (is_marked) event(in_trace, 'a', marker, site);
         event(in_trace, 'a', lock->number, site);
         if (is_marked) event(in_trace, 'r', marker, site);
+        if (is_marked && lock->how == TRIES) count_try(it, lock);
         it->depth++;
     }
+    for (size_t at = 0; at < it->held_count && lock->how != TRIES; at++) add_edge(it->held[at]->number, lock->number, thread);
     it->held = grow(it->held, it->held_count, &it->held_room, sizeof *it->held);
     it->held[it->held_count++] = lock;
 }
@@ -211,6 +195,7 @@ static void begin_section(uint32_t thread, struct lock *lock, uint32_t site) {
 static void end_section(uint32_t thread, struct lock *lock, uint32_t site) {
     struct thread *it = find_thread(thread);
     remove_held(it, lock);
+    it->tries -= lock->is_tried, lock->is_tried = 0;
     if (lock->helper) {
         follow(name(thread), lock->helper, variable(lock, HANDED), site);
         event(lock->helper, 'r', lock->number, site);
@@ -223,15 +208,8 @@ static void end_section(uint32_t thread, struct lock *lock, uint32_t site) {
     }
 }
 
-/* One release, by `releaser`. If another thread has acquired the lock, its release comes after what the releaser has done. A thread
- * that was joined has no more events: then the trace keeps the lock held, and the next acquire gets a new number. */
+/* One release, by `releaser`. If another thread has acquired the lock, its release comes after what the releaser has done. */
 static void release(struct lock *lock, uint32_t releaser, uint32_t site) {
-    struct thread *holder = find_thread(lock->holder);
-    if (holder->is_joined) {
-        remove_held(holder, lock);
-        lock->holder = NOBODY, lock->number = lock->depth = lock->helper = 0;
-        return;
-    }
     if (releaser != NOBODY && releaser != lock->holder) follow(name(releaser), name(lock->holder), variable(lock, HANDED), site);
     if (--lock->depth == 0) {
         end_section(lock->holder, lock, site);
@@ -246,36 +224,33 @@ static void release_fully(struct lock *lock, uint32_t site) {
 /* The object at this address is another one from now on. */
 static void renew(struct lock *lock) {
     release_fully(lock, 0);
-    lock->number = lock->variables[0] = lock->variables[1] = lock->variables[2] = lock->was_read = 0;
+    remove_lock(lock);
 }
 
 /* Notes whose stack the lock is on. */
-static void find_stack(uint32_t thread, struct lock *lock) {
-    struct thread *it = find_thread(thread);
-    for (size_t at = 0; at < threads_count && (lock->address < it->stack_low || lock->address >= it->stack_high); at++) it = &threads[at];
-    if (lock->address < it->stack_low || lock->address >= it->stack_high || it->has_ended) return;
-    it->on_stack = grow(it->on_stack, it->on_stack_count, &it->on_stack_room, sizeof *it->on_stack);
-    it->on_stack[it->on_stack_count++] = lock;
+static void find_stack(struct thread *it, struct lock *lock) {
+    if (lock->address < it->stack_low || lock->address >= it->stack_high) it = thread_of_stack(lock->address);
+    if (!it || it->has_ended) return;
+    leave_stack_of(lock);
+    if ((lock->on_stack = it->on_stack)) lock->on_stack->on_stack_before = &lock->on_stack;
+    lock->on_stack_before = &it->on_stack, it->on_stack = lock;
 }
 
 /* Locks below the stack pointer were in functions that have returned. */
 static void leave_stack(struct thread *thread, uint64_t pointer) {
-    for (size_t at = 0; at < thread->on_stack_count;)
-        if (thread->on_stack[at]->address < pointer) {
-            struct lock *lock = thread->on_stack[at];
-            thread->on_stack[at] = thread->on_stack[--thread->on_stack_count];
-            renew(lock);
-        } else at++;
+    for (struct lock *lock = thread->on_stack, *next; lock; lock = next) {
+        next = lock->on_stack;
+        if (lock->address < pointer) renew(lock);
+    }
 }
+
+uint32_t number_of(struct lock *lock) { return lock->number ? lock->number : (lock->number = ++numbered); }
 
 static struct lock *acquire(uint32_t thread, uint64_t address, enum how how, uint32_t site) {
     struct lock *lock = find_lock(address);
     name(thread); /* before a release that was not seen: the order of forks is that of first events */
     if (lock->holder != thread) release_fully(lock, site);
-    if (!lock->number) {
-        lock->number = ++numbered;
-        find_stack(thread, lock);
-    }
+    if (!lock->number) find_stack(find_thread(thread), lock), number_of(lock);
     lock_events++;
     if (lock->depth++ == 0) {
         lock->holder = thread, lock->how = (uint8_t)how, lock->site = site;
@@ -286,6 +261,7 @@ static struct lock *acquire(uint32_t thread, uint64_t address, enum how how, uin
 
 static void write_lock(uint32_t thread, uint64_t address, enum how how, uint32_t site) {
     struct lock *lock = acquire(thread, address, how, site);
+    lock->readers_count = 0;
     if (lock->variables[READ]) take(name(thread), lock->variables[READ], site);
 }
 
@@ -294,7 +270,18 @@ static void read_lock(uint32_t thread, uint64_t address, uint32_t site) {
     release_fully(lock, site);
     read_locks += !lock->was_read;
     lock->was_read = 1;
+    if (lock->readers_count < MOST_READERS) {
+        lock->readers = grow(lock->readers, lock->readers_count, &lock->readers_room, sizeof *lock->readers);
+        lock->readers[lock->readers_count++] = (struct reader){thread, site};
+    }
     if (lock->variables[WRITTEN]) take(name(thread), lock->variables[WRITTEN], site);
+}
+
+/* The last read section of the thread ends; or that of another one, if its own was not seen. */
+static void leave_readers(struct lock *lock, uint32_t thread) {
+    size_t at = lock->readers_count;
+    while (at > 0 && lock->readers[at - 1].thread != thread) at--;
+    if (lock->readers_count) lock->readers[at ? at - 1 : 0] = lock->readers[lock->readers_count - 1], lock->readers_count--;
 }
 
 static void unlock_either(uint32_t thread, uint64_t address, uint32_t site) {
@@ -302,17 +289,7 @@ static void unlock_either(uint32_t thread, uint64_t address, uint32_t site) {
     if (lock->holder != NOBODY) {
         event(name(thread), 'w', variable(lock, WRITTEN), site);
         release(lock, thread, site);
-    } else if (lock->was_read) give(name(thread), variable(lock, READ), site);
-}
-
-static void free_memory(uint64_t from, uint64_t size) {
-    struct lock *lock;
-    if (size / 4 < locks_count) {
-        for (uint64_t at = from & ~(uint64_t)3; at < from + size; at += 4) if ((lock = known_lock(at))) renew(lock);
-        return;
-    }
-    for (size_t slot = 0; slot < table_size; slot++)
-        for (lock = table[slot]; lock; lock = lock->next) if (lock->address >= from && lock->address < from + size) renew(lock);
+    } else if (lock->was_read) leave_readers(lock, thread), give(name(thread), variable(lock, READ), site);
 }
 
 /* ---- threads ---- */
@@ -320,26 +297,46 @@ static void free_memory(uint64_t from, uint64_t size) {
 static void fork_thread(uint32_t parent, uint32_t child, uint32_t site) {
     uint32_t in_trace = name(parent);
     struct thread *it = find_thread(child);
-    it->exists = 1, it->in_window = window, it->begun = site;
+    it->in_window = window, it->begun = site;
     event(in_trace, 'f', name_in_trace(child), site);
 }
 
+/* In the trace they stay held. The next acquire of one gets a new number. */
+static void leave_held(struct thread *it) {
+    for (size_t at = 0; at < it->held_count; at++) {
+        struct lock *lock = it->held[at];
+        lock->holder = NOBODY, lock->number = lock->depth = lock->helper = 0;
+    }
+    it->held_count = 0;
+}
+
+/* The thread has no more events, and nobody joins it. */
+static void forget_thread(struct thread *it) {
+    leave_held(it);
+    leave_stack(it, UINT64_MAX);
+    remove_thread(it);
+}
+
 static void join_thread(uint32_t thread, uint32_t child, uint32_t site) {
-    struct thread *it = find_thread(child);
-    if (!it->exists || it->is_joined || child == thread) return;
+    struct thread *it = known_thread(child);
+    if (!it || child == thread) return;
     if (it->in_window == window && name_in_trace(child)) event(name(thread), 'j', name_in_trace(child), site);
-    find_thread(child)->is_joined = 1;
+    forget_thread(it);
 }
 
-static void start_thread(uint32_t number, const struct record *record, uint64_t stack_high) {
-    struct thread *it = find_thread(number);
-    it->exists = 1, it->handle = record->address, it->stack_low = record->other, it->stack_high = stack_high;
+/* A thread with the same handle was never joined: nobody can do so any more. */
+static void take_handle(struct thread *it, uint64_t handle) {
+    struct thread *before = thread_of_handle(handle);
+    if (before == it) return;
+    if (before) forget_thread(before);
+    set_handle(it, handle);
 }
 
-static void end_thread(uint32_t number) {
-    struct thread *it = find_thread(number);
+static void end_thread(struct thread *it) {
     it->has_ended = 1;
     leave_stack(it, it->stack_high);
+    set_stack(it, 0, 0);
+    if (it->is_forgotten) forget_thread(it);
 }
 
 /* ---- windows ---- */
@@ -349,25 +346,22 @@ static void open_trace(void) {
     window_name(path, window, "trace");
     trace = create_anew(path);
     if (!trace && !has_failed) has_failed = 1, say("cannot write %s; the program runs on", path);
-    events = forks = buffered = last_site = 0;
-    memset(seen, 0, seen_size * sizeof *seen), seen_count = 0;
+    if (trace && (window > 1 || is_follower)) fprintf(trace, "%s\n", mark_of_name());
+    events = forks = buffered = last_site = tried = tried_forks = 0;
+    free(seen), begin_seen(LEAST_SEEN), seen_count = 0;
 }
 
 static int close_trace(void) {
     write_out();
+    write_window();
     if (trace && fclose(trace) && !has_failed) has_failed = 1, say("the trace cannot be written; the program runs on");
     trace = NULL;
     return !has_failed;
 }
 
 void begin_run(void) {
-    table_size = TABLE, table = allocate(TABLE * sizeof *table);
-    seen_size = TABLE, seen = allocate(TABLE * sizeof *seen);
-    window = 1;
-    find_thread(0)->exists = 1, threads[0].in_window = 1;
-    char path[PATHS];
-    window_name(path, 1, "report");
-    unlink(path); /* an earlier run's, which would not fit the new trace */
+    window = find_thread(0)->in_window = 1;
+    remove_earlier();
     open_trace();
 }
 
@@ -383,19 +377,16 @@ void flush_trace(void) {
 static void repeat_held(void) {
     uint32_t chain = ++variables, end = ++variables;
     int is_first_one = 1;
-    for (uint32_t at = 0; at < threads_count; at++) {
-        struct thread *it = &threads[at];
+    for (struct thread *it = oldest_thread; it; it = it->newer) {
         size_t count = it->held_count;
-        it->depth = 0, it->held_count = 0;
-        if (!count || it->is_joined || !it->exists || forks + MOST_HELD > MOST_FORKS) {
-            for (size_t one = 0; one < count; one++) it->held[one]->holder = NOBODY, it->held[one]->number = it->held[one]->depth = 0;
-            continue;
-        }
-        uint32_t in_trace = name(at);
+        if (forks + MOST_HELD > MOST_FORKS) leave_held(it);
+        it->depth = it->tries = 0, it->held_count = 0;
+        if (!count || forks + MOST_HELD > MOST_FORKS) continue;
+        uint32_t in_trace = name(it->number);
         if (!is_first_one) take(in_trace, chain, it->begun);
         for (size_t one = 0; one < count; one++) {
-            struct lock *lock = threads[at].held[one]; /* begin_section writes it to the same place again */
-            begin_section(at, lock, lock->site);
+            struct lock *lock = it->held[one]; /* begin_section writes it to the same place again */
+            begin_section(it->number, lock, lock->site);
             for (uint32_t depth = 1; depth < lock->depth && depth < MOST_DEPTH && !lock->helper; depth++)
                 event(in_trace, 'a', lock->number, lock->site);
         }
@@ -405,59 +396,48 @@ static void repeat_held(void) {
     if (is_first_one) return;
     take(0, chain, 0);
     event(0, 'w', end, 0);
-    for (uint32_t at = 0; at < threads_count; at++)
-        if (threads[at].in_window == window) take(name(at), end, 0);
-}
-
-static void forget_process(void) {
-    for (size_t slot = 0; slot < table_size; slot++)
-        for (struct lock *lock = table[slot]; lock; lock = lock->next)
-            lock->holder = NOBODY, lock->depth = lock->number = lock->helper = lock->was_read = 0, memset(lock->variables, 0, sizeof lock->variables);
-    for (size_t at = 0; at < threads_count; at++) {
-        free(threads[at].held), free(threads[at].on_stack), free(threads[at].helpers);
-        threads[at] = (struct thread){.is_joined = at > 0, .exists = at == 0};
-    }
+    for (struct thread *it = oldest_thread; it; it = it->newer) if (it->in_window == window) take(name(it->number), end, 0);
 }
 
 void next_window(void) {
+    uint32_t length = events;
     close_trace();
-    window_closed(window++);
+    window_closed(window++, length);
     open_trace();
     repeat_held();
 }
 
 /* Whether the recorder may have written this. */
 static int is_valid(const struct record *record) {
-    int has_number = record->kind == R_FORK || record->kind == R_NAMED || record->kind == R_UNSTARTED;
-    return record->kind >= R_FORK && record->kind <= R_UNSTARTED && record->frames <= MOST_FRAMES && record->thread < MOST_NUMBERS &&
-           (!has_number || record->other < MOST_NUMBERS);
+    int has_number = record->kind == R_FORK || record->kind == R_NAMED || record->kind == R_UNSTARTED ||
+                     record->kind == R_FORGOTTEN;
+    return record->kind >= R_FORK && record->kind <= R_UNLOADED && record->frames <= MOST_FRAMES && record->thread < MOST_NUMBERS &&
+           (!has_number || record->other < MOST_NUMBERS) && has_room_for_threads();
 }
 
 int encode(const struct record *record) {
     if (!is_valid(record)) return 0;
     uint64_t callers[MOST_FRAMES] = {0};
     for (int at = 0; at < record->frames; at++) memcpy(&callers[at], record->callers[at], 6);
-    uint32_t thread = record->thread, site = site_of(callers, record->kind == R_START ? 0 : record->frames), child;
-    struct thread *it = find_thread(thread);
+    uint32_t thread = record->thread, site = site_of(callers, record->kind == R_START ? 0 : record->frames);
+    struct thread *it = find_thread(thread), *other;
     struct lock *lock;
-    if (events >= options.window || events + SLACK >= MOST_EVENTS || forks + 8 >= MOST_FORKS) next_window();
-    if (record->kind >= R_LOCK && record->kind < R_GIVE && it->on_stack_count && record->other >= it->stack_low &&
+    if (events >= options.window || events + GROWTH * tried + tried_forks + SLACK >= MOST_EVENTS || forks + tried_forks + 8 >= MOST_FORKS)
+        next_window();
+    if (record->kind >= R_LOCK && record->kind < R_GIVE && it->on_stack && record->other >= it->stack_low &&
         record->other < it->stack_high)
         leave_stack(it, record->other);
     switch ((enum kind)record->kind) {
     case R_FORK: fork_thread(thread, (uint32_t)record->other, site); break;
     case R_NAMED:
-        it = find_thread((uint32_t)record->other);
-        if (!it->handle) it->handle = record->address;
+        if ((other = known_thread((uint32_t)record->other)) && !other->handle) take_handle(other, record->address);
         break;
-    case R_START: start_thread(thread, record, callers[0]); break;
-    case R_UNSEEN: it->handle = record->address, it->exists = 1, unseen++; break;
-    case R_END: end_thread(thread); break;
-    case R_JOINS: it->joining = number_of_handle(record->address); break;
-    case R_JOINED:
-        if ((child = it->joining) != NOBODY) join_thread(thread, child, site);
-        break;
-    case R_EXEC: forget_process(), next_window(); break;
+    case R_START: take_handle(it, record->address), set_stack(it, record->other, callers[0]); break;
+    case R_UNSEEN: take_handle(it, record->address), unseen++; break;
+    case R_END: end_thread(it); break;
+    case R_JOINS: it->joining = (other = thread_of_handle(record->address)) ? other->number : NOBODY; break;
+    case R_JOINED: join_thread(thread, it->joining, site); break;
+    case R_EXEC: forget_all(), find_thread(0), next_window(); break;
     case R_LOCK: acquire(thread, record->address, BLOCKS, site); break;
     case R_TRIED: acquire(thread, record->address, TRIES, site); break;
     case R_TIMED: acquire(thread, record->address, TIMES_OUT, site); break;
@@ -477,14 +457,23 @@ int encode(const struct record *record) {
         if ((lock = known_lock(record->address)) && lock->variables[HANDED]) take(name(thread), lock->variables[HANDED], site);
         break;
     case R_ONCE:
-        if ((lock = known_lock(record->address)) && lock->variables[HANDED] && is_first(thread, record->address))
+        if ((lock = known_lock(record->address)) && lock->variables[HANDED] && is_first(thread, lock->variables[HANDED]))
             take(name(thread), lock->variables[HANDED], site);
         break;
     case R_NEW:
         if ((lock = known_lock(record->address))) renew(lock);
         break;
-    case R_FREE: free_memory(record->address, record->other); break;
-    case R_UNSTARTED: find_thread((uint32_t)record->other)->is_joined = 1, unstarted++; break;
+    case R_UNLOADED: forget_sites(record->address, record->other); /* fall through */
+    case R_FREE: each_lock_in(record->address, record->other, renew); break;
+    case R_UNSTARTED:
+        unstarted++;
+        if ((other = known_thread((uint32_t)record->other))) forget_thread(other);
+        break;
+    case R_FORGOTTEN:
+        if (!(other = known_thread((uint32_t)record->other))) break;
+        other->is_forgotten = 1;
+        if (other->has_ended) forget_thread(other);
+        break;
     }
     return 1;
 }

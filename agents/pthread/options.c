@@ -4,9 +4,9 @@
 #include <fcntl.h>
 #include <getopt.h>
 
-enum { MOST_CONFIGURED = 64, CONFIGURED_BYTES = 1 << 16, FAILED = 3 };
+enum { MOST_CONFIGURED = 64, CONFIGURED_BYTES = 1 << 16, FAILED = 3, MOST_SECONDS = 86400 };
 
-static const struct options defaults = {.bound = 4, .error_status = -1, .frames = 1, .window = MOST_EVENTS};
+static const struct options defaults = {.bound = 4, .error_status = -1, .frames = 1, .window = MOST_EVENTS, .seconds = 60, .on_deadlock = "report"};
 struct options options;
 
 void refuse(const char *what) {
@@ -14,7 +14,7 @@ void refuse(const char *what) {
     exit(WRONG);
 }
 
-static uint32_t number_of(const char *word, uint32_t least, uint32_t most, const char *what) {
+static uint32_t value_of(const char *word, uint32_t least, uint32_t most, const char *what) {
     char *end;
     unsigned long value = strtoul(word, &end, 10);
     if (*end || end == word || word[0] == '-' || value < least || value > most) refuse(what);
@@ -25,20 +25,23 @@ static char **read_options(int count, char **words) {
     static const struct option known[] = {{"bound", 1, 0, 'b'}, {"out", 1, 0, 'o'}, {"server", 1, 0, 's'}, {"error-exitcode", 1, 0, 'e'},
                                           {"stacks", 1, 0, 't'}, {"window", 1, 0, 'w'}, {"no-config", 0, 0, 'n'}, {"suppress", 1, 0, '0'},
                                           {"baseline", 1, 0, '1'}, {"fail-on", 1, 0, '2'}, {"root", 1, 0, '3'}, {"on-deadlock", 1, 0, 'd'},
+                                          {"seconds", 1, 0, 'l'}, {"allow-partial", 0, 0, 'p'}, {"trace-children", 0, 0, 'c'},
                                           {0, 0, 0, 0}};
     char here[PATHS] = "", *out = "goodlock";
     opterr = optind = 0;
     for (int letter; (letter = getopt_long(count, words, "+", known, NULL)) >= 0;) switch (letter) {
-        case 'b': options.bound = (int)number_of(optarg, 2, 8, "--bound is 2 to 8"); break;
+        case 'b': options.bound = strcmp(optarg, "auto") ? (int)value_of(optarg, 2, MOST_BOUND, "--bound is 2 to 8, or auto") : 0; break;
         case 'o': out = optarg; break;
         case 's': options.server = optarg; break;
-        case 'e': options.error_status = (int)number_of(optarg, 0, 255, "--error-exitcode is 0 to 255"); break;
-        case 't': options.frames = (int)number_of(optarg, 1, MOST_FRAMES, "--stacks is 1 to 5"); break;
-        case 'w': options.window = number_of(optarg, 100, MOST_EVENTS, "--window is 100 to 1048576"); break;
+        case 'e': options.error_status = (int)value_of(optarg, 0, 255, "--error-exitcode is 0 to 255"); break;
+        case 't': options.frames = (int)value_of(optarg, 1, MOST_FRAMES, "--stacks is 1 to 5"); break;
+        case 'w': options.window = value_of(optarg, 100, MOST_EVENTS, "--window is 100 to 1048576"); break;
         case 'd':
-            options.kills = !strcmp(optarg, "kill");
-            if (!options.kills && strcmp(optarg, "report")) refuse("--on-deadlock is report or kill");
+            if (!*(options.on_deadlock = optarg)) refuse("--on-deadlock is report, kill, or a command");
             break;
+        case 'l': options.seconds = value_of(optarg, 1, MOST_SECONDS, "--seconds is 1 to 86400"); break;
+        case 'p': options.allows_partial = 1; break;
+        case 'c': options.follows_others = 1; break;
         case 'n': options.has_no_config = 1; break;
         case '0': case '1': case '2': case '3': options.gate[letter - '0'] = optarg; break;
         default: refuse("an option is unknown or lacks its value");
@@ -72,7 +75,7 @@ static int read_configured(char **words) {
     ssize_t size;
     int ends[2], count = 0;
     if (pipe2(ends, O_CLOEXEC) < 0) refuse("there is no pipe for the configuration file");
-    pid_t child = start_reporter("options", "0", ends[1]);
+    pid_t child = start_reporter("options", "0", 0, ends[1]);
     close(ends[1]);
     while ((size = read(ends[0], text + used, sizeof text - 1 - used)) > 0) used += (size_t)size;
     close(ends[0]);

@@ -3,20 +3,19 @@
  * place, and the event is written there. So it works inside signal handlers and allocators, and a stopped thread blocks no other.
  *
  * A release is written before the program's call, an acquire after it. */
-#define _GNU_SOURCE
-#include "ring.h"
+#include "recorder.h"
 
-#include <dlfcn.h>
-#include <errno.h>
 #include <fcntl.h>
 #include <link.h>
-#include <pthread.h>
 #include <semaphore.h>
 #include <signal.h>
+#include <spawn.h>
+#include <stdarg.h>
 #include <stdio.h>
 #include <stdlib.h>
 #include <string.h>
 #include <sys/mman.h>
+#include <sys/prctl.h>
 #include <sys/resource.h>
 #include <sys/stat.h>
 #include <sys/syscall.h>
@@ -24,25 +23,27 @@
 #include <time.h>
 #include <unistd.h>
 
-#define THREAD_LOCAL static __thread __attribute__((tls_model("initial-exec")))
-#define EXPORT __attribute__((visibility("default")))
-enum { STARTS = 4096, LINES = 1 << 20, PAGES = 1 << 16, SECONDS_WITHOUT_PROGRESS = 30, MOST_TEXT = 1000 };
+enum { STARTS = 4096, LINES = 1 << 20, PAGES = 1 << 16, SECONDS_WITHOUT_PROGRESS = 30, MOST_TEXT = 1000, MOST_TRIES = 10000, ANY_LINE = 0x0f };
 enum { TYPE = 3, ROBUST = 16, INHERITS = 32 }; /* parts of a mutex's kind in glibc */
 
-struct site { uint32_t count; uint64_t stack, callers[MOST_FRAMES]; };
+#define NAME "GOODLOCK_RING="
+
 struct start { uint32_t taken, number; void *(*run)(void *); int (*run_c11)(void *); void *argument; uint64_t stack_size; };
 
-static struct ring *ring; /* NULL: nothing is recorded */
+struct page page __attribute__((aligned(4096)));
+static struct ring *mapped; /* that of GOODLOCK_RING, also in a process that does not record */
 static uint32_t is_claimed;
 static uint64_t default_stack_size;
 static struct start starts[STARTS];
-static uint8_t lines[LINES], pages[PAGES]; /* by hash: memory that has contained a lock; never cleared */
+/* By hash: lines of 64 bytes that have a lock, until they are freed, and pages that have had one. A line has a bit for each 16 bytes where a
+ * lock begins, and a mark of its own, or no mark if it stands for several. */
+static uint8_t lines[LINES], pages[PAGES];
 THREAD_LOCAL uint32_t self = NOBODY;
 THREAD_LOCAL uint64_t stack_low, stack_high;
-THREAD_LOCAL void (*once_routine)(void);
-THREAD_LOCAL void *once_control;
-THREAD_LOCAL int is_finding_free;
-THREAD_LOCAL uint64_t stated; /* the caller of this thread's next calls, if the program states it */
+static THREAD_LOCAL void (*once_routine)(void);
+static THREAD_LOCAL void *once_control;
+static THREAD_LOCAL int is_finding_free;
+THREAD_LOCAL uint64_t stated;
 
 /* ---- the real functions ---- */
 
@@ -57,7 +58,7 @@ THREAD_LOCAL uint64_t stated; /* the caller of this thread's next calls, if the 
     X(pthread_rwlock_init) X(pthread_rwlock_destroy) X(sem_post) X(sem_wait) X(sem_trywait) X(sem_timedwait) X(sem_clockwait) \
     X(mtx_lock) X(mtx_trylock) X(mtx_timedlock) X(mtx_unlock) X(mtx_init) X(mtx_destroy) X(cnd_wait) X(cnd_timedwait) \
     X(cnd_signal) X(cnd_broadcast) X(thrd_create) X(thrd_join) X(call_once) X(munmap) X(free) X(realloc) \
-    X(execve) X(execv) X(execvp) X(execvpe) X(fexecve)
+    X(execve) X(execv) X(execvp) X(execvpe) X(fexecve) X(posix_spawn) X(posix_spawnp)
 #define DECLARE(name) static __typeof__(&name) real_##name;
 REALS(DECLARE)
 static size_t (*real_malloc_usable_size)(void *); /* NULL if it does not belong to the same allocator as `free` */
@@ -76,20 +77,6 @@ static void find_reals(void) {
 
 /* ---- one event ---- */
 
-/* The return address of the program's call, and those of the frames above it while the frame pointers stay in this thread's stack. */
-static inline __attribute__((always_inline)) void take_site(struct site *site, void *frame, void *caller) {
-    uint64_t at = (uint64_t)frame, *up;
-    site->stack = at, site->callers[0] = stated ? stated : (uint64_t)caller, site->count = 1;
-    if (stated || at < stack_low || at >= stack_high) return;
-    while (site->count < MOST_FRAMES) {
-        up = (uint64_t *)at;
-        if (up[0] <= at || up[0] >= stack_high - 16 || up[0] % 8) break;
-        at = up[0];
-        site->callers[site->count++] = ((uint64_t *)at)[1];
-    }
-}
-#define TAKE_SITE struct site site; take_site(&site, __builtin_frame_address(0), __builtin_return_address(0))
-
 /* Waits until the collector has read the slot of this place. Returns 0 if it does not: then nothing more is recorded. */
 static int wait_for_slot(struct ring *to, uint64_t place) {
     uint64_t seen = 0, now;
@@ -103,7 +90,7 @@ static int wait_for_slot(struct ring *to, uint64_t place) {
         if (rounds < 20) sched_yield();
         else syscall(SYS_nanosleep, &moment, NULL); /* nanosleep() is a cancellation point */
     }
-    if (!has_room) __atomic_store_n(&to->off, 1, __ATOMIC_RELAXED), ring = NULL;
+    if (!has_room) __atomic_store_n(&to->off, 1, __ATOMIC_RELAXED), page.ring = NULL;
     errno = before;
     return has_room;
 }
@@ -121,30 +108,56 @@ static void write_record(struct ring *to, uint32_t thread, enum kind kind, uint6
     __atomic_store_n(&record->ready, place + 1, __ATOMIC_RELEASE);
 }
 
-static void tell(enum kind kind, const volatile void *address, uint64_t other, const struct site *site) {
-    struct ring *to = ring;
+void tell(enum kind kind, const volatile void *address, uint64_t other, const struct site *site) {
+    struct ring *to = page.ring;
     if (!to) return;
     if (self == NOBODY) {
         number_self(0);
-        if (self == NOBODY || !(to = ring)) return;
+        if (self == NOBODY || !(to = page.ring)) return;
     }
     write_record(to, self, kind, (uint64_t)address, other, site);
 }
 
 static int page_of(uint64_t address) { return (int)((address >> 12) * 0x9E3779B97F4A7C15u >> 48); }
-static int line_of(uint64_t address) { return (int)((address >> 6) * 0x9E3779B97F4A7C15u >> 44); }
+static uint64_t hash_of_line(uint64_t address) { return (address >> 6) * 0x9E3779B97F4A7C15u; }
+static uint8_t *line_of(uint64_t address) { return &lines[hash_of_line(address) >> 44]; }
+static uint8_t mark_of(uint64_t address) { return (uint8_t)((hash_of_line(address) >> 36) % 15 + 1) << 4; }
+static uint8_t bit_of(uint64_t address) { return (uint8_t)(1 << (address >> 4 & 3)); }
 
-/* After an acquire: also remembers that this memory contains a lock. */
-static void acquired(enum kind kind, const volatile void *lock, const struct site *site) {
-    uint8_t *line = &lines[line_of((uint64_t)lock)], *page = &pages[page_of((uint64_t)lock)];
-    if (!*line) *line = 1;
-    if (!*page) *page = 1;
+/* This memory has a lock. */
+static void remember(uint64_t address) {
+    uint8_t *line = line_of(address), *of_page = &pages[page_of(address)], mark = mark_of(address), bit = bit_of(address);
+    uint8_t before = __atomic_load_n(line, __ATOMIC_RELAXED), after;
+    if (!*of_page) *of_page = 1;
+    do {
+        after = !before ? mark | bit : (before & 0xf0) == mark ? before | bit : ANY_LINE;
+        if (before == after || before == ANY_LINE) return;
+    } while (!__atomic_compare_exchange_n(line, &before, after, 0, __ATOMIC_RELAXED, __ATOMIC_RELAXED));
+}
+
+/* Whether these bytes of a line, which are freed, may have a lock. It has none afterwards. */
+static int forget(uint64_t from, uint64_t end) {
+    uint8_t *line = line_of(from), mark = mark_of(from), bits = 0, before = __atomic_load_n(line, __ATOMIC_RELAXED), after;
+    if (!before) return 0;
+    if (before == ANY_LINE) return 1;
+    for (uint64_t at = from & ~(uint64_t)15; at < end; at += 16) bits |= bit_of(at);
+    do {
+        if (before == ANY_LINE) return 1;
+        if ((before & 0xf0) != mark || !(before & bits)) return 0;
+        after = before & ~bits;
+        if (!(after & 0x0f)) after = 0;
+    } while (!__atomic_compare_exchange_n(line, &before, after, 0, __ATOMIC_RELAXED, __ATOMIC_RELAXED));
+    return 1;
+}
+
+void acquired(enum kind kind, const volatile void *lock, const struct site *site) {
+    remember((uint64_t)lock);
     tell(kind, lock, site->stack, site);
 }
 
-static struct wait *will_wait(uint32_t kind, uint64_t address, const struct site *site) {
-    struct ring *to = ring;
-    if (to && self == NOBODY) number_self(0), to = ring;
+struct wait *will_wait(uint32_t kind, uint64_t address, const struct site *site) {
+    struct ring *to = page.ring;
+    if (to && self == NOBODY) number_self(0), to = page.ring;
     if (!to || self == NOBODY) return NULL;
     struct wait *wait = &to->waits[self % WAITS];
     wait->thread = self, wait->kind = kind, wait->frames = site->count;
@@ -153,7 +166,7 @@ static struct wait *will_wait(uint32_t kind, uint64_t address, const struct site
     return wait;
 }
 
-static void has_waited(struct wait *wait) {
+void has_waited(struct wait *wait) {
     if (wait) __atomic_store_n(&wait->address, 0, __ATOMIC_RELEASE);
 }
 
@@ -161,7 +174,7 @@ static void has_waited(struct wait *wait) {
 
 /* A thread whose start was not seen. The first thread of a process has the number 0. */
 static void number_self(int starts_thread) {
-    struct ring *to = ring;
+    struct ring *to = page.ring;
     struct site none = {.count = 0};
     if (!is_claimed && !claim(starts_thread)) return;
     if (syscall(SYS_gettid) == getpid()) {
@@ -174,12 +187,55 @@ static void number_self(int starts_thread) {
     write_record(to, self, R_UNSEEN, (uint64_t)pthread_self(), 0, &none);
 }
 
+static struct ring *map_ring(const char *path);
+
+/* A process of its own trace asks for shared memory, and records in it from now on. */
+static void ask_for_ring(struct other *other) {
+    struct timespec moment = {0, 1000000};
+    uint32_t asks = OTHER_SEEN;
+    if (!mapped->follows_others) return;
+    __atomic_compare_exchange_n(&other->state, &asks, OTHER_ASKS, 0, __ATOMIC_ACQ_REL, __ATOMIC_ACQUIRE);
+    for (int tries = 0; __atomic_load_n(&other->state, __ATOMIC_ACQUIRE) == OTHER_ASKS && tries < MOST_TRIES; tries++) {
+        if (tries % 100 == 99 && kill((pid_t)mapped->collector, 0) < 0) return;
+        syscall(SYS_nanosleep, &moment, NULL);
+    }
+    if (__atomic_load_n(&other->state, __ATOMIC_ACQUIRE) != OTHER_HAS_RING) return;
+    struct ring *own = map_ring(other->path);
+    if (!own) return;
+    self = NOBODY, is_claimed = 0, own->attached = 1;
+    page.ring = own;
+}
+
+/* This process starts a thread and does not record: says so. */
+static void count_process(void) {
+    uint32_t mine = (uint32_t)getpid(), process = 0;
+    int before = errno;
+    struct other *other = NULL;
+    if (!mapped || mine == mapped->owner) return;
+    for (uint32_t at = mine; at < mine + OTHERS && !other; at++, process = 0) {
+        other = &mapped->others[at % OTHERS];
+        if (__atomic_load_n(&other->process, __ATOMIC_ACQUIRE) == mine) break;
+        if (__atomic_compare_exchange_n(&other->process, &process, mine, 0, __ATOMIC_ACQ_REL, __ATOMIC_ACQUIRE)) prctl(PR_GET_NAME, other->name);
+        else other = NULL;
+    }
+    if (other) ask_for_ring(other);
+    errno = before;
+}
+
+/* Whether this thread, which starts another one, records. */
+static int records_start(void) {
+    if (page.ring && self == NOBODY) number_self(1);
+    if (!page.ring) count_process();
+    if (page.ring && self == NOBODY) number_self(1);
+    return page.ring && self != NOBODY;
+}
+
 static struct start *new_start(uint64_t stack_size) {
-    for (uint32_t tries = 0, at = __atomic_load_n(&ring->threads, __ATOMIC_RELAXED); tries < STARTS; tries++, at++) {
+    for (uint32_t tries = 0, at = __atomic_load_n(&page.ring->threads, __ATOMIC_RELAXED); tries < STARTS; tries++, at++) {
         struct start *start = &starts[at % STARTS];
         uint32_t is_free = 0;
         if (!__atomic_compare_exchange_n(&start->taken, &is_free, 1, 0, __ATOMIC_ACQUIRE, __ATOMIC_RELAXED)) continue;
-        start->number = __atomic_fetch_add(&ring->threads, 1, __ATOMIC_RELAXED), start->stack_size = stack_size;
+        start->number = __atomic_fetch_add(&page.ring->threads, 1, __ATOMIC_RELAXED), start->stack_size = stack_size;
         return start;
     }
     return NULL;
@@ -228,11 +284,9 @@ static int begin_c11(void *raw) {
 EXPORT int pthread_create(pthread_t *handle, const pthread_attr_t *attributes, void *(*run)(void *), void *argument) {
     size_t stack_size = default_stack_size;
     struct start *start;
-    if (!ring) return REAL(pthread_create)(handle, attributes, run, argument);
     TAKE_SITE;
-    if (attributes) pthread_attr_getstacksize(attributes, &stack_size);
-    if (self == NOBODY) number_self(1);
-    if (!ring || self == NOBODY || !(start = new_start(stack_size))) return REAL(pthread_create)(handle, attributes, run, argument);
+    if (attributes && page.ring) pthread_attr_getstacksize(attributes, &stack_size);
+    if (!records_start() || !(start = new_start(stack_size))) return REAL(pthread_create)(handle, attributes, run, argument);
     start->run = run, start->argument = argument;
     uint32_t number = start->number;
     tell(R_FORK, NULL, number, &site);
@@ -244,10 +298,8 @@ EXPORT int pthread_create(pthread_t *handle, const pthread_attr_t *attributes, v
 
 EXPORT int thrd_create(thrd_t *handle, thrd_start_t run, void *argument) {
     struct start *start;
-    if (!ring) return REAL(thrd_create)(handle, run, argument);
     TAKE_SITE;
-    if (self == NOBODY) number_self(1);
-    if (!ring || self == NOBODY || !(start = new_start(default_stack_size))) return REAL(thrd_create)(handle, run, argument);
+    if (!records_start() || !(start = new_start(default_stack_size))) return REAL(thrd_create)(handle, run, argument);
     start->run_c11 = run, start->argument = argument;
     uint32_t number = start->number;
     tell(R_FORK, NULL, number, &site);
@@ -285,7 +337,7 @@ static int took(int error, int success, enum kind kind, const volatile void *loc
     return error;
 }
 
-static void tell_if(int condition, enum kind kind, const volatile void *object, const struct site *site) {
+void tell_if(int condition, enum kind kind, const volatile void *object, const struct site *site) {
     if (condition) tell(kind, object, 0, site);
 }
 
@@ -436,7 +488,7 @@ static void run_once(void) {
 
 EXPORT int pthread_once(pthread_once_t *control, void (*routine)(void)) {
     void (*outer)(void) = once_routine, *outer_control = once_control;
-    if (!ring) return REAL(pthread_once)(control, routine);
+    if (!page.ring) return REAL(pthread_once)(control, routine);
     TAKE_SITE;
     once_routine = routine, once_control = control;
     int error = REAL(pthread_once)(control, run_once);
@@ -447,7 +499,7 @@ EXPORT int pthread_once(pthread_once_t *control, void (*routine)(void)) {
 
 EXPORT void call_once(once_flag *control, void (*routine)(void)) {
     void (*outer)(void) = once_routine, *outer_control = once_control;
-    if (!ring) { REAL(call_once)(control, routine); return; }
+    if (!page.ring) { REAL(call_once)(control, routine); return; }
     TAKE_SITE;
     once_routine = routine, once_control = control;
     REAL(call_once)(control, run_once);
@@ -458,9 +510,13 @@ EXPORT void call_once(once_flag *control, void (*routine)(void)) {
 /* ---- memory: a lock in freed memory ends ---- */
 
 static int may_contain_lock(uint64_t from, uint64_t size) {
+    int found = 0;
     if (size <= 4096) {
-        for (uint64_t at = from & ~(uint64_t)63; at < from + size; at += 64) if (lines[line_of(at)]) return 1;
-        return 0;
+        for (uint64_t at = from, end = from + size, next; at < end; at = next) {
+            next = (at | 63) + 1;
+            found |= forget(at, next < end ? next : end);
+        }
+        return found;
     }
     if (size > (uint64_t)256 << 12) return 1;
     for (uint64_t at = from & ~(uint64_t)4095; at < from + size; at += 4096) if (pages[page_of(at)]) return 1;
@@ -469,7 +525,7 @@ static int may_contain_lock(uint64_t from, uint64_t size) {
 
 static void frees(void *memory) {
     struct site none = {.count = 0};
-    if (!memory || !ring || !is_claimed || !real_malloc_usable_size) return;
+    if (!memory || !page.ring || !is_claimed || !real_malloc_usable_size) return;
     uint64_t size = real_malloc_usable_size(memory);
     if (may_contain_lock((uint64_t)memory, size)) tell(R_FREE, memory, size, &none);
 }
@@ -513,9 +569,7 @@ static int is_of_allocator(void (*function)(void *, size_t, size_t)) {
 
 DELETES(DELETE)
 
-/* A library of C++ that a program of C loads for itself has a function of this name that RTLD_NEXT does not find. Then this library
- * must not come before it: the loader passes over a symbol without a value. */
-static void hide_unless_next(const char *name, void *own) {
+void hide_unless_next(const char *name, void *own) {
     Dl_info of_own, of_this;
     ElfW(Sym) *symbol;
     if (dlsym(RTLD_NEXT, name) || !dladdr1(own, &of_own, (void **)&symbol, RTLD_DL_SYMENT) || !symbol ||
@@ -533,7 +587,7 @@ static void hide_deletes(void) {
 
 EXPORT int munmap(void *memory, size_t size) {
     struct site none = {.count = 0};
-    if (ring && is_claimed && may_contain_lock((uint64_t)memory, size)) tell(R_FREE, memory, size, &none);
+    if (page.ring && is_claimed && may_contain_lock((uint64_t)memory, size)) tell(R_FREE, memory, size, &none);
     return REAL(munmap)(memory, size);
 }
 
@@ -541,7 +595,7 @@ EXPORT int munmap(void *memory, size_t size) {
 
 /* Returns the number of a caller that is not an address, or 0 if there is no room. */
 EXPORT uint64_t goodlock_site(const char *text, uint32_t length) {
-    struct ring *to = ring;
+    struct ring *to = page.ring;
     if (!to || length > MOST_TEXT || __atomic_load_n(&to->sites_used, __ATOMIC_RELAXED) > TEXT / 2 - (1 << 16)) return 0;
     uint32_t at = TEXT - length - 1 - __atomic_fetch_add(&to->sites_used, length + 1, __ATOMIC_RELAXED);
     memcpy(to->text + at, text, length);
@@ -561,7 +615,7 @@ EXPORT void goodlock_record(uint32_t kind, uint64_t object, uint64_t caller) {
 EXPORT void goodlock_wait(uint64_t object, uint64_t caller) {
     struct site site = {.count = 1, .callers = {caller}};
     if (object) will_wait(WAITS_FOR_LOCK, object, &site);
-    else if (ring && self != NOBODY) has_waited(&ring->waits[self % WAITS]);
+    else if (page.ring && self != NOBODY) has_waited(&page.ring->waits[self % WAITS]);
 }
 
 /* ---- start and fork ---- */
@@ -587,7 +641,7 @@ static int write_module(struct dl_phdr_info *info, size_t size, void *raw) {
 /* The process that goodlock has started claims the ring at its first event, any other process when it starts its first thread; the
  * first claim counts. If the owner's program was started by exec, the one before has ended. */
 static int claim(int starts_thread) {
-    struct ring *to = ring;
+    struct ring *to = page.ring;
     uint32_t nobody = 0, mine = (uint32_t)getpid();
     struct site none = {.count = 0};
     if (mine != to->program && mine != to->owner && !to->owner && !starts_thread) return 0;
@@ -596,41 +650,78 @@ static int claim(int starts_thread) {
         is_claimed = 1;
         write_record(to, 0, R_EXEC, 0, 0, &none);
     } else {
-        ring = NULL;
+        page.ring = NULL;
         return 0;
     }
     dl_iterate_phdr(write_module, to);
     return 1;
 }
 
+/* A program that is started with another environment is not seen. `change`: 1, or -1 if it did not start. */
+static void count_cleared(char *const environment[], int change) {
+    for (; environment && *environment; environment++) if (!strncmp(*environment, NAME, sizeof NAME - 1)) return;
+    if (mapped) __atomic_fetch_add(&mapped->cleared, (uint32_t)change, __ATOMIC_RELAXED);
+}
+
 /* The next program of the process may come without this library: only if it has it, the process is seen again. */
-static struct ring *before_exec(void) {
-    struct ring *to = ring;
+static struct ring *before_exec(char *const environment[]) {
+    struct ring *to = page.ring;
     uint32_t mine = (uint32_t)getpid();
+    count_cleared(environment, 1);
     if (!to || mine != to->program || (to->owner && to->owner != mine)) return NULL;
     to->attached = 0;
     return to;
 }
 
-static int exec_failed(struct ring *to) {
+static int exec_failed(struct ring *to, char *const environment[]) {
+    int before = errno;
+    count_cleared(environment, -1);
     if (to) to->attached = 1;
+    errno = before;
     return -1;
 }
 
-#define EXEC(call) ({ struct ring *to = before_exec(); (void)call; exec_failed(to); })
+#define EXEC(environment, call) ({ struct ring *to = before_exec(environment); (void)call; exec_failed(to, environment); })
 
 EXPORT int execve(const char *path, char *const words[], char *const environment[]) {
-    return EXEC(REAL(execve)(path, words, environment));
+    return EXEC(environment, REAL(execve)(path, words, environment));
 }
-EXPORT int execv(const char *path, char *const words[]) { return EXEC(REAL(execv)(path, words)); }
-EXPORT int execvp(const char *name, char *const words[]) { return EXEC(REAL(execvp)(name, words)); }
+EXPORT int execv(const char *path, char *const words[]) { return EXEC(environ, REAL(execv)(path, words)); }
+EXPORT int execvp(const char *name, char *const words[]) { return EXEC(environ, REAL(execvp)(name, words)); }
 EXPORT int execvpe(const char *name, char *const words[], char *const environment[]) {
-    return EXEC(REAL(execvpe)(name, words, environment));
+    return EXEC(environment, REAL(execvpe)(name, words, environment));
 }
-EXPORT int fexecve(int file, char *const words[], char *const environment[]) { return EXEC(REAL(fexecve)(file, words, environment)); }
+EXPORT int fexecve(int file, char *const words[], char *const environment[]) {
+    return EXEC(environment, REAL(fexecve)(file, words, environment));
+}
 
-static void in_child(void) { /* another process is not in this trace, except if its parent has recorded nothing */
-    if (is_claimed) ring = NULL;
+/* The words of a call with a list of arguments, on the stack as in the C library. `execle` has the environment after its last word. */
+#define EXEC_LIST(has_environment, call) ({ va_list list; size_t count = 1; char **environment = environ; \
+    va_start(list, first); while (va_arg(list, char *)) count++; va_end(list); \
+    char *words[count + 1]; \
+    va_start(list, first); words[0] = (char *)first; \
+    for (size_t at = 1; at <= count; at++) words[at] = va_arg(list, char *); \
+    if (has_environment) environment = va_arg(list, char **); \
+    va_end(list); EXEC(environment, call); })
+
+EXPORT int execl(const char *path, const char *first, ...) { return EXEC_LIST(0, REAL(execv)(path, words)); }
+EXPORT int execlp(const char *name, const char *first, ...) { return EXEC_LIST(0, REAL(execvp)(name, words)); }
+EXPORT int execle(const char *path, const char *first, ...) { return EXEC_LIST(1, REAL(execve)(path, words, environment)); }
+
+#define SPAWN(call) ({ int error = call; if (!error) count_cleared(environment, 1); error; })
+
+EXPORT int posix_spawn(pid_t *process, const char *path, const posix_spawn_file_actions_t *actions, const posix_spawnattr_t *attributes,
+                       char *const words[], char *const environment[]) {
+    return SPAWN(REAL(posix_spawn)(process, path, actions, attributes, words, environment));
+}
+EXPORT int posix_spawnp(pid_t *process, const char *name, const posix_spawn_file_actions_t *actions, const posix_spawnattr_t *attributes,
+                        char *const words[], char *const environment[]) {
+    return SPAWN(REAL(posix_spawnp)(process, name, actions, attributes, words, environment));
+}
+
+/* Another process is not in this trace, except if its parent has recorded nothing. */
+static void in_child(void) {
+    page.ring = is_claimed ? NULL : mapped;
 }
 
 /* The name may be that of a run which has ended, and by now of any file: only memory that cannot be cut is mapped. */
@@ -639,9 +730,12 @@ static struct ring *map_ring(const char *path) {
     int file = open(path, O_RDWR | O_CLOEXEC | O_NONBLOCK | O_NOCTTY);
     if (file < 0) return NULL;
     int is_ring = fstat(file, &it) == 0 && it.st_size == sizeof(struct ring) && fcntl(file, F_GET_SEALS) == RING_SEALS;
-    void *mapped = is_ring ? mmap(NULL, sizeof(struct ring), PROT_READ | PROT_WRITE, MAP_SHARED, file, 0) : MAP_FAILED;
+    struct ring *found = is_ring ? mmap(NULL, sizeof *found, PROT_READ | PROT_WRITE, MAP_SHARED, file, 0) : MAP_FAILED;
     close(file);
-    return mapped == MAP_FAILED ? NULL : mapped;
+    if (found == MAP_FAILED) return NULL;
+    if (found->magic == RING_MAGIC && !found->off) return found;
+    munmap(found, sizeof *found);
+    return NULL;
 }
 
 extern void *__libc_stack_end;
@@ -652,14 +746,11 @@ __attribute__((constructor)) static void at_start(void) {
     pthread_attr_t attributes;
     size_t size = 8 << 20;
     hide_deletes();
+    find_libraries();
     if (!path) return;
     find_reals();
-    struct ring *mapped = map_ring(path);
-    if (!mapped) return;
-    if (mapped->magic != RING_MAGIC || mapped->off || (mapped->owner && mapped->owner != (uint32_t)getpid())) {
-        munmap(mapped, sizeof *mapped);
-        return;
-    }
+    struct ring *found = map_ring(path);
+    if (!found) return;
     if (pthread_getattr_default_np(&attributes) == 0) {
         pthread_attr_getstacksize(&attributes, &size);
         pthread_attr_destroy(&attributes);
@@ -668,7 +759,10 @@ __attribute__((constructor)) static void at_start(void) {
     stack_high = (uint64_t)__libc_stack_end;
     if (getrlimit(RLIMIT_STACK, &limit) < 0 || limit.rlim_cur > 64 << 20) limit.rlim_cur = 8 << 20;
     stack_low = stack_high - limit.rlim_cur;
-    mapped->attached = 1;
     pthread_atfork(NULL, NULL, in_child);
-    ring = mapped;
+    madvise(&page, sizeof page, MADV_WIPEONFORK);
+    mapped = found;
+    if (found->owner && found->owner != (uint32_t)getpid()) return;
+    found->attached = 1;
+    page.ring = found;
 }

@@ -1,7 +1,7 @@
 /* The memory that a recorder in the traced program shares with the collector, which is another process. */
 #include <stdint.h>
 
-enum { SLOTS = 1 << 18, MOST_FRAMES = 5, WAITS = 1 << 14, TEXT = 1 << 20 };
+enum { SLOTS = 1 << 18, MOST_FRAMES = 5, WAITS = 1 << 14, TEXT = 1 << 20, OTHERS = 256 };
 #define NOBODY UINT32_MAX
 #define RING_MAGIC 0x31676E69726C6467u /* another file is none, also if GOODLOCK_RING is of a run that has ended */
 #define RING_SEALS (F_SEAL_SHRINK | F_SEAL_GROW | F_SEAL_SEAL)
@@ -29,6 +29,8 @@ enum kind {
     R_NEW,      /* the object at `address` was initialised or destroyed */
     R_FREE,     /* `other` bytes at `address` are freed */
     R_UNSTARTED, /* a thread: `other` was forked, but the system has not started it */
+    R_FORGOTTEN, /* a thread: nobody can join `other` any more */
+    R_UNLOADED,  /* `other` bytes at `address` are no library any more */
 };
 
 /* One event of the program, in one cache line. `ready` is its place plus one, and is written last. */
@@ -49,6 +51,13 @@ struct wait {
     uint64_t frames, callers[MOST_FRAMES];
 };
 
+/* A process with threads other than the owner. If it asks, it waits until the collector has made shared memory for it. */
+struct other {
+    uint32_t process, state; /* process: 0 if the place is free */
+    char name[16], path[40];
+};
+enum { OTHER_SEEN, OTHER_ASKS, OTHER_HAS_RING, OTHER_REFUSED };
+
 struct ring {
     _Alignas(64) uint64_t next;                            /* the next place; the recorder adds one for each event */
     uint64_t magic;
@@ -60,6 +69,9 @@ struct ring {
     char text[TEXT];                                       /* what explains callers, see below */
     _Alignas(64) struct wait waits[WAITS];
     _Alignas(64) struct record slots[SLOTS];
+    struct other others[OTHERS];                           /* hashed by process */
+    uint32_t follows_others, cleared;                      /* cleared: programs that were started without GOODLOCK_RING */
+    _Alignas(64) uint64_t futexes;                         /* calls of futex that are not those of a lock which is recorded */
 };
 
 /* The text has lines, each ends with a line feed. From the front: `module BASE LOW HIGH PATH`, in hexadecimal, for a file that is mapped

@@ -8,9 +8,10 @@
 #include <sys/socket.h>
 #include <sys/time.h>
 
-enum { BATCH = 64, IN_FLIGHT = 16, SECONDS_TO_REPLY = 10, SECONDS_TO_REPORT = 60 };
+enum { BATCH = 64, IN_FLIGHT = 16, SECONDS_TO_REPLY = 10 };
 enum { ASK = 7, ANSWER = 8, SEND_BATCH = 10, OPENED = 67, PENDING, REPORT, BATCHED = 72 };
 
+int is_shared_server;
 static int session = -1;
 static uint8_t batch[4 + 9 * BATCH];
 static uint32_t count, in_flight, accepted;
@@ -68,7 +69,7 @@ static void read_reply(void) {
     char why[120];
     in_flight--;
     if (!receive(reply, 6) || reply[4] != BATCHED || !receive(reply + 6, 5)) give_up("the server has ended or does not reply");
-    else if (number(reply + 7) != accepted) give_up("another agent streams to this server too, and one server takes one run");
+    else if (number(reply + 7) != accepted) is_shared_server = 1, give_up("another agent streams to this server too, and one server takes one run");
     else {
         accepted += reply[5];
         if (!reply[6]) return;
@@ -110,7 +111,7 @@ static long exchange(const uint8_t *request, size_t length, uint8_t *kind, uint8
 }
 
 int ask_server(uint32_t length, const char *name) {
-    uint8_t ask[4] = {0, 2, ASK, (uint8_t)options.bound}, answer[7] = {0, 5, ANSWER}, kind, rest[16];
+    uint8_t ask[4] = {0, 2, ASK, (uint8_t)(options.bound ? options.bound : MOST_BOUND)}, answer[7] = {0, 5, ANSWER}, kind, rest[16];
     char text[4096];
     flush_stream();
     if (session < 0) return 0;
@@ -119,7 +120,7 @@ int ask_server(uint32_t length, const char *name) {
         return 0;
     }
     put_number(answer + 3, number(rest));
-    for (int tries = 0; tries < SECONDS_TO_REPORT * 100; tries++, usleep(10000)) {
+    for (int tries = 0; tries < (int)options.seconds * 50 && !is_asked_to_end(); tries++, usleep(10000)) {
         long left = exchange(answer, 7, &kind, rest);
         if (left < 0 || (kind != PENDING && kind != REPORT)) break;
         if (kind == PENDING) continue;

@@ -2,11 +2,11 @@
  * PATH+0xOFFSET, or the text of a site that is not an address. The report finds the source lines later. */
 #include "collector.h"
 
-enum { TABLE = 1 << 14, MOST_TEXT = 1000, PATH = 2000, PAUSE = 100 };
-struct site { uint64_t callers[MOST_FRAMES]; uint32_t count, number; struct site *next; };
+enum { MOST_TEXT = 1000, PATH = 2000, PAUSE = 100, LONG_PAUSE = 3000 };
+struct site { struct entry entry; uint64_t callers[MOST_FRAMES]; uint32_t count, number; }; /* by a hash of its callers */
 struct module { uint64_t base, low, high; char *path; };
 
-static struct site *table[TABLE];
+static struct table sites;
 static uint32_t sites_count;
 static struct modules { struct module *all; size_t count, room; } told, mapped; /* by the recorder; by the system: sorted */
 static uint32_t text_read;
@@ -70,7 +70,7 @@ static void read_maps(void) {
     fclose(maps);
 }
 
-/* What the recorder has told are few files, which may have parts in each other's gaps. */
+/* The recorder names few files, which may have parts in each other's gaps. */
 static const struct module *told_module(uint64_t address) {
     for (size_t at = told.count; at-- > 0;) if (address >= told.all[at].low && address < told.all[at].high) return &told.all[at];
     return NULL;
@@ -134,15 +134,51 @@ uint32_t site_of(const uint64_t *callers, uint32_t count) {
     uint64_t hash = count;
     if (count == 0) return 0;
     for (uint32_t at = 0; at < count; at++) hash = (hash ^ callers[at]) * 0x9E3779B97F4A7C15u;
-    struct site **list = &table[hash >> 50], *site = *list;
-    while (site && (site->count != count || memcmp(site->callers, callers, count * sizeof *callers))) site = site->next;
+    struct site *site = (struct site *)find_entry(&sites, hash);
+    while (site && (site->entry.key != hash || site->count != count || memcmp(site->callers, callers, count * sizeof *callers)))
+        site = (struct site *)site->entry.next;
     if (site) return site->number;
     site = allocate(sizeof *site);
-    *site = (struct site){.count = count, .number = ++sites_count, .next = *list};
+    site->count = count, site->number = ++sites_count;
     memcpy(site->callers, callers, count * sizeof *callers);
     write_site(site);
-    *list = site;
+    add_entry(&sites, &site->entry, hash);
     return site->number;
+}
+
+void forget_sites(uint64_t from, uint64_t size) {
+    for (size_t slot = 0; slot < sites.size; slot++)
+        for (struct entry *entry = sites.slots[slot], *next; entry; entry = next) {
+            const struct site *site = (struct site *)entry;
+            uint32_t at = 0;
+            next = entry->next;
+            while (at < site->count && site->callers[at] - from >= size) at++;
+            if (at < site->count) remove_entry(&sites, entry), free(entry);
+        }
+    for (size_t at = 0; at < told.count; at++) if (told.all[at].low - from < size) told.all[at].low = told.all[at].high;
+    for (size_t at = 0; at < mapped.count; at++) if (mapped.all[at].low - from < size) free(mapped.all[at].path), mapped.all[at].path = NULL;
+    size_when_read = 0, read_at = 0;
+}
+
+void look_at_maps(void) {
+    unsigned long size = size_of_program();
+    if (!size || size == size_when_read || now() - read_at < LONG_PAUSE) return;
+    size_when_read = size, read_at = now();
+    read_maps();
+}
+
+static void write_libraries_of(FILE *file, const struct modules *modules) {
+    for (size_t at = 0; at < modules->count; at++) {
+        const char *name = modules->all[at].path ? strrchr(modules->all[at].path, '/') : NULL;
+        if (name && strstr(name, ".so")) fprintf(file, "%s\n", name + 1);
+    }
+}
+
+void write_libraries(void) {
+    FILE *file = create_in_work("libraries");
+    if (!file) return;
+    write_libraries_of(file, &told), write_libraries_of(file, &mapped);
+    fclose(file);
 }
 
 void close_sites(void) {

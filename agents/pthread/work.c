@@ -81,6 +81,54 @@ void keep_name_locked(void) {
     fcntl(folder, F_SETFD, 0);
 }
 
+void window_name(char *path, uint32_t of, const char *kind) {
+    if (of == 1) snprintf(path, PATHS, "%.4000s.%s", options.out, kind);
+    else snprintf(path, PATHS, "%.4000s.%u.%s", options.out, of, kind);
+}
+
+/* ---- the files of an earlier run ---- */
+
+const char *mark_of_name(void) {
+    static char mark[PATHS];
+    if (mark[0]) return mark;
+    snprintf(mark, sizeof mark, "# a further trace of %.3900s", strrchr(options.out, '/') + 1);
+    if (is_follower) *strrchr(mark, '.') = 0; /* its name is OUT.pNUMBER */
+    return mark;
+}
+
+/* Whether a file is OUT.NUMBER.trace or OUT.pNUMBER.trace, and begins with the mark. */
+static int is_further(int where, const char *name) {
+    const char *base = strrchr(options.out, '/') + 1;
+    size_t length = strlen(base), digits;
+    char line[PATHS] = "";
+    if (strncmp(name, base, length) || name[length] != '.') return 0;
+    digits = strspn(name + length + 1, "0123456789p.");
+    if (!digits || strcmp(name + length + digits, ".trace")) return 0;
+    int file = openat(where, name, O_RDONLY | O_NOFOLLOW | O_CLOEXEC | O_NONBLOCK);
+    FILE *trace = file < 0 ? NULL : fdopen(file, "r");
+    if (trace && !fgets(line, sizeof line, trace)) line[0] = 0;
+    if (trace) fclose(trace);
+    line[strcspn(line, "\n")] = 0;
+    return !strcmp(line, mark_of_name());
+}
+
+void remove_earlier(void) {
+    char path[PATHS];
+    window_name(path, 1, "report");
+    unlink(path);
+    *(strrchr(path, '/') + 1) = 0;
+    DIR *list = opendir(path);
+    for (struct dirent *entry; list && (entry = readdir(list));) {
+        if (!is_further(dirfd(list), entry->d_name)) continue;
+        unlinkat(dirfd(list), entry->d_name, 0);
+        snprintf(path, PATHS, "%.*s.report", (int)strlen(entry->d_name) - 6, entry->d_name);
+        unlinkat(dirfd(list), path, 0);
+    }
+    if (list) closedir(list);
+}
+
+/* ---- new files ---- */
+
 static FILE *opened(int file) { return file < 0 ? NULL : fdopen(file, "w"); }
 
 FILE *create_in_work(const char *name) {

@@ -34,11 +34,11 @@ import time
 
 R_FORK, R_NAMED, R_START, R_UNSEEN, R_END, R_JOINS, R_JOINED, R_EXEC = range(1, 9)
 R_LOCK, R_TRIED, R_TIMED, R_UNLOCK = range(9, 13)
-R_GIVE, R_TAKE = 19, 20
+R_GIVE, R_TAKE, R_NEW, R_FORGOTTEN = 19, 20, 22, 25
 WAITS_FOR_LOCK, WAITS_FOR_THREAD = 1, 2
 # The shared memory; collector.c tests that these are the offsets in ring.h.
 NEXT, MAGIC, CONSUMED, THREADS, OWNER, ATTACHED, OFF, FINISHED, SITES_USED, TEXT = 0, 8, 64, 128, 132, 144, 148, 152, 160, 164
-WAITS, SLOTS, SIZE, MOST_WAITS, MOST_SLOTS, MOST_TEXT = 1_048_768, 2_097_344, 18_874_560, 1 << 14, 1 << 18, 1 << 20
+WAITS, SLOTS, SIZE, MOST_WAITS, MOST_SLOTS, MOST_TEXT = 1_048_768, 2_097_344, 18_891_072, 1 << 14, 1 << 18, 1 << 20
 RECORD, NUMBER, PLACE = struct.Struct("<QQIBB30s"), struct.Struct("I"), struct.Struct("Q")  # native: written in one step
 WAIT = struct.Struct("<IIQ5Q")
 RING_MAGIC = 0x31676E69726C6467
@@ -209,13 +209,29 @@ class Recorder:
 recorder = None  # the one of this process, from `attach` on
 
 
+class Number:
+    """The number of an object, whose attribute keeps it. When the object ends, a record says so, and the collector forgets the number."""
+
+    __slots__ = ("recorder", "kind", "value")
+
+    def __init__(self, kind=R_NEW, value=None):
+        self.recorder, self.kind, self.value = recorder, kind, next(recorder.objects) if value is None else value
+
+    def __del__(self):
+        try:
+            if self.recorder.is_recording():
+                self.recorder.write(0, self.kind, self.value, self.value, ())
+        except Exception:  # the interpreter ends
+            pass
+
+
 def address_of(thing):
-    """Returns the number of an object that hands something over. It is unique, and its attribute keeps it."""
+    """Returns the number of an object that hands something over."""
     try:
-        return thing.goodlock_address
+        return thing.goodlock_address.value
     except AttributeError:
-        thing.goodlock_address = next(recorder.objects)
-        return thing.goodlock_address
+        thing.goodlock_address = Number()
+        return thing.goodlock_address.value
 
 
 def give(thing):
@@ -250,7 +266,8 @@ class TracedLock:
         if cls.is_used_by_library and is_of_the_library():
             return cls.make()
         lock = super().__new__(cls)
-        lock.within, lock.address = cls.make(), next(recorder.objects)
+        lock.within, lock.number = cls.make(), Number()
+        lock.address = lock.number.value
         return lock
 
     def acquire(self, blocking=True, timeout=-1):
@@ -480,10 +497,7 @@ def simple_queue(real):
     class SimpleQueue(real):
         """Each item in the queue hands over by itself: who gets it comes after the one who put it, and after no later one."""
 
-        def __new__(cls, *_, **__):
-            made = super().__new__(cls)
-            made.free = collections.deque()  # addresses that no item has; its methods are atomic
-            return made
+        free = collections.deque()  # addresses that no item of a queue has; its methods are atomic
 
         def put(self, item, block=True, timeout=None):
             try:
@@ -535,12 +549,13 @@ def starts(real):
             try:
                 run()
             finally:
+                vars(thread).pop("run", None)  # it refers to the thread, which would live until the next collection
                 if recorder.is_on:
                     recorder.write(child, R_END, 0, 0, ())
 
         recorder.record(R_FORK, 0, child)
         recorder.record(R_NAMED, child + 1, child)
-        thread.goodlock_number, thread.run = child, numbered
+        thread.goodlock_number, thread.run = Number(R_FORGOTTEN, child), numbered
         with recorder.inside():
             return real(thread)
 
@@ -549,9 +564,10 @@ def starts(real):
 
 def joins(real):
     def join(thread, timeout=None):
-        child = getattr(thread, "goodlock_number", None)
-        if child is None or not recorder.is_recording():
+        number = getattr(thread, "goodlock_number", None)
+        if number is None or not recorder.is_recording():
             return real(thread, timeout)
+        child = number.value
         recorder.record(R_JOINS, child + 1)
         with contextlib.ExitStack() as stack:
             if timeout is None:

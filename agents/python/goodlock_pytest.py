@@ -3,7 +3,9 @@ is one more item, goodlock::deadlocks: it fails, and its text is the report. Ano
 the run was not analysed. A run that cannot be traced does not start, and its status is 4.
 
     --goodlock-out NAME         writes NAME.report and NAME.trace; default goodlock. %p is the process number
-    --goodlock-bound K          the most members of a cycle, 2 to 8; default 4
+    --goodlock-bound K          the most members of a cycle, 2 to 8, or auto; default 4
+    --goodlock-seconds N        the most seconds of the search after the tests; default 60
+    --goodlock-allow-partial    a run that was analysed only in part is no error
     --goodlock-fail-on WORD     fails if a deadlock is confirmed, potential or new, as `goodlock --fail-on WORD`
     --goodlock-baseline FILE    the known deadlocks
     --goodlock-suppress FILE    patterns of code locations that are no failure
@@ -25,7 +27,9 @@ FAILED = 1
 def pytest_addoption(parser):
     group = parser.getgroup("goodlock")
     group.addoption("--goodlock-out", default="goodlock", help="writes NAME.report and NAME.trace")
-    group.addoption("--goodlock-bound", help="the most members of a cycle, 2 to 8")
+    group.addoption("--goodlock-bound", help="the most members of a cycle, 2 to 8, or auto")
+    group.addoption("--goodlock-seconds", metavar="N", help="the most seconds of the search after the tests")
+    group.addoption("--goodlock-allow-partial", action="store_true", help="a run that was analysed only in part is no error")
     group.addoption("--goodlock-fail-on", metavar="WORD", help="fails if a deadlock is confirmed, potential or new")
     group.addoption("--goodlock-baseline", metavar="FILE", help="the known deadlocks")
     group.addoption("--goodlock-suppress", metavar="FILE", help="patterns of code locations that are no failure")
@@ -91,8 +95,9 @@ class Tracing:
         if self.is_controller:
             return
         self.found[self.out] = None
-        named = {name: self.config.getoption("--goodlock-{}".format(name)) for name in ("fail-on", "baseline", "suppress")}
+        named = {name: self.config.getoption("--goodlock-{}".format(name)) for name in ("fail-on", "baseline", "suppress", "seconds")}
         options = ["--{}={}".format(name, value) for name, value in named.items() if value is not None]
+        options += ["--allow-partial"] * self.config.getoption("--goodlock-allow-partial")
         try:
             os.makedirs(os.path.dirname(self.out) or ".", exist_ok=True)
         except OSError as error:

@@ -2,22 +2,26 @@
 import contextlib
 import io
 import os
+from collections.abc import Iterator
+from typing import Optional
 from unittest.mock import patch
 
 from goodlock.agent.gate import settings_from
 from goodlock.agent.report import finish
 from goodlock.agent.run import Run, shortly
-from goodlock.agent.search import HELPERS_OF_TRIES, NoReport, check, drop_part_of_line, kind_of, search, without_tries
+from goodlock.agent.search import (HELPERS_OF_TRIES, LONG, NOT_SEARCHED, SIGNAL, TIME, Limit, Stopped, Window, check, drop_part_of_line, grouped,
+                                   kind_of, results, search, without_tries)
 from goodlock.agent.sites import Sites, Source, name_lines_of, source_of
 from goodlock.errors import InputError
 from goodlock.limits import FIRST_THREAD, HELPERS, TIMED_MARKERS, TRY_MARKERS
-from goodlock.reports import Cycle, Member
-from goodlock.traces import read_trace
+from goodlock.reports import Cycle, Member, Report, read_reports
+from goodlock.traces import Index, read_trace
 from written import OPPOSITE_REPORT, InFolder
 
 SITES = "1\tmain.py:9 in main\n2\tbank.py:34 in transfer\tmain.py:7 in run\n3\tbank.py:35 in transfer\n4\t/usr/lib/threading.py:3 in run\tx.py:1 in f\n"
 TRACE = "# at 1\n0f1\n0f2\n# at 2\n1a10\n# at 3\n1a20\n1r20\n1r10\n# at 2\n2a20\n# at 3\n2a10\n2r10\n2r20\n"
-SUMMARY = "attached 1\nlock_events 8\nthreads 3\nread_locks 0\nunseen 0\noverflowing 0\noff 0\ntruncated 0\nframes 1\npython 0\n"
+SUMMARY = "attached 1\nlock_events 8\nthreads 3\nread_locks 0\nunseen 0\noverflowing 0\noff 0\ntruncated 0\nclash 0\nprocesses 0\n" \
+          "cleared 0\nfutexes 0\nframes 1\npython 0\nfollower 0\nfollows 0\n"
 WRITTEN = """question 0 length 10 bound 2 cycles 1 confirmed 1
 cycle 0 1 confirmed
   thread 1 lock 20 holds 10 place 3
@@ -39,16 +43,21 @@ class OfRun(InFolder):
         self.run_ = Run("run", "/nowhere", 2)
         self.write("run.tmp/sites", SITES)
         self.write("run.tmp/summary", SUMMARY)
+        self.write("run.tmp/processes", "")
         self.window(TRACE, OPPOSITE_REPORT)
+
+    def search(self, number: int, bound: int) -> Window:
+        return search(self.run_, number, self.run_.window(number, "trace"), bound)
 
     def window(self, trace: str, answer: str, number: int = 1) -> None:
         self.write(self.run_.window(number, "trace"), trace)
         self.write(f"run.tmp/{number}.answer", answer)
+        self.write(f"run.tmp/{number}.window", "10 0\n10 20 1\n20 10 2\nend\n")
 
     def finish(self, windows: int = 1) -> tuple[int, str]:
         errors = io.StringIO()
         with contextlib.redirect_stderr(errors):
-            return finish(self.run_, windows, settings_from([])), errors.getvalue()
+            return finish(self.run_, windows, 60, settings_from([])), errors.getvalue()
 
 
 class Finishes(OfRun):
@@ -67,23 +76,46 @@ class Finishes(OfRun):
         for old, new, note in [
             ("attached 1", "attached 0", "no events: the agent was not loaded; the program is statically linked, has other rights, or clears .*"),
             ("lock_events 8", "lock_events 0", "no lock events: the program has started 2 threads and called no lock function; .*"),
-            ("read_locks 0", "read_locks 1", "1 reader-writer lock had readers: their sections were recorded as ordering only"),
-            ("unseen 0", "unseen 2", "2 threads started in a way that is not seen: what came before the start is not ordered"),
+            ("attached 1", "attached 0\nfollower 1", "no events: the process could not open the shared memory of its collector; .*"),
             ("overflowing 0", "overflowing 1", "1 acquire beyond 31 held locks were recorded for an artificial thread"),
-            ("off 0", "off 1", "the recording stopped before the program ended"),
-            ("truncated 0", "truncated 1", "the trace ends before the program did: it could not be written"),
         ]:
             self.setUp()
-            self.write("run.tmp/summary", SUMMARY.replace(old, new))
+            text = SUMMARY.replace("follower 0\n", "") if "follower" in new else SUMMARY
+            self.write("run.tmp/summary", text.replace(old, new))
             self.assertRegex(self.finish()[1], f"^goodlock: {note}\ngoodlock: 10 events")
             self.assertRegex(self.read("run.report"), f"^question .*\n    {note}\ncycle")
 
+    def test_what_was_not_examined(self) -> None:
+        self.write("run.tmp/processes", "7 0 httpd\n8 0 httpd\n9 1 logger\n")
+        for old, new, note in [
+            ("read_locks 0", "read_locks 1", "1 reader-writer lock had readers: their sections were recorded as ordering only"),
+            ("unseen 0", "unseen 2", "2 threads started in a way that is not seen: what came before the start is not ordered"),
+            ("off 0", "off 1", "what came after the recording stopped, before the program ended"),
+            ("truncated 0", "truncated 1", "what came after the trace ends, before the program did: it could not be written"),
+            ("clash 0", "clash 1", "another agent streams to the same server, which takes one run: .*"),
+            ("cleared 0", "cleared 1", "1 program started with an environment that lacks the agent's variables"),
+            ("futexes 0", "futexes 3", "3 waits by futex calls: of locks that are made of atomics, or for values"),
+            ("processes 0\ncleared 0\nfutexes 0\nframes 1\npython 0\nfollower 0\nfollows 0", "processes 2\ncleared 0\nfutexes 0\nframes 1\npython 0\n"
+             "follower 0\nfollows 1", r"further processes with threads, 2: httpd \(2\)"),
+            ("processes 0", "processes 2", r"further processes with threads, 2: httpd \(2\); --trace-children makes a report of each"),
+        ]:
+            self.window(TRACE, OPPOSITE_REPORT)
+            self.write("run.tmp/summary", SUMMARY.replace(old, new))
+            self.assertRegex(self.finish()[1], f"^goodlock: not examined: {note}\ngoodlock: 10 events")
+            self.assertRegex(self.read("run.report"), f"^question .*\n    not examined:\n      {note}\n    process 9: run.p9.report\ncycle")
+
+    def test_libraries(self) -> None:
+        self.write("run.tmp/libraries", "libc.so.6\nlibgomp.so.1\nlibQt5Core.so.5\nlibgomp.so.1\nlibgomps.so\n")
+        self.finish()
+        self.assertIn("\n    not examined:\n      the locks inside of libQt5Core, libgomp\n", self.read("run.report"))
+
     def test_runs_that_were_not_analysed(self) -> None:
-        """A deadlock comes first, then the fact that the run was not analysed."""
+        """A deadlock comes first, then the fact that the run was not analysed, or only in part."""
         for old, new, without, status in [
-            ("", "", 0, 1), ("attached 1", "attached 0", 3, 1), ("off 0", "off 1", 3, 1), ("truncated 0", "truncated 1", 3, 1),
-            ("lock_events 8", "lock_events 0", 3, 1), ("lock_events 8\nthreads 3", "lock_events 0\nthreads 1", 0, 1),
-            ("lock_events 8\nthreads 3\nread_locks 0", "lock_events 0\nthreads 3\nread_locks 1", 0, 1),
+            ("", "", 0, 1), ("attached 1", "attached 0", 2, 1), ("off 0", "off 1", 3, 1), ("truncated 0", "truncated 1", 3, 1),
+            ("lock_events 8", "lock_events 0", 2, 1), ("lock_events 8\nthreads 3", "lock_events 0\nthreads 1", 0, 1),
+            ("lock_events 8\nthreads 3\nread_locks 0", "lock_events 0\nthreads 3\nread_locks 1", 0, 1), ("clash 0", "clash 1", 3, 1),
+            ("processes 0", "processes 1", 3, 1), ("cleared 0", "cleared 1", 0, 1), ("unseen 0", "unseen 1", 0, 1),
         ]:
             for answer, wanted in [("question 0 length 10 bound 2 cycles 0 confirmed 0\n", without), (OPPOSITE_REPORT, status)]:
                 self.setUp()
@@ -103,7 +135,8 @@ class Finishes(OfRun):
         """A window without a new cycle is removed; a cycle at the same lines counts for the first one."""
         self.window(TRACE, OPPOSITE_REPORT, 2)
         self.window(TRACE.replace("# at 3\n2a10", "# at 1\n2a10"), OPPOSITE_REPORT, 3)
-        self.assertEqual(self.finish(3), (1, "goodlock: 30 events, 2 cycles, 2 confirmed: run.report, run.trace, run.3.report, run.3.trace\n"))
+        self.assertEqual(self.finish(3), (1, "goodlock: not examined: cycles whose members are in different ones of the 3 windows\n"
+                                             "goodlock: 30 events, 2 cycles, 2 confirmed: run.report, run.trace, run.3.report, run.3.trace\n"))
         self.assertIn("    window 3: run.3.report\n", self.read("run.report"))
         self.assertIn("    and 1 more cycle at these lines, 1 of them confirmed\n", self.read("run.report"))
         self.assertFalse(os.path.exists("run.2.trace"))
@@ -134,7 +167,7 @@ class Searches(OfRun):
             marked = TRACE.replace("# at 3\n1a20\n", f"1a{marker + 1}\n# at 3\n1a20\n1r{marker + 1}\n")
             report = OPPOSITE_REPORT.replace("length 10", "length 12").replace("lock 20 holds 10 place 3", f"lock 20 holds 10 {marker + 1} place 4")
             self.window(marked, report.replace("holds 20 place 7", "holds 20 place 9").replace("0 1 2 6", "0 1 2 3 8"))
-            window = search(self.run_, 1, 2)
+            window = self.search(1, 2)
             self.assertEqual((window.tried, sum(found.confirmed for found in window.found)), (tried, confirmed))
             self.assertEqual(self.finish()[0], 0)
             self.assertIn(text, self.read("run.report"))
@@ -153,25 +186,95 @@ class Searches(OfRun):
         more = "# at 1\n1a30\n1a40\n1r40\n1r30\n2a40\n2a30\n2r30\n2r40\n"
         self.window(TRACE + more, report.replace("length 10", "length 18") + other)
         with patch("goodlock.agent.search.MOST_GROUPS", 1):
-            self.assertEqual(search(self.run_, 1, 2).notes, ["1 cycle left out, 1 confirmed: these are in too many further groups"])
-        self.assertEqual((len(search(self.run_, 1, 2).found), search(self.run_, 1, 2).notes), (2, []))
+            self.assertEqual(self.search(1, 2).notes, ["1 cycle left out, 1 confirmed: these are in too many further groups"])
+        self.assertEqual((len(self.search(1, 2).found), self.search(1, 2).notes), (2, []))
 
-    def test_report_that_is_too_long(self) -> None:
-        """First the acquires that do not wait are recorded for artificial threads, then the bound becomes smaller."""
-        os.remove("run.tmp/1.answer")
-        self.write("program", '#!/bin/sh\n[ "$4" = 2 ] && exec cat answer\necho "refused 23 ReportTooLong"; exit 1\n')
-        os.chmod("program", 0o755)
+    def program(self, text: str, bound: int, graph: str = "10 0\n1 2 1\n2 3 2\n3 4 3\n4 1 4\nend\n") -> Window:
+        """Searches with a script of the shell instead of goodlockd. In the graph there is a ring of four locks."""
+        if os.path.exists("run.tmp/1.answer"):
+            os.remove("run.tmp/1.answer")
+        self.write("run.tmp/1.window", graph)
         self.write("answer", OPPOSITE_REPORT)
-        self.run_.program, self.run_.bound = os.path.abspath("program"), 3
-        check(self.run_, 1)
-        self.assertIn("the reports for larger bounds are too long: the bound is 2", self.finish()[1])
-        self.write("answer", "question 0 length 10 bound 2 cycles 0 confirmed 0\n")
-        self.write("run.trace", TRACE)
-        check(self.run_, 1)
-        self.assertEqual(self.finish()[0], 3)  # a lower bound than asked
-        self.write("program", "#!/bin/sh\necho 'refused 23 ReportTooLong'; exit 1\n")
-        with self.assertRaisesRegex(NoReport, "the report is too long with each bound"):
-            check(self.run_, 1)
+        self.write("program", f"#!/bin/sh\n{text}\n")
+        os.chmod("program", 0o755)
+        self.run_ = Run("run", os.path.abspath("program"), bound)
+        check(self.run_, 1, Limit(60))
+        return next(results(self.run_, 1, Limit(60)))[1]
+
+    def test_bounds(self) -> None:
+        """One after another, and none that can have no further cycle."""
+        for bound, graph, asked in [(8, "1 2 1\n2 3 2\n3 1 3\n", "2 3"), (2, "1 2 1\n2 3 2\n3 1 3\n", "2"), (4, "1 2 1\n", "4"), (8, "", "8")]:
+            self.setUp()
+            window = self.program('echo "$4" >>asked; exec cat answer', bound, f"10 0\n{graph}end\n")
+            self.assertEqual((" ".join(self.read("asked").split()), window.bound, window.why), (asked, bound, ""))
+        self.program('echo "$4" >>asked; exec cat answer', 4, "10 0\n")  # was not written whole
+        self.assertEqual(self.read("asked"), "8\n2\n3\n4\n")
+
+    def test_search_that_ends_early(self) -> None:
+        ends = '[ "$4" = 2 ] && exec cat answer; '
+        for text, bound, why in [(f"{ends}kill -ALRM $PPID; exec sleep 60", 2, TIME), (f"{ends}kill -USR1 $PPID; exec sleep 60", 2, SIGNAL),
+                                 (f"{ends}echo refused 23 ReportTooLong; exit 1", 2, LONG), (f"{ends}echo broken >&2; exit 1", 2, "broken"),
+                                 ("kill -USR1 $PPID; exec sleep 60", NOT_SEARCHED, SIGNAL), ("echo refused 23 ReportTooLong", NOT_SEARCHED, LONG)]:
+            with self.subTest(text):
+                self.setUp()
+                window = self.program(text, 4)
+                self.assertEqual((window.bound, window.why, window.length, len(window.found)), (bound, why, 10, int(bound == 2)))
+                status, said = self.finish()
+                self.assertEqual(status, 1 if bound == 2 else 3)
+                cycles = "cycles of more than 2 members, of at most 4" if bound == 2 else "all cycles"
+                self.assertIn(f"goodlock: not examined: {cycles}: {why}\n", said)
+
+    def test_report_that_is_read_in_part(self) -> None:
+        """What was found stays, if there is no result of a smaller bound."""
+        index = Index(read_trace("run.trace"))
+        found = list(read_reports("run.trace", index, OPPOSITE_REPORT.splitlines()))
+
+        def stops(number: int) -> Iterator[tuple[Report, Optional[Cycle]]]:
+            yield from found[:number]
+            raise Stopped(TIME)
+
+        for number, groups in [(1, 0), (2, 1)]:
+            window = grouped(index, stops(number), 2)
+            self.assertEqual((window.length, window.is_partial, window.why, len(window.found)), (10, True, TIME, groups))
+        with self.assertRaises(Stopped):
+            grouped(index, stops(0), 2)
+        for results_of, bound, is_partial in [([Window(10, 2), Window(10, 3, TIME, True)], 2, False), ([Window(10, 2, TIME, True)], 2, True)]:
+            self.setUp()
+            with patch("goodlock.agent.search.search", side_effect=results_of):
+                window = self.program("", 4)
+            self.assertEqual((window.bound, window.is_partial, window.why), (bound, is_partial, TIME))
+            self.assertEqual(self.finish()[0], 3)
+            self.assertIn("\n      a part of the cycles of 2 members, and larger ones: " if is_partial else "\n      cycles of more than 2 members",
+                          self.read("run.report"))
+
+    def test_no_time_at_all(self) -> None:
+        """There is a report nevertheless."""
+        with contextlib.redirect_stderr(io.StringIO()):
+            self.assertEqual(finish(self.run_, 1, 0, settings_from([])), 3)
+        self.assertEqual(self.read("run.report"), f"question 0 length 10 bound 1 cycles 0 confirmed 0\n    not examined:\n      all cycles: {TIME}\n")
+
+    def test_window_without_results(self) -> None:
+        """The others have theirs. Its trace is kept."""
+        self.window(TRACE, "broken\n", 2)
+        status, said = self.finish(2)
+        self.assertEqual(status, 1)
+        self.assertIn("goodlock: not examined: all cycles in 1 of 2 windows: broken\n", said)
+        self.assertTrue(os.path.exists("run.2.trace"))
+        self.window(TRACE, "question 0 length 10 bound 2 cycles 0 confirmed 0\n")
+        self.window(TRACE, "broken\n", 2)
+        os.remove("run.tmp/1.rows")
+        self.assertEqual(self.finish(2)[0], 3)
+
+    def test_tries_that_are_left_out(self) -> None:
+        """The rewritten trace takes the place of the other only if its search ends."""
+        marked = TRACE.replace("# at 3\n1a20\n", f"1a{TRY_MARKERS + 1}\n# at 3\n1a20\n1r{TRY_MARKERS + 1}\n")
+        fails = f'grep -q a{TRY_MARKERS + 1} "$2" && echo refused 23 ReportTooLong && exit 1; '
+        for text, bound, is_rewritten in [(f"{fails}exec cat answer", 4, True), (f"{fails}echo refused 23 ReportTooLong", NOT_SEARCHED, False)]:
+            self.setUp()
+            self.write("run.trace", marked)
+            self.write("answer", "question 0 length 21 bound 2 cycles 0 confirmed 0\n")
+            self.assertEqual(self.program(text.replace("answer", "other"), 4, "12 1\nend\n").bound if self.write("other", self.read("answer")) else 0, bound)
+            self.assertEqual(str(HELPERS_OF_TRIES + 1) in self.read("run.trace"), is_rewritten)
 
     def test_without_tries(self) -> None:
         marker, helper = TRY_MARKERS + 1, HELPERS_OF_TRIES + 1
@@ -225,4 +328,4 @@ class Names(OfRun):
     def test_fault_in_raw_trace(self) -> None:
         self.write("run.trace", "0f1\nx\n")
         with self.assertRaisesRegex(InputError, "^run.trace:2: x: not an event"):
-            search(self.run_, 1, 2)
+            self.search(1, 2)

@@ -85,7 +85,7 @@ class Judging(InFolder):
 class Options(InFolder):
     def run_task(self, task: str, *words: str) -> tuple[int, str, str]:
         out, err = io.TextIOWrapper(io.BytesIO(), "utf-8"), io.StringIO()
-        arguments = ["agent_report", task, "goodlockd", "4", "out", "0", *words]
+        arguments = ["agent_report", task, "goodlockd", "4", "out", "0", "0", *words]
         with contextlib.redirect_stdout(out), contextlib.redirect_stderr(err), mock.patch("sys.argv", arguments):
             try:
                 status = agent_report.main()

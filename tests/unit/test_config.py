@@ -86,9 +86,17 @@ port = 0
                                                     "--window=100"])
         self.assertEqual(found.words_for("dashboard"), ["--bind=0.0.0.0", "--port=0"])
 
+    def test_agent(self) -> None:
+        text = '[agent]\nbound = "auto"\nallow-partial = true\ntrace-children = false\non-deadlock = "gcore -o core"\nseconds = 9\n'
+        self.assertEqual(read_config(self.write("goodlock.toml", f"bound = 3\n{text}")).words_for("agent"),
+                         ["--bound=auto", "--allow-partial", "--on-deadlock=gcore -o core", "--seconds=9"])
+        self.write("goodlock.toml", "[agent]\nallow-partial = 1\n")
+        with self.assertRaisesRegex(InputError, "allow-partial: not true or false$"):
+            read_config("goodlock.toml")
+
     def test_limits(self) -> None:
         for line, table, key, least, most in [("", "", "bound", 2, 8), ("[agent]\n", "agent", "stacks", 1, 5),
-                                              ("[agent]\n", "agent", "window", 100, 1_048_576),
+                                              ("[agent]\n", "agent", "window", 100, 1_048_576), ("[agent]\n", "agent", "seconds", 1, 86_400),
                                               ("[agent]\n", "agent", "error-exitcode", 0, 255),
                                               ("[dashboard]\n", "dashboard", "port", 0, 65_535)]:
             for number, is_allowed in [(least - 1, False), (least, True), (most, True), (most + 1, False)]:
@@ -102,7 +110,8 @@ port = 0
 
     FAULTS = [
         ("unknown key", "bond = 3\n", "goodlock.toml: bond: unknown; the keys here are bound, fail-on, suppressions, baseline, root"),
-        ("unknown key of a table", "[agent]\nout = 'x'\n", "goodlock.toml: agent.out: unknown; the keys here are error-exitcode, stacks, window"),
+        ("unknown key of a table", "[agent]\nout = 'x'\n", "goodlock.toml: agent.out: unknown; the keys here are allow-partial, bound, error-exitcode, "
+         "on-deadlock, seconds, stacks, trace-children, window"),
         ("unknown table", "[agents]\n", "goodlock.toml: [agents]: unknown; the tables are [agent], [summary], [many], [dashboard]"),
         ("another word", 'fail-on = "none"\n', 'goodlock.toml: fail-on: not one of "confirmed", "potential", "new"'),
         ("a table for a key", "[bound]\n", "goodlock.toml: bound: not a whole number, 2 to 8"),

@@ -41,15 +41,26 @@ def is_text(found: object) -> bool:
 
 
 PATH, TEXT = Key("a path in quotes", is_text, is_path=True), Key("a text in quotes", is_text)
+SWITCH = Key("true or false", lambda found: type(found) is bool)
+BOUND = number(LEAST_BOUND, MOST_BOUND)
 COMMON: dict[str, Key] = {
-    "bound": number(LEAST_BOUND, MOST_BOUND),
+    "bound": BOUND,
     "fail-on": one_of(FAIL_ON),
     "suppressions": PATH,
     "baseline": PATH,
     "root": PATH,
 }
 TABLES: dict[str, dict[str, Key]] = {
-    "agent": {"error-exitcode": number(0, 255), "stacks": number(1, 5), "window": number(100, MOST_EVENTS)},
+    "agent": {
+        "allow-partial": SWITCH,
+        "bound": Key(f'{BOUND.allowed}, or "auto"', lambda found: found == "auto" or BOUND.allows(found)),
+        "error-exitcode": number(0, 255),
+        "on-deadlock": TEXT,
+        "seconds": number(1, 86_400),
+        "stacks": number(1, 5),
+        "trace-children": SWITCH,
+        "window": number(100, MOST_EVENTS),
+    },
     "summary": {"groups": number(0)},
     "many": {"groups": number(0), "hosts": PATH, "jobs": number(1), "memory": number(0), "out": PATH, "timeout": number(1)},
     "dashboard": {"bind": TEXT, "port": number(0, 65_535)},
@@ -78,8 +89,8 @@ class Config:
         return {"suppress" if key == "suppressions" else key: value for key, value in taken.items()}
 
     def words_for(self, tool: str) -> list[str]:
-        """Returns the values that a tool takes as words of a command line: `--fail-on=new`."""
-        return [f"--{key}={value}" for key, value in self.values_for(tool).items()]
+        """Returns the values that a tool takes as words of a command line: `--fail-on=new`, `--allow-partial`."""
+        return [f"--{key}" if value is True else f"--{key}={value}" for key, value in self.values_for(tool).items() if value is not False]
 
 
 def is_top(folder: str) -> bool:

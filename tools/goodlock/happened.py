@@ -13,6 +13,7 @@ from goodlock.results import Result, ResultMember, Spot, Verdict
 from goodlock.traces import CALLED_BY, lines_of
 
 INDENT = "    "
+HEADING = "not examined:"
 DEADLOCK = re.compile(r"deadlock of [0-9]+ threads?, which waits? for .*")
 WAITS = re.compile(r"thread ([0-9]{1,10}) waits for (lock|thread) ([0-9]{1,10}) at (.*)")
 STARTED = re.compile(r"thread ([0-9]{1,10}) from (.*)")
@@ -34,7 +35,7 @@ class NoteReader:
                 self.notes.append([])
                 is_before = True
             elif is_before and line.startswith(INDENT) and not line.strip().startswith(TIMED):
-                self.notes[-1].append(line.strip())
+                self.notes[-1] += [line.strip()] if line.strip() != HEADING else []
             else:
                 is_before = False
             yield line

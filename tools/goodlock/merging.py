@@ -14,7 +14,7 @@ from goodlock.locations import Root
 from goodlock.results import LeftOut, Numbers, Result, numbered
 
 SHOWN_TRACES, MOST_NOTES = 3, 20
-OTHER_WINDOW = re.compile(r"window [0-9]+: ")  # whose trace is analysed too
+OTHER_WINDOW = re.compile(r"(?:window|process) [0-9]+: ")  # whose trace is analysed too
 Object = dict[str, Any]
 
 

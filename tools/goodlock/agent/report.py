@@ -1,17 +1,24 @@
 """Writes the reports of a run from the results of its windows."""
 import os
+import re
+import signal
+from collections import Counter
 from collections.abc import Iterable, Iterator
 
 from goodlock.agent.gate import judge
 from goodlock.agent.run import Run, say, shortly
-from goodlock.agent.search import TIMED, Found, FoundMember, NoReport, Window, results
+from goodlock.agent.search import NOT_SEARCHED, TIMED, Found, FoundMember, Limit, NoReport, Window, results
 from goodlock.agent.sites import Sites, name_lines_of
 from goodlock.errors import InputError
 from goodlock.groups import key_of, merge
-from goodlock.limits import FIRST_THREAD, HELPERS, TRY_MARKERS
+from goodlock.happened import HEADING
+from goodlock.limits import FIRST_THREAD, HELPERS, MOST_BOUND, TRY_MARKERS
 from goodlock.settings import Settings
 
 DEADLOCK, NO_REPORT, IN_PART = 1, 2, 3  # exit statuses
+MOST_NAMES = 5
+# Libraries with locks that are made of atomics and futex calls, also in code which the agent does not see.
+OWN_LOCKS = re.compile("(lib(?:glib-2.0|gomp|i?omp5?|Qt[56]Core|tbb|jvm|go))\\.so.*")
 
 
 def plural(number: int, one: str) -> str:
@@ -59,42 +66,93 @@ def has_locks(summary: dict[str, int]) -> bool:
     return bool(summary["lock_events"] or summary["read_locks"])
 
 
-def gaps_of(summary: dict[str, int]) -> Iterator[str]:
-    """Yields why the run was not analysed, or only in part."""
-    if not summary["attached"]:
+def why_not_analysed(summary: dict[str, int]) -> Iterator[str]:
+    """Yields why the run was not analysed."""
+    if not summary["attached"] and summary["follower"]:
+        yield "no events: the process could not open the shared memory of its collector; it may be in a sandbox"
+    elif not summary["attached"]:
         yield ("no events: the agent was not loaded; the program is statically linked, has other rights, or clears its environment: link it "
                "dynamically, and start it with the rights of this user and with this environment")
     elif summary["threads"] > 1 and not has_locks(summary) and not summary["python"]:
         yield (f"no lock events: the program has started {plural(summary['threads'] - 1, 'thread')} and called no lock function; it may use "
                "its own futex locks, which the agent does not see")
+
+
+def gaps_of(run: Run, summary: dict[str, int], windows: dict[int, Window]) -> Iterator[str]:
+    """Yields which part of the run was not analysed, although it was to be."""
     if summary["off"]:
-        yield "the recording stopped before the program ended"
+        yield "what came after the recording stopped, before the program ended"
     if summary["truncated"]:
-        yield "the trace ends before the program did: it could not be written"
+        yield "what came after the trace ends, before the program did: it could not be written"
+    if summary["clash"]:
+        yield "another agent streams to the same server, which takes one run: give each run a server of its own"
+    if summary["processes"]:
+        advice = "" if summary["python"] or summary["follows"] else "; --trace-children makes a report of each"
+        yield f"further processes with threads, {summary['processes']}: {names_of_processes(run)}{advice}"
+    parts = Counter((window.bound, window.is_partial, window.why) for window in windows.values() if window.why)
+    for (bound, is_partial, why), count in parts.items():
+        cycles = "all cycles" if bound == NOT_SEARCHED else f"cycles of more than {bound} members, of at most {run.bound}"
+        cycles = f"a part of the cycles of {bound} members, and larger ones" if is_partial else cycles
+        yield f"{cycles}{f' in {count} of {len(windows)} windows' if len(windows) > 1 else ''}: {why}"
 
 
-def notes_of(summary: dict[str, int], tried: int) -> Iterator[str]:
-    """Yields what the run did not see, and what the report leaves out."""
-    started = summary["threads"] - 1
-    if summary["attached"] and not has_locks(summary) and (not started or summary["python"]):
-        yield f"no lock events: the program has started {plural(started, 'thread') if started else 'no thread'} and used no lock"
+def lines_in(run: Run, name: str) -> list[str]:
+    """Returns the lines of a file of the collector; none if there is no such file."""
+    try:
+        with open(run.work(name), encoding="utf-8", errors="replace") as file:
+            return file.read().splitlines()
+    except OSError:
+        return []
+
+
+def processes_of(run: Run) -> list[tuple[int, bool, str]]:
+    """Returns the number, whether it was traced, and the name of each further process with threads."""
+    words = [line.split(" ", 2) for line in lines_in(run, "processes")]
+    return [(int(number), traced == "1", name) for number, traced, name in words]
+
+
+def names_of_processes(run: Run) -> str:
+    """Returns the names of the processes that were not traced: `httpd (3), logger`."""
+    names = Counter(name for _, is_traced, name in processes_of(run) if not is_traced)
+    return ", ".join(f"{name} ({count})" if count > 1 else name for name, count in names.most_common(MOST_NAMES))
+
+
+def limits_of(run: Run, summary: dict[str, int], windows: dict[int, Window]) -> Iterator[str]:
+    """Yields what an agent cannot examine, if it was there."""
+    longest = max(window.longest for window in windows.values())
+    if longest > run.bound and not any(window.why for window in windows.values()):
+        ring = f"has a ring of {longest} locks" if longest <= MOST_BOUND else f"may have a ring of more than {MOST_BOUND} locks"
+        yield (f"cycles of more than {run.bound} members: the lock graph {ring}"
+               f"{'; --bound auto searches it' if run.bound < MOST_BOUND else ''}")
+    if len(windows) > 1:
+        yield f"cycles whose members are in different ones of the {len(windows)} windows"
     if summary["read_locks"]:
         yield f"{plural(summary['read_locks'], 'reader-writer lock')} had readers: their sections were recorded as ordering only"
     if summary["unseen"]:
         yield f"{plural(summary['unseen'], 'thread')} started in a way that is not seen: what came before the start is not ordered"
+    if summary["cleared"]:
+        yield f"{plural(summary['cleared'], 'program')} started with an environment that lacks the agent's variables"
+    if libraries := sorted({match[1] for name in lines_in(run, "libraries") if (match := OWN_LOCKS.fullmatch(name))}):
+        yield f"the locks inside of {', '.join(libraries)}"
+    if summary["futexes"]:
+        yield f"{plural(summary['futexes'], 'wait')} by futex calls: of locks that are made of atomics, or for values"
+
+
+def notes_of(summary: dict[str, int], windows: dict[int, Window]) -> Iterator[str]:
+    """Yields what a user should know of the report."""
+    started, tried = summary["threads"] - 1, sum(window.tried for window in windows.values())
+    if summary["attached"] and not has_locks(summary) and (not started or summary["python"]):
+        yield f"no lock events: the program has started {plural(started, 'thread') if started else 'no thread'} and used no lock"
     if summary["overflowing"]:
         yield f"{plural(summary['overflowing'], 'acquire')} beyond 31 held locks were recorded for an artificial thread"
     if tried:
         yield f"{plural(tried, 'cycle')} left out: a member does not wait, since it tries to acquire the lock"
+    yield from dict.fromkeys(note for window in windows.values() for note in window.notes)
 
 
 def read_deadlock(run: Run, sites: Sites) -> list[str]:
     """Returns the lines about a deadlock that has happened."""
-    try:
-        with open(run.work("deadlock"), encoding="ascii") as file:
-            return [sites.name_all(line.rstrip("\n")) for line in file]
-    except OSError:
-        return []
+    return [sites.name_all(line) for line in lines_in(run, "deadlock")]
 
 
 def write_window(run: Run, number: int, window: Window, found: list[Found], extra: Iterable[str], sites: Sites) -> None:
@@ -122,35 +180,52 @@ def merged(windows: dict[int, Window], sites: Sites) -> list[Found]:
     return list(groups.values())
 
 
-def finish(run: Run, count: int, settings: Settings) -> int:
-    """Writes the reports of windows 1 to `count`, and returns the exit status."""
-    summary = run.summary()
-    sites = Sites(run, summary["frames"], settings.root)
-    deadlock = read_deadlock(run, sites)
-    try:
-        windows = dict(results(run, count))
-    except (OSError, ValueError, InputError, NoReport) as fault:
-        for number in range(1, count + 1):
-            name_lines_of(run.window(number, "trace"), sites)
-        say(f"there is no report: {fault}; the trace is kept: {shortly(run.window(1, 'trace'))}")
-        return DEADLOCK if judge([], [], deadlock, sites, settings).status else NO_REPORT
-    found = merged(windows, sites)
-    gaps = list(gaps_of(summary))
-    notes = [*gaps, *notes_of(summary, sum(window.tried for window in windows.values()))]
-    notes += dict.fromkeys(note for window in windows.values() for note in window.notes)
-    kept = [number for number in windows if number == 1 or any(group.window == number for group in found)]
-    others = [f"window {number}: {os.path.basename(run.window(number, 'report'))}" for number in kept[1:]]
-    for number in kept:
-        extra = [line.strip() for line in [*deadlock, *notes, *others]] if number == 1 else []
-        write_window(run, number, windows[number], [group for group in found if group.window == number], extra, sites)
-    for number in set(windows) - set(kept):
+def without_report(run: Run, count: int, fault: Exception, deadlock: list[str], sites: Sites, settings: Settings) -> int:
+    for number in range(1, count + 1):
+        name_lines_of(run.window(number, "trace"), sites)
+    say(f"there is no report: {fault}; the trace is kept: {shortly(run.window(1, 'trace'))}")
+    return DEADLOCK if judge([], [], deadlock, sites, settings).status else NO_REPORT
+
+
+def kept_of(run: Run, windows: dict[int, Window], sites: Sites) -> tuple[list[Found], list[int]]:
+    """Returns the groups of all windows, and the windows that are kept: the first one, those with a group of their own, and those that were not
+    searched. Removes the traces of the others, as far as they are still there."""
+    traces = [number for number in windows if number == 1 or os.path.exists(run.window(number, "trace"))]
+    found = merged({number: windows[number] for number in [*traces, *sorted(windows.keys() - traces)]}, sites)
+    owners = {1, *(group.window for group in found), *(number for number in traces if windows[number].bound == NOT_SEARCHED or windows[number].is_partial)}
+    for number in set(traces) - owners:
         os.remove(run.window(number, "trace"))
-    for note in notes:
+    return found, sorted(owners)
+
+
+def finish(run: Run, count: int, seconds: float, settings: Settings) -> int:
+    """Searches the windows that were not searched yet, writes the reports of windows 1 to `count`, and returns the exit status."""
+    summary, limit, fault = run.summary(), Limit(seconds, signal.SIGINT, signal.SIGTERM), None
+    windows: dict[int, Window] = {}
+    try:
+        windows.update(results(run, count, limit))
+    except (OSError, ValueError, InputError, NoReport) as error:
+        fault = error
+    limit.close()
+    sites = Sites(run, summary["frames"], settings.root, limit.left)
+    deadlock = [line.strip() for line in read_deadlock(run, sites)]
+    if fault:
+        return without_report(run, count, fault, deadlock, sites, settings)
+    found, kept = kept_of(run, windows, sites)
+    causes, gaps, notes = list(why_not_analysed(summary)), list(gaps_of(run, summary, windows)), list(notes_of(summary, windows))
+    unexamined = [*gaps, *limits_of(run, summary, windows)]
+    block = [HEADING, *(f"  {line}" for line in unexamined)] if unexamined else []
+    others = [f"window {number}: {os.path.basename(run.window(number, 'report'))}" for number in kept[1:]]
+    others += [f"process {number}: {os.path.basename(run.out)}.p{number}.report" for number, is_traced, _ in processes_of(run) if is_traced]
+    for number in kept:
+        extra = [*deadlock, *causes, *notes, *block, *others] if number == 1 else []
+        write_window(run, number, windows[number], [group for group in found if group.window == number], extra, sites)
+    for note in [*causes, *notes, *(f"not examined: {line}" for line in unexamined)]:
         say(note)
     conclude(run, windows, kept, found)
     if judge(windows.values(), found, deadlock, sites, settings).status:
         return DEADLOCK
-    return IN_PART if gaps or any(window.bound < run.bound for window in windows.values()) else 0
+    return NO_REPORT if causes else IN_PART if gaps else 0
 
 
 def conclude(run: Run, windows: dict[int, Window], kept: list[int], found: list[Found]) -> None:

@@ -2,6 +2,8 @@
 import os
 import sys
 
+from goodlock.limits import MOST_BOUND
+
 
 def say(text: str) -> None:
     print(f"goodlock: {text}", file=sys.stderr, flush=True)
@@ -14,10 +16,11 @@ def shortly(path: str) -> str:
 
 
 class Run:
-    """The names of a run's files. OUT.tmp/ contains `sites` (the callers of events), `summary`, `deadlock`, and for each window N the
-    results of its check, `N.rows`, and the server's report, `N.answer`, if there is one."""
+    """The names of a run's files. OUT.tmp/ contains `sites` (the callers of events), `summary`, `deadlock`, `known` (the groups so far), and
+    for each window N its lock graph, `N.window`, the results of its check, `N.rows`, and the server's report, `N.answer`, if there is one.
+    `bound` is the largest that is wanted."""
 
-    def __init__(self, out: str, program: str = "", bound: int = 0) -> None:
+    def __init__(self, out: str, program: str = "", bound: int = MOST_BOUND) -> None:
         self.out, self.program, self.bound = out, program, bound
 
     def work(self, name: str) -> str:

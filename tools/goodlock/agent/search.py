@@ -1,19 +1,25 @@
 """Searches the cycles of a window, and groups them by the sites of their members. The results are a file of JSON, since the search of a
 window is a process of its own while the program runs on."""
 import contextlib
+import fcntl
 import json
 import os
 import re
+import signal
 import subprocess
+import time
 from collections import defaultdict, deque
 from collections.abc import Callable, Iterable, Iterator
 from dataclasses import asdict, dataclass, field
+from types import FrameType
 from typing import Any, Optional
 
+from goodlock.agent.rings import read_graph
 from goodlock.agent.run import Run
 from goodlock.commandline import plural
+from goodlock.errors import InputError
 from goodlock.groups import Group, Groups, Pair
-from goodlock.limits import HELPERS, TIMED_MARKERS, TRY_MARKERS
+from goodlock.limits import HELPERS, LEAST_BOUND, TIMED_MARKERS, TRY_MARKERS
 from goodlock.reports import Cycle, Report, read_reports
 from goodlock.traces import EVENT, Index, lines_of, read_trace
 
@@ -21,6 +27,11 @@ MOST_GROUPS = 1000
 CONFIRMED, POTENTIAL, TIMED, TRIED = "confirmed", "potential", "timed", "tried"
 TOO_LONG = re.compile("refused 23 .*")
 HELPERS_OF_TRIES = HELPERS + 500_000_000
+TIME, SIGNAL, LONG = "the time of --seconds is over", "a signal ended the search", "the report would be too long"
+NOT_SEARCHED = LEAST_BOUND - 1
+WITHOUT_TRIES = "acquires that do not wait are recorded for artificial threads: their cycles are not counted"
+# Acquires that do not wait are left out of the search after this part of the time, or at once if they are many.
+PART, MANY_TRIES = 0.25, 10_000
 
 
 class NoReport(Exception):
@@ -29,6 +40,48 @@ class NoReport(Exception):
 
 class TooLong(NoReport):
     """The report has too many bytes."""
+
+
+class Stopped(NoReport):
+    """The time is over, or a signal has ended the search."""
+
+
+class Limit:
+    """The time that the searches of this process may take. A signal ends the search that runs, and all later ones."""
+
+    def __init__(self, seconds: float, *signals: signal.Signals) -> None:
+        self.end, self.is_over, self.is_searching = time.monotonic() + seconds, False, False
+        self.signals = (signal.SIGALRM, signal.SIGUSR1, *signals)
+        for number in self.signals:
+            signal.signal(number, self.stop)
+
+    def close(self) -> None:
+        """Ignores the signals from here on: a handler in Python would not last until the end of the process."""
+        for number in self.signals:
+            signal.signal(number, signal.SIG_IGN)
+
+    @property
+    def left(self) -> float:
+        return max(0.0, self.end - time.monotonic())
+
+    def stop(self, number: int, _frame: Optional[FrameType]) -> None:
+        self.is_over |= number != signal.SIGALRM
+        if self.is_searching:
+            self.is_searching = False
+            raise Stopped(SIGNAL if self.is_over else TIME)
+
+    @contextlib.contextmanager
+    def search(self, part: float = 1) -> Iterator[None]:
+        """Raises `Stopped` in the block after this part of the time that is left, or at a signal."""
+        if self.is_over or not self.left:
+            raise Stopped(SIGNAL if self.is_over else TIME)
+        self.is_searching = True
+        signal.setitimer(signal.ITIMER_REAL, self.left * part)
+        try:
+            yield
+        finally:
+            self.is_searching = False
+            signal.setitimer(signal.ITIMER_REAL, 0)
 
 
 @dataclass
@@ -69,10 +122,14 @@ class Found:
 @dataclass
 class Window:
     """The results of the search in a window. `tried` cycles have a member that does not wait, `further` ones are in too many groups;
-    `notes` say what else is left out."""
+    `notes` say what else is left out. `why` says why `bound`, for which the results are complete, is less than wanted; if `is_partial`, they
+    are a part of those for this bound. `longest` is the longest ring of the lock graph."""
 
     length: int
     bound: int
+    why: str = ""
+    is_partial: bool = False
+    longest: int = 0
     found: list[Found] = field(default_factory=list)
     tried: int = 0
     further: int = 0
@@ -105,18 +162,23 @@ def site_of(index: Index, place: int) -> int:
     return int(index.events[place].where or 0)
 
 
-def report_lines(run: Run, number: int, bound: int) -> Iterator[str]:
-    """Yields the lines of the report on a window: those of the server, or of `goodlockd offline`."""
+def report_lines(run: Run, number: int, path: str, bound: int) -> Iterator[str]:
+    """Yields the lines of the report on a window: those of the server, or of `goodlockd offline` on its trace."""
     if os.path.exists(run.work(f"{number}.answer")):
         yield from lines_of(run.work(f"{number}.answer"))
         return
-    command = [run.program, "offline", run.window(number, "trace"), "--bound", str(bound)]
-    with subprocess.Popen(command, stdout=subprocess.PIPE, stderr=subprocess.PIPE, text=True, errors="replace") as offline:
-        for line in offline.stdout or ():
-            if TOO_LONG.match(line):
-                raise TooLong("the report is too long")
-            yield line.rstrip("\n")
-        error = (offline.stderr.read() if offline.stderr else "").strip()
+    command = [run.program, "offline", path, "--bound", str(bound)]
+    # A session of its own: Ctrl-C in the terminal is for this process, which ends the search.
+    with subprocess.Popen(command, stdout=subprocess.PIPE, stderr=subprocess.PIPE, text=True, errors="replace", start_new_session=True) as offline:
+        try:
+            for line in offline.stdout or ():
+                if TOO_LONG.match(line):
+                    raise TooLong(LONG)
+                yield line.rstrip("\n")
+            error = (offline.stderr.read() if offline.stderr else "").strip()
+        except BaseException:
+            offline.kill()
+            raise
     if offline.returncode:
         raise NoReport(error or f"goodlockd ended with status {offline.returncode}")
 
@@ -169,15 +231,14 @@ def without_tries(lines: Iterable[str]) -> Iterator[str]:
             yield line
 
 
-def rewrite(path: str, change: Callable[[Iterable[str]], Iterator[str]]) -> None:
-    with open(path, encoding="ascii") as old, open(f"{path}.new", "w", encoding="ascii") as new:
+def rewrite(path: str, to: str, change: Callable[[Iterable[str]], Iterator[str]]) -> None:
+    with open(path, encoding="ascii") as old, open(to, "w", encoding="ascii") as new:
         new.writelines(change(old))
-    os.replace(f"{path}.new", path)
 
 
-def search(run: Run, number: int, bound: int) -> Window:
+def search(run: Run, number: int, path: str, bound: int) -> Window:
     """Returns the results for a window's trace. The trace is read only if the report has a cycle."""
-    path, lines = run.window(number, "trace"), report_lines(run, number, bound)
+    lines = report_lines(run, number, path, bound)
     first = next(lines, "")
     if first.startswith("question ") and " cycles 0 " in first:
         deque(lines, maxlen=0)
@@ -191,14 +252,19 @@ def search(run: Run, number: int, bound: int) -> Window:
 
 def grouped(index: Index, reports: Iterable[tuple[Report, Optional[Cycle]]], bound: int) -> Window:
     window, groups = Window(0, bound), dict[bool, Groups]()
-    for report, cycle in reports:
-        if cycle is None:
-            window.length = report.length
-            groups = {is_timed: Groups(index, report, MOST_GROUPS, MOST_GROUPS) for is_timed in (False, True)}
-        elif kind_of(cycle) == TRIED:
-            window.tried += 1
-        else:
-            groups[kind_of(cycle) == TIMED].add(cycle)
+    try:
+        for report, cycle in reports:
+            if cycle is None:
+                window.length = report.length
+                groups = {is_timed: Groups(index, report, MOST_GROUPS, MOST_GROUPS) for is_timed in (False, True)}
+            elif kind_of(cycle) == TRIED:
+                window.tried += 1
+            else:
+                groups[kind_of(cycle) == TIMED].add(cycle)
+    except Stopped as fault:
+        if not groups:
+            raise
+        window.why, window.is_partial = str(fault), True
     for is_timed, some in groups.items():
         window.found += [found_of(index, group, is_timed) for group in some.by_key.values()]
         if some.further:
@@ -209,30 +275,90 @@ def grouped(index: Index, reports: Iterable[tuple[Report, Optional[Cycle]]], bou
     return window
 
 
-def search_shorter(run: Run, number: int) -> Window:
-    """Like `search`. If the report is too long, it leaves out first the acquires that do not wait, then the largest bounds."""
+def bounds_of(run: Run, number: int, longest: int) -> Iterable[int]:
+    """Returns the bounds to search, one after another: the last one has each cycle that the wanted bound has."""
+    if longest < LEAST_BOUND or os.path.exists(run.work(f"{number}.answer")):
+        return (run.bound,)
+    return range(LEAST_BOUND, min(run.bound, longest) + 1)
+
+
+def not_searched(run: Run, number: int, why: str) -> Window:
+    """Returns the results of a window that has none."""
+    with contextlib.suppress(OSError, ValueError, IndexError):
+        with open(run.work(f"{number}.window"), encoding="ascii") as file:
+            return Window(int(file.readline().split()[0]), NOT_SEARCHED, why)
+    return Window(0, NOT_SEARCHED, why)
+
+
+def search_up(run: Run, number: int, limit: Limit) -> Window:
+    """Searches with bound 2, then 3, up to the wanted one, or up to the longest ring of the lock graph, as long as the time permits. If that
+    takes too long, or the report would, the acquires that do not wait are left out of the search."""
+    try:
+        with limit.search():
+            graph = read_graph(run.work(f"{number}.window"))
+    except Stopped as fault:
+        return not_searched(run, number, str(fault))
+    window, path = not_searched(run, number, ""), run.window(number, "trace")
     notes: list[str] = []
-    for bound in range(run.bound, 1, -1):
-        if bound < run.bound:
-            notes = notes[:1] + [f"the reports for larger bounds are too long: the bound is {bound}"]
-        for _ in range(2):
-            with contextlib.suppress(TooLong):
-                window = search(run, number, bound)
-                window.notes = notes + window.notes
-                return window
-            if notes:
+    for bound in bounds_of(run, number, graph.longest):
+        ways = [False] if notes or not graph.tries else [True] if graph.tries > MANY_TRIES else [False, True]
+        for is_without in ways:
+            try:
+                with limit.search(1 if is_without == ways[-1] else PART):
+                    if is_without:
+                        rewrite(path, run.work(f"{number}.trace"), without_tries)
+                    found = search(run, number, run.work(f"{number}.trace") if is_without else path, bound)
+                if found.is_partial and (window.bound > NOT_SEARCHED or is_without != ways[-1]):
+                    raise Stopped(found.why)
+                window = found
+                if is_without:
+                    notes.append(WITHOUT_TRIES)
+                    os.replace(run.work(f"{number}.trace"), path)
                 break
-            notes.append("the report would be too long: acquires that do not wait are recorded for artificial threads")
-            rewrite(run.window(number, "trace"), without_tries)
-    raise TooLong("the report is too long with each bound")
+            except NoReport as fault:
+                if window.bound == NOT_SEARCHED and not isinstance(fault, (Stopped, TooLong)):
+                    raise
+                window.why = str(fault)
+        if window.bound < bound or window.is_partial:
+            break
+    if not window.why:
+        window.bound = run.bound
+    window.notes += notes
+    window.longest = graph.longest
+    return window
 
 
-def check(run: Run, number: int) -> None:
-    """Writes N.rows, the results of the search."""
+def check(run: Run, number: int, limit: Limit) -> None:
+    """Writes N.rows, the results of the search. Removes the trace of a further window that adds no group to those before."""
     drop_part_of_line(run.window(number, "trace"))
-    window = search_shorter(run, number)
-    with open(run.work(f"{number}.rows"), "w", encoding="ascii") as file:
+    window = search_up(run, number, limit)
+    rows = run.work(f"{number}.rows")
+    with open(f"{rows}.new", "w", encoding="ascii") as file:
         json.dump(asdict(window), file)
+    os.replace(f"{rows}.new", rows)
+    if not adds_group(run, window) and number > 1 and window.bound > NOT_SEARCHED and not window.is_partial:
+        os.remove(run.window(number, "trace"))
+
+
+def check_all(run: Run, first: int, last: int, seconds: float) -> None:
+    """Checks these windows. One without a result is checked again at the end of the run."""
+    limit = Limit(seconds)
+    for number in range(first, last + 1):
+        limit.end = time.monotonic() + seconds
+        with contextlib.suppress(OSError, ValueError, InputError, NoReport):
+            check(run, number, limit)
+    limit.close()
+
+
+def adds_group(run: Run, window: Window) -> bool:
+    """Notes the groups of a window, and returns whether one of them is new."""
+    keys = {f"{found.kind} {found.pairs(str)}\n" for found in window.found}
+    with open(run.work("known"), "a+", encoding="ascii") as file:
+        fcntl.flock(file, fcntl.LOCK_EX)
+        file.seek(0)
+        new = keys.difference(file)
+        file.writelines(sorted(new))
+    return bool(new)
 
 
 def window_of(content: Any) -> Window:
@@ -241,10 +367,17 @@ def window_of(content: Any) -> Window:
     return Window(found=found, **content)
 
 
-def results(run: Run, windows: int) -> Iterator[tuple[int, Window]]:
-    """Yields the results of each window's search."""
+def results(run: Run, windows: int, limit: Limit) -> Iterator[tuple[int, Window]]:
+    """Yields the results of each window's search. One window without a result does not keep the others from having theirs."""
+    faults = []
     for number in range(1, windows + 1):
-        if not os.path.exists(run.work(f"{number}.rows")):
-            check(run, number)
-        with open(run.work(f"{number}.rows"), encoding="ascii") as file:
-            yield number, window_of(json.load(file))
+        try:
+            if not os.path.exists(run.work(f"{number}.rows")):
+                check(run, number, limit)
+            with open(run.work(f"{number}.rows"), encoding="ascii") as file:
+                yield number, window_of(json.load(file))
+        except (OSError, ValueError, InputError, NoReport) as fault:
+            faults.append(fault)
+            if len(faults) == windows:
+                raise
+            yield number, not_searched(run, number, str(fault))

@@ -3,6 +3,7 @@ import contextlib
 import os
 import re
 import subprocess
+import time
 from collections import defaultdict
 from typing import NamedTuple, Optional
 
@@ -12,6 +13,7 @@ from goodlock.locations import Root
 from goodlock.traces import CALLED_BY
 
 ADDRESSES = 200  # in one run of addr2line
+LEAST_SECONDS = 10
 MOST_PATH, MOST_FUNCTION = 160, 70
 ADDRESS = re.compile(r"0x([0-9a-f]{1,16}): (.*)")
 INLINED = " (inlined by) "
@@ -56,10 +58,12 @@ def absolute(where: str) -> str:
 
 
 class Sites:
-    """The source lines of sites. A name has at most `shown` callers. Files are named relative to the root."""
+    """The source lines of sites. A name has at most `shown` callers. Files are named relative to the root. `addr2line` is not asked for longer
+    than these seconds, and at least a few: then addresses stay."""
 
-    def __init__(self, run: Run, shown: int, root: Optional[Root] = None) -> None:
+    def __init__(self, run: Run, shown: int, root: Optional[Root] = None, seconds: float = 0) -> None:
         self.shown, self.callers, self.root = shown, read_sites(run.work("sites")), root or Root()
+        self.end = time.monotonic() + max(seconds, LEAST_SECONDS)
         self.names: dict[int, str] = {}
         self.lines: dict[str, list[Source]] = {}  # of a caller PATH+0xOFFSET: its sources, the innermost first
         by_path: dict[str, set[str]] = defaultdict(set)
@@ -76,8 +80,8 @@ class Sites:
     def read_lines(self, path: str, offsets: list[str]) -> None:
         command = ["addr2line", "-a", "-C", "-f", "-i", "-p", "-e", path, *(f"0x{offset}" for offset in offsets)]
         try:
-            run = subprocess.run(command, capture_output=True, text=True, errors="replace", check=False)
-        except OSError:
+            run = subprocess.run(command, capture_output=True, text=True, errors="replace", check=False, timeout=self.end - time.monotonic())
+        except (OSError, subprocess.TimeoutExpired):
             return
         found: list[Source] = []
         for line in run.stdout.splitlines():

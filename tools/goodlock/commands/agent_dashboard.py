@@ -24,6 +24,7 @@ from goodlock.program import ROOT
 from goodlock.protocol import split
 
 FOR_EVER, WRONG = 10**8, 2
+SWITCHES = ("--dashboard", "--no-config", "--allow-partial", "--trace-children")  # options without a value
 ENDING = (signal.SIGTERM, signal.SIGHUP)
 
 
@@ -75,7 +76,7 @@ def take_options(args: list[str]) -> tuple[list[str], dict[str, str]]:
     at = 0
     while at < len(args) and args[at].startswith("--") and args[at] != "--":
         name, equals, value = args[at].partition("=")
-        end = at + 1 if equals or name in ("--dashboard", "--no-config") else at + 2
+        end = at + 1 if equals or name in SWITCHES else at + 2
         options[name] = value if equals else "".join(args[at + 1:end])
         kept += args[at:end] if name != "--dashboard" else []
         at = end

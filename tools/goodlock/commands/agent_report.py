@@ -1,13 +1,13 @@
 """Makes the reports of a run that the collector of an agent has written as traces. The collector starts it:
 
-    agent_report check GOODLOCKD BOUND OUT N [GATE ..]       searches the cycles of window N
-    agent_report deadlock GOODLOCKD BOUND OUT 0 [GATE ..]    prints a deadlock that has happened
-    agent_report finish GOODLOCKD BOUND OUT N [GATE ..]      writes the reports of windows 1 to N
-    agent_report options GOODLOCKD BOUND OUT 0 [GATE ..]     prints the options of goodlock.toml, each with a zero byte, and checks GATE
+    agent_report check GOODLOCKD BOUND OUT M-N SECONDS [GATE ..]     searches the cycles of windows M to N, each in this time
+    agent_report deadlock GOODLOCKD BOUND OUT 0 0 [GATE ..]          prints a deadlock that has happened
+    agent_report finish GOODLOCKD BOUND OUT N SECONDS [GATE ..]      writes the reports of windows 1 to N, in this time
+    agent_report options GOODLOCKD BOUND OUT 0 0 [GATE ..]           prints the options of goodlock.toml, each with a zero byte, and checks GATE
 
-GATE is --fail-on WORD, --baseline FILE, --suppress FILE, --root DIR, --no-config. Exit status of `finish`: 1 if the gate fails, by default
-if a deadlock was confirmed or has happened, 2 if there is no report, 3 if the run was analysed only in part, else 0. Of the others: 2 if a
-file or an option has a fault, else 0.
+BOUND is 2 to 8, or auto. GATE is --fail-on WORD, --baseline FILE, --suppress FILE, --root DIR, --no-config. SIGUSR1 ends the search, and of
+`finish` also SIGINT and SIGTERM. Exit status of `finish`: 1 if the gate fails, by default if a deadlock was confirmed or has happened, 2 if
+the run was not analysed, 3 if it was analysed only in part, else 0. Of the others: 2 if a file or an option has a fault, else 0.
 """
 from __future__ import annotations
 
@@ -16,10 +16,11 @@ import sys
 from goodlock.agent.gate import settings_from, take_options
 from goodlock.agent.report import NO_REPORT, finish, read_deadlock
 from goodlock.agent.run import Run, say
-from goodlock.agent.search import NoReport, check
+from goodlock.agent.search import NoReport, check_all
 from goodlock.agent.sites import Sites
 from goodlock.commandline import print_whole, run
 from goodlock.errors import InputError
+from goodlock.limits import MOST_BOUND
 
 TASKS = ("check", "deadlock", "finish", "options")
 
@@ -37,19 +38,23 @@ def check_options(words: list[str]) -> int:
 
 
 def main() -> int:
-    if len(sys.argv) < 6 or sys.argv[1] not in TASKS:
+    if len(sys.argv) < 7 or sys.argv[1] not in TASKS:
         return run(lambda: print_whole(f"{__doc__.strip()}\n")) or (0 if sys.argv[1:] in (["--help"], ["-h"]) else NO_REPORT)
-    task, program, bound, out, number = sys.argv[1:6]
-    files = Run(out, program, int(bound))
+    task, program, bound, out, number, seconds = sys.argv[1:7]
+    files, gate = Run(out, program, MOST_BOUND if bound == "auto" else int(bound)), sys.argv[7:]
     try:
         if task == "finish":
-            return finish(files, int(number), settings_from(sys.argv[6:]))
+            return finish(files, int(number), float(seconds), settings_from(gate))
         if task == "check":
-            check(files, int(number))
+            first, last = map(int, number.split("-"))
+            check_all(files, first, last, float(seconds))
         elif task == "options":
-            return check_options(sys.argv[6:])
+            return check_options(gate)
         else:
-            for line in read_deadlock(files, Sites(files, 1, settings_from(sys.argv[6:]).root)):
+            lines = read_deadlock(files, Sites(files, 1, settings_from(gate).root))
+            with open(files.work("happened"), "w", encoding="utf-8") as file:
+                file.writelines(f"{line}\n" for line in lines)
+            for line in lines:
                 say(line)
     except (OSError, ValueError, KeyError, MemoryError, InputError, NoReport) as fault:
         say(f"there is no report: {fault or 'no memory'}")

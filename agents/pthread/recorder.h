@@ -1,0 +1,46 @@
+/* Shared by the files of the recorder: recorder.c has the events and the calls of the C library, libraries.c those of other libraries. */
+#define _GNU_SOURCE
+#include "ring.h"
+
+#include <dlfcn.h>
+#include <errno.h>
+#include <pthread.h>
+
+#define THREAD_LOCAL __thread __attribute__((tls_model("initial-exec")))
+#define EXPORT __attribute__((visibility("default")))
+
+struct site { uint32_t count; uint64_t stack, callers[MOST_FRAMES]; };
+
+/* A child by `fork`, `_Fork` or `clone` finds this page filled with zeros. ring: NULL if nothing is recorded. */
+extern struct page { struct ring *ring; char rest[4096 - sizeof(struct ring *)]; } page;
+extern THREAD_LOCAL uint32_t self;
+extern THREAD_LOCAL uint64_t stack_low, stack_high;
+extern THREAD_LOCAL uint64_t stated; /* the caller of this thread's next calls, if the program states it */
+
+/* The return address of the program's call, and those of the frames above it while the frame pointers stay in this thread's stack. */
+static inline __attribute__((always_inline)) void take_site(struct site *site, void *frame, void *caller) {
+    uint64_t at = (uint64_t)frame, *up;
+    site->stack = at, site->callers[0] = stated ? stated : (uint64_t)caller, site->count = 1;
+    if (stated || at < stack_low || at >= stack_high) return;
+    while (site->count < MOST_FRAMES) {
+        up = (uint64_t *)at;
+        if (up[0] <= at || up[0] >= stack_high - 16 || up[0] % 8) break;
+        at = up[0];
+        site->callers[site->count++] = ((uint64_t *)at)[1];
+    }
+}
+#define TAKE_SITE struct site site; take_site(&site, __builtin_frame_address(0), __builtin_return_address(0))
+
+/* Records an event, if anything is recorded. */
+void tell(enum kind kind, const volatile void *address, uint64_t other, const struct site *site);
+void tell_if(int condition, enum kind kind, const volatile void *object, const struct site *site);
+/* After an acquire: also remembers that this memory contains a lock. */
+void acquired(enum kind kind, const volatile void *lock, const struct site *site);
+/* Shows what this thread waits for. Returns NULL if nothing is recorded. */
+struct wait *will_wait(uint32_t kind, uint64_t address, const struct site *site);
+void has_waited(struct wait *wait);
+/* A library that the program loads for itself has a function of this name that RTLD_NEXT does not find. Then this library must not come before
+ * it: the loader passes over a symbol without a value. */
+void hide_unless_next(const char *name, void *own);
+/* In libraries.c. */
+void find_libraries(void);
