@@ -41,8 +41,8 @@ COUNTED = ("least_of", "make_timestamps", "snapshot_of", "record_in", "build_cou
 # the word, its crate, and the functions that may use it
 RESERVED = [
     (r"\bBoardReader::new\(", "board", ("make_readers",)),
-    (r"\benter_as::", "board", ("enter",)),
-    (r"\.add_one\(", "board", ("enter",)),
+    (r"\benter_as::", "board", ("read_entry",)),
+    (r"\.add_one\(", "board", ("read_entry",)),
     (r"\b(?:Steps|Copies)::(?:<\w+>::)?new\(", "", COUNTED),
 ]
 

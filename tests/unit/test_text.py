@@ -65,6 +65,15 @@ class Groups(unittest.TestCase):
             "  Look at: It is harmless.",
         ])
 
+    def test_reproduced(self) -> None:
+        command = "agents/pthread/goodlock --reproduce bank --cycle 0,1 ./bank"
+        found = lines_of(replace(POTENTIAL, reproduce=command))
+        self.assertEqual((found[0], found[-2]), ("group 1 potential: 1 cycle", f"  Reproduce: {command}"))
+        found = lines_of(replace(CONFIRMED, reproduced=("reproduced in run 1, 0.50 s, 4 steps", "thread 1 waits"), reproduce=command))
+        self.assertEqual(found[0], "group 1 confirmed, reproduced: 3 cycles, 2 confirmed")
+        self.assertEqual(found[-4:-1], ["  It was reproduced in run 1, 0.50 s, 4 steps:", "    thread 1 waits", f"  Reproduce: {command}"])
+        self.assertNotIn("eproduce", "\n".join(lines_of(CONFIRMED)))
+
     def test_no_source_lines_and_names(self) -> None:
         first, second = NOWHERE.members
         spots = [replace(spot, has_source=False, name="bob") for spot in (first.hold, first.wait)]

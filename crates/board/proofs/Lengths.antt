@@ -12,14 +12,14 @@ use Rattle.trace_model.specs.declared.limits.TheConstants.{MAX_EVENTS}
 use Rattle.trace_model.specs.Theory.Rows.{AreRows}
 use Rattle.trace_model.specs.Protocol.Machine.{opening}
 use Rattle.trace_model.specs.Protocol.Runs as runs
-use Rattle.trace_model.specs.Protocol.Runs.{Shown, add_delivery, count_step, summary, IsLegal}
+use Rattle.trace_model.specs.Protocol.Runs.{QuestionCounts, add_delivery, count_step, summary, IsLegal}
 use Rattle.trace_model.specs.Protocol.Bounds.{SummaryFits}
 use Rattle.trace_model.proofs.Lists.{at_index, by_pushes, length-push}
 use Rattle.trace_model.proofs.Protocol.Bounds.{run_is_within}
 use Rattle.trace_model.proofs.Protocol.Taking.{run_parts}
 use Rattle.board.proofs.Showing.{IsAbout, legal_counts, count_steps-push}
 
-abbrev delivered_in : Shown → ℕ
+abbrev delivered_in : QuestionCounts → ℕ
 delivered_in q = q.delivered
 
 -- Accepted events, open questions and delivered tasks: each step adds at least one of them.
@@ -29,17 +29,17 @@ weight b = b.accepted + length b.questions + sum_by delivered_in b.questions
 heavier : (b : runs.Summary) (x : BoardStep) → IsAbout b x → suc (weight b) ≤ weight (count_step b x)
 heavier b (Accept events) some = omega (arith, some)
 heavier b (Open bound total) h =
-    let fresh : Shown = record { before = b.accepted; bound = bound; total = total; delivered = 0; cycles = 0; confirmed = 0 } in
+    let fresh : QuestionCounts = record { before = b.accepted; bound = bound; total = total; delivered = 0; cycles = 0; confirmed = 0 } in
     omega (arith, length-append b.questions (fresh ∷ []), sum_by_push delivered_in b.questions fresh)
 heavier b (Deliver number task cycles confirmed) (shown, at) =
-    let told : Shown = record shown { delivered = shown.delivered + 1; cycles = shown.cycles + cycles; confirmed = shown.confirmed + confirmed } in
-    let next : runs.Summary = record b { questions = slice_set b.questions number told } in
+    let delivered_question : QuestionCounts = record shown { delivered = shown.delivered + 1; cycles = shown.cycles + cycles; confirmed = shown.confirmed + confirmed } in
+    let next : runs.Summary = record b { questions = slice_set b.questions number delivered_question } in
     let is : count_step b (Deliver number task cycles confirmed) ≡ next =
     ap (λ o. record b { questions = add_delivery b.questions o number cycles confirmed }) at in
     let low : number < length b.questions = slice_get_within b.questions number shown at in
     let known : slice_index_or b.questions number shown ≡ shown = get_or_from_slice_get b.questions number shown shown at in
-    let sum = sum_by-set delivered_in b.questions number told shown low in
-    subst (λ n. suc (weight b) ≤ n) (sym (ap weight is)) (omega (arith, sum, ap delivered_in known, length-set b.questions number told))
+    let sum = sum_by-set delivered_in b.questions number delivered_question shown low in
+    subst (λ n. suc (weight b) ≤ n) (sym (ap weight is)) (omega (arith, sum, ap delivered_in known, length-set b.questions number delivered_question))
 
 counted : (run : List BoardStep) → IsLegal run → length run ≤ weight (summary run)
 counted run = by_pushes (λ s. IsLegal s → length s ≤ weight (summary s)) (λ h. omega arith) step run
@@ -55,7 +55,7 @@ counted run = by_pushes (λ s. IsLegal s → length s ≤ weight (summary s)) (�
 few_delivered : (b : runs.Summary) → SummaryFits b → sum_by delivered_in b.questions ≤ length b.questions * MAX_EVENTS
 few_delivered b fits = sum_by-le delivered_in MAX_EVENTS b.questions (All-from_get_or (λ q. delivered_in q ≤ MAX_EVENTS) b.questions default each)
   where
-    default : Shown
+    default : QuestionCounts
     default = record { before = 0; bound = 0; total = 0; delivered = 0; cycles = 0; confirmed = 0 }
 
     each : (i : ℕ) → i < length b.questions → delivered_in (slice_index_or b.questions i default) ≤ MAX_EVENTS

@@ -14,8 +14,8 @@ use Rattle.trace_model.specs.declared.messages.step.BoardStep.{BoardStep}
 use Rattle.trace_model.specs.declared.limits.TheConstants.{MAX_EVENTS}
 use Rattle.trace_model.specs.Protocol.Machine.{opening}
 use Rattle.trace_model.specs.Protocol.Runs.{IsLegal}
-use Rattle.board.specs.Fits.{followed}
-use Rattle.board.specs.Rules.{IsBoard, Enters, seen_after}
+use Rattle.board.specs.Fits.{longer_run}
+use Rattle.board.specs.Rules.{IsBoard, ReportsEntry, seen_after}
 
 pub begins_itself : {A : Type 0} (xs : List A) → IsPrefix xs xs
 begins_itself xs = ([], append-nil xs)
@@ -48,12 +48,12 @@ either_begins : (b : Bool) (seen published : List BoardStep) → IsPrefix seen p
 either_begins true seen published begins = begins
 either_begins false seen published begins = begins_itself published
 
-pub entering : (told seat : ℕ) (seen : List BoardStep) → Turns IsBoard seat seen (λ x. x) (λ v x y w. Enters told v x w)
-entering told seat seen published views board at =
+pub entering : (reported seat : ℕ) (seen : List BoardStep) → Turns IsBoard seat seen (λ x. x) (λ v x y w. ReportsEntry reported v x w)
+entering reported seat seen published views board at =
     let begins = board.each seat seen at in (
-      seen_after told seen published,
-      goes_on published published views seat (seen_after told seen published) board board.legal (begins_itself published)
-          (either_begins (nat_lt (length published) told) seen published begins),
+      seen_after reported seen published,
+      goes_on published published views seat (seen_after reported seen published) board board.legal (begins_itself published)
+          (either_begins (nat_lt (length published) reported) seen published begins),
       record { legal = board.legal; later = begins; is = refl },
     )
 
@@ -72,7 +72,7 @@ module _ {X : Type 0} (run : X → List BoardStep) (holds : X → List (List Boa
 pub nothing : IsLegal []
 nothing = (opening MAX_EVENTS, refl)
 
-pub next_follows : (run next : List BoardStep) (step : BoardStep) → next ≡ run ++ step ∷ [] → followed run next ≡ next
+pub next_follows : (run next : List BoardStep) (step : BoardStep) → next ≡ run ++ step ∷ [] → longer_run run next ≡ next
 next_follows run next step is =
     let one : length next ≡ length run + 1 = omega (arith, ap length is, length-append run (step ∷ [])) in
     let test : (length next == length run + 1) ≡ true = grind (arith, nat_tests) in
@@ -85,7 +85,7 @@ of_ok P Q (Err e) ok is = absurd (subst (λ (b : Bool). MatchBool b ⊥ (Unit {0
 
 -- the value that absorbs the waiting change shows the next run
 pub next_run : {X S : Type 0} (run : X → List BoardStep) (state : X → S) (applied : S → Option (List BoardStep) → S) → ((shown : S) → applied shown None ≡ shown)
-    → ((s t : X) (next : List BoardStep) → state t ≡ applied (state s) (Some next) → run t ≡ followed (run s) next)
+    → ((s t : X) (next : List BoardStep) → state t ≡ applied (state s) (Some next) → run t ≡ longer_run (run s) next)
     → (s t : X) (next : List BoardStep) (step : BoardStep) → next ≡ run s ++ step ∷ [] → state t ≡ fold applied (state s) (None ∷ Some next ∷ []) → run t ≡ next
 next_run run state applied idle follows s t next step ends is =
     follows s t next (is ∙ ap (λ shown. applied shown (Some next)) (idle (state s))) ∙ next_follows (run s) next step ends

@@ -8,13 +8,13 @@ abbrev pub EndsWith : List BoardStep → BoardStep → Type 0
 EndsWith run step = (before : List BoardStep) × (run ≡ before ++ step ∷ [])
 
 -- `next` if it is one step longer than the run, else the run
-abbrev pub followed : List BoardStep → List BoardStep → List BoardStep
-followed run next = cond (length next == length run + 1) next run
+abbrev pub longer_run : List BoardStep → List BoardStep → List BoardStep
+longer_run run next = cond (length next == length run + 1) next run
 
 -- the run after an optional change
 abbrev pub after_change : List BoardStep → Option (List BoardStep) → List BoardStep
 after_change run None = run
-after_change run (Some next) = followed run next
+after_change run (Some next) = longer_run run next
 
 -- the writer: the published steps, and the steps that wait to be published
 pub record WriterView : Type 0 where
@@ -32,9 +32,9 @@ list_of None = []
 list_of (Some step) = step ∷ []
 
 -- a step with its events cut to the first `n`
-abbrev pub truncated : ℕ → BoardStep → BoardStep
-truncated n (Accept events) = Accept (take n events)
-truncated n step = step
+abbrev pub truncated_step : ℕ → BoardStep → BoardStep
+truncated_step n (Accept events) = Accept (take n events)
+truncated_step n step = step
 
 -- a reader: the steps that it has seen, those that it has seen or learned from receipts, and the
 -- number of its entries that failed, modulo 2^64

@@ -38,7 +38,7 @@ abbrev pub seen_after : ℕ → List BoardStep → List BoardStep → List Board
 seen_after known seen published = cond (nat_lt (length published) known) seen published
 
 -- what an entry reports, if the reader knows of that many steps
-pub record Enters (known : ℕ) (seen published after : List BoardStep) : Type 0 where
+pub record ReportsEntry (known : ℕ) (seen published after : List BoardStep) : Type 0 where
   pub legal : IsLegal published
   pub later : IsPrefix seen published
   pub is : after ≡ seen_after known seen published

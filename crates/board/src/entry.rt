@@ -6,9 +6,9 @@ ghost use Rattle.trace_model.specs.Protocol.Runs.{IsLegal};
 ghost use Rattle.left_right.specs.Sides.{view};
 ghost use Rattle.board.specs.Entries.{IsBehind, one_more};
 
+use crate::board_state::BoardState;
 use crate::history::{HistoryId, HistoryPrefix};
 use crate::rule::{Enter, KnownCount, SeenSteps};
-use crate::shown::Shown;
 use left_right::reader::{Reader, Reading};
 
 /// Why a reader did not see the board.
@@ -20,7 +20,7 @@ pub enum Busy {
     Behind,
 }
 
-/// The number of a reader's entries that failed, modulo 2^64. Only `enter` adds to it. So a
+/// The number of a reader's entries that failed, modulo 2^64. Only `read_entry` adds to it. So a
 /// contract states that a reader was busy only because an entry failed.
 #[derive(Drop)]
 pub struct FailedEntries {
@@ -42,13 +42,13 @@ impl FailedEntries {
 }
 
 /// A reader of the kit's board, under the rule of this crate.
-pub(crate) type RuledReader<N> = Reader<Shown<N>, SeenSteps, Shown<N>>;
+pub(crate) type RuledReader<N> = Reader<BoardState<N>, SeenSteps, BoardState<N>>;
 
-type RuledReading<N> = Reading<Shown<N>, SeenSteps, Shown<N>>;
+type RuledReading<N> = Reading<BoardState<N>, SeenSteps, BoardState<N>>;
 
 /// Enters the board. On failure the reader is put back, its view does not change, and the failed
 /// entry is counted.
-pub(crate) fn enter<N: HistoryId, K: KnownCount>(
+pub(crate) fn read_entry<N: HistoryId, K: KnownCount>(
     reader: &mut Option<RuledReader<N>>,
     known: &HistoryPrefix<N>,
     failed: &mut FailedEntries,

@@ -5,18 +5,18 @@
 //! [`BoardReader::status`]; start reading at `rule`, which states the rule of the board.
 #![tactic(auto)]
 
+mod board_state;
 mod entry;
 mod history;
 mod reader;
 mod rule;
-mod shown;
 mod summary;
 mod writer;
 
+pub use board_state::{BoardState, StepDelta};
 pub use entry::{Busy, FailedEntries};
 pub use history::{HistoryId, HistoryPrefix, LengthWord, NewHistory};
 pub use reader::{BoardReader, Receipt};
 pub use rule::{BoardValue, SeenSteps};
-pub use shown::{Shown, StepDelta};
 pub use summary::{QuestionSummary, Summary, Unsettled};
 pub use writer::{BoardWriter, NotMade, new_board};

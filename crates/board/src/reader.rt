@@ -7,7 +7,7 @@ ghost use Rattle.board.specs.Entries.{IsBusy};
 ghost use Rattle.board.specs.Totals.{Shows};
 ghost use Rattle.board.specs.Unsettled.{IsLeastUnsettled, open_questions};
 
-use crate::entry::{Busy, FailedEntries, RuledReader, enter};
+use crate::entry::{Busy, FailedEntries, RuledReader, read_entry};
 use crate::history::{HistoryId, HistoryPrefix};
 use crate::summary::{Summary, Unsettled};
 use std::marker::{Brand, Model};
@@ -136,7 +136,7 @@ impl<N: HistoryId> BoardReader<N> {
         ensures entered { OnOk result (self.new.failed ≡ self.old.failed) }
         ensures busy { IfErr result (IsBusy self.old self.new) }
     {
-        let reading = enter::<N, Brand>(&mut self.reader, &self.known, &mut self.failed)?;
+        let reading = read_entry::<N, Brand>(&mut self.reader, &self.known, &mut self.failed)?;
         let summary = *reading.get().totals();
         self.known = reading.get().prefix().again();
         self.reader = Some(reading.leave());
@@ -162,7 +162,7 @@ impl<N: HistoryId> BoardReader<N> {
         ensures entered { OnOk result (self.new.failed ≡ self.old.failed) }
         ensures busy { IfErr result (IsBusy self.old self.new) }
     {
-        let reading = enter::<N, Brand>(&mut self.reader, &self.known, &mut self.failed)?;
+        let reading = read_entry::<N, Brand>(&mut self.reader, &self.known, &mut self.failed)?;
         let found = reading.get().totals().least_unsettled(passed_over);
         self.known = reading.get().prefix().again();
         self.reader = Some(reading.leave());
@@ -175,7 +175,7 @@ impl<N: HistoryId> BoardReader<N> {
         ensures seen { self.new.seen ≡ self.old.seen }
         ensures begins { IsPrefix self.new.seen self.new.known }
         ensures own { IsPrefix self.old.known self.new.known }
-        ensures told { IsPrefix receipt.now self.new.known }
+        ensures learnt { IsPrefix receipt.now self.new.known }
         ensures legal { IsLegal self.new.known }
         ensures failed { self.new.failed ≡ self.old.failed }
     {
@@ -188,7 +188,7 @@ impl<N: HistoryId> BoardReader<N> {
     pub fn catch_up<R: Wait>(&mut self, rt: &R, receipt: &Receipt<N>)
         ensures seen { self.new.seen ≡ self.old.seen }
         ensures own { IsPrefix self.old.known self.new.known }
-        ensures told { self.new.known ≡ receipt.now }
+        ensures learnt { self.new.known ≡ receipt.now }
         ensures legal { IsLegal self.new.known }
         ensures failed { self.new.failed ≡ self.old.failed }
     {

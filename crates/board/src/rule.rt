@@ -1,12 +1,12 @@
 //! The rule of the board, and what a publish and an entry report.
 ghost use Rattle.std.specs.Prelude.{◌≡◌, List, [], ℕ, refl, None, Some};
 ghost use Rattle.trace_model.specs.declared.messages.step.BoardStep.{BoardStep};
-ghost use Rattle.board.specs.Fits.{followed};
+ghost use Rattle.board.specs.Fits.{longer_run};
 ghost use Rattle.board.specs.Rules.{IsBoard};
 ghost use Rattle.board.specs.Totals.{Shows};
 
+use crate::board_state::{BoardState, StepDelta};
 use crate::history::HistoryId;
-use crate::shown::{Shown, StepDelta};
 use crate::summary::Summary;
 use crossbeam_utils::rule::{Outcome, Protocol};
 use left_right::Absorb;
@@ -32,7 +32,7 @@ pub trait BoardValue<N: HistoryId>: Absorb<Option<StepDelta<N>>>
 
     /// A value that absorbed a step shows one step more.
     ghost follows: { (s t : Self) (next : List BoardStep) →
-        Self.state t ≡ Self.applied (Self.state s) (Some next) → run t ≡ followed (run s) next };
+        Self.state t ≡ Self.applied (Self.state s) (Some next) → run t ≡ longer_run (run s) next };
 
     /// The empty change changes nothing.
     ghost idle: { (shown : Self.State) → Self.applied shown None ≡ shown };
@@ -51,7 +51,7 @@ pub trait BoardValue<N: HistoryId>: Absorb<Option<StepDelta<N>>>
     ghost unseen: { Self.first ≡ [] };
 }
 
-impl<N: HistoryId> BoardValue<N> for Shown<N> {
+impl<N: HistoryId> BoardValue<N> for BoardState<N> {
     ghost run = { λ s. s };
 
     ghost follows = { λ s t next is. is };
@@ -73,7 +73,7 @@ impl<N: HistoryId> BoardValue<N> for Shown<N> {
 
 /// The rule of the board. The writer's view is the list of published steps. A reader's view is a
 /// prefix of that list.
-impl<N: HistoryId> Protocol<Shown<N>, SeenSteps> for Shown<N> {
+impl<N: HistoryId> Protocol<BoardState<N>, SeenSteps> for BoardState<N> {
     ghost use Rattle.std.specs.Prelude.{[]};
     ghost use Rattle.board.specs.Rules.{IsBoard};
 
@@ -105,8 +105,8 @@ pub struct Enter<N: HistoryId, K: KnownCount> {
     name: PhantomData<(N, K)>,
 }
 
-impl<N: HistoryId, K: KnownCount> Outcome<Shown<N>, SeenSteps> for Enter<N, K> {
-    ghost use Rattle.board.specs.Rules.{Enters};
+impl<N: HistoryId, K: KnownCount> Outcome<BoardState<N>, SeenSteps> for Enter<N, K> {
+    ghost use Rattle.board.specs.Rules.{ReportsEntry};
 
-    ghost then = { λ v x _ w. Enters K.count v x w };
+    ghost then = { λ v x _ w. ReportsEntry K.count v x w };
 }

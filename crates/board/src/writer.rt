@@ -3,13 +3,13 @@ ghost use Rattle.std.specs.Prelude.{◌≡◌, ◌≤◌, [], ◌∷◌, ◌++�
 ghost use Rattle.left_right.specs.Sides.{view};
 ghost use Rattle.trace_model.specs.declared.messages.step.BoardStep.{BoardStep};
 ghost use Rattle.trace_model.specs.Protocol.Runs.{IsLegal};
-ghost use Rattle.board.specs.Fits.{truncated};
+ghost use Rattle.board.specs.Fits.{truncated_step};
 ghost use Rattle.board.specs.Totals.{Shows};
 
+use crate::board_state::{BoardState, StepDelta};
 use crate::history::{HistoryId, HistoryPrefix, LengthWord, NewHistory, wait_forever};
 use crate::reader::{BoardReader, Receipt};
 use crate::rule::{BoardValue, Publish, SeenSteps};
-use crate::shown::{Shown, StepDelta};
 use crate::summary::Summary;
 use core::mem::replace_with;
 use left_right::writer::Writer;
@@ -147,7 +147,7 @@ impl<N: HistoryId, R: Wait + Copy, T: BoardValue<N>> BoardWriter<N, R, T> {
     pub fn truncate(&mut self, events: usize)
         requires some { 1 ≤ events }
         ensures published { self.new.published ≡ self.old.published }
-        ensures waiting { self.new.waiting ≡ map (truncated events) self.old.waiting }
+        ensures waiting { self.new.waiting ≡ map (truncated_step events) self.old.waiting }
     {
         let _ = &self.publisher; // for the proof
         if let Some(BoardStep::Accept(batch)) = &mut self.waiting {
@@ -201,14 +201,14 @@ pub fn new_board<N: HistoryId, R: Wait + Copy>(
     rt: R,
     history: NewHistory,
     readers: usize,
-) -> Result<(BoardWriter<N, R, Shown<N>>, Vec<BoardReader<N>>), NotMade>
+) -> Result<(BoardWriter<N, R, BoardState<N>>, Vec<BoardReader<N>>), NotMade>
     requires name { history.seen.book ≡ N.book }
     requires readers { (1 ≤ readers) × (readers ≤ 40) }
     ensures writer { IfOk result (λ r. (r.0.published ≡ []) × (r.0.waiting ≡ [])) }
     ensures readers { IfOk result (λ r. length r.1.items ≡ readers) }
 {
     let (word, prefix) = history.named::<N>();
-    let (first, second) = (Shown::opening(&prefix), Shown::opening(&prefix));
+    let (first, second) = (BoardState::opening(&prefix), BoardState::opening(&prefix));
     let Ok(publisher) = RuledWriter::new(alloc, first, second, readers) else {
         return Err(NotMade);
     };
@@ -228,7 +228,7 @@ pub fn new_board<N: HistoryId, R: Wait + Copy>(
 
 fn make_readers<N: HistoryId>(
     alloc: Global,
-    publisher: &RuledWriter<N, Shown<N>>,
+    publisher: &RuledWriter<N, BoardState<N>>,
     prefix: &HistoryPrefix<N>,
     readers: usize,
 ) -> Result<Vec<BoardReader<N>>, NotMade>

@@ -1,13 +1,13 @@
-//! Task numbers that many threads draw without a lock. Each draw is one `fetch_add` on the word of its
-//! question. The main contract is [`gather`]: once all claimants are gathered, the numbers drawn for
-//! each question are those below its total, each exactly once. Start reading at [`Claims`], the rule of
-//! the words.
+//! Task numbers that many threads draw without a lock. Each draw is one `fetch_add` on the word of
+//! its question. The main contract is [`gather`]: once all claimants are gathered, the numbers
+//! drawn for each question are those below its total, each exactly once. Start reading at
+//! [`Claims`], the rule of the words.
 #![tactic(auto)]
 
 ghost use Rattle.std.specs.Prelude.{◌≡◌, ℕ, ◌+◌, ◌-◌, ◌*◌, ◌^◌, ◌<◌, ◌≤◌, [], ◌∷◌, ◌++◌, length, replicate, slice_index, IfOk, IfErr, MatchResult};
 ghost use Rattle.atomic_table.specs.Seated.{TableId};
 ghost use Rattle.std.specs.Arc.{arc_value};
-ghost use Rattle.claims.specs.Draws.{Counted, Seen, AreAllOfOneCall, DrewEachOnce, CountsDraws, draw, draws_of, drew, hand, newcomer, once_below, times};
+ghost use Rattle.claims.specs.Draws.{CountsEachDraw, ClaimantView, AreAllOfOneCall, DrewEachOnce, CountsDraws, draw, draws_of, after_draw, hand, newcomer, once_below, times};
 
 use atomic_table::{Join, Play, Seat, Split, Table, TableRule};
 use std::alloc::{AllocError, Global};
@@ -19,8 +19,8 @@ use thiserror::Error;
 /// The number of questions. Each has its own word.
 pub const QUESTIONS: usize = 256;
 
-/// The largest number of draws of one claimant, over all questions. With at most 64 claimants no word
-/// wraps.
+/// The largest number of draws of one claimant, over all questions. With at most 64 claimants no
+/// word wraps.
 pub const MAX_DRAWS: u64 = 1 << 40;
 
 /// One draw. It exists in proofs only.
@@ -42,7 +42,7 @@ pub struct Hand {
 pub struct Claims;
 
 impl TableRule<(), Hand, usize> for Claims {
-    ghost holds = { Counted };
+    ghost holds = { CountsEachDraw };
 
     ghost first = { λ n. hand n [] };
 }
@@ -51,7 +51,7 @@ impl TableRule<(), Hand, usize> for Claims {
 struct Draws;
 
 impl Play<(), Hand> for Draws {
-    ghost then = { drew };
+    ghost then = { after_draw };
 }
 
 /// A claimant's seat is split off a seat without draws.
@@ -96,7 +96,7 @@ pub struct Claimant {
 }
 
 impl Model for Claimant {
-    ghost Value = { Seen };
+    ghost Value = { ClaimantView };
 
     ghost view = { λ c. record {
       call = c.seat.table_id;
@@ -110,8 +110,8 @@ impl Model for Claimant {
 }
 
 impl Claimant {
-    /// Draws the next number of the question, counted from 0, by one `fetch_add`. Does not lock, wait or
-    /// allocate.
+    /// Draws the next number of the question, counted from 0, by one `fetch_add`. Does not lock,
+    /// wait or allocate.
     ///
     /// # Errors
     ///
@@ -187,9 +187,9 @@ fn totals_of(
     totals
 }
 
-/// Consumes all claimants of one `claimants` call and returns the number of draws for each question.
-/// The numbers drawn for a question are exactly those below its total, each once. Part of the public
-/// API; not called by the program.
+/// Consumes all claimants of one `claimants` call and returns the number of draws for each
+/// question. The numbers drawn for a question are exactly those below its total, each once. Part of
+/// the public API; not called by the program.
 ///
 /// # Errors
 ///

@@ -13,8 +13,8 @@ abbrev pub positional : Text → Rule
 positional id = record (new_rule id) { value_names = 1; required = true }
 
 -- an option `--id NUMBER`
-abbrev pub ranged : Text → ℕ → ℕ → Rule
-ranged id least most = record (new_rule id) {
+abbrev pub number_option : Text → ℕ → ℕ → Rule
+number_option id least most = record (new_rule id) {
   long = Some id;
   value_names = 1;
   parser = Some (parsers.Signed (pos least) (pos most));
@@ -25,16 +25,16 @@ abbrev pub or_else : Rule → Text → Rule
 or_else rule text = record rule { defaults = text ∷ [] }
 
 abbrev pub limit_rule : Rule
-limit_rule = or_else (ranged (codes "limit") 1 1_048_576) (codes "1048576")
+limit_rule = or_else (number_option (codes "limit") 1 1_048_576) (codes "1048576")
 
 abbrev pub workers_rule : Rule
-workers_rule = or_else (ranged (codes "workers") 1 16) (codes "1")
+workers_rule = or_else (number_option (codes "workers") 1 16) (codes "1")
 
 abbrev pub sessions_rule : Rule
-sessions_rule = or_else (ranged (codes "sessions") 0 1_000_000) (codes "0")
+sessions_rule = or_else (number_option (codes "sessions") 0 1_000_000) (codes "0")
 
 abbrev pub bound_rule : Rule
-bound_rule = record (ranged (codes "bound") 2 8) { required = true }
+bound_rule = record (number_option (codes "bound") 2 8) { required = true }
 
 abbrev pub cycle_rule : Rule
 cycle_rule = record (new_rule (codes "cycle")) { long = Some (codes "cycle"); value_names = 1 }
@@ -64,14 +64,14 @@ check_app = with_rule (with_rule (new_app (codes "check")) (positional (codes "t
     (positional (codes "file"))
 
 -- the program's name, before its commands are added
-abbrev pub named_app : App
-named_app = let new = new_app (codes "goodlockd") in
+abbrev pub bare_app : App
+bare_app = let new = new_app (codes "goodlockd") in
     record new { top = record new.top { has_version = true; subcommand_required = true } }
 
 -- the program
 abbrev pub goodlockd : App
 goodlockd = with_subcommand (with_subcommand (with_subcommand (with_subcommand (with_subcommand
-    (with_subcommand named_app serve_app.top) script_app.top) offline_app.top) replay_app.top)
+    (with_subcommand bare_app serve_app.top) script_app.top) offline_app.top) replay_app.top)
     explain_app.top) check_app.top
 
 -- the program is the old one with this command
@@ -89,13 +89,13 @@ SaysNumber rows id number = (text : Text) × (one_of id rows ≡ Some text)
     × ParsesUnsigned {E = Unit {0}} 32 10 text (Ok number)
 
 -- the name of a command
-abbrev pub name_of : Invocation → Text
-name_of (Serve address workers sessions limit) = codes "serve"
-name_of (Script file limit) = codes "script"
-name_of (Offline file bound) = codes "offline"
-name_of (Replay trace witness) = codes "replay"
-name_of (Explain file bound cycle) = codes "explain"
-name_of (Check trace file) = codes "check"
+abbrev pub command_name : Invocation → Text
+command_name (Serve address workers sessions limit) = codes "serve"
+command_name (Script file limit) = codes "script"
+command_name (Offline file bound) = codes "offline"
+command_name (Replay trace witness) = codes "replay"
+command_name (Explain file bound cycle) = codes "explain"
+command_name (Check trace file) = codes "check"
 
 -- each text and number of the command is that of its argument
 abbrev pub SaysCommand : List Row → Invocation → Type 0
@@ -116,12 +116,12 @@ SaysCommand rows (Check trace file) =
 
 -- the command has this name, and its texts and numbers are those of its arguments
 abbrev pub SaysNamed : Text → List Row → Invocation → Type 0
-SaysNamed name rows invocation = (name_of invocation ≡ name) × SaysCommand rows invocation
+SaysNamed name rows invocation = (command_name invocation ≡ name) × SaysCommand rows invocation
 
 -- the rows are those of the command's own name, and each text and number is that of its argument
 abbrev pub SaysMatches : Option (Text × List Row) → Invocation → Type 0
 SaysMatches found invocation = (rows : List Row)
-    × (found ≡ Some (name_of invocation, rows)) × SaysCommand rows invocation
+    × (found ≡ Some (command_name invocation, rows)) × SaysCommand rows invocation
 
 -- the words, of which the first names the program, say the command: `clap` gives each argument of
 -- the command the words in its place, or its default

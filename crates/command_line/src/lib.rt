@@ -7,8 +7,8 @@ mod words;
 
 ghost use Rattle.std.specs.Prelude.{◌≡◌, ◌≤◌, false, true, IfOk, IfSome, Ok, codes, map, option_map};
 ghost use Rattle.clap.specs.Words.{app_of, first_of, found_of, rows_of, rule_of, subcommand_rows_of};
-ghost use Rattle.command_line.specs.CommandLine.{IsWithin, IsInRange};
-ghost use Rattle.command_line.specs.Program.{SaysInvocation, SaysMatches, SaysNamed, SaysNumber, TakesCommand, bound_rule, check_app, cycle_rule, explain_app, goodlockd, limit_rule, named_app, offline_app, positional, ranged, replay_app, script_app, serve_app, sessions_rule, workers_rule};
+ghost use Rattle.command_line.specs.CommandLine.{IsInClosedRange, HasNumbersInRange};
+ghost use Rattle.command_line.specs.Program.{SaysInvocation, SaysMatches, SaysNamed, SaysNumber, TakesCommand, bound_rule, check_app, cycle_rule, explain_app, goodlockd, limit_rule, bare_app, offline_app, positional, number_option, replay_app, script_app, serve_app, sessions_rule, workers_rule};
 
 use clap::error::ErrorKind;
 use clap::{Arg, ArgMatches, Command, Error, value_parser};
@@ -16,7 +16,7 @@ use std::alloc::{AllocError, Global};
 pub use words::{tell, words_of};
 
 /// A parsed command line.
-#[derive(Drop, PartialEq, Eq)]
+#[derive(Debug, Drop, PartialEq, Eq)]
 pub enum Invocation<'a> {
     /// Serve at an address, with 1 to 16 workers, for `sessions` sessions (0: without end, at most
     /// 1,000,000), over a book that accepts at most `limit` events (1 to 1,048,576).
@@ -67,9 +67,9 @@ fn positional<'a>(alloc: Global, id: &'a str, name: &'a str, help: &'a str) -> A
 }
 
 /// Returns an option `--id NAME` with a number from `least` to `most`.
-fn ranged<'a>(alloc: Global, id: &'a str, name: &'a str, least: u32, most: u32) -> Arg<'a>
+fn number_option<'a>(alloc: Global, id: &'a str, name: &'a str, least: u32, most: u32) -> Arg<'a>
     requires { least ≤ most }
-    ensures rule { rule_of result ≡ ranged id.entry.now least most }
+    ensures rule { rule_of result ≡ number_option id.entry.now least most }
     ensures local { result.global ≡ false }
 {
     Arg::new(alloc, id).long(id).value_name(name).value_parser(value_parser!(u32).range(
@@ -81,7 +81,7 @@ fn limit<'a>(alloc: Global) -> Arg<'a>
     ensures rule { rule_of result ≡ limit_rule }
     ensures local { result.global ≡ false }
 {
-    ranged(alloc, "limit", "L", 1, 1_048_576)
+    number_option(alloc, "limit", "L", 1, 1_048_576)
         .help("Largest number of accepted events, 1 to 1048576")
         .default_value("1048576")
 }
@@ -90,7 +90,7 @@ fn workers<'a>(alloc: Global) -> Arg<'a>
     ensures rule { rule_of result ≡ workers_rule }
     ensures local { result.global ≡ false }
 {
-    ranged(alloc, "workers", "W", 1, 16)
+    number_option(alloc, "workers", "W", 1, 16)
         .help("Number of threads that compute tasks, 1 to 16")
         .default_value("1")
 }
@@ -99,7 +99,7 @@ fn sessions<'a>(alloc: Global) -> Arg<'a>
     ensures rule { rule_of result ≡ sessions_rule }
     ensures local { result.global ≡ false }
 {
-    ranged(alloc, "sessions", "S", 0, 1_000_000)
+    number_option(alloc, "sessions", "S", 0, 1_000_000)
         .help("End after this number of sessions, 0 to 1000000; 0 means never")
         .default_value("0")
 }
@@ -108,7 +108,7 @@ fn bound<'a>(alloc: Global) -> Arg<'a>
     ensures rule { rule_of result ≡ bound_rule }
     ensures local { result.global ≡ false }
 {
-    ranged(alloc, "bound", "K", 2, 8)
+    number_option(alloc, "bound", "K", 2, 8)
         .help("Largest number of members of a cycle, 2 to 8")
         .required(true)
 }
@@ -186,7 +186,7 @@ fn check<'a>(alloc: Global) -> Result<Command<'a>, AllocError>
 }
 
 /// Returns the program with one more command.
-fn with<'a>(program: Command<'a>, command: Command<'a>) -> Result<Command<'a>, AllocError>
+fn add_command<'a>(program: Command<'a>, command: Command<'a>) -> Result<Command<'a>, AllocError>
     requires { (app_of command).top.is_plain ≡ true }
     ensures { IfOk result (TakesCommand program.entry command.entry) }
 {
@@ -194,8 +194,8 @@ fn with<'a>(program: Command<'a>, command: Command<'a>) -> Result<Command<'a>, A
 }
 
 /// Returns the program before its commands are added.
-fn named<'a>(alloc: Global) -> Command<'a>
-    ensures { app_of result ≡ named_app }
+fn bare_program<'a>(alloc: Global) -> Command<'a>
+    ensures { app_of result ≡ bare_app }
 {
     Command::new(alloc, "goodlockd")
         .about("Predicts the deadlocks of a traced program from its events")
@@ -206,16 +206,16 @@ fn named<'a>(alloc: Global) -> Command<'a>
 fn program<'a>(alloc: Global) -> Result<Command<'a>, AllocError>
     ensures { IfOk result (λ program. app_of program ≡ goodlockd) }
 {
-    let program = with(named(alloc), serve(alloc)?)?;
-    let program = with(program, script(alloc)?)?;
-    let program = with(program, offline(alloc)?)?;
-    let program = with(program, replay(alloc)?)?;
-    let program = with(program, explain(alloc)?)?;
-    with(program, check(alloc)?)
+    let program = add_command(bare_program(alloc), serve(alloc)?)?;
+    let program = add_command(program, script(alloc)?)?;
+    let program = add_command(program, offline(alloc)?)?;
+    let program = add_command(program, replay(alloc)?)?;
+    let program = add_command(program, explain(alloc)?)?;
+    add_command(program, check(alloc)?)
 }
 
 /// Returns the text of an argument, or `None` if it has none.
-fn text<'a>(matches: &ArgMatches<'a>, id: &str) -> Option<&'a str>
+fn text_argument<'a>(matches: &ArgMatches<'a>, id: &str) -> Option<&'a str>
     ensures { option_map (λ text. text.now) result ≡
         first_of id.now (rows_of (found_of matches.now)) }
 {
@@ -223,8 +223,8 @@ fn text<'a>(matches: &ArgMatches<'a>, id: &str) -> Option<&'a str>
 }
 
 /// Returns the number of an argument, or `None` if it is not in the range.
-fn number(matches: &ArgMatches<'_>, id: &str, least: u32, most: u32) -> Option<u32>
-    ensures within { IfSome result (IsWithin least most) }
+fn number_argument(matches: &ArgMatches<'_>, id: &str, least: u32, most: u32) -> Option<u32>
+    ensures within { IfSome result (IsInClosedRange least most) }
     ensures said { IfSome result (SaysNumber (rows_of (found_of matches.now)) id.now) }
 {
     let value = matches.get_one::<u32>(id)?;
@@ -236,70 +236,70 @@ fn number(matches: &ArgMatches<'_>, id: &str, least: u32, most: u32) -> Option<u
 }
 
 fn chosen_serve<'a>(given: &ArgMatches<'a>) -> Option<Invocation<'a>>
-    ensures range { IfSome result IsInRange }
+    ensures range { IfSome result HasNumbersInRange }
     ensures said { IfSome result (SaysNamed (codes "serve") (rows_of (found_of given.now))) }
 {
     Some(Invocation::Serve {
-        address: text(given, "address")?,
-        workers: number(given, "workers", 1, 16)?,
-        sessions: number(given, "sessions", 0, 1_000_000)?,
-        limit: number(given, "limit", 1, 1_048_576)?,
+        address: text_argument(given, "address")?,
+        workers: number_argument(given, "workers", 1, 16)?,
+        sessions: number_argument(given, "sessions", 0, 1_000_000)?,
+        limit: number_argument(given, "limit", 1, 1_048_576)?,
     })
 }
 
 fn chosen_script<'a>(given: &ArgMatches<'a>) -> Option<Invocation<'a>>
-    ensures range { IfSome result IsInRange }
+    ensures range { IfSome result HasNumbersInRange }
     ensures said { IfSome result (SaysNamed (codes "script") (rows_of (found_of given.now))) }
 {
     Some(Invocation::Script {
-        file: text(given, "file")?,
-        limit: number(given, "limit", 1, 1_048_576)?,
+        file: text_argument(given, "file")?,
+        limit: number_argument(given, "limit", 1, 1_048_576)?,
     })
 }
 
 fn chosen_offline<'a>(given: &ArgMatches<'a>) -> Option<Invocation<'a>>
-    ensures range { IfSome result IsInRange }
+    ensures range { IfSome result HasNumbersInRange }
     ensures said { IfSome result (SaysNamed (codes "offline") (rows_of (found_of given.now))) }
 {
     Some(Invocation::Offline {
-        file: text(given, "file")?,
-        bound: number(given, "bound", 2, 8)?,
+        file: text_argument(given, "file")?,
+        bound: number_argument(given, "bound", 2, 8)?,
     })
 }
 
 fn chosen_replay<'a>(given: &ArgMatches<'a>) -> Option<Invocation<'a>>
-    ensures range { IfSome result IsInRange }
+    ensures range { IfSome result HasNumbersInRange }
     ensures said { IfSome result (SaysNamed (codes "replay") (rows_of (found_of given.now))) }
 {
     Some(Invocation::Replay {
-        trace: text(given, "trace")?,
-        witness: text(given, "witness")?,
+        trace: text_argument(given, "trace")?,
+        witness: text_argument(given, "witness")?,
     })
 }
 
 fn chosen_explain<'a>(given: &ArgMatches<'a>) -> Option<Invocation<'a>>
-    ensures range { IfSome result IsInRange }
+    ensures range { IfSome result HasNumbersInRange }
     ensures said { IfSome result (SaysNamed (codes "explain") (rows_of (found_of given.now))) }
 {
     Some(Invocation::Explain {
-        file: text(given, "file")?,
-        bound: number(given, "bound", 2, 8)?,
-        cycle: text(given, "cycle"),
+        file: text_argument(given, "file")?,
+        bound: number_argument(given, "bound", 2, 8)?,
+        cycle: text_argument(given, "cycle"),
     })
 }
 
 fn chosen_check<'a>(given: &ArgMatches<'a>) -> Option<Invocation<'a>>
-    ensures range { IfSome result IsInRange }
+    ensures range { IfSome result HasNumbersInRange }
     ensures said { IfSome result (SaysNamed (codes "check") (rows_of (found_of given.now))) }
 {
     Some(Invocation::Check {
-        trace: text(given, "trace")?,
-        file: text(given, "file")?,
+        trace: text_argument(given, "trace")?,
+        file: text_argument(given, "file")?,
     })
 }
 
 fn chosen<'a>(matches: &ArgMatches<'a>) -> Option<Invocation<'a>>
-    ensures range { IfSome result IsInRange }
+    ensures range { IfSome result HasNumbersInRange }
     ensures said { IfSome result (SaysMatches (subcommand_rows_of matches.now)) }
 {
     let (name, given) = matches.subcommand()?;
@@ -320,7 +320,7 @@ fn invocation_of<'a>(
     words: &'a [&'a str],
 ) -> Result<Invocation<'a>, Error>
     requires { app_of program.old ≡ goodlockd }
-    ensures range { IfOk result IsInRange }
+    ensures range { IfOk result HasNumbersInRange }
     ensures said { IfOk result (SaysInvocation (map (λ word. word.now) words.entry.now)) }
 {
     let matches = program.try_get_matches_from_mut(words)?;
@@ -339,7 +339,7 @@ fn invocation_of<'a>(
 /// `clap`'s error if the words are not understood or ask for help or the version. Its text is for
 /// the user.
 pub fn parse<'a>(alloc: Global, words: &'a [&'a str]) -> Result<Invocation<'a>, Error>
-    ensures range { IfOk result IsInRange }
+    ensures range { IfOk result HasNumbersInRange }
     ensures said { IfOk result (SaysInvocation (map (λ word. word.now) words.entry.now)) }
 {
     let mut program = program(alloc)?;

@@ -6,7 +6,7 @@ use Rattle.std.proofs.lemmas.List.Folds.{list_all-append}
 use Rattle.std.proofs.lemmas.List.Concat.{flat_map-cons}
 use Rattle.trace_model.specs.Theory.Trace.{Trace}
 use Rattle.event_files.specs.ExplainedText.{StatedCycle}
-use Rattle.commands.specs.Check.{AddsRows, IsLineOf, IsVerdictFor, checked_lines, is_valid}
+use Rattle.commands.specs.Check.{AddsRows, IsVerdictLine, IsVerdictFor, checked_lines, is_valid}
 use Rattle.commands.specs.CheckWords.{checked_line}
 use Rattle.commands.specs.declared.check_verdicts.CycleVerdict.{CycleVerdict}
 
@@ -41,20 +41,20 @@ both false b e = refl
 pub adds_no_row : (s : Trace) (old : List ℕ) → AddsRows s [] true old old
 adds_no_row s old = ([], tt, refl, sym (append-nil old))
 
-more_rows : (s : Trace) (rows : List StatedCycle) (r : StatedCycle) (a b c : Bool) (old mid line new : List ℕ) → AddsRows s rows a old mid → IsLineOf s r b line → new ≡ mid ++ line → c ≡ (a && (b && true)) → AddsRows s (rows ++ r ∷ []) c old new
-more_rows s rows r a b c old mid line new (vs, are, valid, grew) (v, is, also, shown) more told = (
+more_rows : (s : Trace) (rows : List StatedCycle) (r : StatedCycle) (a b c : Bool) (old mid line new : List ℕ) → AddsRows s rows a old mid → IsVerdictLine s r b line → new ≡ mid ++ line → c ≡ (a && (b && true)) → AddsRows s (rows ++ r ∷ []) c old new
+more_rows s rows r a b c old mid line new (vs, are, valid, grew) (v, is, also, shown) more outcome = (
   vs ++ v ∷ [],
   zip_push (IsVerdictFor s) rows vs r v are is,
-  told ∙ valid_push vs v a b valid also,
+  outcome ∙ valid_push vs v a b valid also,
   more ∙ (λ i. grew i ++ shown i) ∙ append_assoc old (checked_lines rows vs) (checked_line r.cycle v) ∙ ap (λ l. old ++ l) (sym (lines_push (IsVerdictFor s) rows vs r v are)),
 )
 
 -- One line more, which is valid.
-pub adds_valid : (s : Trace) (rows : List StatedCycle) (r : StatedCycle) (a b : Bool) (old mid line new : List ℕ) → AddsRows s rows a old mid → IsLineOf s r b line → new ≡ mid ++ line → b ≡ true → AddsRows s (rows ++ r ∷ []) a old new
+pub adds_valid : (s : Trace) (rows : List StatedCycle) (r : StatedCycle) (a b : Bool) (old mid line new : List ℕ) → AddsRows s rows a old mid → IsVerdictLine s r b line → new ≡ mid ++ line → b ≡ true → AddsRows s (rows ++ r ∷ []) a old new
 adds_valid s rows r a b old mid line new adds one more is = more_rows s rows r a b a old mid line new adds one more (both a b is)
 
 -- One line more, which is not valid.
-pub adds_wrong : (s : Trace) (rows : List StatedCycle) (r : StatedCycle) (a b : Bool) (old mid line new : List ℕ) → AddsRows s rows a old mid → IsLineOf s r b line → new ≡ mid ++ line → b ≡ false → AddsRows s (rows ++ r ∷ []) false old new
+pub adds_wrong : (s : Trace) (rows : List StatedCycle) (r : StatedCycle) (a b : Bool) (old mid line new : List ℕ) → AddsRows s rows a old mid → IsVerdictLine s r b line → new ≡ mid ++ line → b ≡ false → AddsRows s (rows ++ r ∷ []) false old new
 adds_wrong s rows r a b old mid line new adds one more is = more_rows s rows r a b false old mid line new adds one more (wrong a b is)
   where
     wrong : (a b : Bool) → b ≡ false → false ≡ (a && (b && true))

@@ -13,11 +13,11 @@ use Rattle.trace_model.specs.Theory.Trace.{Trace}
 use Rattle.trace_model.specs.Theory.Rows.{IsRow, Row}
 use Rattle.trace_model.specs.Theory.Dependencies.{dependencies}
 use Rattle.trace_model.specs.Theory.Cycles.{IsCycle}
-use Rattle.reports.specs.Printed.{Printed, with_dependencies}
-use Rattle.snapshots.specs.Found.{AreRowsOf, FoundRows}
+use Rattle.reports.specs.Printed.{PrintedRow, with_dependencies}
+use Rattle.snapshots.specs.Found.{AreRowsOf, RowsOfTask}
 use Rattle.cycle_search.proofs.Listing.{get-split}
 use Rattle.commands.specs.Explain.{AreRowsUpTo, Explains, ExplainsSome, IsExplanation}
-use Rattle.commands.specs.ExplainFindings.{rows_in}
+use Rattle.commands.specs.ExplainFindings.{rows_of_findings}
 
 -- The second fact holds for each value, and there is one.
 pub of_some : {X : Type 0} (o : Option X) (A B : Type 0) → is_some o ≡ true → B → MatchOption o A (λ _. B)
@@ -33,11 +33,11 @@ zip_append P (x ∷ xs) (y ∷ ys) vs ws h k = (h.0, zip_append P xs ys vs ws h.
 pub explains_none : (s : Trace) → Explains s [] []
 explains_none s = ([], tt, refl)
 
-pub explains_more : (s : Trace) (rows others : List Printed) (text more : List ℕ) → Explains s rows text → Explains s others more → Explains s (rows ++ others) (text ++ more)
+pub explains_more : (s : Trace) (rows others : List PrintedRow) (text more : List ℕ) → Explains s rows text → Explains s others more → Explains s (rows ++ others) (text ++ more)
 explains_more s rows others text more (xs, are, is) (ys, also, too) =
     (xs ++ ys, zip_append (IsExplanation s) rows xs others ys are also, (λ i. is i ++ too i) ∙ sym (flat_map-append (λ (part : List ℕ). part) xs ys))
 
-pub explains_one : (s : Trace) (row : Printed) (text : List ℕ) → IsExplanation s row text → Explains s (row ∷ []) text
+pub explains_one : (s : Trace) (row : PrintedRow) (text : List ℕ) → IsExplanation s row text → Explains s (row ∷ []) text
 explains_one s row text is = (text ∷ [], (is, tt), sym (flat_map-cons (λ (part : List ℕ). part) text [] ∙ append-nil text))
 
 -- The element at an index ends the list of one more element.
@@ -53,32 +53,32 @@ at_index xs i l =
     (x, at, ap (λ n. take n xs) next ∙ more)
 
 -- The row of a task is exact.
-pub row_at : (s : Trace) (bound task : ℕ) (rows : List Printed) (i : ℕ) (row : Printed) → slice_get rows i ≡ Some row → AreRowsOf s bound task rows → IsRow s row.row
+pub row_at : (s : Trace) (bound task : ℕ) (rows : List PrintedRow) (i : ℕ) (row : PrintedRow) → slice_get rows i ≡ Some row → AreRowsOf s bound task rows → IsRow s row.row
 row_at s bound task rows i row at are =
-    let there = slice_get-map (λ (p : Printed). p.row) rows i ∙ ap (option_map (λ (p : Printed). p.row)) at in
-    let within = slice_get_within (map (λ (p : Printed). p.row) rows) i row.row there in
-    subst (IsRow s) (get_or_from_slice_get (map (λ (p : Printed). p.row) rows) i row.row row.row there) (are.exact.exact i row.row within)
+    let there = slice_get-map (λ (p : PrintedRow). p.row) rows i ∙ ap (option_map (λ (p : PrintedRow). p.row)) at in
+    let within = slice_get_within (map (λ (p : PrintedRow). p.row) rows) i row.row there in
+    subst (IsRow s) (get_or_from_slice_get (map (λ (p : PrintedRow). p.row) rows) i row.row row.row there) (are.exact.exact i row.row within)
 
 -- The numbers of a row are a cycle.
-pub cycle_at : (s : Trace) (bound task : ℕ) (rows : List Printed) (i : ℕ) (row : Printed) → slice_get rows i ≡ Some row → AreRowsOf s bound task rows → IsCycle (dependencies s) bound row.row.cycle
+pub cycle_at : (s : Trace) (bound task : ℕ) (rows : List PrintedRow) (i : ℕ) (row : PrintedRow) → slice_get rows i ≡ Some row → AreRowsOf s bound task rows → IsCycle (dependencies s) bound row.row.cycle
 cycle_at s bound task rows i row at are =
-    let plain : List Row = map (λ (p : Printed). p.row) rows in
+    let plain : List Row = map (λ (p : PrintedRow). p.row) rows in
     let cycles : List (List ℕ) = map (λ (r : Row). r.cycle) plain in
-    let here = slice_get-map (λ (p : Printed). p.row) rows i ∙ ap (option_map (λ (p : Printed). p.row)) at in
+    let here = slice_get-map (λ (p : PrintedRow). p.row) rows i ∙ ap (option_map (λ (p : PrintedRow). p.row)) at in
     let there = slice_get-map (λ (r : Row). r.cycle) plain i ∙ ap (option_map (λ (r : Row). r.cycle)) here in
     let within = slice_get_within cycles i row.row.cycle there in
     let listed = subst (λ c. Contains cycles c) (get_or_from_slice_get cycles i row.row.cycle row.row.cycle there) (Contains-get_or cycles i row.row.cycle within) in
     ((are.exact.cycles.exact row.row.cycle).0 listed).0
 
 -- Lists that a test finds different are different.
-pub told_apart : (xs ys : List ℕ) (b : Bool) → b ≡ pointwise nat_eq xs ys → b ≡ false → xs ≢ ys
-told_apart xs ys b told apart same = true≢false (sym ((bytes_decides xs ys).1 same) ∙ sym told ∙ apart)
+pub bytes_apart : (xs ys : List ℕ) (b : Bool) → b ≡ pointwise nat_eq xs ys → b ≡ false → xs ≢ ys
+bytes_apart xs ys b outcome apart same = true≢false (sym ((bytes_decides xs ys).1 same) ∙ sym outcome ∙ apart)
 
 -- If no row of the task has these numbers, then they are no cycle.
-pub no_such_cycle : (s : Trace) (bound task : ℕ) (rows : List Printed) (numbers : List ℕ) → AreRowsOf s bound task rows → slice_get numbers 0 ≡ Some task →
+pub no_such_cycle : (s : Trace) (bound task : ℕ) (rows : List PrintedRow) (numbers : List ℕ) → AreRowsOf s bound task rows → slice_get numbers 0 ≡ Some task →
     All (λ row. row.row.cycle ≢ numbers) rows → IsCycle (dependencies s) bound numbers → ⊥
 no_such_cycle s bound task rows numbers are first none is =
-    let row : Printed → Row = λ p. p.row in
+    let row : PrintedRow → Row = λ p. p.row in
     let cycle : Row → List ℕ = λ r. r.cycle in
     let differs : List ℕ → Type 0 = λ c. c ≢ numbers in
     let all = All-map differs cycle (map row rows) (All-map (λ r. differs (cycle r)) row rows none) in
@@ -89,14 +89,14 @@ first_is [] l = absurd (omega (arith, l))
 first_is (x ∷ xs) l = refl
 
 -- The row has the dependencies of its numbers.
-pub named_at : (s : Trace) (bound task : ℕ) (rows : List Printed) (i : ℕ) (row : Printed) → slice_get rows i ≡ Some row → AreRowsOf s bound task rows → row ≡ with_dependencies (dependencies s) row.row
+pub named_at : (s : Trace) (bound task : ℕ) (rows : List PrintedRow) (i : ℕ) (row : PrintedRow) → slice_get rows i ≡ Some row → AreRowsOf s bound task rows → row ≡ with_dependencies (dependencies s) row.row
 named_at s bound task rows i row at are =
-    subst (λ (p : Printed). p ≡ with_dependencies (dependencies s) p.row) (get_or_from_slice_get rows i row row at) (are.named i row (slice_get_within rows i row at))
+    subst (λ (p : PrintedRow). p ≡ with_dependencies (dependencies s) p.row) (get_or_from_slice_get rows i row row at) (are.named i row (slice_get_within rows i row at))
 
 -- ---- all tasks
 
 -- The rows of one more task.
-pub rows_more : (s : Trace) (bound n : ℕ) (tasks : List (List Printed)) (rows : List Printed) → AreRowsUpTo s bound n tasks → AreRowsOf s bound n rows → AreRowsUpTo s bound (n + 1) (tasks ++ rows ∷ [])
+pub rows_more : (s : Trace) (bound n : ℕ) (tasks : List (List PrintedRow)) (rows : List PrintedRow) → AreRowsUpTo s bound n tasks → AreRowsOf s bound n rows → AreRowsUpTo s bound (n + 1) (tasks ++ rows ∷ [])
 rows_more s bound n tasks rows upto are = record {
   total = omega (arith, upto.total, length-append tasks (rows ∷ []));
   each = λ task found is. elim (get-split tasks (rows ∷ []) task found is) [
@@ -105,7 +105,7 @@ rows_more s bound n tasks rows upto are = record {
   ];
 }
   where
-    last : (task : ℕ) (found : List Printed) (j : ℕ) → task ≡ length tasks + j → slice_get (rows ∷ []) j ≡ Some found → AreRowsOf s bound task found
+    last : (task : ℕ) (found : List PrintedRow) (j : ℕ) → task ≡ length tasks + j → slice_get (rows ∷ []) j ≡ Some found → AreRowsOf s bound task found
     last task found zero e is =
         let here : n ≡ task = omega (arith, e, upto.total) in
         subst (λ k. AreRowsOf s bound k found) here (subst (AreRowsOf s bound n) (same_Some rows found is) are)
@@ -115,15 +115,15 @@ pub rows_none : (s : Trace) (bound : ℕ) → AreRowsUpTo s bound 0 []
 rows_none s bound = record { total = refl; each = λ task rows is. absurd (none-some rows is) }
 
 -- The same rows of the same task.
-pub rows_as : (s t : Trace) (b d k l : ℕ) (rows : List Printed) → s ≡ t → b ≡ d → k ≡ l → AreRowsOf s b k rows → AreRowsOf t d l rows
+pub rows_as : (s t : Trace) (b d k l : ℕ) (rows : List PrintedRow) → s ≡ t → b ≡ d → k ≡ l → AreRowsOf s b k rows → AreRowsOf t d l rows
 rows_as s t b d k l rows p q r are =
     subst (λ task. AreRowsOf t d task rows) r (subst (λ bound. AreRowsOf t bound k rows) q (subst (λ events. AreRowsOf events b k rows) p are))
 
 -- The rows of one more finding.
-pub rows_in_more : (fs : List FoundRows) (f : FoundRows) → rows_in (fs ++ f ∷ []) ≡ rows_in fs ++ f.rows
+pub rows_in_more : (fs : List RowsOfTask) (f : RowsOfTask) → rows_of_findings (fs ++ f ∷ []) ≡ rows_of_findings fs ++ f.rows
 rows_in_more fs f =
-    let g : FoundRows → List Printed = λ x. x.rows in
-    flat_map-append g fs (f ∷ []) ∙ ap (λ l. rows_in fs ++ l) (flat_map-cons g f [] ∙ append-nil f.rows)
+    let g : RowsOfTask → List PrintedRow = λ x. x.rows in
+    flat_map-append g fs (f ∷ []) ∙ ap (λ l. rows_of_findings fs ++ l) (flat_map-cons g f [] ∙ append-nil f.rows)
 
 -- The first elements of a list are first ones of a longer list.
 first_of_more : {X : Type 0} (n : ℕ) (xs ys : List X) → (m : ℕ) × (take m (xs ++ ys) ≡ take n xs)
@@ -132,7 +132,7 @@ first_of_more (suc n) [] ys = (0, refl)
 first_of_more (suc n) (x ∷ xs) ys = let (m, e) = first_of_more n xs ys in (suc m, ap (λ l. x ∷ l) e)
 
 -- The texts of some rows, and then of the first of others, are those of the first of all.
-pub some_more : (s : Trace) (rows others rest : List Printed) (text more : List ℕ) → Explains s rows text → ExplainsSome s others more → ExplainsSome s ((rows ++ others) ++ rest) (text ++ more)
+pub some_more : (s : Trace) (rows others rest : List PrintedRow) (text more : List ℕ) → Explains s rows text → ExplainsSome s others more → ExplainsSome s ((rows ++ others) ++ rest) (text ++ more)
 some_more s rows others rest text more is (n, also) =
     let (m, e) = first_of_more n others rest in
     let same : take (length rows + m) ((rows ++ others) ++ rest) ≡ rows ++ take n others =
@@ -140,11 +140,11 @@ some_more s rows others rest text more is (n, also) =
     (length rows + m, subst (λ l. Explains s l (text ++ more)) (sym same) (explains_more s rows (take n others) text more is also))
 
 -- The texts of some rows are those of the first of all.
-pub some_all : (s : Trace) (rows rest : List Printed) (text : List ℕ) → Explains s rows text → ExplainsSome s (rows ++ rest) text
+pub some_all : (s : Trace) (rows rest : List PrintedRow) (text : List ℕ) → Explains s rows text → ExplainsSome s (rows ++ rest) text
 some_all s rows rest text is =
     let (m, e) = first_of_more (length rows) rows rest in
     (m, subst (λ l. Explains s l text) (sym (e ∙ take_whole rows)) is)
   where
-    take_whole : (xs : List Printed) → take (length xs) xs ≡ xs
+    take_whole : (xs : List PrintedRow) → take (length xs) xs ≡ xs
     take_whole [] = refl
     take_whole (x ∷ xs) = ap (λ l. x ∷ l) (take_whole xs)

@@ -4,8 +4,8 @@ use Rattle.std.specs.Io.KnownBytes.{Appends, Keeps}
 use Rattle.std.proofs.Math.Seq.{take-add, take-append-add}
 use Rattle.std.proofs.lemmas.List.{append-nil, take_all}
 use Rattle.std.specs.Prelude.{◌≢◌, Result, Ok, Err, IfErr, MatchResult, OnErr}
-use Rattle.commands.specs.Exit.{status_of}
-use Rattle.commands.specs.Output.{AppendsPart, Ends, EndsAs, IsCutShort, IsJust}
+use Rattle.commands.specs.Exit.{error_status}
+use Rattle.commands.specs.Output.{AppendsPart, EndsWithStatus, EndsWithResult, IsCutShort, IsJust}
 use Rattle.commands.specs.declared.exit.CommandError.{CommandError}
 use Rattle.commands.specs.declared.exit.Status.{Status}
 use Rattle.commands.specs.declared.exit.Status.TheVariants.{Done, Refused, Error, NotUnderstood}
@@ -87,26 +87,26 @@ on_err (Err e) P Q weaker h = weaker h
 
 -- The output is cut short.
 pub ends_cut : (Prints : Status → List ℕ → Type 0) (Wrong : Type 0) (status : Status) (before after : Option (List ℕ)) → status ≡ Error →
-    IsCutShort before after (λ text. (told : Status) × Prints told text) → Ends Prints Wrong status before after
-ends_cut Prints Wrong status before after failed cut = subst (λ s. Ends Prints Wrong s before after) (sym failed) cut
+    IsCutShort before after (λ text. (outcome : Status) × Prints outcome text) → EndsWithStatus Prints Wrong status before after
+ends_cut Prints Wrong status before after failed cut = subst (λ s. EndsWithStatus Prints Wrong s before after) (sym failed) cut
 
 -- A right text is cut short.
-pub ends_part : (Prints : Status → List ℕ → Type 0) (Wrong : Type 0) (status told : Status) (before after : Option (List ℕ)) (text : List ℕ) → status ≡ Error → Prints told text →
-    AppendsPart before after text → Ends Prints Wrong status before after
-ends_part Prints Wrong status told before after text failed is part = ends_cut Prints Wrong status before after failed (inr (text, (told, is), part))
+pub ends_part : (Prints : Status → List ℕ → Type 0) (Wrong : Type 0) (status outcome : Status) (before after : Option (List ℕ)) (text : List ℕ) → status ≡ Error → Prints outcome text →
+    AppendsPart before after text → EndsWithStatus Prints Wrong status before after
+ends_part Prints Wrong status outcome before after text failed is part = ends_cut Prints Wrong status before after failed (inr (text, (outcome, is), part))
 
 -- Nothing is written.
-pub ends_none : (Prints : Status → List ℕ → Type 0) (Wrong : Type 0) (status : Status) (before : Option (List ℕ)) → status ≡ Error → Ends Prints Wrong status before before
+pub ends_none : (Prints : Status → List ℕ → Type 0) (Wrong : Type 0) (status : Status) (before : Option (List ℕ)) → status ≡ Error → EndsWithStatus Prints Wrong status before before
 ends_none Prints Wrong status before failed = ends_cut Prints Wrong status before before failed (inl (appends_nothing before))
 
 -- The error of writing a right text.
-pub ends_failed : {A : Type 0} (Prints : Status → List ℕ → Type 0) (Wrong : Type 0) (told : Status) (before after : Option (List ℕ)) (text : List ℕ) (r : Result A CommandError) → Prints told text →
-    OnErr r (AppendsPart before after text) → IfErr r (λ error. status_of error ≡ Error) → IfErr r (λ error. Ends Prints Wrong (status_of error) before after)
-ends_failed Prints Wrong told before after text (Ok x) is part failed = tt
-ends_failed Prints Wrong told before after text (Err error) is part failed = ends_part Prints Wrong (status_of error) told before after text failed is part
+pub ends_failed : {A : Type 0} (Prints : Status → List ℕ → Type 0) (Wrong : Type 0) (outcome : Status) (before after : Option (List ℕ)) (text : List ℕ) (r : Result A CommandError) → Prints outcome text →
+    OnErr r (AppendsPart before after text) → IfErr r (λ error. error_status error ≡ Error) → IfErr r (λ error. EndsWithStatus Prints Wrong (error_status error) before after)
+ends_failed Prints Wrong outcome before after text (Ok x) is part failed = tt
+ends_failed Prints Wrong outcome before after text (Err error) is part failed = ends_part Prints Wrong (error_status error) outcome before after text failed is part
 
 -- What holds of right texts and wrong lines holds of a weaker choice of them.
-pub ends_weaker : (P Q : Status → List ℕ → Type 0) (V W : Type 0) (status : Status) (a b : Option (List ℕ)) → ((s : Status) (x : List ℕ) → P s x → Q s x) → (V → W) → Ends P V status a b → Ends Q W status a b
+pub ends_weaker : (P Q : Status → List ℕ → Type 0) (V W : Type 0) (status : Status) (a b : Option (List ℕ)) → ((s : Status) (x : List ℕ) → P s x → Q s x) → (V → W) → EndsWithStatus P V status a b → EndsWithStatus Q W status a b
 ends_weaker P Q V W Done a b f g (x, is, grew) = (x, f Done x is, grew)
 ends_weaker P Q V W Refused a b f g (x, is, grew) = (x, f Refused x is, grew)
 ends_weaker P Q V W Error a b f g cut =
@@ -114,18 +114,18 @@ ends_weaker P Q V W Error a b f g cut =
 ends_weaker P Q V W NotUnderstood a b f g (wrong, same) = (g wrong, same)
 
 pub ends_as_weaker : (P Q : Status → List ℕ → Type 0) (V W : Type 0) (r : Result Status CommandError) (a b : Option (List ℕ)) → ((s : Status) (x : List ℕ) → P s x → Q s x) → (V → W) →
-    EndsAs P V r a b → EndsAs Q W r a b
+    EndsWithResult P V r a b → EndsWithResult Q W r a b
 ends_as_weaker P Q V W (Ok status) a b f g ends = ends_weaker P Q V W status a b f g ends
-ends_as_weaker P Q V W (Err error) a b f g ends = ends_weaker P Q V W (status_of error) a b f g ends
+ends_as_weaker P Q V W (Err error) a b f g ends = ends_weaker P Q V W (error_status error) a b f g ends
 
 -- The reported status is that of the result.
-pub reported_ends : (P : Status → List ℕ → Type 0) (W : Type 0) (r : Result Status CommandError) (status : Status) (a b : Option (List ℕ)) → EndsAs P W r a b →
-    MatchResult r (λ told. status ≡ told) (λ error. status ≡ status_of error) → Ends P W status a b
-reported_ends P W (Ok told) status a b ends same = subst (λ s. Ends P W s a b) (sym same) ends
-reported_ends P W (Err error) status a b ends same = subst (λ s. Ends P W s a b) (sym same) ends
+pub reported_ends : (P : Status → List ℕ → Type 0) (W : Type 0) (r : Result Status CommandError) (status : Status) (a b : Option (List ℕ)) → EndsWithResult P W r a b →
+    MatchResult r (λ outcome. status ≡ outcome) (λ error. status ≡ error_status error) → EndsWithStatus P W status a b
+reported_ends P W (Ok outcome) status a b ends same = subst (λ s. EndsWithStatus P W s a b) (sym same) ends
+reported_ends P W (Err error) status a b ends same = subst (λ s. EndsWithStatus P W s a b) (sym same) ends
 
 -- The whole text is written.
-pub ends_just : (status : Status) (text : List ℕ) (a b : Option (List ℕ)) → status ≢ NotUnderstood → Appends a b text → Ends (IsJust status text) ⊥ status a b
+pub ends_just : (status : Status) (text : List ℕ) (a b : Option (List ℕ)) → status ≢ NotUnderstood → Appends a b text → EndsWithStatus (IsJust status text) ⊥ status a b
 ends_just Done text a b known grew = (text, (refl, refl), grew)
 ends_just Refused text a b known grew = (text, (refl, refl), grew)
 ends_just Error text a b known grew = inr (text, (Error, (refl, refl)), part_all a b text grew)
@@ -136,6 +136,6 @@ pub just_is : (P : Status → List ℕ → Type 0) (status : Status) (text : Lis
 just_is P status text is s x just = subst (λ t. P s t) (sym just.1) (subst (λ t. P t text) (sym just.0) is)
 
 -- The error of a writer.
-pub ends_output : (P : Status → List ℕ → Type 0) (W : Type 0) (r : Result Status CommandError) (error : CommandError) (a b : Option (List ℕ)) → r ≡ Err error → status_of error ≡ Error →
-    IsCutShort a b (λ text. (told : Status) × P told text) → EndsAs P W r a b
-ends_output P W r error a b same failed cut = subst (λ x. EndsAs P W x a b) (sym same) (ends_cut P W (status_of error) a b failed cut)
+pub ends_output : (P : Status → List ℕ → Type 0) (W : Type 0) (r : Result Status CommandError) (error : CommandError) (a b : Option (List ℕ)) → r ≡ Err error → error_status error ≡ Error →
+    IsCutShort a b (λ text. (outcome : Status) × P outcome text) → EndsWithResult P W r a b
+ends_output P W r error a b same failed cut = subst (λ x. EndsWithResult P W x a b) (sym same) (ends_cut P W (error_status error) a b failed cut)

@@ -11,7 +11,7 @@ use Rattle.trace_model.specs.Theory.Dependencies.{Dependency}
 use Rattle.trace_model.specs.Theory.Trace.{Trace}
 use Rattle.trace_model.specs.Theory.Cycles.{IsConfirmed}
 use Rattle.trace_model.specs.Theory.Rows.{Row, IsRow, IsLeastInstance, IsWitness}
-use Rattle.reports.specs.Printed.{Printed}
+use Rattle.reports.specs.Printed.{PrintedRow}
 use Rattle.snapshots.specs.Found.{AreRowsOf}
 use Rattle.commands.specs.Explain.{IsPotential}
 
@@ -19,11 +19,11 @@ not_confirmed : (s : Trace) (row : Row) → row.found ≡ None → IsRow s row �
 not_confirmed s row none exact =
     subst (λ f. MatchOption f (IsConfirmed s row.cycle → ⊥) (λ found. IsLeastInstance s row.cycle found.places × IsWitness s found.places found.witness)) none exact
 
-pub potential_row : (s : Trace) (bound task : ℕ) (rows : List Printed) (i : ℕ) (d : Printed) → i < length rows → AreRowsOf s bound task rows →
+pub potential_row : (s : Trace) (bound task : ℕ) (rows : List PrintedRow) (i : ℕ) (d : PrintedRow) → i < length rows → AreRowsOf s bound task rows →
     (get_or rows i d).row.found ≡ None → IsPotential s (get_or rows i d)
 potential_row s bound task rows i d within are none =
     let p = get_or rows i d in
-    let row : Printed → Row = λ q. q.row in
+    let row : PrintedRow → Row = λ q. q.row in
     let cycle : Row → List ℕ = λ r. r.cycle in
     let shown : get_or (map row rows) i d.row ≡ p.row = get_or-map row rows i d in
     let exact : IsRow s p.row = subst (IsRow s) shown (are.exact.exact i d.row (subst (λ n. i < n) (sym (length-map rows row)) within)) in

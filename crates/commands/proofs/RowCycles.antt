@@ -5,13 +5,13 @@ use Rattle.trace_model.specs.declared.limits.TheConstants.{MAX_MEMBERS}
 use Rattle.trace_model.specs.Theory.Dependencies.{Dependency}
 use Rattle.trace_model.specs.Theory.Cycles.{IsCycle, Member}
 use Rattle.trace_model.proofs.Theory.Ascending.{contains_at, place_of}
-use Rattle.commands.specs.ExplainedRows.{FitsAt, HoldsAtEach, IsKnown}
+use Rattle.commands.specs.ExplainedRows.{FitsAt, HoldsAtEach, IsDependencyNumber}
 
 -- A member is in the list.
 member_within : (ds : List Dependency) (numbers : List ℕ) (i : ℕ) (d : Dependency) → Member ds numbers i d → i < length numbers
 member_within ds numbers i d (m, at, is) = slice_get_within numbers i m at
 
-pub cycle_of_fits : (ds : List Dependency) (numbers : List ℕ) → 2 ≤ length numbers → length numbers ≤ MAX_MEMBERS → HoldsAtEach numbers (IsKnown ds) →
+pub cycle_of_fits : (ds : List Dependency) (numbers : List ℕ) → 2 ≤ length numbers → length numbers ≤ MAX_MEMBERS → HoldsAtEach numbers (IsDependencyNumber ds) →
     ((i : ℕ) → i < length numbers → FitsAt ds numbers i) → IsCycle ds MAX_MEMBERS numbers
 cycle_of_fits ds numbers some few known fits = record {
   at_least_two = some;

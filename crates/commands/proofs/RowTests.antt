@@ -11,7 +11,7 @@ use Rattle.event_files.specs.ExplainedText.{StatedCycle, StatedMember, stated_me
 use Rattle.event_files.specs.declared.explanations.ExplainedMember.{ExplainedMember}
 use Rattle.trace_model.specs.Theory.Held.{has}
 use Rattle.held_sets.proofs.Locks.{contains_has, has_contains}
-use Rattle.commands.specs.ExplainedRows.{AreApart, FailsFirst, HasPlaceAt, HoldsAtEach, IsLinked, IsPlaced, States, stated}
+use Rattle.commands.specs.ExplainedRows.{AreDistinctMembers, FailsFirst, HasPlaceAt, HoldsAtEach, IsLinked, IsPlaced, States, stated_dependency}
 
 -- The test holds at each index below n.
 abbrev pub HoldsBelow : List ℕ → (ℕ → ℕ → Type 0) → ℕ → Type 0
@@ -48,12 +48,12 @@ fails_at numbers Test i m here before fails = record { here = here; fails = fail
 pub member_at : (members : List ExplainedMember) (i : ℕ) (m : ExplainedMember) → slice_get members i ≡ Some m → slice_get (map stated_member members) i ≡ Some (stated_member m)
 member_at members i m at = slice_get-map stated_member members i ∙ ap (option_map stated_member) at
 
-pub states_so : (ds : List Dependency) (r : StatedCycle) (i m : ℕ) (member : StatedMember) (d : Dependency) → slice_get r.members i ≡ Some member → slice_get ds m ≡ Some d → stated member ≡ d → States ds r i m
+pub states_so : (ds : List Dependency) (r : StatedCycle) (i m : ℕ) (member : StatedMember) (d : Dependency) → slice_get r.members i ≡ Some member → slice_get ds m ≡ Some d → stated_dependency member ≡ d → States ds r i m
 states_so ds r i m member d here there same = (member, here, there ∙ ap Some (sym same))
 
-pub states_not : (ds : List Dependency) (r : StatedCycle) (i m : ℕ) (member : StatedMember) (d : Dependency) → slice_get r.members i ≡ Some member → slice_get ds m ≡ Some d → (stated member ≡ d → ⊥) → States ds r i m → ⊥
+pub states_not : (ds : List Dependency) (r : StatedCycle) (i m : ℕ) (member : StatedMember) (d : Dependency) → slice_get r.members i ≡ Some member → slice_get ds m ≡ Some d → (stated_dependency member ≡ d → ⊥) → States ds r i m → ⊥
 states_not ds r i m member d here there other (own, at, states) =
-    other (ap stated (same_Some member own (sym here ∙ at)) ∙ same_Some (stated own) d (sym states ∙ there))
+    other (ap stated_dependency (same_Some member own (sym here ∙ at)) ∙ same_Some (stated_dependency own) d (sym states ∙ there))
 
 -- ---- places
 
@@ -82,23 +82,23 @@ when_none (Some x) A P none m = absurd (none x refl)
 pub member_is : (ds : List Dependency) (numbers : List ℕ) (i m : ℕ) (d b : Dependency) → slice_get numbers i ≡ Some m → slice_get ds m ≡ Some d → HasMember ds numbers i b → d ≡ b
 member_is ds numbers i m d b at there (n, also, has) = same_Some d b (sym there ∙ ap (slice_get ds) (same_Some m n (sym at ∙ also)) ∙ has)
 
-pub apart_iff : (a b : Dependency) (told : Bool) → (a.thread ≡ b.thread → ⊥) → (a.lock ≡ b.lock → ⊥) → IsTrue told ↔ ((l : ℕ) → Contains a.held l → Contains b.held l → ⊥) → IsTrue told ↔ AreApart a b
-apart_iff a b told threads locks held = (λ t. record { threads = threads; locks = locks; held = held.0 t }, λ apart. held.1 apart.held)
+pub apart_iff : (a b : Dependency) (outcome : Bool) → (a.thread ≡ b.thread → ⊥) → (a.lock ≡ b.lock → ⊥) → IsTrue outcome ↔ ((l : ℕ) → Contains a.held l → Contains b.held l → ⊥) → IsTrue outcome ↔ AreDistinctMembers a b
+apart_iff a b outcome threads locks held = (λ t. record { threads = threads; locks = locks; held = held.0 t }, λ apart. held.1 apart.held)
 
-pub apart_more : (ds : List Dependency) (numbers : List ℕ) (i n : ℕ) (x y : Dependency) → HasMember ds numbers n x → HasMember ds numbers i y → AreApart x y →
-    ((j : ℕ) (a b : Dependency) → j < n → HasMember ds numbers j a → HasMember ds numbers i b → AreApart a b) →
-    (j : ℕ) (a b : Dependency) → j < n + 1 → HasMember ds numbers j a → HasMember ds numbers i b → AreApart a b
+pub apart_more : (ds : List Dependency) (numbers : List ℕ) (i n : ℕ) (x y : Dependency) → HasMember ds numbers n x → HasMember ds numbers i y → AreDistinctMembers x y →
+    ((j : ℕ) (a b : Dependency) → j < n → HasMember ds numbers j a → HasMember ds numbers i b → AreDistinctMembers a b) →
+    (j : ℕ) (a b : Dependency) → j < n + 1 → HasMember ds numbers j a → HasMember ds numbers i b → AreDistinctMembers a b
 apart_more ds numbers i n x y at here apart before j a b below first second = elim (less_or_same j n below) [
   | inl less ↦ before j a b less first second
   | inr same ↦
       let one = member_is ds numbers n at.0 x a at.1 at.2 (subst (λ k. HasMember ds numbers k a) same first) in
       let two = member_is ds numbers i here.0 y b here.1 here.2 second in
-      subst (λ d. AreApart d b) one (subst (AreApart x) two apart)
+      subst (λ d. AreDistinctMembers d b) one (subst (AreDistinctMembers x) two apart)
 ]
 
-pub linked_iff : (ds : List Dependency) (numbers : List ℕ) (i n m k : ℕ) (a b : Dependency) (told : Bool) → slice_get numbers i ≡ Some m → slice_get ds m ≡ Some a → next numbers i ≡ n →
-    slice_get numbers n ≡ Some k → slice_get ds k ≡ Some b → told ≡ has a.lock b.held → IsTrue told ↔ IsLinked ds numbers i
-linked_iff ds numbers i n m k a b told at there after next_at next_there is = (
+pub linked_iff : (ds : List Dependency) (numbers : List ℕ) (i n m k : ℕ) (a b : Dependency) (outcome : Bool) → slice_get numbers i ≡ Some m → slice_get ds m ≡ Some a → next numbers i ≡ n →
+    slice_get numbers n ≡ Some k → slice_get ds k ≡ Some b → outcome ≡ has a.lock b.held → IsTrue outcome ↔ IsLinked ds numbers i
+linked_iff ds numbers i n m k a b outcome at there after next_at next_there is = (
   λ t x y first second.
       let one = member_is ds numbers i m a x at there first in
       let two = member_is ds numbers n k b y next_at next_there (subst (λ j. HasMember ds numbers j y) after second) in

@@ -5,7 +5,7 @@ use Rattle.std.proofs.lemmas.List.{append-nil, take_more}
 use Rattle.std.proofs.lemmas.List.Concat.{flat_map-cons}
 use Rattle.std.proofs.lemmas.List.Elements.{All-map}
 use Rattle.trace_model.specs.declared.traces.event.Event.{Event}
-use Rattle.trace_model.specs.Protocol.Frames.{IsInRange}
+use Rattle.trace_model.specs.Protocol.Frames.{FitsWords}
 use Rattle.event_files.specs.EventFile.{event_word, line_words}
 use Rattle.commands.specs.ScriptFile.{AddsLine, FitsCommand, IsOffer, SaysLine, SaysLines, command_words}
 use Rattle.commands.specs.declared.script_command.reading.Command.{Command}
@@ -16,7 +16,7 @@ offered_words [] = refl
 offered_words (e ∷ events) = flat_map-cons command_words (Offer e) (map Offer events) ∙ ap (λ words. event_word e ∷ words) (offered_words events)
 
 -- a line of events
-pub says_offers : (words : List (List ℕ)) (events : List Event) → map event_word events ≡ words → All IsInRange events → SaysLine words (map Offer events)
+pub says_offers : (words : List (List ℕ)) (events : List Event) → map event_word events ≡ words → All FitsWords events → SaysLine words (map Offer events)
 says_offers words events are fit = record {
   said = offered_words events ∙ are;
   fit = All-map FitsCommand Offer events fit;

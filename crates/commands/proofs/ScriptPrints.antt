@@ -9,13 +9,13 @@ use Rattle.trace_model.specs.Protocol.Frames.{IsRequest, frame, requests_in}
 use Rattle.trace_model.specs.Protocol.Machine.{State}
 use Rattle.trace_model.proofs.Protocol.Readings.{frame_turn}
 use Rattle.trace_model.specs.declared.messages.session.Reply.{Reply}
-use Rattle.event_frames.specs.Reader.{Answers, IsFed, Reading, TakesRequest}
+use Rattle.event_frames.specs.Reader.{Answers, IsFed, FrameReaderView, TakesRequest}
 use Rattle.event_files.specs.EventFile.{pieces_at}
 use Rattle.sequencer.specs.Called.{StepsOrMemory, WantsRightly}
-use Rattle.commands.specs.Exit.{status_of}
+use Rattle.commands.specs.Exit.{error_status}
 use Rattle.commands.specs.Script.{reply_text}
 use Rattle.commands.specs.ScriptFile.{FitsCommand, RefusesCommands, SaysLines}
-use Rattle.commands.specs.Output.{Ends}
+use Rattle.commands.specs.Output.{EndsWithStatus}
 use Rattle.commands.specs.ScriptTells.{HasWrongCommand, Prints, PrintsAll, Replies, ScriptPrints}
 use Rattle.commands.proofs.Outputs.{cut_none}
 use Rattle.commands.specs.declared.exit.Status.{Status}
@@ -33,18 +33,18 @@ not_empty : (text : List ℕ) (request : Request) → IsRequest request → text
 not_empty text request fits is none = omega (arith, ap (λ (requests : List Request). length requests) (sym (one_request text request fits is) ∙ none))
 
 -- a reader that has read every byte is fed a frame
-pub fed_frame : (old new : Reading) (bytes : List ℕ) (request : Request) → old.rest ≡ [] → old.told ≡ None → IsFed old bytes new → bytes ≡ frame request → new.rest ≡ frame request
-fed_frame old new bytes request read untold fed is = fed.2 untold ∙ ap (λ (rest : List ℕ). rest ++ bytes) read ∙ is
+pub fed_frame : (old new : FrameReaderView) (bytes : List ℕ) (request : Request) → old.rest ≡ [] → old.returned ≡ None → IsFed old bytes new → bytes ≡ frame request → new.rest ≡ frame request
+fed_frame old new bytes request read fault_free fed is = fed.2 fault_free ∙ ap (λ (rest : List ℕ). rest ++ bytes) read ∙ is
 
 -- a reader whose unread bytes are a frame returns a request
-pub returns_request : (old new : Reading) (r : Result (Option Request) Fault) (request : Request) → IsRequest request → old.rest ≡ frame request → old.told ≡ None → Answers old r new →
+pub returns_request : (old new : FrameReaderView) (r : Result (Option Request) Fault) (request : Request) → IsRequest request → old.rest ≡ frame request → old.returned ≡ None → Answers old r new →
     (given : Request) × (r ≡ Ok (Some given))
-returns_request old new (Ok (Some given)) request fits is untold answers = (given, refl)
-returns_request old new (Ok None) request fits is untold answers = absurd (not_empty old.rest request fits is answers.requests)
-returns_request old new (Err fault) request fits is untold answers = absurd (not_empty old.rest request fits is (answers.stands untold).0)
+returns_request old new (Ok (Some given)) request fits is fault_free answers = (given, refl)
+returns_request old new (Ok None) request fits is fault_free answers = absurd (not_empty old.rest request fits is answers.requests)
+returns_request old new (Err fault) request fits is fault_free answers = absurd (not_empty old.rest request fits is (answers.stands fault_free).0)
 
 -- it is the frame's request, and every byte is then read
-pub takes_frame : (old new : Reading) (given request : Request) → IsRequest request → old.rest ≡ frame request → TakesRequest old given new → (given ≡ request) × (new.rest ≡ [])
+pub takes_frame : (old new : FrameReaderView) (given request : Request) → IsRequest request → old.rest ≡ frame request → TakesRequest old given new → (given ≡ request) × (new.rest ≡ [])
 takes_frame old new given request fits is takes =
     let first : requests_in old.rest ≡ given ∷ requests_in new.rest = ap requests_in takes.leading ∙ (frame_turn given new.rest takes.fits).requests in
     let same : given ≡ request = ap (λ (requests : List Request). get_or requests 0 request) (sym first ∙ one_request old.rest request fits is) in
@@ -80,7 +80,7 @@ prints_more s mid last (c ∷ commands) command text more (next, first, rest, ow
 
 -- a file that is not understood prints nothing
 pub not_understood : (file : List ℕ) (limit : ℕ) (before : Option (List ℕ)) (error : CommandError) → RefusesCommands (pieces_at 10 file) error →
-    Ends (ScriptPrints file limit) (HasWrongCommand file) (status_of error) before before
+    EndsWithStatus (ScriptPrints file limit) (HasWrongCommand file) (error_status error) before before
 not_understood file limit before (Line number) refused = ((number, refused), refl)
 not_understood file limit before (Merged number) refused = absurd refused
 not_understood file limit before Memory refused = cut_none before (λ text. (status : Status) × ScriptPrints file limit status text)

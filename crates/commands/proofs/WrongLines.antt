@@ -10,7 +10,7 @@ use Rattle.std.proofs.lemmas.Option.{none-some, same_Some}
 use Rattle.std.proofs.lemmas.Str.Parse.{digit_at}
 use Rattle.trace_model.specs.declared.traces.event.Event.{Event}
 use Rattle.trace_model.specs.Protocol.Batches.{IsBatch}
-use Rattle.trace_model.specs.Protocol.Frames.{IsInRange, object_of}
+use Rattle.trace_model.specs.Protocol.Frames.{FitsWords, object_of}
 use Rattle.event_files.specs.EventFile.{HasBadWord, event_word, letter_of}
 use Rattle.commands.specs.ScriptFile.{FitsCommand, HoldsEvents, IsNotUnderstood, IsOffer, Says, SaysLine, SaysOnlyEvents, command_words}
 use Rattle.commands.specs.declared.script_command.reading.Command.{Command}
@@ -28,14 +28,14 @@ not_ask : (word : List ℕ) → (get_or word 1 0 ≡ 115 → ⊥) → (keyword :
 not_ask word other keyword rest more ask same = other (ap (λ w. get_or w 1 0) (head_same _ _ _ _ same ∙ ask))
 
 -- an event word begins with a digit
-event_word_digit : (e : Event) → IsInRange e → get_or (event_word e) 0 0 ≤ 57
+event_word_digit : (e : Event) → FitsWords e → get_or (event_word e) 0 0 ≤ 57
 event_word_digit e fits =
     let some = decimal_nonempty e.thread (omega (arith, fits.0)) in
     let digit = digit_at (decimal e.thread) 0 (decimal_is_IsNumeral e.thread (omega (arith, fits.0))).0.1 some in
     omega (arith, digit, get_or_append_left (decimal e.thread) (letter_of e.op ∷ decimal (object_of e.op)) 0 0 some)
 
 -- an event word is not the keyword of a batch
-no_batch_word : (e : Event) → IsInRange e → event_word e ≢ codes "batch"
+no_batch_word : (e : Event) → FitsWords e → event_word e ≢ codes "batch"
 no_batch_word e fits is = omega (arith, event_word_digit e fits, ap (λ w. get_or w 0 0) is)
 
 -- ---- a keyword and its numbers
@@ -52,17 +52,17 @@ no_keyword keyword more none (Answer question) says = none (subst IsUtf8 (head_s
 no_keyword keyword more none (Status question) says = none (subst IsUtf8 (head_same _ _ _ _ says.1) (codes "status", (refl, refl)))
 
 -- what a clause says of the error of a result without a value
-pub error_of : {A E : Type 0} (told : Result A E) (P : A → Type 0) (Q : E → Type 0) → MatchResult told P Q → result_ok told ≡ None → (e : E) × Q e
+pub error_of : {A E : Type 0} (outcome : Result A E) (P : A → Type 0) (Q : E → Type 0) → MatchResult outcome P Q → result_ok outcome ≡ None → (e : E) × Q e
 error_of (Ok x) P Q cases none = absurd (none-some x (sym none))
 error_of (Err e) P Q cases none = (e, cases)
 
 -- what a clause says of the value of a result
-pub value_of : {A E : Type 0} (told : Result A E) (x : A) (P : A → Type 0) (Q : E → Type 0) → MatchResult told P Q → result_ok told ≡ Some x → P x
+pub value_of : {A E : Type 0} (outcome : Result A E) (x : A) (P : A → Type 0) (Q : E → Type 0) → MatchResult outcome P Q → result_ok outcome ≡ Some x → P x
 value_of (Ok y) x P Q cases some = subst P (same_Some y x some) cases
 value_of (Err e) x P Q cases some = absurd (none-some x some)
 
 -- a number that does not fit in a byte
-pub large_of : {E : Type 0} (told : Result ℕ E) (number : ℕ) → OkIff told (number < 256) number → result_ok told ≡ None → 2 ^ 8 ≤ number
+pub large_of : {E : Type 0} (outcome : Result ℕ E) (number : ℕ) → OkIff outcome (number < 256) number → result_ok outcome ≡ None → 2 ^ 8 ≤ number
 large_of (Ok x) number iff none = absurd (none-some x (sym none))
 large_of (Err e) number iff none = omega (arith, iff)
 
@@ -83,11 +83,11 @@ large_bound keyword number small large ask (Status question) says = not_ask (cod
 -- the words are those of events
 record AreEventWords (words : List (List ℕ)) : Type 0 where
   events : List Event
-  fit : All IsInRange events
+  fit : All FitsWords events
   are : map event_word events ≡ words
 
 offers_of : (commands : List Command) → All IsOffer commands → All FitsCommand commands → AreEventWords (flat_map command_words commands)
-offers_of [] only fit = record { events = []; fit = All-nil IsInRange; are = refl }
+offers_of [] only fit = record { events = []; fit = All-nil FitsWords; are = refl }
 offers_of (command ∷ commands) only fit =
     let rest = offers_of commands (All-tail IsOffer command commands only) (All-tail FitsCommand command commands fit) in
     first command (All-head IsOffer command commands only) (All-head FitsCommand command commands fit) rest
@@ -95,7 +95,7 @@ offers_of (command ∷ commands) only fit =
     first : (c : Command) → IsOffer c → FitsCommand c → AreEventWords (flat_map command_words commands) → AreEventWords (flat_map command_words (c ∷ commands))
     first (Offer event) is fits rest = record {
       events = event ∷ rest.events;
-      fit = All-cons IsInRange event rest.events fits rest.fit;
+      fit = All-cons FitsWords event rest.events fits rest.fit;
       are = ap (λ words. event_word event ∷ words) rest.are;
     }
     first _ is fits rest = absurd is
@@ -113,10 +113,10 @@ line_cases words commands says = elim says.alone [
     alone (c ∷ d ∷ cs) one fit said = absurd (omega (arith, one))
 
 -- each of the words of events is an event word
-event_word_at : (events : List Event) → All IsInRange events → (i : ℕ) (word : List ℕ) → slice_get (map event_word events) i ≡ Some word → (e : Event) × IsInRange e × (word ≡ event_word e)
+event_word_at : (events : List Event) → All FitsWords events → (i : ℕ) (word : List ℕ) → slice_get (map event_word events) i ≡ Some word → (e : Event) × FitsWords e × (word ≡ event_word e)
 event_word_at [] fit i word at = absurd (none-some word at)
-event_word_at (e ∷ events) fit zero word at = (e, All-head IsInRange e events fit, sym (same_Some (event_word e) word at))
-event_word_at (e ∷ events) fit (suc i) word at = event_word_at events (All-tail IsInRange e events fit) i word at
+event_word_at (e ∷ events) fit zero word at = (e, All-head FitsWords e events fit, sym (same_Some (event_word e) word at))
+event_word_at (e ∷ events) fit (suc i) word at = event_word_at events (All-tail FitsWords e events fit) i word at
 
 none_is_bad : (words : List (List ℕ)) → HasBadWord words → AreEventWords words → ⊥
 none_is_bad words bad offers =
@@ -126,9 +126,9 @@ none_is_bad words bad offers =
 no_batch_offers : (words : List (List ℕ)) → AreEventWords (codes "batch" ∷ words) → ⊥
 no_batch_offers words offers = first offers.events offers.fit offers.are
   where
-    first : (events : List Event) → All IsInRange events → map event_word events ≡ codes "batch" ∷ words → ⊥
+    first : (events : List Event) → All FitsWords events → map event_word events ≡ codes "batch" ∷ words → ⊥
     first [] fit are = let long : 0 ≡ suc (length words) = ap length are in omega (arith, long)
-    first (e ∷ events) fit are = no_batch_word e (All-head IsInRange e events fit) (head_same _ _ _ _ are)
+    first (e ∷ events) fit are = no_batch_word e (All-head FitsWords e events fit) (head_same _ _ _ _ are)
 
 -- words whose first one is not `batch` do not begin with it
 pub other_first : (words : List (Bor (List ℕ))) (first : Bor (List ℕ)) (rest : List (Bor (List ℕ))) → IsFirstAndRest words first rest →
@@ -143,7 +143,7 @@ no_words [] none more batch = let long : 0 ≡ suc (length more) = ap length bat
 no_words (word ∷ words) none more batch = omega (arith, none)
 
 -- a `batch` line whose words are not those of a batch
-pub no_batch : (words : List (List ℕ)) → ((events : List Event) → IsBatch events → All IsInRange events → map event_word events ≡ words → ⊥) →
+pub no_batch : (words : List (List ℕ)) → ((events : List Event) → IsBatch events → All FitsWords events → map event_word events ≡ words → ⊥) →
     IsNotUnderstood (codes "batch" ∷ words)
 no_batch words none commands says = elim (line_cases (codes "batch" ∷ words) commands says) [
   | inl one ↦ alone one.0 one.1
@@ -180,6 +180,6 @@ no_line words other only bad commands says = elim (line_cases words commands say
 ]
   where
     alone : (c : Command) → Says words c → HoldsEvents c → ⊥
-    alone (Offer event) one holds = none_is_bad words bad (record { events = event ∷ []; fit = All-cons IsInRange event [] one.0 (All-nil IsInRange); are = one.1 })
+    alone (Offer event) one holds = none_is_bad words bad (record { events = event ∷ []; fit = All-cons FitsWords event [] one.0 (All-nil FitsWords); are = one.1 })
     alone (Batch events) one holds = other (map event_word (box_value events)) (sym one.1)
     alone _ one holds = holds

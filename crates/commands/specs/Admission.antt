@@ -1,10 +1,10 @@
--- An event file passed through the gate (this project's profile).
+-- An event file passed through the admission check (this project's profile).
 use Rattle.std.specs.Prelude.{ℕ, List, ◌++◌, codes}
 use Rattle.trace_model.specs.Theory.Trace.{Trace}
 use Rattle.trace_model.specs.Theory.Lawful.{IsWellFormed}
 use Rattle.wellformed.specs.declared.whole_lists.FirstUnlawful.{FirstUnlawful}
 use Rattle.wellformed.specs.FirstUnlawful.{IsFirstUnlawful}
-use Rattle.event_files.specs.EventFile.{AreEventsOf, IsFirstBad, pieces_at}
+use Rattle.event_files.specs.EventFile.{AreWordsOfEvents, IsFirstBad, pieces_at}
 use Rattle.commands.specs.Text.{labeled_line, refusal_words}
 use Rattle.commands.specs.declared.admission.Admission.{Admission}
 use Rattle.commands.specs.declared.admission.Admission.TheVariants.{Admitted, Refused}
@@ -13,9 +13,10 @@ use Rattle.commands.specs.declared.exit.CommandError.TheVariants.{Line, Merged, 
 
 -- either the file's events, which form a well-formed trace, or the first of them that is not lawful
 abbrev pub IsAdmissionOf : List ℕ → Admission → Type 0
-IsAdmissionOf file (Admitted events) = AreEventsOf events.items file × IsWellFormed events.items
+IsAdmissionOf file (Admitted events) = AreWordsOfEvents events.items file
+    × IsWellFormed events.items
 IsAdmissionOf file (Refused first) =
-    (events : Trace) × AreEventsOf events file × IsFirstUnlawful events first
+    (events : Trace) × AreWordsOfEvents events file × IsFirstUnlawful events first
 
 -- the line with this number, counted from 1, is the file's first that is not understood
 abbrev pub IsFirstBadIn : List ℕ → ℕ → Type 0

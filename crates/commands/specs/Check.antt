@@ -1,7 +1,7 @@
 -- The check of explained cycles against a trace (this project's profile).
 use Rattle.std.specs.Prelude.{◌≡◌, ◌≢◌, ℕ, ◌<◌, ◌≤◌, ◌⊎◌, ◌==◌, ◌&&◌, Bool, true, false, List, [], ◌∷◌, ◌++◌, Option, Some, count_by, length, map, option_to_list, position, unwrap_or, if◌then◌else◌}
 use Rattle.std.specs.List.{All, AllZip, flat_map, list_all, zip}
-use Rattle.trace_model.specs.declared.refutations.Step.{Step}
+use Rattle.trace_model.specs.declared.refutations.RefutationStep.{RefutationStep}
 use Rattle.trace_model.specs.Theory.Trace.{Trace}
 use Rattle.trace_model.specs.Theory.Cycles.{IsConfirmed}
 use Rattle.event_files.specs.ExplainedFile.{IsExplainedText, RefusesExplained}
@@ -17,9 +17,9 @@ use Rattle.replay.specs.Verdict.{IsVerdict}
 use Rattle.replay.specs.declared.refutation_verdict.RefutationVerdict.TheVariants.{Valid, UnknownNumber, WrongStep, AfterEnd, PlaceLeft}
 use Rattle.replay.specs.declared.verdict.Verdict.TheVariants.{Reaches, Fails}
 use Rattle.commands.specs.Admission.{HasBadLine}
-use Rattle.commands.specs.CheckWords.{checked_line, head_line}
+use Rattle.commands.specs.CheckWords.{checked_line, head_verdict_line}
 use Rattle.commands.specs.ExplainedRows.{IsRowFault, IsRowOf}
-use Rattle.commands.specs.Output.{Ends}
+use Rattle.commands.specs.Output.{EndsWithStatus}
 use Rattle.commands.specs.Replay.{AreLawfulEventsOf, UnlawfulPrints}
 use Rattle.commands.specs.declared.check_verdicts.HeadVerdict.{HeadVerdict}
 use Rattle.commands.specs.declared.check_verdicts.HeadVerdict.TheVariants as heads
@@ -31,14 +31,14 @@ use Rattle.commands.specs.declared.exit.Status.TheVariants.{Done, Refused}
 -- ---- the verdict on a cycle
 
 -- The step, with the index of the first member that has its thread, or the number of members.
-abbrev pub step_in : List StatedMember → ExplainedStep → Step
+abbrev pub step_in : List StatedMember → ExplainedStep → RefutationStep
 step_in members step = record {
   member = unwrap_or (position (λ m. m.thread == step.thread) members) (length members);
   derivation = step.derivation;
 }
 
 -- The steps.
-abbrev pub steps_in : List StatedMember → List ExplainedStep → List Step
+abbrev pub steps_in : List StatedMember → List ExplainedStep → List RefutationStep
 steps_in members steps = map (step_in members) steps
 
 -- The verdict is right: the first test of the row that does not hold; or, for a row of the trace,
@@ -117,8 +117,8 @@ checked_lines rows verdicts =
     flat_map (λ pair. checked_line pair.0.cycle pair.1) (zip rows verdicts)
 
 -- The text is the line of a right verdict on the cycle, and `valid` says whether it is `valid`.
-abbrev pub IsLineOf : Trace → StatedCycle → Bool → List ℕ → Type 0
-IsLineOf s r valid text = (v : CycleVerdict) × IsVerdictFor s r v × (valid ≡ is_valid v)
+abbrev pub IsVerdictLine : Trace → StatedCycle → Bool → List ℕ → Type 0
+IsVerdictLine s r valid text = (v : CycleVerdict) × IsVerdictFor s r v × (valid ≡ is_valid v)
     × (text ≡ checked_line r.cycle v)
 
 -- The text has the lines of right verdicts on the contents of a file. The status is `Done` if all
@@ -128,14 +128,14 @@ pub record IsCheckOf (s : Trace) (f : Contents) (status : Status) (text : List �
   pub rows : List CycleVerdict
   pub head_is : AreHeadVerdicts s f head
   pub rows_are : AreVerdicts s f.cycles rows
-  pub printed : text ≡ flat_map head_line head ++ checked_lines f.cycles rows
+  pub printed : text ≡ flat_map head_verdict_line head ++ checked_lines f.cycles rows
   pub ended : status ≡
       (if list_all is_valid_head head && list_all is_valid rows then Done else Refused)
 
 -- The lines of right verdicts are appended, and `valid` says whether all are valid.
 abbrev pub AddsHead : Trace → Contents → Bool → List ℕ → List ℕ → Type 0
 AddsHead s f valid old new = (head : List HeadVerdict) × AreHeadVerdicts s f head
-    × (valid ≡ list_all is_valid_head head) × (new ≡ old ++ flat_map head_line head)
+    × (valid ≡ list_all is_valid_head head) × (new ≡ old ++ flat_map head_verdict_line head)
 
 abbrev pub AddsRows : Trace → List StatedCycle → Bool → List ℕ → List ℕ → Type 0
 AddsRows s rows valid old new = (verdicts : List CycleVerdict) × AreVerdicts s rows verdicts
@@ -169,7 +169,7 @@ IsWrongLine trace file = HasBadLine trace
 -- What a status says of the output of `check` on these files.
 abbrev pub CheckTells : List ℕ → List ℕ → Status → Option (List ℕ) → Option (List ℕ) → Type 0
 CheckTells trace file status before after =
-    Ends (CheckPrints trace file) (IsWrongLine trace file) status before after
+    EndsWithStatus (CheckPrints trace file) (IsWrongLine trace file) status before after
 
 -- ---- what a valid file states
 

@@ -10,11 +10,11 @@ use Rattle.commands.specs.declared.exit.CommandError.{CommandError}
 use Rattle.commands.specs.declared.exit.CommandError.TheVariants.{Line, Merged, Memory, Output}
 
 -- the number that the program exits with
-abbrev pub code_of : Status → ℕ
-code_of Done = 0
-code_of Refused = 1
-code_of Error = 1
-code_of NotUnderstood = 2
+abbrev pub exit_code : Status → ℕ
+exit_code Done = 0
+exit_code Refused = 1
+exit_code Error = 1
+exit_code NotUnderstood = 2
 
 -- the error of a command whose file could not be parsed
 abbrev pub file_error : FileRefused → CommandError
@@ -28,8 +28,8 @@ explained_error (explained.Merged number) = Merged number
 explained_error explained.NoMemory = Memory
 
 -- the status of a command that ended with this error
-abbrev pub status_of : CommandError → Status
-status_of (Line number) = NotUnderstood
-status_of (Merged number) = NotUnderstood
-status_of Memory = Error
-status_of Output = Error
+abbrev pub error_status : CommandError → Status
+error_status (Line number) = NotUnderstood
+error_status (Merged number) = NotUnderstood
+error_status Memory = Error
+error_status Output = Error

@@ -1,82 +1,83 @@
 -- What `explain` prints (this project's profile).
 use Rattle.std.specs.Prelude.{◌≡◌, ℕ, ◌<◌, ◌≤◌, ◌^◌, ◌⊎◌, List, [], ◌++◌, codes, count_by, decimal, length, map, slice_get, take, Option, Some, None, Result, Ok, Err, MatchOption}
 use Rattle.std.specs.List.{All, AllZip, Contains, flat_map}
-use Rattle.trace_model.specs.declared.refutations.Step.{Step}
+use Rattle.trace_model.specs.declared.refutations.RefutationStep.{RefutationStep}
 use Rattle.trace_model.specs.declared.limits.TheConstants.{MAX_CYCLES}
 use Rattle.trace_model.specs.declared.refusal.Refusal.TheVariants.{TooManyCycles}
 use Rattle.trace_model.specs.Theory.Trace.{Trace}
 use Rattle.trace_model.specs.Theory.Cycles.{IsConfirmed, IsCycle}
 use Rattle.trace_model.specs.Theory.Dependencies.{dependencies}
 use Rattle.trace_model.specs.Theory.Refutation.{IsRefutation}
-use Rattle.event_files.specs.Refutations.{refutation_text}
+use Rattle.event_files.specs.Refutations.{refutation_text, label_and_number}
 use Rattle.trace_model.specs.Theory.Rows.{IsRow}
-use Rattle.cycle_search.specs.Search.{CycleFrom, MoreThan}
+use Rattle.cycle_search.specs.CycleSearch.{CycleFrom, MoreThan}
 use Rattle.event_files.specs.EventFile.{pieces_at}
 use Rattle.commands.specs.Admission.{HasBadLine}
-use Rattle.commands.specs.Output.{Ends}
-use Rattle.commands.specs.Text.{labeled, labeled_line, refusal_line}
+use Rattle.commands.specs.Output.{EndsWithStatus}
+use Rattle.commands.specs.Text.{labeled_line, refusal_line}
 use Rattle.commands.specs.Replay.{AreLawfulEventsOf, UnlawfulPrints}
 use Rattle.commands.specs.declared.exit.Status.{Status}
 use Rattle.commands.specs.declared.exit.Status.TheVariants.{Done, Refused, Error, NotUnderstood}
-use Rattle.reports.specs.Printed.{Printed, with_dependencies}
-use Rattle.reports.specs.Text.{about, counts, is_confirmed, row_text}
+use Rattle.reports.specs.Printed.{PrintedRow, with_dependencies}
+use Rattle.reports.specs.Text.{about, counts, is_confirmed_row, row_text}
 use Rattle.snapshots.specs.Found.{AreRowsOf}
 
 -- The row of a cycle that is not confirmed, with the dependencies of its members.
-pub record IsPotential (s : Trace) (p : Printed) : Type 0 where
+pub record IsPotential (s : Trace) (p : PrintedRow) : Type 0 where
   pub known : (m : ℕ) → Contains p.row.cycle m → m < length (dependencies s)
   pub named : p ≡ with_dependencies (dependencies s) p.row
   pub not_confirmed : IsConfirmed s p.row.cycle → ⊥
 
 -- The text of a refutation of the row's cycle is appended.
-abbrev pub AddsRefutation : Trace → Printed → List ℕ → List ℕ → Type 0
-AddsRefutation s p old new = (steps : List Step) × IsRefutation s p.row.cycle steps
+abbrev pub AddsRefutation : Trace → PrintedRow → List ℕ → List ℕ → Type 0
+AddsRefutation s p old new = (steps : List RefutationStep) × IsRefutation s p.row.cycle steps
     × (new ≡ old ++ refutation_text (map (λ d. d.thread) p.dependencies) steps)
 
 -- the text of a row, and after a potential one a refutation of its cycle
-abbrev pub IsExplanation : Trace → Printed → List ℕ → Type 0
+abbrev pub IsExplanation : Trace → PrintedRow → List ℕ → Type 0
 IsExplanation s p text = MatchOption p.row.found (AddsRefutation s p (row_text p) text)
     (λ found. text ≡ row_text p)
 
 -- the texts of these rows, in order
-abbrev pub Explains : Trace → List Printed → List ℕ → Type 0
+abbrev pub Explains : Trace → List PrintedRow → List ℕ → Type 0
 Explains s rows text = (texts : List (List ℕ)) × AllZip (IsExplanation s) rows texts
     × (text ≡ flat_map (λ part. part) texts)
 
 -- the texts of the first of these rows
-abbrev pub ExplainsSome : Trace → List Printed → List ℕ → Type 0
+abbrev pub ExplainsSome : Trace → List PrintedRow → List ℕ → Type 0
 ExplainsSome s rows text = (n : ℕ) × Explains s (take n rows) text
 
 -- exactly the rows of the first `n` tasks
-pub record AreRowsUpTo (s : Trace) (bound n : ℕ) (tasks : List (List Printed)) : Type 0 where
+pub record AreRowsUpTo (s : Trace) (bound n : ℕ) (tasks : List (List PrintedRow)) : Type 0 where
   pub total : length tasks ≡ n
-  pub each : (task : ℕ) (rows : List Printed) → slice_get tasks task ≡ Some rows →
+  pub each : (task : ℕ) (rows : List PrintedRow) → slice_get tasks task ≡ Some rows →
       AreRowsOf s bound task rows
 
 -- exactly the rows of the trace, in the order of the tasks
-abbrev pub AreAllRows : Trace → ℕ → List Printed → Type 0
-AreAllRows s bound rows = (tasks : List (List Printed))
+abbrev pub AreRowsOfTrace : Trace → ℕ → List PrintedRow → Type 0
+AreRowsOfTrace s bound rows = (tasks : List (List PrintedRow))
     × AreRowsUpTo s bound (length (dependencies s)) tasks
     × (rows ≡ flat_map (λ task. task) tasks)
 
 -- the first line of the report with these rows
-abbrev pub head_line : Trace → ℕ → List Printed → List ℕ
-head_line s bound rows =
-    about 0 (length s) bound ++ counts (length rows) (count_by is_confirmed rows)
+abbrev pub first_report_line : Trace → ℕ → List PrintedRow → List ℕ
+first_report_line s bound rows =
+    about 0 (length s) bound ++ counts (length rows) (count_by is_confirmed_row rows)
 
 -- The first line of the report, and then the texts of all rows of the trace.
 abbrev pub ExplainsAll : Trace → ℕ → List ℕ → Type 0
-ExplainsAll s bound text = (rows : List Printed) × (texts : List ℕ) × AreAllRows s bound rows
-    × Explains s rows texts × (text ≡ head_line s bound rows ++ texts)
+ExplainsAll s bound text = (rows : List PrintedRow) × (texts : List ℕ) × AreRowsOfTrace s bound rows
+    × Explains s rows texts × (text ≡ first_report_line s bound rows ++ texts)
 
 -- The first line of the report, and then the texts of the first rows of the trace.
 abbrev pub ExplainsFirst : Trace → ℕ → List ℕ → Type 0
-ExplainsFirst s bound text = (rows : List Printed) × (texts : List ℕ) × AreAllRows s bound rows
-    × ExplainsSome s rows texts × (text ≡ head_line s bound rows ++ texts)
+ExplainsFirst s bound text = (rows : List PrintedRow) × (texts : List ℕ)
+    × AreRowsOfTrace s bound rows
+    × ExplainsSome s rows texts × (text ≡ first_report_line s bound rows ++ texts)
 
 -- The numbers are a cycle up to the bound, and the text is that of its exact row.
 abbrev pub ExplainsCycle : Trace → ℕ → List ℕ → List ℕ → Type 0
-ExplainsCycle s bound numbers text = (p : Printed) × (p.row.cycle ≡ numbers)
+ExplainsCycle s bound numbers text = (p : PrintedRow) × (p.row.cycle ≡ numbers)
     × IsCycle (dependencies s) bound numbers × IsRow s p.row
     × (p ≡ with_dependencies (dependencies s) p.row) × IsExplanation s p text
 
@@ -84,7 +85,7 @@ ExplainsCycle s bound numbers text = (p : Printed) × (p.row.cycle ≡ numbers)
 
 -- the line that says that these numbers are no cycle up to the bound
 abbrev pub no_cycle_line : List ℕ → ℕ → List ℕ
-no_cycle_line numbers bound = codes "no cycle" ++ flat_map (labeled (codes " ")) numbers
+no_cycle_line numbers bound = codes "no cycle" ++ flat_map (label_and_number (codes " ")) numbers
     ++ labeled_line (codes " with bound ") bound
 
 -- the line that says that a task has too many cycles
@@ -92,18 +93,18 @@ abbrev pub too_many_line : List ℕ
 too_many_line = refusal_line TooManyCycles
 
 -- The task has more cycles up to the bound than a finding can hold.
-abbrev pub HasTooMany : Trace → ℕ → ℕ → Type 0
-HasTooMany s bound task = MoreThan (CycleFrom (dependencies s) bound task) MAX_CYCLES
+abbrev pub HasTooManyCycles : Trace → ℕ → ℕ → Type 0
+HasTooManyCycles s bound task = MoreThan (CycleFrom (dependencies s) bound task) MAX_CYCLES
 
 -- A task has too many cycles.
 abbrev pub RefusesAll : Trace → ℕ → List ℕ → Type 0
-RefusesAll s bound text = (task : ℕ) × HasTooMany s bound task × (text ≡ too_many_line)
+RefusesAll s bound text = (task : ℕ) × HasTooManyCycles s bound task × (text ≡ too_many_line)
 
 -- The numbers are no cycle up to the bound, or the task of this cycle has too many.
 abbrev pub RefusesCycle : Trace → ℕ → List ℕ → List ℕ → Type 0
 RefusesCycle s bound numbers text =
     ((IsCycle (dependencies s) bound numbers → ⊥) × (text ≡ no_cycle_line numbers bound))
-    ⊎ ((task : ℕ) × (slice_get numbers 0 ≡ Some task) × HasTooMany s bound task
+    ⊎ ((task : ℕ) × (slice_get numbers 0 ≡ Some task) × HasTooManyCycles s bound task
     × (text ≡ too_many_line))
 
 -- ---- the command
@@ -138,18 +139,18 @@ ExplainPrints file bound cycle status text =
 abbrev pub ExplainTells : List ℕ → ℕ → Option (List ℕ) → Status →
     Option (List ℕ) → Option (List ℕ) → Type 0
 ExplainTells file bound cycle status before after =
-    Ends (ExplainPrints file bound cycle) (HasBadLine file) status before after
+    EndsWithStatus (ExplainPrints file bound cycle) (HasBadLine file) status before after
 
 -- ---- the option --cycle
 
 -- The words denote these numbers, which fit in 32 bits.
-abbrev pub AreNumbers : List (List ℕ) → List ℕ → Type 0
-AreNumbers words numbers = All (λ n. n < 2 ^ 32) numbers × (map decimal numbers ≡ words)
+abbrev pub AreNumberWords : List (List ℕ) → List ℕ → Type 0
+AreNumberWords words numbers = All (λ n. n < 2 ^ 32) numbers × (map decimal numbers ≡ words)
 
 -- The words name these numbers, 2 to 8, which commas separate.
 abbrev pub NamesCycle : List ℕ → List ℕ → Type 0
 NamesCycle words numbers = (2 ≤ length numbers) × (length numbers ≤ 8)
-    × AreNumbers (pieces_at 44 words) numbers
+    × AreNumberWords (pieces_at 44 words) numbers
 
 -- The words of the option name no cycle.
 abbrev pub NamesNone : List ℕ → Type 0

@@ -11,8 +11,8 @@ use Rattle.commands.specs.declared.explained_rows.RowFault.{RowFault}
 use Rattle.commands.specs.declared.explained_rows.RowFault.TheVariants.{UnknownNumber, OtherMember, NoCycle, OtherPlace}
 
 -- The dependency that the line of a member states.
-abbrev pub stated : StatedMember → Dependency
-stated m = record { thread = m.thread; lock = m.lock; held = m.held }
+abbrev pub stated_dependency : StatedMember → Dependency
+stated_dependency m = record { thread = m.thread; lock = m.lock; held = m.held }
 
 -- The test holds for each index of the list and the number there.
 abbrev pub HoldsAtEach : List ℕ → (ℕ → ℕ → Type 0) → Type 0
@@ -25,13 +25,13 @@ pub record FailsFirst (numbers : List ℕ) (Test : ℕ → ℕ → Type 0) (i m 
   pub before : (j n : ℕ) → j < i → slice_get numbers j ≡ Some n → Test j n
 
 -- The number is that of a dependency.
-abbrev pub IsKnown : List Dependency → ℕ → ℕ → Type 0
-IsKnown ds i m = m < length ds
+abbrev pub IsDependencyNumber : List Dependency → ℕ → ℕ → Type 0
+IsDependencyNumber ds i m = m < length ds
 
 -- The line of member i states the dependency with the number m.
 abbrev pub States : List Dependency → StatedCycle → ℕ → ℕ → Type 0
 States ds r i m = (member : StatedMember) × (slice_get r.members i ≡ Some member)
-    × (slice_get ds m ≡ Some (stated member))
+    × (slice_get ds m ≡ Some (stated_dependency member))
 
 -- Member i has this place.
 abbrev pub HasPlaceAt : StatedCycle → ℕ → ℕ → Type 0
@@ -51,8 +51,9 @@ pub record IsRowOf (s : Trace) (r : StatedCycle) : Type 0 where
 
 -- The first test of a row that does not hold.
 abbrev pub IsRowFault : Trace → StatedCycle → RowFault → Type 0
-IsRowFault s r (UnknownNumber m) = (i : ℕ) × FailsFirst r.cycle (IsKnown (dependencies s)) i m
-IsRowFault s r (OtherMember m) = HoldsAtEach r.cycle (IsKnown (dependencies s))
+IsRowFault s r (UnknownNumber m) = (i : ℕ)
+    × FailsFirst r.cycle (IsDependencyNumber (dependencies s)) i m
+IsRowFault s r (OtherMember m) = HoldsAtEach r.cycle (IsDependencyNumber (dependencies s))
     × ((i : ℕ) × FailsFirst r.cycle (States (dependencies s) r) i m)
 IsRowFault s r NoCycle = HoldsAtEach r.cycle (States (dependencies s) r)
     × (IsCycle (dependencies s) MAX_MEMBERS r.cycle → ⊥)
@@ -63,7 +64,7 @@ IsRowFault s r (OtherPlace p) = HoldsAtEach r.cycle (States (dependencies s) r)
 -- ---- a member of a cycle
 
 -- Two members of a cycle have different threads and locks, and no held lock in common.
-pub record AreApart (a b : Dependency) : Type 0 where
+pub record AreDistinctMembers (a b : Dependency) : Type 0 where
   pub threads : a.thread ≢ b.thread
   pub locks : a.lock ≢ b.lock
   pub held : (l : ℕ) → Contains a.held l → Contains b.held l → ⊥
@@ -81,7 +82,7 @@ IsLinked ds numbers i = (a b : Dependency) → HasMember ds numbers i a →
 -- Member i is apart from each earlier member.
 abbrev pub IsApart : List Dependency → List ℕ → ℕ → Type 0
 IsApart ds numbers i = (j : ℕ) (a b : Dependency) → j < i → HasMember ds numbers j a →
-    HasMember ds numbers i b → AreApart a b
+    HasMember ds numbers i b → AreDistinctMembers a b
 
 -- Member i fits into a cycle.
 pub record FitsAt (ds : List Dependency) (numbers : List ℕ) (i : ℕ) : Type 0 where

@@ -4,11 +4,11 @@ use Rattle.trace_model.specs.Theory.Trace.{Trace}
 use Rattle.trace_model.specs.declared.refusal.Refusal.TheVariants as refusals
 use Rattle.offline_report.specs.declared.refused.OfflineRefused.{OfflineRefused}
 use Rattle.offline_report.specs.declared.refused.OfflineRefused.TheVariants.{Unlawful, TooLong, TooManyCycles, NoMemory}
-use Rattle.offline_report.specs.Offline.{IsReport, IsRefused}
+use Rattle.offline_report.specs.Offline.{IsReport, IsOfflineRefusal}
 use Rattle.commands.specs.Admission.{HasBadLine, refused_at_line}
-use Rattle.commands.specs.Output.{Ends}
+use Rattle.commands.specs.Output.{EndsWithStatus}
 use Rattle.commands.specs.Text.{refusal_line}
-use Rattle.event_files.specs.EventFile.{AreEventsOf}
+use Rattle.event_files.specs.EventFile.{AreWordsOfEvents}
 use Rattle.commands.specs.declared.exit.Status.{Status}
 use Rattle.commands.specs.declared.exit.Status.TheVariants.{Done, Refused, Error, NotUnderstood}
 
@@ -24,16 +24,16 @@ refused_line NoMemory = []
 abbrev pub ReportPrints : Trace → ℕ → Status → List ℕ → Type 0
 ReportPrints s bound Done text = IsReport s bound text
 ReportPrints s bound Refused text = (refused : OfflineRefused) × (refused ≢ NoMemory)
-    × IsRefused s bound refused × (text ≡ refused_line refused)
+    × IsOfflineRefusal s bound refused × (text ≡ refused_line refused)
 ReportPrints s bound Error text = ⊥
 ReportPrints s bound NotUnderstood text = ⊥
 
 -- The text is right with this status for the file's events.
 abbrev pub OfflinePrints : List ℕ → ℕ → Status → List ℕ → Type 0
 OfflinePrints file bound status text =
-    (events : Trace) × AreEventsOf events file × ReportPrints events bound status text
+    (events : Trace) × AreWordsOfEvents events file × ReportPrints events bound status text
 
 -- What a status says of the output of `offline` on this file.
 abbrev pub OfflineTells : List ℕ → ℕ → Status → Option (List ℕ) → Option (List ℕ) → Type 0
 OfflineTells file bound status before after =
-    Ends (OfflinePrints file bound) (HasBadLine file) status before after
+    EndsWithStatus (OfflinePrints file bound) (HasBadLine file) status before after

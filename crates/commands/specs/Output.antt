@@ -1,7 +1,7 @@
 -- What a status says of the output of a command (this project's profile).
 use Rattle.std.specs.Prelude.{◌≡◌, ℕ, ◌⊎◌, List, [], Option, Result, Ok, Err, take}
 use Rattle.std.specs.Io.KnownBytes.{Appends}
-use Rattle.commands.specs.Exit.{status_of}
+use Rattle.commands.specs.Exit.{error_status}
 use Rattle.commands.specs.declared.exit.CommandError.{CommandError}
 use Rattle.commands.specs.declared.exit.Status.{Status}
 use Rattle.commands.specs.declared.exit.Status.TheVariants.{Done, Refused, Error, NotUnderstood}
@@ -22,20 +22,22 @@ IsCutShort before after Is =
 -- A command ends with this status. `Prints` has the texts that are right with each status, and
 -- `Wrong` says that a line of a file is not understood. The output grew by a right text; or it is
 -- cut short, since the output or an allocation failed; or it did not grow, and a line is wrong.
-abbrev pub Ends : (Status → List ℕ → Type 0) → Type 0 → Status → Option (List ℕ) →
+abbrev pub EndsWithStatus : (Status → List ℕ → Type 0) → Type 0 → Status → Option (List ℕ) →
     Option (List ℕ) → Type 0
-Ends Prints Wrong Done before after = Writes before after (Prints Done)
-Ends Prints Wrong Refused before after = Writes before after (Prints Refused)
-Ends Prints Wrong Error before after =
+EndsWithStatus Prints Wrong Done before after = Writes before after (Prints Done)
+EndsWithStatus Prints Wrong Refused before after = Writes before after (Prints Refused)
+EndsWithStatus Prints Wrong Error before after =
     IsCutShort before after (λ text. (status : Status) × Prints status text)
-Ends Prints Wrong NotUnderstood before after = Wrong × (after ≡ before)
+EndsWithStatus Prints Wrong NotUnderstood before after = Wrong × (after ≡ before)
 
 -- The same of a command that returns this result, whose error has a status.
-abbrev pub EndsAs : (Status → List ℕ → Type 0) → Type 0 → Result Status CommandError →
+abbrev pub EndsWithResult : (Status → List ℕ → Type 0) → Type 0 → Result Status CommandError →
     Option (List ℕ) → Option (List ℕ) → Type 0
-EndsAs Prints Wrong (Ok status) before after = Ends Prints Wrong status before after
-EndsAs Prints Wrong (Err error) before after = Ends Prints Wrong (status_of error) before after
+EndsWithResult Prints Wrong (Ok status) before after =
+    EndsWithStatus Prints Wrong status before after
+EndsWithResult Prints Wrong (Err error) before after =
+    EndsWithStatus Prints Wrong (error_status error) before after
 
 -- Only this text is right, with this status.
 abbrev pub IsJust : Status → List ℕ → Status → List ℕ → Type 0
-IsJust status text told printed = (told ≡ status) × (printed ≡ text)
+IsJust status text outcome printed = (outcome ≡ status) × (printed ≡ text)

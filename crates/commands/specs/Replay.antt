@@ -6,13 +6,13 @@ use Rattle.wellformed.specs.declared.whole_lists.FirstUnlawful.{FirstUnlawful}
 use Rattle.wellformed.specs.FirstUnlawful.{IsFirstUnlawful}
 use Rattle.replay.specs.declared.verdict.Verdict.{Verdict}
 use Rattle.replay.specs.declared.verdict.Verdict.TheVariants.{Reaches, Fails}
-use Rattle.replay.specs.Tests.{name_of}
+use Rattle.replay.specs.Tests.{test_name}
 use Rattle.replay.specs.Verdict.{IsVerdict}
-use Rattle.event_files.specs.EventFile.{AreEventsOf, pieces_at}
+use Rattle.event_files.specs.EventFile.{AreWordsOfEvents, pieces_at}
 use Rattle.event_files.specs.WitnessFile.{IsWitnessOf, RefusesWitness}
 use Rattle.event_files.specs.declared.refused.FileRefused.TheVariants as files
 use Rattle.commands.specs.Admission.{HasBadLine, refused_at_line}
-use Rattle.commands.specs.Output.{Ends}
+use Rattle.commands.specs.Output.{EndsWithStatus}
 use Rattle.commands.specs.Text.{labeled_line}
 use Rattle.commands.specs.declared.exit.Status.{Status}
 use Rattle.commands.specs.declared.exit.Status.TheVariants.{Done, Refused}
@@ -20,7 +20,8 @@ use Rattle.commands.specs.declared.exit.Status.TheVariants.{Done, Refused}
 -- the line of a verdict
 abbrev pub verdict_line : Verdict → List ℕ
 verdict_line Reaches = codes "reaches\n"
-verdict_line (Fails fault place) = codes "fault " ++ name_of fault ++ labeled_line (codes " ") place
+verdict_line (Fails fault place) =
+    codes "fault " ++ test_name fault ++ labeled_line (codes " ") place
 
 -- the exit status of a verdict
 abbrev pub verdict_status : Verdict → Status
@@ -29,7 +30,7 @@ verdict_status (Fails fault place) = Refused
 
 -- the events of the file, which form a well-formed trace
 abbrev pub AreLawfulEventsOf : Trace → List ℕ → Type 0
-AreLawfulEventsOf events file = AreEventsOf events file × IsWellFormed events
+AreLawfulEventsOf events file = AreWordsOfEvents events file × IsWellFormed events
 
 -- this is the verdict on the witness of the file, against the events
 abbrev pub IsVerdictOn : Trace → List ℕ → Verdict → Type 0
@@ -48,7 +49,7 @@ VerdictPrints events witness status text = (v : Verdict) × IsVerdictOn events w
 -- An event of the file is not lawful. The text is the line of the first such event.
 abbrev pub UnlawfulPrints : List ℕ → Status → List ℕ → Type 0
 UnlawfulPrints file status text = (events : Trace) × (first : FirstUnlawful)
-    × AreEventsOf events file × IsFirstUnlawful events first
+    × AreWordsOfEvents events file × IsFirstUnlawful events first
     × (status ≡ Refused) × (text ≡ refused_at_line first)
 
 -- The text is right with this status: the line of the verdict on the witness, against the trace's
@@ -71,4 +72,4 @@ HasWrongLine trace witness = HasBadLine trace
 -- What a status says of the output of `replay` on these files.
 abbrev pub ReplayTells : List ℕ → List ℕ → Status → Option (List ℕ) → Option (List ℕ) → Type 0
 ReplayTells trace witness status before after =
-    Ends (ReplayPrints trace witness) (HasWrongLine trace witness) status before after
+    EndsWithStatus (ReplayPrints trace witness) (HasWrongLine trace witness) status before after

@@ -2,7 +2,7 @@
 use Rattle.std.specs.Prelude.{◌≡◌, ◌⊎◌, ◌+◌, ◌<◌, ◌^◌, ℕ, List, [], ◌∷◌, ◌++◌, length, map, take, slice_get, Some, box_value, codes, decimal}
 use Rattle.std.specs.List.{All, flat_map}
 use Rattle.trace_model.specs.Protocol.Batches.{IsBatch}
-use Rattle.trace_model.specs.Protocol.Frames.{IsInRange}
+use Rattle.trace_model.specs.Protocol.Frames.{FitsWords}
 use Rattle.event_files.specs.EventFile.{event_word, line_words, pieces_at}
 use Rattle.commands.specs.declared.exit.CommandError.{CommandError}
 use Rattle.commands.specs.declared.exit.CommandError.TheVariants.{Line, Merged, Memory, Output}
@@ -21,8 +21,8 @@ command_words (Status question) = codes "status" ∷ decimal question ∷ []
 
 -- the numbers of the command are in range, and a batch has 1 to 64 events
 abbrev pub FitsCommand : Command → Type 0
-FitsCommand (Offer event) = IsInRange event
-FitsCommand (Batch events) = IsBatch (box_value events) × All IsInRange (box_value events)
+FitsCommand (Offer event) = FitsWords event
+FitsCommand (Batch events) = IsBatch (box_value events) × All FitsWords (box_value events)
 FitsCommand (Ask bound) = bound < 2 ^ 8
 FitsCommand (Work question) = question < 2 ^ 32
 FitsCommand (Deliver question task) = (question < 2 ^ 32) × (task < 2 ^ 32)

@@ -8,10 +8,10 @@ use Rattle.trace_model.specs.Protocol.Frames.{IsRequest, frame}
 use Rattle.trace_model.specs.Protocol.Machine.{State, opening}
 use Rattle.event_files.specs.EventFile.{pieces_at}
 use Rattle.sequencer.specs.Called.{StepsOrMemory, WantsRightly}
-use Rattle.commands.specs.Output.{Ends}
+use Rattle.commands.specs.Output.{EndsWithStatus}
 use Rattle.commands.specs.Script.{reply_text}
 use Rattle.commands.specs.ScriptFile.{IsFirstBadLine, IsScriptOf}
-use Rattle.commands.specs.ScriptRun.{DeliversOne, Works, told_line}
+use Rattle.commands.specs.ScriptRun.{DeliversOne, Works, outcome_line}
 use Rattle.commands.specs.declared.exit.Status.{Status}
 use Rattle.commands.specs.declared.exit.Status.TheVariants.{Done, Refused, Error, NotUnderstood}
 use Rattle.commands.specs.declared.script_command.reading.Command.{Command}
@@ -32,10 +32,10 @@ abbrev pub Prints : State → Command → State → List ℕ → Type 0
 Prints s (Offer event) next text = Replies s (requests.Offer event) next text
 Prints s (Batch events) next text = Replies s (requests.Batch (box_value events)) next text
 Prints s (Ask bound) next text = Replies s (requests.Ask bound) next text
-Prints s (Work question) next text = (told : Result ℕ Refusal) × Works s question told next
-    × (text ≡ told_line (codes "worked ") told)
-Prints s (Deliver question task) next text = (told : Result ℕ Refusal)
-    × DeliversOne s question task told next × (text ≡ told_line (codes "delivered ") told)
+Prints s (Work question) next text = (outcome : Result ℕ Refusal) × Works s question outcome next
+    × (text ≡ outcome_line (codes "worked ") outcome)
+Prints s (Deliver question task) next text = (outcome : Result ℕ Refusal)
+    × DeliversOne s question task outcome next × (text ≡ outcome_line (codes "delivered ") outcome)
 Prints s (Answer question) next text = Replies s (requests.Answer question) next text
 Prints s (AskStatus question) next text = Replies s (requests.Status question) next text
 
@@ -77,4 +77,4 @@ HasWrongCommand file = (number : ℕ) × IsFirstBadLine (pieces_at 10 file) numb
 -- What a status says of the output of `script` on this file, with a book of this limit.
 abbrev pub ScriptTells : List ℕ → ℕ → Status → Option (List ℕ) → Option (List ℕ) → Type 0
 ScriptTells file limit status before after =
-    Ends (ScriptPrints file limit) (HasWrongCommand file) status before after
+    EndsWithStatus (ScriptPrints file limit) (HasWrongCommand file) status before after

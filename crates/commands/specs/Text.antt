@@ -2,6 +2,7 @@
 use Rattle.std.specs.Prelude.{ℕ, List, ◌++◌, codes, decimal}
 use Rattle.trace_model.specs.Protocol.Refusals.{number_of, name_of}
 use Rattle.trace_model.specs.declared.refusal.Refusal.{Refusal}
+use Rattle.event_files.specs.Refutations.{label_and_number}
 
 -- "refused", the refusal's number and its name
 abbrev pub refusal_words : Refusal → List ℕ
@@ -11,10 +12,6 @@ refusal_words r = codes "refused " ++ decimal (number_of r) ++ codes " " ++ name
 abbrev pub refusal_line : Refusal → List ℕ
 refusal_line r = refusal_words r ++ codes "\n"
 
--- a label and a number
-abbrev pub labeled : List ℕ → ℕ → List ℕ
-labeled label number = label ++ decimal number
-
 -- a label and a number that end a line
 abbrev pub labeled_line : List ℕ → ℕ → List ℕ
-labeled_line label number = labeled label number ++ codes "\n"
+labeled_line label number = label_and_number label number ++ codes "\n"

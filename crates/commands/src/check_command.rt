@@ -1,20 +1,18 @@
 //! The command `check`: the check of explained cycles against a trace.
 ghost use Rattle.std.specs.Prelude.{IfOk, length};
 ghost use Rattle.trace_model.specs.Theory.Lawful.{IsWellFormed};
-ghost use Rattle.dependencies.specs.Tables.{FollowsTrace};
+ghost use Rattle.dependencies.specs.Tables.{HasDependenciesOf};
 ghost use Rattle.event_files.specs.ExplainedText.{IsContents, contents_of};
 ghost use Rattle.commands.specs.Check.{CheckTells, ChecksAs, IsCheckOf, IsNotExplained};
-ghost use Rattle.commands.specs.Output.{EndsAs};
+ghost use Rattle.commands.specs.Output.{EndsWithResult};
 
-use crate::admission::{Admission, admit_file};
+use crate::admission::admit;
 use crate::check_words::{push_head, push_rows};
 use crate::exit::{CommandError, Status, reported, write_text};
 use crate::files::{NamedFile, read_file};
-use crate::offline_command::write_refused;
 use dependencies::DepTable;
 use event_files::{ExplainedFile, read_explained};
 use lock_tables::{LockParts, LockTables};
-use offline_report::OfflineRefused;
 use replay::EvidenceChecker;
 use std::alloc::Global;
 use std::hash::RandomState;
@@ -35,7 +33,7 @@ fn dependencies_of(
     events: &[Event],
 ) -> Result<DepTable, NoMemory>
     requires { IsWellFormed events.now }
-    ensures { IfOk result (λ table. FollowsTrace table events.now (length events.now)) }
+    ensures { IfOk result (λ table. HasDependenciesOf table events.now (length events.now)) }
 {
     let LockParts {
         dependencies,
@@ -78,7 +76,7 @@ fn write_checked<O: Write>(
     out: &mut O,
 ) -> Result<Status, CommandError>
     requires { IsWellFormed events.now }
-    ensures { EndsAs (ChecksAs events.now file.now) (IsNotExplained file.now) result
+    ensures { EndsWithResult (ChecksAs events.now file.now) (IsNotExplained file.now) result
         (O.contents out.old) (O.contents out.new) }
 {
     let explained = read_explained(alloc, file)?;
@@ -89,8 +87,8 @@ fn write_checked<O: Write>(
 /// Checks the cycles in `file`, as `explain` or `offline` prints them, against the trace. Writes a
 /// line for the first line of a report, if the file has it, and one for each cycle to `out`: that
 /// it is valid, or the first test that fails. Or it writes one line with the first event of the
-/// trace that is not lawful. An error message goes to `err`, with the name of the file at fault. The
-/// status is `Done` if all lines are valid.
+/// trace that is not lawful. An error message goes to `err`, with the name of the file at fault.
+/// The status is `Done` if all lines are valid.
 pub fn run_check<O: Write, E: Write>(
     alloc: Global,
     state: RandomState,
@@ -102,18 +100,13 @@ pub fn run_check<O: Write, E: Write>(
     ensures { CheckTells trace.entry.bytes.now file.entry.bytes.now result
         (O.contents out.old) (O.contents out.new) }
 {
-    match admit_file(alloc, state, trace.bytes) {
-        Ok(Admission::Admitted(events)) => {
-            let ended = write_checked(alloc, state, &events, file.bytes, out);
-            drop(events);
-            reported(ended, file.name, err)
-        }
-        Ok(Admission::Refused(first)) => {
-            let ended = write_refused(alloc, OfflineRefused::Unlawful(first), out);
-            reported(ended, trace.name, err)
-        }
-        Err(error) => error.report(trace.name, err),
-    }
+    let events = match admit(alloc, state, trace, out, err) {
+        Ok(events) => events,
+        Err(status) => return status,
+    };
+    let ended = write_checked(alloc, state, &events, file.bytes, out);
+    drop(events);
+    reported(ended, file.name, err)
 }
 
 /// Runs `check` over the files with these names. The status is `Error` if one of them cannot be

@@ -1,9 +1,9 @@
 //! The verdicts on a file of explained cycles.
 ghost use Rattle.std.specs.Prelude.{◌≡◌, ◌≤◌, ◌==◌, count_by, is_some, length, map, position, nat_lt, true, Some, IfOk};
 ghost use Rattle.std.specs.List.{All, list_any};
-ghost use Rattle.dependencies.specs.Tables.{FollowsTrace};
+ghost use Rattle.dependencies.specs.Tables.{HasDependenciesOf};
 ghost use Rattle.event_files.specs.ExplainedText.{IsStatedCycle, is_witness, stated_member, stated_cycle};
-ghost use Rattle.commands.specs.Check.{IsHeadVerdict, IsLineOf, IsVerdictFor, is_valid, step_in, steps_in};
+ghost use Rattle.commands.specs.Check.{IsHeadVerdict, IsVerdictLine, IsVerdictFor, is_valid, step_in, steps_in};
 ghost use Rattle.commands.specs.CheckWords.{checked_line};
 ghost use Rattle.commands.specs.ExplainedRows.{IsRowOf};
 
@@ -13,7 +13,7 @@ use dependencies::DepTable;
 use event_files::{Evidence, Explained, ExplainedMember, ExplainedStep, ReportHead};
 use replay::{EvidenceChecker, RefutationVerdict, Verdict};
 use std::alloc::Global;
-use trace_model::{Cycle, Derivation, Instance, NoMemory, Refutation, Step};
+use trace_model::{Cycle, Derivation, Instance, NoMemory, Refutation, RefutationStep};
 
 /// The result of the check of the first line of a report. The tests are made in this order.
 #[derive(Clone, Copy, Debug, PartialEq, Eq)]
@@ -134,7 +134,7 @@ fn step_in(
     alloc: Global,
     members: &[ExplainedMember],
     step: &ExplainedStep,
-) -> Result<Step, NoMemory>
+) -> Result<RefutationStep, NoMemory>
     ensures { IfOk result (λ copy. copy ≡ step_in (map stated_member members.now) step.now) }
 {
     let member = match position_of(members, step.thread) {
@@ -142,7 +142,7 @@ fn step_in(
         None => members.len(),
     };
     let derivation = copy_of(alloc, &step.derivation)?;
-    Ok(Step { member, derivation })
+    Ok(RefutationStep { member, derivation })
 }
 
 /// Returns the refutation with copies of these steps.
@@ -196,7 +196,7 @@ fn verdict_on(
     explained: &Explained,
 ) -> Result<CycleVerdict, NoMemory>
     requires row { IsStatedCycle (stated_cycle explained.now) }
-    requires table { FollowsTrace table.now checker.now (length checker.now) }
+    requires table { HasDependenciesOf table.now checker.now (length checker.now) }
     ensures { IfOk result (IsVerdictFor checker.now (stated_cycle explained.now)) }
 {
     match row_fault(table, explained) {
@@ -241,9 +241,9 @@ pub(crate) fn line_on(
     explained: &Explained,
 ) -> Result<CheckedLine, NoMemory>
     requires row { IsStatedCycle (stated_cycle explained.now) }
-    requires table { FollowsTrace table.now checker.now (length checker.now) }
+    requires table { HasDependenciesOf table.now checker.now (length checker.now) }
     ensures { IfOk result (λ line.
-        IsLineOf checker.now (stated_cycle explained.now) line.is_valid line.text.items) }
+        IsVerdictLine checker.now (stated_cycle explained.now) line.is_valid line.text.items) }
 {
     // The prover does not cover `?` on a result that holds this verdict.
     match verdict_on(alloc, checker, table, explained) {

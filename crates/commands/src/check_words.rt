@@ -1,23 +1,23 @@
 //! The lines that `check` prints.
 ghost use Rattle.std.specs.Prelude.{◌≡◌, ◌++◌, length, map, IfOk, OnOk};
 ghost use Rattle.std.specs.List.{All};
-ghost use Rattle.dependencies.specs.Tables.{FollowsTrace};
+ghost use Rattle.dependencies.specs.Tables.{HasDependenciesOf};
 ghost use Rattle.event_files.specs.ExplainedText.{IsStatedCycle, contents_of, stated_cycle};
 ghost use Rattle.commands.specs.Check.{AddsHead, AddsRows, is_valid_head};
-ghost use Rattle.commands.specs.CheckWords.{checked_line, head_line, refutation_words, row_words, sentence, step_words};
+ghost use Rattle.commands.specs.CheckWords.{checked_line, head_verdict_line, refutation_words, row_words, sentence, step_words};
 
 use crate::check_verdicts::{CycleVerdict, HeadVerdict, head_verdict, line_on};
 use crate::explained_rows::RowFault;
 use crate::text::{push_last, push_number};
 use dependencies::DepTable;
 use event_files::{Explained, ExplainedFile, push_entry};
-use replay::{EvidenceChecker, RefutationVerdict, StepFault, Verdict};
+use replay::{EvidenceChecker, RefutationFault, RefutationVerdict, Verdict};
 use std::alloc::Global;
 use trace_model::{Cycle, Derived, Event, NoMemory};
 
 /// Appends the line of the verdict on the first line of a report.
 fn push_head_verdict(text: &mut Vec<u8>, verdict: &HeadVerdict) -> Result<(), NoMemory>
-    ensures { OnOk result (text.new.items ≡ text.old.items ++ head_line verdict.now) }
+    ensures { OnOk result (text.new.items ≡ text.old.items ++ head_verdict_line verdict.now) }
 {
     match verdict {
         HeadVerdict::OtherLength(events) => {
@@ -63,19 +63,19 @@ fn push_sentence(text: &mut Vec<u8>, entry: &Derived) -> Result<(), NoMemory>
 }
 
 /// Appends why a step is wrong.
-fn push_step_fault(text: &mut Vec<u8>, fault: &StepFault) -> Result<(), NoMemory>
+fn push_step_fault(text: &mut Vec<u8>, fault: &RefutationFault) -> Result<(), NoMemory>
     ensures { OnOk result (text.new.items ≡ text.old.items ++ step_words fault.now) }
 {
     match fault {
-        StepFault::NoSuchMember => {
+        RefutationFault::NoSuchMember => {
             text.extend_from_slice(b" has no such member\n")?;
             Ok(())
         }
-        StepFault::Unjustified(entry) => {
+        RefutationFault::Unjustified(entry) => {
             text.extend_from_slice(b" is wrong:")?;
             push_sentence(text, entry)
         }
-        StepFault::NotDerived(place) => {
+        RefutationFault::NotDerived(place) => {
             push_last(text, b" does not derive place ", u64::from(place.get()))
         }
     }
@@ -203,7 +203,7 @@ pub(crate) fn push_rows(
     text: &mut Vec<u8>,
 ) -> Result<bool, NoMemory>
     requires rows { All IsStatedCycle (map stated_cycle cycles.now) }
-    requires table { FollowsTrace table.now checker.now (length checker.now) }
+    requires table { HasDependenciesOf table.now checker.now (length checker.now) }
     ensures { IfOk result (λ valid. AddsRows checker.now (map stated_cycle cycles.now) valid
         text.old.items text.new.items) }
 {

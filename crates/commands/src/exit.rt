@@ -1,8 +1,8 @@
 //! Exit statuses, and why a command ends early.
 ghost use Rattle.std.specs.Prelude.{◌≡◌, ◌≢◌, ◌≤◌, ◌+◌, length, take, drop, IfErr, IfOk, MatchResult, OnErr, OnOk};
 ghost use Rattle.std.specs.Io.KnownBytes.{Appends, Keeps};
-ghost use Rattle.commands.specs.Exit.{status_of};
-ghost use Rattle.commands.specs.Output.{AppendsPart, EndsAs, IsJust};
+ghost use Rattle.commands.specs.Exit.{error_status};
+ghost use Rattle.commands.specs.Output.{AppendsPart, EndsWithResult, IsJust};
 ghost use Rattle.commands.specs.declared.exit.Status.TheVariants.{Error, NotUnderstood};
 
 use event_files::{ExplainedRefused, FileRefused};
@@ -24,11 +24,11 @@ pub enum Status {
 
 impl Status {
     ghost use Rattle.std.specs.Prelude.{◌≡◌};
-    ghost use Rattle.commands.specs.Exit.{code_of};
+    ghost use Rattle.commands.specs.Exit.{exit_code};
 
     /// Returns the exit status of the program.
     pub fn code(self) -> u8
-        ensures { result ≡ code_of self }
+        ensures { result ≡ exit_code self }
     {
         match self {
             Status::Done => 0,
@@ -105,12 +105,12 @@ impl From<io::Error> for CommandError {
 
 impl CommandError {
     ghost use Rattle.std.specs.Prelude.{◌≡◌};
-    ghost use Rattle.commands.specs.Exit.{status_of};
+    ghost use Rattle.commands.specs.Exit.{error_status};
 
     /// Writes the error message about the file `name` to `err`, and returns the exit status. A
     /// failed write to `err` is ignored.
     pub fn report<E: Write>(&self, name: &str, err: &mut E) -> Status
-        ensures { result ≡ status_of self.now }
+        ensures { result ≡ error_status self.now }
     {
         match self {
             CommandError::Line(line) => {
@@ -140,7 +140,7 @@ pub(crate) fn reported<E: Write>(
     name: &str,
     err: &mut E,
 ) -> Status
-    ensures { MatchResult ended (λ status. result ≡ status) (λ error. result ≡ status_of error) }
+    ensures { MatchResult ended (λ status. result ≡ status) (λ error. result ≡ error_status error) }
 {
     match ended {
         Ok(status) => status,
@@ -148,8 +148,8 @@ pub(crate) fn reported<E: Write>(
     }
 }
 
-/// Writes the bytes from index `start` on once. Returns how many of them were written, which is 0 if
-/// the write was interrupted.
+/// Writes the bytes from index `start` on once. Returns how many of them were written, which is 0
+/// if the write was interrupted.
 ///
 /// # Errors
 ///
@@ -160,7 +160,7 @@ fn write_from<O: Write>(out: &mut O, bytes: &[u8], start: usize) -> Result<usize
     ensures written { IfOk result
         (λ n. Appends (O.contents out.old) (O.contents out.new) (take n (drop start bytes.now))) }
     ensures kept { OnErr result (Keeps (O.contents out.old) (O.contents out.new)) }
-    ensures failed { IfErr result (λ error. status_of error ≡ Error) }
+    ensures failed { IfErr result (λ error. error_status error ≡ Error) }
 {
     match out.write(&bytes[start..]) {
         Ok(0) => Err(CommandError::Output),
@@ -178,7 +178,7 @@ fn write_from<O: Write>(out: &mut O, bytes: &[u8], start: usize) -> Result<usize
 pub(crate) fn write_bytes<O: Write>(out: &mut O, bytes: &[u8]) -> Result<(), CommandError>
     ensures written { OnOk result (Appends (O.contents out.old) (O.contents out.new) bytes.now) }
     ensures cut { OnErr result (AppendsPart (O.contents out.old) (O.contents out.new) bytes.now) }
-    ensures failed { IfErr result (λ error. status_of error ≡ Error) }
+    ensures failed { IfErr result (λ error. error_status error ≡ Error) }
 {
     let mut at = 0usize;
     for _turn in 0..u64::MAX {
@@ -201,7 +201,8 @@ pub(crate) fn write_text<O: Write>(
     status: Status,
 ) -> Result<Status, CommandError>
     requires { status ≢ NotUnderstood }
-    ensures { EndsAs (IsJust status text.now) ⊥ result (O.contents out.old) (O.contents out.new) }
+    ensures { EndsWithResult (IsJust status text.now) ⊥ result (O.contents out.old)
+        (O.contents out.new) }
 {
     write_bytes(out, text)?;
     out.flush()?;

@@ -5,25 +5,24 @@ ghost use Rattle.std.specs.Option.{ForSome, option_copied};
 ghost use Rattle.std.specs.Arc.{arc_value};
 ghost use Rattle.trace_model.specs.Theory.Trace.{Trace};
 ghost use Rattle.trace_model.specs.Theory.Lawful.{IsWellFormed};
-ghost use Rattle.reports.specs.Printed.{Printed};
+ghost use Rattle.reports.specs.Printed.{PrintedRow};
 ghost use Rattle.snapshots.specs.Found.{AreRowsOf};
 ghost use Rattle.findings.specs.declared.computing.ComputeRefused.TheVariants.{TooManyCycles};
 ghost use Rattle.commands.specs.declared.exit.Status.TheVariants.{Error, NotUnderstood};
 ghost use Rattle.event_files.specs.EventFile.{pieces_at};
-ghost use Rattle.commands.specs.Admission.{HasBadLine};
-ghost use Rattle.commands.specs.Explain.{AddsRefutation, ExplainPrints, ExplainTells, Explains, ExplainsSome, HasTooMany, IsExplanation, IsChosen, IsPotential, AreNumbers, NamesCycle, NamesNone, PrintsAllOf, PrintsChosen, PrintsOneOf, head_line, no_cycle_line};
-ghost use Rattle.commands.specs.ExplainFindings.{HasAllRows, IsTooMany, rows_in};
-ghost use Rattle.commands.specs.Exit.{status_of};
-ghost use Rattle.commands.specs.Output.{EndsAs, IsCutShort, Writes};
+ghost use Rattle.commands.specs.Explain.{AddsRefutation, ExplainTells, Explains, ExplainsSome, HasTooManyCycles, IsExplanation, IsChosen, IsPotential, AreNumberWords, NamesCycle, NamesNone, PrintsAllOf, PrintsChosen, PrintsOneOf, first_report_line, no_cycle_line};
+ghost use Rattle.commands.specs.ExplainFindings.{HasAllRows, IsTooMany, rows_of_findings};
+ghost use Rattle.commands.specs.Exit.{error_status};
+ghost use Rattle.commands.specs.Output.{EndsWithResult, IsCutShort, Writes};
 
-use crate::admission::{Admission, admit_file};
+use crate::admission::admit;
 use crate::exit::{CommandError, Status, reported, write_bytes, write_text};
-use crate::files::read_file;
+use crate::files::{NamedFile, read_file};
 use crate::offline_command::write_refused;
 use crate::text::{push_last, push_number};
 use dependencies::Dependency;
 use event_files::laws::refutations_are_writable;
-use event_files::{number, push_refutation};
+use event_files::{parse_number, push_refutation};
 use explain::refutation_of;
 use findings::{Analysis, ComputeRefused, Finding, Job, Snapshot};
 use offline_report::OfflineRefused;
@@ -83,7 +82,7 @@ fn text_of(
 ) -> Result<Vec<u8>, NoMemory>
     requires index { index < length finding.now.rows }
     requires empty { buffer.old ≡ [] }
-    ensures text { IfOk result (λ text. (row : Printed) →
+    ensures text { IfOk result (λ text. (row : PrintedRow) →
         slice_get finding.now.rows index ≡ Some row →
         IsExplanation finding.now.events row text.items) }
     ensures empty { OnOk result (buffer.new ≡ []) }
@@ -112,7 +111,7 @@ fn write_rows<O: Write>(
     ensures cut { OnErr result (IsCutShort (O.contents out.old) (O.contents out.new)
         (ExplainsSome finding.now.events finding.now.rows)) }
     ensures empty { OnOk result (buffer.new ≡ []) }
-    ensures failed { IfErr result (λ error. status_of error ≡ Error) }
+    ensures failed { IfErr result (λ error. error_status error ≡ Error) }
 {
     for index in 0..finding.rows().len() {
         let text = text_of(alloc, state, finding, index, buffer)?;
@@ -129,11 +128,12 @@ fn write_tasks<O: Write>(
     out: &mut O,
 ) -> Result<(), CommandError>
     ensures written { OnOk result ((s : Trace) → All (λ f. f.events ≡ s) tasks.now →
-        Writes (O.contents out.old) (O.contents out.new) (Explains s (rows_in tasks.now))) }
+        Writes (O.contents out.old) (O.contents out.new) (Explains s
+        (rows_of_findings tasks.now))) }
     ensures cut { OnErr result ((s : Trace) → All (λ f. f.events ≡ s) tasks.now →
         IsCutShort (O.contents out.old) (O.contents out.new)
-        (ExplainsSome s (rows_in tasks.now))) }
-    ensures failed { IfErr result (λ error. status_of error ≡ Error) }
+        (ExplainsSome s (rows_of_findings tasks.now))) }
+    ensures failed { IfErr result (λ error. error_status error ≡ Error) }
 {
     let mut buffer = TextBuffer::new(alloc);
     for finding in tasks {
@@ -160,7 +160,7 @@ fn find_all(alloc: Global, analysis: Arc<Analysis, Global>) -> Result<Findings, 
     ensures found { IfOk result (HasAllRows (arc_value analysis).events
         (arc_value analysis).bound) }
     ensures refused { IfErr result (λ refused. refused ≡ TooManyCycles →
-        (task : ℕ) × HasTooMany (arc_value analysis).events (arc_value analysis).bound task) }
+        (task : ℕ) × HasTooManyCycles (arc_value analysis).events (arc_value analysis).bound task) }
 {
     let tasks = analysis.snapshot().tasks();
     let mut job = Job::new(alloc, analysis, QUESTION);
@@ -194,30 +194,13 @@ fn write_uncomputed<O: Write>(
     refused: ComputeRefused,
     out: &mut O,
 ) -> Result<Status, CommandError>
-    ensures { EndsAs (IsTooMany refused) ⊥ result (O.contents out.old) (O.contents out.new) }
+    ensures { EndsWithResult (IsTooMany refused) ⊥ result (O.contents out.old)
+        (O.contents out.new) }
 {
     match refused {
         ComputeRefused::TooManyCycles => write_refused(alloc, OfflineRefused::TooManyCycles, out),
         ComputeRefused::NoMemory => Err(CommandError::Memory),
     }
-}
-
-/// Writes the first line of the report with these findings, and the texts of their rows.
-fn write_findings<O: Write>(
-    alloc: Global,
-    state: RandomState,
-    head: &[u8],
-    findings: &Findings,
-    out: &mut O,
-) -> Result<Status, CommandError>
-    ensures { (s : Trace) (bound : ℕ) → HasAllRows s bound findings.now →
-        head.now ≡ head_line s bound (rows_in findings.now.tasks.items) →
-        EndsAs (PrintsAllOf s bound) ⊥ result (O.contents out.old) (O.contents out.new) }
-{
-    write_bytes(out, head)?;
-    write_tasks(alloc, state, &findings.tasks, out)?;
-    out.flush()?;
-    Ok(Status::Done)
 }
 
 /// Writes the first line of the report and the texts of all cycles of the analysis, or that a task
@@ -228,7 +211,8 @@ fn write_all<O: Write>(
     analysis: Arc<Analysis, Global>,
     out: &mut O,
 ) -> Result<Status, CommandError>
-    ensures { EndsAs (PrintsAllOf (arc_value analysis).events (arc_value analysis).bound) ⊥ result
+    ensures { EndsWithResult (PrintsAllOf (arc_value analysis).events
+        (arc_value analysis).bound) ⊥ result
         (O.contents out.old) (O.contents out.new) }
 {
     let (length, bound) = (analysis.snapshot().len() as u32, analysis.bound());
@@ -238,7 +222,10 @@ fn write_all<O: Write>(
     };
     let (cycles, confirmed) = (findings.cycles, findings.confirmed);
     let head = head_text(alloc, QUESTION, length, bound, cycles, confirmed)?;
-    write_findings(alloc, state, &head, &findings, out)
+    write_bytes(out, &head)?;
+    write_tasks(alloc, state, &findings.tasks, out)?;
+    out.flush()?;
+    Ok(Status::Done)
 }
 
 /// Returns the line that says that the trace has no such cycle.
@@ -280,7 +267,8 @@ fn write_one<O: Write>(
     cycle: &Cycle,
     out: &mut O,
 ) -> Result<Status, CommandError>
-    ensures { EndsAs (PrintsOneOf (arc_value analysis).events (arc_value analysis).bound cycle.now)
+    ensures { EndsWithResult (PrintsOneOf (arc_value analysis).events
+        (arc_value analysis).bound cycle.now)
         ⊥ result (O.contents out.old) (O.contents out.new) }
 {
     let bound = analysis.bound();
@@ -312,12 +300,12 @@ fn pieces_of(alloc: Global, words: &[u8]) -> Result<Vec<&[u8]>, AllocError>
 /// Returns the numbers that the words denote, or `None` if one of them denotes none.
 fn numbers_of(alloc: Global, words: &[&[u8]]) -> Result<Option<Vec<u32>>, AllocError>
     ensures { IfOk result (λ found. MatchOption found
-        ((numbers : List ℕ) → AreNumbers (map (λ word. word.now) words.now) numbers → ⊥)
-        (λ numbers. AreNumbers (map (λ word. word.now) words.now) numbers.items)) }
+        ((numbers : List ℕ) → AreNumberWords (map (λ word. word.now) words.now) numbers → ⊥)
+        (λ numbers. AreNumberWords (map (λ word. word.now) words.now) numbers.items)) }
 {
     let mut numbers = Vec::with_capacity(alloc, words.len())?;
     for word in words {
-        let Some(number) = number(word) else {
+        let Some(number) = parse_number(word) else {
             return Ok(None);
         };
         numbers.push_reserved(number);
@@ -369,7 +357,7 @@ fn write_chosen<R: Threads, O: Write>(
     out: &mut O,
 ) -> Result<Status, CommandError>
     requires { IsWellFormed events.now }
-    ensures { EndsAs (PrintsChosen events.now bound cycle.now) ⊥ result
+    ensures { EndsWithResult (PrintsChosen events.now bound cycle.now) ⊥ result
         (O.contents out.old) (O.contents out.new) }
 {
     let analysis = analyze(rt, alloc, state, events, bound)?;
@@ -379,75 +367,31 @@ fn write_chosen<R: Threads, O: Write>(
     }
 }
 
-/// Writes the texts of the chosen cycles of the file's events, or why there are none or no more.
-fn explain_file<R: Threads, O: Write>(
-    rt: &R,
-    alloc: Global,
-    state: RandomState,
-    file: &[u8],
-    bound: Bound,
-    cycle: &Option<Cycle>,
-    out: &mut O,
-) -> Result<Status, CommandError>
-    ensures { EndsAs (ExplainPrints file.now bound cycle.now) (HasBadLine file.now) result
-        (O.contents out.old) (O.contents out.new) }
-{
-    match admit_file(alloc, state, file)? {
-        Admission::Refused(first) => write_refused(alloc, OfflineRefused::Unlawful(first), out),
-        Admission::Admitted(events) => {
-            let ended = write_chosen(rt, alloc, state, &events, bound, cycle, out);
-            drop(events);
-            ended
-        }
-    }
-}
-
 /// Writes the cycles of at most `bound` members of the events in `file` to `out`, or the given one:
 /// each as its row in the report, and if it is potential with a refutation. The first line of the
 /// report comes before all cycles, and is left out before one. If an event is not lawful, there is
 /// no such cycle or a task has too many, `out` gets only a line that says so, and the status is
-/// `Refused`. An error message about the file `name` goes to `err`.
+/// `Refused`. An error message about the file goes to `err`.
 pub fn run_explain<R: Threads, O: Write, E: Write>(
     rt: &R,
     alloc: Global,
     state: RandomState,
-    name: &str,
-    file: &[u8],
+    file: NamedFile<'_>,
     bound: Bound,
     cycle: &Option<Cycle>,
     out: &mut O,
     err: &mut E,
 ) -> Status
-    ensures { ExplainTells file.now bound cycle.now result (O.contents out.old)
+    ensures { ExplainTells file.entry.bytes.now bound cycle.now result (O.contents out.old)
         (O.contents out.new) }
 {
-    let ended = explain_file(rt, alloc, state, file, bound, cycle, out);
-    reported(ended, name, err)
-}
-
-/// Runs `run_explain` over the bytes of a file, on the standard streams.
-fn explain_bytes<T: Threads>(
-    rt: &HostRuntime,
-    threads: &T,
-    file: &str,
-    bytes: &[u8],
-    bound: Bound,
-    cycle: &Option<Cycle>,
-) -> io::Result<Status> {
-    let state = RandomState::new(rt)?;
-    let mut out = BufWriter::new(rt.alloc(), rt.stdout())?;
-    let mut err = rt.stderr();
-    Ok(run_explain(
-        threads,
-        rt.alloc(),
-        state,
-        file,
-        bytes,
-        bound,
-        cycle,
-        &mut out,
-        &mut err,
-    ))
+    let events = match admit(alloc, state, file, out, err) {
+        Ok(events) => events,
+        Err(status) => return status,
+    };
+    let ended = write_chosen(rt, alloc, state, &events, bound, cycle, out);
+    drop(events);
+    reported(ended, file.name, err)
 }
 
 /// Returns the cycle that the words of an option name, if it is given. Returns `Err` after an error
@@ -496,7 +440,15 @@ pub fn explain_named<T: Threads>(
     let Some(bytes) = read_file(rt, file)? else {
         return Ok(Status::Error);
     };
-    let explained = explain_bytes(rt, threads, file, &bytes, bound, &cycle);
-    drop(bytes);
-    explained
+    let file = NamedFile {
+        name: file,
+        bytes: &bytes,
+    };
+    let alloc = rt.alloc();
+    let state = RandomState::new(rt)?;
+    let mut out = BufWriter::new(alloc, rt.stdout())?;
+    let mut err = rt.stderr();
+    Ok(run_explain(
+        threads, alloc, state, file, bound, &cycle, &mut out, &mut err,
+    ))
 }

@@ -3,9 +3,9 @@ ghost use Rattle.std.specs.Prelude.{◌≡◌, ℕ, ◌<◌, ◌≤◌, ◌↔�
 ghost use Rattle.trace_model.specs.declared.limits.TheConstants.{MAX_MEMBERS};
 ghost use Rattle.trace_model.specs.Theory.Trace.{Trace};
 ghost use Rattle.trace_model.specs.Theory.Cycles.{IsCycle};
-ghost use Rattle.dependencies.specs.Tables.{FollowsTrace, known, places_of};
+ghost use Rattle.dependencies.specs.Tables.{HasDependenciesOf, table_dependencies, dependency_places};
 ghost use Rattle.event_files.specs.ExplainedText.{IsStatedCycle, stated_member, stated_cycle};
-ghost use Rattle.commands.specs.ExplainedRows.{AreApart, FailsFirst, FitsAt, HasPlaceAt, HoldsAtEach, IsApart, IsKnown, IsLinked, IsPlaced, IsRowFault, IsRowOf, States, stated};
+ghost use Rattle.commands.specs.ExplainedRows.{AreDistinctMembers, FailsFirst, FitsAt, HasPlaceAt, HoldsAtEach, IsApart, IsDependencyNumber, IsLinked, IsPlaced, IsRowFault, IsRowOf, States, stated_dependency};
 
 use dependencies::laws::tables_follow;
 use dependencies::{DepTable, Dependency, PlacesOf};
@@ -27,8 +27,10 @@ pub enum RowFault {
 
 /// Returns the first number that is not that of a dependency.
 fn unknown_number(table: &DepTable, numbers: &[u32]) -> Option<u32>
-    ensures { MatchOption result (HoldsAtEach numbers.now (IsKnown (known table.now)))
-        (λ m. (i : ℕ) × FailsFirst numbers.now (IsKnown (known table.now)) i m) }
+    ensures { MatchOption result (HoldsAtEach numbers.now (IsDependencyNumber
+        (table_dependencies table.now)))
+        (λ m. (i : ℕ)
+        × FailsFirst numbers.now (IsDependencyNumber (table_dependencies table.now)) i m) }
 {
     for number in numbers {
         if *number as usize >= table.len() {
@@ -40,7 +42,7 @@ fn unknown_number(table: &DepTable, numbers: &[u32]) -> Option<u32>
 
 /// Returns whether the line of the member states the dependency.
 fn states(member: &ExplainedMember, dependency: &Dependency) -> bool
-    ensures { IsTrue result ↔ (stated (stated_member member.now) ≡ dependency.now) }
+    ensures { IsTrue result ↔ (stated_dependency (stated_member member.now) ≡ dependency.now) }
 {
     member.thread == dependency.thread
         && member.lock == dependency.lock
@@ -50,11 +52,14 @@ fn states(member: &ExplainedMember, dependency: &Dependency) -> bool
 /// Returns the first number whose member's line does not state its dependency.
 fn other_member(table: &DepTable, explained: &Explained) -> Option<u32>
     requires row { IsStatedCycle (stated_cycle explained.now) }
-    requires known { HoldsAtEach explained.now.cycle (IsKnown (known table.now)) }
+    requires known { HoldsAtEach explained.now.cycle (IsDependencyNumber
+        (table_dependencies table.now)) }
     ensures { MatchOption result
-        (HoldsAtEach explained.now.cycle (States (known table.now) (stated_cycle explained.now)))
+        (HoldsAtEach explained.now.cycle (States (table_dependencies table.now)
+        (stated_cycle explained.now)))
         (λ m. (i : ℕ) ×
-        FailsFirst explained.now.cycle (States (known table.now) (stated_cycle explained.now)) i m) }
+        FailsFirst explained.now.cycle (States (table_dependencies table.now)
+        (stated_cycle explained.now)) i m) }
 {
     let numbers = explained.cycle.numbers();
     let members = explained.members.as_slice();
@@ -70,7 +75,7 @@ fn other_member(table: &DepTable, explained: &Explained) -> Option<u32>
 /// Returns whether two members of a cycle have different threads and locks, and no held lock in
 /// common.
 fn are_apart(first: &Dependency, second: &Dependency) -> bool
-    ensures { IsTrue result ↔ AreApart first.now second.now }
+    ensures { IsTrue result ↔ AreDistinctMembers first.now second.now }
 {
     if first.thread == second.thread || first.lock == second.lock {
         return false;
@@ -80,9 +85,9 @@ fn are_apart(first: &Dependency, second: &Dependency) -> bool
 
 /// Returns whether the member with this index is apart from each earlier one.
 fn is_apart(table: &DepTable, numbers: &[u32], index: usize) -> bool
-    requires known { HoldsAtEach numbers.now (IsKnown (known table.now)) }
+    requires known { HoldsAtEach numbers.now (IsDependencyNumber (table_dependencies table.now)) }
     requires within { index < length numbers.now }
-    ensures { IsTrue result ↔ IsApart (known table.now) numbers.now index }
+    ensures { IsTrue result ↔ IsApart (table_dependencies table.now) numbers.now index }
 {
     let member = table.get(numbers[index]);
     for earlier in 0..index {
@@ -95,9 +100,9 @@ fn is_apart(table: &DepTable, numbers: &[u32], index: usize) -> bool
 
 /// Returns whether the next member of the cycle holds the lock of the member with this index.
 fn is_linked(table: &DepTable, numbers: &[u32], index: usize) -> bool
-    requires known { HoldsAtEach numbers.now (IsKnown (known table.now)) }
+    requires known { HoldsAtEach numbers.now (IsDependencyNumber (table_dependencies table.now)) }
     requires within { index < length numbers.now }
-    ensures { IsTrue result ↔ IsLinked (known table.now) numbers.now index }
+    ensures { IsTrue result ↔ IsLinked (table_dependencies table.now) numbers.now index }
 {
     let next = if index + 1 == numbers.len() {
         0
@@ -110,9 +115,9 @@ fn is_linked(table: &DepTable, numbers: &[u32], index: usize) -> bool
 
 /// Returns whether the member with this index fits into the cycle.
 fn fits(table: &DepTable, numbers: &[u32], index: usize) -> bool
-    requires known { HoldsAtEach numbers.now (IsKnown (known table.now)) }
+    requires known { HoldsAtEach numbers.now (IsDependencyNumber (table_dependencies table.now)) }
     requires within { index < length numbers.now }
-    ensures { IsTrue result ↔ FitsAt (known table.now) numbers.now index }
+    ensures { IsTrue result ↔ FitsAt (table_dependencies table.now) numbers.now index }
 {
     if numbers[index] < numbers[0] {
         return false;
@@ -125,10 +130,10 @@ fn fits(table: &DepTable, numbers: &[u32], index: usize) -> bool
 
 /// Returns whether the numbers are a cycle.
 fn is_cycle(table: &DepTable, numbers: &[u32]) -> bool
-    requires known { HoldsAtEach numbers.now (IsKnown (known table.now)) }
+    requires known { HoldsAtEach numbers.now (IsDependencyNumber (table_dependencies table.now)) }
     requires some { 2 ≤ length numbers.now }
     requires few { length numbers.now ≤ MAX_MEMBERS }
-    ensures { IsTrue result ↔ IsCycle (known table.now) MAX_MEMBERS numbers.now }
+    ensures { IsTrue result ↔ IsCycle (table_dependencies table.now) MAX_MEMBERS numbers.now }
 {
     for index in 0..numbers.len() {
         if !fits(table, numbers, index) {
@@ -163,8 +168,9 @@ fn has_place(places: &PlacesOf<'_>, place: Place) -> bool
 /// Returns the first place of the members that is not one of its dependency.
 fn other_place(table: &DepTable, explained: &Explained) -> Option<Place>
     requires row { IsStatedCycle (stated_cycle explained.now) }
-    requires known { HoldsAtEach explained.now.cycle (IsKnown (known table.now)) }
-    ensures { (s : Trace) → FollowsTrace table.now s (length s) → MatchOption result
+    requires known { HoldsAtEach explained.now.cycle (IsDependencyNumber
+        (table_dependencies table.now)) }
+    ensures { (s : Trace) → HasDependenciesOf table.now s (length s) → MatchOption result
         (HoldsAtEach explained.now.cycle (IsPlaced s (stated_cycle explained.now)))
         (λ p. (i m : ℕ) × HasPlaceAt (stated_cycle explained.now) i p ×
         FailsFirst explained.now.cycle (IsPlaced s (stated_cycle explained.now)) i m) }
@@ -192,7 +198,7 @@ fn other_place(table: &DepTable, explained: &Explained) -> Option<Place>
 /// The caller passes the table of a whole trace.
 pub(crate) fn row_fault(table: &DepTable, explained: &Explained) -> Option<RowFault>
     requires { IsStatedCycle (stated_cycle explained.now) }
-    ensures { (s : Trace) → FollowsTrace table.now s (length s) → MatchOption result
+    ensures { (s : Trace) → HasDependenciesOf table.now s (length s) → MatchOption result
         (IsRowOf s (stated_cycle explained.now)) (IsRowFault s (stated_cycle explained.now)) }
 {
     let numbers = explained.cycle.numbers();

@@ -3,8 +3,8 @@
 //! named files and the standard streams (`script_file`, `offline_file` and so on), which is what
 //! the program calls. The contracts of `run_script`, `run_offline`, `run_replay`, `run_explain` and
 //! `run_check` state what the output is for each status, as `ScriptTells`, `OfflineTells`,
-//! `ReplayTells`, `ExplainTells` and `CheckTells`; `laws` states what a valid file of `check` shows.
-//! Start reading at `offline_command`; `exit` has the exit statuses.
+//! `ReplayTells`, `ExplainTells` and `CheckTells`; `laws` states what a valid file of `check`
+//! shows. Start reading at `offline_command`; `exit` has the exit statuses.
 #![tactic(auto)]
 
 mod admission;

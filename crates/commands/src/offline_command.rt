@@ -3,8 +3,8 @@ ghost use Rattle.std.specs.Prelude.{◌≡◌, ◌++◌, ◌≤◌, IfOk, IfErr,
 ghost use Rattle.commands.specs.declared.exit.Status.TheVariants.{Done, Refused};
 ghost use Rattle.commands.specs.Admission.{HasBadLine};
 ghost use Rattle.commands.specs.Offline.{OfflinePrints, OfflineTells, refused_line};
-ghost use Rattle.commands.specs.Output.{EndsAs, IsJust};
-ghost use Rattle.offline_report.specs.Offline.{IsRefused, IsReport, whole};
+ghost use Rattle.commands.specs.Output.{EndsWithResult, IsJust};
+ghost use Rattle.offline_report.specs.Offline.{IsOfflineRefusal, IsReport, whole};
 
 use crate::admission::push_refused_at;
 use crate::exit::{CommandError, Status, reported, write_bytes, write_text};
@@ -42,7 +42,7 @@ fn report_on<R: Threads + Sync, P: Progress + Sync>(
     progress: &P,
 ) -> Result<Vec<Vec<u8>>, OfflineRefused>
     ensures text { IfOk result (λ pieces. IsReport events.items bound (whole pieces.items)) }
-    ensures refused { IfErr result (IsRefused events.items bound) }
+    ensures refused { IfErr result (IsOfflineRefusal events.items bound) }
 {
     let offline = Offline::open(rt, alloc, state, events, bound)?;
     progress.begin(offline.tasks());
@@ -53,7 +53,7 @@ fn report_on<R: Threads + Sync, P: Progress + Sync>(
 
 /// Writes the pieces of a report in order.
 fn write_pieces<O: Write>(out: &mut O, pieces: &[Vec<u8>]) -> Result<Status, CommandError>
-    ensures { EndsAs (IsJust Done (whole pieces.now)) ⊥ result
+    ensures { EndsWithResult (IsJust Done (whole pieces.now)) ⊥ result
         (O.contents out.old) (O.contents out.new) }
 {
     for piece in pieces {
@@ -69,7 +69,7 @@ pub(crate) fn write_refused<O: Write>(
     refused: OfflineRefused,
     out: &mut O,
 ) -> Result<Status, CommandError>
-    ensures { EndsAs (IsJust Refused (refused_line refused)) ⊥ result
+    ensures { EndsWithResult (IsJust Refused (refused_line refused)) ⊥ result
         (O.contents out.old) (O.contents out.new) }
 {
     let mut text = Vec::new(alloc);
@@ -87,7 +87,7 @@ fn report<R: Threads + Sync, P: Progress + Sync, O: Write>(
     progress: &P,
     out: &mut O,
 ) -> Result<Status, CommandError>
-    ensures { EndsAs (OfflinePrints file.now bound) (HasBadLine file.now) result
+    ensures { EndsWithResult (OfflinePrints file.now bound) (HasBadLine file.now) result
         (O.contents out.old) (O.contents out.new) }
 {
     let events = read_events(alloc, file)?;

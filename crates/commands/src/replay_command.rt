@@ -1,16 +1,14 @@
 //! The command `replay`: the check of a witness against a trace.
 ghost use Rattle.std.specs.Prelude.{◌≡◌, ◌++◌, OnOk};
 ghost use Rattle.trace_model.specs.Theory.Lawful.{IsWellFormed};
-ghost use Rattle.commands.specs.Output.{EndsAs};
+ghost use Rattle.commands.specs.Output.{EndsWithResult};
 ghost use Rattle.commands.specs.Replay.{HasWrongWitness, ReplayTells, VerdictPrints, verdict_line, verdict_status};
 
-use crate::admission::{Admission, admit_file};
+use crate::admission::admit;
 use crate::exit::{CommandError, Status, reported, write_text};
 use crate::files::{NamedFile, read_file};
-use crate::offline_command::write_refused;
 use crate::text::push_last;
 use event_files::read_witness;
-use offline_report::OfflineRefused;
 use replay::{Verdict, check};
 use std::alloc::Global;
 use std::hash::RandomState;
@@ -53,7 +51,8 @@ fn write_verdict<O: Write>(
     out: &mut O,
 ) -> Result<Status, CommandError>
     requires { IsWellFormed events.now }
-    ensures { EndsAs (VerdictPrints events.now witness.now) (HasWrongWitness witness.now) result
+    ensures { EndsWithResult (VerdictPrints events.now witness.now)
+        (HasWrongWitness witness.now) result
         (O.contents out.old) (O.contents out.new) }
 {
     let witness = read_witness(alloc, witness)?;
@@ -77,18 +76,13 @@ pub fn run_replay<O: Write, E: Write>(
     ensures { ReplayTells trace.entry.bytes.now witness.entry.bytes.now result
         (O.contents out.old) (O.contents out.new) }
 {
-    match admit_file(alloc, state, trace.bytes) {
-        Ok(Admission::Admitted(events)) => {
-            let ended = write_verdict(alloc, state, &events, witness.bytes, out);
-            drop(events);
-            reported(ended, witness.name, err)
-        }
-        Ok(Admission::Refused(first)) => {
-            let ended = write_refused(alloc, OfflineRefused::Unlawful(first), out);
-            reported(ended, trace.name, err)
-        }
-        Err(error) => error.report(trace.name, err),
-    }
+    let events = match admit(alloc, state, trace, out, err) {
+        Ok(events) => events,
+        Err(status) => return status,
+    };
+    let ended = write_verdict(alloc, state, &events, witness.bytes, out);
+    drop(events);
+    reported(ended, witness.name, err)
 }
 
 /// Runs `replay` over the files with these names. The status is `Error` if one of them cannot be

@@ -9,12 +9,12 @@ ghost use Rattle.std.specs.Io.KnownBytes.{Appends};
 ghost use Rattle.trace_model.specs.declared.messages.session.Request.{Request};
 ghost use Rattle.trace_model.specs.Protocol.Frames.{IsRequest, frame};
 ghost use Rattle.trace_model.specs.Protocol.Machine.{State};
-ghost use Rattle.sequencer.specs.Book.{IsLimit, RefusesSnapshot};
-ghost use Rattle.commands.specs.Exit.{status_of};
-ghost use Rattle.commands.specs.Output.{AppendsPart, EndsAs, IsCutShort, Writes};
+ghost use Rattle.sequencer.specs.Book.{IsBookLimit, RefusesSnapshot};
+ghost use Rattle.commands.specs.Exit.{error_status};
+ghost use Rattle.commands.specs.Output.{AppendsPart, EndsWithResult, IsCutShort, Writes};
 ghost use Rattle.commands.specs.Script.{reply_text};
 ghost use Rattle.commands.specs.ScriptFile.{FitsCommand};
-ghost use Rattle.commands.specs.ScriptRun.{Delivers, DeliversOne, IsJobIn, RefusesTask, Works, told_line};
+ghost use Rattle.commands.specs.ScriptRun.{DeliversTask, DeliversOne, IsJobIn, RefusesTask, Works, outcome_line};
 ghost use Rattle.commands.specs.ScriptTells.{HasWrongCommand, IsFrame, IsPrintOf, IsReplyTo, Prints, PrintsAll, PrintsFirst, Replies, RunPrints, ScriptPrints, ScriptTells};
 ghost use Rattle.commands.specs.declared.exit.Status.TheVariants.{Error};
 
@@ -40,7 +40,7 @@ struct ScriptSession {
     text: Vec<u8>,
     ghost open: { reader.ended ≡ false },
     ghost read: { reader.rest ≡ [] },
-    ghost faultless: { reader.told ≡ None },
+    ghost faultless: { reader.returned ≡ None },
 }
 
 impl ScriptSession {
@@ -51,7 +51,7 @@ impl ScriptSession {
             (Prints self.old.book.state command.now self.new.book.state)) }
         ensures cut { OnErr result (IsCutShort (O.contents out.old) (O.contents out.new)
             (IsPrintOf self.old.book.state command.now)) }
-        ensures failed { IfErr result (λ error. status_of error ≡ Error) }
+        ensures failed { IfErr result (λ error. error_status error ≡ Error) }
     {
         match command {
             Command::Offer(event) => self.request(&offer_frame(event), out),
@@ -80,7 +80,7 @@ impl ScriptSession {
             (PrintsAll self.old.book.state commands.now self.new.book.state)) }
         ensures cut { OnErr result (IsCutShort (O.contents out.old) (O.contents out.new)
             (PrintsFirst self.old.book.state commands.now)) }
-        ensures failed { IfErr result (λ error. status_of error ≡ Error) }
+        ensures failed { IfErr result (λ error. error_status error ≡ Error) }
     {
         for command in commands {
             self.run(command, out)?;
@@ -97,7 +97,7 @@ impl ScriptSession {
         ensures cut { OnErr result ((request : Request) → IsRequest request
             → bytes.now ≡ frame request → IsCutShort (O.contents out.old) (O.contents out.new)
             (IsReplyTo self.old.book.state request)) }
-        ensures failed { IfErr result (λ error. status_of error ≡ Error) }
+        ensures failed { IfErr result (λ error. error_status error ≡ Error) }
     {
         self.reader.feed(bytes)?;
         let request = request_in(self.reader.next());
@@ -114,7 +114,7 @@ impl ScriptSession {
             (Appends (O.contents out.old) (O.contents out.new) (reply_text reply.now)) }
         ensures cut { OnErr result
             (AppendsPart (O.contents out.old) (O.contents out.new) (reply_text reply.now)) }
-        ensures failed { IfErr result (λ error. status_of error ≡ Error) }
+        ensures failed { IfErr result (λ error. error_status error ≡ Error) }
     {
         self.text.clear();
         push_reply(&mut self.text, reply)?;
@@ -125,17 +125,18 @@ impl ScriptSession {
     fn write_number<O: Write>(
         &mut self,
         words: &[u8],
-        told: Result<u32, Refusal>,
+        outcome: Result<u32, Refusal>,
         out: &mut O,
     ) -> Result<(), CommandError>
         ensures book { self.new.book ≡ self.old.book }
         ensures written { OnOk result
-            (Appends (O.contents out.old) (O.contents out.new) (told_line words.now told)) }
+            (Appends (O.contents out.old) (O.contents out.new) (outcome_line words.now outcome)) }
         ensures cut { OnErr result
-            (AppendsPart (O.contents out.old) (O.contents out.new) (told_line words.now told)) }
-        ensures failed { IfErr result (λ error. status_of error ≡ Error) }
+            (AppendsPart (O.contents out.old) (O.contents out.new)
+            (outcome_line words.now outcome)) }
+        ensures failed { IfErr result (λ error. error_status error ≡ Error) }
     {
-        match told {
+        match outcome {
             Ok(number) => {
                 self.text.clear();
                 push_last(&mut self.text, words, number as u64)?;
@@ -166,7 +167,7 @@ impl ScriptSession {
         requires { IsJobIn self.old.book.state job.old }
         ensures same { job.new ≡ job.old }
         ensures delivered { OnOk result
-            (Delivers self.old.book.state job.old.question task self.new.book.state) }
+            (DeliversTask self.old.book.state job.old.question task self.new.book.state) }
         ensures refused { IfErr result (λ refusal. (self.new.book.state ≡ self.old.book.state)
             × RefusesTask self.old.book.state job.old.question task refusal) }
     {
@@ -243,9 +244,9 @@ fn run_commands<O: Write>(
     limit: u32,
     out: &mut O,
 ) -> Result<Status, CommandError>
-    requires limit { IsLimit limit }
+    requires limit { IsBookLimit limit }
     requires fit { All FitsCommand commands.now }
-    ensures { EndsAs (RunPrints limit commands.now) ⊥ result
+    ensures { EndsWithResult (RunPrints limit commands.now) ⊥ result
         (O.contents out.old) (O.contents out.new) }
 {
     let Ok(book) = Book::new(alloc, state, limit) else {
@@ -273,8 +274,8 @@ fn run_file<O: Write>(
     limit: u32,
     out: &mut O,
 ) -> Result<Status, CommandError>
-    requires { IsLimit limit }
-    ensures { EndsAs (ScriptPrints file.now limit) (HasWrongCommand file.now) result
+    requires { IsBookLimit limit }
+    ensures { EndsWithResult (ScriptPrints file.now limit) (HasWrongCommand file.now) result
         (O.contents out.old) (O.contents out.new) }
 {
     let commands = read_script(alloc, file)?;
@@ -293,7 +294,7 @@ pub fn run_script<O: Write, E: Write>(
     out: &mut O,
     err: &mut E,
 ) -> Status
-    requires { IsLimit limit }
+    requires { IsBookLimit limit }
     ensures { ScriptTells file.now limit result (O.contents out.old) (O.contents out.new) }
 {
     let ended = run_file(alloc, state, file, limit, out);
@@ -307,7 +308,7 @@ pub fn run_script<O: Write, E: Write>(
 ///
 /// If an allocation or a standard stream fails before the script begins.
 pub fn script_file(rt: &HostRuntime, file: &str, limit: u32) -> io::Result<Status>
-    requires { IsLimit limit }
+    requires { IsBookLimit limit }
 {
     let Some(bytes) = read_file(rt, file)? else {
         return Ok(Status::Error);

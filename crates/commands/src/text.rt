@@ -1,7 +1,8 @@
 //! Parts of the lines that commands print.
 ghost use Rattle.std.specs.Prelude.{◌≡◌, ◌++◌, OnOk};
 ghost use Rattle.trace_model.specs.Protocol.Refusals.{name_of};
-ghost use Rattle.commands.specs.Text.{labeled, labeled_line, refusal_line, refusal_words};
+ghost use Rattle.commands.specs.Text.{labeled_line, refusal_line, refusal_words};
+ghost use Rattle.event_files.specs.Refutations.{label_and_number};
 
 use itoa::Buffer;
 use trace_model::{NoMemory, Refusal, refusal_name};
@@ -50,7 +51,7 @@ pub(crate) fn push_refusal_line(text: &mut Vec<u8>, refusal: Refusal) -> Result<
 ///
 /// `NoMemory` if an allocation fails.
 pub(crate) fn push_number(text: &mut Vec<u8>, label: &[u8], number: u64) -> Result<(), NoMemory>
-    ensures { OnOk result (text.new.items ≡ text.old.items ++ labeled label.now number) }
+    ensures { OnOk result (text.new.items ≡ text.old.items ++ label_and_number label.now number) }
 {
     text.extend_from_slice(label)?;
     text.extend_from_slice(Buffer::new().format(number).as_bytes())?;

@@ -7,11 +7,11 @@ use Rattle.std.specs.List.{All}
 use Rattle.trace_model.specs.Theory.Dependencies.{Dependency}
 use Rattle.trace_model.specs.Theory.Cycles.{Member, next, IsCycle}
 use Rattle.trace_model.proofs.Theory.Unique.{contains_had}
-use Rattle.cycle_search.specs.Search.{CycleFrom, CycleThrough, AreAll}
+use Rattle.cycle_search.specs.CycleSearch.{CycleFrom, CycleThrough, AreAll}
 use Rattle.cycle_search.specs.declared.components.Components.{Components}
 use Rattle.cycle_search.specs.Components.{AreComponents}
-use Rattle.cycle_search.specs.Edges.{FallAtMost, AreMarked}
-use Rattle.cycle_search.specs.LockNumbers.{AreNumbered}
+use Rattle.cycle_search.specs.Edges.{FallAtMost, AreSuccessorsMarked}
+use Rattle.cycle_search.specs.LockNumbers.{AreLockNumbers}
 use Rattle.cycle_search.specs.Acquirers.{AreAcquirers}
 use Rattle.cycle_search.proofs.Listing.{all-none, get-left}
 use Rattle.cycle_search.proofs.Paths.{found, next-inside, next-last, at-end}
@@ -96,7 +96,7 @@ none-from ds bound root components are off = all-none (CycleFrom ds bound root) 
     false≢true (same_Some _ _ (sym off ∙ ap (slice_get components.cyclic.items) (sym here) ∙ on)))
 
 pub components-ascend : (ds : List Dependency) (components : Components) → length components.numbers.items ≡ length ds → FallAtMost ds components.numbers.items 0 0 →
-    AreMarked ds components.numbers.items components.cyclic.items → AreNumbered ds components.locks.positions.items → AreAcquirers ds components.acquirers → AreComponents ds components
+    AreSuccessorsMarked ds components.numbers.items components.cyclic.items → AreLockNumbers ds components.locks.positions.items → AreAcquirers ds components.acquirers → AreComponents ds components
 components-ascend ds components each up marks numbered acquirers = record {
   each = each;
   ascend = λ m n a b x y c. omega (arith, up m n a b (omega arith) x y c);

@@ -5,7 +5,7 @@ use Rattle.std.proofs.lemmas.List.{length-append}
 use Rattle.trace_model.specs.Theory.Dependencies.{Dependency}
 use Rattle.trace_model.specs.Theory.Cycles.{Member, IsCycle}
 use Rattle.trace_model.proofs.Theory.Unique.{contains_had}
-use Rattle.cycle_search.specs.Search.{CycleThrough, AreAll}
+use Rattle.cycle_search.specs.CycleSearch.{CycleThrough, AreAll}
 use Rattle.cycle_search.specs.Distances.{AreDistances}
 use Rattle.cycle_search.proofs.Listing.{all-none, get-left}
 use Rattle.cycle_search.proofs.Paths.{found, all-from, member-at, next-inside, next-last, at-end}

@@ -7,7 +7,7 @@ use Rattle.trace_model.specs.Theory.Dependencies.{Dependency}
 use Rattle.trace_model.proofs.Lists.{get-push}
 use Rattle.lock_graph.specs.declared.graph.LockGraph.{LockGraph}
 use Rattle.lock_graph.specs.Graph.{HasGraphOf, holders}
-use Rattle.cycle_search.specs.LockNumbers.{AreNumbered}
+use Rattle.cycle_search.specs.LockNumbers.{AreLockNumbers}
 use Rattle.cycle_search.specs.Edges.{AreHolders, IsRepeated}
 use Rattle.cycle_search.proofs.Paths.{found}
 
@@ -103,7 +103,7 @@ numbered-none ds g has lock none n b at holds =
 -- One more position.
 pub numbered-more : (ds : List Dependency) (positions : List ℕ) (i position : ℕ) (d : Dependency) → length positions ≡ i → slice_get ds i ≡ Some d →
     (position ≡ 4294967295 → (n : ℕ) (b : Dependency) → slice_get ds n ≡ Some b → Contains b.held d.lock → ⊥) →
-    AreNumbered ds positions → AreNumbered ds (positions ++ position ∷ [])
+    AreLockNumbers ds positions → AreLockNumbers ds (positions ++ position ∷ [])
 numbered-more ds positions i position d each at none before m n a b here x y holds = elim (get-push positions position m 4294967295 here) [
   | inl u ↦ before m n a b u x y holds
   | inr u ↦

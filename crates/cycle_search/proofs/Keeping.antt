@@ -7,7 +7,7 @@ use Rattle.cycle_search.specs.declared.refused.SearchRefused.{SearchRefused}
 use Rattle.cycle_search.specs.declared.refused.SearchRefused.TheVariants.{TooMany}
 use Rattle.cycle_search.specs.Collecting.{TakesAll}
 use Rattle.cycle_search.specs.Keeping.{keeps}
-use Rattle.cycle_search.specs.Search.{CycleFrom, MoreThan}
+use Rattle.cycle_search.specs.CycleSearch.{CycleFrom, MoreThan}
 use Rattle.cycle_search.proofs.Turns.{cycles-from, more-from}
 
 module _ (ds : List Dependency) (bound root : ℕ) (old new : Kept) (answer : Result (Unit {0}) SearchRefused)

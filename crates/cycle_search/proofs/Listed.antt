@@ -9,8 +9,8 @@ use Rattle.std.specs.List.Sorted.{IsNonDecreasing, IsPartitionPoint, IsPermutati
 use Rattle.trace_model.specs.Theory.Dependencies.{Dependency}
 use Rattle.trace_model.proofs.Theory.Unique.{has_contained, contains_had}
 use Rattle.cycle_search.specs.declared.acquirers.Acquirers.{Acquirers}
-use Rattle.cycle_search.specs.Acquirers.{key_of, Acquires, AreAcquirers, IsListed, IsLeast, IsNext, least_of}
-use Rattle.cycle_search.specs.Search.{ClosesBack}
+use Rattle.cycle_search.specs.Acquirers.{key_of, Acquires, AreAcquirers, IsListed, IsLeast, IsLeastAbove, least_of}
+use Rattle.cycle_search.specs.CycleSearch.{CompletesAsLast}
 
 -- The keys are those of the first `i` dependencies.
 abbrev pub HasKeys : List Dependency → ℕ → List ℕ → Type 0
@@ -71,7 +71,7 @@ module _ (keys : List ℕ) (up : IsNonDecreasing keys) (lock bound i : ℕ) (at 
       ]
 
   pub next-some : (found : Option ℕ) → i < length keys → ((n : ℕ) → found ≡ Some n ↔ ((n < 4294967296) × (get_or keys i 0 ≡ key_of lock n))) →
-      IsNext bound (λ n. (n < 4294967296) × Contains keys (key_of lock n)) found
+      IsLeastAbove bound (λ n. (n < 4294967296) × Contains keys (key_of lock n)) found
   next-some found inside exact = record {
     sound = λ n f.
         let h = (exact n).0 f in
@@ -85,7 +85,7 @@ module _ (keys : List ℕ) (up : IsNonDecreasing keys) (lock bound i : ℕ) (at 
         (n, (exact n).1 (omega (arith, within, small, is), is), omega (arith, within, is));
   }
 
-  pub next-none : length keys ≤ i → IsNext bound (λ n. (n < 4294967296) × Contains keys (key_of lock n)) None
+  pub next-none : length keys ≤ i → IsLeastAbove bound (λ n. (n < 4294967296) × Contains keys (key_of lock n)) None
   next-none end = record {
     sound = λ n f. absurd (none-some n f);
     least = λ m (more, (small, c)). absurd (omega (arith, end, (least-key (key_of lock m) (omega (arith, more)) c).0));
@@ -128,7 +128,7 @@ least-join P Q R a b f g h p q = record {
 
 -- The acquirers of the first member's locks are exactly the dependencies that close the path.
 pub listed-takes_back : (ds : List Dependency) (path : List ℕ) (first : Dependency) (acquirers : Acquirers) (m : ℕ) → 0 < length path →
-    slice_get ds (get_or path 0 0) ≡ Some first → AreAcquirers ds acquirers → IsListed (Acquires acquirers) first.held (length first.held) m ↔ ClosesBack ds path m
+    slice_get ds (get_or path 0 0) ≡ Some first → AreAcquirers ds acquirers → IsListed (Acquires acquirers) first.held (length first.held) m ↔ CompletesAsLast ds path m
 listed-takes_back ds path first acquirers m begun head t = (
   (λ (k, l, c).
       let (d, at, takes) = (t.exact (get_or first.held k 0) m).0 c in (

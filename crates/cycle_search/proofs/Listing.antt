@@ -4,7 +4,7 @@ use Rattle.std.proofs.lemmas.Option.{none-some, same_Some, slice_get_within}
 use Rattle.trace_model.proofs.Lists.{length-push, take-push}
 use Rattle.trace_model.specs.Theory.Cycles.{ListBelow}
 use Rattle.trace_model.proofs.Theory.Unique.{Has, has_contained, contains_had}
-use Rattle.cycle_search.specs.Search.{AreSome, AreAll}
+use Rattle.cycle_search.specs.CycleSearch.{AreSome, AreAll}
 
 pub get-split : {X : Type 0} (xs ys : List X) (i : ℕ) (x : X) → slice_get (xs ++ ys) i ≡ Some x →
     ((slice_get xs i ≡ Some x) × (i < length xs)) ⊎ ((j : ℕ) × (i ≡ length xs + j) × (slice_get ys j ≡ Some x))

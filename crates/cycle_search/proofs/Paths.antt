@@ -17,7 +17,7 @@ use Rattle.held_sets.proofs.Locks.{has_contains, contains_has}
 use Rattle.guards.specs.Compatible.{NumbersApart, IsCompatible}
 use Rattle.lock_graph.specs.Graph.{HoldsLock, IsGraphOf}
 use Rattle.cycle_search.specs.Edges.{AreHolders}
-use Rattle.cycle_search.specs.Search.{IsPath, Follows, Closes, LinksTo, ClosesBack, AboveFirst, AreNexts}
+use Rattle.cycle_search.specs.CycleSearch.{IsPath, ContinuesPath, CompletesCycle, LinksTo, CompletesAsLast, AboveFirst, AreNexts}
 use Rattle.cycle_search.proofs.Listing.{get-left}
 
 -- The dependency of the number.
@@ -41,7 +41,7 @@ module _ (ds : List Dependency) (path : List ℕ) (m : ℕ) where
     | inr u ↦ inr (u.0, subst (λ k. slice_get ds k ≡ Some a) (sym u.1) y)
   ]
 
-  pub path-push : IsPath ds path → Follows ds path m → IsPath ds (path ++ m ∷ [])
+  pub path-push : IsPath ds path → ContinuesPath ds path m → IsPath ds (path ++ m ∷ [])
   path-push p f = record {
     begun = omega (arith, length-push path m);
     known = all-from (λ n. n < length ds) (path ++ m ∷ []) (λ k n h. elim (get-push path m k n h) [
@@ -121,7 +121,7 @@ member-at ds path known i l =
     let d = found ds (get_or path i 0) (known i 0 l) in
     (d.0, (get_or path i 0, slice_get-get_or path i 0 l, d.1))
 
-module _ (ds : List Dependency) (path : List ℕ) (p : IsPath ds path) (closes : Closes ds path) where
+module _ (ds : List Dependency) (path : List ℕ) (p : IsPath ds path) (closes : CompletesCycle ds path) where
   -- The lock of each member is in the held set of the next one.
   pub link : (i : ℕ) (a b : Dependency) → Member ds path i a → Member ds path (next path i) b → Contains b.held a.lock
   link i a b x y = elim (cases_lt (suc i) (length path)) [
@@ -170,7 +170,7 @@ module _ (ds : List Dependency) (bound : ℕ) (path : List ℕ) (m : ℕ) (rest 
   within k d (n, x, y) = (n, get-left path (m ∷ rest) k n x, y)
 
   -- The next member of a cycle follows the path.
-  pub follows-from_cycle : Follows ds path m
+  pub follows-from_cycle : ContinuesPath ds path m
   follows-from_cycle = record {
     known = c.known m (contains_had (path ++ m ∷ rest) m (length path, here));
     above = λ first h.
@@ -192,7 +192,7 @@ module _ (ds : List Dependency) (bound : ℕ) (path : List ℕ) (m : ℕ) (rest 
   }
 
   -- A path that closes begins no longer cycle.
-  pub closed-no_more : (known : All (λ n. n < length ds) path) → Closes ds path → ⊥
+  pub closed-no_more : (known : All (λ n. n < length ds) path) → CompletesCycle ds path → ⊥
   closed-no_more known closes = go (length path) refl
     where
       go : (k : ℕ) → length path ≡ k → ⊥
@@ -206,7 +206,7 @@ module _ (ds : List Dependency) (bound : ℕ) (path : List ℕ) (m : ℕ) (rest 
           (closes k first.0 last.0 (sym e) first.1 last.1)
           (f.linked k last.0 b.0 (sym e) last.1 b.1)
 
-pub closes-from_cycle : (ds : List Dependency) (bound : ℕ) (path : List ℕ) → IsCycle ds bound path → Closes ds path
+pub closes-from_cycle : (ds : List Dependency) (bound : ℕ) (path : List ℕ) → IsCycle ds bound path → CompletesCycle ds path
 closes-from_cycle ds bound path c k first last e x y = c.linked k last first y (subst (λ i. Member ds path i first) (sym (next-last path k e)) x)
 
 -- The holders that the graph lists for the lock of a dependency.
@@ -271,7 +271,7 @@ module _ (ds : List Dependency) (path : List ℕ) (p : IsPath ds path) (last : D
 
 -- A number that closes the path acquires a lock that its first member holds.
 pub closed-back : (ds : List Dependency) (path : List ℕ) (m : ℕ) (first last : Dependency) → 0 < length path →
-    slice_get ds (get_or path 0 0) ≡ Some first → slice_get ds m ≡ Some last → Closes ds (path ++ m ∷ []) → Contains first.held last.lock
+    slice_get ds (get_or path 0 0) ≡ Some first → slice_get ds m ≡ Some last → CompletesCycle ds (path ++ m ∷ []) → Contains first.held last.lock
 closed-back ds path m first last begun head at closes =
     closes (length path) first last (sym (length-push path m))
     (get_or path 0 0, get-push_kept path m 0 (get_or path 0 0) (slice_get-get_or path 0 0 begun), head)
@@ -280,7 +280,7 @@ closed-back ds path m first last begun head at closes =
 -- A number whose dependency acquires such a lock closes the path.
 pub closes-decided : (ds : List Dependency) (path : List ℕ) (m : ℕ) (first last : Dependency) → 0 < length path →
     slice_get ds (get_or path 0 0) ≡ Some first → slice_get ds m ≡ Some last → (b : Bool) →
-    IsTrue b ↔ Contains first.held last.lock → IsTrue b ↔ Closes ds (path ++ m ∷ [])
+    IsTrue b ↔ Contains first.held last.lock → IsTrue b ↔ CompletesCycle ds (path ++ m ∷ [])
 closes-decided ds path m first last begun head at b decides = (
   (λ t k f l e x y.
       let start = get-push_kept path m 0 (get_or path 0 0) (slice_get-get_or path 0 0 begun) in
@@ -293,7 +293,7 @@ closes-decided ds path m first last begun head at b decides = (
 
 -- The last member of a cycle acquires such a lock.
 pub last-takes_back : (ds : List Dependency) (bound : ℕ) (path : List ℕ) (m : ℕ) (rest : List ℕ) → IsPath ds path → bound ≤ length path + 1 →
-    IsCycle ds bound (path ++ m ∷ rest) → ClosesBack ds path m
+    IsCycle ds bound (path ++ m ∷ rest) → CompletesAsLast ds path m
 last-takes_back ds bound path m (x ∷ rest) p full c = absurd (omega (arith, full, c.at_most, length-append path (m ∷ x ∷ rest)))
 last-takes_back ds bound path m [] p full c =
     let f = follows-from_cycle ds bound path m [] p.begun c in

@@ -4,7 +4,7 @@ use Rattle.std.proofs.lemmas.Option.{none-some, same_Some}
 use Rattle.std.proofs.lemmas.Bool.Decides.{nat_tests}
 use Rattle.cycle_search.specs.declared.tarjan.Frame.{Frame}
 use Rattle.cycle_search.specs.declared.tarjan.Walk.{Walk}
-use Rattle.cycle_search.specs.Walk.{left_at, left_on, left_beyond, left, Stays, Enters}
+use Rattle.cycle_search.specs.Walk.{left_at, left_on, left_beyond, work_left, KeepsPath, VisitsLock}
 
 pub on-push : (graph : ℕ → List ℕ) (path : List Frame) (frame : Frame) → left_on graph (path ++ frame ∷ []) ≡ left_on graph path + left_at graph frame
 unfolding left_on
@@ -53,10 +53,10 @@ beyond-set graph lock (x ∷ xs) (suc k) index at some =
     let same : length (graph (suc lock + k)) ≡ length (graph (lock + suc k)) = ap (λ l. length (graph l)) (omega arith) in
     omega (arith, beyond-set graph (suc lock) xs k index at some, same)
 
-pub stays-left : (graph : ℕ → List ℕ) (old new : Walk) → Stays old new → left graph new ≡ left graph old
+pub stays-left : (graph : ℕ → List ℕ) (old new : Walk) → KeepsPath old new → work_left graph new ≡ work_left graph old
 stays-left graph old new s = omega (arith, ap (left_on graph) s.path, ap (left_beyond graph 0) s.indices)
 
-pub enters-left : (graph : ℕ → List ℕ) (old new : Walk) (lock : ℕ) → Enters old lock new → left graph new < left graph old
+pub enters-left : (graph : ℕ → List ℕ) (old new : Walk) (lock : ℕ) → VisitsLock old lock new → work_left graph new < work_left graph old
 enters-left graph old new lock s =
     let frame : Frame = record { lock = lock; followed = 0 } in
     let same : length (graph (0 + lock)) ≡ length (graph lock) = ap (λ l. length (graph l)) (omega arith) in

@@ -33,8 +33,8 @@ pub record IsLeast (P : ℕ → Type 0) (found : Option ℕ) : Type 0 where
   pub least : (m : ℕ) → P m → (n : ℕ) × (found ≡ Some n) × (n ≤ m)
 
 -- The least number above a bound with the property.
-abbrev pub IsNext : ℕ → (ℕ → Type 0) → Option ℕ → Type 0
-IsNext bound P found = IsLeast (λ m. (bound < m) × P m) found
+abbrev pub IsLeastAbove : ℕ → (ℕ → Type 0) → Option ℕ → Type 0
+IsLeastAbove bound P found = IsLeast (λ m. (bound < m) × P m) found
 
 -- The lesser of two optional numbers.
 abbrev pub least_of : Option ℕ → Option ℕ → Option ℕ

@@ -3,7 +3,7 @@ use Rattle.std.specs.Prelude.{◌≡◌, ◌≤◌, ℕ, true, List, length, sli
 use Rattle.std.specs.List.{Contains}
 use Rattle.trace_model.specs.Theory.Dependencies.{Dependency}
 use Rattle.cycle_search.specs.declared.components.Components.{Components}
-use Rattle.cycle_search.specs.LockNumbers.{AreNumbered}
+use Rattle.cycle_search.specs.LockNumbers.{AreLockNumbers}
 use Rattle.cycle_search.specs.Acquirers.{AreAcquirers}
 
 -- A component number for each dependency, which does not decrease from a dependency to one that
@@ -19,5 +19,5 @@ pub record AreComponents (ds : List Dependency) (components : Components) : Type
       Contains b.held a.lock →
       slice_index components.numbers.items m ≡ slice_index components.numbers.items n →
       slice_get components.cyclic.items n ≡ Some true
-  pub numbered : AreNumbered ds components.locks.positions.items
+  pub numbered : AreLockNumbers ds components.locks.positions.items
   pub acquirers : AreAcquirers ds components.acquirers

@@ -27,7 +27,8 @@ FallAtMost ds values from step = (m n : ℕ) (a b : Dependency) → from ≤ n �
     slice_index values m ≤ slice_index values n + step
 
 -- Each dependency to which one with the same value has an edge is marked.
-pub record AreMarked (ds : List Dependency) (values : List ℕ) (marks : List Bool) : Type 0 where
+pub record AreSuccessorsMarked (ds : List Dependency) (values : List ℕ)
+    (marks : List Bool) : Type 0 where
   pub each : length marks ≡ length ds
   pub marked : (m n : ℕ) (a b : Dependency) → slice_get ds m ≡ Some a → slice_get ds n ≡ Some b →
       Contains b.held a.lock → slice_index values m ≡ slice_index values n →

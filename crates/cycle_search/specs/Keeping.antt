@@ -4,7 +4,7 @@ use Rattle.std.proofs.Common.{refl, ap}
 use Rattle.cycle_search.specs.declared.kept.Kept.{Kept}
 use Rattle.cycle_search.specs.declared.refused.SearchRefused.{SearchRefused}
 use Rattle.cycle_search.specs.declared.refused.SearchRefused.TheVariants.{TooMany}
-use Rattle.cycle_search.specs.Collecting.{Taking}
+use Rattle.cycle_search.specs.Collecting.{CollectorRules}
 
 -- Nothing is appended to a list.
 pub append-none : {Item : Type 0} (xs : List Item) → xs ≡ xs ++ []
@@ -12,7 +12,7 @@ append-none [] = refl
 append-none (x ∷ xs) = ap (λ z. x ∷ z) (append-none xs)
 
 -- It appends the cycles, and it refuses one as too many only if there are more than its limit.
-abbrev pub keeps : Taking Kept (List ℕ) SearchRefused
+abbrev pub keeps : CollectorRules Kept (List ℕ) SearchRefused
 keeps = record {
   accepts = λ kept cycle. Unit {0};
   took = λ start cycles now. (now.most ≡ start.most)

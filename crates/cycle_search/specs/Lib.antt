@@ -1,8 +1,8 @@
-pub mod Search
+pub mod CycleSearch
 pub mod LockNumbers
 pub mod Edges
 pub mod Components
-pub mod Searched
+pub mod SearchInput
 pub mod Acquirers
 pub mod Walk
 pub mod Distances

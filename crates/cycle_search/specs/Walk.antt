@@ -21,20 +21,20 @@ left_beyond graph lock (index ∷ indices) =
     (if nat_eq index 0 then length (graph lock) + 2 else 0) + left_beyond graph (suc lock) indices
 
 -- All the work left.
-abbrev pub left : (ℕ → List ℕ) → Walk → ℕ
-left graph walk = left_on graph walk.path.items + left_beyond graph 0 walk.indices.items
+abbrev pub work_left : (ℕ → List ℕ) → Walk → ℕ
+work_left graph walk = left_on graph walk.path.items + left_beyond graph 0 walk.indices.items
 
 -- All the work left in a graph with the numbers below this total.
 abbrev pub left_in : ℕ → LockGraph → Walk → ℕ
-left_in total g walk = left (holders_at g total) walk
+left_in total g walk = work_left (holders_at g total) walk
 
 -- The path is unchanged, and the same locks are visited.
-pub record Stays (old new : Walk) : Type 0 where
+pub record KeepsPath (old new : Walk) : Type 0 where
   pub path : new.path.items ≡ old.path.items
   pub indices : new.indices.items ≡ old.indices.items
 
 -- A lock that was not visited is visited and appended to the path.
-pub record Enters (old : Walk) (lock : ℕ) (new : Walk) : Type 0 where
+pub record VisitsLock (old : Walk) (lock : ℕ) (new : Walk) : Type 0 where
   pub path : new.path.items ≡ old.path.items ++ record { lock = lock; followed = 0 } ∷ []
   pub unmet : slice_get old.indices.items lock ≡ Some 0
   pub index : ℕ
@@ -43,4 +43,4 @@ pub record Enters (old : Walk) (lock : ℕ) (new : Walk) : Type 0 where
 
 -- The path is unchanged, or a lock that was not visited is entered.
 abbrev pub StaysOrEnters : Walk → ℕ → Walk → Type 0
-StaysOrEnters old lock new = Stays old new ⊎ Enters old lock new
+StaysOrEnters old lock new = KeepsPath old new ⊎ VisitsLock old lock new

@@ -2,8 +2,8 @@
 
 ghost use Rattle.std.specs.Prelude.{◌≡◌, ◌<◌, ◌↔◌, ℕ, length, IfOk, Some};
 ghost use Rattle.std.specs.List.Sorted.{IsNonDecreasing};
-ghost use Rattle.dependencies.specs.Tables.{known};
-ghost use Rattle.cycle_search.specs.Acquirers.{key_of, Acquires, AreAcquirers, IsListed, IsNext, least_of};
+ghost use Rattle.dependencies.specs.Tables.{table_dependencies};
+ghost use Rattle.cycle_search.specs.Acquirers.{key_of, Acquires, AreAcquirers, IsListed, IsLeastAbove, least_of};
 
 use dependencies::DepTable;
 use std::alloc::Global;
@@ -23,7 +23,7 @@ impl Acquirers {
     /// # Errors
     /// `NoMemory` if an allocation fails.
     pub(crate) fn new(alloc: Global, table: &DepTable) -> Result<Acquirers, NoMemory>
-        ensures { IfOk result (AreAcquirers (known table.now)) }
+        ensures { IfOk result (AreAcquirers (table_dependencies table.now)) }
     {
         let mut keys = Vec::new(alloc);
         for number in 0..table.len() {
@@ -50,7 +50,8 @@ impl Acquirers {
     /// Returns the least dependency above `bound` that acquires one of the locks.
     pub(crate) fn next(&self, locks: &[u32], bound: u32) -> Option<u32>
         requires { IsNonDecreasing self.now.keys.items }
-        ensures { IsNext bound (IsListed (Acquires self.now) locks.now (length locks.now)) result }
+        ensures { IsLeastAbove bound (IsListed (Acquires self.now) locks.now
+            (length locks.now)) result }
     {
         let mut least = None;
         for lock in locks {
@@ -62,7 +63,7 @@ impl Acquirers {
     /// Returns the least dependency above `bound` that acquires `lock`.
     fn next_of(&self, lock: u32, bound: u32) -> Option<u32>
         requires { IsNonDecreasing self.now.keys.items }
-        ensures { IsNext bound (Acquires self.now lock) result }
+        ensures { IsLeastAbove bound (Acquires self.now lock) result }
     {
         let keys = self.keys.as_slice();
         let first = key(lock, bound);

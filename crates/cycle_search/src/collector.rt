@@ -1,6 +1,6 @@
 //! Where the results of a search go.
 
-ghost use Rattle.cycle_search.specs.Collecting.{Taking, Takes};
+ghost use Rattle.cycle_search.specs.Collecting.{CollectorRules, Takes};
 
 /// Takes the results of a search one by one, so that the search need not keep them.
 pub trait Collector<T> {
@@ -8,7 +8,7 @@ pub trait Collector<T> {
     type Refused: Drop;
 
     /// Which results it accepts, which ones it took between two states, and when it may refuse one.
-    ghost taking: { Taking Self T Self.Refused };
+    ghost taking: { CollectorRules Self T Self.Refused };
 
     /// Takes the next result.
     ///

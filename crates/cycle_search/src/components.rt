@@ -2,13 +2,13 @@
 
 ghost use Rattle.std.specs.Prelude.{◌≡◌, ◌<◌, ℕ, List, length, nat_eq, slice_get, slice_index, Some, false, IfOk, IsTrue};
 ghost use Rattle.std.specs.List.{All};
-ghost use Rattle.dependencies.specs.Tables.{known};
+ghost use Rattle.dependencies.specs.Tables.{table_dependencies};
 ghost use Rattle.lock_graph.specs.Graph.{HasGraphOf};
 ghost use Rattle.trace_model.specs.Theory.Cycles.{IsCycle};
 ghost use Rattle.trace_model.specs.Theory.Dependencies.{Dependency};
 ghost use Rattle.cycle_search.specs.Components.{AreComponents};
 ghost use Rattle.cycle_search.specs.Edges.{FallAtMost};
-ghost use Rattle.cycle_search.specs.LockNumbers.{AreNumbered};
+ghost use Rattle.cycle_search.specs.LockNumbers.{AreLockNumbers};
 
 use crate::acquirers::Acquirers;
 use crate::edges::{fall_at_most, same_along_edge};
@@ -55,8 +55,9 @@ impl Components {
     /// # Errors
     /// `NoMemory` if an allocation fails.
     pub fn new(alloc: Global, table: &DepTable, graph: &LockGraph) -> Result<Components, NoMemory>
-        requires { HasGraphOf (known table.now) graph.now }
-        ensures { IfOk result (λ components. AreComponents (known table.now) components) }
+        requires { HasGraphOf (table_dependencies table.now) graph.now }
+        ensures { IfOk result (λ components. AreComponents
+            (table_dependencies table.now) components) }
     {
         let locks = LockNumbers::new(alloc, table, graph)?;
         let found = component_numbers(alloc, table, graph, &locks)?;
@@ -142,8 +143,9 @@ fn component_numbers(
     graph: &LockGraph,
     locks: &LockNumbers,
 ) -> Result<Vec<u32>, NoMemory>
-    requires { HasGraphOf (known table.now) graph.now }
-    ensures { IfOk result (λ numbers. length numbers.items ≡ length (known table.now)) }
+    requires { HasGraphOf (table_dependencies table.now) graph.now }
+    ensures { IfOk result (λ numbers. length numbers.items
+        ≡ length (table_dependencies table.now)) }
 {
     let components = lock_components(alloc, locks.positions(), graph)?;
     let mut numbers = Vec::new(alloc);
@@ -166,11 +168,13 @@ fn topological_or_one(
     locks: &LockNumbers,
     numbers: Vec<u32>,
 ) -> Result<Vec<u32>, NoMemory>
-    requires graph { HasGraphOf (known table.now) graph.now }
-    requires locks { AreNumbered (known table.now) locks.now.positions.items }
-    requires each { length numbers.items ≡ length (known table.now) }
-    ensures each { IfOk result (λ numbers. length numbers.items ≡ length (known table.now)) }
-    ensures ascend { IfOk result (λ numbers. FallAtMost (known table.now) numbers.items 0 0) }
+    requires graph { HasGraphOf (table_dependencies table.now) graph.now }
+    requires locks { AreLockNumbers (table_dependencies table.now) locks.now.positions.items }
+    requires each { length numbers.items ≡ length (table_dependencies table.now) }
+    ensures each { IfOk result (λ numbers. length numbers.items
+        ≡ length (table_dependencies table.now)) }
+    ensures ascend { IfOk result (λ numbers. FallAtMost
+        (table_dependencies table.now) numbers.items 0 0) }
 {
     if fall_at_most(table, graph, locks, &numbers, 0, 0) {
         return Ok(numbers);

@@ -3,9 +3,9 @@
 
 ghost use Rattle.std.specs.Prelude.{ℕ, ◌<◌, length};
 ghost use Rattle.std.specs.List.{Contains};
-ghost use Rattle.cycle_search.specs.Search.{IsPath};
+ghost use Rattle.cycle_search.specs.CycleSearch.{IsPath};
 
-use crate::Searched;
+use crate::SearchInput;
 use crate::search::{Path, successors};
 
 /// The number of visited successors that cost as much as one binary search for the acquirers of a
@@ -23,54 +23,56 @@ const LEAST_MEMBERS: usize = 4;
 
 /// Returns the cost, in visited successors, of looking up all members that may close a path of
 /// `root`.
-pub(crate) fn closing_visits(searched: &Searched<'_>, root: u32) -> usize
-    requires { root < length searched.now }
+pub(crate) fn closing_visits(search_input: &SearchInput<'_>, root: u32) -> usize
+    requires { root < length search_input.now }
 {
-    let locks = searched.table.get(root).held.locks();
-    let acquirers = searched.components.acquirers();
+    let locks = search_input.table.get(root).held.locks();
+    let acquirers = search_input.components.acquirers();
     let searches = acquirers.count(locks).saturating_mul(locks.len());
     searches.saturating_mul(VISITS_PER_SEARCH)
 }
 
 /// Returns whether a search from the path's one member for cycles of up to `members` members costs
 /// more than computing the distances of all locks to it.
-pub(crate) fn is_long(searched: &Searched<'_>, path: &Path, members: usize) -> bool
-    requires { IsPath searched.now path.now.items }
+pub(crate) fn is_long(search_input: &SearchInput<'_>, path: &Path, members: usize) -> bool
+    requires { IsPath search_input.now path.now.items }
 {
     if members < LEAST_MEMBERS {
         return false;
     }
-    let nexts = successors(searched, path);
-    let third = third_members(searched, path[0], nexts);
+    let nexts = successors(search_input, path);
+    let third = third_members(search_input, path[0], nexts);
     let each = third / nexts.len().max(1);
     let mut paths = third;
     for _member in LEAST_MEMBERS..members {
         paths = paths.saturating_mul(each);
     }
-    paths / VISITS_PER_DISTANCES > searched.table.len()
+    paths / VISITS_PER_DISTANCES > search_input.table.len()
 }
 
 /// Returns the total number of successors of `nexts`, the successors of the root. A dependency is
 /// counted once for each predecessor.
-fn third_members(searched: &Searched<'_>, root: u32, nexts: &[u32]) -> usize
-    requires root { root < length searched.now }
-    requires nexts { (next : ℕ) → Contains nexts.now next → next < length searched.now }
+fn third_members(search_input: &SearchInput<'_>, root: u32, nexts: &[u32]) -> usize
+    requires root { root < length search_input.now }
+    requires nexts { (next : ℕ) → Contains nexts.now next → next < length search_input.now }
 {
     let mut count = 0usize;
     for next in nexts {
-        count = count.saturating_add(successors_after(searched, root, *next));
+        count = count.saturating_add(successors_after(search_input, root, *next));
     }
     count
 }
 
 /// Returns the number of successors of `next`, a successor of the root, that the search visits.
-fn successors_after(searched: &Searched<'_>, root: u32, next: u32) -> usize
-    requires root { root < length searched.now }
-    requires next { next < length searched.now }
+fn successors_after(search_input: &SearchInput<'_>, root: u32, next: u32) -> usize
+    requires root { root < length search_input.now }
+    requires next { next < length search_input.now }
 {
-    let lock = searched.table.get(next).lock;
-    if !searched.components.in_same(root, next) || searched.table.get(root).held.contains(lock) {
+    let lock = search_input.table.get(next).lock;
+    if !search_input.components.in_same(root, next)
+        || search_input.table.get(root).held.contains(lock)
+    {
         return 0;
     }
-    searched.successors(next).len()
+    search_input.successors(next).len()
 }

@@ -6,10 +6,10 @@
 
 ghost use Rattle.std.specs.Prelude.{◌≡◌, ◌<◌, ◌≤◌, ℕ, length, slice_get, slice_index, Some, true, IfOk, IsTrue};
 ghost use Rattle.std.specs.List.{Contains};
-ghost use Rattle.dependencies.specs.Tables.{known};
+ghost use Rattle.dependencies.specs.Tables.{table_dependencies};
 ghost use Rattle.lock_graph.specs.Graph.{HasGraphOf};
-ghost use Rattle.cycle_search.specs.LockNumbers.{AreNumbered};
-ghost use Rattle.cycle_search.specs.Edges.{AreHolders, AreMarked, FallAtMost, IsRepeated};
+ghost use Rattle.cycle_search.specs.LockNumbers.{AreLockNumbers};
+ghost use Rattle.cycle_search.specs.Edges.{AreHolders, AreSuccessorsMarked, FallAtMost, IsRepeated};
 
 use crate::lock_numbers::LockNumbers;
 use dependencies::DepTable;
@@ -25,10 +25,10 @@ pub(crate) fn successors<'a>(
     locks: &LockNumbers,
     number: u32,
 ) -> &'a [u32]
-    requires graph { HasGraphOf (known table.now) graph.now }
-    requires locks { AreNumbered (known table.now) locks.now.positions.items }
-    requires number { number < length (known table.now) }
-    ensures { AreHolders (known table.now) number result.now }
+    requires graph { HasGraphOf (table_dependencies table.now) graph.now }
+    requires locks { AreLockNumbers (table_dependencies table.now) locks.now.positions.items }
+    requires number { number < length (table_dependencies table.now) }
+    ensures { AreHolders (table_dependencies table.now) number result.now }
 {
     if locks.is_unheld(number) {
         return &[];
@@ -39,9 +39,9 @@ pub(crate) fn successors<'a>(
 
 /// Returns whether an earlier dependency acquires the same lock and has the same value.
 fn is_repeated(table: &DepTable, locks: &LockNumbers, values: &[u32], number: u32) -> bool
-    requires number { number < length (known table.now) }
-    requires each { length values.now ≡ length (known table.now) }
-    ensures { IsTrue result → IsRepeated (known table.now) values.now number }
+    requires number { number < length (table_dependencies table.now) }
+    requires each { length values.now ≡ length (table_dependencies table.now) }
+    ensures { IsTrue result → IsRepeated (table_dependencies table.now) values.now number }
 {
     let first = locks.first(number);
     first < number
@@ -59,10 +59,10 @@ pub(crate) fn fall_at_most(
     from: u32,
     step: u32,
 ) -> bool
-    requires graph { HasGraphOf (known table.now) graph.now }
-    requires locks { AreNumbered (known table.now) locks.now.positions.items }
-    requires each { length values.now ≡ length (known table.now) }
-    ensures { IsTrue result → FallAtMost (known table.now) values.now from step }
+    requires graph { HasGraphOf (table_dependencies table.now) graph.now }
+    requires locks { AreLockNumbers (table_dependencies table.now) locks.now.positions.items }
+    requires each { length values.now ≡ length (table_dependencies table.now) }
+    ensures { IsTrue result → FallAtMost (table_dependencies table.now) values.now from step }
 {
     for number in 0..table.len() {
         let number = number as u32;
@@ -101,10 +101,11 @@ pub(crate) fn same_along_edge(
     locks: &LockNumbers,
     values: &[u32],
 ) -> Result<Vec<bool>, NoMemory>
-    requires graph { HasGraphOf (known table.now) graph.now }
-    requires locks { AreNumbered (known table.now) locks.now.positions.items }
-    requires each { length values.now ≡ length (known table.now) }
-    ensures { IfOk result (λ marks. AreMarked (known table.now) values.now marks.items) }
+    requires graph { HasGraphOf (table_dependencies table.now) graph.now }
+    requires locks { AreLockNumbers (table_dependencies table.now) locks.now.positions.items }
+    requires each { length values.now ≡ length (table_dependencies table.now) }
+    ensures { IfOk result (λ marks. AreSuccessorsMarked
+        (table_dependencies table.now) values.now marks.items) }
 {
     let mut marks = vec![in alloc; false; table.len()]?;
     for number in 0..table.len() {

@@ -20,12 +20,12 @@ mod kept;
 mod lock_numbers;
 mod refused;
 mod search;
-mod searched;
+mod search_input;
 mod tarjan;
 
 pub use collector::Collector;
 pub use components::Components;
 pub use refused::SearchRefused;
 pub use search::{collect_cycles, cycles_from, cycles_within};
-pub use searched::Searched;
+pub use search_input::SearchInput;
 pub use trace_model::Cycle;

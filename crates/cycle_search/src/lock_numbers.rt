@@ -1,9 +1,9 @@
 //! Two numbers for the lock of each dependency, so that a search hashes no lock.
 
 ghost use Rattle.std.specs.Prelude.{◌≡◌, Some, slice_get, IfOk, IsTrue};
-ghost use Rattle.dependencies.specs.Tables.{known};
+ghost use Rattle.dependencies.specs.Tables.{table_dependencies};
 ghost use Rattle.lock_graph.specs.Graph.{HasGraphOf};
-ghost use Rattle.cycle_search.specs.LockNumbers.{AreNumbered};
+ghost use Rattle.cycle_search.specs.LockNumbers.{AreLockNumbers};
 
 use dependencies::DepTable;
 use lock_graph::LockGraph;
@@ -29,8 +29,9 @@ impl LockNumbers {
         table: &DepTable,
         graph: &LockGraph,
     ) -> Result<LockNumbers, NoMemory>
-        requires { HasGraphOf (known table.now) graph.now }
-        ensures { IfOk result (λ locks. AreNumbered (known table.now) locks.positions.items) }
+        requires { HasGraphOf (table_dependencies table.now) graph.now }
+        ensures { IfOk result (λ locks. AreLockNumbers
+            (table_dependencies table.now) locks.positions.items) }
     {
         let mut positions = Vec::new(alloc);
         let mut firsts = Vec::new(alloc);

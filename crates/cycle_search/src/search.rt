@@ -8,17 +8,17 @@ ghost use Rattle.std.specs.Prelude.{◌≡◌, ◌<◌, ◌≤◌, ◌↔◌, �
 ghost use Rattle.trace_model.specs.declared.limits.TheConstants.{MAX_CYCLES};
 ghost use Rattle.trace_model.specs.Theory.Cycles.{AreCyclesFrom};
 ghost use Rattle.guards.specs.Compatible.{IsCompatible};
-ghost use Rattle.cycle_search.specs.Acquirers.{IsNext};
+ghost use Rattle.cycle_search.specs.Acquirers.{IsLeastAbove};
 ghost use Rattle.cycle_search.specs.Collecting.{AcceptsAll, TakesAll};
 ghost use Rattle.cycle_search.specs.Distances.{AreDistances};
-ghost use Rattle.cycle_search.specs.Search.{IsPath, Closes, AboveFirst, LinksTo, ClosesBack, AreNexts, MoreThan, CycleFrom, HasDistances, IsTooFar, SearchedBeyond, SearchedThrough, IfTooMany};
+ghost use Rattle.cycle_search.specs.CycleSearch.{IsPath, CompletesCycle, AboveFirst, LinksTo, CompletesAsLast, AreNexts, MoreThan, CycleFrom, HasDistances, IsTooFar, SearchedBeyond, SearchedThrough, IfTooMany};
 
 use crate::ascending::above;
 use crate::collector::Collector;
 use crate::costs::{closing_visits, is_long};
 use crate::distances::distances_to;
 use crate::kept::Kept;
-use crate::{Components, SearchRefused, Searched};
+use crate::{Components, SearchInput, SearchRefused};
 use arrayvec::ArrayVec;
 use guards::compatible;
 use std::alloc::Global;
@@ -29,8 +29,8 @@ pub(crate) type Path = ArrayVec<u32, MAX_MEMBERS>;
 
 /// The parameters of one search.
 #[derive(Clone, Copy)]
-struct Search<'a> {
-    searched: &'a Searched<'a>,
+struct CycleSearch<'a> {
+    search_input: &'a SearchInput<'a>,
     /// The least number of members that must follow each dependency, or an empty list if distances
     /// were not computed.
     distances: &'a [u32],
@@ -45,24 +45,24 @@ struct Search<'a> {
 /// lexicographic order. The first member of a cycle is its least number, so each cycle is found
 /// from exactly one root.
 ///
-/// The caller passes a number of a dependency of `searched` as `root`.
+/// The caller passes a number of a dependency of `search_input` as `root`.
 ///
 /// # Errors
 /// - `TooMany` only if there are more than 4,294,967,295 such cycles.
 /// - `NoMemory` if an allocation fails.
 pub fn cycles_from(
     alloc: Global,
-    searched: &Searched<'_>,
+    search_input: &SearchInput<'_>,
     root: u32,
     bound: Bound,
 ) -> Result<Vec<Cycle>, SearchRefused>
-    requires root { root < length searched.now }
-    ensures ok { IfOk result (λ cycles. AreCyclesFrom searched.now bound root cycles.items) }
+    requires root { root < length search_input.now }
+    ensures ok { IfOk result (λ cycles. AreCyclesFrom search_input.now bound root cycles.items) }
     ensures few { IfOk result (λ cycles. length cycles.items ≤ MAX_CYCLES) }
     ensures too_many { result ≡ Err SearchRefused.TooMany →
-        MoreThan (CycleFrom searched.now bound root) MAX_CYCLES }
+        MoreThan (CycleFrom search_input.now bound root) MAX_CYCLES }
 {
-    cycles_within(alloc, searched, root, bound, MAX_CYCLES)
+    cycles_within(alloc, search_input, root, bound, MAX_CYCLES)
 }
 
 /// Returns the same as [`cycles_from`], with a limit of `most` cycles instead of 4,294,967,295.
@@ -73,18 +73,18 @@ pub fn cycles_from(
 /// - `NoMemory` if an allocation fails.
 pub fn cycles_within(
     alloc: Global,
-    searched: &Searched<'_>,
+    search_input: &SearchInput<'_>,
     root: u32,
     bound: Bound,
     most: usize,
 ) -> Result<Vec<Cycle>, SearchRefused>
-    requires root { root < length searched.now }
-    ensures ok { IfOk result (λ cycles. AreCyclesFrom searched.now bound root cycles.items) }
+    requires root { root < length search_input.now }
+    ensures ok { IfOk result (λ cycles. AreCyclesFrom search_input.now bound root cycles.items) }
     ensures few { IfOk result (λ cycles. length cycles.items ≤ most) }
-    ensures too_many { IfTooMany result (MoreThan (CycleFrom searched.now bound root) most) }
+    ensures too_many { IfTooMany result (MoreThan (CycleFrom search_input.now bound root) most) }
 {
     let mut kept = Kept::new(alloc, most);
-    collect_cycles(alloc, searched, root, bound, &mut kept)??;
+    collect_cycles(alloc, search_input, root, bound, &mut kept)??;
     Ok(kept.cycles)
 }
 
@@ -92,34 +92,34 @@ pub fn cycles_within(
 /// each once, in lexicographic order, until it refuses one. Returns the refusal, if there is one.
 /// Keeps no cycle.
 ///
-/// The caller passes a number of a dependency of `searched` as `root`, and a collector that accepts
-/// these cycles.
+/// The caller passes a number of a dependency of `search_input` as `root`, and a collector that
+/// accepts these cycles.
 ///
 /// # Errors
 /// `NoMemory` if an allocation of the search fails. Then the collector was given no cycle.
 pub fn collect_cycles<C: Collector<Cycle>>(
     alloc: Global,
-    searched: &Searched<'_>,
+    search_input: &SearchInput<'_>,
     root: u32,
     bound: Bound,
     collector: &mut C,
 ) -> Result<Result<(), C::Refused>, NoMemory>
-    requires root { root < length searched.now }
-    requires accepts { AcceptsAll C.taking (CycleFrom searched.now bound root) collector.old }
-    ensures { IfOk result (λ taken. TakesAll C.taking (CycleFrom searched.now bound root)
+    requires root { root < length search_input.now }
+    requires accepts { AcceptsAll C.taking (CycleFrom search_input.now bound root) collector.old }
+    ensures { IfOk result (λ taken. TakesAll C.taking (CycleFrom search_input.now bound root)
         collector.old taken collector.new) }
 {
-    if !searched.components.is_cyclic(root) {
+    if !search_input.components.is_cyclic(root) {
         return Ok(Ok(()));
     }
     let mut path = Path::new();
     path.push(root);
-    let distances = distances_of(alloc, searched, &path, bound)?;
-    let search = Search {
-        searched,
+    let distances = distances_of(alloc, search_input, &path, bound)?;
+    let search = CycleSearch {
+        search_input,
         distances: &distances,
         members: bound.get() as usize,
-        successors: closing_visits(searched, root),
+        successors: closing_visits(search_input, root),
     };
     Ok(extend(&search, &mut path, collector))
 }
@@ -127,29 +127,29 @@ pub fn collect_cycles<C: Collector<Cycle>>(
 /// Returns the distances to the path's one member if a search from it is long, else an empty list.
 fn distances_of(
     alloc: Global,
-    searched: &Searched<'_>,
+    search_input: &SearchInput<'_>,
     path: &Path,
     bound: Bound,
 ) -> Result<Vec<u32>, NoMemory>
-    requires { IsPath searched.now path.now.items }
-    ensures { IfOk result (λ distances. AreDistances searched.now (slice_index path.now.items 0)
+    requires { IsPath search_input.now path.now.items }
+    ensures { IfOk result (λ distances. AreDistances search_input.now (slice_index path.now.items 0)
         distances.items) }
 {
-    if !is_long(searched, path, bound.get() as usize) {
+    if !is_long(search_input, path, bound.get() as usize) {
         return Ok(Vec::new(alloc));
     }
     let most = u32::from(bound.get()).saturating_sub(1);
-    distances_to(alloc, searched, path[0], most)
+    distances_to(alloc, search_input, path[0], most)
 }
 
 /// Gives to the collector all cycles that begin with the path and have more members.
 #[cycle(search)]
 fn extend<C: Collector<Cycle>>(
-    search: &Search<'_>,
+    search: &CycleSearch<'_>,
     path: &mut Path,
     collector: &mut C,
 ) -> Result<(), C::Refused>
-    requires path { IsPath search.now.searched.now path.old.items }
+    requires path { IsPath search.now.search_input.now path.old.items }
     requires room { length path.old.items < search.now.members }
     requires members { search.now.members ≤ 8 }
     requires distances { HasDistances search.now path.old.items }
@@ -158,7 +158,7 @@ fn extend<C: Collector<Cycle>>(
     ensures all { TakesAll C.taking (SearchedBeyond search.now path.old)
         collector.old result collector.new }
 {
-    let nexts = successors(search.searched, path);
+    let nexts = successors(search.search_input, path);
     // The path may have many successors although few dependencies close it.
     if path.len() + 1 == search.members && search.successors < nexts.len() {
         return close(search, path, collector);
@@ -173,11 +173,11 @@ fn extend<C: Collector<Cycle>>(
 /// member by the locks that the first member holds.
 #[cycle(search)]
 fn close<C: Collector<Cycle>>(
-    search: &Search<'_>,
+    search: &CycleSearch<'_>,
     path: &mut Path,
     collector: &mut C,
 ) -> Result<(), C::Refused>
-    requires path { IsPath search.now.searched.now path.old.items }
+    requires path { IsPath search.now.search_input.now path.old.items }
     requires room { length path.old.items + 1 ≡ search.now.members }
     requires members { search.now.members ≤ 8 }
     requires distances { HasDistances search.now path.old.items }
@@ -187,8 +187,8 @@ fn close<C: Collector<Cycle>>(
         collector.old result collector.new }
 {
     let mut last = path[0];
-    while let Some(next) = next_closer(search.searched, path, last) {
-        if links(search.searched, path, next) {
+    while let Some(next) = next_completing(search.search_input, path, last) {
+        if links(search.search_input, path, next) {
             visit(search, path, next, collector)?;
         }
         last = next;
@@ -199,38 +199,38 @@ fn close<C: Collector<Cycle>>(
 /// Gives to the collector all cycles that begin with the path followed by `next`.
 #[cycle(search)]
 fn visit<C: Collector<Cycle>>(
-    search: &Search<'_>,
+    search: &CycleSearch<'_>,
     path: &mut Path,
     next: u32,
     collector: &mut C,
 ) -> Result<(), C::Refused>
-    requires path { IsPath search.now.searched.now path.old.items }
+    requires path { IsPath search.now.search_input.now path.old.items }
     requires room { length path.old.items < search.now.members }
     requires members { search.now.members ≤ 8 }
     requires distances { HasDistances search.now path.old.items }
-    requires known { next < length search.now.searched.now }
+    requires known { next < length search.now.search_input.now }
     requires above { AboveFirst path.old.items next }
-    requires linked { LinksTo search.now.searched.now path.old.items next }
+    requires linked { LinksTo search.now.search_input.now path.old.items next }
     requires accepts { AcceptsAll C.taking (SearchedThrough search.now path.old next)
         collector.old }
     ensures path { OnOk result (path.new.items ≡ path.old.items) }
     ensures all { TakesAll C.taking (SearchedThrough search.now path.old next)
         collector.old result collector.new }
 {
-    let searched = search.searched;
-    if !same_component(searched.components, path, next) {
+    let search_input = search.search_input;
+    if !same_component(search_input.components, path, next) {
         return Ok(());
     }
     if is_too_far(search, path, next) {
         return Ok(());
     }
-    if ends_open(searched, search.members, path, next) {
+    if ends_open(search_input, search.members, path, next) {
         return Ok(());
     }
-    if !fits(searched, path, next) {
+    if !fits(search_input, path, next) {
         return Ok(());
     }
-    let is_cycle = closes(searched, path, next);
+    let is_cycle = closes(search_input, path, next);
     path.push(next);
     if is_cycle {
         collector.take(cycle_of(path))?;
@@ -254,7 +254,7 @@ fn same_component(components: &Components, path: &Path, next: u32) -> bool
 }
 
 /// Returns whether each cycle that begins with the path and `next` has too many members.
-fn is_too_far(search: &Search<'_>, path: &Path, next: u32) -> bool
+fn is_too_far(search: &CycleSearch<'_>, path: &Path, next: u32) -> bool
     requires { length path.now.items < search.now.members }
     ensures { IsTrue result → IsTooFar search.now path.now.items next }
 {
@@ -266,22 +266,23 @@ fn is_too_far(search: &Search<'_>, path: &Path, next: u32) -> bool
 
 /// Returns whether `next` would be the last member that `members` allows, and does not close the
 /// path.
-fn ends_open(searched: &Searched<'_>, members: usize, path: &Path, next: u32) -> bool
-    requires path { IsPath searched.now path.now.items }
-    requires next { next < length searched.now }
+fn ends_open(search_input: &SearchInput<'_>, members: usize, path: &Path, next: u32) -> bool
+    requires path { IsPath search_input.now path.now.items }
+    requires next { next < length search_input.now }
     ensures last { IsTrue result → members ≤ length path.now.items + 1 }
-    ensures is_open { IsTrue result → ¬ Closes searched.now (path.now.items ++ next ∷ []) }
+    ensures is_open { IsTrue result →
+        ¬ CompletesCycle search_input.now (path.now.items ++ next ∷ []) }
 {
-    path.len() + 1 >= members && !closes(searched, path, next)
+    path.len() + 1 >= members && !closes(search_input, path, next)
 }
 
 /// Returns whether `next` is compatible with all members of the path.
-fn fits(searched: &Searched<'_>, path: &Path, next: u32) -> bool
-    requires path { IsPath searched.now path.now.items }
-    requires next { next < length searched.now }
-    ensures { IsTrue result ↔ IsCompatible searched.now path.now.items next }
+fn fits(search_input: &SearchInput<'_>, path: &Path, next: u32) -> bool
+    requires path { IsPath search_input.now path.now.items }
+    requires next { next < length search_input.now }
+    ensures { IsTrue result ↔ IsCompatible search_input.now path.now.items next }
 {
-    compatible(searched.table, path.as_slice(), next)
+    compatible(search_input.table, path.as_slice(), next)
 }
 
 /// Returns the path as a cycle.
@@ -298,45 +299,45 @@ fn cycle_of(path: &Path) -> Cycle
 /// Returns whether `next` closes the path: the path's first member holds the lock that `next`
 /// acquires.
 #[inline(always)]
-fn closes(searched: &Searched<'_>, path: &Path, next: u32) -> bool
-    requires path { IsPath searched.now path.now.items }
-    requires next { next < length searched.now }
-    ensures { IsTrue result ↔ Closes searched.now (path.now.items ++ next ∷ []) }
+fn closes(search_input: &SearchInput<'_>, path: &Path, next: u32) -> bool
+    requires path { IsPath search_input.now path.now.items }
+    requires next { next < length search_input.now }
+    ensures { IsTrue result ↔ CompletesCycle search_input.now (path.now.items ++ next ∷ []) }
 {
-    let first = searched.table.get(path[0]);
-    let last = searched.table.get(next);
+    let first = search_input.table.get(path[0]);
+    let last = search_input.table.get(next);
     first.held.contains(last.lock)
 }
 
 /// Returns the dependencies above the path's first member that hold the lock of its last member,
 /// ascending.
-pub(crate) fn successors<'a>(searched: &Searched<'a>, path: &Path) -> &'a [u32]
-    requires { IsPath searched.now path.now.items }
-    ensures { AreNexts searched.now path.now.items result.now }
+pub(crate) fn successors<'a>(search_input: &SearchInput<'a>, path: &Path) -> &'a [u32]
+    requires { IsPath search_input.now path.now.items }
+    ensures { AreNexts search_input.now path.now.items result.now }
 {
-    let holders = searched.successors(path[path.len() - 1]);
+    let holders = search_input.successors(path[path.len() - 1]);
     above(holders, path[0])
 }
 
 /// Returns the least dependency above `bound` that acquires a lock which the path's first member
 /// holds.
-fn next_closer(searched: &Searched<'_>, path: &Path, bound: u32) -> Option<u32>
-    requires { IsPath searched.now path.now.items }
-    ensures { IsNext bound (ClosesBack searched.now path.now.items) result }
+fn next_completing(search_input: &SearchInput<'_>, path: &Path, bound: u32) -> Option<u32>
+    requires { IsPath search_input.now path.now.items }
+    ensures { IsLeastAbove bound (CompletesAsLast search_input.now path.now.items) result }
 {
-    let first = searched.table.get(path[0]);
-    searched
+    let first = search_input.table.get(path[0]);
+    search_input
         .components
         .acquirers()
         .next(first.held.locks(), bound)
 }
 
 /// Returns whether `next` holds the lock of the path's last member.
-fn links(searched: &Searched<'_>, path: &Path, next: u32) -> bool
-    requires path { IsPath searched.now path.now.items }
-    requires next { next < length searched.now }
-    ensures { IsTrue result ↔ LinksTo searched.now path.now.items next }
+fn links(search_input: &SearchInput<'_>, path: &Path, next: u32) -> bool
+    requires path { IsPath search_input.now path.now.items }
+    requires next { next < length search_input.now }
+    ensures { IsTrue result ↔ LinksTo search_input.now path.now.items next }
 {
-    let last = searched.table.get(path[path.len() - 1]);
-    searched.table.get(next).held.contains(last.lock)
+    let last = search_input.table.get(path[path.len() - 1]);
+    search_input.table.get(next).held.contains(last.lock)
 }

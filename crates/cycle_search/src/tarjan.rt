@@ -7,7 +7,7 @@
 ghost use Rattle.std.specs.Prelude.{◌≡◌, ◌<◌, ℕ, length, Some, slice_get, IfOk, IsTrue, OnOk};
 ghost use Rattle.std.specs.List.Sorted.{IsStrictlyIncreasing};
 ghost use Rattle.lock_graph.specs.Graph.{holders};
-ghost use Rattle.cycle_search.specs.Walk.{left_in, Enters, Stays, StaysOrEnters};
+ghost use Rattle.cycle_search.specs.Walk.{left_in, VisitsLock, KeepsPath, StaysOrEnters};
 
 use lock_graph::LockGraph;
 use std::alloc::Global;
@@ -73,7 +73,7 @@ impl Walk {
         requires { (lock : ℕ) → IsStrictlyIncreasing (holders graph.now lock) }
     {
         if let Some(0) = self.index(lock) {
-            self.enter(lock)?;
+            self.visit(lock)?;
             while self.step(positions, graph)? {}
         }
         Ok(())
@@ -87,9 +87,9 @@ impl Walk {
     }
 
     /// Visits `lock` and appends it to the path.
-    fn enter(&mut self, lock: u32) -> Result<(), NoMemory>
+    fn visit(&mut self, lock: u32) -> Result<(), NoMemory>
         requires { slice_get self.old.indices.items lock ≡ Some 0 }
-        ensures { OnOk result (Enters self.old lock self.new) }
+        ensures { OnOk result (VisitsLock self.old lock self.new) }
     {
         self.visited = self.visited.saturating_add(1);
         self.indices[lock as usize] = self.visited;
@@ -132,7 +132,7 @@ impl Walk {
         ensures { OnOk result (StaysOrEnters self.old next self.new) }
     {
         match self.index(next) {
-            Some(0) => self.enter(next)?,
+            Some(0) => self.visit(next)?,
             Some(index) if self.is_open(next) => self.reaches(lock, index),
             _ => {},
         }
@@ -149,7 +149,7 @@ impl Walk {
 
     /// Notes that `lock` reaches the lock on the stack with this index.
     fn reaches(&mut self, lock: u32, index: u32)
-        ensures { Stays self.old self.new }
+        ensures { KeepsPath self.old self.new }
     {
         if let Some(low_link) = self.low_links.get_mut(lock as usize) {
             *low_link = (*low_link).min(index);
@@ -158,7 +158,7 @@ impl Walk {
 
     /// Leaves a lock all of whose edges were followed.
     fn leave(&mut self, lock: u32)
-        ensures { Stays self.old self.new }
+        ensures { KeepsPath self.old self.new }
     {
         let Some(low_link) = self.low_links.get(lock as usize).copied() else {
             return;
@@ -175,7 +175,7 @@ impl Walk {
     /// Closes the component whose first visited lock is `first`: it consists of the locks on the
     /// stack from `first` on.
     fn close(&mut self, first: u32)
-        ensures { Stays self.old self.new }
+        ensures { KeepsPath self.old self.new }
     {
         let number = self.component;
         while let Some(lock) = self.stack.pop() {

@@ -7,10 +7,10 @@ use Rattle.std.proofs.lemmas.List.Kept.{IsStrictlyIncreasing-filter}
 use Rattle.std.proofs.lemmas.Option.{none-some, same_Some}
 use Rattle.std.specs.List.{filter, Contains}
 use Rattle.std.specs.List.Sorted.{IsStrictlyIncreasing}
-use Rattle.segments.specs.Notes.{places_in, notes_below}
+use Rattle.segments.specs.Notes.{noted_places, notes_below}
 use Rattle.trace_model.specs.Theory.Dependencies.{Dependency}
 use Rattle.trace_model.proofs.Theory.Ascending.{place_of, contains_at}
-use Rattle.dependencies.specs.Tables.{placed, IsListing, IsTotal, IsPart}
+use Rattle.dependencies.specs.Tables.{listing_places, IsListing, IsTotal, IsPart}
 use Rattle.dependencies.specs.Entries.{listing_from, IsKeptOf}
 use Rattle.dependencies.proofs.Shown.{NoneBeyond, known_from, length_from, places_all}
 
@@ -53,19 +53,19 @@ below_exact n xs q = (
 -- ---- notes of places below n
 
 module _ (n : ℕ) (e : ℕ × ℕ) (notes : List (ℕ × ℕ)) where
-  module _ (m : ℕ) (rest : places_in (notes_below n notes) m ≡ below n (places_in notes m)) where
+  module _ (m : ℕ) (rest : noted_places (notes_below n notes) m ≡ below n (noted_places notes m)) where
     yes : ltb e.1 n ≡ true → (c : Bool) →
         map (λ x. x.1) (cond c (e ∷ filter (λ x. x.0 == m) (notes_below n notes)) (filter (λ x. x.0 == m) (notes_below n notes)))
         ≡ below n (map (λ x. x.1) (cond c (e ∷ filter (λ x. x.0 == m) notes) (filter (λ x. x.0 == m) notes)))
-    yes lt true = ap (λ s. e.1 ∷ s) rest ∙ sym (ap (λ b. cond b (e.1 ∷ below n (places_in notes m)) (below n (places_in notes m))) lt)
+    yes lt true = ap (λ s. e.1 ∷ s) rest ∙ sym (ap (λ b. cond b (e.1 ∷ below n (noted_places notes m)) (below n (noted_places notes m))) lt)
     yes lt false = rest
 
     no : ltb e.1 n ≡ false → (c : Bool) →
-        places_in (notes_below n notes) m ≡ below n (map (λ x. x.1) (cond c (e ∷ filter (λ x. x.0 == m) notes) (filter (λ x. x.0 == m) notes)))
-    no lt true = rest ∙ sym (ap (λ b. cond b (e.1 ∷ below n (places_in notes m)) (below n (places_in notes m))) lt)
+        noted_places (notes_below n notes) m ≡ below n (map (λ x. x.1) (cond c (e ∷ filter (λ x. x.0 == m) notes) (filter (λ x. x.0 == m) notes)))
+    no lt true = rest ∙ sym (ap (λ b. cond b (e.1 ∷ below n (noted_places notes m)) (below n (noted_places notes m))) lt)
     no lt false = rest
 
-    pub one_note : (b : Bool) → ltb e.1 n ≡ b → places_in (cond b (e ∷ notes_below n notes) (notes_below n notes)) m ≡ below n (places_in (e ∷ notes) m)
+    pub one_note : (b : Bool) → ltb e.1 n ≡ b → noted_places (cond b (e ∷ notes_below n notes) (notes_below n notes)) m ≡ below n (noted_places (e ∷ notes) m)
     one_note true lt = yes lt (e.0 == m)
     one_note false lt = no lt (e.0 == m)
 
@@ -74,7 +74,7 @@ module _ (n : ℕ) (e : ℕ × ℕ) (notes : List (ℕ × ℕ)) where
   one_place rest true lt = ap (λ s. e.1 ∷ s) rest
   one_place rest false lt = rest
 
-places_below : (n : ℕ) (notes : List (ℕ × ℕ)) (m : ℕ) → places_in (notes_below n notes) m ≡ below n (places_in notes m)
+places_below : (n : ℕ) (notes : List (ℕ × ℕ)) (m : ℕ) → noted_places (notes_below n notes) m ≡ below n (noted_places notes m)
 places_below n [] m = refl
 places_below n (e ∷ notes) m = one_note n e notes m (places_below n notes m) (ltb e.1 n) refl
 
@@ -97,25 +97,25 @@ module _ (ds ds' : List Dependency) (notes notes' : List (ℕ × ℕ)) (numbers 
   count : length ds' ≡ total
   count = ap length first ∙ length-take-le total ds within
 
-  early_in : (m : ℕ) → places_in notes' m ≡ below n (places_in notes m)
-  early_in m = ap (λ xs. places_in xs m) early ∙ places_below n notes m
+  early_in : (m : ℕ) → noted_places notes' m ≡ below n (noted_places notes m)
+  early_in m = ap (λ xs. noted_places xs m) early ∙ places_below n notes m
 
-  all_in : (m : ℕ) → placed (listing_from 0 ds notes) m ≡ places_in notes m
+  all_in : (m : ℕ) → listing_places (listing_from 0 ds notes) m ≡ noted_places notes m
   all_in m = places_all ds notes kept.beyond m
 
   beyond : NoneBeyond ds' notes'
-  beyond m l = none_in (places_in notes' m) (λ q c.
-      let r = (below_exact n (places_in notes m) q).0 (subst (λ (ps : List ℕ). Contains ps q) (early_in m) c) in
+  beyond m l = none_in (noted_places notes' m) (λ q c.
+      let r = (below_exact n (noted_places notes m) q).0 (subst (λ (ps : List ℕ). Contains ps q) (early_in m) c) in
       let low = is_total.none m q (subst (λ (ps : List ℕ). Contains ps q) (sym (all_in m)) r.1) r.0 in
       let len = count in
       omega arith)
 
-  pub part_places : (m : ℕ) → placed (listing_from 0 ds' notes') m ≡ below n (placed (listing_from 0 ds notes) m)
+  pub part_places : (m : ℕ) → listing_places (listing_from 0 ds' notes') m ≡ below n (listing_places (listing_from 0 ds notes) m)
   part_places m = places_all ds' notes' beyond m ∙ early_in m ∙ ap (below n) (sym (all_in m))
 
-  in_part : (m p : ℕ) → Contains (placed (listing_from 0 ds' notes') m) p ↔ ((p < n) × Contains (placed (listing_from 0 ds notes) m) p)
+  in_part : (m p : ℕ) → Contains (listing_places (listing_from 0 ds' notes') m) p ↔ ((p < n) × Contains (listing_places (listing_from 0 ds notes) m) p)
   in_part m p =
-      let exact = below_exact n (placed (listing_from 0 ds notes) m) p in (
+      let exact = below_exact n (listing_places (listing_from 0 ds notes) m) p in (
         (λ c. exact.0 (subst (λ (ps : List ℕ). Contains ps p) (part_places m) c)),
         (λ r. subst (λ (ps : List ℕ). Contains ps p) (sym (part_places m)) (exact.1 r)),
       )
@@ -128,7 +128,7 @@ module _ (ds ds' : List Dependency) (notes notes' : List (ℕ × ℕ)) (numbers 
 
   pub part_listing : IsListing (listing_from 0 ds' notes')
   part_listing = record {
-    ascends = λ m. subst IsStrictlyIncreasing (sym (part_places m)) (IsStrictlyIncreasing-filter (λ p. ltb p n) (placed (listing_from 0 ds notes) m) (listing.ascends m));
+    ascends = λ m. subst IsStrictlyIncreasing (sym (part_places m)) (IsStrictlyIncreasing-filter (λ p. ltb p n) (listing_places (listing_from 0 ds notes) m) (listing.ascends m));
     some = λ m l.
         let len = length_from 0 ds' notes' in
         let c = count in

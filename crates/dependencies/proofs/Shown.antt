@@ -12,13 +12,13 @@ use Rattle.std.specs.Cmp.{IsEquivalence}
 use Rattle.std.specs.Map.{keys_of, lookup}
 use Rattle.indexmap.specs.IndexMap.{IndexMap, insert_entry}
 use Rattle.indexmap.proofs.CallerLemmas.{insert_entry-new}
-use Rattle.segments.specs.Notes.{places_in, Ascend}
+use Rattle.segments.specs.Notes.{noted_places, Ascend}
 use Rattle.trace_model.specs.Theory.Dependencies.{Dependency, same_dependency}
 use Rattle.trace_model.proofs.Theory.Dependencies.{same_dependency_so, same_dependency_itself}
 use Rattle.trace_model.proofs.Lists.{length-push, same_bool, take_next}
 use Rattle.trace_model.proofs.Theory.Ascending.{place_of, contains_at}
 use Rattle.std.specs.List.Sorted.{IsStrictlyIncreasing}
-use Rattle.dependencies.specs.Tables.{named, placed, EndBelow, HaveOneMore}
+use Rattle.dependencies.specs.Tables.{listing_dependencies, listing_places, EndBelow, HaveOneMore}
 use Rattle.dependencies.specs.Entries.{listing_from, IsKeptOf}
 use Rattle.dependencies.proofs.Noting.{noted_known, noted_new, push_increases}
 
@@ -80,7 +80,7 @@ inserted {V} {S} m es d v gone after = ap keys_of (after ∙ insert_entry-new sa
 
 -- ---- tables
 
-pub known_from : (k : ℕ) (ds : List Dependency) (notes : List (ℕ × ℕ)) → named (listing_from k ds notes) ≡ ds
+pub known_from : (k : ℕ) (ds : List Dependency) (notes : List (ℕ × ℕ)) → listing_dependencies (listing_from k ds notes) ≡ ds
 known_from k [] notes = refl
 known_from k (d ∷ ds) notes = ap (λ ks. d ∷ ks) (known_from (suc k) ds notes)
 
@@ -88,29 +88,29 @@ pub length_from : (k : ℕ) (ds : List Dependency) (notes : List (ℕ × ℕ)) �
 length_from k [] notes = refl
 length_from k (d ∷ ds) notes = ap suc (length_from (suc k) ds notes)
 
-pub places_from : (k : ℕ) (ds : List Dependency) (notes : List (ℕ × ℕ)) (m : ℕ) → m < length ds → placed (listing_from k ds notes) m ≡ places_in notes (k + m)
+pub places_from : (k : ℕ) (ds : List Dependency) (notes : List (ℕ × ℕ)) (m : ℕ) → m < length ds → listing_places (listing_from k ds notes) m ≡ noted_places notes (k + m)
 places_from k [] notes m l = absurd (omega arith)
-places_from k (d ∷ ds) notes zero l = let same : k ≡ k + 0 = omega arith in ap (places_in notes) same
+places_from k (d ∷ ds) notes zero l = let same : k ≡ k + 0 = omega arith in ap (noted_places notes) same
 places_from k (d ∷ ds) notes (suc m) l =
     let same : suc k + m ≡ k + suc m = omega arith in
-    places_from (suc k) ds notes m (omega arith) ∙ ap (places_in notes) same
+    places_from (suc k) ds notes m (omega arith) ∙ ap (noted_places notes) same
 
-beyond_from : (k : ℕ) (ds : List Dependency) (notes : List (ℕ × ℕ)) (m : ℕ) → length ds ≤ m → placed (listing_from k ds notes) m ≡ []
+beyond_from : (k : ℕ) (ds : List Dependency) (notes : List (ℕ × ℕ)) (m : ℕ) → length ds ≤ m → listing_places (listing_from k ds notes) m ≡ []
 beyond_from k [] notes m l = refl
 beyond_from k (d ∷ ds) notes zero l = absurd (omega arith)
 beyond_from k (d ∷ ds) notes (suc m) l = beyond_from (suc k) ds notes m (omega arith)
 
 abbrev pub NoneBeyond : List Dependency → List (ℕ × ℕ) → Type 0
-NoneBeyond ds notes = (m : ℕ) → length ds ≤ m → places_in notes m ≡ []
+NoneBeyond ds notes = (m : ℕ) → length ds ≤ m → noted_places notes m ≡ []
 
 -- the places of each number, also of an unknown one
-pub places_all : (ds : List Dependency) (notes : List (ℕ × ℕ)) → NoneBeyond ds notes → (m : ℕ) → placed (listing_from 0 ds notes) m ≡ places_in notes m
+pub places_all : (ds : List Dependency) (notes : List (ℕ × ℕ)) → NoneBeyond ds notes → (m : ℕ) → listing_places (listing_from 0 ds notes) m ≡ noted_places notes m
 places_all ds notes none m = elim (cases_lt m (length ds)) [
-  | inl l ↦ let same : 0 + m ≡ m = omega arith in places_from 0 ds notes m l ∙ ap (places_in notes) same
+  | inl l ↦ let same : 0 + m ≡ m = omega arith in places_from 0 ds notes m l ∙ ap (noted_places notes) same
   | inr l ↦ beyond_from 0 ds notes m l ∙ sym (none m l)
 ]
 
-pub places_push : (notes : List (ℕ × ℕ)) (e : ℕ × ℕ) (m : ℕ) → places_in (notes ++ e ∷ []) m ≡ cond (e.0 == m) (places_in notes m ++ e.1 ∷ []) (places_in notes m)
+pub places_push : (notes : List (ℕ × ℕ)) (e : ℕ × ℕ) (m : ℕ) → noted_places (notes ++ e ∷ []) m ≡ cond (e.0 == m) (noted_places notes m ++ e.1 ∷ []) (noted_places notes m)
 places_push [] e m = go (e.0 == m)
   where
     go : (b : Bool) → map (λ x. x.1) (cond b (e ∷ []) []) ≡ cond b (e.1 ∷ []) []
@@ -118,7 +118,7 @@ places_push [] e m = go (e.0 == m)
     go false = refl
 places_push (y ∷ notes) e m = go (y.0 == m) (e.0 == m) (places_push notes e m)
   where
-    go : (b c : Bool) → places_in (notes ++ e ∷ []) m ≡ cond c (places_in notes m ++ e.1 ∷ []) (places_in notes m) →
+    go : (b c : Bool) → noted_places (notes ++ e ∷ []) m ≡ cond c (noted_places notes m ++ e.1 ∷ []) (noted_places notes m) →
         map (λ x. x.1) (cond b (y ∷ filter (λ x. x.0 == m) (notes ++ e ∷ [])) (filter (λ x. x.0 == m) (notes ++ e ∷ [])))
         ≡ cond c (map (λ x. x.1) (cond b (y ∷ filter (λ x. x.0 == m) notes) (filter (λ x. x.0 == m) notes)) ++ e.1 ∷ []) (map (λ x. x.1) (cond b (y ∷ filter (λ x. x.0 == m) notes) (filter (λ x. x.0 == m) notes)))
     go true true h = ap (λ xs. y.1 ∷ xs) h
@@ -126,13 +126,13 @@ places_push (y ∷ notes) e m = go (y.0 == m) (e.0 == m) (places_push notes e m)
     go false true h = h
     go false false h = h
 
-places_here : (notes : List (ℕ × ℕ)) (n p : ℕ) → places_in (notes ++ (n, p) ∷ []) n ≡ places_in notes n ++ p ∷ []
-places_here notes n p = places_push notes (n, p) n ∙ ap (λ b. cond b (places_in notes n ++ p ∷ []) (places_in notes n)) (eq-eqb n n refl)
+places_here : (notes : List (ℕ × ℕ)) (n p : ℕ) → noted_places (notes ++ (n, p) ∷ []) n ≡ noted_places notes n ++ p ∷ []
+places_here notes n p = places_push notes (n, p) n ∙ ap (λ b. cond b (noted_places notes n ++ p ∷ []) (noted_places notes n)) (eq-eqb n n refl)
 
-places_elsewhere : (notes : List (ℕ × ℕ)) (n p m : ℕ) → n ≢ m → places_in (notes ++ (n, p) ∷ []) m ≡ places_in notes m
-places_elsewhere notes n p m h = places_push notes (n, p) m ∙ ap (λ b. cond b (places_in notes m ++ p ∷ []) (places_in notes m)) (ne_eqb n m h)
+places_elsewhere : (notes : List (ℕ × ℕ)) (n p m : ℕ) → n ≢ m → noted_places (notes ++ (n, p) ∷ []) m ≡ noted_places notes m
+places_elsewhere notes n p m h = places_push notes (n, p) m ∙ ap (λ b. cond b (noted_places notes m ++ p ∷ []) (noted_places notes m)) (ne_eqb n m h)
 
-pub beyond_push : (ds : List Dependency) (notes : List (ℕ × ℕ)) (n p k : ℕ) → NoneBeyond ds notes → length ds ≤ k → n < k → (m : ℕ) → k ≤ m → places_in (notes ++ (n, p) ∷ []) m ≡ []
+pub beyond_push : (ds : List Dependency) (notes : List (ℕ × ℕ)) (n p k : ℕ) → NoneBeyond ds notes → length ds ≤ k → n < k → (m : ℕ) → k ≤ m → noted_places (notes ++ (n, p) ∷ []) m ≡ []
 beyond_push ds notes n p k none l b m h = places_elsewhere notes n p m (λ e. omega arith) ∙ none m (omega arith)
 
 -- one more place of a known number
@@ -150,13 +150,13 @@ known_noted ds notes notes' p d n none at within is =
     none' : NoneBeyond ds (notes ++ (n, p) ∷ [])
     none' = beyond_push ds notes n p (length ds) none (omega arith) within
 
-from_push : (k : ℕ) (ds : List Dependency) (d : Dependency) (notes notes' : List (ℕ × ℕ)) → ((m : ℕ) → m < k + length ds → places_in notes' m ≡ places_in notes m) →
-    listing_from k (ds ++ d ∷ []) notes' ≡ listing_from k ds notes ++ (d, places_in notes' (k + length ds)) ∷ []
-from_push k [] d notes notes' h = let same : k ≡ k + 0 = omega arith in ap (λ i. (d, places_in notes' i) ∷ []) same
+from_push : (k : ℕ) (ds : List Dependency) (d : Dependency) (notes notes' : List (ℕ × ℕ)) → ((m : ℕ) → m < k + length ds → noted_places notes' m ≡ noted_places notes m) →
+    listing_from k (ds ++ d ∷ []) notes' ≡ listing_from k ds notes ++ (d, noted_places notes' (k + length ds)) ∷ []
+from_push k [] d notes notes' h = let same : k ≡ k + 0 = omega arith in ap (λ i. (d, noted_places notes' i) ∷ []) same
 from_push k (x ∷ ds) d notes notes' h =
     let same : suc k + length ds ≡ k + suc (length ds) = omega arith in
     ap (λ ps. (x, ps) ∷ listing_from (suc k) (ds ++ d ∷ []) notes') (h k (omega arith))
-    ∙ ap (λ t. (x, places_in notes k) ∷ t) (from_push (suc k) ds d notes notes' (λ m l. h m (omega arith)) ∙ ap (λ i. listing_from (suc k) ds notes ++ (d, places_in notes' i) ∷ []) same)
+    ∙ ap (λ t. (x, noted_places notes k) ∷ t) (from_push (suc k) ds d notes notes' (λ m l. h m (omega arith)) ∙ ap (λ i. listing_from (suc k) ds notes ++ (d, noted_places notes' i) ∷ []) same)
 
 -- a new dependency with its first place
 pub new_noted : (ds ds' : List Dependency) (notes notes' : List (ℕ × ℕ)) (p : ℕ) (d : Dependency) (n : ℕ) → NoneBeyond ds notes → list_any (same_dependency d) ds ≡ false → n ≡ length ds →
@@ -164,11 +164,11 @@ pub new_noted : (ds ds' : List Dependency) (notes notes' : List (ℕ × ℕ)) (p
 new_noted ds ds' notes notes' p d n none gone at is keys =
     let len = length_from 0 ds notes in
     let zero_n : 0 + length ds ≡ n = omega arith in
-    let first : places_in notes' n ≡ p ∷ [] = ap (λ xs. places_in xs n) is ∙ places_here notes n p ∙ ap (λ xs. xs ++ p ∷ []) (none n (omega arith)) in
+    let first : noted_places notes' n ≡ p ∷ [] = ap (λ xs. noted_places xs n) is ∙ places_here notes n p ∙ ap (λ xs. xs ++ p ∷ []) (none n (omega arith)) in
     let table : listing_from 0 ds' notes' ≡ listing_from 0 ds notes ++ (d, p ∷ []) ∷ [] =
     ap (λ ks. listing_from 0 ks notes') keys
-    ∙ from_push 0 ds d notes notes' (λ m l. ap (λ xs. places_in xs m) is ∙ places_elsewhere notes n p m (λ e. omega arith))
-    ∙ ap (λ ps. listing_from 0 ds notes ++ (d, ps) ∷ []) (ap (places_in notes') zero_n ∙ first) in
+    ∙ from_push 0 ds d notes notes' (λ m l. ap (λ xs. noted_places xs m) is ∙ places_elsewhere notes n p m (λ e. omega arith))
+    ∙ ap (λ ps. listing_from 0 ds notes ++ (d, ps) ∷ []) (ap (noted_places notes') zero_n ∙ first) in
     subst (λ t. HaveOneMore (listing_from 0 ds notes) p d n t) (sym table)
     (subst (λ i. HaveOneMore (listing_from 0 ds notes) p d i (listing_from 0 ds notes ++ (d, p ∷ []) ∷ [])) (len ∙ sym at)
     (noted_new (listing_from 0 ds notes) p d (ap (list_any (same_dependency d)) (known_from 0 ds notes) ∙ gone)))
@@ -186,22 +186,22 @@ place_push [] e = refl
 place_push (y ∷ notes) e = ap (λ s. y.1 ∷ s) (place_push notes e)
 
 -- each place is one of some number
-noted_at : (notes : List (ℕ × ℕ)) (k q : ℕ) → slice_get (map (λ x. x.1) notes) k ≡ Some q → (m : ℕ) × Contains (places_in notes m) q
+noted_at : (notes : List (ℕ × ℕ)) (k q : ℕ) → slice_get (map (λ x. x.1) notes) k ≡ Some q → (m : ℕ) × Contains (noted_places notes m) q
 noted_at [] k q h = absurd (none-some q h)
-noted_at (e ∷ notes) zero q h = (e.0, contains_at (places_in (e ∷ notes) e.0) q 0 (go (e.0 == e.0) (eq-eqb e.0 e.0 refl)))
+noted_at (e ∷ notes) zero q h = (e.0, contains_at (noted_places (e ∷ notes) e.0) q 0 (go (e.0 == e.0) (eq-eqb e.0 e.0 refl)))
   where
     go : (b : Bool) → b ≡ true → slice_get (map (λ x. x.1) (cond b (e ∷ filter (λ x. x.0 == e.0) notes) (filter (λ x. x.0 == e.0) notes))) 0 ≡ Some q
     go true t = h
     go false t = absurd (true≢false (sym t))
 noted_at (e ∷ notes) (suc k) q h =
     let later = noted_at notes k q h in
-    let at = place_of (places_in notes later.0) q later.1 in
+    let at = place_of (noted_places notes later.0) q later.1 in
     (later.0, go (e.0 == later.0) later.0 at.0 at.1)
   where
-    go : (b : Bool) (m j : ℕ) → slice_get (places_in notes m) j ≡ Some q →
+    go : (b : Bool) (m j : ℕ) → slice_get (noted_places notes m) j ≡ Some q →
         Contains (map (λ x. x.1) (cond b (e ∷ filter (λ x. x.0 == m) notes) (filter (λ x. x.0 == m) notes))) q
-    go true m j k = contains_at (e.1 ∷ places_in notes m) q (suc j) k
-    go false m j k = contains_at (places_in notes m) q j k
+    go true m j k = contains_at (e.1 ∷ noted_places notes m) q (suc j) k
+    go false m j k = contains_at (noted_places notes m) q j k
 
 noted_below : (ds : List Dependency) (notes : List (ℕ × ℕ)) (p k q : ℕ) → NoneBeyond ds notes → EndBelow (listing_from 0 ds notes) p → slice_get (map (λ x. x.1) notes) k ≡ Some q → q < p
 noted_below ds notes p k q none below h =
@@ -243,7 +243,7 @@ pub kept_known : (ds : List Dependency) (notes notes' : List (ℕ × ℕ)) (p n 
     notes' ≡ notes ++ (n, p) ∷ [] → k' ≡ cond (nat_eq n k) (k + 1) k → IsKeptOf ds notes' k'
 kept_known ds notes notes' p n k k' kept below within is after = record {
   counted = let c = kept.counted in let g = numbers_grow n k k' (omega arith) after in let l = g.0 in omega arith;
-  beyond = λ m l. ap (λ xs. places_in xs m) is ∙ beyond_push ds notes n p (length ds) kept.beyond (omega arith) within m l;
+  beyond = λ m l. ap (λ xs. noted_places xs m) is ∙ beyond_push ds notes n p (length ds) kept.beyond (omega arith) within m l;
   ascend = ascend_push ds notes notes' n p kept.beyond kept.ascend below is;
 }
 
@@ -256,7 +256,7 @@ kept_new ds ds' notes notes' p d n k k' kept below at is keys after =
     let l = g.1 in
     record {
       counted = omega arith;
-      beyond = λ m l. ap (λ xs. places_in xs m) is ∙ beyond_push ds notes n p (length ds') kept.beyond (omega arith) (omega arith) m l;
+      beyond = λ m l. ap (λ xs. noted_places xs m) is ∙ beyond_push ds notes n p (length ds') kept.beyond (omega arith) (omega arith) m l;
       ascend = ascend_push ds notes notes' n p kept.beyond kept.ascend below is;
     }
 

@@ -5,13 +5,13 @@ use Rattle.trace_model.specs.Theory.Dependencies.{Dependency, same_dependency}
 
 -- Distinct dependencies in order, the number of them that are in the hash map, and whether memory
 -- is reserved for one more.
-pub record Listed : Type 0 where
+pub record KeysView : Type 0 where
   pub keys : List Dependency
   pub numbered : ℕ
   pub room : Bool
 
 -- The value of a list. Memory is reserved if the hash map is complete and both have spare capacity.
-abbrev pub listed_by : List Dependency × Bool → List Dependency → ℕ → Listed
+abbrev pub listed_by : List Dependency × Bool → List Dependency → ℕ → KeysView
 listed_by list numbered spare = record {
   keys = list.0;
   numbered = length numbered;

@@ -2,8 +2,8 @@
 
 ghost use Rattle.std.specs.Prelude.{◌≡◌, ◌≤◌, ◌<◌, [], length, Some, slice_get, true, OnOk, IfOk};
 ghost use Rattle.std.specs.List.Sorted.{IsStrictlyIncreasing};
-ghost use Rattle.dependencies.specs.Tables.{named, placed, IsListing, EndBelow, HaveOneMore, IsPart, IsTotal};
-ghost use Rattle.dependencies.specs.Entries.{listing_of, shown_by, IsKept};
+ghost use Rattle.dependencies.specs.Tables.{listing_dependencies, listing_places, IsListing, EndBelow, HaveOneMore, IsPart, IsTotal};
+ghost use Rattle.dependencies.specs.Entries.{listing_of, shown_by, AreRightEntries};
 
 use crate::Dependency;
 use crate::keys::Keys;
@@ -23,7 +23,7 @@ impl Entries {
     /// Returns the empty entries.
     pub(crate) fn new(alloc: Global, state: RandomState) -> Entries
         ensures shown { listing_of result ≡ [] }
-        ensures kept { IsKept result }
+        ensures kept { AreRightEntries result }
     {
         Entries {
             keys: Keys::new(alloc, state),
@@ -42,7 +42,7 @@ impl Entries {
     /// Returns the dependency with this number.
     pub(crate) fn dependency(&self, number: usize) -> &Dependency
         requires { number < length (listing_of self.now) }
-        ensures { slice_get (named (listing_of self.now)) number ≡ Some result.now }
+        ensures { slice_get (listing_dependencies (listing_of self.now)) number ≡ Some result.now }
     {
         self.keys.get(number)
     }
@@ -50,8 +50,8 @@ impl Entries {
     /// Returns the places of a number.
     pub(crate) fn places(&self, number: u32) -> PlacesOf<'_>
         requires known { number < length (listing_of self.now) }
-        requires ascends { IsStrictlyIncreasing (placed (listing_of self.now) number) }
-        ensures { result ≡ placed (listing_of self.now) number }
+        requires ascends { IsStrictlyIncreasing (listing_places (listing_of self.now) number) }
+        ensures { result ≡ listing_places (listing_of self.now) number }
     {
         self.places.places(number)
     }
@@ -60,7 +60,7 @@ impl Entries {
     pub(crate) fn reserve(&mut self) -> Result<(), NoMemory>
         requires { length (listing_of self.old) ≤ 4294967296 }
         ensures shown { listing_of self.new ≡ listing_of self.old }
-        ensures kept { IsKept self.old → IsKept self.new }
+        ensures kept { AreRightEntries self.old → AreRightEntries self.new }
         ensures ok { OnOk result ((shown_by self.new).room ≡ true) }
     {
         self.keys.reserve()?;
@@ -71,12 +71,12 @@ impl Entries {
     /// Adds a place of the dependency, and returns its number. Memory must be reserved.
     pub(crate) fn record(&mut self, place: Place, dependency: Dependency) -> usize
         requires room { (shown_by self.old).room ≡ true }
-        requires kept { IsKept self.old }
+        requires kept { AreRightEntries self.old }
         requires listing { IsListing (listing_of self.old) }
         requires below { EndBelow (listing_of self.old) place }
         ensures noted { HaveOneMore (listing_of self.old) place dependency result
             (listing_of self.new) }
-        ensures kept { IsKept self.new }
+        ensures kept { AreRightEntries self.new }
     {
         let _index = place.get(); // for the proof: the range of a place bounds the numbers
         match self.keys.number_of(&dependency) {
@@ -95,13 +95,13 @@ impl Entries {
 
     /// Returns the dependencies below `total`, with their places below `bound`.
     pub(crate) fn share(&self, total: usize, bound: u32) -> Result<Entries, NoMemory>
-        requires kept { IsKept self.now }
+        requires kept { AreRightEntries self.now }
         requires listing { IsListing (listing_of self.now) }
         requires total { IsTotal (listing_of self.now) total bound }
         ensures part { IfOk result (λ part.
             IsPart (listing_of self.now) total bound (listing_of part)) }
         ensures listing { IfOk result (λ part. IsListing (listing_of part)) }
-        ensures kept { IfOk result IsKept }
+        ensures kept { IfOk result AreRightEntries }
     {
         Ok(Entries {
             keys: self.keys.share(total)?,

@@ -34,9 +34,9 @@ fn cache_key(dependency: &Dependency) -> u32 {
 impl Model for Keys {
     ghost use Rattle.std.specs.Map.{keys_of};
     ghost use Rattle.indexmap.specs.IndexMap.{spare};
-    ghost use Rattle.dependencies.specs.Keys.{Listed, listed_by, AreListed};
+    ghost use Rattle.dependencies.specs.Keys.{KeysView, listed_by, AreListed};
 
-    ghost Value = { Listed };
+    ghost Value = { KeysView };
 
     ghost view = { λ k. listed_by k.list (keys_of k.numbers.entries) (spare k.numbers) };
 

@@ -1,7 +1,7 @@
 //! The dependencies of a trace that grows, numbered by first appearance.
 
 ghost use Rattle.std.specs.Prelude.{◌≡◌, ◌<◌, ◌≤◌, [], nat_eq, length, Some, slice_get, true, IfOk, OnOk, OnErr};
-ghost use Rattle.dependencies.specs.Tables.{known, places_of, AllBelow, IsNoted, IsPart, IsTotal};
+ghost use Rattle.dependencies.specs.Tables.{table_dependencies, dependency_places, AllBelow, IsNoted, IsPart, IsTotal};
 
 use crate::Dependency;
 use crate::entries::Entries;
@@ -18,14 +18,14 @@ pub struct DepTable {
 }
 
 impl Model for DepTable {
-    ghost use Rattle.dependencies.specs.Tables.{Table, IsListing};
-    ghost use Rattle.dependencies.specs.Entries.{shown_by, listing_of, IsKept};
+    ghost use Rattle.dependencies.specs.Tables.{DependencyTable, IsListing};
+    ghost use Rattle.dependencies.specs.Entries.{shown_by, listing_of, AreRightEntries};
 
-    ghost Value = { Table };
+    ghost Value = { DependencyTable };
 
     ghost view = { λ t. shown_by t.entries };
 
-    ghost invariant = { λ t. IsListing (listing_of t.entries) × IsKept t.entries };
+    ghost invariant = { λ t. IsListing (listing_of t.entries) × AreRightEntries t.entries };
 }
 
 impl DepTable {
@@ -40,23 +40,23 @@ impl DepTable {
 
     /// Returns the number of dependencies. Does not allocate.
     pub fn len(&self) -> usize
-        ensures value { result ≡ length (known self.now) }
-        ensures few { length (known self.now) ≤ 4294967296 }
+        ensures value { result ≡ length (table_dependencies self.now) }
+        ensures few { length (table_dependencies self.now) ≤ 4294967296 }
     {
         self.entries.len()
     }
 
     /// Returns whether there is no dependency. Does not allocate.
     pub fn is_empty(&self) -> bool
-        ensures { result ≡ nat_eq (length (known self.now)) 0 }
+        ensures { result ≡ nat_eq (length (table_dependencies self.now)) 0 }
     {
         self.len() == 0
     }
 
     /// Returns the dependency with this number, which must be below `len()`. Does not allocate.
     pub fn get(&self, number: u32) -> &Dependency
-        requires { number < length (known self.now) }
-        ensures { slice_get (known self.now) number ≡ Some result.now }
+        requires { number < length (table_dependencies self.now) }
+        ensures { slice_get (table_dependencies self.now) number ≡ Some result.now }
     {
         self.entries.dependency(number as usize)
     }
@@ -64,8 +64,8 @@ impl DepTable {
     /// Returns the places of the dependency with this number, which must be below `len()`:
     /// ascending, read by index. Does not allocate.
     pub fn places(&self, number: u32) -> PlacesOf<'_>
-        requires { number < length (known self.now) }
-        ensures { result ≡ places_of self.now number }
+        requires { number < length (table_dependencies self.now) }
+        ensures { result ≡ dependency_places self.now number }
     {
         self.entries.places(number)
     }
@@ -87,7 +87,8 @@ impl DepTable {
         Ok(self.record(place, dependency))
     }
 
-    /// Reserves memory for one more place of `dependency`. The dependencies and places do not change.
+    /// Reserves memory for one more place of `dependency`. The dependencies and places do not
+    /// change.
     ///
     /// # Errors
     ///

@@ -2,5 +2,5 @@ pub mod Known
 pub mod Outcome
 pub mod Steps
 pub mod Together
-pub mod Told
+pub mod Responses
 pub mod Turns

@@ -5,8 +5,8 @@ use Rattle.trace_model.specs.declared.messages.step.BoardStep.{BoardStep}
 use Rattle.trace_model.specs.declared.refusal.Refusal.{Refusal}
 use Rattle.trace_model.specs.Protocol.Machine.{State}
 use Rattle.trace_model.specs.Protocol.Runs.{IsLegal}
-use Rattle.snapshots.specs.Found.{AreRowsOf, FoundRows}
-use Rattle.sequencer.specs.Deliveries.{Delivered, delivery}
+use Rattle.snapshots.specs.Found.{AreRowsOf, RowsOfTask}
+use Rattle.sequencer.specs.Deliveries.{DeliveryResult, delivery}
 use Rattle.desk.specs.Deliveries.{WentSo}
 use Rattle.desk.specs.Published.{After, Afterwards, EndsBy, DeskView, delivery_step}
 use Rattle.desk.specs.Refused.{RefusesFinding}
@@ -38,18 +38,18 @@ if_ok (Ok a) P h = h
 if_ok (Err e) P h = tt
 
 -- an answer is the machine's after the receipt's run
-pub told_after : {A E : Type 0} (limit : ℕ) (old new : DeskView) (run : List BoardStep) (outcome : Result A E) (So : A → State → Type 0) → After limit old.published old.state → run ≡ new.published →
+pub outcome_after : {A E : Type 0} (limit : ℕ) (old new : DeskView) (run : List BoardStep) (outcome : Result A E) (So : A → State → Type 0) → After limit old.published old.state → run ≡ new.published →
     new ≡ old → IfOk outcome (λ a. So a old.state) → IfOk outcome (λ a. Afterwards limit run (So a))
-told_after limit old new run (Ok a) So before is same so =
+outcome_after limit old new run (Ok a) So before is same so =
     (old.state, subst (λ (r : List BoardStep). After limit r old.state) (sym (is ∙ ap (λ (k : DeskView). k.published) same)) before, so)
-told_after limit old new run (Err e) So before is same so = tt
+outcome_after limit old new run (Err e) So before is same so = tt
 
 pub on_err : {A E : Type 0} {P : Type 0} (outcome : Result A E) → P → OnErr outcome P
 on_err (Ok a) h = tt
 on_err (Err e) h = h
 
 -- the outcome of one finding at a desk
-pub record IsToldOf (limit : ℕ) (f : FoundRows) (outcome : Delivered) (run : List BoardStep) : Type 0 where
+pub record IsResponseOf (limit : ℕ) (f : RowsOfTask) (outcome : DeliveryResult) (run : List BoardStep) : Type 0 where
   pub taken : OnOk outcome (EndsBy limit run (delivery_step f) (λ state next. delivery state f ≡ (None, next)))
   pub exact : OnOk outcome (AreRowsOf f.events f.bound f.task f.rows)
   pub refused : IfErr outcome (λ refused. Afterwards limit run (λ state. RefusesFinding state f refused.0))
@@ -57,16 +57,16 @@ pub record IsToldOf (limit : ℕ) (f : FoundRows) (outcome : Delivered) (run : L
   pub legal : IsLegal run
 
 -- the receipt names the steps that are published afterwards
-pub told_of : (limit : ℕ) (old new : DeskView) (f : FoundRows) (outcome : Delivered) (run : List BoardStep) → After limit old.published old.state → After limit new.published new.state →
-    WentSo old new f outcome → run ≡ new.published → IsLegal new.published → IsToldOf limit f outcome run
-told_of limit old new f (Ok u) run before after went is legal = record {
-  taken = ended_by {E = Refusal × FoundRows} limit old new run (Ok u) (λ _. delivery_step f) (λ _ state next. delivery state f ≡ (None, next)) before after is went.published went.taken;
+pub response_of : (limit : ℕ) (old new : DeskView) (f : RowsOfTask) (outcome : DeliveryResult) (run : List BoardStep) → After limit old.published old.state → After limit new.published new.state →
+    WentSo old new f outcome → run ≡ new.published → IsLegal new.published → IsResponseOf limit f outcome run
+response_of limit old new f (Ok u) run before after went is legal = record {
+  taken = ended_by {E = Refusal × RowsOfTask} limit old new run (Ok u) (λ _. delivery_step f) (λ _ state next. delivery state f ≡ (None, next)) before after is went.published went.taken;
   exact = went.exact;
   refused = tt;
   back = tt;
   legal = subst IsLegal (sym is) legal;
 }
-told_of limit old new f (Err refused) run before after went is legal = record {
+response_of limit old new f (Err refused) run before after went is legal = record {
   taken = tt;
   exact = tt;
   refused = refused_after {A = Unit {0}} limit old new run (Err refused) (λ r state. RefusesFinding state f r.0) before is went.same went.refuses;

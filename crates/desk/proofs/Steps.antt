@@ -17,15 +17,15 @@ use Rattle.trace_model.specs.Theory.Dependencies.{dependencies}
 use Rattle.trace_model.specs.Protocol.Machine.{State, opening, ask_refused, ask_reply, ask_next, deliver_next, deliver_refused, offer_reply, offer_next, step, with_event, with_question}
 use Rattle.trace_model.specs.Protocol.Runs.{IsLegal, TakesStep}
 use Rattle.trace_model.proofs.Protocol.Taking.{machine_steps, one_takes, run_legal, run_push}
-use Rattle.snapshots.specs.Found.{AreRowsOf, FoundRows}
+use Rattle.snapshots.specs.Found.{AreRowsOf, RowsOfTask}
 use Rattle.sequencer.specs.declared.asking.Opened.{Opened}
 use Rattle.sequencer.specs.declared.batching.Batched.{Batched}
 use Rattle.sequencer.specs.Batched.{EndsBatch, FirstIsReserved, IsBatched}
 use Rattle.sequencer.specs.Book as books
 use Rattle.sequencer.specs.Book.{RefusesOffer, findings_rows, opened_reply}
-use Rattle.sequencer.specs.Printing.{printing}
+use Rattle.sequencer.specs.Printing.{report_printer}
 use Rattle.sequencer.specs.Deliveries.{delivery}
-use Rattle.desk.specs.Batches.{accepting}
+use Rattle.desk.specs.Batches.{accept_steps}
 use Rattle.desk.specs.Published.{After, IsDesk, DeskView, delivery_step}
 use Rattle.desk.specs.Refused.{RefusesFinding}
 
@@ -109,35 +109,35 @@ takes_batch s next events b (some, few) came h =
     ((omega (arith, length-take b.accepted events), omega (arith, length-take b.accepted events)), h.lawful, h.appended)
 
 -- the step of a batch with accepted events
-pub accepting_some : (events : List Event) (n : ℕ) → 1 ≤ n → 1 ≤ length events → accepting (take n events) ≡ Accept (take n events) ∷ []
+pub accepting_some : (events : List Event) (n : ℕ) → 1 ≤ n → 1 ≤ length events → accept_steps (take n events) ≡ Accept (take n events) ∷ []
 accepting_some [] n came some = absurd (omega (arith, some))
 accepting_some (e ∷ events) zero came some = absurd (omega (arith, came))
 accepting_some (e ∷ events) (suc n) came some = refl
 
 pub takes_ask : (s now next : State) (bound asked : ℕ) (opened : Opened) → now ≡ s → asked ≡ bound → ask_refused s bound ≡ None →
-    (step printing now (Ask asked)).0 ≡ opened_reply opened → next ≡ with_question now asked → Takes s (Open bound opened.total) next
+    (step report_printer now (Ask asked)).0 ≡ opened_reply opened → next ≡ with_question now asked → Takes s (Open bound opened.total) next
 takes_ask s now next bound asked opened shown same none replies is =
     let before = sym shown in
     let given = sym same in
-    let told : ask_reply s None ≡ opened_reply opened = ap (ask_reply s) (sym none) ∙ ((λ i. (step printing (before i) (Ask (given i))).0) ∙ replies) in
-    let total : length (dependencies s.accepted) ≡ opened.total = cc told in
+    let response : ask_reply s None ≡ opened_reply opened = ap (ask_reply s) (sym none) ∙ ((λ i. (step report_printer (before i) (Ask (given i))).0) ∙ replies) in
+    let total : length (dependencies s.accepted) ≡ opened.total = cc response in
     (none, sym total, is ∙ (λ i. with_question (shown i) (same i)))
 
 -- ---- what it answers
 
 pub steps_offer : (s now next : State) (e : Event) (place : ℕ) → now ≡ s → refusal_of s.limit s.accepted e ≡ None → place ≡ length now.accepted → next ≡ with_event now e →
-    step printing s (Offer e) ≡ (Placed place, next)
+    step report_printer s (Offer e) ≡ (Placed place, next)
 steps_offer s now next e place shown none at is =
     ap (λ o. (offer_reply s o, offer_next s e o)) none
     ∙ (λ i. (Placed ((ap (λ (x : State). length x.accepted) (sym shown) ∙ sym at) i), (ap (λ (x : State). with_event x e) (sym shown) ∙ sym is) i))
 
 pub steps_ask : (s now next : State) (bound asked : ℕ) (opened : Opened) → now ≡ s → asked ≡ bound → ask_refused s bound ≡ None →
-    (step printing now (Ask asked)).0 ≡ opened_reply opened → next ≡ with_question now asked → step printing s (Ask bound) ≡ (opened_reply opened, next)
+    (step report_printer now (Ask asked)).0 ≡ opened_reply opened → next ≡ with_question now asked → step report_printer s (Ask bound) ≡ (opened_reply opened, next)
 steps_ask s now next bound asked opened shown same none replies is =
-    let told : ask_reply s None ≡ opened_reply opened = ap (ask_reply s) (sym none) ∙ ((λ i. (step printing (sym shown i) (Ask (sym same i))).0) ∙ replies) in
-    ap (λ o. (ask_reply s o, ask_next s bound o)) none ∙ (λ i. (told i, ((λ j. with_question (sym shown j) (sym same j)) ∙ sym is) i))
+    let response : ask_reply s None ≡ opened_reply opened = ap (ask_reply s) (sym none) ∙ ((λ i. (step report_printer (sym shown i) (Ask (sym same i))).0) ∙ replies) in
+    ap (λ o. (ask_reply s o, ask_next s bound o)) none ∙ (λ i. (response i, ((λ j. with_question (sym shown j) (sym same j)) ∙ sym is) i))
 
-pub takes_finding : (s next : State) (f : FoundRows) → None ≡ deliver_refused s f.question f.bound f.events f.task → delivery s f ≡ (None, next) →
+pub takes_finding : (s next : State) (f : RowsOfTask) → None ≡ deliver_refused s f.question f.bound f.events f.task → delivery s f ≡ (None, next) →
     AreRowsOf f.events f.bound f.task f.rows → Takes s (delivery_step f) next
 takes_finding s next f none is exact =
     let rows = findings_rows f in
@@ -153,7 +153,7 @@ first_admitted book s events d some shown reserved none =
 
 -- ---- what it refuses
 
-pub refuses_finding : (s : State) (f : FoundRows) (r : Refusal) → Some r ≡ deliver_refused s f.question f.bound f.events f.task → RefusesFinding s f r
+pub refuses_finding : (s : State) (f : RowsOfTask) (r : Refusal) → Some r ≡ deliver_refused s f.question f.bound f.events f.task → RefusesFinding s f r
 refuses_finding s f r is = inl (ap (λ o. (o, deliver_next s f.question f.task (findings_rows f) o)) (sym is))
 
 -- no event of a batch is accepted if its first event is refused
@@ -171,5 +171,5 @@ none_batched s next events d r out shown some refuses none refusal long =
     } in
     subst (λ (o : Batched). IsBatched s events o next) (sym is) (subst (IsBatched s events (record { accepted = 0; refusal = Some r; length = length s.accepted })) (sym shown) same)
 
-pub none_accepted : (run shown : List BoardStep) (events : List Event) (n : ℕ) → run ≡ shown → n ≡ 0 → run ≡ shown ++ accepting (take n events)
-none_accepted run shown events n same none = same ∙ (sym (append-nil shown) ∙ ap (λ k. shown ++ accepting (take k events)) (sym none))
+pub none_accepted : (run shown : List BoardStep) (events : List Event) (n : ℕ) → run ≡ shown → n ≡ 0 → run ≡ shown ++ accept_steps (take n events)
+none_accepted run shown events n same none = same ∙ (sym (append-nil shown) ∙ ap (λ k. shown ++ accept_steps (take k events)) (sym none))

@@ -9,9 +9,9 @@ use Rattle.sequencer.specs.declared.batching.Batched.{Batched}
 use Rattle.desk.specs.Published.{After}
 
 -- the one step that publishes the accepted events, or none if there are none
-abbrev pub accepting : List Event → List BoardStep
-accepting [] = []
-accepting (e ∷ events) = Accept (e ∷ events) ∷ []
+abbrev pub accept_steps : List Event → List BoardStep
+accept_steps [] = []
+accept_steps (e ∷ events) = Accept (e ∷ events) ∷ []
 
 -- the run ends with the step of the accepted events, and the refusal of the next event is right
 -- after it
@@ -20,7 +20,7 @@ pub record EndsByBatch (limit : ℕ) (run : List BoardStep) (events : List Event
   pub before : List BoardStep
   pub state : State
   pub next : State
-  pub ends : run ≡ before ++ accepting (take batched.accepted events)
+  pub ends : run ≡ before ++ accept_steps (take batched.accepted events)
   pub was : After limit before state
   pub is : After limit run next
   pub went : IsBatched state events batched next

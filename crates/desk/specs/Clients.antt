@@ -33,7 +33,7 @@ RepliesAfter limit request reply run = MatchOption (published_as request reply)
 
 -- The client has then seen a run that extends all that it had seen. The reply is the desk's after
 -- this run.
-pub record IsTold (limit : ℕ) (old : ReaderView) (request : Request) (reply : Reply)
+pub record IsResponse (limit : ℕ) (old : ReaderView) (request : Request) (reply : Reply)
     (new : ReaderView) : Type 0 where
   pub later : IsPrefix old.known new.known
   pub replies : RepliesAfter limit request reply new.known
@@ -51,4 +51,4 @@ IsStatus old question reply new =
 -- the desk's
 abbrev pub StepsAtDesk : ℕ → ReaderView → Request → Reply → ReaderView → Type 0
 StepsAtDesk limit old (Status question) reply new = IsStatus old question reply new
-StepsAtDesk limit old request reply new = IsTold limit old request reply new
+StepsAtDesk limit old request reply new = IsResponse limit old request reply new

@@ -7,7 +7,7 @@ use Rattle.trace_model.specs.declared.messages.step.BoardStep.TheVariants.{Deliv
 use Rattle.trace_model.specs.Theory.Rows.{AreRows}
 use Rattle.trace_model.specs.Protocol.Machine.{State, opening, is_confirmed}
 use Rattle.trace_model.specs.Protocol.Runs.{IsRun}
-use Rattle.snapshots.specs.Found.{FoundRows}
+use Rattle.snapshots.specs.Found.{RowsOfTask}
 use Rattle.sequencer.specs.Book.{findings_rows}
 use Rattle.sequencer.specs.Deliveries.{delivery}
 
@@ -27,7 +27,7 @@ pub record IsDesk (limit : ℕ) (published waiting : List BoardStep) (state : St
   pub rests : waiting ≡ []
 
 -- the step that publishes a finding
-abbrev pub delivery_step : FoundRows → BoardStep
+abbrev pub delivery_step : RowsOfTask → BoardStep
 delivery_step f = Deliver f.question f.task (length (findings_rows f))
     (count_by is_confirmed (findings_rows f))
 
@@ -43,7 +43,7 @@ pub record EndsBy (limit : ℕ) (run : List BoardStep) (last : BoardStep) (went 
   pub took : went state next
 
 -- the last step of the run takes the finding
-abbrev pub WasTaken : ℕ → FoundRows → List BoardStep → Type 0
+abbrev pub WasTaken : ℕ → RowsOfTask → List BoardStep → Type 0
 WasTaken limit f run =
     EndsBy limit run (delivery_step f) (λ state next. delivery state f ≡ (None, next))
 

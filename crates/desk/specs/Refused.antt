@@ -3,8 +3,8 @@ use Rattle.std.specs.Prelude.{◌≡◌, ℕ, ◌≤◌, ◌⊎◌, Some, None}
 use Rattle.trace_model.specs.declared.refusal.Refusal.{Refusal}
 use Rattle.trace_model.specs.declared.refusal.Refusal.TheVariants.{NoMemory, BoardBusy, TooManyCycles}
 use Rattle.trace_model.specs.Protocol.Machine.{State}
-use Rattle.snapshots.specs.Found.{FoundRows}
-use Rattle.sequencer.specs.Book.{IsLimit}
+use Rattle.snapshots.specs.Found.{RowsOfTask}
+use Rattle.sequencer.specs.Book.{IsBookLimit}
 use Rattle.sequencer.specs.Deliveries.{delivery}
 use Rattle.desk.specs.declared.worker.TurnFailure.{TurnFailure}
 use Rattle.desk.specs.declared.worker.TurnFailure.TheVariants as NoTurn
@@ -17,12 +17,12 @@ IsCount readers = (1 ≤ readers) × (readers ≤ 40)
 
 -- the reason why no desk was created with this limit and number of readers is right
 abbrev pub RefusesDesk : ℕ → ℕ → DeskRefused → Type 0
-RefusesDesk limit readers BadLimit = IsLimit limit → ⊥
-RefusesDesk limit readers BadCount = IsLimit limit × (IsCount readers → ⊥)
-RefusesDesk limit readers NotMade = IsLimit limit × IsCount readers
+RefusesDesk limit readers BadLimit = IsBookLimit limit → ⊥
+RefusesDesk limit readers BadCount = IsBookLimit limit × (IsCount readers → ⊥)
+RefusesDesk limit readers NotMade = IsBookLimit limit × IsCount readers
 
 -- the refusal is the machine's; or it is `NoMemory` and the machine takes the finding
-abbrev pub RefusesFinding : State → FoundRows → Refusal → Type 0
+abbrev pub RefusesFinding : State → RowsOfTask → Refusal → Type 0
 RefusesFinding s f r = (delivery s f ≡ (Some r, s)) ⊎ ((r ≡ NoMemory) × ((delivery s f).0 ≡ None))
 
 -- the refusal of a failed turn

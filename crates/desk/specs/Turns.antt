@@ -5,14 +5,14 @@ use Rattle.trace_model.specs.declared.messages.step.BoardStep.{BoardStep}
 use Rattle.trace_model.specs.Theory.Dependencies.{dependencies}
 use Rattle.trace_model.specs.Theory.Trace.{Trace}
 use Rattle.trace_model.specs.Protocol.Machine.{State}
-use Rattle.snapshots.specs.Found.{FoundRows}
-use Rattle.cycle_search.specs.Search.{CycleFrom, MoreThan}
+use Rattle.snapshots.specs.Found.{RowsOfTask}
+use Rattle.cycle_search.specs.CycleSearch.{CycleFrom, MoreThan}
 use Rattle.claims.specs.declared.Draw.{Draw}
 use Rattle.claims.specs.Draws.{draw}
 use Rattle.board.specs.declared.summary.Unsettled.{Unsettled}
 use Rattle.board.specs.Unsettled.{IsLeastUnsettled, open_questions}
 use Rattle.desk.specs.Published.{Afterwards, WasTaken}
-use Rattle.desk.specs.Questions.{AreEventsOf, IsFirstMissing}
+use Rattle.desk.specs.Questions.{IsAboutEvents, IsFirstMissing}
 use mathlib.Core.List.{IsPrefix}
 
 -- what contracts see of a worker: the steps that its reader has seen or learned, and for each
@@ -41,8 +41,8 @@ Chose old new so =
     (one : Unsettled) × Chooses old.given_up old.known new.known (Some one) × so one
 
 -- the last known step delivers the rows of a task of this question
-abbrev pub Delivers : ℕ → List BoardStep → Unsettled → Type 0
-Delivers limit known one = (finding : FoundRows) × (finding.question ≡ one.number)
+abbrev pub LastStepDelivers : ℕ → List BoardStep → Unsettled → Type 0
+LastStepDelivers limit known one = (finding : RowsOfTask) × (finding.question ≡ one.number)
     × (finding.bound ≡ one.shown.bound) × WasTaken limit finding known
 
 -- no question was unsettled, except of those that the worker gave up; or no task of the least such
@@ -54,16 +54,16 @@ IsIdle limit old new = (found : Option Unsettled)
     (λ state. IsFirstMissing state one.number None))
 
 -- the task of this question has more cycles up to the bound than a search may find
-abbrev pub HasTooMany : ℕ → List BoardStep → ℕ → ℕ → ℕ → Type 0
-HasTooMany limit known question bound task =
+abbrev pub QuestionHasTooMany : ℕ → List BoardStep → ℕ → ℕ → ℕ → Type 0
+QuestionHasTooMany limit known question bound task =
     (run : List BoardStep) × (events : Trace) × IsPrefix run known
-    × Afterwards limit run (λ state. AreEventsOf state question events)
+    × Afterwards limit run (λ state. IsAboutEvents state question events)
     × MoreThan (CycleFrom (dependencies events) bound task) MAX_CYCLES
 
 -- a task of this question has too many cycles
 abbrev pub IsTooMuch : ℕ → List BoardStep → Unsettled → Type 0
 IsTooMuch limit known one =
-    (task : ℕ) × HasTooMany limit known one.number one.shown.bound task
+    (task : ℕ) × QuestionHasTooMany limit known one.number one.shown.bound task
 
 -- the property holds of the machine after steps between these
 abbrev pub HeldBetween : ℕ → List BoardStep → List BoardStep → (State → Type 0) → Type 0
@@ -73,7 +73,7 @@ HeldBetween limit old known so = (run : List BoardStep) × IsPrefix old run × I
 -- the worker gives up this question, whose least missing task has too many cycles
 abbrev pub GivesUpOn : ℕ → WorkerView → WorkerView → Unsettled → Type 0
 GivesUpOn limit old new one = (task : ℕ)
-    × HasTooMany limit new.known one.number one.shown.bound task
+    × QuestionHasTooMany limit new.known one.number one.shown.bound task
     × HeldBetween limit old.known new.known
     (λ state. IsFirstMissing state one.number (Some task))
     × (new.given_up ≡ slice_set old.given_up one.number true)

@@ -7,7 +7,7 @@ ghost use Rattle.trace_model.specs.Protocol.Runs as runs;
 ghost use Rattle.trace_model.specs.Protocol.Runs.{shown_status};
 ghost use Rattle.trace_model.specs.declared.messages.session.Request.TheVariants as requests;
 ghost use Rattle.board.specs.Totals.{ShowsCounts};
-ghost use Rattle.desk.specs.Clients.{IsTold, IsStatus, StepsAtDesk};
+ghost use Rattle.desk.specs.Clients.{IsResponse, IsStatus, StepsAtDesk};
 
 use crate::desk::Desk;
 use board::{BoardReader, BoardValue, HistoryId, Receipt, Summary};
@@ -56,23 +56,23 @@ impl<N: HistoryId, R: Wait + Copy, T: BoardValue<N>> Client<N, R, T> {
 
     /// Learns the receipt of a desk's call, which began after the last one ended, and returns its
     /// answer.
-    fn learn<A: Drop>(&mut self, told: (A, Receipt<N>)) -> A
-        ensures answer { result ≡ told.0 }
+    fn learn<A: Drop>(&mut self, response: (A, Receipt<N>)) -> A
+        ensures answer { result ≡ response.0 }
         ensures later { IsPrefix self.old.known self.new.known }
-        ensures seen { self.new.known ≡ told.1 }
+        ensures seen { self.new.known ≡ response.1 }
         ensures entered { self.new.failed ≡ self.old.failed }
     {
-        let (answer, receipt) = told;
+        let (answer, receipt) = response;
         self.reader.catch_up(&self.desk.rt(), &receipt);
         answer
     }
 
     fn offer(&mut self, event: Event) -> Reply
-        ensures told { IsTold N.limit self.old (requests.Offer event) result self.new }
+        ensures response { IsResponse N.limit self.old (requests.Offer event) result self.new }
         ensures fits { IsReply result }
     {
-        let told = self.desk.offer(event);
-        match self.learn(told) {
+        let response = self.desk.offer(event);
+        match self.learn(response) {
             Ok(place) => Reply::Placed(place),
             Err(refusal) => Reply::Refused(refusal),
         }
@@ -80,31 +80,31 @@ impl<N: HistoryId, R: Wait + Copy, T: BoardValue<N>> Client<N, R, T> {
 
     fn offer_batch(&mut self, events: &[Event]) -> Reply
         requires { IsBatch events.now }
-        ensures told { IsTold N.limit self.old (requests.Batch events.now) result self.new }
+        ensures response { IsResponse N.limit self.old (requests.Batch events.now) result self.new }
         ensures fits { IsReply result }
     {
-        let told = self.desk.offer_batch(events);
-        self.learn(told).reply()
+        let response = self.desk.offer_batch(events);
+        self.learn(response).reply()
     }
 
     fn ask(&mut self, bound: u8) -> Reply
-        ensures told { IsTold N.limit self.old (requests.Ask bound) result self.new }
+        ensures response { IsResponse N.limit self.old (requests.Ask bound) result self.new }
         ensures fits { IsReply result }
     {
-        let told = self.desk.ask(bound);
-        match self.learn(told) {
+        let response = self.desk.ask(bound);
+        match self.learn(response) {
             Ok(opened) => opened.reply(),
             Err(refused) => Reply::Refused(refused.refusal()),
         }
     }
 
     fn answer(&mut self, question: u32) -> Reply
-        ensures told { IsTold N.limit self.old (requests.Answer question) result self.new }
+        ensures response { IsResponse N.limit self.old (requests.Answer question) result self.new }
         ensures fits { IsReply result }
     {
-        let told = self.desk.answer(question);
-        match self.learn(told) {
-            Ok(told) => told.reply(question),
+        let response = self.desk.answer(question);
+        match self.learn(response) {
+            Ok(response) => response.reply(question),
             Err(refused) => Reply::Refused(refused.refusal()),
         }
     }

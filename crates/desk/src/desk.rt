@@ -10,19 +10,19 @@ ghost use Rattle.trace_model.specs.declared.messages.step.BoardStep.TheVariants 
 ghost use Rattle.trace_model.specs.declared.messages.session.Request.TheVariants as requests;
 ghost use Rattle.trace_model.specs.declared.messages.session.Reply.TheVariants.{Placed, Refused};
 ghost use Rattle.snapshots.specs.Found.{AreRowsOf};
-ghost use Rattle.sequencer.specs.Book.{IsLimit, Refuses, RefusesSnapshot, answer_refusal, answer_reply, ask_refusal, opened_reply};
-ghost use Rattle.sequencer.specs.Printing.{printing};
+ghost use Rattle.sequencer.specs.Book.{IsBookLimit, Refuses, RefusesSnapshot, answer_refusal, answer_reply, ask_refusal, opened_reply};
+ghost use Rattle.sequencer.specs.Printing.{report_printer};
 ghost use Rattle.sequencer.specs.Deliveries.{delivery};
 ghost use Rattle.desk.specs.Batches.{EndsByBatch};
 ghost use Rattle.desk.specs.Published.{Afterwards, EndsBy, delivery_step};
-ghost use Rattle.desk.specs.Questions.{AreEventsOf, IsFirstMissing};
+ghost use Rattle.desk.specs.Questions.{IsAboutEvents, IsFirstMissing};
 ghost use Rattle.desk.specs.Refused.{IsCount, RefusesDesk, RefusesFinding};
 ghost use Rattle.desk.specs.Together.{EndsByAll};
 
 use crate::locked::{DeskRefused, Locked};
 use crate::own::{OwnFinding, OwnJob};
 use crate::shared::SharedAnalysis;
-use board::{BoardReader, BoardValue, HistoryId, Receipt, Shown};
+use board::{BoardReader, BoardState, BoardValue, HistoryId, Receipt};
 use findings::{Finding, Snapshot};
 use sequencer::{Answer, AnswerRefused, AskRefused, Batched, Delivered, NoSuchQuestion, Opened};
 use std::alloc::Global;
@@ -52,7 +52,7 @@ impl<N: HistoryId, R: Wait + Copy, T: BoardValue<N>> Drop for Desk<N, R, T> {
     }
 }
 
-impl<N: HistoryId, R: Wait + Copy> Desk<N, R, Shown<N>> {
+impl<N: HistoryId, R: Wait + Copy> Desk<N, R, BoardState<N>> {
     /// Creates a desk over a new history, and `readers` readers of its board. The book accepts at
     /// most `max_events` events.
     ///
@@ -69,11 +69,11 @@ impl<N: HistoryId, R: Wait + Copy> Desk<N, R, Shown<N>> {
         history: board::NewHistory,
         max_events: u32,
         readers: usize,
-    ) -> Result<(Desk<N, R, Shown<N>>, Vec<BoardReader<N>>), DeskRefused>
+    ) -> Result<(Desk<N, R, BoardState<N>>, Vec<BoardReader<N>>), DeskRefused>
         requires book { history.seen.book ≡ N.book }
         requires limit { max_events ≡ N.limit }
         ensures readers { IfOk result (λ made. length made.1.items ≡ readers) }
-        ensures allowed { IfOk result (λ _. IsLimit max_events × IsCount readers) }
+        ensures allowed { IfOk result (λ _. IsBookLimit max_events × IsCount readers) }
         ensures refused { IfErr result (RefusesDesk max_events readers) }
     {
         let (locked, all) = Locked::new(alloc, state, rt, history, max_events, readers)?;
@@ -102,7 +102,8 @@ impl<N: HistoryId, R: Wait + Copy, T: BoardValue<N>> Desk<N, R, T> {
     pub fn offer(&self, event: Event) -> (Result<Place, Refusal>, Receipt<N>)
         ensures placed { IfOk result.0
             (λ place. EndsBy N.limit result.1 (steps.Accept (event ∷ []))
-            (λ state next. step printing state (requests.Offer event) ≡ (Placed place, next))) }
+            (λ state next. step report_printer state (requests.Offer event)
+            ≡ (Placed place, next))) }
         ensures refused { IfErr result.0
             (λ refusal. Afterwards N.limit result.1
             (λ state. Refuses state (requests.Offer event) (Refused refusal))) }
@@ -132,7 +133,7 @@ impl<N: HistoryId, R: Wait + Copy, T: BoardValue<N>> Desk<N, R, T> {
     pub fn ask(&self, bound: u8) -> (Result<Opened, AskRefused>, Receipt<N>)
         ensures opened { IfOk result.0
             (λ opened. EndsBy N.limit result.1 (steps.Open bound opened.total)
-            (λ state next. step printing state (requests.Ask bound) ≡
+            (λ state next. step report_printer state (requests.Ask bound) ≡
             (opened_reply opened, next))) }
         ensures refused { IfErr result.0
             (λ refused. Afterwards N.limit result.1
@@ -241,10 +242,10 @@ impl<N: HistoryId, R: Wait + Copy, T: BoardValue<N>> Desk<N, R, T> {
     /// The machine's refusal after the receipt's steps, or `NoMemory` if the machine answers but an
     /// allocation fails.
     pub fn answer(&self, question: u32) -> (Result<Answer, AnswerRefused>, Receipt<N>)
-        ensures told { IfOk result.0
-            (λ told. Afterwards N.limit result.1
-            (λ state. step printing state (requests.Answer question) ≡
-            (answer_reply question told, state))) }
+        ensures response { IfOk result.0
+            (λ response. Afterwards N.limit result.1
+            (λ state. step report_printer state (requests.Answer question) ≡
+            (answer_reply question response, state))) }
         ensures refused { IfErr result.0
             (λ refused. Afterwards N.limit result.1
             (λ state. Refuses state (requests.Answer question)
@@ -263,7 +264,7 @@ impl<N: HistoryId, R: Wait + Copy, T: BoardValue<N>> Desk<N, R, T> {
     pub fn snapshot(&self, question: u32) -> (Result<Arc<Snapshot, Global>, Refusal>, Receipt<N>)
         ensures ok { IfOk result.0
             (λ shared. Afterwards N.limit result.1
-            (λ state. AreEventsOf state question (arc_value shared))) }
+            (λ state. IsAboutEvents state question (arc_value shared))) }
         ensures refused { IfErr result.0
             (λ refusal. Afterwards N.limit result.1
             (λ state. RefusesSnapshot state question refusal)) }

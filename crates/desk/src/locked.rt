@@ -10,18 +10,20 @@ ghost use Rattle.trace_model.specs.declared.messages.step.BoardStep.TheVariants 
 ghost use Rattle.trace_model.specs.declared.messages.session.Request.TheVariants as requests;
 ghost use Rattle.trace_model.specs.declared.messages.session.Reply.TheVariants.{Placed, Refused};
 ghost use Rattle.sequencer.specs.Batched.{IsBatched};
-ghost use Rattle.sequencer.specs.Book.{IsLimit, Refuses, RefusesSnapshot, answer_refusal, answer_reply, ask_refusal, finding_refused, opened_reply};
-ghost use Rattle.sequencer.specs.Printing.{printing};
+ghost use Rattle.sequencer.specs.Book.{IsBookLimit, Refuses, RefusesSnapshot, answer_refusal, answer_reply, ask_refusal, finding_refused, opened_reply};
+ghost use Rattle.sequencer.specs.Printing.{report_printer};
 ghost use Rattle.board.specs.Totals.{Shows};
-ghost use Rattle.desk.specs.Batches.{accepting};
+ghost use Rattle.desk.specs.Batches.{accept_steps};
 ghost use Rattle.desk.specs.Deliveries.{WentSo};
 ghost use Rattle.desk.specs.Published.{After, delivery_step};
-ghost use Rattle.desk.specs.Questions.{AreEventsOf, IsFirstMissing};
+ghost use Rattle.desk.specs.Questions.{IsAboutEvents, IsFirstMissing};
 ghost use Rattle.desk.specs.Refused.{IsCount, RefusesDesk};
 ghost use Rattle.desk.specs.Together.{AreOutcomes, taken_steps};
 
 use crate::own::OwnFinding;
-use board::{BoardReader, BoardValue, BoardWriter, HistoryId, Receipt, Shown, Summary, new_board};
+use board::{
+    BoardReader, BoardState, BoardValue, BoardWriter, HistoryId, Receipt, Summary, new_board,
+};
 use findings::{Finding, Snapshot};
 use reports::confirmed_in;
 use sequencer::{
@@ -71,7 +73,7 @@ impl<N: HistoryId, R: Wait + Copy, T: BoardValue<N>> Model for Locked<N, R, T> {
     ghost invariant = { λ l. IsDesk N.limit l.board.published l.board.waiting l.book.state };
 }
 
-impl<N: HistoryId, R: Wait + Copy> Locked<N, R, Shown<N>> {
+impl<N: HistoryId, R: Wait + Copy> Locked<N, R, BoardState<N>> {
     /// Creates an empty book that accepts at most `max_events` events, and an empty board with
     /// `readers` readers over a new history.
     ///
@@ -85,13 +87,13 @@ impl<N: HistoryId, R: Wait + Copy> Locked<N, R, Shown<N>> {
         history: board::NewHistory,
         max_events: u32,
         readers: usize,
-    ) -> Result<(Locked<N, R, Shown<N>>, Vec<BoardReader<N>>), DeskRefused>
+    ) -> Result<(Locked<N, R, BoardState<N>>, Vec<BoardReader<N>>), DeskRefused>
         requires book { history.seen.book ≡ N.book }
         requires limit { max_events ≡ N.limit }
         ensures published { IfOk result (λ made. made.0.published ≡ []) }
         ensures state { IfOk result (λ made. made.0.state ≡ opening max_events) }
         ensures readers { IfOk result (λ made. length made.1.items ≡ readers) }
-        ensures allowed { IfOk result (λ _. IsLimit max_events × IsCount readers) }
+        ensures allowed { IfOk result (λ _. IsBookLimit max_events × IsCount readers) }
         ensures refused { IfErr result (RefusesDesk max_events readers) }
     {
         let Ok(book) = Book::new(alloc, state, max_events) else {
@@ -130,7 +132,7 @@ impl<N: HistoryId, R: Wait + Copy, T: BoardValue<N>> Locked<N, R, T> {
         ensures before { After N.limit self.old.published self.old.state }
         ensures after { After N.limit self.new.published self.new.state }
         ensures placed { IfOk result.0
-            (λ place. step printing self.old.state (requests.Offer event) ≡
+            (λ place. step report_printer self.old.state (requests.Offer event) ≡
             (Placed place, self.new.state)) }
         ensures published { OnOk result.0 (self.new.published ≡ self.old.published ++
             steps.Accept (event ∷ []) ∷ []) }
@@ -159,7 +161,7 @@ impl<N: HistoryId, R: Wait + Copy, T: BoardValue<N>> Locked<N, R, T> {
         ensures after { After N.limit self.new.published self.new.state }
         ensures batched { IsBatched self.old.state events.now result.0 self.new.state }
         ensures published { self.new.published ≡ self.old.published ++
-            accepting (take result.0.accepted events.now) }
+            accept_steps (take result.0.accepted events.now) }
         ensures receipt { result.1 ≡ self.new.published }
         ensures legal { IsLegal self.new.published }
     {
@@ -187,7 +189,7 @@ impl<N: HistoryId, R: Wait + Copy, T: BoardValue<N>> Locked<N, R, T> {
         ensures before { After N.limit self.old.published self.old.state }
         ensures after { After N.limit self.new.published self.new.state }
         ensures opened { IfOk result.0
-            (λ opened. step printing self.old.state (requests.Ask bound) ≡
+            (λ opened. step report_printer self.old.state (requests.Ask bound) ≡
             (opened_reply opened, self.new.state)) }
         ensures published { IfOk result.0 (λ opened. self.new.published ≡ self.old.published ++
             steps.Open bound opened.total ∷ []) }
@@ -321,9 +323,9 @@ impl<N: HistoryId, R: Wait + Copy, T: BoardValue<N>> Locked<N, R, T> {
     /// The machine's refusal, or `NoMemory` if the machine answers but an allocation fails.
     pub fn answer(&mut self, question: u32) -> (Result<Answer, AnswerRefused>, Receipt<N>)
         ensures before { After N.limit self.old.published self.old.state }
-        ensures told { IfOk result.0
-            (λ told. step printing self.old.state (requests.Answer question) ≡
-            (answer_reply question told, self.old.state)) }
+        ensures response { IfOk result.0
+            (λ response. step report_printer self.old.state (requests.Answer question) ≡
+            (answer_reply question response, self.old.state)) }
         ensures refused { IfErr result.0
             (λ refused. Refuses self.old.state (requests.Answer question)
             (Refused (answer_refusal refused))) }
@@ -349,7 +351,7 @@ impl<N: HistoryId, R: Wait + Copy, T: BoardValue<N>> Locked<N, R, T> {
     /// `NoSuchQuestion` if it is not open; `NoMemory` if an allocation fails.
     pub fn snapshot(&self, question: u32) -> Result<Arc<Snapshot, Global>, Refusal>
         ensures now { After N.limit self.now.published self.now.state }
-        ensures ok { IfOk result (λ shared. AreEventsOf self.now.state question
+        ensures ok { IfOk result (λ shared. IsAboutEvents self.now.state question
             (arc_value shared)) }
         ensures refused { IfErr result (RefusesSnapshot self.now.state question) }
     {

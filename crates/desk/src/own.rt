@@ -4,10 +4,10 @@
 ghost use Rattle.std.specs.Prelude.{◌≡◌, Err, IfOk, IsTrue};
 ghost use Rattle.std.specs.Arc.{arc_value};
 ghost use Rattle.desk.specs.Published.{Afterwards};
-ghost use Rattle.desk.specs.Questions.{AreEventsOf};
+ghost use Rattle.desk.specs.Questions.{IsAboutEvents};
 ghost use Rattle.trace_model.specs.declared.limits.TheConstants.{MAX_CYCLES};
 ghost use Rattle.trace_model.specs.Theory.Dependencies.{dependencies};
-ghost use Rattle.cycle_search.specs.Search.{CycleFrom, MoreThan};
+ghost use Rattle.cycle_search.specs.CycleSearch.{CycleFrom, MoreThan};
 
 use board::{HistoryId, Receipt};
 use findings::{Analysis, ComputeRefused, Finding, Job};
@@ -30,17 +30,17 @@ impl<N: HistoryId> Drop for OwnJob<N> {
 }
 
 impl<N: HistoryId> Model for OwnJob<N> {
-    ghost use Rattle.findings.specs.Found.{Asked};
+    ghost use Rattle.findings.specs.Found.{AskedQuestion};
     ghost use Rattle.desk.specs.Published.{Afterwards};
-    ghost use Rattle.desk.specs.Questions.{AreEventsOf};
+    ghost use Rattle.desk.specs.Questions.{IsAboutEvents};
 
-    ghost Value = { Asked };
+    ghost Value = { AskedQuestion };
 
     ghost view = { λ own. own.job };
 
     ghost invariant = { λ own.
         Afterwards N.limit own.receipt
-        (λ state. AreEventsOf state own.job.question own.job.events) };
+        (λ state. IsAboutEvents state own.job.question own.job.events) };
 }
 
 impl<N: HistoryId> OwnJob<N> {
@@ -53,7 +53,7 @@ impl<N: HistoryId> OwnJob<N> {
         receipt: Receipt<N>,
     ) -> OwnJob<N>
         requires known { Afterwards N.limit receipt
-            (λ state. AreEventsOf state question (arc_value analysis).events) }
+            (λ state. IsAboutEvents state question (arc_value analysis).events) }
         ensures question { result.question ≡ question }
         ensures bound { result.bound ≡ (arc_value analysis).bound }
     {
@@ -71,7 +71,7 @@ impl<N: HistoryId> OwnJob<N> {
     /// Returns a receipt after which the question covered exactly the job's events.
     pub(crate) fn receipt(&self) -> Receipt<N>
         ensures { Afterwards N.limit result
-            (λ state. AreEventsOf state self.now.question self.now.events) }
+            (λ state. IsAboutEvents state self.now.question self.now.events) }
     {
         self.receipt.again()
     }
@@ -118,17 +118,17 @@ impl<N: HistoryId> Drop for OwnFinding<N> {
 }
 
 impl<N: HistoryId> Model for OwnFinding<N> {
-    ghost use Rattle.snapshots.specs.Found.{FoundRows};
+    ghost use Rattle.snapshots.specs.Found.{RowsOfTask};
     ghost use Rattle.desk.specs.Published.{Afterwards};
-    ghost use Rattle.desk.specs.Questions.{AreEventsOf};
+    ghost use Rattle.desk.specs.Questions.{IsAboutEvents};
 
-    ghost Value = { FoundRows };
+    ghost Value = { RowsOfTask };
 
     ghost view = { λ own. own.finding };
 
     ghost invariant = { λ own.
         Afterwards N.limit own.receipt
-        (λ state. AreEventsOf state own.finding.question own.finding.events) };
+        (λ state. IsAboutEvents state own.finding.question own.finding.events) };
 }
 
 impl<N: HistoryId> OwnFinding<N> {
@@ -136,7 +136,7 @@ impl<N: HistoryId> OwnFinding<N> {
     pub(crate) fn into_parts(self) -> (Finding, Receipt<N>)
         ensures finding { result.0 ≡ self }
         ensures known { Afterwards N.limit result.1
-            (λ state. AreEventsOf state self.question self.events) }
+            (λ state. IsAboutEvents state self.question self.events) }
     {
         let OwnFinding { finding, receipt } = self;
         (finding, receipt)

@@ -5,7 +5,7 @@ ghost use mathlib.Core.List.{IsPrefix};
 ghost use Rattle.trace_model.specs.declared.limits.TheConstants.{MAX_QUESTIONS};
 ghost use Rattle.desk.specs.Published.{Afterwards, WasTaken};
 ghost use Rattle.desk.specs.Questions.{IsFirstMissing, IsJobOf};
-ghost use Rattle.desk.specs.Turns.{Chose, Delivers, GivesUpOn, HasTooMany, IsDrawn, IsIdle, IsTooMuch};
+ghost use Rattle.desk.specs.Turns.{Chose, LastStepDelivers, GivesUpOn, QuestionHasTooMany, IsDrawn, IsIdle, IsTooMuch};
 
 use crate::desk::Desk;
 use crate::own::{OwnFinding, OwnJob};
@@ -58,7 +58,7 @@ pub enum Turn {
 struct Picked {
     task: u32,
     /// Whether all tasks of its question were drawn before.
-    left: bool,
+    all_drawn: bool,
 }
 
 /// Computes tasks for a desk. It keeps the job of a question while that is unsettled, and gives up
@@ -118,7 +118,7 @@ impl<N: HistoryId, R: Wait + Copy, T: BoardValue<N>> Worker<N, R, T> {
     pub fn turn(&mut self, hold: &impl Hold) -> Turn
         ensures later { IsPrefix self.old.known self.new.known }
         ensures delivered { result ≡ Turn.Delivered →
-            Chose self.old self.new (Delivers N.limit self.new.known) }
+            Chose self.old self.new (LastStepDelivers N.limit self.new.known) }
         ensures idle { result ≡ Turn.Idle → IsIdle N.limit self.old self.new }
         ensures too_many { result ≡ Turn.Failed TurnFailure.TooManyCycles →
             Chose self.old self.new (IsTooMuch N.limit self.new.known) }
@@ -142,7 +142,7 @@ impl<N: HistoryId, R: Wait + Copy, T: BoardValue<N>> Worker<N, R, T> {
     fn work_on(&mut self, unsettled: Unsettled, hold: &impl Hold) -> Turn
         ensures later { IsPrefix self.old.known self.new.known }
         ensures delivered { result ≡ Turn.Delivered →
-            Delivers N.limit self.new.known unsettled }
+            LastStepDelivers N.limit self.new.known unsettled }
         ensures idle { result ≡ Turn.Idle → Afterwards N.limit self.new.known
             (λ state. IsFirstMissing state unsettled.number None) }
         ensures too_many { result ≡ Turn.Failed TurnFailure.TooManyCycles →
@@ -179,7 +179,7 @@ impl<N: HistoryId, R: Wait + Copy, T: BoardValue<N>> Worker<N, R, T> {
                 deliver(&self.desk, &mut self.reader, own)
             }
             Err(turn) => {
-                give_up(&mut self.given_up, number, picked.left, turn);
+                give_up(&mut self.given_up, number, picked.all_drawn, turn);
                 turn
             }
         }
@@ -197,8 +197,8 @@ fn give_up(given_up: &mut [bool; MAX_QUESTIONS], number: u8, is_least: bool, tur
     }
 }
 
-/// Returns a task that no other worker drew, or the least missing one, or `None` if none is missing.
-/// The reader learns the receipt of a look at the desk.
+/// Returns a task that no other worker drew, or the least missing one, or `None` if none is
+/// missing. The reader learns the receipt of a look at the desk.
 ///
 /// # Errors
 ///
@@ -213,7 +213,7 @@ fn pick<N: HistoryId, R: Wait + Copy, T: BoardValue<N>>(
     ensures later { IsPrefix reader.old.known reader.new.known }
     ensures picked { IfOk result (λ picked. MatchOption picked
         (Afterwards N.limit reader.new.known (λ state. IsFirstMissing state question None))
-        (λ picked. MatchBool picked.left
+        (λ picked. MatchBool picked.all_drawn
         (Afterwards N.limit reader.new.known
         (λ state. IsFirstMissing state question (Some picked.task)))
         (IsDrawn question total claimant.old.draws claimant.new.draws picked.task))) }
@@ -225,13 +225,16 @@ fn pick<N: HistoryId, R: Wait + Copy, T: BoardValue<N>>(
     {
         return Ok(Some(Picked {
             task: number as u32,
-            left: false,
+            all_drawn: false,
         }));
     }
     let (missing, receipt) = desk.missing(u32::from(question));
     reader.catch_up(&desk.rt(), &receipt);
     match missing? {
-        Some(task) => Ok(Some(Picked { task, left: true })),
+        Some(task) => Ok(Some(Picked {
+            task,
+            all_drawn: true,
+        })),
         None => Ok(None),
     }
 }
@@ -287,7 +290,7 @@ fn compute<N: HistoryId, R: Wait + Copy, T: BoardValue<N>>(
         × (own.task ≡ task)) }
     ensures err { IfErr result (λ turn. (turn ≢ Turn.Delivered) × (turn ≢ Turn.Idle)) }
     ensures too_many { result ≡ Err (Turn.Failed TurnFailure.TooManyCycles) →
-        HasTooMany N.limit reader.new.known question bound task }
+        QuestionHasTooMany N.limit reader.new.known question bound task }
 {
     keep_job(desk, kept, question, bound)?;
     let Some(job) = kept else {

@@ -9,22 +9,22 @@ use Rattle.std.proofs.lemmas.List.Elements.{All-append, All-cons, All-head, All-
 use Rattle.std.proofs.lemmas.Option.{same_Some}
 use Rattle.trace_model.specs.declared.refutations.Derived.{Derived}
 use Rattle.event_files.specs.NumberedText.{AreSmall}
-use Rattle.event_files.specs.Refutations.{entry_line, last_place}
+use Rattle.event_files.specs.Refutations.{entry_line, last_derived_place}
 use Rattle.event_files.specs.declared.explanations.ReportHead.{ReportHead}
 use Rattle.event_files.specs.declared.explanations.ExplainedStep.{ExplainedStep}
-use Rattle.event_files.specs.ExplainedFile.{IsBeginning}
+use Rattle.event_files.specs.ExplainedFile.{AreFirstFileLines}
 use Rattle.event_files.specs.ExplainedLines.{IsStatedLine, StatedLine, conclusion, entry, head, line_text, member, places, row}
-use Rattle.event_files.specs.ExplainedText.{Contents, IsContents, IsStatedCycle, StatedCycle, StatedEvidence, StatedMember, cycle_lines, entry_numbers, evidence_lines, file_lines, head_line, head_numbers, is_witness, member_line, member_numbers, refutation, step_lines, step_numbers, witness}
-use Rattle.event_files.specs.ExplainedReading.{Follows, IsReadOf, IsReading, StatedReading, StatedState, between, cycle_parts, evidence_parts, file_parts, members, reading_parts, state_after, step_parts, steps, unwitnessed}
+use Rattle.event_files.specs.ExplainedText.{Contents, IsContents, IsStatedCycle, StatedCycle, StatedEvidence, StatedMember, cycle_lines, entry_numbers, evidence_lines, file_lines, head_line, head_numbers, is_witness, stated_member_line, member_numbers, refutation, step_lines, step_numbers, witness}
+use Rattle.event_files.specs.ExplainedReading.{ReadsStatedLine, IsReadOf, IsReading, StatedReading, StatedState, between, cycle_parts, evidence_parts, file_parts, members, reading_parts, cycle_state, step_parts, steps, unwitnessed}
 use Rattle.event_files.proofs.NumberedTexts.{end_all, front_all}
 use Rattle.event_files.proofs.ExplainedOrder.{last_of_some}
 use Rattle.event_files.proofs.ExplainedReadings.{follows_conclusion, follows_head, follows_member, follows_places, reading, whole_file}
 
 -- The text of the lines of a file.
 
-members_text : (ms : List StatedMember) → map line_text (map member ms) ≡ map member_line ms
+members_text : (ms : List StatedMember) → map line_text (map member ms) ≡ map stated_member_line ms
 members_text [] = refl
-members_text (m ∷ ms) = ap (λ l. member_line m ∷ l) (members_text ms)
+members_text (m ∷ ms) = ap (λ l. stated_member_line m ∷ l) (members_text ms)
 
 entries_text : (es : List Derived) → map line_text (map entry es) ≡ map entry_line es
 entries_text [] = refl
@@ -32,7 +32,7 @@ entries_text (d ∷ es) = ap (λ l. entry_line d ∷ l) (entries_text es)
 
 step_text_is : (step : ExplainedStep) → map line_text (step_parts step) ≡ step_lines step
 step_text_is step =
-    let end = conclusion step.thread (last_place step.derivation) in
+    let end = conclusion step.thread (last_derived_place step.derivation) in
     map-append line_text (map entry step.derivation) (end ∷ []) ∙ ap (λ l. l ++ line_text end ∷ []) (entries_text step.derivation)
 
 steps_text : (done : List ExplainedStep) → map line_text (flat_map step_parts done) ≡ flat_map step_lines done
@@ -78,22 +78,22 @@ entries_stated (d ∷ es) small =
     All-cons IsStatedLine (entry d) (map entry es) (record { small = front_all Small (entry_numbers d) (flat_map entry_numbers es) small; sized = tt })
     (entries_stated es (end_all Small (entry_numbers d) (flat_map entry_numbers es) small))
 
-last_next : (d e : Derived) (es : List Derived) → last_place (d ∷ e ∷ es) ≡ last_place (e ∷ es)
+last_next : (d e : Derived) (es : List Derived) → last_derived_place (d ∷ e ∷ es) ≡ last_derived_place (e ∷ es)
 last_next d e es = same_Some _ _ (sym (last_of_some d (e ∷ es) None) ∙ last_of_some e es (Some d.place))
 
-last_small : (d : Derived) (es : List Derived) → AreSmall (flat_map entry_numbers (d ∷ es)) → last_place (d ∷ es) < 2 ^ 32
+last_small : (d : Derived) (es : List Derived) → AreSmall (flat_map entry_numbers (d ∷ es)) → last_derived_place (d ∷ es) < 2 ^ 32
 last_small d [] small = small 0 0 (omega arith)
 last_small d (e ∷ es) small =
     subst Small (sym (last_next d e es)) (last_small e es (end_all Small (entry_numbers d) (flat_map entry_numbers (e ∷ es)) small))
 
-some_last_small : (es : List Derived) → 0 < length es → AreSmall (flat_map entry_numbers es) → last_place es < 2 ^ 32
+some_last_small : (es : List Derived) → 0 < length es → AreSmall (flat_map entry_numbers es) → last_derived_place es < 2 ^ 32
 some_last_small [] some small = absurd (omega arith)
 some_last_small (d ∷ es) some small = last_small d es small
 
 step_stated : (step : ExplainedStep) → 0 < length step.derivation → AreSmall (step_numbers step) → All IsStatedLine (step_parts step)
 step_stated step some small =
     let es = step.derivation in
-    let last = last_place es in
+    let last = last_derived_place es in
     let end = conclusion step.thread last in
     let entries = All-tail Small step.thread (flat_map entry_numbers es) small in
     let numbers = All-cons Small step.thread (last ∷ []) (All-head Small step.thread (flat_map entry_numbers es) small) (All-cons Small last [] (some_last_small es some entries) (All-nil Small)) in
@@ -139,7 +139,7 @@ record IsCompleted (r : StatedReading) : Type 0 where
   contents : IsContents file
   parts : file_parts file ≡ reading_parts r ++ more
 
-before_line : (r new : StatedReading) (l : StatedLine) → Follows r l new → IsReading r → IsStatedLine l → (IsReading new → IsCompleted new) → IsCompleted r
+before_line : (r new : StatedReading) (l : StatedLine) → ReadsStatedLine r l new → IsReading r → IsStatedLine l → (IsReading new → IsCompleted new) → IsCompleted r
 before_line r new l follows is line complete =
     let f = follows is line in
     let rest = complete f.0 in
@@ -188,7 +188,7 @@ steps_completed : (h : Option ReportHead) (cs : List StatedCycle) (c : List ℕ)
 steps_completed h cs c ms done [] is = ended_completed h cs c ms done is
 steps_completed h cs c ms done (d ∷ ds) is =
     let es = d ∷ ds in
-    let last = last_place es in
+    let last = last_derived_place es in
     let all = done ++ record { thread = 0; derivation = es } ∷ [] in
     let line : IsStatedLine (conclusion 0 last) = record { small = All-cons Small 0 (last ∷ []) (lit< tt) (All-cons Small last [] (last_small d ds is.state.4) (All-nil Small)); sized = tt } in
     before_line (reading h cs (steps c ms done es)) (reading h cs (steps c ms all [])) (conclusion 0 last) (follows_conclusion h cs c ms done all es 0 last (omega arith) refl refl) is line
@@ -208,7 +208,7 @@ some_stated true = record { small = zeros_small (0 ∷ 0 ∷ 0 ∷ []) (refl, (r
 some_stated false = record { small = zeros_small (0 ∷ 0 ∷ []) (refl, (refl, tt)); sized = tt }
 
 state_by : (c : List ℕ) (b : Bool) (ms : List StatedMember) (t : Bool) → nat_lt (length ms) (length c) ≡ t →
-    cond t (members c b ms) (cond b (unwitnessed c ms) (steps c ms [] [])) ≡ state_after c b ms
+    cond t (members c b ms) (cond b (unwitnessed c ms) (steps c ms [] [])) ≡ cycle_state c b ms
 state_by c b ms t e = ap (λ x. cond x (members c b ms) (cond b (unwitnessed c ms) (steps c ms [] []))) (sym e)
 
 full_completed : (h : Option ReportHead) (cs : List StatedCycle) (c : List ℕ) (b : Bool) (ms : List StatedMember) → IsReading (reading h cs (cond b (unwitnessed c ms) (steps c ms [] []))) →
@@ -240,7 +240,7 @@ completed_by h cs (unwitnessed c ms) is = unwitnessed_completed h cs c ms is
 completed_by h cs (steps c ms done es) is = steps_completed h cs c ms done es is
 
 -- the lines that were read are a beginning of a file
-pub begins_file : (lines : List (List ℕ)) (r : StatedReading) → IsReadOf lines r → IsBeginning lines
+pub begins_file : (lines : List (List ℕ)) (r : StatedReading) → IsReadOf lines r → AreFirstFileLines lines
 begins_file lines r read =
     let done = completed_by r.head r.cycles r.state read.reading in (
       done.file,

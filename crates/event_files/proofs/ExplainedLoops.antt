@@ -7,12 +7,12 @@ use Rattle.std.proofs.lemmas.List.Elements.{All-head, All-nil, filter-append}
 use Rattle.std.proofs.lemmas.Option.{slice_get-get_or}
 use Rattle.event_files.specs.EventFile.{is_word, line_words, unless_comment}
 use Rattle.event_files.specs.WitnessFile.{has_words}
-use Rattle.event_files.specs.ExplainedFile.{EndsEarly, IsBeginning, IsFirstWrong, IsMerged, IsOnlyTextOf, IsTextOf, is_kept, is_merge_mark, kept}
-use Rattle.event_files.specs.ExplainedLines.{IsLineOf, IsStatedLine, StatedLine, line_text}
+use Rattle.event_files.specs.ExplainedFile.{EndsEarly, AreFirstFileLines, IsFirstWrong, IsMerged, IsOnlyTextOf, IsTextOf, is_kept, is_merge_mark, unskipped_lines}
+use Rattle.event_files.specs.ExplainedLines.{IsTextOfLine, IsStatedLine, StatedLine, line_text}
 use Rattle.event_files.specs.ExplainedText.{Contents, IsStatedCycle, contents_of, head_numbers}
 use Rattle.event_files.specs.NumberedText.{AreSmall}
 use Rattle.event_files.specs.declared.explanations.ReportHead.{ReportHead}
-use Rattle.event_files.specs.ExplainedReading.{Follows, IsEnd, IsNext, IsReadOf, IsWrongNext, ReadsLine, StatedReading, between, file_parts, reading_parts, stated_reading}
+use Rattle.event_files.specs.ExplainedReading.{ReadsStatedLine, IsEnd, IsNextStatedLine, IsReadOf, IsWrongNext, ReadsLine, StatedReading, between, file_parts, reading_parts, stated_reading}
 use Rattle.event_files.specs.declared.explained_reading.Reading.{Reading}
 use Rattle.event_files.specs.declared.explanations.ExplainedFile.{ExplainedFile}
 use Rattle.event_files.specs.WitnessFile.{line_count}
@@ -43,7 +43,7 @@ at_byte byte line other =
 record IsNextLine (line : List ℕ) (r : StatedReading) (parts : List StatedLine) : Type 0 where
   here : StatedLine
   more : List StatedLine
-  states : IsLineOf line here
+  states : IsTextOfLine line here
   are : parts ≡ reading_parts r ++ here ∷ more
 
 next_of : (line : List ℕ) (rest : List (List ℕ)) (r : StatedReading) (parts more : List StatedLine) → parts ≡ reading_parts r ++ more → All IsStatedLine more → map line_text more ≡ line ∷ rest →
@@ -66,15 +66,15 @@ next_line lines rest line r parts read stated texts =
     next_of line rest r parts more.0 more.1 (end_all IsStatedLine (reading_parts r) more.0 (subst (All IsStatedLine) more.1 stated)) (after_read lines (line ∷ rest) r parts more.0 read.are more.1 texts)
 
 -- the next line of a file that begins so
-next_in_file : (lines : List (List ℕ)) (line : List ℕ) (r : StatedReading) → IsReadOf lines r → (begins : IsBeginning (lines ++ line ∷ [])) → IsNextLine line r (file_parts begins.0)
+next_in_file : (lines : List (List ℕ)) (line : List ℕ) (r : StatedReading) → IsReadOf lines r → (begins : AreFirstFileLines (lines ++ line ∷ [])) → IsNextLine line r (file_parts begins.0)
 next_in_file lines line r read begins =
     next_line lines begins.1 line r (file_parts begins.0) read (file_stated begins.0 begins.2)
     (file_text begins.0 ∙ (begins.3 ∙ append_assoc lines (line ∷ []) begins.1))
 
-kept_line : (line : List ℕ) → is_kept line ≡ true → kept (line ∷ []) ≡ line ∷ []
+kept_line : (line : List ℕ) → is_kept line ≡ true → unskipped_lines (line ∷ []) ≡ line ∷ []
 kept_line line k = ap (λ b. cond b (line ∷ []) []) k
 
-skipped_line : (line : List ℕ) → is_kept line ≡ false → kept (line ∷ []) ≡ []
+skipped_line : (line : List ℕ) → is_kept line ≡ false → unskipped_lines (line ∷ []) ≡ []
 skipped_line line k = ap (λ b. cond b (line ∷ []) []) k
 
 -- a line that is skipped
@@ -82,19 +82,19 @@ pub skips : (line : List ℕ) (new : Reading) → is_kept line ≡ false → Rea
 skips line new k lines read = subst (λ l. IsReadOf l (stated_reading new)) (sym (ap (λ l. lines ++ l) (skipped_line line k) ∙ append-nil lines)) read
 
 -- a line of no kind
-pub no_line_reads : (line : List ℕ) (r : StatedReading) → is_kept line ≡ true → ((l : StatedLine) → IsLineOf line l → ⊥) → ReadsLine line r None
+pub no_line_reads : (line : List ℕ) (r : StatedReading) → is_kept line ≡ true → ((l : StatedLine) → IsTextOfLine line l → ⊥) → ReadsLine line r None
 no_line_reads line r k none lines read begins =
-    let next = next_in_file lines line r read (subst (λ l. IsBeginning (lines ++ l)) (kept_line line k) begins) in
+    let next = next_in_file lines line r read (subst (λ l. AreFirstFileLines (lines ++ l)) (kept_line line k) begins) in
     none next.here next.states
 
 -- a line that may not come
-wrong_reads : (line : List ℕ) (r : StatedReading) (l : StatedLine) → is_kept line ≡ true → ((m : StatedLine) → IsLineOf line m → l ≡ m) → IsWrongNext r l → ReadsLine line r None
+wrong_reads : (line : List ℕ) (r : StatedReading) (l : StatedLine) → is_kept line ≡ true → ((m : StatedLine) → IsTextOfLine line m → l ≡ m) → IsWrongNext r l → ReadsLine line r None
 wrong_reads line r l k only wrong lines read begins =
-    let found = subst (λ x. IsBeginning (lines ++ x)) (kept_line line k) begins in
+    let found = subst (λ x. AreFirstFileLines (lines ++ x)) (kept_line line k) begins in
     let next = next_in_file lines line r read found in
     wrong found.0 next.more read.reading found.2 (next.are ∙ ap (λ x. reading_parts r ++ x ∷ next.more) (sym (only next.here next.states)))
 
-read_one : (line : List ℕ) (r new : StatedReading) (l : StatedLine) (lines : List (List ℕ)) → IsLineOf line l → ((m : StatedLine) → IsLineOf line m → l ≡ m) → Follows r l new → IsReadOf lines r →
+read_one : (line : List ℕ) (r new : StatedReading) (l : StatedLine) (lines : List (List ℕ)) → IsTextOfLine line l → ((m : StatedLine) → IsTextOfLine line m → l ≡ m) → ReadsStatedLine r l new → IsReadOf lines r →
     IsReadOf (lines ++ line ∷ []) new
 read_one line r new l lines states only follows read =
     let f = follows read.reading states.0 in
@@ -110,8 +110,8 @@ read_one line r new l lines states only follows read =
     }
 
 -- a line that is read
-pub reads_line : (line : List ℕ) (r : StatedReading) (l : StatedLine) (next : Option Reading) → is_kept line ≡ true → IsLineOf line l → ((m : StatedLine) → IsLineOf line m → l ≡ m) →
-    IsNext r l next → ReadsLine line r next
+pub reads_line : (line : List ℕ) (r : StatedReading) (l : StatedLine) (next : Option Reading) → is_kept line ≡ true → IsTextOfLine line l → ((m : StatedLine) → IsTextOfLine line m → l ≡ m) →
+    IsNextStatedLine r l next → ReadsLine line r next
 reads_line line r l None k states only wrong = wrong_reads line r l k only wrong
 reads_line line r l (Some new) k states only follows = λ lines read.
     subst (λ x. IsReadOf (lines ++ x) (stated_reading new)) (sym (kept_line line k)) (read_one line r (stated_reading new) l lines states only follows read)
@@ -130,39 +130,39 @@ nothing_read = record {
 }
 
 -- the lines that are kept of the first ones, and the next one
-pub one_more_kept : (lines : List (List ℕ)) (i : ℕ) → i < length lines → kept (take (i + 1) lines) ≡ kept (take i lines) ++ kept (get_or lines i [] ∷ [])
-one_more_kept lines i within = ap kept (take_more lines i [] within) ∙ filter-append is_kept (take i lines) (get_or lines i [] ∷ [])
+pub one_more_kept : (lines : List (List ℕ)) (i : ℕ) → i < length lines → unskipped_lines (take (i + 1) lines) ≡ unskipped_lines (take i lines) ++ unskipped_lines (get_or lines i [] ∷ [])
+one_more_kept lines i within = ap unskipped_lines (take_more lines i [] within) ∙ filter-append is_kept (take i lines) (get_or lines i [] ∷ [])
 
 -- the next line is read
 pub reads_next : (lines : List (List ℕ)) (i : ℕ) (line : List ℕ) (old : StatedReading) (new : Reading) → i < length lines → line ≡ get_or lines i [] → ReadsLine line old (Some new) →
-    IsReadOf (kept (take i lines)) old → IsReadOf (kept (take (i + 1) lines)) (stated_reading new)
+    IsReadOf (unskipped_lines (take i lines)) old → IsReadOf (unskipped_lines (take (i + 1) lines)) (stated_reading new)
 reads_next lines i line old new within is reads read =
-    subst (λ l. IsReadOf l (stated_reading new)) (sym (one_more_kept lines i within)) (subst (λ l. IsReadOf (kept (take i lines) ++ kept (l ∷ [])) (stated_reading new)) is (reads (kept (take i lines)) read))
+    subst (λ l. IsReadOf l (stated_reading new)) (sym (one_more_kept lines i within)) (subst (λ l. IsReadOf (unskipped_lines (take i lines) ++ unskipped_lines (l ∷ [])) (stated_reading new)) is (reads (unskipped_lines (take i lines)) read))
 
 -- the next line is the first wrong one
 pub first_wrong : (lines : List (List ℕ)) (i number : ℕ) (line : List ℕ) (old : StatedReading) → i < length lines → number ≡ i + 1 → line ≡ get_or lines i [] → is_merge_mark line ≡ false →
-    ReadsLine line old None → IsReadOf (kept (take i lines)) old → IsFirstWrong lines number
+    ReadsLine line old None → IsReadOf (unskipped_lines (take i lines)) old → IsFirstWrong lines number
 first_wrong lines i number line old within counts is unmarked wrong read = record {
   index = i;
   counts = counts;
   line = line;
   at = slice_get-get_or lines i [] within ∙ ap Some (sym is);
   unmarked = unmarked;
-  before = begins_file (kept (take i lines)) old read;
-  wrong = λ begins. wrong (kept (take i lines)) read
-      (subst (λ l. IsBeginning (kept (take i lines) ++ kept (l ∷ []))) (sym is) (subst IsBeginning (one_more_kept lines i within) begins));
+  before = begins_file (unskipped_lines (take i lines)) old read;
+  wrong = λ begins. wrong (unskipped_lines (take i lines)) read
+      (subst (λ l. AreFirstFileLines (unskipped_lines (take i lines) ++ unskipped_lines (l ∷ []))) (sym is) (subst AreFirstFileLines (one_more_kept lines i within) begins));
 }
 
 -- the next line is a merge mark
 pub merged : (lines : List (List ℕ)) (i number : ℕ) (line : List ℕ) (old : StatedReading) → i < length lines → number ≡ i + 1 → line ≡ get_or lines i [] → is_merge_mark line ≡ true →
-    IsReadOf (kept (take i lines)) old → IsMerged lines number
+    IsReadOf (unskipped_lines (take i lines)) old → IsMerged lines number
 merged lines i number line old within counts is marked read = record {
   index = i;
   counts = counts;
   line = line;
   at = slice_get-get_or lines i [] within ∙ ap Some (sym is);
   marked = marked;
-  before = begins_file (kept (take i lines)) old read;
+  before = begins_file (unskipped_lines (take i lines)) old read;
 }
 
 no_more : (more : List StatedLine) → map line_text more ≡ [] → more ≡ []
@@ -178,11 +178,11 @@ only_parts lines r f read text =
     more.1 ∙ (ap (λ l. reading_parts r ++ l) empty ∙ append-nil (reading_parts r))
 
 -- a line is missing
-pub ends_early : (lines : List (List ℕ)) (number : ℕ) (r : StatedReading) → number ≡ line_count lines + 1 → IsEnd r None → IsReadOf (kept lines) r → EndsEarly lines number
+pub ends_early : (lines : List (List ℕ)) (number : ℕ) (r : StatedReading) → number ≡ line_count lines + 1 → IsEnd r None → IsReadOf (unskipped_lines lines) r → EndsEarly lines number
 ends_early lines number r counts none read = record {
   counts = counts;
-  before = begins_file (kept lines) r read;
-  missing = λ f text. none f read.reading text.0 (only_parts (kept lines) r f read text);
+  before = begins_file (unskipped_lines lines) r read;
+  missing = λ f text. none f read.reading text.0 (only_parts (unskipped_lines lines) r f read text);
 }
 
 -- the file is whole

@@ -8,7 +8,7 @@ use Rattle.std.proofs.lemmas.List.{append-nil}
 use Rattle.std.proofs.lemmas.List.Elements.{All-head, All-tail}
 use Rattle.std.proofs.lemmas.Option.{none-some, same_Some}
 use Rattle.trace_model.specs.declared.refutations.Derived.{Derived}
-use Rattle.event_files.specs.Refutations.{last_place}
+use Rattle.event_files.specs.Refutations.{last_derived_place}
 use Rattle.event_files.specs.declared.explanations.ReportHead.{ReportHead}
 use Rattle.event_files.specs.declared.explanations.ExplainedStep.{ExplainedStep}
 use Rattle.event_files.specs.ExplainedLines.{StatedLine, head, row, member, places, entry, conclusion}
@@ -120,12 +120,12 @@ run_entries (d ∷ ds) o rest =
 last_next : (d : Derived) (n k : ℕ) (es : List Derived) → n ≡ suc k → option_map_or (λ (x : Derived). x.place) (slice_get (d ∷ es) n) 0 ≡ option_map_or (λ (x : Derived). x.place) (slice_get es k) 0
 last_next d n k es e = ap (λ j. option_map_or (λ (x : Derived). x.place) (slice_get (d ∷ es) j) 0) e
 
-pub last_of_some : (d : Derived) (ds : List Derived) (o : Option ℕ) → last_of o (d ∷ ds) ≡ Some (last_place (d ∷ ds))
+pub last_of_some : (d : Derived) (ds : List Derived) (o : Option ℕ) → last_of o (d ∷ ds) ≡ Some (last_derived_place (d ∷ ds))
 last_of_some d [] o = refl
 last_of_some d (e ∷ es) o =
     last_of_some e es (Some d.place) ∙ ap Some (sym (last_next d (length (d ∷ e ∷ es) - 1) (length (e ∷ es) - 1) (e ∷ es) (omega arith)))
 
-last_of_nonempty : (ds : List Derived) (o : Option ℕ) → 0 < length ds → last_of o ds ≡ Some (last_place ds)
+last_of_nonempty : (ds : List Derived) (o : Option ℕ) → 0 < length ds → last_of o ds ≡ Some (last_derived_place ds)
 last_of_nonempty [] o some = absurd (omega arith)
 last_of_nonempty (d ∷ ds) o some = last_of_some d ds o
 
@@ -135,7 +135,7 @@ conclusion_step p thread = ap (λ b. cond b (Some (derives None)) None) (eq-eqb 
 -- a whole step
 run_step : (step : ExplainedStep) (rest : List StatedLine) → 0 < length step.derivation → run (derives None) (step_parts step ++ rest) ≡ run (derives None) rest
 run_step step rest some =
-    let last = last_place step.derivation in
+    let last = last_derived_place step.derivation in
     let end = conclusion step.thread last in
     ap (run (derives None)) (append_assoc (map entry step.derivation) (end ∷ []) rest)
     ∙ (run_entries step.derivation None (end ∷ rest)

@@ -10,14 +10,14 @@ use Rattle.std.proofs.lemmas.List.{append-nil, length-append, map-append}
 use Rattle.std.proofs.lemmas.List.Elements.{All-append, All-cons, All-nil, All-push, All-same}
 use Rattle.trace_model.specs.declared.refutations.Derived.{Derived}
 use Rattle.event_files.specs.NumberedText.{AreSmall}
-use Rattle.event_files.specs.Refutations.{last_place}
+use Rattle.event_files.specs.Refutations.{last_derived_place}
 use Rattle.event_files.specs.declared.explanations.ReportHead.{ReportHead}
 use Rattle.event_files.specs.declared.explanations.ExplainedStep.{ExplainedStep}
 use Rattle.event_files.specs.declared.explained_reading.State.{State}
 use Rattle.event_files.specs.declared.explained_reading.State.TheVariants.{Between, Members, Unwitnessed, Steps}
 use Rattle.event_files.specs.ExplainedLines.{StatedLine, head, row, member, places, entry, conclusion}
 use Rattle.event_files.specs.ExplainedText.{IsContents, IsStatedCycle, StatedCycle, StatedEvidence, StatedMember, entry_numbers, file_lines, head_numbers, is_witness, member_numbers, refutation, stated_member, step_numbers, witness}
-use Rattle.event_files.specs.ExplainedReading.{Follows, IsDraft, IsReading, IsSettled, IsState, IsWrongNext, StatedReading, StatedState, between, cycle_parts, ends_potential, file_parts, may_end, members, reading_parts, state_after, state_parts, stated_state, step_parts, steps, unwitnessed, with_state}
+use Rattle.event_files.specs.ExplainedReading.{ReadsStatedLine, IsDraft, IsReading, AreCompleteCycles, IsState, IsWrongNext, StatedReading, StatedState, between, cycle_parts, ends_potential, file_parts, may_end, members, reading_parts, cycle_state, state_parts, stated_state, step_parts, steps, unwitnessed, with_state}
 use Rattle.event_files.proofs.ExplainedOrder.{Expected, start, closed, needs, needs_places, derives, after_cycles, after_evidence, after_member, after_needs, ends, ends_after, expect_members, expects, last_of, last_of_some, next, start_of, wrong_next}
 
 abbrev pub reading : Option ReportHead → List StatedCycle → StatedState → StatedReading
@@ -86,15 +86,15 @@ pub wrong_place : (h : Option ReportHead) (cs : List StatedCycle) (c : List ℕ)
 wrong_place h cs c b ms m other =
     wrong_next (reading h cs (members c b ms)) (member m) (λ is. needs_none (member m) (length c - length ms) b (λ k. unplaced (is_some m.place) b k other) (omega (arith, is.state.1)))
 
-not_last : (es : List Derived) (t p : ℕ) → ((0 < length es) × (last_place es ≡ p) → ⊥) → next (derives (last_of None es)) (conclusion t p) ≡ None
+not_last : (es : List Derived) (t p : ℕ) → ((0 < length es) × (last_derived_place es ≡ p) → ⊥) → next (derives (last_of None es)) (conclusion t p) ≡ None
 not_last [] t p other = refl
 not_last (d ∷ ds) t p other =
-    let differs : eqb (last_place (d ∷ ds)) p ≡ false = ne_eqb (last_place (d ∷ ds)) p (λ same. other (omega arith, same)) in
+    let differs : eqb (last_derived_place (d ∷ ds)) p ≡ false = ne_eqb (last_derived_place (d ∷ ds)) p (λ same. other (omega arith, same)) in
     ap (λ o. next (derives o) (conclusion t p)) (last_of_some d ds None) ∙ ap (λ b. cond b (Some (derives None)) None) differs
 
 -- a conclusion about another place
 pub wrong_last : (h : Option ReportHead) (cs : List StatedCycle) (c : List ℕ) (ms : List StatedMember) (done : List ExplainedStep) (es : List Derived) (t p : ℕ) →
-    ((0 < length es) × (last_place es ≡ p) → ⊥) → IsWrongNext (reading h cs (steps c ms done es)) (conclusion t p)
+    ((0 < length es) × (last_derived_place es ≡ p) → ⊥) → IsWrongNext (reading h cs (steps c ms done es)) (conclusion t p)
 wrong_last h cs c ms done es t p other = wrong_next (reading h cs (steps c ms done es)) (conclusion t p) (λ is. not_last es t p other)
 
 -- a cycle after one that may not end
@@ -149,7 +149,7 @@ adds_line h cs s t l e =
     ap (λ x. map head (option_to_list h) ++ (flat_map cycle_parts cs ++ x)) e ∙ push_line (map head (option_to_list h)) (flat_map cycle_parts cs) (state_parts s) l
 
 pub follows_entry : (h : Option ReportHead) (cs : List StatedCycle) (c : List ℕ) (ms : List StatedMember) (done : List ExplainedStep) (es new : List Derived) (d : Derived) →
-    new ≡ es ++ d ∷ [] → Follows (reading h cs (steps c ms done es)) (entry d) (reading h cs (steps c ms done new))
+    new ≡ es ++ d ∷ [] → ReadsStatedLine (reading h cs (steps c ms done es)) (entry d) (reading h cs (steps c ms done new))
 follows_entry h cs c ms done es new d are is line =
     let small = All-append (λ k. k < 2 ^ 32) (flat_map entry_numbers es) (entry_numbers d) is.state.4 line.small in
     let numbers : flat_map entry_numbers new ≡ flat_map entry_numbers es ++ entry_numbers d =
@@ -167,8 +167,8 @@ follows_entry h cs c ms done es new d are is line =
     )
 
 pub follows_conclusion : (h : Option ReportHead) (cs : List StatedCycle) (c : List ℕ) (ms : List StatedMember) (done new : List ExplainedStep) (es : List Derived) (t p : ℕ) →
-    0 < length es → last_place es ≡ p → new ≡ done ++ record { thread = t; derivation = es } ∷ [] →
-    Follows (reading h cs (steps c ms done es)) (conclusion t p) (reading h cs (steps c ms new []))
+    0 < length es → last_derived_place es ≡ p → new ≡ done ++ record { thread = t; derivation = es } ∷ [] →
+    ReadsStatedLine (reading h cs (steps c ms done es)) (conclusion t p) (reading h cs (steps c ms new []))
 follows_conclusion h cs c ms done new es t p some last are is line =
     let step : ExplainedStep = record { thread = t; derivation = es } in
     let S : ExplainedStep → Type 0 = λ x. 0 < length x.derivation in
@@ -195,7 +195,7 @@ follows_conclusion h cs c ms done new es t p some last are is line =
 -- the state after members
 record IsAfter (cs : List StatedCycle) (c : List ℕ) (b : Bool) (ms : List StatedMember) (s : StatedState) : Type 0 where
   state : IsState s
-  settled : IsSettled cs s
+  settled : AreCompleteCycles cs s
   parts : state_parts s ≡ row c b ∷ map member ms
 
 full_after : (cs : List StatedCycle) (c : List ℕ) (b : Bool) (ms : List StatedMember) → IsDraft c b ms → length ms ≡ length c →
@@ -213,7 +213,7 @@ after_by cs c b ms true missing draft most = record { state = (draft, grind (ari
 after_by cs c b ms false missing draft most = full_after cs c b ms draft (grind (arith, nat_tests))
 
 pub follows_member : (h : Option ReportHead) (cs : List StatedCycle) (c : List ℕ) (b : Bool) (ms new : List StatedMember) (m : StatedMember) (s : StatedState) →
-    is_some m.place ≡ b → new ≡ ms ++ m ∷ [] → s ≡ state_after c b new → Follows (reading h cs (members c b ms)) (member m) (reading h cs s)
+    is_some m.place ≡ b → new ≡ ms ++ m ∷ [] → s ≡ cycle_state c b new → ReadsStatedLine (reading h cs (members c b ms)) (member m) (reading h cs s)
 follows_member h cs c b ms new m s placed are state is line =
     let draft : IsDraft c b new = record {
       low = is.state.0.low;
@@ -237,7 +237,7 @@ one_more_cycle : (cs : List StatedCycle) (c : StatedCycle) → flat_map cycle_pa
 one_more_cycle cs c = flat_map-append cycle_parts cs (c ∷ []) ∙ ap (λ x. flat_map cycle_parts cs ++ x) (append-nil (cycle_parts c))
 
 pub follows_places : (h : Option ReportHead) (cs new : List StatedCycle) (c order : List ℕ) (ms : List StatedMember) →
-    new ≡ cs ++ record { cycle = c; members = ms; evidence = witness order } ∷ [] → Follows (reading h cs (unwitnessed c ms)) (places order) (reading h new between)
+    new ≡ cs ++ record { cycle = c; members = ms; evidence = witness order } ∷ [] → ReadsStatedLine (reading h cs (unwitnessed c ms)) (places order) (reading h new between)
 follows_places h cs new c order ms are is line =
     let one : StatedCycle = record { cycle = c; members = ms; evidence = witness order } in
     let draft = is.state.0 in
@@ -291,7 +291,7 @@ ended_reading h cs (steps c ms done []) whole is =
     }
 
 pub follows_row : (h : Option ReportHead) (cs all : List StatedCycle) (s : StatedState) (c : List ℕ) (b : Bool) → may_end s ≡ true → all ≡ with_state cs s →
-    Follows (reading h cs s) (row c b) (reading h all (members c b []))
+    ReadsStatedLine (reading h cs s) (row c b) (reading h all (members c b []))
 follows_row h cs all s c b whole are is line =
     let ended : IsEnded cs s all = subst (IsEnded cs s) (sym are) (ended_reading h cs s whole is) in
     let front = map head (option_to_list h) in (
@@ -315,7 +315,7 @@ follows_row h cs all s c b whole are is line =
           ∙ push_line front (flat_map cycle_parts cs) (state_parts s) (row c b)),
     )
 
-pub follows_head : (r : StatedReading) (f : ReportHead) → r ≡ reading None [] between → Follows r (head f) (reading (Some f) [] between)
+pub follows_head : (r : StatedReading) (f : ReportHead) → r ≡ reading None [] between → ReadsStatedLine r (head f) (reading (Some f) [] between)
 follows_head r f empty is line = (
   record {
     head_small = All-cons (λ (x : ReportHead). AreSmall (head_numbers x)) f [] line.small (All-nil (λ (x : ReportHead). AreSmall (head_numbers x)));

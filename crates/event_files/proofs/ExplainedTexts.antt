@@ -6,9 +6,9 @@ use Rattle.std.proofs.lemmas.List.Elements.{All-head, All-tail, All-cons, All-ni
 use Rattle.trace_model.specs.declared.refutations.Derived.{Derived}
 use Rattle.trace_model.specs.declared.refutations.Reason.{Reason}
 use Rattle.trace_model.specs.declared.refutations.Reason.TheVariants.{BeforeMember, ThreadOrder, ForkJoin, ReadsFrom, Sections}
-use Rattle.event_files.specs.ExplainedText.{StatedMember, entry_numbers, member_line, member_numbers, place_words, reason_numbers}
-use Rattle.event_files.specs.NumberedText.{AreSmall, is_after_number, is_after_numbers, spaced}
-use Rattle.event_files.specs.Refutations.{entry_line, labeled, reason_line}
+use Rattle.event_files.specs.ExplainedText.{StatedMember, entry_numbers, stated_member_line, member_numbers, place_words, reason_numbers}
+use Rattle.event_files.specs.NumberedText.{AreSmall, is_after_number, is_after_numbers, after_spaces}
+use Rattle.event_files.specs.Refutations.{entry_line, label_and_number, reason_line}
 use Rattle.event_files.proofs.NumberedTexts.{end_all, front_all, same_labeled}
 
 pub first_small : (n : ℕ) (more : List ℕ) → AreSmall (n ∷ more) → n < 2 ^ 32
@@ -38,32 +38,32 @@ pub apart_at : {s t : List ℕ} (i : ℕ) → s ≡ t → eqb (get_or s i 0) (ge
 apart_at i e apart = apart_bytes (ap (λ l. get_or l i 0) e) apart
 
 -- what comes after the first number
-pub after_first : (a b d u v : List ℕ) (q p o n : ℕ) → AreSmall (p ∷ q ∷ []) → AreSmall (n ∷ o ∷ []) → labeled a q ++ labeled b p ++ u ≡ labeled a o ++ labeled d n ++ v →
-    is_after_number (labeled b p ++ u) ≡ true → is_after_number (labeled d n ++ v) ≡ true → (q ≡ o) × (labeled b p ++ u ≡ labeled d n ++ v)
+pub after_first : (a b d u v : List ℕ) (q p o n : ℕ) → AreSmall (p ∷ q ∷ []) → AreSmall (n ∷ o ∷ []) → label_and_number a q ++ label_and_number b p ++ u ≡ label_and_number a o ++ label_and_number d n ++ v →
+    is_after_number (label_and_number b p ++ u) ≡ true → is_after_number (label_and_number d n ++ v) ≡ true → (q ≡ o) × (label_and_number b p ++ u ≡ label_and_number d n ++ v)
 after_first a b d u v q p o n left right e us vs =
-    same_labeled a q o (labeled b p ++ u) (labeled d n ++ v) (second_small p q [] left) (second_small n o [] right) us vs
-    (sym (append_assoc (labeled a q) (labeled b p) u) ∙ (e ∙ append_assoc (labeled a o) (labeled d n) v))
+    same_labeled a q o (label_and_number b p ++ u) (label_and_number d n ++ v) (second_small p q [] left) (second_small n o [] right) us vs
+    (sym (append_assoc (label_and_number a q) (label_and_number b p) u) ∙ (e ∙ append_assoc (label_and_number a o) (label_and_number d n) v))
 
-pub same_pair : (a b u v : List ℕ) (q p o n : ℕ) → AreSmall (p ∷ q ∷ []) → AreSmall (n ∷ o ∷ []) → labeled a q ++ labeled b p ++ u ≡ labeled a o ++ labeled b n ++ v →
-    is_after_number (labeled b p ++ u) ≡ true → is_after_number (labeled b n ++ v) ≡ true → is_after_number u ≡ true → is_after_number v ≡ true → (q ≡ o) × (p ≡ n) × (u ≡ v)
+pub same_pair : (a b u v : List ℕ) (q p o n : ℕ) → AreSmall (p ∷ q ∷ []) → AreSmall (n ∷ o ∷ []) → label_and_number a q ++ label_and_number b p ++ u ≡ label_and_number a o ++ label_and_number b n ++ v →
+    is_after_number (label_and_number b p ++ u) ≡ true → is_after_number (label_and_number b n ++ v) ≡ true → is_after_number u ≡ true → is_after_number v ≡ true → (q ≡ o) × (p ≡ n) × (u ≡ v)
 same_pair a b u v q p o n left right e bu bv us vs =
     let first = after_first a b b u v q p o n left right e bu bv in
     let second = same_labeled b p n u v (first_small p (q ∷ []) left) (first_small n (o ∷ []) right) us vs first.1 in
     (first.0, second.0, second.1)
 
-same_last : (a b : List ℕ) (q p o n : ℕ) → AreSmall (p ∷ q ∷ []) → AreSmall (n ∷ o ∷ []) → labeled a q ++ labeled b p ≡ labeled a o ++ labeled b n →
-    is_after_number (labeled b p ++ []) ≡ true → is_after_number (labeled b n ++ []) ≡ true → (q ≡ o) × (p ≡ n)
+same_last : (a b : List ℕ) (q p o n : ℕ) → AreSmall (p ∷ q ∷ []) → AreSmall (n ∷ o ∷ []) → label_and_number a q ++ label_and_number b p ≡ label_and_number a o ++ label_and_number b n →
+    is_after_number (label_and_number b p ++ []) ≡ true → is_after_number (label_and_number b n ++ []) ≡ true → (q ≡ o) × (p ≡ n)
 same_last a b q p o n left right e bu bv =
-    let s = same_pair a b [] [] q p o n left right (append-nil (labeled a q ++ labeled b p) ∙ (e ∙ sym (append-nil (labeled a o ++ labeled b n)))) bu bv refl refl in
+    let s = same_pair a b [] [] q p o n left right (append-nil (label_and_number a q ++ label_and_number b p) ∙ (e ∙ sym (append-nil (label_and_number a o ++ label_and_number b n)))) bu bv refl refl in
     (s.0, s.1)
 
 same_triple : (a b d u : List ℕ) (q r p o m n : ℕ) → AreSmall (p ∷ q ∷ r ∷ []) → AreSmall (n ∷ o ∷ m ∷ []) →
-    labeled a q ++ labeled b r ++ labeled d p ++ u ≡ labeled a o ++ labeled b m ++ labeled d n ++ u →
-    is_after_number (labeled b r ++ labeled d p ++ u) ≡ true → is_after_number (labeled b m ++ labeled d n ++ u) ≡ true →
-    is_after_number (labeled d p ++ u) ≡ true → is_after_number (labeled d n ++ u) ≡ true → is_after_number u ≡ true → (q ≡ o) × (r ≡ m) × (p ≡ n)
+    label_and_number a q ++ label_and_number b r ++ label_and_number d p ++ u ≡ label_and_number a o ++ label_and_number b m ++ label_and_number d n ++ u →
+    is_after_number (label_and_number b r ++ label_and_number d p ++ u) ≡ true → is_after_number (label_and_number b m ++ label_and_number d n ++ u) ≡ true →
+    is_after_number (label_and_number d p ++ u) ≡ true → is_after_number (label_and_number d n ++ u) ≡ true → is_after_number u ≡ true → (q ≡ o) × (r ≡ m) × (p ≡ n)
 same_triple a b d u q r p o m n left right e bu bv du dv us =
-    let first = same_labeled a q o (labeled b r ++ labeled d p ++ u) (labeled b m ++ labeled d n ++ u) (second_small p q (r ∷ []) left) (second_small n o (m ∷ []) right) bu bv
-    (sym (split_two (labeled a q) (labeled b r) (labeled d p) u) ∙ (e ∙ split_two (labeled a o) (labeled b m) (labeled d n) u)) in
+    let first = same_labeled a q o (label_and_number b r ++ label_and_number d p ++ u) (label_and_number b m ++ label_and_number d n ++ u) (second_small p q (r ∷ []) left) (second_small n o (m ∷ []) right) bu bv
+    (sym (split_two (label_and_number a q) (label_and_number b r) (label_and_number d p) u) ∙ (e ∙ split_two (label_and_number a o) (label_and_number b m) (label_and_number d n) u)) in
     let small : (x y z : ℕ) → AreSmall (x ∷ y ∷ z ∷ []) → AreSmall (x ∷ z ∷ []) = λ x y z s.
     All-cons (λ k. k < 2 ^ 32) x (z ∷ []) (first_small x (y ∷ z ∷ []) s) (All-cons (λ k. k < 2 ^ 32) z [] (third_small x y z [] s) (All-nil (λ k. k < 2 ^ 32))) in
     let second = same_pair b d u u r p m n (small p q r left) (small n o m right) first.1 du dv us us in
@@ -110,8 +110,8 @@ only_entry text found d sound own small is = ap Some (same_entry found d own sma
 -- the text is not that of two numbers with these labels and this ending
 abbrev pub IsNoPair : List ℕ → List ℕ → List ℕ → List ℕ → Type 0
 IsNoPair text label next ending =
-    (m n : ℕ) → m < 2 ^ 32 → n < 2 ^ 32 → is_after_number (labeled next n ++ ending) ≡ true → is_after_number ending ≡ true →
-    text ≡ labeled label m ++ labeled next n ++ ending → ⊥
+    (m n : ℕ) → m < 2 ^ 32 → n < 2 ^ 32 → is_after_number (label_and_number next n ++ ending) ≡ true → is_after_number ending ≡ true →
+    text ≡ label_and_number label m ++ label_and_number next n ++ ending → ⊥
 
 -- a text that is that of no kind of entry is that of no entry
 pub no_entry : (r : Reason) (p : ℕ) (text : List ℕ) → AreSmall (p ∷ reason_numbers r) → text ≡ reason_line r p →
@@ -131,9 +131,9 @@ no_entry (Sections q r) p text small is before order fork reads sections =
 
 -- a text that does not end as the line of a member
 pub no_place : (place : Option ℕ) (text : List ℕ) → AreSmall (option_to_list place) → text ≡ place_words place → (length text ≡ 0 → ⊥) →
-    ((p : ℕ) → p < 2 ^ 32 → text ≡ labeled (codes " place ") p ++ [] → ⊥) → ⊥
+    ((p : ℕ) → p < 2 ^ 32 → text ≡ label_and_number (codes " place ") p ++ [] → ⊥) → ⊥
 no_place None text small is full none = full (ap length is)
-no_place (Some p) text small is full none = none p (small 0 0 (lit< tt)) (is ∙ sym (append-nil (labeled (codes " place ") p)))
+no_place (Some p) text small is full none = none p (small 0 0 (lit< tt)) (is ∙ sym (append-nil (label_and_number (codes " place ") p)))
 
 pub stops_place : (place : Option ℕ) → is_after_numbers (place_words place) ≡ true
 stops_place None = refl
@@ -156,7 +156,7 @@ small_parts m small =
     }
 
 -- the line of a member, apart after its thread and lock
-pub member_apart : (m : StatedMember) (text : List ℕ) → text ≡ member_line m →
-    text ≡ labeled (codes "  thread ") m.thread ++ labeled (codes " lock ") m.lock ++ codes " holds" ++ (spaced m.held ++ place_words m.place)
+pub member_apart : (m : StatedMember) (text : List ℕ) → text ≡ stated_member_line m →
+    text ≡ label_and_number (codes "  thread ") m.thread ++ label_and_number (codes " lock ") m.lock ++ codes " holds" ++ (after_spaces m.held ++ place_words m.place)
 member_apart m text is =
-    is ∙ append_assoc (labeled (codes "  thread ") m.thread ++ labeled (codes " lock ") m.lock ++ codes " holds") (spaced m.held) (place_words m.place)
+    is ∙ append_assoc (label_and_number (codes "  thread ") m.thread ++ label_and_number (codes " lock ") m.lock ++ codes " holds") (after_spaces m.held) (place_words m.place)

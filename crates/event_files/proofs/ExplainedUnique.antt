@@ -5,7 +5,7 @@ use Rattle.std.specs.List.{All, flat_map}
 use Rattle.std.proofs.lemmas.Bool.{true≢false}
 use Rattle.std.proofs.lemmas.List.Elements.{All-head, All-tail}
 use Rattle.trace_model.specs.declared.refutations.Derived.{Derived}
-use Rattle.event_files.specs.Refutations.{last_place}
+use Rattle.event_files.specs.Refutations.{last_derived_place}
 use Rattle.event_files.specs.declared.explanations.ReportHead.{ReportHead}
 use Rattle.event_files.specs.declared.explanations.ExplainedStep.{ExplainedStep}
 use Rattle.event_files.specs.ExplainedLines.{StatedLine, conclusion, entry, head, member, row}
@@ -44,9 +44,9 @@ same_entries (x ∷ es) (d ∷ ds) t u p q a b e =
 
 same_step : (s t : ExplainedStep) (a b : List StatedLine) → step_parts s ++ a ≡ step_parts t ++ b → (s ≡ t) × (a ≡ b)
 same_step s t a b e =
-    let same = same_entries s.derivation t.derivation s.thread t.thread (last_place s.derivation) (last_place t.derivation) a b
-    (sym (append_assoc (map entry s.derivation) (conclusion s.thread (last_place s.derivation) ∷ []) a)
-    ∙ (e ∙ append_assoc (map entry t.derivation) (conclusion t.thread (last_place t.derivation) ∷ []) b)) in
+    let same = same_entries s.derivation t.derivation s.thread t.thread (last_derived_place s.derivation) (last_derived_place t.derivation) a b
+    (sym (append_assoc (map entry s.derivation) (conclusion s.thread (last_derived_place s.derivation) ∷ []) a)
+    ∙ (e ∙ append_assoc (map entry t.derivation) (conclusion t.thread (last_derived_place t.derivation) ∷ []) b)) in
     ((λ i. record { thread = same.1 i; derivation = same.0 i }), same.2)
 
 -- a step does not begin as a cycle
@@ -61,9 +61,9 @@ same_steps : (ss ts : List ExplainedStep) (a b : List StatedLine) → All Derive
     flat_map step_parts ss ++ a ≡ flat_map step_parts ts ++ b → (ss ≡ ts) × (a ≡ b)
 same_steps [] [] a b left right abegins bbegins e = (refl, e)
 same_steps [] (t ∷ ts) a b left right abegins bbegins e =
-    absurd (no_cycle t.derivation (conclusion t.thread (last_place t.derivation) ∷ []) (flat_map step_parts ts ++ b) a (All-head Derives t ts right) abegins (e ∙ append_assoc (step_parts t) (flat_map step_parts ts) b))
+    absurd (no_cycle t.derivation (conclusion t.thread (last_derived_place t.derivation) ∷ []) (flat_map step_parts ts ++ b) a (All-head Derives t ts right) abegins (e ∙ append_assoc (step_parts t) (flat_map step_parts ts) b))
 same_steps (s ∷ ss) [] a b left right abegins bbegins e =
-    absurd (no_cycle s.derivation (conclusion s.thread (last_place s.derivation) ∷ []) (flat_map step_parts ss ++ a) b (All-head Derives s ss left) bbegins (sym e ∙ append_assoc (step_parts s) (flat_map step_parts ss) a))
+    absurd (no_cycle s.derivation (conclusion s.thread (last_derived_place s.derivation) ∷ []) (flat_map step_parts ss ++ a) b (All-head Derives s ss left) bbegins (sym e ∙ append_assoc (step_parts s) (flat_map step_parts ss) a))
 same_steps (s ∷ ss) (t ∷ ts) a b left right abegins bbegins e =
     let first = same_step s t (flat_map step_parts ss ++ a) (flat_map step_parts ts ++ b)
     (sym (append_assoc (step_parts s) (flat_map step_parts ss) a) ∙ (e ∙ append_assoc (step_parts t) (flat_map step_parts ts) b)) in

@@ -15,8 +15,8 @@ use Rattle.std.proofs.lemmas.List.Sums.{prefix_len-le-length}
 use Rattle.std.proofs.lemmas.Option.{cond_some, none-some}
 use Rattle.std.proofs.lemmas.Str.Parse.{digit_from_value}
 use Rattle.event_files.specs.EventFile.{is_no_digit}
-use Rattle.event_files.specs.NumberedText.{AreSmall, after_space, is_after_number, is_after_numbers, spaced}
-use Rattle.event_files.specs.Refutations.{labeled}
+use Rattle.event_files.specs.NumberedText.{AreSmall, after_space, is_after_number, is_after_numbers, after_spaces}
+use Rattle.event_files.specs.Refutations.{label_and_number}
 
 digit_is : (c : ℕ) → 48 ≤ c → c ≤ 57 → is_ascii_digit c ≡ true
 digit_is c low high = grind (arith, nat_tests)
@@ -67,7 +67,7 @@ same_numbers m n a b ms ns astop bstop e =
     let right = number_begins (decimal m ++ a) n b count ns bstop e refl in
     (decimal_injective m n (omega arith) (omega arith) (sym left.digits ∙ right.digits), sym left.others ∙ right.others)
 
-pub same_labeled : (label : List ℕ) (m n : ℕ) (a b : List ℕ) → m < 2 ^ 32 → n < 2 ^ 32 → is_after_number a ≡ true → is_after_number b ≡ true → labeled label m ++ a ≡ labeled label n ++ b → (m ≡ n) × (a ≡ b)
+pub same_labeled : (label : List ℕ) (m n : ℕ) (a b : List ℕ) → m < 2 ^ 32 → n < 2 ^ 32 → is_after_number a ≡ true → is_after_number b ≡ true → label_and_number label m ++ a ≡ label_and_number label n ++ b → (m ≡ n) × (a ≡ b)
 same_labeled label m n a b ms ns astop bstop e =
     same_numbers m n a b ms ns astop bstop (append_cancel_left label _ _ (sym (append_assoc label (decimal m) a) ∙ e ∙ append_assoc label (decimal n) b))
 
@@ -80,7 +80,7 @@ pub not_after : (n : ℕ) (rest : List ℕ) → n < 2 ^ 32 → is_after_number (
 not_after n rest small = first_digit (decimal n) rest (decimal_is_IsNumeral n (omega arith)).0.1 (decimal_nonempty n (omega arith))
 
 -- what comes after numbers, or more numbers, does not begin with a digit
-pub stops_spaced : (numbers rest : List ℕ) → is_after_numbers rest ≡ true → is_after_number (spaced numbers ++ rest) ≡ true
+pub stops_spaced : (numbers rest : List ℕ) → is_after_numbers rest ≡ true → is_after_number (after_spaces numbers ++ rest) ≡ true
 stops_spaced [] rest stops = (and_parts (is_after_number rest) (is_after_number (after_space rest)) stops).0
 stops_spaced (n ∷ numbers) rest stops = refl
 
@@ -88,23 +88,23 @@ stops_spaced (n ∷ numbers) rest stops = refl
 pub record LeftOf (items : List ℕ) (text : List ℕ) (numbers rest : List ℕ) : Type 0 where
   pub more : List ℕ
   pub numbers_are : numbers ≡ items ++ more
-  pub text_is : text ≡ spaced more ++ rest
+  pub text_is : text ≡ after_spaces more ++ rest
 
 -- a text in which one number after a space was read
 pub record IsOneNumber (text : List ℕ) (n : ℕ) (next : List ℕ) : Type 0 where
   pub small : n < 2 ^ 32
-  pub is : text ≡ labeled (codes " ") n ++ next
-  pub only : (m : ℕ) (tail : List ℕ) → m < 2 ^ 32 → is_after_number tail ≡ true → text ≡ labeled (codes " ") m ++ tail → (n ≡ m) × (next ≡ tail)
+  pub is : text ≡ label_and_number (codes " ") n ++ next
+  pub only : (m : ℕ) (tail : List ℕ) → m < 2 ^ 32 → is_after_number tail ≡ true → text ≡ label_and_number (codes " ") m ++ tail → (n ≡ m) × (next ≡ tail)
 
 one_fewer : (items text next more numbers rest : List ℕ) (n : ℕ) → IsOneNumber text n next → AreSmall more → is_after_numbers rest ≡ true →
-    numbers ≡ items ++ more → text ≡ spaced more ++ rest → LeftOf (items ++ n ∷ []) next numbers rest
+    numbers ≡ items ++ more → text ≡ after_spaces more ++ rest → LeftOf (items ++ n ∷ []) next numbers rest
 one_fewer items text next [] numbers rest n read small stops are is =
     let bad = (and_parts (is_after_number rest) (is_after_number (after_space rest)) stops).1 in
-    let begins : rest ≡ labeled (codes " ") n ++ next = sym is ∙ read.is in
+    let begins : rest ≡ label_and_number (codes " ") n ++ next = sym is ∙ read.is in
     absurd (true≢false (sym (subst (λ t. is_after_number (after_space t) ≡ true) begins bad) ∙ not_after n next read.small))
 one_fewer items text next (m ∷ more) numbers rest n read small stops are is =
-    let here = is ∙ append_assoc (labeled (codes " ") m) (spaced more) rest in
-    let same = read.only m (spaced more ++ rest) (All-head (λ k. k < 2 ^ 32) m more small) (stops_spaced more rest stops) here in
+    let here = is ∙ append_assoc (label_and_number (codes " ") m) (after_spaces more) rest in
+    let same = read.only m (after_spaces more ++ rest) (All-head (λ k. k < 2 ^ 32) m more small) (stops_spaced more rest stops) here in
     record {
       more = more;
       numbers_are = are ∙ (sym (append_assoc items (m ∷ []) more) ∙ ap (λ k. (items ++ k ∷ []) ++ more) (sym same.0));
@@ -126,21 +126,21 @@ pub reads_one : (items text next numbers rest : List ℕ) (n : ℕ) → IsOneNum
 reads_one items text next numbers rest n read small stops left =
     one_fewer items text next left.more numbers rest n read (end_all (λ k. k < 2 ^ 32) items left.more (subst AreSmall left.numbers_are small)) stops left.numbers_are left.text_is
 
-none_left : (items text more numbers rest : List ℕ) → ((m : ℕ) (tail : List ℕ) → m < 2 ^ 32 → is_after_number tail ≡ true → text ≡ labeled (codes " ") m ++ tail → ⊥) →
-    AreSmall more → is_after_numbers rest ≡ true → numbers ≡ items ++ more → text ≡ spaced more ++ rest → (items ≡ numbers) × (text ≡ rest)
+none_left : (items text more numbers rest : List ℕ) → ((m : ℕ) (tail : List ℕ) → m < 2 ^ 32 → is_after_number tail ≡ true → text ≡ label_and_number (codes " ") m ++ tail → ⊥) →
+    AreSmall more → is_after_numbers rest ≡ true → numbers ≡ items ++ more → text ≡ after_spaces more ++ rest → (items ≡ numbers) × (text ≡ rest)
 none_left items text [] numbers rest none small stops are is = (sym (are ∙ append-nil items), is)
 none_left items text (m ∷ more) numbers rest none small stops are is =
-    absurd (none m (spaced more ++ rest) (All-head (λ k. k < 2 ^ 32) m more small) (stops_spaced more rest stops) (is ∙ append_assoc (labeled (codes " ") m) (spaced more) rest))
+    absurd (none m (after_spaces more ++ rest) (All-head (λ k. k < 2 ^ 32) m more small) (stops_spaced more rest stops) (is ∙ append_assoc (label_and_number (codes " ") m) (after_spaces more) rest))
 
 -- all numbers were read
-pub reads_all : (items text numbers rest : List ℕ) → ((m : ℕ) (tail : List ℕ) → m < 2 ^ 32 → is_after_number tail ≡ true → text ≡ labeled (codes " ") m ++ tail → ⊥) →
+pub reads_all : (items text numbers rest : List ℕ) → ((m : ℕ) (tail : List ℕ) → m < 2 ^ 32 → is_after_number tail ≡ true → text ≡ label_and_number (codes " ") m ++ tail → ⊥) →
     AreSmall numbers → is_after_numbers rest ≡ true → LeftOf items text numbers rest → (items ≡ numbers) × (text ≡ rest)
 reads_all items text numbers rest none small stops left =
     none_left items text left.more numbers rest none (end_all (λ k. k < 2 ^ 32) items left.more (subst AreSmall left.numbers_are small)) stops left.numbers_are left.text_is
 
 -- the text of the numbers so far and one more
-pub one_more_spaced : (text items after rest next : List ℕ) (n : ℕ) → text ≡ spaced items ++ rest → rest ≡ labeled (codes " ") n ++ next → after ≡ items ++ n ∷ [] → text ≡ spaced after ++ next
+pub one_more_spaced : (text items after rest next : List ℕ) (n : ℕ) → text ≡ after_spaces items ++ rest → rest ≡ label_and_number (codes " ") n ++ next → after ≡ items ++ n ∷ [] → text ≡ after_spaces after ++ next
 one_more_spaced text items after rest next n before read are =
-    let whole : spaced (items ++ n ∷ []) ≡ spaced items ++ labeled (codes " ") n =
-    flat_map-append (labeled (codes " ")) items (n ∷ []) ∙ ap (λ l. spaced items ++ l) (append-nil (labeled (codes " ") n)) in
-    before ∙ (ap (λ l. spaced items ++ l) read ∙ (sym (append_assoc (spaced items) (labeled (codes " ") n) next) ∙ ap (λ l. l ++ next) (sym (ap spaced are ∙ whole))))
+    let whole : after_spaces (items ++ n ∷ []) ≡ after_spaces items ++ label_and_number (codes " ") n =
+    flat_map-append (label_and_number (codes " ")) items (n ∷ []) ∙ ap (λ l. after_spaces items ++ l) (append-nil (label_and_number (codes " ") n)) in
+    before ∙ (ap (λ l. after_spaces items ++ l) read ∙ (sym (append_assoc (after_spaces items) (label_and_number (codes " ") n) next) ∙ ap (λ l. l ++ next) (sym (ap after_spaces are ∙ whole))))

@@ -31,16 +31,16 @@ zero_alone zero small first = (λ i. 0, ap length (decimal_digit 0 (omega arith)
 zero_alone (suc n) small first = absurd (omega (arith, first_decimal (suc n) (omega arith) (omega arith)))
 
 -- a text of digits is the numeral of its value if it is not empty and has no leading zero
-pub text_of_its_value : (told : Option ℕ) (text : List ℕ) → IfSome told (IsValueOf text) → 0 < length text →
-    get_or text 0 0 ≢ 48 → IfSome told (λ n. text ≡ decimal n)
+pub text_of_its_value : (outcome : Option ℕ) (text : List ℕ) → IfSome outcome (IsValueOf text) → 0 < length text →
+    get_or text 0 0 ≢ 48 → IfSome outcome (λ n. text ≡ decimal n)
 text_of_its_value None text value some first = tt
 text_of_its_value (Some n) text value some first =
     sym (decimal-digits_value (numerals_by_value (AllDigits 10) tells_digits) text value.0.0 some (λ is. absurd (first is)) (omega (arith, value.0.1, value.1))) ∙
     ap decimal value.0.1
 
 -- the value of the numeral of a number is that number
-pub value_of_its_text : (told : Option ℕ) (n : ℕ) → n < 2 ^ 32 → IfSome told (IsValueOf (decimal n)) →
-    IfNone told (IsTooLarge (decimal n)) → told ≡ Some n
+pub value_of_its_text : (outcome : Option ℕ) (n : ℕ) → n < 2 ^ 32 → IfSome outcome (IsValueOf (decimal n)) →
+    IfNone outcome (IsTooLarge (decimal n)) → outcome ≡ Some n
 value_of_its_text None n small value large =
     let numeral = decimal_is_IsNumeral n (omega arith) in
     absurd (omega (arith, large numeral.0.1, numeral.1))

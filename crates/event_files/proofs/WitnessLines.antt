@@ -7,7 +7,7 @@ use Rattle.std.proofs.lemmas.List.{length-map, map-append, take_more}
 use Rattle.std.proofs.lemmas.List.Elements.{All-get_or, filter-append}
 use Rattle.std.proofs.lemmas.Option.{none-some, same_Some, slice_get-map, slice_get_within, get_or_from_slice_get}
 use Rattle.event_files.specs.EventFile.{is_word, line_words}
-use Rattle.event_files.specs.WitnessFile.{AreNumerals, IsKeyed, IsOrder, IsWitness, IsBeginning, IsFirstWrong, IsReadOf, IsWrongNext, Reading, ReadsOn, has_words, worded, and_line, line_count}
+use Rattle.event_files.specs.WitnessFile.{AreNumerals, IsKeyed, IsOrder, AreWitnessLines, AreFirstWitnessLines, IsFirstWrong, IsReadOf, IsWrongNext, WitnessReading, ReadsOn, has_words, words_of_lines, and_line, line_count}
 
 is_numeral : (numbers : List ℕ) (i : ℕ) (word : List ℕ) (o : Option ℕ) → All (λ n. n < 2 ^ 32) numbers → slice_get numbers i ≡ o → option_map decimal o ≡ Some word →
     (n : ℕ) × (n < 2 ^ 32) × (word ≡ decimal n)
@@ -31,27 +31,27 @@ added lines words some = ap (λ l. lines ++ l) (kept words some)
 
 pub no_order : (words : List (List ℕ)) (instance : List ℕ) → has_words words ≡ true → ((order : List ℕ) → IsOrder order words → ⊥) → IsWrongNext words (Some instance, None)
 no_order words instance some never = λ lines read begins.
-    let two : IsBeginning (read.0 ∷ words ∷ []) = subst IsBeginning (added lines words some ∙ ap (λ l. l ++ words ∷ []) read.1) begins in
+    let two : AreFirstWitnessLines (read.0 ∷ words ∷ []) = subst AreFirstWitnessLines (added lines words some ∙ ap (λ l. l ++ words ∷ []) read.1) begins in
     never two.1 two.3
 
-witness_begins : (instance order : List ℕ) (lines : List (List (List ℕ))) → IsWitness instance order lines → IsBeginning lines
+witness_begins : (instance order : List ℕ) (lines : List (List (List ℕ))) → AreWitnessLines instance order lines → AreFirstWitnessLines lines
 witness_begins instance order [] is = tt
 witness_begins instance order (first ∷ []) is = absurd is
 witness_begins instance order (first ∷ second ∷ []) is = (instance, order, is.0, is.1)
 witness_begins instance order (first ∷ second ∷ third ∷ more) is = absurd is
 
 -- the lines that were read begin a witness
-pub begins : (lines : List (List (List ℕ))) (instance order : Option (List ℕ)) → IsReadOf lines (instance, order) → IsBeginning lines
-begins lines None None read = subst IsBeginning (sym read) tt
+pub begins : (lines : List (List (List ℕ))) (instance order : Option (List ℕ)) → IsReadOf lines (instance, order) → AreFirstWitnessLines lines
+begins lines None None read = subst AreFirstWitnessLines (sym read) tt
 begins lines None (Some order) read = absurd read
-begins lines (Some instance) None read = subst IsBeginning (sym read.1) (instance, read.2)
+begins lines (Some instance) None read = subst AreFirstWitnessLines (sym read.1) (instance, read.2)
 begins lines (Some instance) (Some order) read = witness_begins instance order lines read
 
 -- the lines with words among the first ones, and the next one
-pub one_more_worded : (lines : List (List ℕ)) (i : ℕ) → i < length lines → worded (take (i + 1) lines) ≡ and_line (worded (take i lines)) (line_words (get_or lines i []))
+pub one_more_worded : (lines : List (List ℕ)) (i : ℕ) → i < length lines → words_of_lines (take (i + 1) lines) ≡ and_line (words_of_lines (take i lines)) (line_words (get_or lines i []))
 one_more_worded lines i within =
     let line = get_or lines i [] in
-    ap worded (take_more lines i [] within)
+    ap words_of_lines (take_more lines i [] within)
     ∙ (ap (filter has_words) (map-append line_words (take i lines) (line ∷ []))
     ∙ filter-append has_words (map line_words (take i lines)) (line_words line ∷ []))
 
@@ -103,26 +103,26 @@ no_order_next words (Some instance) None some is none never = no_order words ins
 no_order_next words (Some instance) (Some order) some is none never = absurd (none-some _ (sym none))
 
 -- the next line is read too
-pub reads_next : (lines : List (List ℕ)) (i : ℕ) (words : List (List ℕ)) (old new : Reading) → i < length lines → words ≡ line_words (get_or lines i []) →
-    IsReadOf (worded (take i lines)) old → ReadsOn words old new → IsReadOf (worded (take (i + 1) lines)) new
+pub reads_next : (lines : List (List ℕ)) (i : ℕ) (words : List (List ℕ)) (old new : WitnessReading) → i < length lines → words ≡ line_words (get_or lines i []) →
+    IsReadOf (words_of_lines (take i lines)) old → ReadsOn words old new → IsReadOf (words_of_lines (take (i + 1) lines)) new
 reads_next lines i words old new within are read on =
-    subst (λ l. IsReadOf l new) (sym (one_more_worded lines i within ∙ ap (and_line (worded (take i lines))) (sym are))) (on (worded (take i lines)) read)
+    subst (λ l. IsReadOf l new) (sym (one_more_worded lines i within ∙ ap (and_line (words_of_lines (take i lines))) (sym are))) (on (words_of_lines (take i lines)) read)
 
 -- the next line is the first wrong one
 pub is_wrong : (lines : List (List ℕ)) (i number : ℕ) (words : List (List ℕ)) (instance order : Option (List ℕ)) → i < length lines → number ≡ i + 1 → words ≡ line_words (get_or lines i []) →
-    IsReadOf (worded (take i lines)) (instance, order) → IsWrongNext words (instance, order) → IsFirstWrong lines number
+    IsReadOf (words_of_lines (take i lines)) (instance, order) → IsWrongNext words (instance, order) → IsFirstWrong lines number
 is_wrong lines i number words instance order within counts are read wrong = record {
   index = i;
   within = within;
   counts = counts;
-  before = begins (worded (take i lines)) instance order read;
-  wrong = λ more. wrong (worded (take i lines)) read (subst IsBeginning (one_more_worded lines i within ∙ ap (and_line (worded (take i lines))) (sym are)) more);
+  before = begins (words_of_lines (take i lines)) instance order read;
+  wrong = λ more. wrong (words_of_lines (take i lines)) read (subst AreFirstWitnessLines (one_more_worded lines i within ∙ ap (and_line (words_of_lines (take i lines))) (sym are)) more);
 }
 
 -- the numbers after a keyword
 pub after_keyword : {X E : Type 0} (items : X → List ℕ) (keyword first : List ℕ) (rest words : List (List ℕ)) (r : Result (Option X) E) → words ≡ first ∷ rest → first ≡ keyword →
-    IfOk r (λ told. MatchOption told ((numbers : List ℕ) → AreNumerals numbers rest → ⊥) (λ x. AreNumerals (items x) rest)) →
-    IfOk r (λ told. MatchOption told ((numbers : List ℕ) → IsKeyed keyword numbers words → ⊥) (λ x. IsKeyed keyword (items x) words))
+    IfOk r (λ outcome. MatchOption outcome ((numbers : List ℕ) → AreNumerals numbers rest → ⊥) (λ x. AreNumerals (items x) rest)) →
+    IfOk r (λ outcome. MatchOption outcome ((numbers : List ℕ) → IsKeyed keyword numbers words → ⊥) (λ x. IsKeyed keyword (items x) words))
 after_keyword items keyword first rest words (Err e) are is h = tt
 after_keyword items keyword first rest words (Ok None) are is h = λ numbers keyed. h numbers (subst (IsKeyed keyword numbers) are keyed).1
 after_keyword items keyword first rest words (Ok (Some x)) are is h = subst (IsKeyed keyword (items x)) (sym are) (is, h)

@@ -59,8 +59,8 @@ abbrev pub AreEventsIn : List Event → List (List ℕ) → Type 0
 AreEventsIn events lines = map event_word events ≡ flat_map line_words lines
 
 -- The words of the file are exactly those of the events.
-abbrev pub AreEventsOf : List Event → List ℕ → Type 0
-AreEventsOf events file = map event_word events ≡ file_words file
+abbrev pub AreWordsOfEvents : List Event → List ℕ → Type 0
+AreWordsOfEvents events file = map event_word events ≡ file_words file
 
 -- The word denotes an event whose numbers fit in 32 bits.
 abbrev pub IsEventWord : List ℕ → Type 0

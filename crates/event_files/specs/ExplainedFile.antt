@@ -22,8 +22,8 @@ abbrev pub is_kept : List ℕ → Bool
 is_kept line = is_merge_mark line || (has_words (line_words line) && not (is_added line))
 
 -- The lines that are not skipped.
-abbrev pub kept : List (List ℕ) → List (List ℕ)
-kept lines = filter is_kept lines
+abbrev pub unskipped_lines : List (List ℕ) → List (List ℕ)
+unskipped_lines lines = filter is_kept lines
 
 -- The lines are those of a file with these contents.
 abbrev pub IsTextOf : Contents → List (List ℕ) → Type 0
@@ -35,15 +35,15 @@ IsOnlyTextOf f lines = (other : Contents) → IsTextOf other lines → other ≡
 
 -- The lines of the file that are not skipped are exactly those of the explained cycles.
 abbrev pub IsExplainedText : ExplainedFile → List ℕ → Type 0
-IsExplainedText f file = IsTextOf (contents_of f) (kept (pieces_at 10 file))
+IsExplainedText f file = IsTextOf (contents_of f) (unskipped_lines (pieces_at 10 file))
 
 -- No other contents have the lines of the file that are not skipped.
 abbrev pub IsOnlyExplainedText : ExplainedFile → List ℕ → Type 0
-IsOnlyExplainedText f file = IsOnlyTextOf (contents_of f) (kept (pieces_at 10 file))
+IsOnlyExplainedText f file = IsOnlyTextOf (contents_of f) (unskipped_lines (pieces_at 10 file))
 
 -- These are the first lines of a file, or all of them.
-abbrev pub IsBeginning : List (List ℕ) → Type 0
-IsBeginning lines =
+abbrev pub AreFirstFileLines : List (List ℕ) → Type 0
+AreFirstFileLines lines =
     (f : Contents) × (rest : List (List ℕ)) × IsContents f × (file_lines f ≡ lines ++ rest)
 
 -- The line with this number, counted from 1, is the first that no file has there.
@@ -53,14 +53,14 @@ pub record IsFirstWrong (lines : List (List ℕ)) (number : ℕ) : Type 0 where
   pub line : List ℕ
   pub at : slice_get lines index ≡ Some line
   pub unmarked : is_merge_mark line ≡ false
-  pub before : IsBeginning (kept (take index lines))
-  pub wrong : IsBeginning (kept (take (index + 1) lines)) → ⊥
+  pub before : AreFirstFileLines (unskipped_lines (take index lines))
+  pub wrong : AreFirstFileLines (unskipped_lines (take (index + 1) lines)) → ⊥
 
 -- A line is missing at the end. The number is one more than the number of lines.
 pub record EndsEarly (lines : List (List ℕ)) (number : ℕ) : Type 0 where
   pub counts : number ≡ line_count lines + 1
-  pub before : IsBeginning (kept lines)
-  pub missing : (f : Contents) → IsTextOf f (kept lines) → ⊥
+  pub before : AreFirstFileLines (unskipped_lines lines)
+  pub missing : (f : Contents) → IsTextOf f (unskipped_lines lines) → ⊥
 
 -- The line with this number, counted from 1, says that cycles were merged. All before it is right.
 pub record IsMerged (lines : List (List ℕ)) (number : ℕ) : Type 0 where
@@ -69,7 +69,7 @@ pub record IsMerged (lines : List (List ℕ)) (number : ℕ) : Type 0 where
   pub line : List ℕ
   pub at : slice_get lines index ≡ Some line
   pub marked : is_merge_mark line ≡ true
-  pub before : IsBeginning (kept (take index lines))
+  pub before : AreFirstFileLines (unskipped_lines (take index lines))
 
 -- The refusal of a file with these lines is right.
 abbrev pub RefusesLines : List (List ℕ) → ExplainedRefused → Type 0

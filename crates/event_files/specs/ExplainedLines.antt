@@ -3,7 +3,7 @@ use Rattle.std.specs.Prelude.{◌≡◌, ℕ, ◌≤◌, Bool, List, [], ◌∷�
 use Rattle.trace_model.specs.declared.refutations.Derived.{Derived}
 use Rattle.event_files.specs.NumberedText.{AreSmall}
 use Rattle.event_files.specs.Refutations.{conclusion_line, entry_line}
-use Rattle.event_files.specs.ExplainedText.{StatedMember, cycle_line, entry_numbers, head_line, head_numbers, member_line, member_numbers, stated_member, witness_line}
+use Rattle.event_files.specs.ExplainedText.{StatedMember, cycle_line, entry_numbers, head_line, head_numbers, stated_member_line, member_numbers, stated_member, stated_witness_line}
 use Rattle.event_files.specs.declared.explanations.ReportHead.{ReportHead}
 use Rattle.event_files.specs.declared.explained_lines.ExplainedLine.{ExplainedLine}
 use Rattle.event_files.specs.declared.explained_lines.ExplainedLine.TheVariants.{Head, Row, Member, Places, Entry, Conclusion}
@@ -31,8 +31,8 @@ stated_line (Conclusion thread place) = conclusion thread place
 abbrev pub line_text : StatedLine → List ℕ
 line_text (head h) = head_line h
 line_text (row cycle confirmed) = cycle_line cycle confirmed
-line_text (member m) = member_line m
-line_text (places order) = witness_line order
+line_text (member m) = stated_member_line m
+line_text (places order) = stated_witness_line order
 line_text (entry d) = entry_line d
 line_text (conclusion thread place) = conclusion_line thread place
 
@@ -56,5 +56,5 @@ pub record IsStatedLine (l : StatedLine) : Type 0 where
   pub sized : IsSized l
 
 -- The text is that of the line, which a file may have.
-abbrev pub IsLineOf : List ℕ → StatedLine → Type 0
-IsLineOf text l = IsStatedLine l × (text ≡ line_text l)
+abbrev pub IsTextOfLine : List ℕ → StatedLine → Type 0
+IsTextOfLine text l = IsStatedLine l × (text ≡ line_text l)

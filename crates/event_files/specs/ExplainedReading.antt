@@ -3,9 +3,9 @@ use Rattle.std.specs.Prelude.{◌≡◌, ℕ, ◌<◌, ◌≤◌, Bool, true, fa
 use Rattle.std.specs.List.{All, flat_map}
 use Rattle.trace_model.specs.declared.refutations.Derived.{Derived}
 use Rattle.event_files.specs.NumberedText.{AreSmall}
-use Rattle.event_files.specs.Refutations.{last_place}
+use Rattle.event_files.specs.Refutations.{last_derived_place}
 use Rattle.event_files.specs.ExplainedText.{Contents, IsContents, IsStatedCycle, StatedCycle, StatedEvidence, StatedMember, contents_of, entry_numbers, head_numbers, is_witness, member_numbers, refutation, stated_cycle, stated_member, step_numbers, witness}
-use Rattle.event_files.specs.ExplainedFile.{IsBeginning, kept}
+use Rattle.event_files.specs.ExplainedFile.{AreFirstFileLines, unskipped_lines}
 use Rattle.event_files.specs.ExplainedLines.{IsStatedLine, StatedLine, conclusion, entry, head, line_text, member, places, row}
 use Rattle.event_files.specs.declared.explanations.ReportHead.{ReportHead}
 use Rattle.event_files.specs.declared.explanations.ExplainedFile.{ExplainedFile}
@@ -17,7 +17,7 @@ use Rattle.event_files.specs.declared.explained_reading.State.TheVariants.{Betwe
 -- The lines of a step.
 abbrev pub step_parts : ExplainedStep → List StatedLine
 step_parts step = map entry step.derivation ++
-    conclusion step.thread (last_place step.derivation) ∷ []
+    conclusion step.thread (last_derived_place step.derivation) ∷ []
 
 -- The lines of the evidence.
 abbrev pub evidence_parts : StatedEvidence → List StatedLine
@@ -102,20 +102,20 @@ ends_potential (c ∷ next ∷ more) = ends_potential (next ∷ more)
 
 -- A potential cycle may get more lines, so it is not among those with all their lines until another
 -- one begins.
-abbrev pub IsSettled : List StatedCycle → StatedState → Type 0
-IsSettled cycles between = ends_potential cycles ≡ false
-IsSettled cycles _ = Unit {0}
+abbrev pub AreCompleteCycles : List StatedCycle → StatedState → Type 0
+AreCompleteCycles cycles between = ends_potential cycles ≡ false
+AreCompleteCycles cycles _ = Unit {0}
 
 -- What was read is a beginning of a file.
 pub record IsReading (r : StatedReading) : Type 0 where
   pub head_small : All (λ h. AreSmall (head_numbers h)) (option_to_list r.head)
   pub cycles : All IsStatedCycle r.cycles
-  pub settled : IsSettled r.cycles r.state
+  pub settled : AreCompleteCycles r.cycles r.state
   pub state : IsState r.state
 
 -- The line is read after the others.
-abbrev pub Follows : StatedReading → StatedLine → StatedReading → Type 0
-Follows old line new = IsReading old → IsStatedLine line →
+abbrev pub ReadsStatedLine : StatedReading → StatedLine → StatedReading → Type 0
+ReadsStatedLine old line new = IsReading old → IsStatedLine line →
     IsReading new × (reading_parts new ≡ reading_parts old ++ line ∷ [])
 
 -- No file begins with the lines that were read and this one.
@@ -124,13 +124,13 @@ IsWrongNext old line = (f : Contents) (rest : List StatedLine) → IsReading old
     IsContents f → file_parts f ≡ reading_parts old ++ line ∷ rest → ⊥
 
 -- The line is read, unless no file has it there.
-abbrev pub IsNext : StatedReading → StatedLine → Option Reading → Type 0
-IsNext old line None = IsWrongNext old line
-IsNext old line (Some new) = Follows old line (stated_reading new)
+abbrev pub IsNextStatedLine : StatedReading → StatedLine → Option Reading → Type 0
+IsNextStatedLine old line None = IsWrongNext old line
+IsNextStatedLine old line (Some new) = ReadsStatedLine old line (stated_reading new)
 
 -- The state of a cycle with these members, of which some or none are missing.
-abbrev pub state_after : List ℕ → Bool → List StatedMember → StatedState
-state_after cycle confirmed ms = if nat_lt (length ms) (length cycle)
+abbrev pub cycle_state : List ℕ → Bool → List StatedMember → StatedState
+cycle_state cycle confirmed ms = if nat_lt (length ms) (length cycle)
     then members cycle confirmed ms
     else (if confirmed then unwitnessed cycle ms else steps cycle ms [] [])
 
@@ -158,19 +158,19 @@ IsEnd r (Some file) = IsReading r →
     IsContents (contents_of file) × (file_parts (contents_of file) ≡ reading_parts r)
 
 -- The second list is a beginning of the first.
-abbrev pub Begins : List StatedLine → List StatedLine → Type 0
-Begins parts first = (more : List StatedLine) × (parts ≡ first ++ more)
+abbrev pub AreFirstStatedLines : List StatedLine → List StatedLine → Type 0
+AreFirstStatedLines parts first = (more : List StatedLine) × (parts ≡ first ++ more)
 
 -- Exactly this was read of the lines. No other lines that a file may have begin so.
 pub record IsReadOf (lines : List (List ℕ)) (r : StatedReading) : Type 0 where
   pub reading : IsReading r
   pub are : lines ≡ map line_text (reading_parts r)
   pub only : (parts : List StatedLine) (rest : List (List ℕ)) → All IsStatedLine parts →
-      map line_text parts ≡ lines ++ rest → Begins parts (reading_parts r)
+      map line_text parts ≡ lines ++ rest → AreFirstStatedLines parts (reading_parts r)
 
 -- The line is read on, or no file begins with it after the others.
 abbrev pub ReadsLine : List ℕ → StatedReading → Option Reading → Type 0
 ReadsLine line old None = (lines : List (List ℕ)) → IsReadOf lines old →
-    IsBeginning (lines ++ kept (line ∷ [])) → ⊥
+    AreFirstFileLines (lines ++ unskipped_lines (line ∷ [])) → ⊥
 ReadsLine line old (Some new) = (lines : List (List ℕ)) → IsReadOf lines old →
-    IsReadOf (lines ++ kept (line ∷ [])) (stated_reading new)
+    IsReadOf (lines ++ unskipped_lines (line ∷ [])) (stated_reading new)

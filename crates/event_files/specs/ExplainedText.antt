@@ -4,8 +4,8 @@ use Rattle.std.specs.List.{All, flat_map}
 use Rattle.trace_model.specs.declared.refutations.Derived.{Derived}
 use Rattle.trace_model.specs.declared.refutations.Reason.{Reason}
 use Rattle.trace_model.specs.declared.refutations.Reason.TheVariants.{BeforeMember, ThreadOrder, ForkJoin, ReadsFrom, Sections}
-use Rattle.event_files.specs.NumberedText.{AreSmall, spaced}
-use Rattle.event_files.specs.Refutations.{labeled, entry_line, conclusion_line, last_place}
+use Rattle.event_files.specs.NumberedText.{AreSmall, after_spaces}
+use Rattle.event_files.specs.Refutations.{label_and_number, entry_line, conclusion_line, last_derived_place}
 use Rattle.event_files.specs.declared.explanations.ReportHead.{ReportHead}
 use Rattle.event_files.specs.declared.explanations.ExplainedMember.{ExplainedMember}
 use Rattle.event_files.specs.declared.explanations.ExplainedStep.{ExplainedStep}
@@ -61,9 +61,11 @@ contents_of f = record { head = f.head; cycles = map stated_cycle f.cycles.items
 
 -- The first line of a report.
 abbrev pub head_line : ReportHead → List ℕ
-head_line h = labeled (codes "question ") h.question ++ labeled (codes " length ") h.length ++
-    labeled (codes " bound ") h.bound ++ labeled (codes " cycles ") h.cycles ++
-    labeled (codes " confirmed ") h.confirmed
+head_line h =
+    label_and_number (codes "question ") h.question
+    ++ label_and_number (codes " length ") h.length ++
+    label_and_number (codes " bound ") h.bound ++ label_and_number (codes " cycles ") h.cycles ++
+    label_and_number (codes " confirmed ") h.confirmed
 
 -- The word of a confirmed or of a potential cycle, after a space.
 abbrev pub verdict_words : Bool → List ℕ
@@ -72,30 +74,31 @@ verdict_words false = codes " potential"
 
 -- The line of a cycle, with the word of its verdict.
 abbrev pub cycle_line : List ℕ → Bool → List ℕ
-cycle_line cycle confirmed = codes "cycle" ++ spaced cycle ++ verdict_words confirmed
+cycle_line cycle confirmed = codes "cycle" ++ after_spaces cycle ++ verdict_words confirmed
 
 -- The words of a place at the end of a line.
 abbrev pub place_words : Option ℕ → List ℕ
 place_words None = []
-place_words (Some place) = labeled (codes " place ") place
+place_words (Some place) = label_and_number (codes " place ") place
 
 -- The line of a member.
-abbrev pub member_line : StatedMember → List ℕ
-member_line m = labeled (codes "  thread ") m.thread ++ labeled (codes " lock ") m.lock ++
-    codes " holds" ++ spaced m.held ++ place_words m.place
+abbrev pub stated_member_line : StatedMember → List ℕ
+stated_member_line m =
+    label_and_number (codes "  thread ") m.thread ++ label_and_number (codes " lock ") m.lock ++
+    codes " holds" ++ after_spaces m.held ++ place_words m.place
 
 -- The line of a witness.
-abbrev pub witness_line : List ℕ → List ℕ
-witness_line places = codes "  witness" ++ spaced places
+abbrev pub stated_witness_line : List ℕ → List ℕ
+stated_witness_line places = codes "  witness" ++ after_spaces places
 
 -- The lines of a step: its entries, and the conclusion about the place of the last one.
 abbrev pub step_lines : ExplainedStep → List (List ℕ)
 step_lines step = map entry_line step.derivation ++
-    conclusion_line step.thread (last_place step.derivation) ∷ []
+    conclusion_line step.thread (last_derived_place step.derivation) ∷ []
 
 -- The lines of the evidence.
 abbrev pub evidence_lines : StatedEvidence → List (List ℕ)
-evidence_lines (witness places) = witness_line places ∷ []
+evidence_lines (witness places) = stated_witness_line places ∷ []
 evidence_lines (refutation steps) = flat_map step_lines steps
 
 -- The evidence is that of a confirmed cycle.
@@ -106,7 +109,7 @@ is_witness (refutation steps) = false
 -- The lines of a cycle: its numbers and verdict, its members, and its evidence.
 abbrev pub cycle_lines : StatedCycle → List (List ℕ)
 cycle_lines c = cycle_line c.cycle (is_witness c.evidence) ∷
-    (map member_line c.members ++ evidence_lines c.evidence)
+    (map stated_member_line c.members ++ evidence_lines c.evidence)
 
 -- The lines of a file.
 abbrev pub file_lines : Contents → List (List ℕ)

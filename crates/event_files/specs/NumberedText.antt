@@ -2,7 +2,7 @@
 use Rattle.std.specs.Prelude.{ℕ, ◌<◌, ◌^◌, Bool, true, List, [], ◌∷◌, ◌&&◌, ◌==◌, if◌then◌else◌, codes}
 use Rattle.std.specs.List.{All, flat_map}
 use Rattle.event_files.specs.EventFile.{is_no_digit}
-use Rattle.event_files.specs.Refutations.{labeled}
+use Rattle.event_files.specs.Refutations.{label_and_number}
 
 -- The text does not begin with a digit.
 abbrev pub is_after_number : List ℕ → Bool
@@ -19,8 +19,8 @@ abbrev pub is_after_numbers : List ℕ → Bool
 is_after_numbers text = is_after_number text && is_after_number (after_space text)
 
 -- Each number after one space.
-abbrev pub spaced : List ℕ → List ℕ
-spaced numbers = flat_map (labeled (codes " ")) numbers
+abbrev pub after_spaces : List ℕ → List ℕ
+after_spaces numbers = flat_map (label_and_number (codes " ")) numbers
 
 -- The numbers fit in 32 bits.
 abbrev pub AreSmall : List ℕ → Type 0

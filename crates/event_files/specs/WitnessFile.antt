@@ -30,25 +30,26 @@ has_words [] = false
 has_words (word ∷ more) = true
 
 -- The words of each line that has some.
-abbrev pub worded : List (List ℕ) → List (List (List ℕ))
-worded lines = filter has_words (map line_words lines)
+abbrev pub words_of_lines : List (List ℕ) → List (List (List ℕ))
+words_of_lines lines = filter has_words (map line_words lines)
 
 -- These are the two lines of the witness.
-abbrev pub IsWitness : List ℕ → List ℕ → List (List (List ℕ)) → Type 0
-IsWitness instance order (first ∷ second ∷ []) = IsReach instance first × IsOrder order second
-IsWitness instance order _ = ⊥
+abbrev pub AreWitnessLines : List ℕ → List ℕ → List (List (List ℕ)) → Type 0
+AreWitnessLines instance order (first ∷ second ∷ []) = IsReach instance first × IsOrder order second
+AreWitnessLines instance order _ = ⊥
 
 -- These are the first lines of a witness, or all of them.
-abbrev pub IsBeginning : List (List (List ℕ)) → Type 0
-IsBeginning [] = Unit {0}
-IsBeginning (first ∷ []) = (instance : List ℕ) × IsReach instance first
-IsBeginning (first ∷ second ∷ []) =
+abbrev pub AreFirstWitnessLines : List (List (List ℕ)) → Type 0
+AreFirstWitnessLines [] = Unit {0}
+AreFirstWitnessLines (first ∷ []) = (instance : List ℕ) × IsReach instance first
+AreFirstWitnessLines (first ∷ second ∷ []) =
     (instance order : List ℕ) × IsReach instance first × IsOrder order second
-IsBeginning (first ∷ second ∷ third ∷ more) = ⊥
+AreFirstWitnessLines (first ∷ second ∷ third ∷ more) = ⊥
 
 -- The file has, beside lines without words, exactly the two lines of the witness.
 abbrev pub IsWitnessOf : List ℕ → List ℕ → List ℕ → Type 0
-IsWitnessOf instance order file = IsWitness instance order (worded (pieces_at 10 file))
+IsWitnessOf instance order file =
+    AreWitnessLines instance order (words_of_lines (pieces_at 10 file))
 
 -- The number of lines of a file that line feeds cut into these pieces: an empty last one is no
 -- line.
@@ -62,14 +63,15 @@ pub record IsFirstWrong (lines : List (List ℕ)) (number : ℕ) : Type 0 where
   pub index : ℕ
   pub within : index < length lines
   pub counts : number ≡ index + 1
-  pub before : IsBeginning (worded (take index lines))
-  pub wrong : IsBeginning (worded (take (index + 1) lines)) → ⊥
+  pub before : AreFirstWitnessLines (words_of_lines (take index lines))
+  pub wrong : AreFirstWitnessLines (words_of_lines (take (index + 1) lines)) → ⊥
 
 -- A line is missing at the end. The number is one more than the number of lines.
 pub record EndsEarly (lines : List (List ℕ)) (number : ℕ) : Type 0 where
   pub counts : number ≡ line_count lines + 1
-  pub before : IsBeginning (worded lines)
-  pub missing : (instance order : List ℕ) → IsWitness instance order (worded lines) → ⊥
+  pub before : AreFirstWitnessLines (words_of_lines lines)
+  pub missing : (instance order : List ℕ) → AreWitnessLines instance order (words_of_lines lines) →
+      ⊥
 
 -- The refusal of a witness file with these lines is right.
 abbrev pub RefusesWitness : List (List ℕ) → FileRefused → Type 0
@@ -77,31 +79,32 @@ RefusesWitness lines (Line number) = IsFirstWrong lines number ⊎ EndsEarly lin
 RefusesWitness lines NoMemory = Unit {0}
 
 -- The places in the list, if there is one.
-abbrev pub places_in : Option (Vec ℕ) → Option (List ℕ)
-places_in order = option_map (λ places. places.items) order
+abbrev pub list_places : Option (Vec ℕ) → Option (List ℕ)
+list_places order = option_map (λ places. places.items) order
 
 -- What is read of a witness: the instance and the list, if their lines came.
-abbrev pub Reading : Type 0
-Reading = Option (List ℕ) × Option (List ℕ)
+abbrev pub WitnessReading : Type 0
+WitnessReading = Option (List ℕ) × Option (List ℕ)
 
 -- Exactly this is read of the lines.
-abbrev pub IsReadOf : List (List (List ℕ)) → Reading → Type 0
+abbrev pub IsReadOf : List (List (List ℕ)) → WitnessReading → Type 0
 IsReadOf lines (None, None) = lines ≡ []
 IsReadOf lines (None, Some order) = ⊥
 IsReadOf lines (Some instance, None) =
     (words : List (List ℕ)) × (lines ≡ words ∷ []) × IsReach instance words
-IsReadOf lines (Some instance, Some order) = IsWitness instance order lines
+IsReadOf lines (Some instance, Some order) = AreWitnessLines instance order lines
 
 -- The lines, and then the words of one more line, if it has any.
 abbrev pub and_line : List (List (List ℕ)) → List (List ℕ) → List (List (List ℕ))
 and_line lines words = lines ++ filter has_words (words ∷ [])
 
 -- A line with these words is read on.
-abbrev pub ReadsOn : List (List ℕ) → Reading → Reading → Type 0
+abbrev pub ReadsOn : List (List ℕ) → WitnessReading → WitnessReading → Type 0
 ReadsOn words old new =
     (lines : List (List (List ℕ))) → IsReadOf lines old → IsReadOf (and_line lines words) new
 
 -- No witness begins with the lines that were read and one with these words.
-abbrev pub IsWrongNext : List (List ℕ) → Reading → Type 0
+abbrev pub IsWrongNext : List (List ℕ) → WitnessReading → Type 0
 IsWrongNext words old =
-    (lines : List (List (List ℕ))) → IsReadOf lines old → IsBeginning (and_line lines words) → ⊥
+    (lines : List (List (List ℕ))) → IsReadOf lines old →
+    AreFirstWitnessLines (and_line lines words) → ⊥

@@ -1,13 +1,13 @@
 //! Event files: lines of event words.
 ghost use Rattle.std.specs.Prelude.{◌≡◌, ◌<◌, ◌^◌, ◌++◌, ℕ, true, false, IfErr, IfOk, IfSome, Ok, Some, decimal, map};
 ghost use Rattle.std.specs.List.{All, filter, position};
-ghost use Rattle.trace_model.specs.Protocol.Frames.{IsInRange, IsRequest, object_of};
+ghost use Rattle.trace_model.specs.Protocol.Frames.{FitsWords, IsRequest, object_of};
 ghost use Rattle.trace_model.specs.declared.traces.event.Event.{Event};
 ghost use Rattle.trace_model.specs.declared.traces.event.Op.{Op};
 ghost use Rattle.trace_model.specs.declared.messages.session.Request.TheVariants.{Offer};
-ghost use Rattle.event_files.specs.EventFile.{is_no_digit, is_word, letter_of, event_word, pieces_at, is_comment, line_words, AreEventsIn, AreEventsOf, HasBadWord, RefusesLines};
+ghost use Rattle.event_files.specs.EventFile.{is_no_digit, is_word, letter_of, event_word, pieces_at, is_comment, line_words, AreEventsIn, AreWordsOfEvents, HasBadWord, RefusesLines};
 
-use crate::numbers::number;
+use crate::numbers::parse_number;
 use crate::refused::FileRefused;
 use std::alloc::{AllocError, Global};
 use trace_model::{Event, NoMemory, Op};
@@ -40,13 +40,13 @@ pub(crate) fn letter_place(word: &[u8]) -> Option<usize>
 /// operation, and the object: `1a10` is an acquire of lock 10 by thread 1.
 pub fn event(word: &[u8]) -> Option<Event>
     ensures sound { IfSome result (λ e. word.now ≡ event_word e) }
-    ensures fits { IfSome result IsInRange }
+    ensures fits { IfSome result FitsWords }
     ensures complete { (e : Event) → IsRequest (Offer e) → word.now ≡ event_word e →
         result ≡ Some e }
 {
     let place = letter_place(word)?;
-    let thread = number(&word[..place])?;
-    let object = number(&word[place + 1..])?;
+    let thread = parse_number(&word[..place])?;
+    let object = parse_number(&word[place + 1..])?;
     let op = op_of(word[place], object)?;
     Some(Event { thread, op })
 }
@@ -115,8 +115,8 @@ pub fn push_events(events: &mut Vec<Event>, words: &[&[u8]]) -> Result<bool, NoM
     ensures added { result ≡ Ok true →
         map event_word events.new.items ≡ map event_word events.old.items ++
         map (λ word. word.now) words.now }
-    ensures fits { result ≡ Ok true → All IsInRange events.old.items →
-        All IsInRange events.new.items }
+    ensures fits { result ≡ Ok true → All FitsWords events.old.items →
+        All FitsWords events.new.items }
     ensures bad { result ≡ Ok false → HasBadWord (map (λ word. word.now) words.now) }
 {
     for word in words {
@@ -171,7 +171,7 @@ fn events_of(alloc: Global, lines: &[&[u8]]) -> Result<Vec<Event>, FileRefused>
 /// - `Line` with the number of the first line that is not understood, counted from 1.
 /// - `NoMemory` if an allocation fails.
 pub fn read_events(alloc: Global, file: &[u8]) -> Result<Vec<Event>, FileRefused>
-    ensures events { IfOk result (λ events. AreEventsOf events.items file.now) }
+    ensures events { IfOk result (λ events. AreWordsOfEvents events.items file.now) }
     ensures refused { IfErr result (RefusesLines (pieces_at 10 file.now)) }
 {
     let lines = lines_of(alloc, file)?;

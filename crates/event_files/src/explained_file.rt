@@ -2,7 +2,7 @@
 ghost use Rattle.std.specs.Prelude.{◌≡◌, IfErr, IfOk, map};
 ghost use Rattle.event_files.specs.EventFile.{line_words};
 ghost use Rattle.event_files.specs.WitnessFile.{has_words};
-ghost use Rattle.event_files.specs.ExplainedFile.{IsExplainedText, IsOnlyExplainedText, IsOnlyTextOf, IsTextOf, RefusesExplained, RefusesLines, is_kept, is_merge_mark, kept};
+ghost use Rattle.event_files.specs.ExplainedFile.{IsExplainedText, IsOnlyExplainedText, IsOnlyTextOf, IsTextOf, RefusesExplained, RefusesLines, is_kept, is_merge_mark, unskipped_lines};
 ghost use Rattle.event_files.specs.ExplainedReading.{ReadsLine, stated_reading};
 ghost use Rattle.event_files.specs.ExplainedText.{contents_of};
 
@@ -34,8 +34,8 @@ fn is_merge_mark(line: &[u8]) -> bool
     line.starts_with(b"    and ")
 }
 
-/// Returns whether the line is not skipped. Lines without words, comments, and lines that begin with
-/// four spaces, which agents add, are skipped.
+/// Returns whether the line is not skipped. Lines without words, comments, and lines that begin
+/// with four spaces, which agents add, are skipped.
 fn is_kept(line: &[u8]) -> bool
     ensures { result ≡ is_kept line.now }
 {
@@ -62,9 +62,9 @@ fn read_line(alloc: Global, reading: Reading, line: &[u8]) -> Result<Option<Read
 /// Returns the contents of a file with these lines. See [`read_explained`].
 fn read_lines(alloc: Global, lines: &[&[u8]]) -> Result<ExplainedFile, ExplainedRefused>
     ensures read { IfOk result (λ explained.
-        IsTextOf (contents_of explained) (kept (map (λ line. line.now) lines.now))) }
+        IsTextOf (contents_of explained) (unskipped_lines (map (λ line. line.now) lines.now))) }
     ensures unique { IfOk result (λ explained.
-        IsOnlyTextOf (contents_of explained) (kept (map (λ line. line.now) lines.now))) }
+        IsOnlyTextOf (contents_of explained) (unskipped_lines (map (λ line. line.now) lines.now))) }
     ensures refused { IfErr result (RefusesLines (map (λ line. line.now) lines.now)) }
 {
     let mut reading = Reading::new(alloc);
@@ -93,8 +93,8 @@ fn read_lines(alloc: Global, lines: &[&[u8]]) -> Result<ExplainedFile, Explained
 ///
 /// - `Line` with the number of the first line that is not understood, counted from 1. If a line is
 ///   missing, this is one more than the number of lines.
-/// - `Merged` with the number of a line that begins with four spaces and `and `, if all lines before
-///   it are understood. An agent writes it for cycles that it left out.
+/// - `Merged` with the number of a line that begins with four spaces and `and `, if all lines
+///   before it are understood. An agent writes it for cycles that it left out.
 /// - `NoMemory` if an allocation fails.
 pub fn read_explained(alloc: Global, file: &[u8]) -> Result<ExplainedFile, ExplainedRefused>
     ensures read { IfOk result (λ explained. IsExplainedText explained file.now) }

@@ -1,10 +1,10 @@
 //! Parses the lines of explained cycles.
 ghost use Rattle.std.specs.Prelude.{◌≡◌, ◌≢◌, ℕ, ◌≤◌, Bool, List, ◌∷◌, [], ◌++◌, IfOk, IfSome, IsSomeAnd, MatchOption, Option, Some, codes, length, option_map, option_to_list};
 ghost use Rattle.trace_model.specs.declared.refutations.Derived.{Derived};
-ghost use Rattle.event_files.specs.ExplainedLines.{IsLineOf, StatedLine, stated_line};
-ghost use Rattle.event_files.specs.ExplainedText.{StatedMember, cycle_line, entry_numbers, head_line, head_numbers, member_line, member_numbers, place_words, stated_member, verdict_words, witness_line};
+ghost use Rattle.event_files.specs.ExplainedLines.{IsTextOfLine, StatedLine, stated_line};
+ghost use Rattle.event_files.specs.ExplainedText.{StatedMember, cycle_line, entry_numbers, head_line, head_numbers, stated_member_line, member_numbers, place_words, stated_member, verdict_words, stated_witness_line};
 ghost use Rattle.event_files.specs.NumberedText.{AreSmall};
-ghost use Rattle.event_files.specs.Refutations.{conclusion_line, entry_line, labeled, reason_line};
+ghost use Rattle.event_files.specs.Refutations.{conclusion_line, entry_line, label_and_number, reason_line};
 ghost use Rattle.event_files.specs.declared.explanations.ReportHead.{ReportHead};
 
 use crate::explanations::{ExplainedMember, ReportHead};
@@ -111,10 +111,12 @@ fn entry_in(text: &[u8]) -> Option<Derived>
 /// Returns the thread and the lock at the beginning of the line of a member, and the rest from its
 /// held locks on, or `None`.
 fn holder_in(text: &[u8]) -> Option<(u32, u32, &[u8])>
-    ensures sound { IfSome result (λ found. text.now ≡ labeled (codes "  thread ") found.0 ++
-        labeled (codes " lock ") found.1 ++ codes " holds" ++ found.2.now) }
+    ensures sound { IfSome result (λ found. text.now
+        ≡ label_and_number (codes "  thread ") found.0 ++
+        label_and_number (codes " lock ") found.1 ++ codes " holds" ++ found.2.now) }
     ensures complete { (thread lock : ℕ) (rest : List ℕ) → AreSmall (thread ∷ lock ∷ []) →
-        text.now ≡ labeled (codes "  thread ") thread ++ labeled (codes " lock ") lock ++
+        text.now ≡ label_and_number (codes "  thread ") thread
+        ++ label_and_number (codes " lock ") lock ++
         codes " holds" ++ rest →
         IsSomeAnd result (λ found.
         (found.0 ≡ thread) × (found.1 ≡ lock) × (found.2.now ≡ rest)) }
@@ -151,11 +153,12 @@ fn place_in(text: &[u8]) -> Option<Option<Place>>
 /// `NoMemory` if an allocation fails.
 fn member_in(alloc: Global, text: &[u8]) -> Result<Option<ExplainedMember>, NoMemory>
     ensures sound { IfOk result (λ found. IfSome found (λ m.
-        text.now ≡ member_line (stated_member m))) }
+        text.now ≡ stated_member_line (stated_member m))) }
     ensures small { IfOk result (λ found. IfSome found (λ m.
         AreSmall (member_numbers (stated_member m)))) }
     ensures complete { (m : StatedMember) → AreSmall (member_numbers m) →
-        text.now ≡ member_line m → IfOk result (λ found. option_map stated_member found ≡ Some m) }
+        text.now ≡ stated_member_line m →
+        IfOk result (λ found. option_map stated_member found ≡ Some m) }
 {
     let Some((thread, lock, rest)) = holder_in(text) else {
         return Ok(None);
@@ -179,9 +182,9 @@ fn member_in(alloc: Global, text: &[u8]) -> Result<Option<ExplainedMember>, NoMe
 /// `NoMemory` if an allocation fails.
 fn places_in(alloc: Global, text: &[u8]) -> Result<Option<Vec<Place>>, NoMemory>
     ensures sound { IfOk result (λ found. IfSome found (λ order.
-        text.now ≡ witness_line order.items)) }
+        text.now ≡ stated_witness_line order.items)) }
     ensures small { IfOk result (λ found. IfSome found (λ order. AreSmall order.items)) }
-    ensures complete { (order : List ℕ) → AreSmall order → text.now ≡ witness_line order →
+    ensures complete { (order : List ℕ) → AreSmall order → text.now ≡ stated_witness_line order →
         IfOk result (λ found. option_map (λ v. v.items) found ≡ Some order) }
 {
     let Some(rest) = after(text, b"  witness") else {
@@ -242,8 +245,9 @@ fn row_in(alloc: Global, text: &[u8]) -> Result<Option<(Cycle, bool)>, NoMemory>
 ///
 /// `NoMemory` if an allocation fails.
 pub(crate) fn line_in(alloc: Global, text: &[u8]) -> Result<Option<ExplainedLine>, NoMemory>
-    ensures sound { IfOk result (λ found. IfSome found (λ l. IsLineOf text.now (stated_line l))) }
-    ensures complete { (l : StatedLine) → IsLineOf text.now l →
+    ensures sound { IfOk result (λ found. IfSome found (λ l. IsTextOfLine text.now
+        (stated_line l))) }
+    ensures complete { (l : StatedLine) → IsTextOfLine text.now l →
         IfOk result (λ found. option_map stated_line found ≡ Some l) }
 {
     if let Some(head) = head_in(text) {

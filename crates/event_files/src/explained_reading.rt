@@ -2,9 +2,9 @@
 ghost use Rattle.std.specs.Bool.{Decides};
 ghost use Rattle.std.specs.Prelude.{◌≡◌, ◌<◌, [], None, IfOk, length, map, option_map};
 ghost use Rattle.event_files.specs.ExplainedLines.{conclusion, entry, head, member, places, row, stated_line};
-ghost use Rattle.event_files.specs.ExplainedReading.{AreEnded, IsEnd, IsNext, between, state_after, stated_reading, stated_state};
+ghost use Rattle.event_files.specs.ExplainedReading.{AreEnded, IsEnd, IsNextStatedLine, between, cycle_state, stated_reading, stated_state};
 ghost use Rattle.event_files.specs.ExplainedText.{stated_cycle, stated_member};
-ghost use Rattle.event_files.specs.Refutations.{last_place};
+ghost use Rattle.event_files.specs.Refutations.{last_derived_place};
 
 use crate::explained_lines::ExplainedLine;
 use crate::explanations::{
@@ -43,7 +43,7 @@ fn state_after(
     members: Vec<ExplainedMember>,
 ) -> State
     ensures { stated_state result ≡
-        state_after cycle is_confirmed (map stated_member members.items) }
+        cycle_state cycle is_confirmed (map stated_member members.items) }
 {
     if members.len() < cycle.numbers().len() {
         return State::Members(cycle, is_confirmed, members);
@@ -79,7 +79,7 @@ fn ended(mut cycles: Vec<Explained>, state: State) -> Result<Option<Vec<Explaine
 
 /// Returns whether the place is that of the last entry.
 fn is_last(entries: &[Derived], place: Place) -> bool
-    ensures { Decides result ((0 < length entries.now) × (last_place entries.now ≡ place)) }
+    ensures { Decides result ((0 < length entries.now) × (last_derived_place entries.now ≡ place)) }
 {
     match entries.last() {
         Some(last) => last.place == place,
@@ -109,7 +109,7 @@ impl Reading {
 
     /// Reads the first line of a report. Returns `None` if other lines were read.
     fn with_head(self, first: ReportHead) -> Option<Reading>
-        ensures { IsNext (stated_reading self) (head first) result }
+        ensures { IsNextStatedLine (stated_reading self) (head first) result }
     {
         if !self.is_empty() {
             return None;
@@ -133,7 +133,7 @@ impl Reading {
         cycle: Cycle,
         is_confirmed: bool,
     ) -> Result<Option<Reading>, NoMemory>
-        ensures { IfOk result (IsNext (stated_reading self) (row cycle is_confirmed)) }
+        ensures { IfOk result (IsNextStatedLine (stated_reading self) (row cycle is_confirmed)) }
     {
         let Reading {
             head,
@@ -153,7 +153,8 @@ impl Reading {
 
     /// Reads a member. Returns `None` if no cycle has it there.
     fn with_member(self, alloc: Global, next: ExplainedMember) -> Result<Option<Reading>, NoMemory>
-        ensures { IfOk result (IsNext (stated_reading self) (member (stated_member next))) }
+        ensures { IfOk result (IsNextStatedLine (stated_reading self) (member
+            (stated_member next))) }
     {
         let Reading {
             head,
@@ -177,7 +178,7 @@ impl Reading {
 
     /// Reads the places of a witness. Returns `None` if no cycle has them there.
     fn with_places(self, order: Vec<Place>) -> Result<Option<Reading>, NoMemory>
-        ensures { IfOk result (IsNext (stated_reading self) (places order.items)) }
+        ensures { IfOk result (IsNextStatedLine (stated_reading self) (places order.items)) }
     {
         let Reading {
             head,
@@ -201,7 +202,7 @@ impl Reading {
 
     /// Reads an entry. Returns `None` if no cycle has it there.
     fn with_entry(self, place: Place, reason: Reason) -> Result<Option<Reading>, NoMemory>
-        ensures { IfOk result (IsNext (stated_reading self)
+        ensures { IfOk result (IsNextStatedLine (stated_reading self)
             (entry (record { place = place; reason = reason }))) }
     {
         let Reading {
@@ -228,7 +229,7 @@ impl Reading {
         thread: u32,
         place: Place,
     ) -> Result<Option<Reading>, NoMemory>
-        ensures { IfOk result (IsNext (stated_reading self) (conclusion thread place)) }
+        ensures { IfOk result (IsNextStatedLine (stated_reading self) (conclusion thread place)) }
     {
         let Reading {
             head,
@@ -260,7 +261,7 @@ impl Reading {
         alloc: Global,
         line: ExplainedLine,
     ) -> Result<Option<Reading>, NoMemory>
-        ensures { IfOk result (IsNext (stated_reading self) (stated_line line)) }
+        ensures { IfOk result (IsNextStatedLine (stated_reading self) (stated_line line)) }
     {
         match line {
             ExplainedLine::Head(head) => Ok(self.with_head(head)),

@@ -24,7 +24,7 @@ pub use explained_file::read_explained;
 pub use explanations::{
     Evidence, Explained, ExplainedFile, ExplainedMember, ExplainedStep, ReportHead,
 };
-pub use numbers::number;
+pub use numbers::parse_number;
 pub use refused::{ExplainedRefused, FileRefused};
 pub use refutation_text::{push_entry, push_refutation};
 pub use witness_file::{WitnessFile, read_witness};

@@ -3,11 +3,11 @@ ghost use Rattle.std.specs.Bool.{Decides};
 ghost use Rattle.std.specs.Prelude.{◌≡◌, ◌≢◌, ◌<◌, ◌^◌, ◌++◌, ℕ, List, IfOk, IfSome, IsSomeAnd, MatchOption, Some, decimal, true};
 ghost use Rattle.std.specs.List.{position_or_len};
 ghost use Rattle.event_files.specs.EventFile.{is_no_digit};
-ghost use Rattle.event_files.specs.NumberedText.{AreSmall, is_after_number, is_after_numbers, spaced};
-ghost use Rattle.event_files.specs.Refutations.{labeled};
+ghost use Rattle.event_files.specs.NumberedText.{AreSmall, is_after_number, is_after_numbers, after_spaces};
+ghost use Rattle.event_files.specs.Refutations.{label_and_number};
 
 use crate::event_file::letter_place;
-use crate::numbers::number;
+use crate::numbers::parse_number;
 use std::alloc::Global;
 use trace_model::NoMemory;
 
@@ -44,15 +44,16 @@ pub(crate) fn number_in(text: &[u8]) -> Option<(u32, &[u8])>
         IsSomeAnd result (λ found. (found.0 ≡ n) × (found.1.now ≡ rest)) }
 {
     let digits = digit_count(text);
-    let value = number(&text[..digits])?;
+    let value = parse_number(&text[..digits])?;
     Some((value, &text[digits..]))
 }
 
 /// Returns the number after the literal and the rest, or `None`.
 pub(crate) fn number_after<'a>(text: &'a [u8], literal: &[u8]) -> Option<(u32, &'a [u8])>
-    ensures sound { IfSome result (λ found. text.now ≡ labeled literal.now found.0 ++ found.1.now) }
+    ensures sound { IfSome result (λ found. text.now ≡ label_and_number literal.now found.0
+        ++ found.1.now) }
     ensures complete { (n : ℕ) (rest : List ℕ) → n < 2 ^ 32 → is_after_number rest ≡ true →
-        text.now ≡ labeled literal.now n ++ rest →
+        text.now ≡ label_and_number literal.now n ++ rest →
         IsSomeAnd result (λ found. (found.0 ≡ n) × (found.1.now ≡ rest)) }
 {
     number_in(after(text, literal)?)
@@ -62,11 +63,11 @@ pub(crate) fn number_after<'a>(text: &'a [u8], literal: &[u8]) -> Option<(u32, &
 /// number and an ending, or `None`.
 pub(crate) fn pair_in(text: &[u8], label: &[u8], next: &[u8], ending: &[u8]) -> Option<(u32, u32)>
     ensures sound { IfSome result (λ pair. text.now ≡
-        labeled label.now pair.0 ++ labeled next.now pair.1 ++ ending.now) }
+        label_and_number label.now pair.0 ++ label_and_number next.now pair.1 ++ ending.now) }
     ensures complete { (m n : ℕ) → m < 2 ^ 32 → n < 2 ^ 32 →
-        is_after_number (labeled next.now n ++ ending.now) ≡ true →
+        is_after_number (label_and_number next.now n ++ ending.now) ≡ true →
         is_after_number ending.now ≡ true →
-        text.now ≡ labeled label.now m ++ labeled next.now n ++ ending.now →
+        text.now ≡ label_and_number label.now m ++ label_and_number next.now n ++ ending.now →
         result ≡ Some (m, n) }
 {
     let (first, rest) = number_after(text, label)?;
@@ -84,10 +85,10 @@ pub(crate) fn pair_in(text: &[u8], label: &[u8], next: &[u8], ending: &[u8]) -> 
 ///
 /// `NoMemory` if an allocation fails.
 pub(crate) fn numbers_in(alloc: Global, text: &[u8]) -> Result<(Vec<u32>, &[u8]), NoMemory>
-    ensures sound { IfOk result (λ found. text.now ≡ spaced found.0.items ++ found.1.now) }
+    ensures sound { IfOk result (λ found. text.now ≡ after_spaces found.0.items ++ found.1.now) }
     ensures small { IfOk result (λ found. AreSmall found.0.items) }
     ensures complete { (numbers rest : List ℕ) → AreSmall numbers → is_after_numbers rest ≡ true →
-        text.now ≡ spaced numbers ++ rest →
+        text.now ≡ after_spaces numbers ++ rest →
         IfOk result (λ found. (found.0.items ≡ numbers) × (found.1.now ≡ rest)) }
 {
     let mut numbers = Vec::new(alloc);

@@ -22,7 +22,7 @@ fn value_of(digits: &[u8]) -> Option<u32>
 
 /// Returns the number that `digits` denotes: `0`, or digits without a leading zero. Returns `None`
 /// for any other text.
-pub fn number(digits: &[u8]) -> Option<u32>
+pub fn parse_number(digits: &[u8]) -> Option<u32>
     ensures sound { IfSome result (λ n. digits.now ≡ decimal n) }
     ensures complete { (n : ℕ) → n < 2 ^ 32 → digits.now ≡ decimal n → result ≡ Some n }
 {

@@ -1,14 +1,14 @@
 //! Writes refutations as text: a line for each entry of a derivation, and one for its conclusion.
 ghost use Rattle.std.specs.Prelude.{◌≡◌, ◌++◌, OnOk};
 ghost use Rattle.std.specs.List.{All, flat_map};
-ghost use Rattle.event_files.specs.Refutations.{labeled, reason_line, entry_text, conclusion_text, step_text, refutation_text, IsWritable};
+ghost use Rattle.event_files.specs.Refutations.{label_and_number, reason_line, entry_text, conclusion_text, step_text, refutation_text, IsWritable};
 
 use itoa::Buffer;
-use trace_model::{Derived, NoMemory, Place, Reason, Step};
+use trace_model::{Derived, NoMemory, Place, Reason, RefutationStep};
 
 /// Appends a label and a number.
 fn push_number(text: &mut Vec<u8>, label: &[u8], number: u32) -> Result<(), NoMemory>
-    ensures { OnOk result (text.new.items ≡ text.old.items ++ labeled label.now number) }
+    ensures { OnOk result (text.new.items ≡ text.old.items ++ label_and_number label.now number) }
 {
     text.extend_from_slice(label)?;
     text.extend_from_slice(Buffer::new().format(number).as_bytes())?;
@@ -17,7 +17,7 @@ fn push_number(text: &mut Vec<u8>, label: &[u8], number: u32) -> Result<(), NoMe
 
 /// Appends a label and a place.
 fn push_place(text: &mut Vec<u8>, label: &[u8], place: Place) -> Result<(), NoMemory>
-    ensures { OnOk result (text.new.items ≡ text.old.items ++ labeled label.now place) }
+    ensures { OnOk result (text.new.items ≡ text.old.items ++ label_and_number label.now place) }
 {
     push_number(text, label, place.get())
 }
@@ -91,7 +91,7 @@ fn push_conclusion(text: &mut Vec<u8>, thread: u32, place: Place) -> Result<(), 
 }
 
 /// Appends the lines of a step.
-fn push_step(text: &mut Vec<u8>, threads: &[u32], step: &Step) -> Result<(), NoMemory>
+fn push_step(text: &mut Vec<u8>, threads: &[u32], step: &RefutationStep) -> Result<(), NoMemory>
     requires { IsWritable threads.now step.now }
     ensures { OnOk result (text.new.items ≡ text.old.items ++ step_text threads.now step.now) }
 {
@@ -107,7 +107,11 @@ fn push_step(text: &mut Vec<u8>, threads: &[u32], step: &Step) -> Result<(), NoM
 /// # Errors
 ///
 /// `NoMemory` if an allocation fails. A part of the text may have been appended.
-pub fn push_refutation(text: &mut Vec<u8>, threads: &[u32], steps: &[Step]) -> Result<(), NoMemory>
+pub fn push_refutation(
+    text: &mut Vec<u8>,
+    threads: &[u32],
+    steps: &[RefutationStep],
+) -> Result<(), NoMemory>
     requires { All (IsWritable threads.now) steps.now }
     ensures { OnOk result (text.new.items ≡
         text.old.items ++ refutation_text threads.now steps.now) }

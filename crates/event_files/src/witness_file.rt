@@ -1,11 +1,11 @@
 //! Witness files: the places of an instance, and a list of places.
 ghost use Rattle.std.specs.Prelude.{◌≡◌, ◌+◌, ℕ, List, true, false, IfErr, IfOk, MatchOption, codes, map};
 ghost use Rattle.event_files.specs.EventFile.{pieces_at};
-ghost use Rattle.event_files.specs.WitnessFile.{AreNumerals, IsKeyed, IsReach, IsWitness, IsWitnessOf, IsWrongNext, ReadsOn, RefusesWitness, line_count, places_in, worded};
+ghost use Rattle.event_files.specs.WitnessFile.{AreNumerals, IsKeyed, IsReach, AreWitnessLines, IsWitnessOf, IsWrongNext, ReadsOn, RefusesWitness, line_count, list_places, words_of_lines};
 
 use crate::event_file::{lines_of, words_of};
 use crate::numbered_text::is_literal;
-use crate::numbers::number;
+use crate::numbers::parse_number;
 use crate::refused::FileRefused;
 use std::alloc::Global;
 use trace_model::{Instance, NoMemory, Place};
@@ -20,13 +20,13 @@ pub struct WitnessFile {
 /// Returns the places that the words name, or `None` if a word is not a number.
 fn places_of(alloc: Global, words: &[&[u8]]) -> Result<Option<Vec<Place>>, NoMemory>
     ensures { let shown = map (λ word. word.now) words.now in
-        IfOk result (λ told. MatchOption told
+        IfOk result (λ outcome. MatchOption outcome
         ((numbers : List ℕ) → AreNumerals numbers shown → ⊥)
         (λ places. AreNumerals places.items shown)) }
 {
     let mut places = Vec::with_capacity(alloc, words.len())?;
     for word in words {
-        let Some(index) = number(word) else {
+        let Some(index) = parse_number(word) else {
             return Ok(None);
         };
         places.push_reserved(Place::new(index));
@@ -42,7 +42,7 @@ fn places_after(
     words: &[&[u8]],
 ) -> Result<Option<Vec<Place>>, NoMemory>
     ensures { let shown = map (λ word. word.now) words.now in
-        IfOk result (λ told. MatchOption told
+        IfOk result (λ outcome. MatchOption outcome
         ((numbers : List ℕ) → IsKeyed keyword.now numbers shown → ⊥)
         (λ places. IsKeyed keyword.now places.items shown)) }
 {
@@ -58,7 +58,7 @@ fn places_after(
 /// Returns the instance of a line `reach` with 2 to 8 numbers, or `None` for any other line.
 fn reach(alloc: Global, words: &[&[u8]]) -> Result<Option<Instance>, NoMemory>
     ensures { let shown = map (λ word. word.now) words.now in
-        IfOk result (λ told. MatchOption told
+        IfOk result (λ outcome. MatchOption outcome
         ((instance : List ℕ) → IsReach instance shown → ⊥)
         (λ instance. IsReach instance shown)) }
 {
@@ -77,9 +77,9 @@ fn read_words(
     order: &mut Option<Vec<Place>>,
 ) -> Result<bool, NoMemory>
     ensures read { result ≡ Ok true → ReadsOn (map (λ word. word.now) words.now)
-        (instance.old, places_in order.old) (instance.new, places_in order.new) }
+        (instance.old, list_places order.old) (instance.new, list_places order.new) }
     ensures wrong { result ≡ Ok false → IsWrongNext (map (λ word. word.now) words.now)
-        (instance.old, places_in order.old) }
+        (instance.old, list_places order.old) }
 {
     if words.is_empty() {
         return Ok(true);
@@ -119,7 +119,8 @@ pub(crate) fn after_last(pieces: &[&[u8]]) -> usize
 /// - `NoMemory` if an allocation fails.
 fn read_lines(alloc: Global, lines: &[&[u8]]) -> Result<WitnessFile, FileRefused>
     ensures witness { IfOk result (λ w.
-        IsWitness w.instance w.order.items (worded (map (λ line. line.now) lines.now))) }
+        AreWitnessLines w.instance w.order.items (words_of_lines (map
+        (λ line. line.now) lines.now))) }
     ensures refused { IfErr result (RefusesWitness (map (λ line. line.now) lines.now)) }
 {
     let mut instance = None;

@@ -4,7 +4,7 @@ use Rattle.std.proofs.Math.ListN.{drop_of_length-le}
 use Rattle.std.proofs.Math.Seq.{drop-cons}
 use Rattle.std.proofs.lemmas.List.{drop-drop}
 use Rattle.trace_model.specs.declared.messages.session.Fault.TheVariants.{BadBatch}
-use Rattle.trace_model.specs.Protocol.Frames.{cells_fault, event_of, events_of, is_event_kind}
+use Rattle.trace_model.specs.Protocol.Frames.{cells_fault, event_of, events_in, is_event_kind}
 
 -- the event at an index, and those after it
 pub cell_here : (n i kind : ℕ) (cells : List ℕ) → i < n → 9 * i < length cells → kind ≡ get_or cells (9 * i) kind →
@@ -24,13 +24,13 @@ cells_end n i cells low past =
     let more : n - i ≡ suc (n - (i + 1)) = omega (arith, low) in
     λ i'. cells_fault (more i') (drop_of_length-le cells past i')
 
-pub events_more : (n : ℕ) (cells : List ℕ) → events_of (suc n) cells ≡ events_of n cells ++ event_of (drop (9 * n) cells) ∷ []
+pub events_more : (n : ℕ) (cells : List ℕ) → events_in (suc n) cells ≡ events_in n cells ++ event_of (drop (9 * n) cells) ∷ []
 events_more zero cells = refl
 events_more (suc n) cells =
     let nine : 9 + 9 * n ≡ 9 * suc n = omega arith in
     let place : drop (9 * n) (drop 9 cells) ≡ drop (9 * suc n) cells = drop-drop (9 * n) 9 cells ∙ ap (λ (k : ℕ). drop k cells) nine in
-    ap (λ xs. event_of cells ∷ xs) (events_more n (drop 9 cells) ∙ ap (λ (x : List ℕ). events_of n (drop 9 cells) ++ event_of x ∷ []) place)
+    ap (λ xs. event_of cells ∷ xs) (events_more n (drop 9 cells) ∙ ap (λ (x : List ℕ). events_in n (drop 9 cells) ++ event_of x ∷ []) place)
 
-pub length_events : (n : ℕ) (cells : List ℕ) → length (events_of n cells) ≡ n
+pub length_events : (n : ℕ) (cells : List ℕ) → length (events_in n cells) ≡ n
 length_events zero cells = refl
 length_events (suc n) cells = ap suc (length_events n (drop 9 cells))

@@ -1,7 +1,7 @@
 //! Events in frames: nine bytes each.
 ghost use Rattle.std.specs.Prelude.{◌≡◌, ◌*◌, ◌≤◌, length, take, true};
 ghost use Rattle.std.specs.Int.{w32, from_be_bytes};
-ghost use Rattle.trace_model.specs.Protocol.Frames.{batch_fault, cells_fault, event_bytes, event_of, events_of, is_event_kind, kind_of, object_of, op_of};
+ghost use Rattle.trace_model.specs.Protocol.Frames.{batch_fault, cells_fault, event_bytes, event_of, events_in, is_event_kind, kind_of, object_of, op_of};
 
 use trace_model::{Event, EventBatch, Fault, Op};
 
@@ -119,7 +119,7 @@ pub(crate) fn read_batch(count: usize, cells: &[u8]) -> EventBatch
     requires some { 1 ≤ count }
     requires few { count ≤ 64 }
     requires whole { 9 * count ≤ length cells.now }
-    ensures { result ≡ events_of count cells.now }
+    ensures { result ≡ events_in count cells.now }
 {
     let mut batch = EventBatch::of(event_of(cells));
     let mut index = 1;

@@ -17,24 +17,25 @@ pub struct FrameReader {
     bytes: Vec<u8>,
     start: usize,
     ended: bool,
-    told: Option<Fault>,
+    returned: Option<Fault>,
 }
 
 impl Model for FrameReader {
     ghost use Rattle.std.specs.Prelude.{◌≡◌, ◌≤◌, drop, vec_capacity, vec_len, IsSome};
-    ghost use Rattle.event_frames.specs.Reader.{Reading};
+    ghost use Rattle.event_frames.specs.Reader.{FrameReaderView};
 
-    ghost Value = { Reading };
+    ghost Value = { FrameReaderView };
 
     ghost view = { λ r. record {
       rest = drop r.start r.bytes.items;
       ended = r.ended;
-      told = r.told;
+      returned = r.returned;
       buffered = vec_len r.bytes;
       capacity = vec_capacity r.bytes;
     } };
 
-    ghost invariant = { λ r. (r.start ≤ vec_len r.bytes) × (IsSome r.told → vec_len r.bytes ≡ 0) };
+    ghost invariant = { λ r. (r.start ≤ vec_len r.bytes)
+        × (IsSome r.returned → vec_len r.bytes ≡ 0) };
 }
 
 impl FrameReader {
@@ -43,7 +44,7 @@ impl FrameReader {
         ensures made { result ≡ record {
           rest = [];
           ended = false;
-          told = None;
+          returned = None;
           buffered = 0;
           capacity = 0;
         } }
@@ -53,7 +54,7 @@ impl FrameReader {
             bytes: Vec::new(alloc),
             start: 0,
             ended: false,
-            told: None,
+            returned: None,
         }
     }
 
@@ -69,7 +70,8 @@ impl FrameReader {
         ensures grammar { OnOk result ((text : List ℕ) (given : List Request) →
             HasRead text given self.old
             → HasRead (text ++ piece.now) given self.new) }
-        ensures told { IsSome self.old.told → (result ≡ Ok record {}) × (self.new ≡ self.old)
+        ensures returned { IsSome self.old.returned → (result ≡ Ok record {})
+            × (self.new ≡ self.old)
             × (self.new.buffered ≡ 0) }
         ensures err { OnErr result (self.new ≡ self.old) }
         ensures full { OnErr result (self.old.capacity < self.old.buffered + length piece.now) }
@@ -80,12 +82,13 @@ impl FrameReader {
     /// Adds a piece to the buffer, or drops it after a fault.
     fn put(&mut self, piece: &[u8]) -> Result<(), NoMemory>
         ensures fed { OnOk result (IsFed self.old piece.now self.new) }
-        ensures told { IsSome self.old.told → (result ≡ Ok record {}) × (self.new ≡ self.old)
+        ensures returned { IsSome self.old.returned → (result ≡ Ok record {})
+            × (self.new ≡ self.old)
             × (self.new.buffered ≡ 0) }
         ensures err { OnErr result (self.new ≡ self.old) }
         ensures full { OnErr result (self.old.capacity < self.old.buffered + length piece.now) }
     {
-        if self.told.is_some() {
+        if self.returned.is_some() {
             return Ok(());
         }
         self.bytes.reserve(piece.len())?;
@@ -95,9 +98,9 @@ impl FrameReader {
 
     /// Returns whether the input has ended or a fault was returned.
     pub fn is_closed(&self) -> bool
-        ensures { result ≡ is_some self.now.told || self.now.ended }
+        ensures { result ≡ is_some self.now.returned || self.now.ended }
     {
-        self.told.is_some() || self.ended
+        self.returned.is_some() || self.ended
     }
 
     /// Records that the input has ended.
@@ -129,7 +132,7 @@ impl FrameReader {
     fn read_frame(&mut self) -> Result<Option<Request>, Fault>
         ensures { Answers self.old result self.new }
     {
-        if let Some(fault) = self.told {
+        if let Some(fault) = self.returned {
             return Err(fault);
         }
         match leading(&self.bytes[self.start..]) {
@@ -157,19 +160,19 @@ impl FrameReader {
         ensures { self.new ≡ record {
           rest = [];
           ended = self.old.ended;
-          told = Some fault;
+          returned = Some fault;
           buffered = 0;
           capacity = self.old.capacity;
         } }
     {
         self.bytes.clear();
         self.start = 0;
-        self.told = Some(fault);
+        self.returned = Some(fault);
     }
 
     /// Drops the bytes that were returned as requests.
     fn compact(&mut self)
-        requires { self.old.told ≡ None }
+        requires { self.old.returned ≡ None }
         ensures { self.new ≡ record self.old { buffered = length self.old.rest } }
     {
         let end = self.bytes.len();

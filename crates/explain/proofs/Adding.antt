@@ -16,14 +16,14 @@ use Rattle.trace_model.proofs.Theory.Derivable.{derived_push, one_more_derived, 
 use Rattle.trace_model.proofs.Theory.Least.{at_thread}
 use Rattle.trace_model.proofs.Theory.Refutation.{entry_of}
 use Rattle.explain.specs.declared.tables.Prefix.{Prefix}
-use Rattle.explain.specs.declared.search.Search.{Search}
-use Rattle.explain.specs.Tables.{at}
-use Rattle.explain.specs.Search.{derived_by, HasIndices, IsUpTo, IsDerived, Covers, IsIn, IsSearch, Extends, Adds, CoversAll}
+use Rattle.explain.specs.declared.search.DerivationSearch.{DerivationSearch}
+use Rattle.explain.specs.Tables.{prefix_at}
+use Rattle.explain.specs.DerivationSearch.{derived_by, HasIndices, IsUpTo, IsDerived, Covers, IsIn, IsSearch, Extends, AddsEntry, CoversAll}
 
-pub extends_refl : (s : Trace) (x : Search) → Extends s x x
+pub extends_refl : (s : Trace) (x : DerivationSearch) → Extends s x x
 extends_refl s x = record { entries = ([], sym (append-nil x.entries.items)); ranges = λ i r e. e; has = λ p h. h }
 
-pub extends_trans : (s : Trace) (x y z : Search) → Extends s x y → Extends s y z → Extends s x z
+pub extends_trans : (s : Trace) (x y z : DerivationSearch) → Extends s x y → Extends s y z → Extends s x z
 extends_trans s x y z e f = record {
   entries = (e.entries.0 ++ f.entries.0, f.entries.1 ∙ ap (λ xs. xs ++ f.entries.0) e.entries.1 ∙ append_assoc x.entries.items e.entries.0 f.entries.0);
   ranges = λ i r h. f.ranges i r (e.ranges i r h);
@@ -31,13 +31,13 @@ extends_trans s x y z e f = record {
 }
 
 -- the entries stay
-pub stays : (s : Trace) (x y : Search) → Extends s x y → (p : ℕ) → Contains (derived_by x) p → Contains (derived_by y) p
+pub stays : (s : Trace) (x y : DerivationSearch) → Extends s x y → (p : ℕ) → Contains (derived_by x) p → Contains (derived_by y) p
 stays s x y e p c =
     let (more, same) = e.entries in
     let split : derived_by y ≡ derived_by x ++ derived_places more = ap derived_places same ∙ map-append (λ (d : Derived). d.place) x.entries.items more in
-    let (k, at) = place_of (derived_by x) p c in
+    let (k, prefix_at) = place_of (derived_by x) p c in
     contains_at (derived_by y) p k (subst (λ xs. slice_get xs k ≡ Some p) (sym split)
-    (get-append (derived_by x) (derived_places more) k (slice_get_within (derived_by x) k p at) ∙ at))
+    (get-append (derived_by x) (derived_places more) k (slice_get_within (derived_by x) k p prefix_at) ∙ prefix_at))
 
 -- a reason holds after more places
 pub justified_more : (s : Trace) (places xs ys : List ℕ) → ((q : ℕ) → Contains xs q → Contains ys q) → (r : Reason) (p : ℕ) →
@@ -48,51 +48,51 @@ justified_more s places xs ys f (ForkJoin q) p (c, e) = (f q c, e)
 justified_more s places xs ys f (ReadsFrom q) p (c, e) = (f q c, e)
 justified_more s places xs ys f (Sections a b) p (c, d, l, m, e) = (f a c, f b d, l, m, e)
 
-pub covers_more : (s : Trace) (places : List ℕ) (x y : Search) → Extends s x y → (r : Prefix) → Covers s places x r → Covers s places y r
+pub covers_more : (s : Trace) (places : List ℕ) (x y : DerivationSearch) → Extends s x y → (r : Prefix) → Covers s places x r → Covers s places y r
 covers_more s places x y e r h p up = elim (h p up) [
   | inl c ↦ inl (stays s x y e p c)
   | inr j ↦ inr (justified_more s places (derived_by x) (derived_by y) (stays s x y e) r.reason p j)
 ]
 
-pub in_more : (s : Trace) (places : List ℕ) (x y : Search) → Extends s x y → (r : Prefix) → IsIn s places x r → IsIn s places y r
+pub in_more : (s : Trace) (places : List ℕ) (x y : DerivationSearch) → Extends s x y → (r : Prefix) → IsIn s places x r → IsIn s places y r
 in_more s places x y e r (h, c) = (e.has r.last h, covers_more s places x y e r c)
 
 -- the last place of a prefix is up to it
-pub last_up_to : (s : Trace) (x : Search) (p : ℕ) → IsDerived s x p → IsUpTo s p (Some p)
+pub last_up_to : (s : Trace) (x : DerivationSearch) (p : ℕ) → IsDerived s x p → IsUpTo s p (Some p)
 last_up_to s x p (r, (t, e, o, l)) = (p, t, refl, o, o, omega arith)
 
 -- each place with an entry is in the trace
-pub derived_within : (s : Trace) (places : List ℕ) (x : Search) → IsSearch s places x → (p : ℕ) → Contains (derived_by x) p → p < length s
+pub derived_within : (s : Trace) (places : List ℕ) (x : DerivationSearch) → IsSearch s places x → (p : ℕ) → Contains (derived_by x) p → p < length s
 derived_within s places x is p c =
-    let (k, at) = place_of (derived_by x) p c in
-    let (d, here, same) = entry_of x.entries.items k p at in
+    let (k, prefix_at) = place_of (derived_by x) p c in
+    let (d, here, same) = entry_of x.entries.items k p prefix_at in
     subst (λ q. q < length s) same (derivable_within s places _ d.place d.reason (is.derives k d here))
 
 -- an earlier place of a derived place's thread is derived
-pub has_earlier : (s : Trace) (x : Search) (p q : ℕ) → EarlierInThread s p q → IsDerived s x q → IsDerived s x p
+pub has_earlier : (s : Trace) (x : DerivationSearch) (p q : ℕ) → EarlierInThread s p q → IsDerived s x q → IsDerived s x p
 has_earlier s x p q (u, a, b, less) (r, (t, e, o, l)) = (r, (t, e, subst (OfThread s p) (at_thread s q u t b o) a, omega (arith, less, l)))
 
-pub has_up_to : (s : Trace) (x : Search) (p q : ℕ) → IsUpTo s p (Some q) → IsDerived s x q → IsDerived s x p
+pub has_up_to : (s : Trace) (x : DerivationSearch) (p q : ℕ) → IsUpTo s p (Some q) → IsDerived s x q → IsDerived s x p
 has_up_to s x p q (f, u, e, a, b, low) (r, (t, is, o, l)) =
     let same : q ≡ f = same_Some q f e in
     (r, (t, is, subst (OfThread s p) (at_thread s q u t (subst (λ z. OfThread s z u) (sym same) b) o) a, omega (arith, low, l, same)))
 
 -- a shorter prefix is covered
-pub covers_before : (s : Trace) (places : List ℕ) (x : Search) (q : ℕ) (r : Prefix) → IsUpTo s q (Some r.last) → Covers s places x r →
+pub covers_before : (s : Trace) (places : List ℕ) (x : DerivationSearch) (q : ℕ) (r : Prefix) → IsUpTo s q (Some r.last) → Covers s places x r →
     Covers s places x (record { last = q; reason = r.reason })
 covers_before s places x q r (f, t, e, a, b, l) c p (g, u, k, o, h, m) =
     let same : q ≡ g = same_Some q g k in
     let thread : u ≡ t = at_thread s q u t (subst (λ z. OfThread s z u) (sym same) h) a in
     c p (f, t, e, subst (OfThread s p) thread o, b, omega (arith, l, m, same))
 
-pub found : (x : Search) → HasIndices x → (p i : ℕ) → get nat_eq x.indices p ≡ Some i → slice_get (derived_by x) i ≡ Some p
+pub found : (x : DerivationSearch) → HasIndices x → (p i : ℕ) → get nat_eq x.indices p ≡ Some i → slice_get (derived_by x) i ≡ Some p
 found x h p i e = subst (λ o. MatchOption o (Contains (derived_by x) p → ⊥) (λ i. slice_get (derived_by x) i ≡ Some p)) e (h p)
 
-pub not_found : (x : Search) → HasIndices x → (p : ℕ) → get nat_eq x.indices p ≡ None → Contains (derived_by x) p → ⊥
+pub not_found : (x : DerivationSearch) → HasIndices x → (p : ℕ) → get nat_eq x.indices p ≡ None → Contains (derived_by x) p → ⊥
 not_found x h p e = subst (λ o. MatchOption o (Contains (derived_by x) p → ⊥) (λ i. slice_get (derived_by x) i ≡ Some p)) e (h p)
 
 -- a place without an entry gets one at the end
-module _ (s : Trace) (places : List ℕ) (x y : Search) (p : ℕ) (r : Reason)
+module _ (s : Trace) (places : List ℕ) (x y : DerivationSearch) (p : ℕ) (r : Reason)
     (none : get nat_eq x.indices p ≡ None)
     (put : (q : ℕ) → get nat_eq y.indices q ≡ cond (p == q) (Some (length x.entries.items)) (get nat_eq x.indices q))
     (items : y.entries.items ≡ x.entries.items ++ record { place = p; reason = r } ∷ [])
@@ -107,21 +107,21 @@ module _ (s : Trace) (places : List ℕ) (x y : Search) (p : ℕ) (r : Reason)
   more threads ranges = record {
     entries = (record { place = p; reason = r } ∷ [], items);
     ranges = λ i r e. subst (λ (v : _). slice_get v.items i ≡ Some r) (sym ranges) e;
-    has = λ q (r, (t, e, o, l)). (r, (t, subst (λ (v : _). at v t ≡ Some r) (sym threads) e, o, l));
+    has = λ q (r, (t, e, o, l)). (r, (t, subst (λ (v : _). prefix_at v t ≡ Some r) (sym threads) e, o, l));
   }
 
   kept : (k q : ℕ) → slice_get (derived_by x) k ≡ Some q → slice_get (derived_by y) k ≡ Some q
-  kept k q at = subst (λ xs. slice_get xs k ≡ Some q) (sym pushed) (get-append (derived_by x) (p ∷ []) k (slice_get_within (derived_by x) k q at) ∙ at)
+  kept k q prefix_at = subst (λ xs. slice_get xs k ≡ Some q) (sym pushed) (get-append (derived_by x) (p ∷ []) k (slice_get_within (derived_by x) k q prefix_at) ∙ prefix_at)
 
   last : slice_get (derived_by y) (length x.entries.items) ≡ Some p
   last = subst (λ xs. slice_get xs (length x.entries.items) ≡ Some p) (sym pushed)
       (subst (λ n. slice_get (derived_by x ++ p ∷ []) n ≡ Some p) (length-map x.entries.items (λ (d : Derived). d.place)) (get-push_last (derived_by x) p))
 
   old_or_new : (k q : ℕ) → slice_get (derived_by y) k ≡ Some q → (slice_get (derived_by x) k ≡ Some q) ⊎ ((k ≡ length (derived_by x)) × (p ≡ q))
-  old_or_new k q at = get-push (derived_by x) p k q (subst (λ xs. slice_get xs k ≡ Some q) pushed at)
+  old_or_new k q prefix_at = get-push (derived_by x) p k q (subst (λ xs. slice_get xs k ≡ Some q) pushed prefix_at)
 
   kept_index : (q : ℕ) → (p ≡ q → ⊥) → (o : Option ℕ) → get nat_eq x.indices q ≡ o → MatchOption o (Contains (derived_by y) q → ⊥) (λ i. slice_get (derived_by y) i ≡ Some q)
-  kept_index q other None e = λ c. let (k, at) = place_of (derived_by y) q c in elim (old_or_new k q at) [
+  kept_index q other None e = λ c. let (k, prefix_at) = place_of (derived_by y) q c in elim (old_or_new k q prefix_at) [
     | inl a ↦ not_found x is.indices q e (contains_at (derived_by x) q k a)
     | inr a ↦ other a.1
   ]
@@ -131,7 +131,7 @@ module _ (s : Trace) (places : List ℕ) (x y : Search) (p : ℕ) (r : Reason)
   new_index q true e = subst (λ z. slice_get (derived_by y) (length x.entries.items) ≡ Some z) (eqb-true p q e) last
   new_index q false e = kept_index q (λ h. false≢true (sym e ∙ eq-eqb p q h)) (get nat_eq x.indices q) refl
 
-  pub added : y.threads ≡ x.threads → y.ranges ≡ x.ranges → y.locks ≡ x.locks → Justifies s places (derived_by x) r p → Adds s places x p y
+  pub added : y.threads ≡ x.threads → y.ranges ≡ x.ranges → y.locks ≡ x.locks → Justifies s places (derived_by x) r p → AddsEntry s places x p y
   added threads ranges locks j = (
     record {
       derives = subst (IsDerivation s places) (sym items) (one_more_derived s places x.entries.items (record { place = p; reason = r }) is.derives j);
@@ -147,12 +147,12 @@ module _ (s : Trace) (places : List ℕ) (x y : Search) (p : ℕ) (r : Reason)
         ]
       ];
       threads = λ t q e.
-          let (o, c) = is.threads t q (subst (λ (v : _). at v t ≡ Some q) threads e) in
+          let (o, c) = is.threads t q (subst (λ (v : _). prefix_at v t ≡ Some q) threads e) in
           (o, covers_more s places x y (more threads ranges) q c);
-      locks = λ l q e. in_more s places x y (more threads ranges) q (is.locks l q (subst (λ (v : _). at v l ≡ Some q) locks e));
+      locks = λ l q e. in_more s places x y (more threads ranges) q (is.locks l q (subst (λ (v : _). prefix_at v l ≡ Some q) locks e));
       ranges = λ i q e. in_more s places x y (more threads ranges) q.prefix (is.ranges i q (subst (λ (v : _). slice_get v.items i ≡ Some q) ranges e));
       all = λ q (z, (t, e, o, l)).
-          let (i, range, there, within) = is.all q (z, (t, subst (λ (v : _). at v t ≡ Some z) threads e, o, l)) in
+          let (i, range, there, within) = is.all q (z, (t, subst (λ (v : _). prefix_at v t ≡ Some z) threads e, o, l)) in
           (i, range, subst (λ (v : _). slice_get v.items i ≡ Some range) (sym ranges) there, within);
     },
     more threads ranges,
@@ -161,7 +161,7 @@ module _ (s : Trace) (places : List ℕ) (x y : Search) (p : ℕ) (r : Reason)
 
 -- ---- one call after another
 
-pub covers_both : (s : Trace) (places : List ℕ) (x y z : Search) (P Q : ℕ → Type 0) → CoversAll s places x P y → CoversAll s places y Q z →
+pub covers_both : (s : Trace) (places : List ℕ) (x y z : DerivationSearch) (P Q : ℕ → Type 0) → CoversAll s places x P y → CoversAll s places y Q z →
     CoversAll s places x (λ p. P p ⊎ Q p) z
 covers_both s places x y z P Q (a, e, f) (b, g, h) = (b, extends_trans s x y z e g, λ p. both p)
   where
@@ -169,7 +169,7 @@ covers_both s places x y z P Q (a, e, f) (b, g, h) = (b, extends_trans s x y z e
     both p (inl k) = g.has p (f p k)
     both p (inr k) = h p k
 
-pub covers_fewer : (s : Trace) (places : List ℕ) (x y : Search) (P Q : ℕ → Type 0) → ((p : ℕ) → Q p → P p) → CoversAll s places x P y → CoversAll s places x Q y
+pub covers_fewer : (s : Trace) (places : List ℕ) (x y : DerivationSearch) (P Q : ℕ → Type 0) → ((p : ℕ) → Q p → P p) → CoversAll s places x P y → CoversAll s places x Q y
 covers_fewer s places x y P Q f (a, e, h) = (a, e, λ p k. h p (f p k))
 
 -- a fact of an `Ok` value implies another

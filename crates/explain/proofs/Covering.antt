@@ -12,13 +12,13 @@ use Rattle.trace_model.proofs.Lists.{at_index, get-append, get-push, get-push_la
 use Rattle.trace_model.proofs.Theory.Least.{at_thread}
 use Rattle.explain.specs.declared.tables.Prefix.{Prefix}
 use Rattle.explain.specs.declared.search.Range.{Range}
-use Rattle.explain.specs.declared.search.Search.{Search}
-use Rattle.explain.specs.Tables.{at}
-use Rattle.explain.specs.Search.{derived_by, IsUpTo, IsDerived, Covers, IsIn, InRange, IsSearch, Extends, CoversAll}
+use Rattle.explain.specs.declared.search.DerivationSearch.{DerivationSearch}
+use Rattle.explain.specs.Tables.{prefix_at}
+use Rattle.explain.specs.DerivationSearch.{derived_by, IsUpTo, IsDerived, Covers, IsIn, InRange, IsSearch, Extends, CoversAll}
 use Rattle.explain.proofs.Adding.{derived_within}
 
 -- the places up to a place with an entry
-pub up_to_entry : (s : Trace) (places : List ℕ) (x : Search) (q : ℕ) → Contains (derived_by x) q → (p : ℕ) → IsUpTo s p (Some q) →
+pub up_to_entry : (s : Trace) (places : List ℕ) (x : DerivationSearch) (q : ℕ) → Contains (derived_by x) q → (p : ℕ) → IsUpTo s p (Some q) →
     Contains (derived_by x) p ⊎ Justifies s places (derived_by x) (ThreadOrder q) p
 up_to_entry s places x q c p (f, t, e, a, b, l) =
     let same : q ≡ f = same_Some q f e in
@@ -28,17 +28,17 @@ up_to_entry s places x q c p (f, t, e, a, b, l) =
     ]
 
 -- a place with an entry is in a thread
-pub entry_up_to : (s : Trace) (places : List ℕ) (x : Search) → IsSearch s places x → (p : ℕ) → Contains (derived_by x) p → IsUpTo s p (Some p)
+pub entry_up_to : (s : Trace) (places : List ℕ) (x : DerivationSearch) → IsSearch s places x → (p : ℕ) → Contains (derived_by x) p → IsUpTo s p (Some p)
 entry_up_to s places x is p c =
     let (e, here) = at_index s p (derived_within s places x is p c) in
     (p, e.thread, refl, (e.op, here), (e.op, here), omega arith)
 
 -- the thread gets a longer prefix, and the places that it has more are a range
-module _ (s : Trace) (places : List ℕ) (x z : Search) (t place : ℕ) (reason : Reason) (after : Option ℕ)
+module _ (s : Trace) (places : List ℕ) (x z : DerivationSearch) (t place : ℕ) (reason : Reason) (after : Option ℕ)
     (here : OfThread s place t)
-    (known : after ≡ option_map (λ (k : Prefix). k.last) (at x.threads t))
+    (known : after ≡ option_map (λ (k : Prefix). k.last) (prefix_at x.threads t))
     (past : (a : ℕ) → after ≡ Some a → a < place)
-    (put : (u : ℕ) → at z.threads u ≡ cond (t == u) (Some (record { last = place; reason = reason })) (at x.threads u))
+    (put : (u : ℕ) → prefix_at z.threads u ≡ cond (t == u) (Some (record { last = place; reason = reason })) (prefix_at x.threads u))
     (items : z.ranges.items ≡ x.ranges.items ++ record { prefix = record { last = place; reason = reason }; after = after } ∷ [])
     (is : IsSearch s places x)
     (covers : (p : ℕ) → IsUpTo s p (Some place) → Contains (derived_by x) p ⊎ Justifies s places (derived_by x) reason p) where
@@ -48,14 +48,14 @@ module _ (s : Trace) (places : List ℕ) (x z : Search) (t place : ℕ) (reason 
   abbrev range : Range
   range = record { prefix = record { last = place; reason = reason }; after = after }
 
-  abbrev y : Search
+  abbrev y : DerivationSearch
   y = record x { threads = z.threads; ranges = z.ranges }
 
-  known_last : (k : Prefix) → at x.threads t ≡ Some k → after ≡ Some k.last
+  known_last : (k : Prefix) → prefix_at x.threads t ≡ Some k → after ≡ Some k.last
   known_last k e = known ∙ ap (option_map (λ (k : Prefix). k.last)) e
 
   has_new : (p : ℕ) → OfThread s p t → p ≤ place → IsDerived s y p
-  has_new p o l = (prefix, (t, put t ∙ ap (λ b. cond b (Some prefix) (at x.threads t)) (eq-eqb t t refl), o, l))
+  has_new p o l = (prefix, (t, put t ∙ ap (λ b. cond b (Some prefix) (prefix_at x.threads t)) (eq-eqb t t refl), o, l))
 
   keeps : (p : ℕ) → IsDerived s x p → IsDerived s y p
   keeps p (r, (u, e, o, l)) = go (t == u) refl
@@ -63,16 +63,16 @@ module _ (s : Trace) (places : List ℕ) (x z : Search) (t place : ℕ) (reason 
       go : (b : Bool) → (t == u) ≡ b → IsDerived s y p
       go true k =
           let same : t ≡ u = eqb-true t u k in
-          let less : r.last < place = past r.last (known_last r (ap (at x.threads) same ∙ e)) in
+          let less : r.last < place = past r.last (known_last r (ap (prefix_at x.threads) same ∙ e)) in
           has_new p (subst (OfThread s p) (sym same) o) (omega (arith, l, less))
-      go false k = (r, (u, put u ∙ ap (λ b. cond b (Some prefix) (at x.threads u)) k ∙ e, o, l))
+      go false k = (r, (u, put u ∙ ap (λ b. cond b (Some prefix) (prefix_at x.threads u)) k ∙ e, o, l))
 
-  cases_at : (u : ℕ) (r : Prefix) → at z.threads u ≡ Some r → ((t ≡ u) × (prefix ≡ r)) ⊎ (at x.threads u ≡ Some r)
+  cases_at : (u : ℕ) (r : Prefix) → prefix_at z.threads u ≡ Some r → ((t ≡ u) × (prefix ≡ r)) ⊎ (prefix_at x.threads u ≡ Some r)
   cases_at u r e = go (t == u) refl
     where
-      go : (b : Bool) → (t == u) ≡ b → ((t ≡ u) × (prefix ≡ r)) ⊎ (at x.threads u ≡ Some r)
-      go true k = inl (eqb-true t u k, same_Some prefix r (sym (put u ∙ ap (λ b. cond b (Some prefix) (at x.threads u)) k) ∙ e))
-      go false k = inr (sym (put u ∙ ap (λ b. cond b (Some prefix) (at x.threads u)) k) ∙ e)
+      go : (b : Bool) → (t == u) ≡ b → ((t ≡ u) × (prefix ≡ r)) ⊎ (prefix_at x.threads u ≡ Some r)
+      go true k = inl (eqb-true t u k, same_Some prefix r (sym (put u ∙ ap (λ b. cond b (Some prefix) (prefix_at x.threads u)) k) ∙ e))
+      go false k = inr (sym (put u ∙ ap (λ b. cond b (Some prefix) (prefix_at x.threads u)) k) ∙ e)
 
   kept_range : (i : ℕ) (r : Range) → slice_get x.ranges.items i ≡ Some r → slice_get z.ranges.items i ≡ Some r
   kept_range i r e = subst (λ rs. slice_get rs i ≡ Some r) (sym items) (get-append x.ranges.items (range ∷ []) i (slice_get_within x.ranges.items i r e) ∙ e)
@@ -94,7 +94,7 @@ module _ (s : Trace) (places : List ℕ) (x z : Search) (t place : ℕ) (reason 
   in_old : (p : ℕ) → IsDerived s x p → InSome p
   in_old p h = let (i, r, e, within) = is.all p h in (i, r, kept_range i r e, within)
 
-  in_thread : (p : ℕ) → OfThread s p t → p ≤ place → (o : Option Prefix) → at x.threads t ≡ o → InSome p
+  in_thread : (p : ℕ) → OfThread s p t → p ≤ place → (o : Option Prefix) → prefix_at x.threads t ≡ o → InSome p
   in_thread p o l None e = in_new p o l (λ a k. absurd (none-some a (sym (known ∙ ap (option_map (λ (k : Prefix). k.last)) e) ∙ k)))
   in_thread p o l (Some k) e = elim (cases_lt k.last p) [
     | inl less ↦ in_new p o l (λ a f. omega (arith, less, same_Some k.last a (sym (known_last k e) ∙ f)))
@@ -103,7 +103,7 @@ module _ (s : Trace) (places : List ℕ) (x z : Search) (t place : ℕ) (reason 
 
   all : (p : ℕ) → IsDerived s y p → InSome p
   all p (r, (u, e, o, l)) = elim (cases_at u r e) [
-    | inl (a, b) ↦ in_thread p (subst (OfThread s p) (sym a) o) (omega (arith, l, ap (λ (k : Prefix). k.last) b)) (at x.threads t) refl
+    | inl (a, b) ↦ in_thread p (subst (OfThread s p) (sym a) o) (omega (arith, l, ap (λ (k : Prefix). k.last) b)) (prefix_at x.threads t) refl
     | inr a ↦ in_old p (r, (u, a, o, l))
   ]
 

@@ -8,7 +8,7 @@ use Rattle.trace_model.specs.Theory.Trace.{Trace, OfThread}
 use Rattle.trace_model.specs.Theory.Held.{BeginsOn}
 use Rattle.trace_model.specs.Theory.Lawful.{IsWellFormed}
 use Rattle.trace_model.specs.Theory.Lookups.{release}
-use Rattle.trace_model.specs.Theory.Reordering.{Reached}
+use Rattle.trace_model.specs.Theory.Reordering.{AreReached}
 use Rattle.trace_model.specs.Theory.Closure.{IsClosed}
 use Rattle.trace_model.proofs.Lists.{at_index}
 use Rattle.trace_model.proofs.Theory.Ascending.{listed, listed_contains, contains_listed}
@@ -17,9 +17,9 @@ use Rattle.trace_model.proofs.Theory.Stability.{reached_from}
 use Rattle.trace_index.specs.Numbers.{thread_before}
 use Rattle.explain.specs.declared.tables.Prefix.{Prefix}
 use Rattle.explain.specs.declared.search.Range.{Range}
-use Rattle.explain.specs.declared.search.Search.{Search}
-use Rattle.explain.specs.Tables.{at}
-use Rattle.explain.specs.Search.{IsUpTo, IsDerived, IsIn, InRange, Extends, HasFork, IsBefore, IsLast, HasFollowed, IsCaughtNowhere}
+use Rattle.explain.specs.declared.search.DerivationSearch.{DerivationSearch}
+use Rattle.explain.specs.Tables.{prefix_at}
+use Rattle.explain.specs.DerivationSearch.{IsUpTo, IsDerived, IsIn, InRange, Extends, HasFork, IsBefore, IsLast, HasFollowed, IsCaughtNowhere}
 use Rattle.explain.proofs.Adding.{covers_more, covers_before, has_up_to}
 use Rattle.explain.proofs.LastSections.{follows_stays}
 use Rattle.explain.proofs.Walking.{before_some, before_none}
@@ -30,23 +30,23 @@ section_derived s xs H a b r l less x y ca cb e None h = absurd (h a ca x)
 section_derived s xs H a b r l less x y ca cb e (Some g) (c, d, f) = (f a ca x).1 (omega (arith, less, (f b cb y).0)) r e
 
 -- once each derived place is followed, the followed places are closed
-module _ (s : Trace) (followed : List ℕ) (x : Search) (f : HasFollowed s followed x) (all : (p : ℕ) → IsDerived s x p → Contains followed p) where
+module _ (s : Trace) (followed : List ℕ) (x : DerivationSearch) (f : HasFollowed s followed x) (all : (p : ℕ) → IsDerived s x p → Contains followed p) where
   closes : IsClosed s (listed followed)
   closes = record {
     threads = λ p q h e. contains_listed followed p (all p (f.required q p (listed_contains followed q h) (inl e)));
     forks_joins = λ p q h e. contains_listed followed p (all p (f.required q p (listed_contains followed q h) (inr (inl e))));
     writers = λ w q h e. contains_listed followed w (all w (f.required q w (listed_contains followed q h) (inr (inr e))));
     sections = λ a b r l less m n h k e. contains_listed followed r (all r
-        (section_derived s followed (IsDerived s x) a b r l less m n (listed_contains followed a h) (listed_contains followed b k) e (at x.locks l) (f.sections l)));
+        (section_derived s followed (IsDerived s x) a b r l less m n (listed_contains followed a h) (listed_contains followed b k) e (prefix_at x.locks l) (f.sections l)));
   }
 
-  pub finished : IsWellFormed s → (places : List ℕ) → ((p : ℕ) → IsBefore s places p → IsDerived s x p) → IsCaughtNowhere s x places → Reached s places
+  pub finished : IsWellFormed s → (places : List ℕ) → ((p : ℕ) → IsBefore s places p → IsDerived s x p) → IsCaughtNowhere s x places → AreReached s places
   finished w places before nowhere = reached_from s w places (listed followed) closes
       (λ p q c e. contains_listed followed q (all q (before q (p, c, e))))
       (λ p c h. nowhere p c (f.derived p (listed_contains followed p h)))
 
 -- nothing was followed
-pub nothing_followed : (s : Trace) (x : Search) → ((l : ℕ) → at x.locks l ≡ None) → HasFollowed s [] x
+pub nothing_followed : (s : Trace) (x : DerivationSearch) → ((l : ℕ) → prefix_at x.locks l ≡ None) → HasFollowed s [] x
 nothing_followed s x none = record {
   derived = λ q (k, l, e). absurd (omega arith);
   required = λ q p (k, l, e). absurd (omega arith);
@@ -54,7 +54,7 @@ nothing_followed s x none = record {
       (λ b (k, less, e) h. omega arith);
 }
 
-pub followed_stays : (s : Trace) (followed : List ℕ) (x y : Search) → Extends s x y → y.locks ≡ x.locks → HasFollowed s followed x → HasFollowed s followed y
+pub followed_stays : (s : Trace) (followed : List ℕ) (x y : DerivationSearch) → Extends s x y → y.locks ≡ x.locks → HasFollowed s followed x → HasFollowed s followed y
 followed_stays s followed x y e locks f = record {
   derived = λ q c. e.has q (f.derived q c);
   required = λ q p c r. e.has p (f.required q p c r);
@@ -62,13 +62,13 @@ followed_stays s followed x y e locks f = record {
 }
 
 -- a place of a prefix is derived and covered, and so is its fork
-pub place_in : (s : Trace) (places : List ℕ) (x y : Search) (prefix : Prefix) (t place : ℕ) → OfThread s prefix.last t → OfThread s place t × (place ≤ prefix.last) →
+pub place_in : (s : Trace) (places : List ℕ) (x y : DerivationSearch) (prefix : Prefix) (t place : ℕ) → OfThread s prefix.last t → OfThread s place t × (place ≤ prefix.last) →
     Extends s x y → IsIn s places x prefix → IsIn s places y (record { last = place; reason = prefix.reason })
 place_in s places x y prefix t place own (o, low) e here =
     let up : IsUpTo s place (Some prefix.last) = (prefix.last, t, refl, o, own, low) in
     (has_up_to s y place prefix.last up (e.has prefix.last here.0), covers_before s places y place prefix up (covers_more s places x y e prefix here.1))
 
-pub fork_at : (s : Trace) (x : Search) (last t place : ℕ) → OfThread s last t → OfThread s place t → HasFork s x last → HasFork s x place
+pub fork_at : (s : Trace) (x : DerivationSearch) (last t place : ℕ) → OfThread s last t → OfThread s place t → HasFork s x last → HasFork s x place
 fork_at s x last t place own here fork u p o d = fork u p (subst (OfThread s last) (sym (at_thread s place u t o here)) own) d
 
 -- a walk back along a thread has followed the places after the next one
@@ -98,10 +98,10 @@ walk_ends s range next xs h (inl none) q (up, after) = h q up (λ n k. absurd (n
 walk_ends s range next xs h (inr (n, is, (a, e, low))) q (up, after) = h q up (λ m k. omega (arith, low, after a e, same_Some n m (sym is ∙ k)))
 
 -- the places of the first ranges are followed
-abbrev pub HasWalked : Trace → Search → List ℕ → ℕ → Type 0
+abbrev pub HasWalked : Trace → DerivationSearch → List ℕ → ℕ → Type 0
 HasWalked s x followed k = (i : ℕ) (r : Range) (p : ℕ) → i < k → slice_get x.ranges.items i ≡ Some r → InRange s r p → Contains followed p
 
-pub walked_more : (s : Trace) (x y : Search) (xs ys : List ℕ) (k : ℕ) (range : Range) → Extends s x y → ((q : ℕ) → Contains xs q → Contains ys q) →
+pub walked_more : (s : Trace) (x y : DerivationSearch) (xs ys : List ℕ) (k : ℕ) (range : Range) → Extends s x y → ((q : ℕ) → Contains xs q → Contains ys q) →
     slice_get x.ranges.items k ≡ Some range → k < length x.ranges.items → ((q : ℕ) → InRange s range q → Contains ys q) → HasWalked s x xs k → HasWalked s y ys (k + 1)
 walked_more s x y xs ys k range e more here within h walked i r p low is inside =
     let (z, there) = at_index x.ranges.items i (omega (arith, low, within)) in
@@ -110,6 +110,6 @@ walked_more s x y xs ys k range e more here within h walked i r p low is inside 
       | inl less ↦ more p (walked i z p less there (subst (λ (v : Range). InRange s v p) (sym same) inside))
       | inr up ↦
           let index : i ≡ k = omega (arith, low) in
-          let at : range ≡ z = same_Some range z (sym here ∙ subst (λ n. slice_get x.ranges.items n ≡ Some z) index there) in
-          h p (subst (λ (v : Range). InRange s v p) (sym (at ∙ same)) inside)
+          let prefix_at : range ≡ z = same_Some range z (sym here ∙ subst (λ n. slice_get x.ranges.items n ≡ Some z) index there) in
+          h p (subst (λ (v : Range). InRange s v p) (sym (prefix_at ∙ same)) inside)
     ]

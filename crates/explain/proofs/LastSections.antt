@@ -6,20 +6,20 @@ use Rattle.std.proofs.lemmas.Option.{none-some, same_Some}
 use Rattle.std.specs.List.{Contains}
 use Rattle.trace_model.specs.declared.refutations.Reason.{Reason}
 use Rattle.trace_model.specs.Theory.Trace.{Trace}
-use Rattle.trace_model.specs.Theory.Held.{BeginsOn, begun}
+use Rattle.trace_model.specs.Theory.Held.{BeginsOn, begun_lock}
 use Rattle.trace_model.specs.Theory.Lookups.{release}
 use Rattle.trace_model.proofs.Theory.Begun.{begun_so, begun_from}
 use Rattle.explain.specs.declared.tables.Prefix.{Prefix}
-use Rattle.explain.specs.declared.search.Search.{Search}
-use Rattle.explain.specs.Tables.{at}
-use Rattle.explain.specs.Search.{IsDerived, IsLast, IsIn, IsSearch, Extends, Follows}
+use Rattle.explain.specs.declared.search.DerivationSearch.{DerivationSearch}
+use Rattle.explain.specs.Tables.{prefix_at}
+use Rattle.explain.specs.DerivationSearch.{IsDerived, IsLast, IsIn, IsSearch, Extends, HasLastPlaces}
 
 -- the entry of a lock
 abbrev pub Keeps : Trace → List ℕ → (ℕ → Type 0) → ℕ → Option Prefix → Type 0
 Keeps s followed H l o = MatchOption o ((b : ℕ) → Contains followed b → BeginsOn s b l → ⊥) (λ r. IsLast s followed H l r.last)
 
 -- one lock is that of a place
-one_lock : (s : Trace) (q l k : ℕ) → begun s q ≡ Some l → BeginsOn s q k → l ≡ k
+one_lock : (s : Trace) (q l k : ℕ) → begun_lock s q ≡ Some l → BeginsOn s q k → l ≡ k
 one_lock s q l k e b = same_Some l k (sym e ∙ begun_from s q k b)
 
 module _ (s : Trace) (followed : List ℕ) (H K : ℕ → Type 0) (more : (p : ℕ) → H p → K p) where
@@ -78,43 +78,43 @@ module _ (s : Trace) (followed : List ℕ) (H K : ℕ → Type 0) (more : (p : �
 
 -- ---- the table of all locks
 
-pub follows_stays : (s : Trace) (followed : List ℕ) (x y : Search) → ((p : ℕ) → IsDerived s x p → IsDerived s y p) → y.locks ≡ x.locks →
-    Follows s followed x → Follows s followed y
-follows_stays s followed x y more same h l = subst (λ (m : _). Keeps s followed (IsDerived s y) l (at m l)) (sym same)
-    (kept_entry s followed (IsDerived s x) (IsDerived s y) more l (at x.locks l) (h l))
+pub follows_stays : (s : Trace) (followed : List ℕ) (x y : DerivationSearch) → ((p : ℕ) → IsDerived s x p → IsDerived s y p) → y.locks ≡ x.locks →
+    HasLastPlaces s followed x → HasLastPlaces s followed y
+follows_stays s followed x y more same h l = subst (λ (m : _). Keeps s followed (IsDerived s y) l (prefix_at m l)) (sym same)
+    (kept_entry s followed (IsDerived s x) (IsDerived s y) more l (prefix_at x.locks l) (h l))
 
-pub follows_none : (s : Trace) (followed : List ℕ) (x : Search) (q : ℕ) → begun s q ≡ None → Follows s followed x → Follows s (followed ++ q ∷ []) x
+pub follows_none : (s : Trace) (followed : List ℕ) (x : DerivationSearch) (q : ℕ) → begun_lock s q ≡ None → HasLastPlaces s followed x → HasLastPlaces s (followed ++ q ∷ []) x
 follows_none s followed x q none h l =
-    other_entry s followed (IsDerived s x) (IsDerived s x) (λ p c. c) q l (λ b. none-some l (sym none ∙ begun_from s q l b)) (at x.locks l) (h l)
+    other_entry s followed (IsDerived s x) (IsDerived s x) (λ p c. c) q l (λ b. none-some l (sym none ∙ begun_from s q l b)) (prefix_at x.locks l) (h l)
 
 -- an earlier place than the last one
-pub follows_earlier : (s : Trace) (followed : List ℕ) (x y : Search) (q l : ℕ) (a : Prefix) → begun s q ≡ Some l → at x.locks l ≡ Some a → q < a.last →
+pub follows_earlier : (s : Trace) (followed : List ℕ) (x y : DerivationSearch) (q l : ℕ) (a : Prefix) → begun_lock s q ≡ Some l → prefix_at x.locks l ≡ Some a → q < a.last →
     ((p : ℕ) → IsDerived s x p → IsDerived s y p) → y.locks ≡ x.locks → ((r : ℕ) → release s q ≡ Some r → IsDerived s y r) →
-    Follows s followed x → Follows s (followed ++ q ∷ []) y
+    HasLastPlaces s followed x → HasLastPlaces s (followed ++ q ∷ []) y
 follows_earlier s followed x y q l a is last less more same ends h k =
-    subst (λ (m : _). Keeps s (followed ++ q ∷ []) (IsDerived s y) k (at m k)) (sym same) (go (l == k) refl)
+    subst (λ (m : _). Keeps s (followed ++ q ∷ []) (IsDerived s y) k (prefix_at m k)) (sym same) (go (l == k) refl)
   where
-    go : (b : Bool) → (l == k) ≡ b → Keeps s (followed ++ q ∷ []) (IsDerived s y) k (at x.locks k)
+    go : (b : Bool) → (l == k) ≡ b → Keeps s (followed ++ q ∷ []) (IsDerived s y) k (prefix_at x.locks k)
     go true e =
         let lock : l ≡ k = eqb-true l k e in
-        let here : at x.locks k ≡ Some a = ap (at x.locks) (sym lock) ∙ last in
+        let here : prefix_at x.locks k ≡ Some a = ap (prefix_at x.locks) (sym lock) ∙ last in
         subst (Keeps s (followed ++ q ∷ []) (IsDerived s y) k) (sym here)
         (earlier_entry s followed (IsDerived s x) (IsDerived s y) more q k a less ends (subst (Keeps s followed (IsDerived s x) k) here (h k)))
-    go false e = other_entry s followed (IsDerived s x) (IsDerived s y) more q k (λ b. false≢true (sym e ∙ eq-eqb l k (one_lock s q l k is b))) (at x.locks k) (h k)
+    go false e = other_entry s followed (IsDerived s x) (IsDerived s y) more q k (λ b. false≢true (sym e ∙ eq-eqb l k (one_lock s q l k is b))) (prefix_at x.locks k) (h k)
 
 -- the last place so far
-pub follows_later : (s : Trace) (followed : List ℕ) (x y : Search) (l : ℕ) (here : Prefix) (locks : List (ℕ × Option Prefix)) → begun s here.last ≡ Some l →
+pub follows_later : (s : Trace) (followed : List ℕ) (x y : DerivationSearch) (l : ℕ) (here : Prefix) (locks : List (ℕ × Option Prefix)) → begun_lock s here.last ≡ Some l →
     ((p : ℕ) → IsDerived s x p → IsDerived s y p) → y.locks ≡ x.locks →
-    ((k : ℕ) → at locks k ≡ cond (l == k) (Some here) (at y.locks k)) →
-    ((a : Prefix) → at x.locks l ≡ Some a → (a.last ≤ here.last) × (a.last < here.last → (r : ℕ) → release s a.last ≡ Some r → IsDerived s y r)) →
-    Follows s followed x → Follows s (followed ++ here.last ∷ []) (record y { locks = locks })
+    ((k : ℕ) → prefix_at locks k ≡ cond (l == k) (Some here) (prefix_at y.locks k)) →
+    ((a : Prefix) → prefix_at x.locks l ≡ Some a → (a.last ≤ here.last) × (a.last < here.last → (r : ℕ) → release s a.last ≡ Some r → IsDerived s y r)) →
+    HasLastPlaces s followed x → HasLastPlaces s (followed ++ here.last ∷ []) (record y { locks = locks })
 follows_later s followed x y l here locks is more same put ends h k =
     subst (Keeps s (followed ++ here.last ∷ []) (IsDerived s y) k) (sym (put k)) (go (l == k) refl)
   where
-    go : (b : Bool) → (l == k) ≡ b → Keeps s (followed ++ here.last ∷ []) (IsDerived s y) k (cond b (Some here) (at y.locks k))
-    go false e = subst (λ (m : _). Keeps s (followed ++ here.last ∷ []) (IsDerived s y) k (at m k)) (sym same)
-        (other_entry s followed (IsDerived s x) (IsDerived s y) more here.last k (λ b. false≢true (sym e ∙ eq-eqb l k (one_lock s here.last l k is b))) (at x.locks k) (h k))
-    go true e = by_last (at x.locks k) refl
+    go : (b : Bool) → (l == k) ≡ b → Keeps s (followed ++ here.last ∷ []) (IsDerived s y) k (cond b (Some here) (prefix_at y.locks k))
+    go false e = subst (λ (m : _). Keeps s (followed ++ here.last ∷ []) (IsDerived s y) k (prefix_at m k)) (sym same)
+        (other_entry s followed (IsDerived s x) (IsDerived s y) more here.last k (λ b. false≢true (sym e ∙ eq-eqb l k (one_lock s here.last l k is b))) (prefix_at x.locks k) (h k))
+    go true e = by_last (prefix_at x.locks k) refl
       where
         lock : l ≡ k
         lock = eqb-true l k e
@@ -122,18 +122,18 @@ follows_later s followed x y l here locks is more same put ends h k =
         begins : BeginsOn s here.last k
         begins = subst (BeginsOn s here.last) lock (begun_so s here.last l is)
 
-        by_last : (o : Option Prefix) → at x.locks k ≡ o → Keeps s (followed ++ here.last ∷ []) (IsDerived s y) k (Some here)
+        by_last : (o : Option Prefix) → prefix_at x.locks k ≡ o → Keeps s (followed ++ here.last ∷ []) (IsDerived s y) k (Some here)
         by_last None f = first_entry s followed (IsDerived s x) (IsDerived s y) more here.last k here.reason begins (subst (Keeps s followed (IsDerived s x) k) f (h k))
         by_last (Some a) f =
-            let r = ends a (ap (at x.locks) lock ∙ f) in
+            let r = ends a (ap (prefix_at x.locks) lock ∙ f) in
             later_entry s followed (IsDerived s x) (IsDerived s y) more here.last k here.reason a r.0 begins r.1 (subst (Keeps s followed (IsDerived s x) k) f (h k))
 
-pub last_is : (s : Trace) (followed : List ℕ) (x : Search) (l : ℕ) (a : Prefix) → Follows s followed x → at x.locks l ≡ Some a → IsLast s followed (IsDerived s x) l a.last
+pub last_is : (s : Trace) (followed : List ℕ) (x : DerivationSearch) (l : ℕ) (a : Prefix) → HasLastPlaces s followed x → prefix_at x.locks l ≡ Some a → IsLast s followed (IsDerived s x) l a.last
 last_is s followed x l a h e = subst (Keeps s followed (IsDerived s x) l) e (h l)
 
 -- the table of locks gets a prefix that is derived
-pub with_lock : (s : Trace) (places : List ℕ) (x : Search) (l : ℕ) (here : Prefix) (locks : List (ℕ × Option Prefix)) →
-    ((k : ℕ) → at locks k ≡ cond (l == k) (Some here) (at x.locks k)) → IsIn s places x here → IsSearch s places x → IsSearch s places (record x { locks = locks })
+pub with_lock : (s : Trace) (places : List ℕ) (x : DerivationSearch) (l : ℕ) (here : Prefix) (locks : List (ℕ × Option Prefix)) →
+    ((k : ℕ) → prefix_at locks k ≡ cond (l == k) (Some here) (prefix_at x.locks k)) → IsIn s places x here → IsSearch s places x → IsSearch s places (record x { locks = locks })
 with_lock s places x l here locks put within is = record {
   derives = is.derives;
   indices = is.indices;
@@ -144,9 +144,9 @@ with_lock s places x l here locks put within is = record {
   all = is.all;
 }
   where
-    go : (k : ℕ) (r : Prefix) (b : Bool) → (l == k) ≡ b → cond b (Some here) (at x.locks k) ≡ Some r → IsIn s places x r
+    go : (k : ℕ) (r : Prefix) (b : Bool) → (l == k) ≡ b → cond b (Some here) (prefix_at x.locks k) ≡ Some r → IsIn s places x r
     go k r true h e = subst (IsIn s places x) (same_Some here r e) within
     go k r false h e = is.locks k r e
 
-pub extends_by_lock : (s : Trace) (x y : Search) (locks : List (ℕ × Option Prefix)) → Extends s x y → Extends s x (record y { locks = locks })
+pub extends_by_lock : (s : Trace) (x y : DerivationSearch) (locks : List (ℕ × Option Prefix)) → Extends s x y → Extends s x (record y { locks = locks })
 extends_by_lock s x y locks e = record { entries = e.entries; ranges = e.ranges; has = e.has }

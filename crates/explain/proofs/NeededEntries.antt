@@ -15,9 +15,9 @@ use Rattle.trace_model.proofs.Lists.{get-take, get-take_past}
 use Rattle.trace_model.proofs.Theory.Ascending.{place_of, contains_at}
 use Rattle.trace_model.proofs.Theory.Derivable.{derived_push, one_more_derived}
 use Rattle.trace_model.proofs.Theory.Refutation.{entry_of}
-use Rattle.explain.specs.declared.search.Search.{Search}
-use Rattle.explain.specs.Search.{derived_by, IsSearch}
-use Rattle.explain.specs.Needed.{Names, IsNeeded, IsKept, AreClosed, IsNeededDerivation}
+use Rattle.explain.specs.declared.search.DerivationSearch.{DerivationSearch}
+use Rattle.explain.specs.DerivationSearch.{derived_by, IsSearch}
+use Rattle.explain.specs.Needed.{Names, IsNeeded, KeepsMarks, AreClosed, IsNeededDerivation}
 
 -- a reason holds if the places that it names are derived
 named : (s : Trace) (places xs : List ℕ) (r : Reason) (p q : ℕ) → Justifies s places xs r p → Names r q → Contains xs q
@@ -35,11 +35,11 @@ justified_by_named s places xs ys (ForkJoin z) p f (c, e) = (f z refl, e)
 justified_by_named s places xs ys (ReadsFrom z) p f (c, e) = (f z refl, e)
 justified_by_named s places xs ys (Sections a b) p f (c, d, l, m, e) = (f a (inl refl), f b (inr refl), l, m, e)
 
-entry_place : (x : Search) (i : ℕ) (d : Derived) → slice_get x.entries.items i ≡ Some d → slice_get (derived_by x) i ≡ Some d.place
+entry_place : (x : DerivationSearch) (i : ℕ) (d : Derived) → slice_get x.entries.items i ≡ Some d → slice_get (derived_by x) i ≡ Some d.place
 entry_place x i d at = slice_get-map (λ (z : Derived). z.place) x.entries.items i ∙ ap (option_map (λ (z : Derived). z.place)) at
 
 -- the places that a reason names are derived before
-named_before : (s : Trace) (places : List ℕ) (x : Search) → IsSearch s places x → (i q : ℕ) (d : Derived) → slice_get x.entries.items i ≡ Some d → Names d.reason q →
+named_before : (s : Trace) (places : List ℕ) (x : DerivationSearch) → IsSearch s places x → (i q : ℕ) (d : Derived) → slice_get x.entries.items i ≡ Some d → Names d.reason q →
     (j : ℕ) × (j < i) × (slice_get (derived_by x) j ≡ Some q)
 named_before s places x is i q d at n =
     let c = named s places (derived_places (take i x.entries.items)) d.reason d.place q (is.derives i d at) n in
@@ -49,8 +49,8 @@ named_before s places x is i q d at n =
     (j, low, entry_place x j e (sym (get-take i x.entries.items j low) ∙ entry) ∙ ap Some same)
 
 -- one more entry is closed
-pub closed_more : (s : Trace) (places : List ℕ) (x : Search) (old new : List Bool) (i n : ℕ) (d : Derived) → IsSearch s places x → slice_get x.entries.items i ≡ Some d → suc i ≡ n →
-    IsKept old new → ((m : ℕ) → IsNeeded new m → IsNeeded old m ⊎ ((q : ℕ) × Names d.reason q × (slice_get (derived_by x) m ≡ Some q))) →
+pub closed_more : (s : Trace) (places : List ℕ) (x : DerivationSearch) (old new : List Bool) (i n : ℕ) (d : Derived) → IsSearch s places x → slice_get x.entries.items i ≡ Some d → suc i ≡ n →
+    KeepsMarks old new → ((m : ℕ) → IsNeeded new m → IsNeeded old m ⊎ ((q : ℕ) × Names d.reason q × (slice_get (derived_by x) m ≡ Some q))) →
     ((q : ℕ) → Names d.reason q → Contains (derived_by x) q → (j : ℕ) × (slice_get (derived_by x) j ≡ Some q) × IsNeeded new j) →
     AreClosed x old n → AreClosed x new i
 closed_more s places x old new i n d is at next kept only marked h m q e low needed there names =
@@ -71,7 +71,7 @@ closed_more s places x old new i n d is at next kept only marked h m q e low nee
     ]
 
 -- an entry that is not marked is closed
-pub closed_skip : (x : Search) (needed : List Bool) (i n : ℕ) → slice_get needed i ≡ Some false → suc i ≡ n → AreClosed x needed n → AreClosed x needed i
+pub closed_skip : (x : DerivationSearch) (needed : List Bool) (i n : ℕ) → slice_get needed i ≡ Some false → suc i ≡ n → AreClosed x needed n → AreClosed x needed i
 closed_skip x needed i n off next h m q e low mark there names = elim (cases_lt i m) [
   | inl l ↦ h m q e (omega (arith, l, next)) mark there names
   | inr l ↦
@@ -80,7 +80,7 @@ closed_skip x needed i n off next h m q e low mark there names = elim (cases_lt 
 ]
 
 -- one more marked entry is derived
-pub needed_derives : (s : Trace) (places : List ℕ) (x : Search) (needed : List Bool) (place i : ℕ) (d : Derived) (made : List Derived) → IsSearch s places x →
+pub needed_derives : (s : Trace) (places : List ℕ) (x : DerivationSearch) (needed : List Bool) (place i : ℕ) (d : Derived) (made : List Derived) → IsSearch s places x →
     AreClosed x needed 0 → IsNeeded needed i → slice_get x.entries.items i ≡ Some d → IsNeededDerivation s places x needed place i made →
     IsDerivation s places (made ++ d ∷ [])
 needed_derives s places x needed place i d made is closed mark at (h, f) =
@@ -88,7 +88,7 @@ needed_derives s places x needed place i d made is closed mark at (h, f) =
     (λ q n. let (j, less, here, k) = closed i q d (omega arith) mark at n in (f j q less k here).0) (is.derives i d at))
 
 -- one more marked entry of another place
-pub needed_more : (s : Trace) (places : List ℕ) (x : Search) (needed : List Bool) (place i : ℕ) (d : Derived) (made : List Derived) → IsSearch s places x →
+pub needed_more : (s : Trace) (places : List ℕ) (x : DerivationSearch) (needed : List Bool) (place i : ℕ) (d : Derived) (made : List Derived) → IsSearch s places x →
     AreClosed x needed 0 → IsNeeded needed i → slice_get x.entries.items i ≡ Some d → d.place ≢ place → IsNeededDerivation s places x needed place i made →
     IsNeededDerivation s places x needed place (i + 1) (made ++ d ∷ [])
 needed_more s places x needed place i d made is closed mark at other h = (
@@ -107,7 +107,7 @@ needed_more s places x needed place i d made is closed mark at other h = (
   ],
 )
 
-pub needed_skip : (s : Trace) (places : List ℕ) (x : Search) (needed : List Bool) (place i : ℕ) (made : List Derived) → slice_get needed i ≡ Some false →
+pub needed_skip : (s : Trace) (places : List ℕ) (x : DerivationSearch) (needed : List Bool) (place i : ℕ) (made : List Derived) → slice_get needed i ≡ Some false →
     IsNeededDerivation s places x needed place i made → IsNeededDerivation s places x needed place (i + 1) made
 needed_skip s places x needed place i made off (h, f) = (
   h,
@@ -119,5 +119,5 @@ needed_skip s places x needed place i made off (h, f) = (
   ],
 )
 
-pub none_needed : (s : Trace) (places : List ℕ) (x : Search) (needed : List Bool) (place : ℕ) → IsNeededDerivation s places x needed place 0 []
+pub none_needed : (s : Trace) (places : List ℕ) (x : DerivationSearch) (needed : List Bool) (place : ℕ) → IsNeededDerivation s places x needed place 0 []
 none_needed s places x needed place = (λ k d h. absurd (none-some d h), λ j p l. absurd (omega arith))

@@ -11,8 +11,8 @@ use Rattle.trace_model.specs.Theory.Trace.{Trace, At, event, Does, OfThread, Ear
 use Rattle.trace_model.proofs.Lists.{take_next}
 use Rattle.trace_model.proofs.Theory.Least.{at_thread}
 use Rattle.trace_index.specs.Numbers.{of_thread, thread_before}
-use Rattle.fronts.specs.Threads.{IsLastOf}
-use Rattle.explain.specs.Search.{IsUpTo, IsJoined, IsBefore, IsBeforeSome}
+use Rattle.fronts.specs.Threads.{IsLastOfThread}
+use Rattle.explain.specs.DerivationSearch.{IsUpTo, IsJoined, IsBefore, IsBeforeSome}
 use Rattle.explain.proofs.Walking.{before_some, before_none}
 
 -- the places up to the previous one are those earlier in the thread
@@ -36,12 +36,12 @@ earlier_up_to s q p (t, a, b, l) = go (thread_before s q) refl
         (n, t, e, a, is.0, elim (cases_lt n p) [ inl m ↦ absurd (is.2 p m l a) | inr m ↦ m ])
 
 -- the places up to the last one of a thread are those of the thread
-pub up_to_of_thread : (s : Trace) (c : ℕ) (last : Option ℕ) → MatchOption last ((p : ℕ) → OfThread s p c → ⊥) (IsLastOf s c) → (p : ℕ) → IsUpTo s p last → OfThread s p c
+pub up_to_of_thread : (s : Trace) (c : ℕ) (last : Option ℕ) → MatchOption last ((p : ℕ) → OfThread s p c → ⊥) (IsLastOfThread s c) → (p : ℕ) → IsUpTo s p last → OfThread s p c
 up_to_of_thread s c None h p (f, t, e, a, b, l) = absurd (none-some f e)
 up_to_of_thread s c (Some q) (o, most) p (f, t, e, a, b, l) =
     subst (OfThread s p) (at_thread s f t c b (subst (λ x. OfThread s x c) (same_Some q f e) o)) a
 
-pub of_thread_up_to : (s : Trace) (c : ℕ) (last : Option ℕ) → MatchOption last ((p : ℕ) → OfThread s p c → ⊥) (IsLastOf s c) → (p : ℕ) → OfThread s p c → IsUpTo s p last
+pub of_thread_up_to : (s : Trace) (c : ℕ) (last : Option ℕ) → MatchOption last ((p : ℕ) → OfThread s p c → ⊥) (IsLastOfThread s c) → (p : ℕ) → OfThread s p c → IsUpTo s p last
 of_thread_up_to s c None h p o = absurd (h p o)
 of_thread_up_to s c (Some q) (is, most) p o = (q, c, refl, o, is, most p o)
 
@@ -54,7 +54,7 @@ pub does_join : (s : Trace) (q c : ℕ) (e : Event) → At s q e → e.op ≡ Jo
 does_join s q c e at is = (e.thread, at ∙ ap (λ o. Some (event e.thread o)) is)
 
 pub joined_cases : (s : Trace) (q c : ℕ) (e : Event) (fork last : Option ℕ) → At s q e → e.op ≡ Join c →
-    ((p : ℕ) → Does s p (Fork c) → fork ≡ Some p) → MatchOption last ((p : ℕ) → OfThread s p c → ⊥) (IsLastOf s c) →
+    ((p : ℕ) → Does s p (Fork c) → fork ≡ Some p) → MatchOption last ((p : ℕ) → OfThread s p c → ⊥) (IsLastOfThread s c) →
     (p : ℕ) → IsJoined s q p → (fork ≡ Some p) ⊎ IsUpTo s p last
 joined_cases s q c e fork last at is f m p (d, j, inl k) = inl (f p (subst (λ x. Does s p (Fork x)) (sym (joins_one s q c d e at is j)) k))
 joined_cases s q c e fork last at is f m p (d, j, inr o) = inr (of_thread_up_to s c last m p (subst (OfThread s p) (sym (joins_one s q c d e at is j)) o))

@@ -1,4 +1,4 @@
 pub mod Tables
-pub mod Search
+pub mod DerivationSearch
 pub mod Needed
 pub mod Moving

@@ -6,8 +6,8 @@ use Rattle.trace_model.specs.declared.refutations.Reason.TheVariants.{BeforeMemb
 use Rattle.trace_model.specs.declared.refutations.Derived.{Derived}
 use Rattle.trace_model.specs.Theory.Trace.{Trace}
 use Rattle.trace_model.specs.Theory.Refutation.{derived_places, IsDerivation}
-use Rattle.explain.specs.declared.search.Search.{Search}
-use Rattle.explain.specs.Search.{derived_by}
+use Rattle.explain.specs.declared.search.DerivationSearch.{DerivationSearch}
+use Rattle.explain.specs.DerivationSearch.{derived_by}
 
 -- The reason names derived place q.
 abbrev pub Names : Reason → ℕ → Type 0
@@ -22,19 +22,20 @@ abbrev pub IsNeeded : List Bool → ℕ → Type 0
 IsNeeded needed i = slice_get needed i ≡ Some true
 
 -- The marks stay.
-abbrev pub IsKept : List Bool → List Bool → Type 0
-IsKept old new = (i : ℕ) → IsNeeded old i → IsNeeded new i
+abbrev pub KeepsMarks : List Bool → List Bool → Type 0
+KeepsMarks old new = (i : ℕ) → IsNeeded old i → IsNeeded new i
 
 -- Of each marked entry from index n on, the entries of the places that its reason names are before
 -- it and marked.
-abbrev pub AreClosed : Search → List Bool → ℕ → Type 0
+abbrev pub AreClosed : DerivationSearch → List Bool → ℕ → Type 0
 AreClosed x needed n = (m q : ℕ) (d : Derived) → n ≤ m → IsNeeded needed m →
     slice_get x.entries.items m ≡ Some d → Names d.reason q →
     (j : ℕ) × (j < m) × (slice_get (derived_by x) j ≡ Some q) × IsNeeded needed j
 
 -- The entries are a derivation of the places of the marked entries below index n. None of these
 -- entries is about the place that is looked for.
-abbrev pub IsNeededDerivation : Trace → List ℕ → Search → List Bool → ℕ → ℕ → List Derived → Type 0
+abbrev pub IsNeededDerivation : Trace → List ℕ → DerivationSearch → List Bool → ℕ → ℕ →
+    List Derived → Type 0
 IsNeededDerivation s places x needed place n made = IsDerivation s places made
     × ((j p : ℕ) → j < n → IsNeeded needed j → slice_get (derived_by x) j ≡ Some p →
     Contains (derived_places made) p × (p ≢ place))

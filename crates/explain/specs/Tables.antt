@@ -5,5 +5,5 @@ use Rattle.std.specs.Option.{option_flatten}
 use Rattle.explain.specs.declared.tables.Prefix.{Prefix}
 
 -- The prefix of a key, or none.
-abbrev pub at : List (ℕ × Option Prefix) → ℕ → Option Prefix
-at table key = option_flatten (lookup (nat_eq key) table)
+abbrev pub prefix_at : List (ℕ × Option Prefix) → ℕ → Option Prefix
+prefix_at table key = option_flatten (lookup (nat_eq key) table)

@@ -4,18 +4,18 @@ ghost use Rattle.std.specs.Prelude.{◌≡◌, ℕ, ◌⊎◌, List, [], ◌∷�
 ghost use Rattle.std.specs.List.{Contains};
 ghost use Rattle.trace_model.specs.Theory.Trace.{Trace};
 ghost use Rattle.trace_model.specs.Theory.Refutation.{EndsAt, IsDerivation};
-ghost use Rattle.explain.specs.Search.{derived_by, HasIndices, IsSearch};
-ghost use Rattle.explain.specs.Needed.{Names, IsNeeded, IsKept, AreClosed};
+ghost use Rattle.explain.specs.DerivationSearch.{derived_by, HasIndices, IsSearch};
+ghost use Rattle.explain.specs.Needed.{Names, IsNeeded, KeepsMarks, AreClosed};
 
-use crate::search::Search;
+use crate::search::DerivationSearch;
 use crate::tables::index_at;
 use std::alloc::Global;
 use trace_model::{Derived, NoMemory, Place, Reason};
 
 /// Marks the entry of a place, if it is derived.
-fn mark(search: &Search, needed: &mut Vec<bool>, place: Place)
+fn mark(search: &DerivationSearch, needed: &mut Vec<bool>, place: Place)
     ensures sized { length needed.new.items ≡ length needed.old.items }
-    ensures kept { IsKept needed.old.items needed.new.items }
+    ensures kept { KeepsMarks needed.old.items needed.new.items }
     ensures only { (i : ℕ) → IsNeeded needed.new.items i → IsNeeded needed.old.items i
         ⊎ (HasIndices search.now → slice_get (derived_by search.now) i ≡ Some place) }
     ensures marked { HasIndices search.now → Contains (derived_by search.now) place →
@@ -30,9 +30,9 @@ fn mark(search: &Search, needed: &mut Vec<bool>, place: Place)
 }
 
 /// Marks the entries of the derived places that a reason names.
-fn mark_named(search: &Search, needed: &mut Vec<bool>, reason: &Reason)
+fn mark_named(search: &DerivationSearch, needed: &mut Vec<bool>, reason: &Reason)
     ensures sized { length needed.new.items ≡ length needed.old.items }
-    ensures kept { IsKept needed.old.items needed.new.items }
+    ensures kept { KeepsMarks needed.old.items needed.new.items }
     ensures only { (i : ℕ) → IsNeeded needed.new.items i → IsNeeded needed.old.items i
         ⊎ (HasIndices search.now → (q : ℕ) × Names reason.now q
         × (slice_get (derived_by search.now) i ≡ Some q)) }
@@ -54,10 +54,10 @@ fn mark_named(search: &Search, needed: &mut Vec<bool>, reason: &Reason)
 }
 
 /// Marks the entries that marked entries need, from the last one back.
-fn mark_all(search: &Search, needed: &mut Vec<bool>)
+fn mark_all(search: &DerivationSearch, needed: &mut Vec<bool>)
     requires sized { length needed.old.items ≡ length search.now.entries.items }
     ensures sized { length needed.new.items ≡ length search.now.entries.items }
-    ensures kept { IsKept needed.old.items needed.new.items }
+    ensures kept { KeepsMarks needed.old.items needed.new.items }
     ensures closed { (s : Trace) (places : List ℕ) → IsSearch s places search.now →
         AreClosed search.now needed.new.items 0 }
 {
@@ -90,7 +90,7 @@ fn add_entry(made: &mut Vec<Derived>, place: Place, reason: &Reason) -> Result<(
 /// # Errors
 /// `NoMemory` if an allocation fails.
 fn add_marked(
-    search: &Search,
+    search: &DerivationSearch,
     needed: &[bool],
     place: Place,
     made: &mut Vec<Derived>,
@@ -121,7 +121,7 @@ fn add_marked(
 /// `NoMemory` if an allocation fails.
 pub(crate) fn derivation_of(
     alloc: Global,
-    search: &Search,
+    search: &DerivationSearch,
     place: Place,
 ) -> Result<Vec<Derived>, NoMemory>
     ensures { IfOk result (λ made. (s : Trace) (places : List ℕ) → IsSearch s places search.now →

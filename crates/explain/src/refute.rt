@@ -5,18 +5,18 @@ ghost use Rattle.std.specs.List.{Contains};
 ghost use Rattle.std.specs.List.Sorted.{IsStrictlyIncreasing};
 ghost use Rattle.trace_model.specs.Theory.Cycles.{IsConfirmed};
 ghost use Rattle.trace_model.specs.Theory.Dependencies.{dependencies};
-ghost use Rattle.trace_model.specs.Theory.Reordering.{Reached};
+ghost use Rattle.trace_model.specs.Theory.Reordering.{AreReached};
 ghost use Rattle.trace_model.specs.Theory.Refutation.{Derives, IsRefutation};
-ghost use Rattle.dependencies.specs.Tables.{known, places_of};
-ghost use Rattle.explain.specs.Moving.{FollowsWhole, HaveFirst};
+ghost use Rattle.dependencies.specs.Tables.{table_dependencies, dependency_places, NumbersWholeTrace};
+ghost use Rattle.explain.specs.Moving.{HaveFirst};
 
 use crate::extract::derivation_of;
-use crate::search::Search;
+use crate::search::DerivationSearch;
 use dependencies::DepTable;
 use std::alloc::Global;
 use std::collections::hash_map::RandomState;
 use trace_index::TraceIndex;
-use trace_model::{Cycle, Derivation, NoMemory, Place, Refutation, Step};
+use trace_model::{Cycle, Derivation, NoMemory, Place, Refutation, RefutationStep};
 
 /// Returns a refutation of the cycle exactly if the cycle is not confirmed, or `None` if some
 /// reordering reaches an instance of it. The derivation of each step has the entries that its place
@@ -35,7 +35,7 @@ pub fn refutation_of(
     table: &DepTable,
     cycle: &Cycle,
 ) -> Result<Option<Refutation>, NoMemory>
-    requires one_trace { FollowsWhole table.now index.now.events }
+    requires one_trace { NumbersWholeTrace table.now index.now.events }
     requires known { (m : ℕ) → Contains cycle.now m →
         m < length (dependencies index.now.events) }
     ensures { IfOk result (λ answer. MatchOption answer
@@ -67,9 +67,9 @@ fn first_places(table: &DepTable, members: &[u32], places: &mut Vec<Place>)
     requires empty { places.old.items ≡ [] }
     requires room { length members.now ≤ vec_capacity places.old }
     requires known { (i m : ℕ) → slice_get members.now i ≡ Some m →
-        m < length (known table.now) }
-    requires some { (m : ℕ) → m < length (known table.now) →
-        0 < length (places_of table.now m) }
+        m < length (table_dependencies table.now) }
+    requires some { (m : ℕ) → m < length (table_dependencies table.now) →
+        0 < length (dependency_places table.now m) }
     ensures sized { length places.new.items ≡ length members.now }
     ensures first { HaveFirst table.now members.now places.new.items (length members.now) }
 {
@@ -83,12 +83,13 @@ fn first_places(table: &DepTable, members: &[u32], places: &mut Vec<Place>)
 /// Returns the next entry of the places of the dependency with this number, and its place, or
 /// `None`.
 fn place_after(table: &DepTable, number: u32, entry: usize) -> Option<(usize, Place)>
-    requires known { number < length (known table.now) }
-    requires entry { entry < length (places_of table.now number) }
-    ensures next { MatchOption result (slice_get (places_of table.now number) (suc entry) ≡ None)
+    requires known { number < length (table_dependencies table.now) }
+    requires entry { entry < length (dependency_places table.now number) }
+    ensures next { MatchOption result (slice_get (dependency_places table.now number) (suc entry)
+        ≡ None)
         (λ next. (next.0 ≡ suc entry)
-        × (slice_get (places_of table.now number) (suc entry) ≡ Some next.1)) }
-    ensures ascends { IsStrictlyIncreasing (places_of table.now number) }
+        × (slice_get (dependency_places table.now number) (suc entry) ≡ Some next.1)) }
+    ensures ascends { IsStrictlyIncreasing (dependency_places table.now number) }
 {
     let places = table.places(number);
     let count = places.len();
@@ -109,19 +110,19 @@ fn step_at(
     state: RandomState,
     index: &TraceIndex,
     places: &[Place],
-) -> Result<Option<Step>, NoMemory>
+) -> Result<Option<RefutationStep>, NoMemory>
     ensures { IfOk result (λ step. MatchOption step
-        (Reached index.now.events places.now)
+        (AreReached index.now.events places.now)
         (Derives index.now.events places.now)) }
 {
-    let mut search = Search::new(alloc, state);
+    let mut search = DerivationSearch::new(alloc, state);
     let Some(member) = search.run(index, places)? else {
         return Ok(None);
     };
     let place = places[member];
-    search.enter(index, place)?;
+    search.add_entry(index, place)?;
     let entries = derivation_of(alloc, &search, place)?;
-    Ok(Some(Step {
+    Ok(Some(RefutationStep {
         member,
         derivation: Derivation { entries },
     }))

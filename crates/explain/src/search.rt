@@ -3,9 +3,9 @@
 ghost use Rattle.std.specs.Prelude.{◌≡◌, ℕ, ◌<◌, ◌≤◌, ◌⊎◌, List, [], ◌∷◌, ◌++◌, true, false, Some, OnOk, IfOk, MatchOption};
 ghost use Rattle.std.specs.List.{Contains};
 ghost use Rattle.trace_model.specs.Theory.Trace.{Trace, At};
-ghost use Rattle.trace_model.specs.Theory.Reordering.{Reached};
+ghost use Rattle.trace_model.specs.Theory.Reordering.{AreReached};
 ghost use Rattle.trace_model.specs.Theory.Refutation.{Justifies};
-ghost use Rattle.explain.specs.Search.{derived_by, IsBlank, IsSearch, IsDerived, Gives, IsIn, Adds, CoversAll, Extends, AddsFollowed, HasAlso, IsUpTo, IsJoined, IsBefore, IsBeforeSome, HasFork, Follows, HasFollowed, IsCaughtAt, IsCaughtIn, IsCaughtNowhere};
+ghost use Rattle.explain.specs.DerivationSearch.{derived_by, IsBlankSearch, IsSearch, IsDerived, Gives, IsIn, AddsEntry, CoversAll, Extends, AddsFollowed, HasAlso, IsUpTo, IsJoined, IsBefore, IsBeforeSome, HasFork, HasLastPlaces, HasFollowed, IsCaughtAt, IsCaughtIn, IsCaughtNowhere};
 
 use crate::tables::{IndexTable, Prefix, PrefixTable, index_at, prefix_at, put_index, put_prefix};
 use fronts::last_place;
@@ -26,7 +26,7 @@ pub(crate) struct Range {
 /// The state of a search. Its derived places are a prefix of each thread. Only those that others
 /// need get entries; of all others the reason is known.
 #[derive(Drop)]
-pub(crate) struct Search {
+pub(crate) struct DerivationSearch {
     /// Derived places with their reasons.
     pub(crate) entries: Vec<Derived>,
     /// The index of each entry's place in `entries`.
@@ -65,12 +65,12 @@ fn greatest(places: &[Place]) -> Option<Place>
     greatest
 }
 
-impl Search {
+impl DerivationSearch {
     /// Returns the search without derived places.
-    pub(crate) fn new(alloc: Global, state: RandomState) -> Search
-        ensures { IsBlank result }
+    pub(crate) fn new(alloc: Global, state: RandomState) -> DerivationSearch
+        ensures { IsBlankSearch result }
     {
-        Search {
+        DerivationSearch {
             entries: Vec::new(alloc),
             indices: HashMap::with_hasher(alloc, state),
             threads: NumberMap::new(alloc, state),
@@ -101,7 +101,7 @@ impl Search {
         ensures added { OnOk result ((s : Trace) (places : List ℕ) → IsSearch s places self.old →
             Contains (derived_by self.old) place
             ⊎ Justifies s places (derived_by self.old) reason.now place →
-            Adds s places self.old place self.new) }
+            AddsEntry s places self.old place self.new) }
     {
         match index_at(&self.indices, place.get()) {
             Some(_) => Ok(()),
@@ -231,10 +231,10 @@ impl Search {
         ensures { OnOk result ((places followed : List ℕ) →
             IsSearch index.now.events places self.old →
             IsIn index.now.events places self.old here.now →
-            Follows index.now.events followed self.old →
+            HasLastPlaces index.now.events followed self.old →
             IsSearch index.now.events places self.new
             × Extends index.now.events self.old self.new
-            × Follows index.now.events (followed ++ here.now.last ∷ []) self.new) }
+            × HasLastPlaces index.now.events (followed ++ here.now.last ∷ []) self.new) }
     {
         let Some(lock) = index.begun(here.last) else {
             return Ok(());
@@ -380,10 +380,10 @@ impl Search {
     ///
     /// # Errors
     /// `NoMemory` if an allocation fails.
-    pub(crate) fn enter(&mut self, index: &TraceIndex, place: Place) -> Result<(), NoMemory>
+    pub(crate) fn add_entry(&mut self, index: &TraceIndex, place: Place) -> Result<(), NoMemory>
         ensures { OnOk result ((places : List ℕ) → IsSearch index.now.events places self.old →
             IsDerived index.now.events self.old place →
-            Adds index.now.events places self.old place self.new) }
+            AddsEntry index.now.events places self.old place self.new) }
     {
         match self.prefix_of(index, place) {
             Some(prefix) => self.add(place, &prefix.reason),
@@ -401,10 +401,10 @@ impl Search {
         index: &TraceIndex,
         places: &[Place],
     ) -> Result<Option<usize>, NoMemory>
-        requires { IsBlank self.old }
+        requires { IsBlankSearch self.old }
         ensures search { OnOk result (IsSearch index.now.events places.now self.new) }
         ensures caught { IfOk result (λ caught. MatchOption caught
-            (Reached index.now.events places.now)
+            (AreReached index.now.events places.now)
             (IsCaughtAt index.now.events self.new places.now)) }
     {
         let _len = index.len(); // for the proof

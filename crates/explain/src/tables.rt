@@ -2,7 +2,7 @@
 
 ghost use Rattle.std.specs.Prelude.{◌≡◌, ◌==◌, ℕ, nat_eq, OnOk, Some, if◌then◌else◌};
 ghost use Rattle.std.specs.HashMap.{get};
-ghost use Rattle.explain.specs.Tables.{at};
+ghost use Rattle.explain.specs.Tables.{prefix_at};
 
 use number_map::NumberMap;
 use std::collections::HashMap;
@@ -27,8 +27,8 @@ pub(crate) type IndexTable = HashMap<u32, usize, RandomState>;
 /// # Errors
 /// `NoMemory` if an allocation fails.
 pub(crate) fn put_prefix(table: &mut PrefixTable, key: u32, prefix: &Prefix) -> Result<(), NoMemory>
-    ensures { OnOk result ((other : ℕ) → at table.new other ≡
-        (if key == other then Some prefix.now else at table.old other)) }
+    ensures { OnOk result ((other : ℕ) → prefix_at table.new other ≡
+        (if key == other then Some prefix.now else prefix_at table.old other)) }
 {
     table.reserve(key, None)?;
     table.set(key, Some(*prefix));
@@ -37,7 +37,7 @@ pub(crate) fn put_prefix(table: &mut PrefixTable, key: u32, prefix: &Prefix) -> 
 
 /// Returns the prefix of a key, or `None` if there is none.
 pub(crate) fn prefix_at(table: &PrefixTable, key: u32) -> Option<Prefix>
-    ensures { result ≡ at table.now key }
+    ensures { result ≡ prefix_at table.now key }
 {
     match table.get_ref(key) {
         Some(prefix) => *prefix,

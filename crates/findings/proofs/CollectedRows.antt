@@ -1,20 +1,20 @@
 -- What a collector of rows took, after one more cycle and at the end.
 use Rattle.std.proofs.Common.{◌≡◌, ℕ, List, [], ◌∷◌, ◌++◌, Result, Ok, Err, subst, ◌∙◌}
-use Rattle.reports.specs.Printed.{Printed}
-use Rattle.cycle_search.specs.Collecting.{Taking, TakesAll}
+use Rattle.reports.specs.Printed.{PrintedRow}
+use Rattle.cycle_search.specs.Collecting.{CollectorRules, TakesAll}
 use Rattle.findings.specs.Found.{AreRowsFor, IsRowFor}
 use Rattle.findings.specs.Collecting.{ReadsSame, RefusesRows, RefusesRowsFor, RowsView, TookRows, TookRowsFor, rows_taking}
 use Rattle.findings.specs.declared.collecting.RowsRefused.{RowsRefused}
 use Rattle.findings.specs.declared.collecting.RowsRefused.TheVariants.{Refused, NoMemory}
 use Rattle.findings.proofs.Members.{rows_push}
 
-module _ {C E : Type 0} (taking : Taking C Printed E) (start old : RowsView C) (before : List (List ℕ)) (cycle : List ℕ) (row : Printed)
+module _ {C E : Type 0} (taking : CollectorRules C PrintedRow E) (start old : RowsView C) (before : List (List ℕ)) (cycle : List ℕ) (row : PrintedRow)
     (took : TookRowsFor taking start before old) (is : IsRowFor old.events cycle row) where
   one_row : IsRowFor start.events cycle row
   one_row = subst (λ s. IsRowFor s cycle row) took.0.events is
 
   pub took_row : (new : RowsView C) → ReadsSame old new →
-      ((from : C) (rows : List Printed) → taking.took from rows old.rows → taking.took from (rows ++ row ∷ []) new.rows) →
+      ((from : C) (rows : List PrintedRow) → taking.took from rows old.rows → taking.took from (rows ++ row ∷ []) new.rows) →
       TookRowsFor taking start (before ++ cycle ∷ []) new
   took_row new same takes = (
     record { events = same.events ∙ took.0.events; requirements = same.requirements ∙ took.0.requirements },
@@ -22,12 +22,12 @@ module _ {C E : Type 0} (taking : Taking C Printed E) (start old : RowsView C) (
   )
 
   pub refused_row : (refused : E) →
-      ((from : C) (rows : List Printed) → taking.took from rows old.rows → taking.refuses from (rows ++ row ∷ []) refused) →
+      ((from : C) (rows : List PrintedRow) → taking.took from rows old.rows → taking.refuses from (rows ++ row ∷ []) refused) →
       RefusesRowsFor taking start (before ++ cycle ∷ []) (Refused refused)
   refused_row refused refuses =
       (took.1.0 ++ row ∷ [], rows_push start.events before took.1.0 cycle row took.1.1 one_row, refuses start.rows took.1.0 took.1.2)
 
-module _ {C E : Type 0} (taking : Taking C Printed E) (P : List ℕ → Type 0) (start new : RowsView C) (answer : Result (Unit {0}) (RowsRefused E))
+module _ {C E : Type 0} (taking : CollectorRules C PrintedRow E) (P : List ℕ → Type 0) (start new : RowsView C) (answer : Result (Unit {0}) (RowsRefused E))
     (takes : TakesAll (rows_taking taking) P start answer new) where
   pub took_all : (done : Unit {0}) → answer ≡ Ok done → ReadsSame start new × TookRows taking start.events P start.rows new.rows
   took_all done is =

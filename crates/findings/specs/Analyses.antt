@@ -5,17 +5,17 @@ use Rattle.trace_model.specs.Theory.Trace.{Trace}
 use Rattle.trace_model.specs.Theory.Cycles.{IsCycle}
 use Rattle.trace_model.specs.Theory.Dependencies.{Dependency, dependencies}
 use Rattle.findings.specs.declared.tables.Tables.{Tables}
-use Rattle.cycle_search.specs.Search.{CycleFrom}
+use Rattle.cycle_search.specs.CycleSearch.{CycleFrom}
 use Rattle.cycle_search.specs.Components.{AreComponents}
 use Rattle.fronts.specs.declared.requirements.Requirements.{Requirements}
 use Rattle.fronts.specs.Requirements.{AreRequirements}
-use Rattle.sp_closure.specs.declared.closer.Closer.{Closer}
-use Rattle.sp_closure.specs.Closers.{IsCloser}
+use Rattle.sp_closure.specs.declared.scratch.ClosureScratch.{ClosureScratch}
+use Rattle.sp_closure.specs.Scratches.{IsScratch}
 use Rattle.sp_closure.specs.Timestamps.{AreTimestamps}
 
 -- An analysis: its events, its bound, and the requirements over which closures are computed, or
 -- `None` if there is no cycle.
-pub record Analyzed : Type 0 where
+pub record AnalysisView : Type 0 where
   pub events : Trace
   pub bound : ℕ
   pub requirements : Option Requirements
@@ -29,17 +29,17 @@ abbrev pub HasNoCycleFrom : List Dependency → ℕ → Type 0
 HasNoCycleFrom ds root = (bound : ℕ) (numbers : List ℕ) → CycleFrom ds bound root numbers → ⊥
 
 -- The requirements are those of the trace; if there are none, the trace has no cycle.
-abbrev pub AreRequirementsOf : Trace → Option Requirements → Type 0
-AreRequirementsOf s requirements =
+abbrev pub AreTraceRequirements : Trace → Option Requirements → Type 0
+AreTraceRequirements s requirements =
     MatchOption requirements (HasNoCycle s) (λ d. AreRequirements s d)
 
 -- The tables are those of the trace.
-pub record AreTablesOf (s : Trace) (tables : Tables) : Type 0 where
+pub record AreAnalysisTables (s : Trace) (tables : Tables) : Type 0 where
   pub components : AreComponents (dependencies s) tables.components
-  pub requirements : AreRequirementsOf s tables.requirements
+  pub requirements : AreTraceRequirements s tables.requirements
   pub timestamps : ForSome tables.timestamps (AreTimestamps s)
 
--- The closer is one over the trace with these requirements.
-abbrev pub IsCloserOf : Trace → Option Requirements → Closer → Type 0
-IsCloserOf s requirements closer =
-    (d : Requirements) → requirements ≡ Some d → IsCloser s d closer
+-- The scratch is one over the trace with these requirements.
+abbrev pub IsScratchOf : Trace → Option Requirements → ClosureScratch → Type 0
+IsScratchOf s requirements scratch =
+    (d : Requirements) → requirements ≡ Some d → IsScratch s d scratch

@@ -2,37 +2,38 @@
 use Rattle.std.specs.Prelude.{◌≡◌, ℕ, List, [], map, Option}
 use Rattle.std.proofs.Common.{refl, subst, sym, arith}
 use Rattle.trace_model.specs.Theory.Trace.{Trace}
-use Rattle.reports.specs.Printed.{Printed}
+use Rattle.reports.specs.Printed.{PrintedRow}
 use Rattle.fronts.specs.declared.requirements.Requirements.{Requirements}
-use Rattle.cycle_search.specs.Collecting.{Taking}
-use Rattle.cycle_search.specs.Search.{AreAll, AreSome}
+use Rattle.cycle_search.specs.Collecting.{CollectorRules}
+use Rattle.cycle_search.specs.CycleSearch.{AreAll, AreSome}
 use Rattle.findings.specs.Found.{AreRowsFor, IsSomeCycle}
 use Rattle.findings.specs.declared.collecting.RowsRefused.{RowsRefused}
 use Rattle.findings.specs.declared.collecting.RowsRefused.TheVariants.{Refused, NoMemory}
 
 -- The rows of all cycles with the property, in lexicographic order.
-abbrev pub AreAllRows : Trace → (List ℕ → Type 0) → List Printed → Type 0
-AreAllRows s P rows = (cycles : List (List ℕ)) × AreAll P cycles × AreRowsFor s cycles rows
+abbrev pub AreRowsOfCycles : Trace → (List ℕ → Type 0) → List PrintedRow → Type 0
+AreRowsOfCycles s P rows = (cycles : List (List ℕ)) × AreAll P cycles × AreRowsFor s cycles rows
 
 -- The rows of some cycles with the property, in lexicographic order.
-abbrev pub AreSomeRows : Trace → (List ℕ → Type 0) → List Printed → Type 0
+abbrev pub AreSomeRows : Trace → (List ℕ → Type 0) → List PrintedRow → Type 0
 AreSomeRows s P rows = (cycles : List (List ℕ)) × AreSome P cycles × AreRowsFor s cycles rows
 
 -- The collector accepts each row.
-abbrev pub AcceptsRows : {C E : Type 0} → Taking C Printed E → C → Type 0
-AcceptsRows taking now = (row : Printed) → taking.accepts now row
+abbrev pub AcceptsRows : {C E : Type 0} → CollectorRules C PrintedRow E → C → Type 0
+AcceptsRows taking now = (row : PrintedRow) → taking.accepts now row
 
 -- The collector took the rows of all cycles with the property.
-abbrev pub TookRows : {C E : Type 0} → Taking C Printed E → Trace → (List ℕ → Type 0) →
+abbrev pub TookRows : {C E : Type 0} → CollectorRules C PrintedRow E → Trace → (List ℕ → Type 0) →
     C → C → Type 0
 TookRows taking s P old new =
-    (rows : List Printed) × AreAllRows s P rows × taking.took old rows new
+    (rows : List PrintedRow) × AreRowsOfCycles s P rows × taking.took old rows new
 
 -- The collector may refuse the last of some rows, or an allocation fails.
-abbrev pub RefusesRows : {C E : Type 0} → Taking C Printed E → Trace → (List ℕ → Type 0) →
+abbrev pub RefusesRows : {C E : Type 0} → CollectorRules C PrintedRow E → Trace →
+    (List ℕ → Type 0) →
     C → RowsRefused E → Type 0
 RefusesRows taking s P old (Refused refused) =
-    (rows : List Printed) × AreSomeRows s P rows × taking.refuses old rows refused
+    (rows : List PrintedRow) × AreSomeRows s P rows × taking.refuses old rows refused
 RefusesRows taking s P old NoMemory = Unit {0}
 
 -- A collector of cycles that computes their rows: the events and requirements that it reads, and
@@ -48,17 +49,17 @@ pub record ReadsSame {C : Type 0} (a b : RowsView C) : Type 0 where
   pub requirements : b.requirements ≡ a.requirements
 
 -- The collector took the rows of these cycles.
-abbrev pub TookRowsFor : {C E : Type 0} → Taking C Printed E →
+abbrev pub TookRowsFor : {C E : Type 0} → CollectorRules C PrintedRow E →
     RowsView C → List (List ℕ) → RowsView C → Type 0
 TookRowsFor taking start cycles now = ReadsSame start now
-    × ((rows : List Printed) × AreRowsFor start.events cycles rows
+    × ((rows : List PrintedRow) × AreRowsFor start.events cycles rows
     × taking.took start.rows rows now.rows)
 
 -- The collector may refuse the last row of these cycles, or an allocation fails.
-abbrev pub RefusesRowsFor : {C E : Type 0} → Taking C Printed E →
+abbrev pub RefusesRowsFor : {C E : Type 0} → CollectorRules C PrintedRow E →
     RowsView C → List (List ℕ) → RowsRefused E → Type 0
 RefusesRowsFor taking start cycles (Refused refused) =
-    (rows : List Printed) × AreRowsFor start.events cycles rows
+    (rows : List PrintedRow) × AreRowsFor start.events cycles rows
     × taking.refuses start.rows rows refused
 RefusesRowsFor taking start cycles NoMemory = Unit {0}
 
@@ -71,8 +72,8 @@ rows_none s = record {
 }
 
 -- The collector of cycles gives their rows to the collector of rows.
-abbrev pub rows_taking : {C E : Type 0} → Taking C Printed E →
-    Taking (RowsView C) (List ℕ) (RowsRefused E)
+abbrev pub rows_taking : {C E : Type 0} → CollectorRules C PrintedRow E →
+    CollectorRules (RowsView C) (List ℕ) (RowsRefused E)
 rows_taking taking = record {
   accepts = λ now cycle. IsSomeCycle now.events cycle × AcceptsRows taking now.rows;
   took = TookRowsFor taking;

@@ -30,9 +30,9 @@ impl Drop for Analysis {
 
 impl Model for Analysis {
     ghost use Rattle.std.specs.Arc.{arc_value};
-    ghost use Rattle.findings.specs.Analyses.{Analyzed, AreTablesOf};
+    ghost use Rattle.findings.specs.Analyses.{AnalysisView, AreAnalysisTables};
 
-    ghost Value = { Analyzed };
+    ghost Value = { AnalysisView };
 
     ghost view = { λ a. record {
       events = arc_value a.snapshot;
@@ -40,7 +40,7 @@ impl Model for Analysis {
       requirements = a.tables.requirements;
     } };
 
-    ghost invariant = { λ a. AreTablesOf (arc_value a.snapshot) a.tables };
+    ghost invariant = { λ a. AreAnalysisTables (arc_value a.snapshot) a.tables };
 }
 
 impl Analysis {

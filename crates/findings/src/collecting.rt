@@ -3,8 +3,8 @@
 ghost use Rattle.std.specs.Prelude.{IfErr, IfOk};
 ghost use Rattle.std.specs.Option.{ForSome};
 ghost use Rattle.trace_model.specs.Theory.Dependencies.{dependencies};
-ghost use Rattle.cycle_search.specs.Search.{CycleFrom};
-ghost use Rattle.findings.specs.Analyses.{AreTablesOf, IsCloserOf};
+ghost use Rattle.cycle_search.specs.CycleSearch.{CycleFrom};
+ghost use Rattle.findings.specs.Analyses.{AreAnalysisTables, IsScratchOf};
 ghost use Rattle.findings.specs.Collecting.{AcceptsRows, TookRows, RefusesRows};
 
 use crate::rows::row_by;
@@ -12,7 +12,7 @@ use crate::tables::Tables;
 use cycle_search::{Collector, Cycle};
 use reports::Row;
 use snapshots::Snapshot;
-use sp_closure::Closer;
+use sp_closure::ClosureScratch;
 use std::alloc::Global;
 use std::marker::Model;
 use trace_model::Bound;
@@ -32,13 +32,13 @@ struct RowsOf<'a, C: Drop> {
     alloc: Global,
     snapshot: &'a Snapshot,
     tables: &'a Tables,
-    closer: Option<Closer>,
+    scratch: Option<ClosureScratch>,
     rows: C,
 }
 
 impl<'a, C: Drop> Model for RowsOf<'a, C> {
     ghost use Rattle.std.specs.Option.{ForSome};
-    ghost use Rattle.findings.specs.Analyses.{AreTablesOf, IsCloserOf};
+    ghost use Rattle.findings.specs.Analyses.{AreAnalysisTables, IsScratchOf};
     ghost use Rattle.findings.specs.Collecting.{RowsView};
 
     ghost Value = { RowsView C };
@@ -49,8 +49,8 @@ impl<'a, C: Drop> Model for RowsOf<'a, C> {
       rows = r.rows;
     } };
 
-    ghost invariant = { λ r. AreTablesOf r.snapshot.now r.tables.now
-        × ForSome r.closer (IsCloserOf r.snapshot.now r.tables.now.requirements) };
+    ghost invariant = { λ r. AreAnalysisTables r.snapshot.now r.tables.now
+        × ForSome r.scratch (IsScratchOf r.snapshot.now r.tables.now.requirements) };
 }
 
 impl<'a, C: Collector<Row> + Drop> Collector<Cycle> for RowsOf<'a, C> {
@@ -65,7 +65,7 @@ impl<'a, C: Collector<Row> + Drop> Collector<Cycle> for RowsOf<'a, C> {
             self.alloc,
             self.snapshot,
             self.tables,
-            &mut self.closer,
+            &mut self.scratch,
             cycle,
         ) else {
             return Err(RowsRefused::NoMemory);
@@ -86,15 +86,15 @@ pub(crate) fn collect_by<C: Collector<Row> + Drop>(
     alloc: Global,
     snapshot: &Snapshot,
     tables: &Tables,
-    closer: &mut Option<Closer>,
+    scratch: &mut Option<ClosureScratch>,
     bound: Bound,
     task: u32,
     rows: C,
 ) -> Result<C, RowsRefused<C::Refused>>
-    requires tables { AreTablesOf snapshot.now tables.now }
-    requires closer { ForSome closer.old (IsCloserOf snapshot.now tables.now.requirements) }
+    requires tables { AreAnalysisTables snapshot.now tables.now }
+    requires scratch { ForSome scratch.old (IsScratchOf snapshot.now tables.now.requirements) }
     requires accepts { AcceptsRows C.taking rows }
-    ensures closer { ForSome closer.new (IsCloserOf snapshot.now tables.now.requirements) }
+    ensures scratch { ForSome scratch.new (IsScratchOf snapshot.now tables.now.requirements) }
     ensures rows { IfOk result (TookRows C.taking snapshot.now
         (CycleFrom (dependencies snapshot.now) bound task) rows) }
     ensures refused { IfErr result (RefusesRows C.taking snapshot.now
@@ -104,7 +104,7 @@ pub(crate) fn collect_by<C: Collector<Row> + Drop>(
         alloc,
         snapshot,
         tables,
-        closer: closer.take(),
+        scratch: scratch.take(),
         rows,
     };
     match tables.collect(alloc, snapshot, bound, task, &mut collector) {
@@ -113,10 +113,10 @@ pub(crate) fn collect_by<C: Collector<Row> + Drop>(
                 alloc: _,
                 snapshot: _,
                 tables: _,
-                closer: kept,
+                scratch: kept,
                 rows,
             } = collector;
-            *closer = kept;
+            *scratch = kept;
             Ok(rows)
         }
         Ok(Err(refused)) => Err(refused),

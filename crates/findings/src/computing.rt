@@ -4,7 +4,7 @@ ghost use Rattle.std.specs.Prelude.{◌≡◌, IfOk, Err};
 ghost use Rattle.std.specs.Arc.{arc_value};
 ghost use Rattle.trace_model.specs.declared.limits.TheConstants.{MAX_CYCLES};
 ghost use Rattle.trace_model.specs.Theory.Dependencies.{dependencies};
-ghost use Rattle.cycle_search.specs.Search.{CycleFrom, MoreThan};
+ghost use Rattle.cycle_search.specs.CycleSearch.{CycleFrom, MoreThan};
 
 use crate::analysis::Analysis;
 use crate::job::Job;

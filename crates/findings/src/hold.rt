@@ -7,8 +7,8 @@ pub trait Hold {
 }
 
 /// A hold that returns immediately.
-pub struct NoHold;
+pub struct RunOn;
 
-impl Hold for NoHold {
+impl Hold for RunOn {
     fn hold(&self, _question: u32, _task: u32) {}
 }

@@ -6,9 +6,9 @@ ghost use Rattle.std.specs.List.{All, Contains};
 ghost use Rattle.std.specs.Option.{ForSome};
 ghost use Rattle.trace_model.specs.declared.limits.TheConstants.{MAX_CYCLES};
 ghost use Rattle.trace_model.specs.Theory.Dependencies.{dependencies};
-ghost use Rattle.cycle_search.specs.Search.{CycleFrom, MoreThan};
+ghost use Rattle.cycle_search.specs.CycleSearch.{CycleFrom, MoreThan};
 ghost use Rattle.snapshots.specs.Found.{AreRowsOf};
-ghost use Rattle.findings.specs.Analyses.{IsCloserOf};
+ghost use Rattle.findings.specs.Analyses.{IsScratchOf};
 ghost use Rattle.findings.specs.Collecting.{AcceptsRows, TookRows, RefusesRows};
 
 use crate::analysis::Analysis;
@@ -18,7 +18,7 @@ use crate::rows::rows_of;
 use cycle_search::Collector;
 use reports::Row;
 use snapshots::Finding;
-use sp_closure::Closer;
+use sp_closure::ClosureScratch;
 use std::alloc::Global;
 use std::marker::Model;
 use std::sync::Arc;
@@ -30,7 +30,7 @@ pub struct Job {
     alloc: Global,
     analysis: Arc<Analysis, Global>,
     question: u32,
-    closer: Option<Closer>,
+    scratch: Option<ClosureScratch>,
 }
 
 impl Drop for Job {
@@ -39,7 +39,7 @@ impl Drop for Job {
             alloc: _,
             analysis: _,
             question: _,
-            closer: _,
+            scratch: _,
         } = self;
     }
 }
@@ -47,10 +47,10 @@ impl Drop for Job {
 impl Model for Job {
     ghost use Rattle.std.specs.Arc.{arc_value};
     ghost use Rattle.std.specs.Option.{ForSome};
-    ghost use Rattle.findings.specs.Analyses.{IsCloserOf};
-    ghost use Rattle.findings.specs.Found.{Asked};
+    ghost use Rattle.findings.specs.Analyses.{IsScratchOf};
+    ghost use Rattle.findings.specs.Found.{AskedQuestion};
 
-    ghost Value = { Asked };
+    ghost Value = { AskedQuestion };
 
     ghost view = { λ j. record {
       question = j.question;
@@ -58,8 +58,8 @@ impl Model for Job {
       events = (arc_value j.analysis).events;
     } };
 
-    ghost invariant = { λ j. ForSome j.closer
-        (IsCloserOf (arc_value j.analysis).events (arc_value j.analysis).requirements) };
+    ghost invariant = { λ j. ForSome j.scratch
+        (IsScratchOf (arc_value j.analysis).events (arc_value j.analysis).requirements) };
 }
 
 impl Job {
@@ -76,7 +76,7 @@ impl Job {
             alloc,
             analysis,
             question,
-            closer: None,
+            scratch: None,
         }
     }
 
@@ -112,7 +112,7 @@ impl Job {
             self.alloc,
             &self.analysis,
             self.question,
-            &mut self.closer,
+            &mut self.scratch,
             task,
         )
     }
@@ -137,7 +137,7 @@ impl Job {
         ensures refused { IfErr result (RefusesRows C.taking self.old.events
             (CycleFrom (dependencies self.old.events) self.old.bound task) rows) }
     {
-        collected_by(&self.analysis, &mut self.closer, self.alloc, task, rows)
+        collected_by(&self.analysis, &mut self.scratch, self.alloc, task, rows)
     }
 }
 
@@ -150,13 +150,13 @@ fn finding_of(
     alloc: Global,
     analysis: &Analysis,
     question: u32,
-    closer: &mut Option<Closer>,
+    scratch: &mut Option<ClosureScratch>,
     task: u32,
 ) -> Result<Finding, ComputeRefused>
-    requires closer { ForSome closer.old
-        (IsCloserOf analysis.now.events analysis.now.requirements) }
-    ensures closer { ForSome closer.new
-        (IsCloserOf analysis.now.events analysis.now.requirements) }
+    requires scratch { ForSome scratch.old
+        (IsScratchOf analysis.now.events analysis.now.requirements) }
+    ensures scratch { ForSome scratch.new
+        (IsScratchOf analysis.now.events analysis.now.requirements) }
     ensures asked { IfOk result (λ f. (f.question ≡ question) × (f.bound ≡ analysis.now.bound)
         × (f.task ≡ task) × (f.events ≡ analysis.now.events)) }
     ensures too_many { result ≡ Err ComputeRefused.TooManyCycles →
@@ -170,7 +170,7 @@ fn finding_of(
         alloc,
         &snapshot,
         &analysis.tables,
-        closer,
+        scratch,
         analysis.bound,
         task,
     )?;
@@ -183,16 +183,16 @@ fn finding_of(
 /// Those of [`Job::collect`].
 fn collected_by<C: Collector<Row> + Drop>(
     analysis: &Analysis,
-    closer: &mut Option<Closer>,
+    scratch: &mut Option<ClosureScratch>,
     alloc: Global,
     task: u32,
     rows: C,
 ) -> Result<C, RowsRefused<C::Refused>>
-    requires closer { ForSome closer.old
-        (IsCloserOf analysis.now.events analysis.now.requirements) }
+    requires scratch { ForSome scratch.old
+        (IsScratchOf analysis.now.events analysis.now.requirements) }
     requires accepts { AcceptsRows C.taking rows }
-    ensures closer { ForSome closer.new
-        (IsCloserOf analysis.now.events analysis.now.requirements) }
+    ensures scratch { ForSome scratch.new
+        (IsScratchOf analysis.now.events analysis.now.requirements) }
     ensures rows { IfOk result (TookRows C.taking analysis.now.events
         (CycleFrom (dependencies analysis.now.events) analysis.now.bound task) rows) }
     ensures refused { IfErr result (RefusesRows C.taking analysis.now.events
@@ -202,7 +202,7 @@ fn collected_by<C: Collector<Row> + Drop>(
         alloc,
         &analysis.snapshot,
         &analysis.tables,
-        closer,
+        scratch,
         analysis.bound(),
         task,
         rows,

@@ -6,14 +6,14 @@ ghost use Rattle.trace_model.specs.declared.limits.TheConstants.{MAX_CYCLES};
 ghost use Rattle.trace_model.specs.Theory.Cycles.{AreCyclesFrom};
 ghost use Rattle.trace_model.specs.Theory.Dependencies.{dependencies};
 ghost use Rattle.cycle_search.specs.Collecting.{AcceptsAll, TakesAll};
-ghost use Rattle.cycle_search.specs.Search.{CycleFrom, MoreThan, IfTooMany};
+ghost use Rattle.cycle_search.specs.CycleSearch.{CycleFrom, MoreThan, IfTooMany};
 ghost use Rattle.cycle_search.specs.Components.{AreComponents};
 ghost use Rattle.fronts.specs.Requirements.{AreRequirements};
 ghost use Rattle.sp_closure.specs.Timestamps.{AreTimestamps};
-ghost use Rattle.findings.specs.Analyses.{AreRequirementsOf, AreTablesOf, HasNoCycleFrom};
+ghost use Rattle.findings.specs.Analyses.{AreTraceRequirements, AreAnalysisTables, HasNoCycleFrom};
 
 use cycle_search::{
-    Collector, Components, Cycle, SearchRefused, Searched, collect_cycles, cycles_from,
+    Collector, Components, Cycle, SearchInput, SearchRefused, collect_cycles, cycles_from,
 };
 use snapshots::Snapshot;
 use sp_closure::{Requirements, Steps, Timestamps};
@@ -42,7 +42,7 @@ impl Tables {
     /// # Errors
     /// `NoMemory` if an allocation fails.
     pub(crate) fn new(alloc: Global, snapshot: &Snapshot) -> Result<Tables, NoMemory>
-        ensures { IfOk result (AreTablesOf snapshot.now) }
+        ensures { IfOk result (AreAnalysisTables snapshot.now) }
     {
         let components = components_of(alloc, snapshot)?;
         let requirements = requirements_of(alloc, snapshot, &components)?;
@@ -69,15 +69,15 @@ impl Tables {
         bound: Bound,
         task: u32,
     ) -> Result<Vec<Cycle>, SearchRefused>
-        requires { AreTablesOf snapshot.now self.now }
+        requires { AreAnalysisTables snapshot.now self.now }
         ensures ok { IfOk result (λ cycles.
             AreCyclesFrom (dependencies snapshot.now) bound task cycles.items) }
         ensures few { IfOk result (λ cycles. length cycles.items ≤ MAX_CYCLES) }
         ensures too_many { IfTooMany result
             (MoreThan (CycleFrom (dependencies snapshot.now) bound task) MAX_CYCLES) }
     {
-        match self.searched(snapshot, task) {
-            Some(searched) => cycles_from(alloc, &searched, task, bound),
+        match self.search_input(snapshot, task) {
+            Some(search_input) => cycles_from(alloc, &search_input, task, bound),
             None => Ok(Vec::new(alloc)),
         }
     }
@@ -98,23 +98,23 @@ impl Tables {
         task: u32,
         collector: &mut C,
     ) -> Result<Result<(), C::Refused>, NoMemory>
-        requires tables { AreTablesOf snapshot.now self.now }
+        requires tables { AreAnalysisTables snapshot.now self.now }
         requires accepts { AcceptsAll C.taking (CycleFrom (dependencies snapshot.now) bound task)
             collector.old }
         ensures { IfOk result (λ taken. TakesAll C.taking
             (CycleFrom (dependencies snapshot.now) bound task) collector.old taken collector.new) }
     {
-        match self.searched(snapshot, task) {
-            Some(searched) => collect_cycles(alloc, &searched, task, bound, collector),
+        match self.search_input(snapshot, task) {
+            Some(search_input) => collect_cycles(alloc, &search_input, task, bound, collector),
             None => Ok(Ok(())),
         }
     }
 
     /// Returns what a search for the cycles of a task reads, or `None` if the task has none.
-    fn searched<'a>(&'a self, snapshot: &'a Snapshot, task: u32) -> Option<Searched<'a>>
-        requires { AreTablesOf snapshot.now self.now }
+    fn search_input<'a>(&'a self, snapshot: &'a Snapshot, task: u32) -> Option<SearchInput<'a>>
+        requires { AreAnalysisTables snapshot.now self.now }
         ensures { MatchOption result (HasNoCycleFrom (dependencies snapshot.now) task)
-            (λ searched. (searched ≡ dependencies snapshot.now)
+            (λ search_input. (search_input ≡ dependencies snapshot.now)
             × (task < length (dependencies snapshot.now))) }
     {
         let Some(_requirements) = &self.requirements else {
@@ -123,7 +123,7 @@ impl Tables {
         if task as usize >= snapshot.table().len() {
             return None;
         }
-        Some(Searched::new(snapshot.table(), snapshot.graph(), &self.components))
+        Some(SearchInput::new(snapshot.table(), snapshot.graph(), &self.components))
     }
 }
 
@@ -147,7 +147,7 @@ fn requirements_of(
     components: &Components,
 ) -> Result<Option<Requirements>, NoMemory>
     requires { AreComponents (dependencies snapshot.now) components.now }
-    ensures { IfOk result (AreRequirementsOf snapshot.now) }
+    ensures { IfOk result (AreTraceRequirements snapshot.now) }
 {
     if components.are_acyclic() {
         return Ok(None);
@@ -167,7 +167,7 @@ fn timestamps_of(
     components: &Components,
     requirements: &Option<Requirements>,
 ) -> Result<Option<Timestamps>, NoMemory>
-    requires { AreRequirementsOf snapshot.now requirements.now }
+    requires { AreTraceRequirements snapshot.now requirements.now }
     ensures { IfOk result (λ made. ForSome made (AreTimestamps snapshot.now)) }
 {
     let cyclic = components.cyclic();

@@ -11,13 +11,13 @@ use Rattle.trace_model.specs.Theory.Held.{BeginsOn}
 use Rattle.trace_model.proofs.Lists.{at_index, length-push, get-push, get-set_same, get-set_other}
 use Rattle.trace_index.specs.Numbers.{number_at}
 use Rattle.std.specs.Arc.{arc_value}
-use Rattle.fronts.specs.declared.classes.Classes.{Classes}
+use Rattle.fronts.specs.declared.slot_table.SlotTable.{SlotTable}
 use Rattle.fronts.specs.declared.requirements.Requirement.TheVariants.{Reach, Begin}
 use Rattle.fronts.specs.declared.requirements.Item.{Item}
 use Rattle.fronts.specs.declared.requirements.Requirements.{Requirements}
-use Rattle.fronts.specs.Slots.{slots_of, AreSlots, ArePositions, AreThreadSlots, HasPosition}
+use Rattle.fronts.specs.Slots.{slots_of, AreSlots, AreSlotPlaces, AreThreadSlots, HasSlotPosition}
 use Rattle.fronts.specs.Requirements.{Needs, AreLockSlots, AreItems, AreRequirements, item, item_at}
-use Rattle.fronts.specs.Pushing.{Slotted, with_slots, IsRequirement, IsForkLater, IsReached, IsBegun, AddsRequirements, AreBuilt, AreAllBuilt}
+use Rattle.fronts.specs.Pushing.{SlottedTrace, with_slots, IsRequirement, IsForkLater, IsReached, IsBegun, AddsRequirements, AreBuilt, AreAllBuilt}
 use Rattle.fronts.proofs.SlotLemmas.{before_position, has_upto}
 use Rattle.fronts.proofs.ThreadLemmas.{place_below}
 use Rattle.fronts.proofs.PushLemmas.{reached_left, reached_right, begun_left, begun_right}
@@ -44,7 +44,7 @@ upto p q l = elim (cases_lt q p) [
   | inr not ↦ inr (omega (arith, l, not))
 ]
 
-built_other : (v : Slotted) (p a : ℕ) (xs : List Item) → (v.slots p ≡ Some a → ⊥) → AreBuilt v p a xs → AreBuilt v (suc p) a xs
+built_other : (v : SlottedTrace) (p a : ℕ) (xs : List Item) → (v.slots p ≡ Some a → ⊥) → AreBuilt v p a xs → AreBuilt v (suc p) a xs
 built_other v p a xs apart b = record {
   only = λ i h. let (q, l, st, d) = b.only i h in (q, omega (arith, l), st, d);
   ascend = b.ascend;
@@ -58,7 +58,7 @@ built_other v p a xs apart b = record {
   ];
 }
 
-built_pushed : (v : Slotted) (count p a : ℕ) (xs ys : List Item) → AreSlots v.trace v.slots count → v.slots p ≡ Some a → AreBuilt v p a xs →
+built_pushed : (v : SlottedTrace) (count p a : ℕ) (xs ys : List Item) → AreSlots v.trace v.slots count → v.slots p ≡ Some a → AreBuilt v p a xs →
     AddsRequirements v p xs ys → AreBuilt v (suc p) a ys
 built_pushed v count p a xs ys k slot b (n, added, num, is, d) = subst (AreBuilt v (suc p) a) (sym is) (record {
   only = λ i h. elim (Contains-append_cases xs added i h) [
@@ -66,7 +66,7 @@ built_pushed v count p a xs ys k slot b (n, added, num, is, d) = subst (AreBuilt
     | inr new ↦
         let dem = d.only i new in
         let e : i.number ≡ n = dem.number in
-        (p, omega arith, subst (HasPosition v.trace v.slots p a) (sym e) here, subst (λ z. IsRequirement v p z i) (sym e) dem)
+        (p, omega arith, subst (HasSlotPosition v.trace v.slots p a) (sym e) here, subst (λ z. IsRequirement v p z i) (sym e) dem)
   ];
   ascend = λ i j x y l hx hy. elim (two_lists xs added i x hx) [
     | inl ox ↦ elim (two_lists xs added j y hy) [
@@ -102,11 +102,11 @@ built_pushed v count p a xs ys k slot b (n, added, num, is, d) = subst (AreBuilt
   ];
 })
   where
-    here : HasPosition v.trace v.slots p a n
+    here : HasSlotPosition v.trace v.slots p a n
     here = record { slot = slot; number = num }
 
 -- Before the first place there are no requirements.
-pub none_built : (v : Slotted) (lists : List (Vec Item Global)) → ((a : ℕ) (xs : Vec Item Global) → slice_get lists a ≡ Some xs → xs.items ≡ []) → AreAllBuilt v 0 lists
+pub none_built : (v : SlottedTrace) (lists : List (Vec Item Global)) → ((a : ℕ) (xs : Vec Item Global) → slice_get lists a ≡ Some xs → xs.items ≡ []) → AreAllBuilt v 0 lists
 none_built v lists empty a xs at = subst (AreBuilt v 0 a) (sym (empty a xs at)) (record {
   only = λ i h. let (k, less, is) = h in absurd (omega (arith, less));
   ascend = λ j k x y l hx hy. absurd (none-some x hx);
@@ -115,14 +115,14 @@ none_built v lists empty a xs at = subst (AreBuilt v 0 a) (sym (empty a xs at)) 
 })
 
 -- The slot of a place's thread is one of the slots.
-pub slot_within : (s : Trace) (threads : Classes) (p a : ℕ) → AreThreadSlots s threads → slots_of threads p ≡ Some a → a < threads.count
+pub slot_within : (s : Trace) (threads : SlotTable) (p a : ℕ) → AreThreadSlots s threads → slots_of threads p ≡ Some a → a < threads.count
 slot_within s threads p a k slot =
     let (t, of) = k.of_place p a slot in
     let (b, e, less) = k.each p t of in
     omega (arith, less, same_Some b a (sym e ∙ slot))
 
 -- One more place.
-pub all_pushed : (v : Slotted) (count p a : ℕ) (lists : List (Vec Item Global)) (old new : Vec Item Global) → AreSlots v.trace v.slots count → v.slots p ≡ Some a →
+pub all_pushed : (v : SlottedTrace) (count p a : ℕ) (lists : List (Vec Item Global)) (old new : Vec Item Global) → AreSlots v.trace v.slots count → v.slots p ≡ Some a →
     slice_get lists a ≡ Some old → AddsRequirements v p old.items new.items → AreAllBuilt v p lists → AreAllBuilt v (suc p) (slice_set lists a new)
 all_pushed v count p a lists old new k slot at adds all b zs h = elim (cases_lt a b) [
   | inl less ↦ other (λ e. omega (arith, less, e))
@@ -154,7 +154,7 @@ item_from d a xs x h c =
     let (j, at) = found_at xs.items x c in
     (j, ap (option_and_then (λ z. slice_get z.items j)) h ∙ at)
 
-pub items_built : (v : Slotted) (d : Requirements) (count : ℕ) → AreSlots v.trace v.slots count → length d.items.items ≡ count →
+pub items_built : (v : SlottedTrace) (d : Requirements) (count : ℕ) → AreSlots v.trace v.slots count → length d.items.items ≡ count →
     AreAllBuilt v (length v.trace) d.items.items → AreItems v.trace v.slots v.locks (item_at d)
 items_built v d count k len all = record {
   ascend = λ a i j x y l hx hy.
@@ -171,7 +171,7 @@ items_built v d count k len all = record {
       let (xs, at, f) = item_so d a j (item n (Begin l c)) h in
       let (q, less, st, dem) = (all a xs at).only (item n (Begin l c)) (contained xs.items j (item n (Begin l c)) f) in
       let (i, e, on, lock, ends) = dem.begin l c refl in
-      (i, subst (λ z. HasPosition v.trace v.slots z a n) (sym e) st, subst (λ z. BeginsOn v.trace z i) (sym e) on, subst (λ z. v.locks z ≡ Some l) (sym e) lock, ends);
+      (i, subst (λ z. HasSlotPosition v.trace v.slots z a n) (sym e) st, subst (λ z. BeginsOn v.trace z i) (sym e) on, subst (λ z. v.locks z ≡ Some l) (sym e) lock, ends);
   needs = λ q r a n requirement st.
       let (t, oq) = k.of_place q a st.slot in
       let (xs, at) = list_of q a t st.slot oq in
@@ -209,7 +209,7 @@ each_pushed P old new n x is len each last k y at = elim (get-push old x k y (ap
 pub length_pushed : {X : Type 0} (old new : List X) (n : ℕ) (x : X) → new ≡ old ++ x ∷ [] → length old ≡ n → length new ≡ n + 1
 length_pushed old new n x is len = ap length is ∙ (length-push old x ∙ omega (arith, len))
 
-pub requirements_built : (s : Trace) (d : Requirements) → AreThreadSlots s d.threads → AreLockSlots s d.locks → ArePositions s (slots_of d.threads) (arc_value d.positions).items → length d.items.items ≡ d.threads.count →
+pub requirements_built : (s : Trace) (d : Requirements) → AreThreadSlots s d.threads → AreLockSlots s d.locks → AreSlotPlaces s (slots_of d.threads) (arc_value d.positions).items → length d.items.items ≡ d.threads.count →
     AreAllBuilt (with_slots s d.threads d.locks) (length s) d.items.items → AreRequirements s d
 requirements_built s d slots locks positions len all =
     record { slots = slots; locks = locks; positions = positions; items = items_built (with_slots s d.threads d.locks) d d.threads.count slots len all }

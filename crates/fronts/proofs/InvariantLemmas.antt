@@ -14,10 +14,10 @@ use Rattle.fronts.specs.declared.requirements.Section.{Section}
 use Rattle.fronts.specs.declared.requirements.Requirement.{Requirement}
 use Rattle.fronts.specs.declared.requirements.Requirement.TheVariants.{Reach, Begin}
 use Rattle.fronts.specs.declared.requirements.Item.{Item}
-use Rattle.fronts.specs.Slots.{AreSlots, HasPosition, HoldsFirst, HasFirst, in_front}
+use Rattle.fronts.specs.Slots.{AreSlots, HasSlotPosition, HoldsFirst, HasFirst, in_front}
 use Rattle.fronts.specs.Overlays.{Changes}
 use Rattle.fronts.specs.Requirements.{AreLocks, Needs, IsPrefixThrough, EndsSection, empty_prefix, item, AreItems}
-use Rattle.fronts.specs.Propagation.{Grows, State, IsConsistent, Raises, Begins, HasBegun, Meets, AreKnownSlots}
+use Rattle.fronts.specs.Propagation.{Grows, PropagationState, IsConsistent, Raises, BeginsSection, HasBegun, Meets, AreKnownSlots}
 use Rattle.fronts.proofs.SlotLemmas.{position_before, before_position, earlier_position, has_upto, in_front_from, in_front_so}
 
 is_reach : Requirement → Bool
@@ -37,13 +37,13 @@ section_in d (Reach g) = d
 section_in d (Begin l c) = c
 
 -- The state after a requirement of `a` is processed.
-pub record Passes (a : ℕ) (x y : State) : Type 0 where
+pub record Passes (a : ℕ) (x y : PropagationState) : Type 0 where
   pub done : Changes x.done a (x.done a + 1) y.done
   pub grows : (b : ℕ) → x.front b ≤ y.front b
   pub enqueued : (b : ℕ) → (y.front b ≡ x.front b) ⊎ Contains y.pending b
   pub kept : (b : ℕ) → Contains x.pending b → Contains y.pending b
 
-was_done : (a : ℕ) (x y : State) (b j : ℕ) → Passes a x y → j < y.done b → (j < x.done b) ⊎ ((b ≡ a) × (j ≡ x.done a))
+was_done : (a : ℕ) (x y : PropagationState) (b j : ℕ) → Passes a x y → j < y.done b → (j < x.done b) ⊎ ((b ≡ a) × (j ≡ x.done a))
 was_done a x y b j p l = elim (eqb_tells b a) [
   | inl e ↦ elim (cases_lt j (x.done b)) [
     | inl less ↦ inl less
@@ -55,7 +55,7 @@ was_done a x y b j p l = elim (eqb_tells b a) [
   | inr e ↦ inl (omega (arith, l, p.done.others b e.1))
 ]
 
-is_done : (a : ℕ) (x y : State) (b j : ℕ) → Passes a x y → j < x.done b → j < y.done b
+is_done : (a : ℕ) (x y : PropagationState) (b j : ℕ) → Passes a x y → j < x.done b → j < y.done b
 is_done a x y b j p l = elim (eqb_tells b a) [
   | inl e ↦
       let m : y.done b ≡ x.done a + 1 = ap y.done e.1 ∙ p.done.here in
@@ -67,7 +67,7 @@ is_done a x y b j p l = elim (eqb_tells b a) [
 at_done : (items : ℕ → ℕ → Option Item) (a b j k : ℕ) (i e : Item) → items a k ≡ Some i → b ≡ a → j ≡ k → items b j ≡ Some e → i ≡ e
 at_done items a b j k i e h same at g = same_Some i e (sym h ∙ subst (λ z. items z k ≡ Some e) same (subst (λ z. items b z ≡ Some e) at g))
 
-inside_on : (items : ℕ → ℕ → Option Item) (a : ℕ) (x y : State) (i : Item) → IsConsistent items x → Passes a x y → items a (x.done a) ≡ Some i → i.number < x.front a →
+inside_on : (items : ℕ → ℕ → Option Item) (a : ℕ) (x y : PropagationState) (i : Item) → IsConsistent items x → Passes a x y → items a (x.done a) ≡ Some i → i.number < x.front a →
     (b j : ℕ) (e : Item) → items b j ≡ Some e → j < y.done b → e.number < y.front b
 inside_on items a x y i w p at less b j e h l = elim (was_done a x y b j p l) [
   | inl old ↦ omega (arith, w.inside b j e h old, p.grows b)
@@ -78,7 +78,7 @@ inside_on items a x y i w p at less b j e h l = elim (was_done a x y b j p l) [
       omega (arith, n, f, less, p.grows b)
 ]
 
-queued_on : (items : ℕ → ℕ → Option Item) (a : ℕ) (x y : State) → IsConsistent items x → Passes a x y →
+queued_on : (items : ℕ → ℕ → Option Item) (a : ℕ) (x y : PropagationState) → IsConsistent items x → Passes a x y →
     (b j : ℕ) (e : Item) → items b j ≡ Some e → e.number < y.front b → (j < y.done b) ⊎ Contains y.pending b
 queued_on items a x y w p b j e h l = elim (p.enqueued b) [
   | inr c ↦ inr c
@@ -88,7 +88,7 @@ queued_on items a x y w p b j e h l = elim (p.enqueued b) [
   ]
 ]
 
-pub on_way_reach : (items : ℕ → ℕ → Option Item) (a n : ℕ) (prefix : ThreadPrefix) (x y : State) → IsConsistent items x → Passes a x y →
+pub on_way_reach : (items : ℕ → ℕ → Option Item) (a n : ℕ) (prefix : ThreadPrefix) (x y : PropagationState) → IsConsistent items x → Passes a x y →
     items a (x.done a) ≡ Some (item n (Reach prefix)) → n < x.front a → prefix.count ≤ y.front prefix.slot → ((l : ℕ) → y.last l ≡ x.last l) → IsConsistent items y
 unfolding prefix_in is_reach
 on_way_reach items a n prefix x y w p at less upto last = record {
@@ -119,7 +119,7 @@ on_way_reach items a n prefix x y w p at less upto last = record {
   queued = queued_on items a x y w p;
 }
 
-begun_lasts : (items : ℕ → ℕ → Option Item) (a n l : ℕ) (c : Section) (x y : State) → IsConsistent items x → Passes a x y →
+begun_lasts : (items : ℕ → ℕ → Option Item) (a n l : ℕ) (c : Section) (x y : PropagationState) → IsConsistent items x → Passes a x y →
     items a (x.done a) ≡ Some (item n (Begin l c)) → (o : Option Section) → x.last l ≡ o → HasBegun o c y l → (e : Section) → y.last l ≡ Some e →
     (b : ℕ) × (j : ℕ) × (m : ℕ) × (j < y.done b) × (items b j ≡ Some (item m (Begin l e)))
 begun_lasts items a n l c x y w p at o was begun e h =
@@ -139,7 +139,7 @@ begun_lasts items a n l c x y w p at o was begun e h =
     go new old (Some d) was (inr (inr (k, is))) = old d was (same_Some d e (sym is ∙ h))
 
 -- A section that had ended before, or was the last one.
-begun_before : (c : Section) (x y : State) (l : ℕ) (e : Section) → ((b : ℕ) → x.front b ≤ y.front b) → (d : Section) → x.last l ≡ Some d → HasBegun (Some d) c y l →
+begun_before : (c : Section) (x y : PropagationState) (l : ℕ) (e : Section) → ((b : ℕ) → x.front b ≤ y.front b) → (d : Section) → x.last l ≡ Some d → HasBegun (Some d) c y l →
     (e ≡ d) ⊎ ((e.place < d.place) × (e.end.count ≤ x.front e.end.slot)) →
     (f : Section) × (y.last l ≡ Some f) × ((e ≡ f) ⊎ ((e.place < f.place) × (e.end.count ≤ y.front e.end.slot)))
 begun_before c x y l e grows d was (inl (k, is, ended)) (inl same) =
@@ -152,14 +152,14 @@ begun_before c x y l e grows d was (inr (inr (k, is))) (inl same) = (d, is, inl 
 begun_before c x y l e grows d was (inr (inr (k, is))) (inr (less, before)) = (d, is, inr (less, omega (arith, before, grows e.end.slot)))
 
 -- The section itself.
-begun_here : (c : Section) (x y : State) (l : ℕ) → (o : Option Section) → x.last l ≡ o → HasBegun o c y l → ((d : Section) → x.last l ≡ Some d → c.place ≡ d.place → c ≡ d) →
+begun_here : (c : Section) (x y : PropagationState) (l : ℕ) → (o : Option Section) → x.last l ≡ o → HasBegun o c y l → ((d : Section) → x.last l ≡ Some d → c.place ≡ d.place → c ≡ d) →
     (f : Section) × (y.last l ≡ Some f) × ((c ≡ f) ⊎ ((c.place < f.place) × (c.end.count ≤ y.front c.end.slot)))
 begun_here c x y l None was is one = (c, is, inl refl)
 begun_here c x y l (Some d) was (inl (k, is, ended)) one = (c, is, inl refl)
 begun_here c x y l (Some d) was (inr (inl (k, is, ended))) one = (d, is, inr (k, ended))
 begun_here c x y l (Some d) was (inr (inr (k, is))) one = (d, is, inl (one d was k))
 
-pub on_way_begin : (items : ℕ → ℕ → Option Item) (count a n l : ℕ) (c : Section) (x y z : State) → IsConsistent items x → Passes a x y →
+pub on_way_begin : (items : ℕ → ℕ → Option Item) (count a n l : ℕ) (c : Section) (x y z : PropagationState) → IsConsistent items x → Passes a x y →
     items a (x.done a) ≡ Some (item n (Begin l c)) → n < x.front a → HasBegun (x.last l) c y l → ((m : ℕ) → m ≢ l → y.last m ≡ x.last m) →
     ((d : Section) → x.last l ≡ Some d → c.place ≡ d.place → c ≡ d) → IsConsistent items y
 unfolding is_reach lock_in section_in
@@ -208,7 +208,7 @@ on_way_begin items count a n l c x y z w p at less begun others one = record {
 }
 
 -- From a state with the same fronts and worklist.
-grows_from : (k : ℕ) (x m y : State) → ((a : ℕ) → m.front a ≡ x.front a) → m.pending ≡ x.pending → Grows k m y → ((a : ℕ) → m.done a ≡ x.done a) → Grows k x y
+grows_from : (k : ℕ) (x m y : PropagationState) → ((a : ℕ) → m.front a ≡ x.front a) → m.pending ≡ x.pending → Grows k m y → ((a : ℕ) → m.done a ≡ x.done a) → Grows k x y
 grows_from k x m y front pending r done = record {
   grows = λ a. omega (arith, front a, r.grows a);
   enqueued = λ a. elim (r.enqueued a) [
@@ -221,7 +221,7 @@ grows_from k x m y front pending r done = record {
   more = omega (arith, r.more, ap length pending);
 }
 
-grows_self : (k : ℕ) (x : State) → Grows k x x
+grows_self : (k : ℕ) (x : PropagationState) → Grows k x x
 grows_self k x = record {
   grows = λ a. omega arith;
   enqueued = λ a. inl refl;
@@ -232,8 +232,8 @@ grows_self k x = record {
 }
 
 -- The lock's first section.
-pub begins_first : (k l : ℕ) (c : Section) (x y : State) → x.last l ≡ None → Changes x.last l (Some c) y.last →
-    ((a : ℕ) → y.front a ≡ x.front a) → ((a : ℕ) → y.done a ≡ x.done a) → y.pending ≡ x.pending → Begins k l c x y
+pub begins_first : (k l : ℕ) (c : Section) (x y : PropagationState) → x.last l ≡ None → Changes x.last l (Some c) y.last →
+    ((a : ℕ) → y.front a ≡ x.front a) → ((a : ℕ) → y.done a ≡ x.done a) → y.pending ≡ x.pending → BeginsSection k l c x y
 begins_first k l c x y was last front done pending = record {
   begun = subst (λ o. HasBegun o c y l) (sym was) last.here;
   others = last.others;
@@ -241,15 +241,15 @@ begins_first k l c x y was last front done pending = record {
 }
 
 -- The section at the place of the lock's last one.
-pub begins_same : (k l : ℕ) (c d : Section) (x : State) → x.last l ≡ Some d → c.place ≡ d.place → Begins k l c x x
+pub begins_same : (k l : ℕ) (c d : Section) (x : PropagationState) → x.last l ≡ Some d → c.place ≡ d.place → BeginsSection k l c x x
 begins_same k l c d x was same = record {
   begun = subst (λ o. HasBegun o c x l) (sym was) (inr (inr (same, was)));
   others = λ j ne. refl;
   growth = grows_self k x;
 }
 
-pub raises_followed : (k l : ℕ) (c d : Section) (x m y : State) → x.last l ≡ Some d → d.place < c.place → Changes x.last l (Some c) m.last →
-    ((a : ℕ) → m.front a ≡ x.front a) → ((a : ℕ) → m.done a ≡ x.done a) → m.pending ≡ x.pending → Raises k d.end m y → Begins k l c x y
+pub raises_followed : (k l : ℕ) (c d : Section) (x m y : PropagationState) → x.last l ≡ Some d → d.place < c.place → Changes x.last l (Some c) m.last →
+    ((a : ℕ) → m.front a ≡ x.front a) → ((a : ℕ) → m.done a ≡ x.done a) → m.pending ≡ x.pending → Raises k d.end m y → BeginsSection k l c x y
 raises_followed k l c d x m y was less last front done pending r = record {
   begun = subst (λ o. HasBegun o c y l) (sym was) (inl (less, r.last l ∙ last.here, r.upto));
   others = λ j ne. r.last j ∙ last.others j ne;
@@ -257,7 +257,7 @@ raises_followed k l c d x m y was less last front done pending r = record {
 }
 
 -- The state after one requirement was processed and fronts grew.
-pub passes_grown : (k a : ℕ) (x m y : State) → Changes x.done a (x.done a + 1) m.done → ((b : ℕ) → m.front b ≡ x.front b) → m.pending ≡ x.pending → Grows k m y → Passes a x y
+pub passes_grown : (k a : ℕ) (x m y : PropagationState) → Changes x.done a (x.done a + 1) m.done → ((b : ℕ) → m.front b ≡ x.front b) → m.pending ≡ x.pending → Grows k m y → Passes a x y
 passes_grown k a x m y done front pending r = record {
   done = record { here = r.done a ∙ done.here; others = λ b ne. r.done b ∙ done.others b ne };
   grows = λ b. omega (arith, front b, r.grows b);
@@ -268,7 +268,7 @@ passes_grown k a x m y done front pending r = record {
   kept = λ b p. r.kept b (subst (λ z. Contains z b) (sym pending) p);
 }
 
-pub meets_reach : (items : ℕ → ℕ → Option Item) (k a n : ℕ) (prefix : ThreadPrefix) (x m y : State) → IsConsistent items x → items a (x.done a) ≡ Some (item n (Reach prefix)) → n < x.front a →
+pub meets_reach : (items : ℕ → ℕ → Option Item) (k a n : ℕ) (prefix : ThreadPrefix) (x m y : PropagationState) → IsConsistent items x → items a (x.done a) ≡ Some (item n (Reach prefix)) → n < x.front a →
     Changes x.done a (x.done a + 1) m.done → ((b : ℕ) → m.front b ≡ x.front b) → ((l : ℕ) → m.last l ≡ x.last l) → m.pending ≡ x.pending → Raises k prefix m y → Meets items k a x y
 meets_reach items k a n prefix x m y w at less done front last pending r =
     let p = passes_grown k a x m y done front pending r.growth in
@@ -280,8 +280,8 @@ meets_reach items k a n prefix x m y w at less done front last pending r =
       pending = omega (arith, r.growth.more, ap length pending);
     }
 
-pub meets_begin : (items : ℕ → ℕ → Option Item) (k a n l : ℕ) (c : Section) (x m y : State) → IsConsistent items x → items a (x.done a) ≡ Some (item n (Begin l c)) → n < x.front a →
-    Changes x.done a (x.done a + 1) m.done → ((b : ℕ) → m.front b ≡ x.front b) → ((l : ℕ) → m.last l ≡ x.last l) → m.pending ≡ x.pending → Begins k l c m y →
+pub meets_begin : (items : ℕ → ℕ → Option Item) (k a n l : ℕ) (c : Section) (x m y : PropagationState) → IsConsistent items x → items a (x.done a) ≡ Some (item n (Begin l c)) → n < x.front a →
+    Changes x.done a (x.done a + 1) m.done → ((b : ℕ) → m.front b ≡ x.front b) → ((l : ℕ) → m.last l ≡ x.last l) → m.pending ≡ x.pending → BeginsSection k l c m y →
     ((d : Section) → x.last l ≡ Some d → c.place ≡ d.place → c ≡ d) → Meets items k a x y
 meets_begin items k a n l c x m y w at less done front last pending r one =
     let p = passes_grown k a x m y done front pending r.growth in
@@ -331,7 +331,7 @@ prefix_holds s slots count set prefix r known closed (n, x, e) is p m y l = elim
       subst (λ z. set z ≡ true) (sym at) is
 ]
   where
-    one : (p m : ℕ) → HasPosition s slots p prefix.slot m → m ≡ n → p ≡ r
+    one : (p m : ℕ) → HasSlotPosition s slots p prefix.slot m → m ≡ n → p ≡ r
     one p m y same = elim (cases_lt p r) [
       | inl a ↦ absurd (omega (arith, same, before_position s slots count p r prefix.slot m n known y x a))
       | inr a ↦ elim (cases_lt r p) [
@@ -373,7 +373,7 @@ sections_hold s slots locks count few items a b i j m n l c d set front known nu
 locks_same : (s : Trace) (locks : ℕ → Option ℕ) (few p q k l m : ℕ) → AreLocks s locks few → BeginsOn s p k → BeginsOn s q k → locks p ≡ Some l → locks q ≡ Some m → l ≡ m
 locks_same s locks few p q k l m numbered x y hl hm = same_Some l m (sym (numbered.alike p q l k hl x y) ∙ hm)
 
-pub done_closes : (s : Trace) (slots locks : ℕ → Option ℕ) (count few : ℕ) (items : ℕ → ℕ → Option Item) (x : State) → AreSlots s slots count → AreLocks s locks few →
+pub done_closes : (s : Trace) (slots locks : ℕ → Option ℕ) (count few : ℕ) (items : ℕ → ℕ → Option Item) (x : PropagationState) → AreSlots s slots count → AreLocks s locks few →
     AreItems s slots locks items → IsConsistent items x → x.pending ≡ [] → IsClosed s (in_front s slots x.front)
 done_closes s slots locks count few items x known numbered all w none =
     let met : (a j : ℕ) (i : Item) → items a j ≡ Some i → i.number < x.front a → j < x.done a = λ a j i h l. elim (w.queued a j i h l) [

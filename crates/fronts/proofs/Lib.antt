@@ -9,7 +9,7 @@ pub mod RaiseLemmas
 pub mod StageLemmas
 pub mod InvariantLemmas
 pub mod RunLemmas
-pub mod ClassLemmas
+pub mod SlotTableLemmas
 pub mod FirstLemmas
 pub mod PushLemmas
 pub mod BuildLemmas

@@ -12,8 +12,8 @@ use Rattle.trace_model.proofs.Theory.Unique.{increasing_ordered}
 use Rattle.std.proofs.Math.ListN.{length-set}
 use Rattle.fronts.specs.declared.requirements.ThreadPrefix.{ThreadPrefix}
 use Rattle.fronts.specs.declared.members.Member.{Member}
-use Rattle.fronts.specs.Slots.{AreSlots, HasPosition, HoldsFirst, HasFirst, HoldsPlaces}
-use Rattle.fronts.specs.Members.{Each, IsMember, StopsAt, Stops, IsNotPast, IsAhead, IsSameMember, AreMoved, IsWithinCount, Advances, HasMoved, AreAdvanced, steps_left}
+use Rattle.fronts.specs.Slots.{AreSlots, HasSlotPosition, HoldsFirst, HasFirst, HoldsPlaces}
+use Rattle.fronts.specs.Members.{Each, IsMember, EndsBefore, Stops, IsNotPast, IsAhead, IsSameMember, AreMoved, IsWithinCount, Advances, HasMoved, AreAdvanced, steps_left}
 use Rattle.fronts.proofs.SlotLemmas.{position_before, has_before}
 
 pub each_set : {X : Type 0} (P : X → Type 0) (xs : List X) (k : ℕ) (x y : X) → slice_get xs k ≡ Some x → Each P xs → P y → Each P (slice_set xs k y)
@@ -93,7 +93,7 @@ after_last s slots x y q mx a c l =
 
 -- A set that contains the member's place stops later.
 pub stops_later : (s : Trace) (slots : ℕ → Option ℕ) (set : Places) (x : Member) (count q : ℕ) → IsMember s slots x → x.number < count →
-    HoldsFirst s slots set x.slot count → IsNotPast s set x → Contains x.places q → StopsAt s set q → x.place < q
+    HoldsFirst s slots set x.slot count → IsNotPast s set x → Contains x.places q → EndsBefore s set q → x.place < q
 stops_later s slots set x count q mx l holds not c stop =
     let below : x.place ≤ q = not q c stop in
     let in_set : set x.place ≡ true = holds x.place x.number mx.positions l in
@@ -104,7 +104,7 @@ stops_later s slots set x count q mx l holds not c stop =
 
 -- The set contains all places before a place at which it stops, or before an earlier one.
 pub holds_upto : (s : Trace) (slots : ℕ → Option ℕ) (count : ℕ) (set : Places) (y : Member) (q : ℕ) → AreSlots s slots count → IsMember s slots y →
-    Contains y.places q → StopsAt s set q → y.place ≤ q → HoldsFirst s slots set y.slot y.number
+    Contains y.places q → EndsBefore s set q → y.place ≤ q → HoldsFirst s slots set y.slot y.number
 holds_upto s slots count set y q k my c stop l p n x less =
     let before = position_before s slots count p y.place y.slot n y.number k x my.positions less in
     let (t, o, u, lt) = before in
@@ -116,7 +116,7 @@ pub ahead_moves : (s : Trace) (slots : ℕ → Option ℕ) (count : ℕ) (set : 
     IsAhead s (slice_set xs k y) set × HoldsFirst s slots set y.slot y.number
 ahead_moves s slots count set xs k x y most slot a at mx l holds adv =
     let (q, c, stop) = a.stops k x at in
-    let later : (z : ℕ) → Contains x.places z → StopsAt s set z → y.place ≤ z = λ z cz sz.
+    let later : (z : ℕ) → Contains x.places z → EndsBefore s set z → y.place ≤ z = λ z cz sz.
     after_entry s slots x y z mx adv cz (stops_later s slots set x most z mx l holds (a.not_past k x at) cz sz) in
     let cy : Contains y.places q = subst (λ ps. Contains ps q) (sym adv.same.places) c in (
       record {
@@ -165,7 +165,7 @@ has_on : (s : Trace) (slots : ℕ → Option ℕ) (few slot count n : ℕ) (xs y
 has_on s slots few slot count n xs ys k b m known here is has i l = elim (cases_lt i count) [
   | inl less ↦ has i less
   | inr more ↦
-      subst (λ a. (p : ℕ) × HasPosition s slots p a i) (m.advances.same.slot ∙ here)
+      subst (λ a. (p : ℕ) × HasSlotPosition s slots p a i) (m.advances.same.slot ∙ here)
       (has_before s slots few m.y.place m.y.slot m.y.number known m.advances.is_member.positions i (omega (arith, l, more, is)))
 ]
 

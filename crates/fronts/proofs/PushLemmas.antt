@@ -8,7 +8,7 @@ use Rattle.std.proofs.lemmas.List.Elements.{Contains-append_left, Contains-appen
 use Rattle.trace_model.specs.declared.traces.event.Op.{Op}
 use Rattle.trace_model.specs.declared.traces.event.Op.TheVariants.{Fork, Join, Write}
 use Rattle.trace_model.specs.Theory.Trace.{Trace, event, At, Does, OfThread}
-use Rattle.trace_model.specs.Theory.Held.{BeginsOn, begun}
+use Rattle.trace_model.specs.Theory.Held.{BeginsOn, begun_lock}
 use Rattle.trace_model.specs.Theory.Lookups.{writer_of}
 use Rattle.trace_model.proofs.Theory.Lookups.{writer_so}
 use Rattle.trace_model.proofs.Theory.Least.{at_thread}
@@ -20,9 +20,9 @@ use Rattle.fronts.specs.declared.requirements.Requirement.{Requirement}
 use Rattle.fronts.specs.declared.requirements.Requirement.TheVariants.{Reach, Begin}
 use Rattle.fronts.specs.declared.requirements.Item.{Item}
 use Rattle.fronts.specs.Slots.{AreSlots}
-use Rattle.fronts.specs.Threads.{IsLastOf}
+use Rattle.fronts.specs.Threads.{IsLastOfThread}
 use Rattle.fronts.specs.Requirements.{Needs, IsPrefixThrough, EndsSection, item}
-use Rattle.fronts.specs.Pushing.{Slotted, prefix_through, adding, reaching, IsStart, IsFirstNeed, IsLastNeed, IsBegin, IsRequirement, IsForkLater, IsReached, IsBegun, AreRequirementsOf}
+use Rattle.fronts.specs.Pushing.{SlottedTrace, prefix_through, requirement_items, reached_items, IsStart, IsFirstNeed, IsLastNeed, IsBegin, IsRequirement, IsForkLater, IsReached, IsBegun, AreRequirementsAt}
 use Rattle.fronts.proofs.FrontLemmas.{earlier_lt}
 use Rattle.fronts.proofs.ThreadLemmas.{place_below}
 use Rattle.fronts.proofs.SlotLemmas.{number_of}
@@ -47,7 +47,7 @@ first_join s q t c o at f = record {
   fork = λ d r dq dr. (f r).1 (subst (λ z. Does s r (Fork z)) (same_joined s q t c d at dq) dr);
 }
 
-pub last_join : (s : Trace) (q t c : ℕ) (o : Option ℕ) → At s q (event t (Join c)) → MatchOption o ((p : ℕ) → OfThread s p c → ⊥) (IsLastOf s c) → IsLastNeed s q o
+pub last_join : (s : Trace) (q t c : ℕ) (o : Option ℕ) → At s q (event t (Join c)) → MatchOption o ((p : ℕ) → OfThread s p c → ⊥) (IsLastOfThread s c) → IsLastNeed s q o
 last_join s q t c None at h = record {
   true_need = λ r e. absurd (none-some r e);
   joined = λ d r dq o. absurd (h r (subst (OfThread s r) (same_joined s q t c d at dq) o));
@@ -59,7 +59,7 @@ last_join s q t c (Some p) at h = record {
       (p, refl, subst (OfThread s p) (sym e) h.0, h.1 r (subst (OfThread s r) e o));
 }
 
-pub begin_is : (v : Slotted) (q k l : ℕ) (c : Section) → BeginsOn v.trace q k → v.locks q ≡ Some l → c.place ≡ q → EndsSection v.trace v.slots c →
+pub begin_is : (v : SlottedTrace) (q k l : ℕ) (c : Section) → BeginsOn v.trace q k → v.locks q ≡ Some l → c.place ≡ q → EndsSection v.trace v.slots c →
     IsBegin v q (Some (Begin l c))
 begin_is v q k l c on lock e ends = record {
   true_need = λ requirement h. (l, c, k, sym (same_Some (Begin l c) requirement h), e, on, lock, ends);
@@ -67,7 +67,7 @@ begin_is v q k l c on lock e ends = record {
 }
 
 -- If no section begins at a place, it has no such requirement.
-pub begin_none : (v : Slotted) (q : ℕ) → None ≡ begun v.trace q → IsBegin v q None
+pub begin_none : (v : SlottedTrace) (q : ℕ) → None ≡ begun_lock v.trace q → IsBegin v q None
 begin_none v q none = record {
   true_need = λ requirement h. absurd (none-some requirement h);
   begun = λ k on. absurd (none-some k (none ∙ begun_from v.trace q k on));
@@ -124,8 +124,8 @@ abbrev IsReach : Requirement → Type 0
 IsReach (Reach g) = Unit
 IsReach (Begin l c) = ⊥
 
-reach_only : (v : Slotted) (count q n : ℕ) (o : Option ℕ) (i : Item) → AreSlots v.trace v.slots count → ((r : ℕ) → o ≡ Some r → Needs v.trace q r) →
-    Contains (reaching v.trace v.slots n o) i → IsRequirement v q n i
+reach_only : (v : SlottedTrace) (count q n : ℕ) (o : Option ℕ) (i : Item) → AreSlots v.trace v.slots count → ((r : ℕ) → o ≡ Some r → Needs v.trace q r) →
+    Contains (reached_items v.trace v.slots n o) i → IsRequirement v q n i
 reach_only v count q n None i k so h = absurd (none_in i h)
 reach_only v count q n (Some p) i k so h =
     let requirement = so p refl in
@@ -137,7 +137,7 @@ reach_only v count q n (Some p) i k so h =
       begin = λ l c e. absurd (subst IsReach e tt);
     })
 
-begin_only : (v : Slotted) (q n : ℕ) (o : Option Requirement) (i : Item) → IsBegin v q o → Contains (adding n o) i → IsRequirement v q n i
+begin_only : (v : SlottedTrace) (q n : ℕ) (o : Option Requirement) (i : Item) → IsBegin v q o → Contains (requirement_items n o) i → IsRequirement v q n i
 begin_only v q n None i b h = absurd (none_in i h)
 begin_only v q n (Some requirement) i b h =
     let (l, c, k, e, at, on, lock, ends) = b.true_need requirement refl in
@@ -158,7 +158,7 @@ number_le s t p r o l = elim (cases_lt r p) [
 
 -- The prefix through a later place of the thread contains the place.
 reach_covers : (s : Trace) (slots : ℕ → Option ℕ) (count n p r t : ℕ) (o : Option ℕ) → AreSlots s slots count → o ≡ Some p → OfThread s p t → OfThread s r t → r ≤ p →
-    IsReached s slots n r (reaching s slots n o)
+    IsReached s slots n r (reached_items s slots n o)
 reach_covers s slots count n p r t o k e op or l =
     let (a, at, less) = k.each p t op in
     let slot : unwrap_or (slots p) 0 ≡ a = same_Some _ a (sym (some_unwrapped (slots p) a at) ∙ at) in
@@ -183,17 +183,17 @@ begun_left q n xs ys (l, c, h, e) = (l, c, Contains-append_left xs ys (item n (B
 pub begun_right : (q n : ℕ) (xs ys : List Item) → IsBegun q n ys → IsBegun q n (xs ++ ys)
 begun_right q n xs ys (l, c, h, e) = (l, c, Contains-append_right xs ys (item n (Begin l c)) h, e)
 
-begun_at : (v : Slotted) (q n k : ℕ) (o : Option Requirement) → IsBegin v q o → BeginsOn v.trace q k → IsBegun q n (adding n o)
+begun_at : (v : SlottedTrace) (q n k : ℕ) (o : Option Requirement) → IsBegin v q o → BeginsOn v.trace q k → IsBegun q n (requirement_items n o)
 begun_at v q n k o b on =
     let (requirement, e) = b.begun k on in
     let (l, c, j, f, at, here, lock, ends) = b.true_need requirement e in
     let last = Contains-push [] (item n (Begin l c)) in
-    let there = subst (λ (z : Requirement). Contains (adding n (Some z)) (item n (Begin l c))) (sym f) last in
-    (l, c, subst (λ (z : Option Requirement). Contains (adding n z) (item n (Begin l c))) (sym e) there, at)
+    let there = subst (λ (z : Requirement). Contains (requirement_items n (Some z)) (item n (Begin l c))) (sym f) last in
+    (l, c, subst (λ (z : Option Requirement). Contains (requirement_items n z) (item n (Begin l c))) (sym e) there, at)
 
-pub requirements_from : (v : Slotted) (count q n : ℕ) (a b c : Option ℕ) (o : Option Requirement) → AreSlots v.trace v.slots count → number_at v.trace q ≡ Some n →
+pub requirements_from : (v : SlottedTrace) (count q n : ℕ) (a b c : Option ℕ) (o : Option Requirement) → AreSlots v.trace v.slots count → number_at v.trace q ≡ Some n →
     IsStart v.trace q a → IsFirstNeed v.trace q b → IsLastNeed v.trace q c → IsBegin v q o →
-    AreRequirementsOf v q n (reaching v.trace v.slots n a ++ (reaching v.trace v.slots n b ++ (reaching v.trace v.slots n c ++ adding n o)))
+    AreRequirementsAt v q n (reached_items v.trace v.slots n a ++ (reached_items v.trace v.slots n b ++ (reached_items v.trace v.slots n c ++ requirement_items n o)))
 requirements_from v count q n a b c o k num start first last begin = record {
   only = λ i h. elim (Contains-append_cases xs (ys ++ (zs ++ ws)) i h) [
     | inl hx ↦ reach_only v count q n a i k start.true_need hx
@@ -210,16 +210,16 @@ requirements_from v count q n a b c o k num start first last begin = record {
 }
   where
     xs : List Item
-    xs = reaching v.trace v.slots n a
+    xs = reached_items v.trace v.slots n a
 
     ys : List Item
-    ys = reaching v.trace v.slots n b
+    ys = reached_items v.trace v.slots n b
 
     zs : List Item
-    zs = reaching v.trace v.slots n c
+    zs = reached_items v.trace v.slots n c
 
     ws : List Item
-    ws = adding n o
+    ws = requirement_items n o
 
     by_first : (r : ℕ) → Needs v.trace q r → b ≡ Some r → IsReached v.trace v.slots n r (xs ++ (ys ++ (zs ++ ws)))
     by_first r requirement e =

@@ -13,10 +13,10 @@ use Rattle.fronts.specs.Slots.{HoldsFirst, HasFirst, AreSlots}
 use Rattle.fronts.specs.declared.requirements.Section.{Section}
 use Rattle.fronts.specs.declared.overlay.Overlay.{Overlay}
 use Rattle.fronts.specs.declared.epoch_array.EpochArray.{EpochArray}
-use Rattle.fronts.specs.EpochArrays.{at}
+use Rattle.fronts.specs.EpochArrays.{value_at}
 use Rattle.fronts.specs.Overlays.{Changes, first_some}
 use Rattle.fronts.specs.Members.{Each, IsMember, IsAhead, AreMoved, AreAdvanced}
-use Rattle.fronts.specs.Propagation.{State, Raises, IsBound, AreAtFront, AreUpTo, sum_to}
+use Rattle.fronts.specs.Propagation.{PropagationState, Raises, IsBound, AreAtFront, AreUpTo, sum_to}
 use Rattle.fronts.proofs.GrowingLemmas.{push_cases, push_kept, push_last}
 
 pub record IsLifted (front new : ℕ → ℕ) (a n : ℕ) : Type 0 where
@@ -73,7 +73,7 @@ lifted_grows front new a n l b = elim (eqb_tells b a) [
 ]
 
 -- The front is raised, and its slot is appended to the worklist.
-pub lifted_raises : (k : ℕ) (prefix : ThreadPrefix) (x y : State) (n : ℕ) (a : ℕ) → IsLifted x.front y.front prefix.slot n → prefix.count ≤ n → prefix.slot < k →
+pub lifted_raises : (k : ℕ) (prefix : ThreadPrefix) (x y : PropagationState) (n : ℕ) (a : ℕ) → IsLifted x.front y.front prefix.slot n → prefix.count ≤ n → prefix.slot < k →
     y.pending ≡ x.pending ++ a ∷ [] → a ≡ prefix.slot → ((b : ℕ) → y.done b ≡ x.done b) → ((b : ℕ) → y.last b ≡ x.last b) → Raises k prefix x y
 lifted_raises k prefix x y n a l m less p same d e = record {
   upto = omega (arith, l.here, m);
@@ -107,8 +107,8 @@ lifted_behind s slots front new prefix next old members l upto moved advanced ea
         let same = moved.same i x y was h in
         let apart : x.slot ≢ prefix.slot = λ z. e.1 (same.slot ∙ z) in
         let is : x ≡ y = moved.others i x y was h apart in
-        let at : x.number ≡ front x.slot = upto.others i x was apart in
-        subst (λ z. z.number ≡ new z.slot) is (at ∙ sym (l.others x.slot apart))
+        let value_at : x.number ≡ front x.slot = upto.others i x was apart in
+        subst (λ z. z.number ≡ new z.slot) is (value_at ∙ sym (l.others x.slot apart))
   ];
 }
 
@@ -133,10 +133,10 @@ prefix_slot s slots count prefix known has l =
 
 -- An overlay of which one array changed.
 abbrev pub done_in : Overlay → EpochArray ℕ → ℕ → ℕ
-done_in under epoch_array a = unwrap_or (at epoch_array a) (unwrap_or (at under.done a) 0)
+done_in under epoch_array a = unwrap_or (value_at epoch_array a) (unwrap_or (value_at under.done a) 0)
 
 abbrev pub last_in : Overlay → EpochArray Section → ℕ → Option Section
-last_in under epoch_array l = first_some (at epoch_array l) (at under.last l)
+last_in under epoch_array l = first_some (value_at epoch_array l) (value_at under.last l)
 
 abbrev pub front_in : Overlay → EpochArray ℕ → ℕ → ℕ
-front_in under epoch_array a = unwrap_or (at epoch_array a) (unwrap_or (at under.fronts a) 0)
+front_in under epoch_array a = unwrap_or (value_at epoch_array a) (unwrap_or (value_at under.fronts a) 0)

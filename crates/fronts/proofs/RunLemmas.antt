@@ -9,7 +9,7 @@ use Rattle.fronts.specs.declared.requirements.Item.{Item}
 use Rattle.fronts.specs.declared.requirements.Requirements.{Requirements}
 use Rattle.fronts.specs.Overlays.{Changes}
 use Rattle.fronts.specs.Requirements.{item_at}
-use Rattle.fronts.specs.Propagation.{State, IsConsistent, AreKnownSlots, AreSame, sum_to}
+use Rattle.fronts.specs.Propagation.{PropagationState, IsConsistent, AreKnownSlots, AreSame, sum_to}
 use Rattle.fronts.proofs.GrowingLemmas.{push_cases, push_kept}
 use Rattle.fronts.proofs.RaiseLemmas.{sum_changes}
 
@@ -58,7 +58,7 @@ popped xs ys a e n = last_taken xs ys a e n
 pub pop_known : (k : ℕ) (xs ys : List ℕ) (a : ℕ) → xs ≡ ys ++ a ∷ [] → AreKnownSlots k xs → AreKnownSlots k ys
 pop_known k xs ys a e known b c = known b (subst (λ z. Contains z b) (sym e) (push_kept ys a b c))
 
-pub pop_consistent : (items : ℕ → ℕ → Option Item) (x y : State) (a : ℕ) → IsConsistent items x → x.pending ≡ y.pending ++ a ∷ [] →
+pub pop_consistent : (items : ℕ → ℕ → Option Item) (x y : PropagationState) (a : ℕ) → IsConsistent items x → x.pending ≡ y.pending ++ a ∷ [] →
     ((b : ℕ) → y.front b ≡ x.front b) → ((b : ℕ) → y.done b ≡ x.done b) → ((l : ℕ) → y.last l ≡ x.last l) →
     ((j : ℕ) (i : Item) → items a j ≡ Some i → i.number < x.front a → j < x.done a) → IsConsistent items y
 pop_consistent items x y a w e f d l none = record {

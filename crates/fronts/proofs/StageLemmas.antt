@@ -11,7 +11,7 @@ use Rattle.fronts.specs.EpochArrays.{size}
 use Rattle.fronts.specs.Slots.{HasFronts}
 use Rattle.fronts.specs.Members.{AreMoved}
 use Rattle.fronts.specs.Propagation.{AreAtFront, AreSame, IsBound, sum_to, IsFit}
-use Rattle.fronts.specs.Context.{Carries, IsReady, Stage, events_of, slots, stage, thread_count, total, fronts}
+use Rattle.fronts.specs.Context.{Carries, IsReadyContext, Stage, context_events, slots, stage, thread_count, total, fronts}
 use Rattle.fronts.proofs.RaiseLemmas.{front_in}
 
 pub moved_same : (slot : ℕ) (old new : List Member) → AreMoved slot old new → AreSame old new
@@ -21,7 +21,7 @@ pub same_members : (members : List Member) → AreSame members members
 same_members members = record { same_length = refl; places = λ i x y h k. ap (λ m. m.places) (same_Some y x (sym k ∙ h)) }
 
 -- Without a change the propagation continues.
-pub carries_here : {E : Type 0} (g : Context) (Needed : Places → Type 0) (w : Propagation) (members : List Member) (n : ℕ) → IsFit (events_of g) g.requirements.now g.under.now w → AreAtFront (events_of g) (slots g) (fronts g w) members →
+pub carries_here : {E : Type 0} (g : Context) (Needed : Places → Type 0) (w : Propagation) (members : List Member) (n : ℕ) → IsFit (context_events g) g.requirements.now g.under.now w → AreAtFront (context_events g) (slots g) (fronts g w) members →
     Carries {E = E} g Needed (stage w members n) (stage w members n) (Ok true)
 carries_here g Needed w members n fits behind = record {
   fits = fits;
@@ -32,8 +32,8 @@ carries_here g Needed w members n fits behind = record {
 }
 
 -- With the same fronts and the same memory, the propagation is still ready.
-pub ready_same : (gr : Context) (w : Propagation) (members : List Member) (overlay : Overlay) → IsReady gr w members → overlay.fronts ≡ w.overlay.fronts → size overlay.done ≡ size w.overlay.done →
-    size overlay.last ≡ size w.overlay.last → IsReady gr (record { overlay = overlay; pending = w.pending }) members
+pub ready_same : (gr : Context) (w : Propagation) (members : List Member) (overlay : Overlay) → IsReadyContext gr w members → overlay.fronts ≡ w.overlay.fronts → size overlay.done ≡ size w.overlay.done →
+    size overlay.last ≡ size w.overlay.last → IsReadyContext gr (record { overlay = overlay; pending = w.pending }) members
 ready_same gr w members overlay ready fronts done last =
     let s = gr.index.now.events in
     let under = gr.under.now in
@@ -52,7 +52,7 @@ ready_same gr w members overlay ready fronts done last =
 
 -- From a propagation with the same fronts, if the needed property follows.
 pub carries_from : {E : Type 0} (g : Context) (Needed More : Places → Type 0) (w mid : Propagation) (members : List Member) (n : ℕ) (new : Stage) (result : Result Bool E) →
-    mid.overlay.fronts ≡ w.overlay.fronts → ((set : Places) → IsBound (events_of g) (slots g) (fronts g w) members set → More set → Needed set) →
+    mid.overlay.fronts ≡ w.overlay.fronts → ((set : Places) → IsBound (context_events g) (slots g) (fronts g w) members set → More set → Needed set) →
     Carries g Needed (stage mid members n) new result → Carries g More (stage w members n) new result
 carries_from g Needed More w mid members n new result same needs c = record {
   fits = c.fits;
@@ -60,5 +60,5 @@ carries_from g Needed More w mid members n new result same needs c = record {
   same = c.same;
   behind = c.behind;
   bound = IfOk-weaker result _ _ (λ goes on set b more.
-      on set (subst (λ epoch_array. IsBound (events_of g) (slots g) (front_in g.under.now epoch_array) members set) (sym same) b) (needs set b more)) c.bound;
+      on set (subst (λ epoch_array. IsBound (context_events g) (slots g) (front_in g.under.now epoch_array) members set) (sym same) b) (needs set b more)) c.bound;
 }

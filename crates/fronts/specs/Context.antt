@@ -10,11 +10,11 @@ use Rattle.fronts.specs.declared.members.Member.{Member}
 use Rattle.fronts.specs.Slots.{slots_of, in_front, HoldsPlaces, HoldsFronts}
 use Rattle.fronts.specs.Overlays.{front_of, done_of, last_of}
 use Rattle.fronts.specs.Requirements.{AreRequirements, item_at}
-use Rattle.fronts.specs.Propagation.{State, IsFit, IsConsistent, IsBound, AreAtFront, AreSame, state_of, sum_to}
+use Rattle.fronts.specs.Propagation.{PropagationState, IsFit, IsConsistent, IsBound, AreAtFront, AreSame, propagation_state, sum_to}
 
 -- The trace.
-abbrev pub events_of : Context → Trace
-events_of g = g.index.now.events
+abbrev pub context_events : Context → Trace
+context_events g = g.index.now.events
 
 -- The number of thread slots.
 abbrev pub thread_count : Context → ℕ
@@ -33,16 +33,16 @@ abbrev pub fronts : Context → Propagation → ℕ → ℕ
 fronts g w = front_of g.under.now w.overlay
 
 -- The state of the propagation.
-abbrev pub state : Context → Propagation → State
-state g w = state_of g.under.now w
+abbrev pub state : Context → Propagation → PropagationState
+state g w = propagation_state g.under.now w
 
 -- The last section of each lock.
 abbrev pub last : Context → Propagation → ℕ → Option Section
 last g w = last_of g.under.now w.overlay
 
 -- The number of processed requirements of each slot.
-abbrev pub done : Context → Propagation → ℕ → ℕ
-done g w = done_of g.under.now w.overlay
+abbrev pub processed_count : Context → Propagation → ℕ → ℕ
+processed_count g w = done_of g.under.now w.overlay
 
 -- The number of included places.
 abbrev pub total : Context → Propagation → ℕ
@@ -50,26 +50,26 @@ total g w = sum_to (fronts g w) (thread_count g)
 
 -- The set of included places.
 abbrev pub inside : Context → Propagation → Places
-inside g w = in_front (events_of g) (slots g) (fronts g w)
+inside g w = in_front (context_events g) (slots g) (fronts g w)
 
 -- The requirements are those of the trace, the propagation is fit, and each member is at the front
 -- of its thread.
-pub record IsReady (g : Context) (w : Propagation) (members : List Member) : Type 0 where
-  pub sound : AreRequirements (events_of g) g.requirements.now
-  pub fits : IsFit (events_of g) g.requirements.now g.under.now w
-  pub behind : AreAtFront (events_of g) (slots g) (fronts g w) members
+pub record IsReadyContext (g : Context) (w : Propagation) (members : List Member) : Type 0 where
+  pub sound : AreRequirements (context_events g) g.requirements.now
+  pub fits : IsFit (context_events g) g.requirements.now g.under.now w
+  pub behind : AreAtFront (context_events g) (slots g) (fronts g w) members
 
 -- The worklist is empty and the state is consistent: all requirements of included places are met.
 pub record IsFixpoint (g : Context) (w : Propagation) : Type 0 where
-  pub sound : AreRequirements (events_of g) g.requirements.now
-  pub fits : IsFit (events_of g) g.requirements.now g.under.now w
+  pub sound : AreRequirements (context_events g) g.requirements.now
+  pub fits : IsFit (context_events g) g.requirements.now g.under.now w
   pub consistent : IsConsistent (items g) (state g w)
   pub nothing : w.pending.items ≡ []
 
 -- Each closed set with the property contains all included places.
 abbrev pub IsInEach : Context → Propagation → (Places → Type 0) → Type 0
-IsInEach g w Has = (set : Places) → IsClosed (events_of g) set → Has set →
-    HoldsFronts (events_of g) (slots g) (fronts g w) set
+IsInEach g w Has = (set : Places) → IsClosed (context_events g) set → Has set →
+    HoldsFronts (context_events g) (slots g) (fronts g w) set
 
 -- The number of counted steps is the number of newly included places.
 abbrev pub CountsSteps : Context → ℕ → Propagation → ℕ → Propagation → Type 0
@@ -98,21 +98,23 @@ stage w members n = record { propagation = w; members = members; steps = n }
 -- has the needed property, the propagation continues, and the set bounds the new stage.
 pub record Carries {E : Type 0} (g : Context) (Needed : Places → Type 0) (old new : Stage)
     (result : Result Bool E) : Type 0 where
-  pub fits : IsFit (events_of g) g.requirements.now g.under.now new.propagation
+  pub fits : IsFit (context_events g) g.requirements.now g.under.now new.propagation
   pub steps : CountsSteps g old.steps old.propagation new.steps new.propagation
   pub same : AreSame old.members new.members
   pub behind : IfGoes result
-      (AreAtFront (events_of g) (slots g) (fronts g new.propagation) new.members)
+      (AreAtFront (context_events g) (slots g) (fronts g new.propagation) new.members)
   pub bound : IfOk result
-      (GoesOn Needed (IsBound (events_of g) (slots g) (fronts g old.propagation) old.members)
-      (IsBound (events_of g) (slots g) (fronts g new.propagation) new.members))
+      (GoesOn Needed (IsBound (context_events g) (slots g) (fronts g old.propagation) old.members)
+      (IsBound (context_events g) (slots g) (fronts g new.propagation) new.members))
 
 -- The set contains the end of the earlier one of the section and the lock's last section.
 pub record HoldsEnd (g : Context) (w : Propagation) (l : ℕ) (c : Section)
     (set : Places) : Type 0 where
-  pub of_last : (d : Section) → last g w l ≡ Some d → d.place < c.place → HoldsPlaces (events_of g)
+  pub of_last : (d : Section) → last g w l ≡ Some d → d.place < c.place →
+      HoldsPlaces (context_events g)
       (slots g) d.end set
-  pub of_new : (d : Section) → last g w l ≡ Some d → c.place < d.place → HoldsPlaces (events_of g)
+  pub of_new : (d : Section) → last g w l ≡ Some d → c.place < d.place →
+      HoldsPlaces (context_events g)
       (slots g) c.end set
 
 -- The property of all sets.

@@ -10,21 +10,21 @@ entry_of values epochs epoch e =
     else None
 
 -- The value of an entry.
-abbrev pub at : {T : Type 0} → EpochArray T → ℕ → Option T
-at s e = entry_of s.values.items s.epochs.items s.epoch e
+abbrev pub value_at : {T : Type 0} → EpochArray T → ℕ → Option T
+value_at s e = entry_of s.values.items s.epochs.items s.epoch e
 
 -- The number of entries.
 abbrev pub size : {T : Type 0} → EpochArray T → ℕ
 size s = length s.epochs.items
 
 -- No entry has a value.
-pub record IsBlank {T : Type 0} (size_of : ℕ) (epoch_array : EpochArray T) : Type 0 where
-  pub none : (e : ℕ) → at epoch_array e ≡ None
+pub record IsBlankArray {T : Type 0} (size_of : ℕ) (epoch_array : EpochArray T) : Type 0 where
+  pub none : (e : ℕ) → value_at epoch_array e ≡ None
   pub size : size epoch_array ≡ size_of
 
 -- The entry has the value, and the others are unchanged.
 pub record Sets {T : Type 0} (old : EpochArray T) (e : ℕ) (value : T)
     (new : EpochArray T) : Type 0 where
-  pub here : at new e ≡ Some value
-  pub others : (x : ℕ) → x ≢ e → at new x ≡ at old x
+  pub here : value_at new e ≡ Some value
+  pub others : (x : ℕ) → x ≢ e → value_at new x ≡ value_at old x
   pub size : size new ≡ size old

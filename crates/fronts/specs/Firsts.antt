@@ -2,31 +2,31 @@
 use Rattle.std.specs.Prelude.{ℕ, length, slice_get, Option}
 use Rattle.std.specs.Option.{option_and_then}
 use Rattle.trace_model.specs.Theory.Trace.{Trace}
-use Rattle.trace_model.specs.Theory.Held.{begins_on, begun}
-use Rattle.trace_model.specs.Theory.Closure.{ascending}
+use Rattle.trace_model.specs.Theory.Held.{begins_on, begun_lock}
+use Rattle.trace_model.specs.Theory.Closure.{ascending_places}
 use Rattle.trace_index.specs.Numbers.{of_thread}
-use Rattle.fronts.specs.declared.classes.Classes.{Classes}
-use Rattle.fronts.specs.declared.requirements.Shared.{Shared}
-use Rattle.fronts.specs.declared.requirements.Shared.TheVariants.{Thread, Lock}
+use Rattle.fronts.specs.declared.slot_table.SlotTable.{SlotTable}
+use Rattle.fronts.specs.declared.requirements.SlotKind.{SlotKind}
+use Rattle.fronts.specs.declared.requirements.SlotKind.TheVariants.{Thread, Lock}
 use Rattle.fronts.specs.Slots.{AreThreadSlots}
 use Rattle.fronts.specs.Requirements.{AreLockSlots}
 
 -- The first place of the place's thread.
 abbrev pub first_of_thread : Trace → ℕ → Option ℕ
 first_of_thread s p = option_and_then
-    (λ e. slice_get (ascending (of_thread s e.thread) (length s)) 0) (slice_get s p)
+    (λ e. slice_get (ascending_places (of_thread s e.thread) (length s)) 0) (slice_get s p)
 
 -- The first place that begins a section on the lock on which this place begins one.
 abbrev pub first_of_lock : Trace → ℕ → Option ℕ
 first_of_lock s p = option_and_then
-    (λ l. slice_get (ascending (begins_on s l) (length s)) 0) (begun s p)
+    (λ l. slice_get (ascending_places (begins_on s l) (length s)) 0) (begun_lock s p)
 
--- The first place in the same class.
-abbrev pub first_of : Trace → Shared → ℕ → Option ℕ
+-- The first place in the same slot.
+abbrev pub first_of : Trace → SlotKind → ℕ → Option ℕ
 first_of s Thread p = first_of_thread s p
 first_of s Lock p = first_of_lock s p
 
--- The classes are the slots of the threads, or of the locks.
-abbrev pub AreSlotsOf : Trace → Shared → Classes → Type 0
-AreSlotsOf s Thread classes = AreThreadSlots s classes
-AreSlotsOf s Lock classes = AreLockSlots s classes
+-- The slots are those of the threads, or of the locks.
+abbrev pub AreSlotsOf : Trace → SlotKind → SlotTable → Type 0
+AreSlotsOf s Thread slot_table = AreThreadSlots s slot_table
+AreSlotsOf s Lock slot_table = AreLockSlots s slot_table

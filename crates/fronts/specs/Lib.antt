@@ -7,6 +7,6 @@ pub mod Overlays
 pub mod Requirements
 pub mod Propagation
 pub mod Context
-pub mod Classes
+pub mod SlotTable
 pub mod Firsts
 pub mod Pushing

@@ -6,7 +6,7 @@ use Rattle.trace_model.specs.Theory.Trace.{Trace, EarlierInThread}
 use Rattle.trace_model.specs.Theory.Closure.{Places, IsClosed}
 use Rattle.fronts.specs.declared.requirements.ThreadPrefix.{ThreadPrefix}
 use Rattle.fronts.specs.declared.members.Member.{Member}
-use Rattle.fronts.specs.Slots.{HasPosition, HasPlaces}
+use Rattle.fronts.specs.Slots.{HasSlotPosition, HasPlaces}
 
 -- Each element has the property.
 abbrev pub Each : {X : Type 0} → (X → Type 0) → List X → Type 0
@@ -15,21 +15,21 @@ Each P xs = (i : ℕ) (x : _) → slice_get xs i ≡ Some x → P x
 -- The member is at one of its places, which are all of one thread.
 pub record IsMember (s : Trace) (slots : ℕ → Option ℕ) (m : Member) : Type 0 where
   pub at : slice_get m.places m.entry ≡ Some m.place
-  pub positions : HasPosition s slots m.place m.slot m.number
+  pub positions : HasSlotPosition s slots m.place m.slot m.number
   pub thread : (q : ℕ) → Contains m.places q → slots q ≡ Some m.slot
 
 -- The set contains all places before this one in its thread, and not the place itself.
-pub record StopsAt (s : Trace) (set : Places) (q : ℕ) : Type 0 where
+pub record EndsBefore (s : Trace) (set : Places) (q : ℕ) : Type 0 where
   pub before : (u : ℕ) → EarlierInThread s u q → IsTrue (set u)
   pub out : set q ≡ false
 
 -- The set stops at one of the member's places.
 abbrev pub Stops : Trace → Places → Member → Type 0
-Stops s set m = (q : ℕ) × Contains m.places q × StopsAt s set q
+Stops s set m = (q : ℕ) × Contains m.places q × EndsBefore s set q
 
 -- The set stops at one of the places.
 abbrev pub StopsIn : Trace → List ℕ → Places → Type 0
-StopsIn s places set = (q : ℕ) × Contains places q × StopsAt s set q
+StopsIn s places set = (q : ℕ) × Contains places q × EndsBefore s set q
 
 -- The places of each member's dependency.
 abbrev pub lists : List Member → List (List ℕ)
@@ -37,7 +37,7 @@ lists members = map (λ m. m.places) members
 
 -- The member is at or before each of its places at which the set stops.
 abbrev pub IsNotPast : Trace → Places → Member → Type 0
-IsNotPast s set m = (q : ℕ) → Contains m.places q → StopsAt s set q → m.place ≤ q
+IsNotPast s set m = (q : ℕ) → Contains m.places q → EndsBefore s set q → m.place ≤ q
 
 -- A closed set that stops at a place of each member, where no member is past that place.
 pub record IsAhead (s : Trace) (members : List Member) (set : Places) : Type 0 where

@@ -3,15 +3,16 @@ use Rattle.std.specs.Prelude.{◌≡◌, ◌≢◌, ℕ, Option, Some, None, unw
 use Rattle.fronts.specs.declared.requirements.Section.{Section}
 use Rattle.fronts.specs.declared.requirements.Requirements.{Requirements}
 use Rattle.fronts.specs.declared.overlay.Overlay.{Overlay}
-use Rattle.fronts.specs.EpochArrays.{at, size, IsBlank}
+use Rattle.fronts.specs.EpochArrays.{value_at, size, IsBlankArray}
 
 -- The number of included places of the slot's thread.
 abbrev pub front_of : Overlay → Overlay → ℕ → ℕ
-front_of under overlay a = unwrap_or (at overlay.fronts a) (unwrap_or (at under.fronts a) 0)
+front_of under overlay a =
+    unwrap_or (value_at overlay.fronts a) (unwrap_or (value_at under.fronts a) 0)
 
 -- The number of its requirements that were processed.
 abbrev pub done_of : Overlay → Overlay → ℕ → ℕ
-done_of under overlay a = unwrap_or (at overlay.done a) (unwrap_or (at under.done a) 0)
+done_of under overlay a = unwrap_or (value_at overlay.done a) (unwrap_or (value_at under.done a) 0)
 
 -- The first value that is present.
 abbrev pub first_some : {T : Type 0} → Option T → Option T → Option T
@@ -20,7 +21,7 @@ first_some None o = o
 
 -- The lock's last section that has begun.
 abbrev pub last_of : Overlay → Overlay → ℕ → Option Section
-last_of under overlay l = first_some (at overlay.last l) (at under.last l)
+last_of under overlay l = first_some (value_at overlay.last l) (value_at under.last l)
 
 -- The function changes at one argument.
 pub record Changes {T : Type 0} (old : ℕ → T) (a : ℕ) (value : T) (new : ℕ → T) : Type 0 where
@@ -28,21 +29,21 @@ pub record Changes {T : Type 0} (old : ℕ → T) (a : ℕ) (value : T) (new : �
   pub others : (b : ℕ) → b ≢ a → new b ≡ old b
 
 -- Memory for this number of threads and locks.
-pub record HasRoom (threads locks : ℕ) (overlay : Overlay) : Type 0 where
+pub record HasOverlayRoom (threads locks : ℕ) (overlay : Overlay) : Type 0 where
   pub fronts : size overlay.fronts ≡ threads
   pub done : size overlay.done ≡ threads
   pub last : size overlay.last ≡ locks
 
 -- An overlay without changes.
-pub record IsEmpty (threads locks : ℕ) (overlay : Overlay) : Type 0 where
-  pub fronts : IsBlank threads overlay.fronts
-  pub done : IsBlank threads overlay.done
-  pub last : IsBlank locks overlay.last
+pub record IsEmptyOverlay (threads locks : ℕ) (overlay : Overlay) : Type 0 where
+  pub fronts : IsBlankArray threads overlay.fronts
+  pub done : IsBlankArray threads overlay.done
+  pub last : IsBlankArray locks overlay.last
 
 -- Memory for the threads and locks of these requirements.
-abbrev pub HasRoomFor : Requirements → Overlay → Type 0
-HasRoomFor d overlay = HasRoom d.threads.count d.locks.count overlay
+abbrev pub HasRequirementRoom : Requirements → Overlay → Type 0
+HasRequirementRoom d overlay = HasOverlayRoom d.threads.count d.locks.count overlay
 
 -- An overlay without changes, with memory for these requirements.
 abbrev pub IsEmptyFor : Requirements → Overlay → Type 0
-IsEmptyFor d overlay = IsEmpty d.threads.count d.locks.count overlay
+IsEmptyFor d overlay = IsEmptyOverlay d.threads.count d.locks.count overlay

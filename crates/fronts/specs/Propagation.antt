@@ -12,20 +12,20 @@ use Rattle.fronts.specs.declared.overlay.Overlay.{Overlay}
 use Rattle.fronts.specs.declared.propagation.Propagation.{Propagation}
 use Rattle.fronts.specs.declared.members.Member.{Member}
 use Rattle.fronts.specs.Slots.{slots_of, HasFronts, HoldsFronts}
-use Rattle.fronts.specs.Overlays.{front_of, done_of, last_of, Changes, HasRoomFor}
+use Rattle.fronts.specs.Overlays.{front_of, done_of, last_of, Changes, HasRequirementRoom}
 use Rattle.fronts.specs.Requirements.{item}
 use Rattle.fronts.specs.Members.{Each, IsMember, IsAhead}
 
 -- The fronts, the number of processed requirements, the last sections, and the worklist.
-pub record State : Type 0 where
+pub record PropagationState : Type 0 where
   pub front : ℕ → ℕ
   pub done : ℕ → ℕ
   pub last : ℕ → Option Section
   pub pending : List ℕ
 
 -- The state of a propagation over the overlay under it.
-abbrev pub state_of : Overlay → Propagation → State
-state_of under w = record {
+abbrev pub propagation_state : Overlay → Propagation → PropagationState
+propagation_state under w = record {
   front = front_of under w.overlay;
   done = done_of under w.overlay;
   last = last_of under w.overlay;
@@ -39,12 +39,12 @@ sum_to f (suc n) = sum_to f n + f n
 
 -- The propagation has memory for all threads and locks, and its fronts are within the trace.
 pub record IsFit (s : Trace) (d : Requirements) (under : Overlay) (w : Propagation) : Type 0 where
-  pub room : HasRoomFor d w.overlay
+  pub room : HasRequirementRoom d w.overlay
   pub fronts : HasFronts s (slots_of d.threads) (front_of under w.overlay)
 
 -- The loop invariant: each processed requirement is of an included place and is met, and each
 -- unprocessed requirement of an included place is of a thread in the worklist.
-pub record IsConsistent (items : ℕ → ℕ → Option Item) (x : State) : Type 0 where
+pub record IsConsistent (items : ℕ → ℕ → Option Item) (x : PropagationState) : Type 0 where
   pub inside : (a j : ℕ) (i : Item) → items a j ≡ Some i → j < x.done a → i.number < x.front a
   pub reached : (a j n : ℕ) (prefix : ThreadPrefix) → items a j ≡ Some (item n (Reach prefix))
       → j < x.done a →
@@ -62,7 +62,7 @@ abbrev pub AreKnownSlots : ℕ → List ℕ → Type 0
 AreKnownSlots count pending = (a : ℕ) → Contains pending a → a < count
 
 -- Fronts grow. A thread whose front moved is in the worklist, and no requirement is processed.
-pub record Grows (count : ℕ) (old new : State) : Type 0 where
+pub record Grows (count : ℕ) (old new : PropagationState) : Type 0 where
   pub grows : (a : ℕ) → old.front a ≤ new.front a
   pub enqueued : (a : ℕ) → (new.front a ≡ old.front a) ⊎ Contains new.pending a
   pub kept : (a : ℕ) → Contains old.pending a → Contains new.pending a
@@ -71,27 +71,28 @@ pub record Grows (count : ℕ) (old new : State) : Type 0 where
   pub more : length new.pending ≤ length old.pending + 1
 
 -- Fronts grow to include the prefix, and the last sections are unchanged.
-pub record Raises (count : ℕ) (prefix : ThreadPrefix) (old new : State) : Type 0 where
+pub record Raises (count : ℕ) (prefix : ThreadPrefix) (old new : PropagationState) : Type 0 where
   pub upto : prefix.count ≤ new.front prefix.slot
   pub growth : Grows count old new
   pub last : (l : ℕ) → new.last l ≡ old.last l
 
 -- After the begin of section `c`: the lock's last section is the later one, and the earlier one has
 -- ended.
-abbrev pub HasBegun : Option Section → Section → State → ℕ → Type 0
+abbrev pub HasBegun : Option Section → Section → PropagationState → ℕ → Type 0
 HasBegun old c y l = MatchOption old (y.last l ≡ Some c) (λ d.
     ((d.place < c.place) × (y.last l ≡ Some c) × (d.end.count ≤ y.front d.end.slot))
     ⊎ ((c.place < d.place) × (y.last l ≡ Some d) × (c.end.count ≤ y.front c.end.slot))
     ⊎ ((c.place ≡ d.place) × (y.last l ≡ Some d)))
 
 -- The section begins, and fronts grow.
-pub record Begins (count l : ℕ) (c : Section) (old new : State) : Type 0 where
+pub record BeginsSection (count l : ℕ) (c : Section) (old new : PropagationState) : Type 0 where
   pub begun : HasBegun (old.last l) c new l
   pub others : (m : ℕ) → m ≢ l → new.last m ≡ old.last m
   pub growth : Grows count old new
 
 -- One requirement of the slot is processed, and fronts grow. The state stays consistent.
-pub record Meets (items : ℕ → ℕ → Option Item) (count a : ℕ) (old new : State) : Type 0 where
+pub record Meets (items : ℕ → ℕ →
+    Option Item) (count a : ℕ) (old new : PropagationState) : Type 0 where
   pub consistent : IsConsistent items new
   pub known : AreKnownSlots count old.pending → AreKnownSlots count new.pending
   pub grows : (b : ℕ) → old.front b ≤ new.front b

@@ -8,23 +8,23 @@ use Rattle.trace_model.specs.declared.traces.event.Op.TheVariants.{Fork, Join}
 use Rattle.trace_model.specs.Theory.Held.{BeginsOn}
 use Rattle.trace_model.specs.Theory.Lookups.{writer}
 use Rattle.trace_index.specs.Numbers.{number_at}
-use Rattle.fronts.specs.declared.classes.Classes.{Classes}
+use Rattle.fronts.specs.declared.slot_table.SlotTable.{SlotTable}
 use Rattle.fronts.specs.declared.requirements.ThreadPrefix.{ThreadPrefix}
 use Rattle.fronts.specs.declared.requirements.Section.{Section}
 use Rattle.fronts.specs.declared.requirements.Requirement.{Requirement}
 use Rattle.fronts.specs.declared.requirements.Requirement.TheVariants.{Reach, Begin}
 use Rattle.fronts.specs.declared.requirements.Item.{Item}
-use Rattle.fronts.specs.Slots.{slots_of, HasPosition}
+use Rattle.fronts.specs.Slots.{slots_of, HasSlotPosition}
 use Rattle.fronts.specs.Requirements.{Needs, IsPrefixThrough, EndsSection, item}
 
 -- A trace, with the slots of its threads and of its locks.
-pub record Slotted : Type 0 where
+pub record SlottedTrace : Type 0 where
   pub trace : Trace
   pub slots : ℕ → Option ℕ
   pub locks : ℕ → Option ℕ
 
 -- A trace with these slots.
-abbrev pub with_slots : Trace → Classes → Classes → Slotted
+abbrev pub with_slots : Trace → SlotTable → SlotTable → SlottedTrace
 with_slots s threads locks = record { trace = s; slots = slots_of threads; locks = slots_of locks }
 
 -- The prefix that ends with the place.
@@ -36,14 +36,14 @@ prefix_through s slots p = record {
 }
 
 -- The item of a requirement, if there is one.
-abbrev pub adding : ℕ → Option Requirement → List Item
-adding n None = []
-adding n (Some requirement) = item n requirement ∷ []
+abbrev pub requirement_items : ℕ → Option Requirement → List Item
+requirement_items n None = []
+requirement_items n (Some requirement) = item n requirement ∷ []
 
 -- The item that requires the place, if there is one.
-abbrev pub reaching : Trace → (ℕ → Option ℕ) → ℕ → Option ℕ → List Item
-reaching s slots n None = []
-reaching s slots n (Some p) = item n (Reach (prefix_through s slots p)) ∷ []
+abbrev pub reached_items : Trace → (ℕ → Option ℕ) → ℕ → Option ℕ → List Item
+reached_items s slots n None = []
+reached_items s slots n (Some p) = item n (Reach (prefix_through s slots p)) ∷ []
 
 -- The place `q` needs the place `o`, if there is one: the fork of its thread if `q` is the thread's
 -- first place.
@@ -64,7 +64,7 @@ pub record IsLastNeed (s : Trace) (q : ℕ) (o : Option ℕ) : Type 0 where
       × OfThread s p c × (r ≤ p)
 
 -- The section that `q` begins.
-pub record IsBegin (v : Slotted) (q : ℕ) (o : Option Requirement) : Type 0 where
+pub record IsBegin (v : SlottedTrace) (q : ℕ) (o : Option Requirement) : Type 0 where
   pub true_need : (requirement : Requirement) → o ≡ Some requirement →
       (l : ℕ) × (c : Section) × (k : ℕ) ×
       (requirement ≡ Begin l c) × (c.place ≡ q) × BeginsOn v.trace q k × (v.locks q ≡ Some l)
@@ -72,7 +72,7 @@ pub record IsBegin (v : Slotted) (q : ℕ) (o : Option Requirement) : Type 0 whe
   pub begun : (k : ℕ) → BeginsOn v.trace q k → (requirement : Requirement) × (o ≡ Some requirement)
 
 -- A requirement of the place `q`, which has number `n`.
-pub record IsRequirement (v : Slotted) (q n : ℕ) (i : Item) : Type 0 where
+pub record IsRequirement (v : SlottedTrace) (q n : ℕ) (i : Item) : Type 0 where
   pub number : i.number ≡ n
   pub reach : (prefix : ThreadPrefix) → i.requirement ≡ Reach prefix → (r : ℕ) × Needs v.trace q r
       × IsPrefixThrough v.trace v.slots prefix r
@@ -86,37 +86,37 @@ IsForkLater s q n r = (n ≡ 0 → ⊥) × (t : ℕ) × OfThread s q t × Does s
 -- An item with number `n` requires a prefix that contains `r`.
 abbrev pub IsReached : Trace → (ℕ → Option ℕ) → ℕ → ℕ → List Item → Type 0
 IsReached s slots n r xs = (prefix : ThreadPrefix) × (m : ℕ) × Contains xs (item n (Reach prefix))
-    × HasPosition s slots r prefix.slot m × (m < prefix.count)
+    × HasSlotPosition s slots r prefix.slot m × (m < prefix.count)
 
 -- An item with number `n` is the section that begins at `q`.
 abbrev pub IsBegun : ℕ → ℕ → List Item → Type 0
 IsBegun q n xs = (l : ℕ) × (c : Section) × Contains xs (item n (Begin l c)) × (c.place ≡ q)
 
 -- The requirements of the place `q`, which has number `n`.
-pub record AreRequirementsOf (v : Slotted) (q n : ℕ) (xs : List Item) : Type 0 where
+pub record AreRequirementsAt (v : SlottedTrace) (q n : ℕ) (xs : List Item) : Type 0 where
   pub only : (i : Item) → Contains xs i → IsRequirement v q n i
   pub needs : (r : ℕ) → Needs v.trace q r → IsForkLater v.trace q n r
       ⊎ IsReached v.trace v.slots n r xs
   pub begins : (k : ℕ) → BeginsOn v.trace q k → IsBegun q n xs
 
 -- The old items, followed by the requirements of the place `q`.
-abbrev pub AddsRequirements : Slotted → ℕ → List Item → List Item → Type 0
+abbrev pub AddsRequirements : SlottedTrace → ℕ → List Item → List Item → Type 0
 AddsRequirements v q old new = (n : ℕ) × (added : List Item) × (number_at v.trace q ≡ Some n)
-    × (new ≡ old ++ added) × AreRequirementsOf v q n added
+    × (new ≡ old ++ added) × AreRequirementsAt v q n added
 
 -- The items of the slot's places below `p`, in the order of the places.
-pub record AreBuilt (v : Slotted) (p a : ℕ) (xs : List Item) : Type 0 where
+pub record AreBuilt (v : SlottedTrace) (p a : ℕ) (xs : List Item) : Type 0 where
   pub only : (i : Item) → Contains xs i →
-      (q : ℕ) × (q < p) × HasPosition v.trace v.slots q a i.number
+      (q : ℕ) × (q < p) × HasSlotPosition v.trace v.slots q a i.number
       × IsRequirement v q i.number i
   pub ascend : (j k : ℕ) (x y : Item) → j ≤ k → slice_get xs j ≡ Some x → slice_get xs k ≡ Some y →
       x.number ≤ y.number
-  pub needs : (q r n : ℕ) → q < p → HasPosition v.trace v.slots q a n → Needs v.trace q r →
+  pub needs : (q r n : ℕ) → q < p → HasSlotPosition v.trace v.slots q a n → Needs v.trace q r →
       IsForkLater v.trace q n r ⊎ IsReached v.trace v.slots n r xs
-  pub begins : (q k n : ℕ) → q < p → HasPosition v.trace v.slots q a n → BeginsOn v.trace q k →
+  pub begins : (q k n : ℕ) → q < p → HasSlotPosition v.trace v.slots q a n → BeginsOn v.trace q k →
       IsBegun q n xs
 
 -- The same for the list of each slot.
-abbrev pub AreAllBuilt : Slotted → ℕ → List (Vec Item Global) → Type 0
+abbrev pub AreAllBuilt : SlottedTrace → ℕ → List (Vec Item Global) → Type 0
 AreAllBuilt v p lists = (a : ℕ) (xs : Vec Item Global) → slice_get lists a ≡ Some xs →
     AreBuilt v p a xs.items

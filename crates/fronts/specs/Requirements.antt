@@ -6,14 +6,14 @@ use Rattle.trace_model.specs.Theory.Trace.{Trace, EarlierInThread}
 use Rattle.trace_model.specs.Theory.Held.{BeginsOn}
 use Rattle.trace_model.specs.Theory.Lookups.{writer, release}
 use Rattle.trace_model.specs.Theory.Reordering.{ForkOrJoin}
-use Rattle.fronts.specs.declared.classes.Classes.{Classes}
+use Rattle.fronts.specs.declared.slot_table.SlotTable.{SlotTable}
 use Rattle.fronts.specs.declared.requirements.ThreadPrefix.{ThreadPrefix}
 use Rattle.fronts.specs.declared.requirements.Section.{Section}
 use Rattle.fronts.specs.declared.requirements.Requirement.{Requirement}
 use Rattle.fronts.specs.declared.requirements.Requirement.TheVariants.{Reach, Begin}
 use Rattle.fronts.specs.declared.requirements.Item.{Item}
 use Rattle.fronts.specs.declared.requirements.Requirements.{Requirements}
-use Rattle.fronts.specs.Slots.{slots_of, AreThreadSlots, ArePositions, HasPosition}
+use Rattle.fronts.specs.Slots.{slots_of, AreThreadSlots, AreSlotPlaces, HasSlotPosition}
 
 -- The slots of the places that begin sections: one slot for each lock.
 pub record AreLocks (s : Trace) (locks : ℕ → Option ℕ) (count : ℕ) : Type 0 where
@@ -21,8 +21,8 @@ pub record AreLocks (s : Trace) (locks : ℕ → Option ℕ) (count : ℕ) : Typ
   pub apart : (p q l k : ℕ) → locks p ≡ Some l → locks q ≡ Some l → BeginsOn s p k → BeginsOn s q k
   pub alike : (p q l k : ℕ) → locks p ≡ Some l → BeginsOn s p k → BeginsOn s q k → locks q ≡ Some l
 
--- The classes are the slots of the trace's locks.
-abbrev pub AreLockSlots : Trace → Classes → Type 0
+-- The slots are those of the trace's locks.
+abbrev pub AreLockSlots : Trace → SlotTable → Type 0
 AreLockSlots s locks = AreLocks s (slots_of locks) locks.count
 
 -- A set that contains `q` has to contain `r`.
@@ -31,7 +31,7 @@ Needs s q r = ForkOrJoin s r q ⊎ (writer s q ≡ Some r)
 
 -- The prefix of its thread that ends with place `r`.
 abbrev pub IsPrefixThrough : Trace → (ℕ → Option ℕ) → ThreadPrefix → ℕ → Type 0
-IsPrefixThrough s slots prefix r = (n : ℕ) × HasPosition s slots r prefix.slot n
+IsPrefixThrough s slots prefix r = (n : ℕ) × HasSlotPosition s slots r prefix.slot n
     × (prefix.count ≡ suc n)
 
 -- A prefix without places.
@@ -57,20 +57,22 @@ pub record AreItems (s : Trace) (slots locks : ℕ → Option ℕ) (items : ℕ 
   pub ascend : (a i j : ℕ) (x y : Item) → i ≤ j → items a i ≡ Some x → items a j ≡ Some y →
       x.number ≤ y.number
   pub reach : (a j n : ℕ) (prefix : ThreadPrefix) → items a j ≡ Some (item n (Reach prefix)) →
-      (q : ℕ) × (r : ℕ) × HasPosition s slots q a n × Needs s q r × IsPrefixThrough s slots prefix r
+      (q : ℕ) × (r : ℕ) × HasSlotPosition s slots q a n × Needs s q r
+      × IsPrefixThrough s slots prefix r
   pub begin : (a j n l : ℕ) (c : Section) → items a j ≡ Some (item n (Begin l c)) →
-      (k : ℕ) × HasPosition s slots c.place a n × BeginsOn s c.place k × (locks c.place ≡ Some l)
+      (k : ℕ) × HasSlotPosition s slots c.place a n × BeginsOn s c.place k
+      × (locks c.place ≡ Some l)
       × EndsSection s slots c
-  pub needs : (q r a n : ℕ) → Needs s q r → HasPosition s slots q a n → EarlierInThread s r q
+  pub needs : (q r a n : ℕ) → Needs s q r → HasSlotPosition s slots q a n → EarlierInThread s r q
       ⊎ ((j : ℕ) × (m : ℕ) × (prefix : ThreadPrefix) × (i : ℕ)
       × (items a j ≡ Some (item m (Reach prefix)))
-      × (m ≤ n) × HasPosition s slots r prefix.slot i × (i < prefix.count))
-  pub begins : (q k a n : ℕ) → BeginsOn s q k → HasPosition s slots q a n →
+      × (m ≤ n) × HasSlotPosition s slots r prefix.slot i × (i < prefix.count))
+  pub begins : (q k a n : ℕ) → BeginsOn s q k → HasSlotPosition s slots q a n →
       (j : ℕ) × (l : ℕ) × (c : Section) × (items a j ≡ Some (item n (Begin l c))) × (c.place ≡ q)
 
 -- The tables are those of the trace.
 pub record AreRequirements (s : Trace) (d : Requirements) : Type 0 where
   pub slots : AreThreadSlots s d.threads
   pub locks : AreLockSlots s d.locks
-  pub positions : ArePositions s (slots_of d.threads) (arc_value d.positions).items
+  pub positions : AreSlotPlaces s (slots_of d.threads) (arc_value d.positions).items
   pub items : AreItems s (slots_of d.threads) (slots_of d.locks) (item_at d)

@@ -4,16 +4,16 @@ use Rattle.std.specs.Option.{option_map_or, option_and_then}
 use Rattle.trace_model.specs.Theory.Trace.{Trace, OfThread}
 use Rattle.trace_model.specs.Theory.Closure.{Places}
 use Rattle.trace_index.specs.Numbers.{number_at}
-use Rattle.fronts.specs.declared.classes.Classes.{Classes}
+use Rattle.fronts.specs.declared.slot_table.SlotTable.{SlotTable}
 use Rattle.fronts.specs.declared.requirements.ThreadPrefix.{ThreadPrefix}
 
--- The class of each place, if it has one.
-abbrev pub class_of : List (Option ℕ) → ℕ → Option ℕ
-class_of of p = option_and_then (λ c. c) (slice_get of p)
+-- The slot of each place, if it has one.
+abbrev pub slot_in : List (Option ℕ) → ℕ → Option ℕ
+slot_in slots p = option_and_then (λ c. c) (slice_get slots p)
 
 -- The slot of each place, of its thread or of its lock.
-abbrev pub slots_of : Classes → ℕ → Option ℕ
-slots_of classes = class_of classes.of.items
+abbrev pub slots_of : SlotTable → ℕ → Option ℕ
+slots_of slot_table = slot_in slot_table.slots.items
 
 -- The slots number the threads: each place has one, below the count, and two places have the same
 -- slot if and only if they are of the same thread.
@@ -23,12 +23,12 @@ pub record AreSlots (s : Trace) (slots : ℕ → Option ℕ) (count : ℕ) : Typ
   pub apart : (p q a t : ℕ) → slots p ≡ Some a → slots q ≡ Some a → OfThread s p t → OfThread s q t
   pub alike : (p q a t : ℕ) → slots p ≡ Some a → OfThread s p t → OfThread s q t → slots q ≡ Some a
 
--- The classes are the slots of the trace's threads.
-abbrev pub AreThreadSlots : Trace → Classes → Type 0
+-- The slots are those of the trace's threads.
+abbrev pub AreThreadSlots : Trace → SlotTable → Type 0
 AreThreadSlots s threads = AreSlots s (slots_of threads) threads.count
 
 -- The place has number `n` in the thread with slot `a`.
-pub record HasPosition (s : Trace) (slots : ℕ → Option ℕ) (p a n : ℕ) : Type 0 where
+pub record HasSlotPosition (s : Trace) (slots : ℕ → Option ℕ) (p a n : ℕ) : Type 0 where
   pub slot : slots p ≡ Some a
   pub number : number_at s p ≡ Some n
 
@@ -43,9 +43,10 @@ in_front s slots front p =
     (slots p) false
 
 -- Each place of the trace is listed with its slot and its number.
-pub record ArePositions (s : Trace) (slots : ℕ → Option ℕ)
+pub record AreSlotPlaces (s : Trace) (slots : ℕ → Option ℕ)
     (positions : List ThreadPrefix) : Type 0 where
-  pub each : (p : ℕ) (to : ThreadPrefix) → slice_get positions p ≡ Some to → HasPosition s slots p
+  pub each : (p : ℕ) (to : ThreadPrefix) → slice_get positions p ≡ Some to →
+      HasSlotPosition s slots p
       to.slot to.count
   pub all : length positions ≡ length s
 
@@ -56,11 +57,12 @@ among positions front p =
 
 -- The set contains the first `count` places of the slot's thread.
 abbrev pub HoldsFirst : Trace → (ℕ → Option ℕ) → Places → ℕ → ℕ → Type 0
-HoldsFirst s slots set a count = (p n : ℕ) → HasPosition s slots p a n → n < count → IsTrue (set p)
+HoldsFirst s slots set a count = (p n : ℕ) → HasSlotPosition s slots p a n → n < count →
+    IsTrue (set p)
 
 -- The slot's thread has at least `count` places.
 abbrev pub HasFirst : Trace → (ℕ → Option ℕ) → ℕ → ℕ → Type 0
-HasFirst s slots a count = (n : ℕ) → n < count → (p : ℕ) × HasPosition s slots p a n
+HasFirst s slots a count = (n : ℕ) → n < count → (p : ℕ) × HasSlotPosition s slots p a n
 
 -- The thread has the places of the prefix.
 abbrev pub HasPlaces : Trace → (ℕ → Option ℕ) → ThreadPrefix → Type 0

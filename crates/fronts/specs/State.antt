@@ -4,29 +4,29 @@ use Rattle.std.specs.Arc.{arc_value}
 use Rattle.std.specs.List.{range_with_len}
 use Rattle.fronts.specs.declared.fronts.Fronts.{Fronts}
 use Rattle.trace_model.specs.Theory.Trace.{Trace}
-use Rattle.trace_model.specs.Theory.Closure.{Places, ascending}
+use Rattle.trace_model.specs.Theory.Closure.{Places, ascending_places}
 use Rattle.fronts.specs.Slots.{among}
 
 -- The number of included places of the slot's thread.
-abbrev pub count_of : Fronts → ℕ → ℕ
-count_of f a = unwrap_or (slice_get f.counts.items a) 0
+abbrev pub included_count : Fronts → ℕ → ℕ
+included_count f a = unwrap_or (slice_get f.counts.items a) 0
 
 -- The set of included places.
-abbrev pub places_in : Fronts → Places
-places_in f p = nat_lt p f.end && among (arc_value f.positions).items (count_of f) p
+abbrev pub included_set : Fronts → Places
+included_set f p = nat_lt p f.end && among (arc_value f.positions).items (included_count f) p
 
 -- The included places, ascending.
-abbrev pub places_of : Fronts → List ℕ
-places_of f = ascending (places_in f) f.end
+abbrev pub included_places : Fronts → List ℕ
+included_places f = ascending_places (included_set f) f.end
 
 -- The places from `start` up to `end` are included, and no other one from `at` on before them.
 pub record IsNextRange (f : Fronts) (at start end : ℕ) : Type 0 where
   pub later : at ≤ start
   pub some : start < end
   pub within : end ≤ f.end
-  pub places : ascending (places_in f) end ≡
-      ascending (places_in f) at ++ range_with_len start (end - start)
+  pub places : ascending_places (included_set f) end ≡
+      ascending_places (included_set f) at ++ range_with_len start (end - start)
 
 -- The number of included places.
 abbrev pub size_in : Trace → Fronts → ℕ
-size_in s f = length (ascending (places_in f) (length s))
+size_in s f = length (ascending_places (included_set f) (length s))

@@ -18,14 +18,14 @@ pub(crate) struct EpochArray<T> {
 
 impl<T: Copy + Drop> EpochArray<T> {
     ghost use Rattle.std.specs.Prelude.{◌<◌, IfOk};
-    ghost use Rattle.fronts.specs.EpochArrays.{at, size, IsBlank, Sets};
+    ghost use Rattle.fronts.specs.EpochArrays.{value_at, size, IsBlankArray, Sets};
 
     /// Returns an array of `count` entries without values. `blank` fills the memory.
     ///
     /// # Errors
     /// `NoMemory` if an allocation fails.
     pub(crate) fn new(alloc: Global, count: usize, blank: T) -> Result<EpochArray<T>, NoMemory>
-        ensures { IfOk result (IsBlank count) }
+        ensures { IfOk result (IsBlankArray count) }
     {
         let epochs = vec![in alloc; 0; count]?;
         let values = vec![in alloc; blank; count]?;
@@ -38,7 +38,7 @@ impl<T: Copy + Drop> EpochArray<T> {
 
     /// Returns the value of an entry, or `None` if it has none.
     pub(crate) fn get(&self, entry: u32) -> Option<T>
-        ensures { result ≡ at self.now entry }
+        ensures { result ≡ value_at self.now entry }
     {
         let entry = entry as usize;
         if entry < self.epochs.len() && self.epochs[entry] == self.epoch {
@@ -60,7 +60,7 @@ impl<T: Copy + Drop> EpochArray<T> {
 
     /// Removes all values by starting a new epoch.
     pub(crate) fn clear(&mut self)
-        ensures { IsBlank (size self.old) self.new }
+        ensures { IsBlankArray (size self.old) self.new }
     {
         if self.epoch == u32::MAX {
             reset(self.epochs.as_mut_slice());

@@ -2,9 +2,9 @@
 
 ghost use Rattle.std.specs.Prelude.{◌≡◌, ℕ, ◌+◌, ◌^◌, ◌<◌, ◌≤◌, max, not, IfOk, MatchOption};
 ghost use Rattle.std.specs.List.{Contains};
-ghost use Rattle.trace_model.specs.Theory.Closure.{ascending};
+ghost use Rattle.trace_model.specs.Theory.Closure.{ascending_places};
 ghost use Rattle.fronts.specs.Overlays.{front_of};
-ghost use Rattle.fronts.specs.State.{IsNextRange, count_of, places_in, places_of};
+ghost use Rattle.fronts.specs.State.{IsNextRange, included_count, included_set, included_places};
 
 use crate::members::greater;
 use crate::overlay::Overlay;
@@ -85,11 +85,11 @@ impl Fronts {
     ghost use Rattle.std.specs.Prelude.{◌<◌, IsTrue};
     ghost use Rattle.std.specs.Arc.{arc_value};
     ghost use Rattle.fronts.specs.Slots.{among};
-    ghost use Rattle.fronts.specs.State.{count_of, places_in};
+    ghost use Rattle.fronts.specs.State.{included_count, included_set};
 
     /// Returns the number of included places of the thread with this slot.
     fn count(&self, slot: u32) -> u32
-        ensures { result ≡ count_of self.now slot }
+        ensures { result ≡ included_count self.now slot }
     {
         match self.counts.get(slot as usize) {
             Some(front) => front.count(),
@@ -100,14 +100,14 @@ impl Fronts {
     /// Returns whether `place` is in the set. A place past the end of the trace is not. Does not
     /// allocate.
     pub fn has(&self, place: Place) -> bool
-        ensures { result ≡ places_in self.now place }
+        ensures { result ≡ included_set self.now place }
     {
         place.get() < self.end && self.counts_in(place)
     }
 
     /// Returns a place that is greater than all places of the set. Does not allocate.
     pub fn end(&self) -> Place
-        ensures { (p : ℕ) → IsTrue (places_in self.now p) → p < result }
+        ensures { (p : ℕ) → IsTrue (included_set self.now p) → p < result }
     {
         Place::new(self.end)
     }
@@ -123,7 +123,8 @@ impl Fronts {
     /// Returns a range of consecutive places of the set, which has no place from `at` on before the
     /// range, or `None` if it has no place from `at` on. Does not allocate.
     pub fn range_from(&self, at: u32) -> Option<Range<u32>>
-        ensures { MatchOption result (places_of self.now ≡ ascending (places_in self.now) at)
+        ensures { MatchOption result (included_places self.now
+            ≡ ascending_places (included_set self.now) at)
             (λ range. IsNextRange self.now at range.start range.end) }
     {
         let start = self.next(at, true);
@@ -140,8 +141,8 @@ impl Fronts {
         ensures later { at ≤ result }
         ensures within { at ≤ self.now.end → result ≤ self.now.end }
         ensures before { (p : ℕ) → at ≤ p → p < result →
-            places_in self.now p ≡ not is_in }
-        ensures first { result < self.now.end → places_in self.now result ≡ is_in }
+            included_set self.now p ≡ not is_in }
+        ensures first { result < self.now.end → included_set self.now result ≡ is_in }
     {
         let end = self.end;
         let mut place = at;
@@ -153,7 +154,8 @@ impl Fronts {
 
     /// Returns whether `place` is among the counted places of its thread.
     fn counts_in(&self, place: Place) -> bool
-        ensures { result ≡ among (arc_value self.now.positions).items (count_of self.now) place }
+        ensures { result
+            ≡ among (arc_value self.now.positions).items (included_count self.now) place }
     {
         match self.positions.get(place.get() as usize) {
             Some(prefix) => prefix.count < self.count(prefix.slot),
@@ -188,7 +190,7 @@ pub fn gathered(
     ensures end { IfOk result (λ fronts. (p : ℕ) → Contains places.now p → p ≤ fronts.end) }
     ensures positions { IfOk result (λ fronts. fronts.positions ≡ positions) }
     ensures fronts { IfOk result (λ fronts. (a : ℕ) → a < count →
-        count_of fronts a ≡ front_of under.now overlay.now a) }
+        included_count fronts a ≡ front_of under.now overlay.now a) }
 {
     let mut counts = Vec::with_capacity(alloc, count as usize)?;
     for slot in 0..count {

@@ -12,21 +12,21 @@
 //! dependency that is not included. Start reading at `propagation.rt`.
 #![tactic(auto)]
 
-mod classes;
 mod epoch_array;
 mod fronts;
 mod members;
 mod overlay;
 mod propagation;
 mod requirements;
+mod slot_table;
 mod steps;
 mod threads;
 
-pub use classes::Classes;
 pub use fronts::{Front, Fronts, gathered};
 pub use members::{Member, greater};
 pub use overlay::Overlay;
 pub use propagation::{Context, Propagation};
 pub use requirements::{Requirements, ThreadPrefix, prefix_before};
+pub use slot_table::SlotTable;
 pub use steps::Steps;
 pub use threads::last_place;

@@ -6,8 +6,8 @@ ghost use Rattle.fronts.specs.Slots.{slots_of, AreThreadSlots, HoldsFirst, Holds
 ghost use Rattle.fronts.specs.declared.members.Member.{Member};
 ghost use Rattle.fronts.specs.Members.{Each, IsMember, IsAhead, AreMoved, IsWithinCount, Advances, MovesTo, AreAdvanced};
 
-use crate::classes::Classes;
 use crate::requirements::ThreadPrefix;
+use crate::slot_table::SlotTable;
 use segments::PlacesOf;
 use trace_index::TraceIndex;
 use trace_model::Place;
@@ -44,7 +44,7 @@ fn behind(members: &[Member<'_>], prefix: ThreadPrefix) -> Option<usize>
 
 impl<'a> Member<'a> {
     /// Advances to the next place of the dependency. Returns `false` if there is none.
-    fn advance(&mut self, index: &TraceIndex, threads: &Classes) -> bool
+    fn advance(&mut self, index: &TraceIndex, threads: &SlotTable) -> bool
         requires slots { AreThreadSlots index.now.events threads.now }
         requires member { IsMember index.now.events (slots_of threads.now) self.old }
         ensures { Advances index.now.events (slots_of threads.now) result self.old self.new }
@@ -67,7 +67,7 @@ impl<'a> Member<'a> {
 /// if there is no next place.
 fn move_one(
     index: &TraceIndex,
-    threads: &Classes,
+    threads: &SlotTable,
     members: &mut [Member<'_>],
     k: usize,
 ) -> Option<u32>
@@ -97,7 +97,7 @@ pub fn greater(a: u32, b: u32) -> u32
 /// member has no further place.
 pub(crate) fn advance_members(
     index: &TraceIndex,
-    threads: &Classes,
+    threads: &SlotTable,
     members: &mut [Member<'_>],
     prefix: ThreadPrefix,
 ) -> Option<ThreadPrefix>

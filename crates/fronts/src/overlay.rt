@@ -2,7 +2,7 @@
 
 ghost use Rattle.std.specs.Prelude.{◌≡◌, ◌+◌, ◌^◌, ◌<◌, max, IfOk, Some};
 ghost use Rattle.fronts.specs.EpochArrays.{size};
-ghost use Rattle.fronts.specs.Overlays.{front_of, done_of, last_of, Changes, IsEmpty, IsEmptyFor};
+ghost use Rattle.fronts.specs.Overlays.{front_of, done_of, last_of, Changes, IsEmptyOverlay, IsEmptyFor};
 
 use crate::epoch_array::EpochArray;
 use crate::fronts::Front;
@@ -44,7 +44,7 @@ impl Overlay {
     /// Removes all changes, in constant time.
     pub fn clear(&mut self)
         requires { size self.old.done ≡ size self.old.fronts }
-        ensures { IsEmpty (size self.old.fronts) (size self.old.last) self.new }
+        ensures { IsEmptyOverlay (size self.old.fronts) (size self.old.last) self.new }
     {
         self.fronts.clear();
         self.done.clear();

@@ -3,8 +3,8 @@
 ghost use Rattle.std.specs.Prelude.{◌≡◌, ℕ, ◌+◌, ◌<◌, ◌≤◌, ◌^◌, [], Some, None, IfSome};
 ghost use Rattle.fronts.specs.declared.requirements.Section.{Section};
 ghost use Rattle.fronts.specs.declared.requirements.Item.{Item};
-ghost use Rattle.fronts.specs.Context.{IsReady, HoldsEnd, Any, Carries, IfGoes, fronts, items, last, done, stage, thread_count, events_of, slots, state};
-ghost use Rattle.fronts.specs.Propagation.{IsFit, AreUpTo, Raises, Begins, Meets, IsConsistent, AreKnownSlots};
+ghost use Rattle.fronts.specs.Context.{IsReadyContext, HoldsEnd, Any, Carries, IfGoes, fronts, items, last, processed_count, stage, thread_count, context_events, slots, state};
+ghost use Rattle.fronts.specs.Propagation.{IsFit, AreUpTo, Raises, BeginsSection, Meets, IsConsistent, AreKnownSlots};
 ghost use Rattle.fronts.specs.Slots.{HasPlaces, HoldsPlaces};
 ghost use Rattle.fronts.specs.Requirements.{AreRequirements};
 
@@ -52,17 +52,17 @@ impl Propagation {
         prefix: ThreadPrefix,
         steps: &mut Steps<L>,
     ) -> Result<bool, NoMemory>
-        requires sound { AreRequirements (events_of context.now) context.now.requirements.now }
-        requires fits { IsFit (events_of context.now) context.now.requirements.now
+        requires sound { AreRequirements (context_events context.now) context.now.requirements.now }
+        requires fits { IsFit (context_events context.now) context.now.requirements.now
             context.now.under.now self.old }
-        requires members { AreUpTo (events_of context.now) (slots context.now)
+        requires members { AreUpTo (context_events context.now) (slots context.now)
             (fronts context.now self.old) prefix members.old }
         requires slot { prefix.slot < thread_count context.now }
-        requires reach { HasPlaces (events_of context.now) (slots context.now) prefix }
+        requires reach { HasPlaces (context_events context.now) (slots context.now) prefix }
         requires further { fronts context.now self.old prefix.slot ≤ prefix.count }
         ensures raises { IfGoes result (Raises (thread_count context.now) prefix
             (state context.now self.old) (state context.now self.new)) }
-        ensures carries { Carries context.now (HoldsPlaces (events_of context.now)
+        ensures carries { Carries context.now (HoldsPlaces (context_events context.now)
             (slots context.now) prefix)
             (stage self.old members.old steps.old) (stage self.new members.new steps.new) result }
     {
@@ -96,11 +96,11 @@ impl Propagation {
         prefix: ThreadPrefix,
         steps: &mut Steps<L>,
     ) -> Result<bool, NoMemory>
-        requires ready { IsReady context.now self.old members.old }
-        requires reach { HasPlaces (events_of context.now) (slots context.now) prefix }
+        requires ready { IsReadyContext context.now self.old members.old }
+        requires reach { HasPlaces (context_events context.now) (slots context.now) prefix }
         ensures raises { IfGoes result (Raises (thread_count context.now) prefix
             (state context.now self.old) (state context.now self.new)) }
-        ensures carries { Carries context.now (HoldsPlaces (events_of context.now)
+        ensures carries { Carries context.now (HoldsPlaces (context_events context.now)
             (slots context.now) prefix)
             (stage self.old members.old steps.old) (stage self.new members.new steps.new) result }
     {
@@ -120,12 +120,12 @@ impl Propagation {
         section: Section,
         steps: &mut Steps<L>,
     ) -> Result<bool, NoMemory>
-        requires ready { IsReady context.now self.old members.old }
+        requires ready { IsReadyContext context.now self.old members.old }
         requires lock { lock < context.now.requirements.now.locks.count }
-        requires end { HasPlaces (events_of context.now) (slots context.now) section.end }
+        requires end { HasPlaces (context_events context.now) (slots context.now) section.end }
         requires last_end { (d : Section) → last context.now self.old lock ≡ Some d →
-            HasPlaces (events_of context.now) (slots context.now) d.end }
-        ensures begins { IfGoes result (Begins (thread_count context.now) lock section
+            HasPlaces (context_events context.now) (slots context.now) d.end }
+        ensures begins { IfGoes result (BeginsSection (thread_count context.now) lock section
             (state context.now self.old) (state context.now self.new)) }
         ensures carries { Carries context.now (HoldsEnd context.now self.old lock section)
             (stage self.old members.old steps.old) (stage self.new members.new steps.new) result }
@@ -150,14 +150,15 @@ impl Propagation {
 
     /// Returns the next unprocessed requirement of the thread's included places.
     fn next_item(&self, context: &Context<'_>, slot: u32) -> Option<Item>
-        requires sound { AreRequirements (events_of context.now) context.now.requirements.now }
+        requires sound { AreRequirements (context_events context.now) context.now.requirements.now }
         requires slot { slot < thread_count context.now }
         ensures next { IfSome result
-            (λ i. (items context.now slot (done context.now self.now slot) ≡ Some i)
+            (λ i. (items context.now slot (processed_count context.now self.now slot) ≡ Some i)
             × (i.number < fronts context.now self.now slot)
-            × (done context.now self.now slot + 1 < 2 ^ 64)) }
+            × (processed_count context.now self.now slot + 1 < 2 ^ 64)) }
         ensures none { result ≡ None → (j : ℕ) (i : Item) → items context.now slot j ≡ Some i →
-            i.number < fronts context.now self.now slot → j < done context.now self.now slot }
+            i.number < fronts context.now self.now slot →
+            j < processed_count context.now self.now slot }
     {
         let done = self.overlay.done(context.under, slot);
         let front = self.overlay.front(context.under, slot).count();
@@ -182,12 +183,13 @@ impl Propagation {
         item: Item,
         steps: &mut Steps<L>,
     ) -> Result<bool, NoMemory>
-        requires ready { IsReady context.now self.old members.old }
+        requires ready { IsReadyContext context.now self.old members.old }
         requires consistent { IsConsistent (items context.now) (state context.now self.old) }
         requires slot { slot < thread_count context.now }
-        requires next { items context.now slot (done context.now self.old slot) ≡ Some item }
+        requires next { items context.now slot (processed_count context.now self.old slot)
+            ≡ Some item }
         requires number { item.number < fronts context.now self.old slot }
-        requires few { done context.now self.old slot + 1 < 2 ^ 64 }
+        requires few { processed_count context.now self.old slot + 1 < 2 ^ 64 }
         ensures meets { IfGoes result (Meets (items context.now) (thread_count context.now) slot
             (state context.now self.old) (state context.now self.new)) }
         ensures carries { Carries context.now Any
@@ -214,7 +216,7 @@ impl Propagation {
         members: &mut [Member<'_>],
         steps: &mut Steps<L>,
     ) -> Result<bool, NoMemory>
-        requires ready { IsReady context.now self.old members.old }
+        requires ready { IsReadyContext context.now self.old members.old }
         requires consistent { IsConsistent (items context.now) (state context.now self.old) }
         requires known { AreKnownSlots (thread_count context.now) self.old.pending.items }
         ensures consistent { IfGoes result (IsConsistent (items context.now)

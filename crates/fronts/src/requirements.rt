@@ -3,13 +3,13 @@
 ghost use Rattle.std.specs.Prelude.{◌≡◌, ℕ, ◌+◌, ◌<◌, ◌^◌, length, ◌++◌, slice_get, Some, IfSome, OnOk, IfOk};
 ghost use Rattle.std.specs.Arc.{arc_value};
 ghost use Rattle.trace_index.specs.Numbers.{number_at};
-ghost use Rattle.fronts.specs.Slots.{class_of, slots_of, ArePositions, AreThreadSlots, HasPosition};
+ghost use Rattle.fronts.specs.Slots.{slot_in, slots_of, AreSlotPlaces, AreThreadSlots, HasSlotPosition};
 ghost use Rattle.fronts.specs.Requirements.{AreLockSlots, IsPrefixThrough, EndsSection};
-ghost use Rattle.fronts.specs.Pushing.{Slotted, reaching, adding, with_slots, IsStart, IsFirstNeed, IsLastNeed, IsBegin, AddsRequirements, AreAllBuilt};
-ghost use Rattle.fronts.specs.Classes.{AreClasses, next_class};
+ghost use Rattle.fronts.specs.Pushing.{SlottedTrace, reached_items, requirement_items, with_slots, IsStart, IsFirstNeed, IsLastNeed, IsBegin, AddsRequirements, AreAllBuilt};
+ghost use Rattle.fronts.specs.SlotTable.{AreSlotNumbers, next_slot};
 ghost use Rattle.fronts.specs.Firsts.{first_of_thread, first_of_lock, first_of, AreSlotsOf};
 
-use crate::classes::{Classes, class_at, next_count};
+use crate::slot_table::{SlotTable, next_count, slot_at};
 use segments::MaybeIndex;
 use std::alloc::Global;
 use std::sync::Arc;
@@ -55,16 +55,16 @@ pub(crate) struct Item {
 #[derive(Drop)]
 pub struct Requirements {
     /// The slots of the threads.
-    pub threads: Classes,
-    pub(crate) locks: Classes,
+    pub threads: SlotTable,
+    pub(crate) locks: SlotTable,
     /// For each place the prefix of its thread that is before it. Shared with the fronts.
     pub positions: Arc<Vec<ThreadPrefix>, Global>,
     pub(crate) items: Vec<Vec<Item>>,
 }
 
-/// What the places of one class share: their thread, or the lock on which they begin a section.
+/// What the places of one slot share: their thread, or the lock on which they begin a section.
 #[derive(Clone, Copy)]
-pub(crate) enum Shared {
+pub(crate) enum SlotKind {
     Thread,
     Lock,
 }
@@ -80,27 +80,29 @@ fn event_at(index: &TraceIndex, place: usize) -> Option<Event>
 
 /// Returns the thread slot of the next place: that of the place before it in its thread, or a new
 /// one.
-fn thread_slot(index: &TraceIndex, of: &[MaybeIndex], place: usize, count: u32) -> MaybeIndex
+fn thread_slot(index: &TraceIndex, slots: &[MaybeIndex], place: usize, count: u32) -> MaybeIndex
     requires within { place < length index.now.events }
-    requires classes { AreClasses (first_of_thread index.now.events) (class_of of.now) count place }
+    requires slot_table { AreSlotNumbers (first_of_thread index.now.events)
+        (slot_in slots.now) count place }
     requires few { count < 4294967295 }
-    ensures { result ≡ next_class (class_of of.now)
+    ensures { result ≡ next_slot (slot_in slots.now)
         (first_of_thread index.now.events place) place count }
 {
     let _len = index.len(); // for the proof
     match index.thread_before(Place::new(place as u32)) {
-        Some(before) => class_at(of, before),
+        Some(before) => slot_at(slots, before),
         None => MaybeIndex::at(count),
     }
 }
 
 /// Returns the lock slot of the next place: that of the outermost acquire of the lock before it, or
 /// a new one. `none` if the place does not begin a section.
-fn lock_slot(index: &TraceIndex, of: &[MaybeIndex], place: usize, count: u32) -> MaybeIndex
+fn lock_slot(index: &TraceIndex, slots: &[MaybeIndex], place: usize, count: u32) -> MaybeIndex
     requires within { place < length index.now.events }
-    requires classes { AreClasses (first_of_lock index.now.events) (class_of of.now) count place }
+    requires slot_table { AreSlotNumbers (first_of_lock index.now.events)
+        (slot_in slots.now) count place }
     requires few { count < 4294967295 }
-    ensures { result ≡ next_class (class_of of.now)
+    ensures { result ≡ next_slot (slot_in slots.now)
         (first_of_lock index.now.events place) place count }
 {
     let _len = index.len(); // for the proof
@@ -109,7 +111,7 @@ fn lock_slot(index: &TraceIndex, of: &[MaybeIndex], place: usize, count: u32) ->
         return MaybeIndex::none();
     };
     match index.acquire_before(here) {
-        Some(before) => class_at(of, before),
+        Some(before) => slot_at(slots, before),
         None => MaybeIndex::at(count),
     }
 }
@@ -118,20 +120,21 @@ fn lock_slot(index: &TraceIndex, of: &[MaybeIndex], place: usize, count: u32) ->
 #[inline(always)]
 fn slot_by(
     index: &TraceIndex,
-    of: &[MaybeIndex],
+    slots: &[MaybeIndex],
     place: usize,
     count: u32,
-    shared: Shared,
+    shared: SlotKind,
 ) -> MaybeIndex
     requires within { place < length index.now.events }
-    requires classes { AreClasses (first_of index.now.events shared) (class_of of.now) count place }
+    requires slot_table { AreSlotNumbers (first_of index.now.events shared)
+        (slot_in slots.now) count place }
     requires few { count < 4294967295 }
-    ensures { result ≡ next_class (class_of of.now)
+    ensures { result ≡ next_slot (slot_in slots.now)
         (first_of index.now.events shared place) place count }
 {
     match shared {
-        Shared::Thread => thread_slot(index, of, place, count),
-        Shared::Lock => lock_slot(index, of, place, count),
+        SlotKind::Thread => thread_slot(index, slots, place, count),
+        SlotKind::Lock => lock_slot(index, slots, place, count),
     }
 }
 
@@ -139,27 +142,28 @@ fn slot_by(
 ///
 /// # Errors
 /// `NoMemory` if an allocation fails.
-fn classes_by(alloc: Global, index: &TraceIndex, shared: Shared) -> Result<Classes, NoMemory>
+fn slot_table_by(alloc: Global, index: &TraceIndex, shared: SlotKind) -> Result<SlotTable, NoMemory>
     ensures { IfOk result (AreSlotsOf index.now.events shared) }
 {
     let _len = index.len(); // for the proof
-    let mut of: Vec<MaybeIndex> = Vec::with_capacity(alloc, index.len())?;
+    let mut slots: Vec<MaybeIndex> = Vec::with_capacity(alloc, index.len())?;
     let mut count = 0;
     for place in 0..index.len() {
-        let slot = slot_by(index, of.as_slice(), place, count, shared);
-        of.push_reserved(slot);
+        let slot = slot_by(index, slots.as_slice(), place, count, shared);
+        slots.push_reserved(slot);
         count = next_count(slot, count);
     }
-    Ok(Classes { of, count })
+    Ok(SlotTable { slots, count })
 }
 
 /// Returns the prefix of its thread that is before `place`.
 ///
 /// The caller passes the thread slots of the index's trace, and a place of the trace.
-pub fn prefix_before(index: &TraceIndex, threads: &Classes, place: Place) -> ThreadPrefix
+pub fn prefix_before(index: &TraceIndex, threads: &SlotTable, place: Place) -> ThreadPrefix
     requires slots { AreThreadSlots index.now.events threads.now }
     requires in_trace { place < length index.now.events }
-    ensures { HasPosition index.now.events (slots_of threads.now) place result.slot result.count }
+    ensures { HasSlotPosition index.now.events
+        (slots_of threads.now) place result.slot result.count }
 {
     ThreadPrefix {
         slot: threads.get(place).unwrap(),
@@ -169,7 +173,7 @@ pub fn prefix_before(index: &TraceIndex, threads: &Classes, place: Place) -> Thr
 
 /// Returns the prefix of its thread that ends with `place`.
 #[inline(always)]
-pub(crate) fn prefix_through(index: &TraceIndex, threads: &Classes, place: Place) -> ThreadPrefix
+pub(crate) fn prefix_through(index: &TraceIndex, threads: &SlotTable, place: Place) -> ThreadPrefix
     requires slots { AreThreadSlots index.now.events threads.now }
     requires in_trace { place < length index.now.events }
     ensures { IsPrefixThrough index.now.events (slots_of threads.now) result place }
@@ -186,7 +190,7 @@ pub(crate) fn prefix_through(index: &TraceIndex, threads: &Classes, place: Place
 #[inline(always)]
 fn push_reach(
     index: &TraceIndex,
-    threads: &Classes,
+    threads: &SlotTable,
     items: &mut Vec<Item>,
     number: u32,
     place: Option<Place>,
@@ -194,7 +198,7 @@ fn push_reach(
     requires slots { AreThreadSlots index.now.events threads.now }
     requires in_trace { IfSome place (λ p. p < length index.now.events) }
     ensures { OnOk result (items.new.items ≡ items.old.items ++
-        reaching index.now.events (slots_of threads.now) number place) }
+        reached_items index.now.events (slots_of threads.now) number place) }
 {
     if let Some(place) = place {
         let prefix = prefix_through(index, threads, place);
@@ -207,7 +211,7 @@ fn push_reach(
 }
 
 /// Returns the section that begins at `place`.
-fn section_at(index: &TraceIndex, threads: &Classes, place: Place) -> Section
+fn section_at(index: &TraceIndex, threads: &SlotTable, place: Place) -> Section
     requires slots { AreThreadSlots index.now.events threads.now }
     ensures place { result.place ≡ place }
     ensures end { EndsSection index.now.events (slots_of threads.now) result }
@@ -260,8 +264,8 @@ fn last_need(index: &TraceIndex, place: Place, event: Event) -> Option<Place>
 #[inline(always)]
 fn begin_of(
     index: &TraceIndex,
-    threads: &Classes,
-    locks: &Classes,
+    threads: &SlotTable,
+    locks: &SlotTable,
     place: Place,
 ) -> Option<Requirement>
     requires slots { AreThreadSlots index.now.events threads.now }
@@ -285,7 +289,8 @@ fn push_requirement(
     number: u32,
     requirement: Option<Requirement>,
 ) -> Result<(), NoMemory>
-    ensures { OnOk result (items.new.items ≡ items.old.items ++ adding number requirement) }
+    ensures { OnOk result (items.new.items ≡ items.old.items
+        ++ requirement_items number requirement) }
 {
     if let Some(requirement) = requirement {
         items.push(Item {
@@ -302,8 +307,8 @@ fn push_requirement(
 /// `NoMemory` if an allocation fails; some may have been appended.
 fn push_requirements(
     index: &TraceIndex,
-    threads: &Classes,
-    locks: &Classes,
+    threads: &SlotTable,
+    locks: &SlotTable,
     items: &mut Vec<Item>,
     place: Place,
 ) -> Result<(), NoMemory>
@@ -339,7 +344,7 @@ fn listed(items: &[Item], j: usize) -> Option<Item>
 /// `NoMemory` if an allocation fails.
 fn no_items(alloc: Global, count: u32) -> Result<Vec<Vec<Item>>, NoMemory>
     ensures length { IfOk result (λ lists. length lists.items ≡ count) }
-    ensures built { IfOk result (λ lists. (v : Slotted) → AreAllBuilt v 0 lists.items) }
+    ensures built { IfOk result (λ lists. (v : SlottedTrace) → AreAllBuilt v 0 lists.items) }
 {
     let mut lists = Vec::with_capacity(alloc, count as usize)?;
     for _slot in 0..count {
@@ -356,8 +361,8 @@ fn no_items(alloc: Global, count: u32) -> Result<Vec<Vec<Item>>, NoMemory>
 fn fill(
     alloc: Global,
     index: &TraceIndex,
-    threads: &Classes,
-    locks: &Classes,
+    threads: &SlotTable,
+    locks: &SlotTable,
     lists: &mut Vec<Vec<Item>>,
 ) -> Result<Arc<Vec<ThreadPrefix>, Global>, NoMemory>
     requires slots { AreThreadSlots index.now.events threads.now }
@@ -366,7 +371,7 @@ fn fill(
     requires built { AreAllBuilt (with_slots index.now.events threads.now locks.now)
         0 lists.old.items }
     ensures positions { IfOk result (λ positions.
-        ArePositions index.now.events (slots_of threads.now) (arc_value positions).items) }
+        AreSlotPlaces index.now.events (slots_of threads.now) (arc_value positions).items) }
     ensures length { length lists.new.items ≡ threads.now.count }
     ensures built { OnOk result (AreAllBuilt (with_slots index.now.events threads.now locks.now)
         (length index.now.events) lists.new.items) }
@@ -408,8 +413,8 @@ impl Requirements {
     pub fn build(alloc: Global, index: &TraceIndex) -> Result<Requirements, NoMemory>
         ensures { IfOk result (AreRequirements index.now.events) }
     {
-        let threads = classes_by(alloc, index, Shared::Thread)?;
-        let locks = classes_by(alloc, index, Shared::Lock)?;
+        let threads = slot_table_by(alloc, index, SlotKind::Thread)?;
+        let locks = slot_table_by(alloc, index, SlotKind::Lock)?;
         let mut items = no_items(alloc, threads.count)?;
         let positions = fill(alloc, index, &threads, &locks, &mut items)?;
         Ok(Requirements {

@@ -2,7 +2,7 @@
 
 ghost use Rattle.std.specs.Prelude.{ℕ, MatchOption};
 ghost use Rattle.trace_model.specs.Theory.Trace.{OfThread};
-ghost use Rattle.fronts.specs.Threads.{IsLastOf};
+ghost use Rattle.fronts.specs.Threads.{IsLastOfThread};
 
 use trace_index::TraceIndex;
 use trace_model::Place;
@@ -10,7 +10,7 @@ use trace_model::Place;
 /// Returns the last place of `thread`, or `None` if it has no place.
 pub fn last_place(index: &TraceIndex, thread: u32) -> Option<Place>
     ensures { MatchOption result ((p : ℕ) → OfThread index.now.events p thread → ⊥)
-        (IsLastOf index.now.events thread) }
+        (IsLastOfThread index.now.events thread) }
 {
     let places = index.thread_places(thread);
     let count = places.len();

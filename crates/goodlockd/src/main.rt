@@ -2,15 +2,15 @@
 //! `question_server::run_server`; the other commands are in the crate `commands`.
 #![tactic(auto)]
 
-ghost use Rattle.command_line.specs.CommandLine.{IsInRange, IsLimit, IsWithin};
+ghost use Rattle.command_line.specs.CommandLine.{IsLimitNumber, IsInClosedRange};
 
 use command_line::{Invocation, parse, tell, words_of};
 use commands::{
     Status, arguments, check_files, explain_named, final_status, offline_file, replay_files,
     script_file,
 };
-use findings::NoHold;
-use question_server::{ServerFault, Service, run_server};
+use findings::RunOn;
+use question_server::{ServerError, Service, run_server};
 use std::alloc::AllocError;
 use std::hash::RandomState;
 use std::io;
@@ -46,17 +46,17 @@ fn serve<T: Threads + Wait + Clock + Copy + Send + Sync>(
     listener: &TcpListener,
     service: Service,
 ) -> io::Result<Status>
-    requires limit { IsLimit service.limit }
-    requires workers { IsWithin 1 16 service.workers }
+    requires limit { IsLimitNumber service.limit }
+    requires workers { IsInClosedRange 1 16 service.workers }
 {
     let state = RandomState::new(rt)?;
-    match run_server(threads, rt.alloc(), state, listener, service, &NoHold) {
+    match run_server(threads, rt.alloc(), state, listener, service, &RunOn) {
         Ok(sessions) => {
             println!(rt; "served {sessions}")?;
             Ok(Status::Done)
         }
-        Err(ServerFault::Listen) => cannot_listen(rt, address),
-        Err(ServerFault::NotMade) => Err(AllocError.into()),
+        Err(ServerError::Listen) => cannot_listen(rt, address),
+        Err(ServerError::NotMade) => Err(AllocError.into()),
     }
 }
 
@@ -67,8 +67,8 @@ fn serve_at<T: Threads + Wait + Clock + Copy + Send + Sync>(
     address: &str,
     service: Service,
 ) -> io::Result<Status>
-    requires limit { IsLimit service.limit }
-    requires workers { IsWithin 1 16 service.workers }
+    requires limit { IsLimitNumber service.limit }
+    requires workers { IsInClosedRange 1 16 service.workers }
 {
     let Some(listener) = listen(rt, address)? else {
         return Ok(Status::Error);
@@ -78,14 +78,24 @@ fn serve_at<T: Threads + Wait + Clock + Copy + Send + Sync>(
     serve(rt, threads, address, &listener, service)
 }
 
-/// Runs a parsed command.
-fn carry_out<T: Threads + Wait + Clock + Copy + Send + Sync>(
+/// Runs the command line.
+fn run<T: Threads + Wait + Clock + Copy + Send + Sync>(
     rt: &HostRuntime,
     threads: T,
-    invocation: Invocation,
-) -> io::Result<Status>
-    requires { IsInRange invocation }
-{
+) -> io::Result<Status> {
+    let arguments = arguments(rt)?;
+    let words = words_of(rt.alloc(), &arguments)?;
+    let invocation = match parse(rt.alloc(), &words) {
+        Ok(invocation) => invocation,
+        Err(refused) => {
+            let is_help = tell(rt, refused)?;
+            return Ok(if is_help {
+                Status::Done
+            } else {
+                Status::NotUnderstood
+            });
+        }
+    };
     match invocation {
         Invocation::Serve {
             address,
@@ -108,32 +118,6 @@ fn carry_out<T: Threads + Wait + Clock + Copy + Send + Sync>(
         }
         Invocation::Check { trace, file } => check_files(rt, trace, file),
     }
-}
-
-/// Parses the words and runs their command.
-fn run_words<T: Threads + Wait + Clock + Copy + Send + Sync>(
-    rt: &HostRuntime,
-    threads: T,
-    words: &[&str],
-) -> io::Result<Status> {
-    match parse(rt.alloc(), words) {
-        Ok(invocation) => carry_out(rt, threads, invocation),
-        Err(refused) => Ok(if tell(rt, refused)? {
-            Status::Done
-        } else {
-            Status::NotUnderstood
-        }),
-    }
-}
-
-/// Runs the command line.
-fn run<T: Threads + Wait + Clock + Copy + Send + Sync>(
-    rt: &HostRuntime,
-    threads: T,
-) -> io::Result<Status> {
-    let arguments = arguments(rt)?;
-    let words = words_of(rt.alloc(), &arguments)?;
-    run_words(rt, threads, &words)
 }
 
 fn main(rt: HostRuntime) -> ExitCode {

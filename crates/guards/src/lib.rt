@@ -7,7 +7,7 @@
 
 ghost use Rattle.std.specs.Prelude.{◌<◌, ◌↔◌, length, IsTrue};
 ghost use Rattle.std.specs.List.{All};
-ghost use Rattle.dependencies.specs.Tables.{known};
+ghost use Rattle.dependencies.specs.Tables.{table_dependencies};
 ghost use Rattle.guards.specs.Compatible.{AreApart, NumbersApart, IsCompatible};
 
 use dependencies::{DepTable, Dependency};
@@ -19,9 +19,9 @@ use dependencies::{DepTable, Dependency};
 ///
 /// The caller passes only numbers below `table.len()`.
 pub fn compatible(table: &DepTable, members: &[u32], number: u32) -> bool
-    requires members { All (λ m. m < length (known table.now)) members.now }
-    requires number { number < length (known table.now) }
-    ensures { IsTrue result ↔ IsCompatible (known table.now) members.now number }
+    requires members { All (λ m. m < length (table_dependencies table.now)) members.now }
+    requires number { number < length (table_dependencies table.now) }
+    ensures { IsTrue result ↔ IsCompatible (table_dependencies table.now) members.now number }
 {
     for member in members {
         if !numbers_apart(table, *member, number) {
@@ -34,9 +34,9 @@ pub fn compatible(table: &DepTable, members: &[u32], number: u32) -> bool
 /// Returns whether the dependencies `first` and `second` are of distinct threads and have disjoint
 /// held sets.
 fn numbers_apart(table: &DepTable, first: u32, second: u32) -> bool
-    requires first { first < length (known table.now) }
-    requires second { second < length (known table.now) }
-    ensures { IsTrue result ↔ NumbersApart (known table.now) first second }
+    requires first { first < length (table_dependencies table.now) }
+    requires second { second < length (table_dependencies table.now) }
+    ensures { IsTrue result ↔ NumbersApart (table_dependencies table.now) first second }
 {
     are_apart(table.get(first), table.get(second))
 }

@@ -55,35 +55,36 @@ pub record IsHeldAfter (old : List LockDepth) (o : Op) (new : List LockDepth) : 
   pub depths : (m : ℕ) → depth_of new m ≡ depth_after o m (depth_of old m)
 
 -- The holding of each thread that has an entry, by thread number.
-abbrev pub Table : Type 0
-Table = List (ℕ × List LockDepth)
+abbrev pub HoldingTable : Type 0
+HoldingTable = List (ℕ × List LockDepth)
 
 -- The holding of thread t. A thread without an entry holds nothing.
-abbrev pub holding_in : Table → ℕ → List LockDepth
+abbrev pub holding_in : HoldingTable → ℕ → List LockDepth
 holding_in table t = unwrap_or (lookup (nat_eq t) table) []
 
 -- The locks that thread t holds, ascending.
-abbrev pub held_in : Table → ℕ → List ℕ
+abbrev pub held_in : HoldingTable → ℕ → List ℕ
 held_in table t = locks_of (holding_in table t)
 
 -- The depth at which thread t holds lock l.
-abbrev pub depth_in : Table → ℕ → ℕ → ℕ
-depth_in table t l = depth_of (holding_in table t) l
+abbrev pub holding_depth : HoldingTable → ℕ → ℕ → ℕ
+holding_depth table t l = depth_of (holding_in table t) l
 
 -- Thread t has an entry.
-abbrev pub HasEntry : Table → ℕ → Type 0
-HasEntry table t = IsSome (lookup (nat_eq t) table)
+abbrev pub HasThreadEntry : HoldingTable → ℕ → Type 0
+HasThreadEntry table t = IsSome (lookup (nat_eq t) table)
 
 -- The new table is the old one after thread t did operation o.
-pub record IsAfter (old : Table) (t : ℕ) (o : Op) (new : Table) : Type 0 where
+pub record IsAfter (old : HoldingTable) (t : ℕ) (o : Op) (new : HoldingTable) : Type 0 where
   pub held : (u : ℕ) →
-      held_in new u ≡ held_step (depth_in old u) (Some (event t o)) u (held_in old u)
-  pub depth : (u l : ℕ) → depth_in new u l ≡ depth_step (Some (event t o)) u l (depth_in old u l)
+      held_in new u ≡ held_step (holding_depth old u) (Some (event t o)) u (held_in old u)
+  pub depth : (u l : ℕ) →
+      holding_depth new u l ≡ depth_step (Some (event t o)) u l (holding_depth old u l)
 
 -- The table has the held set and the depths of each thread right before place n of the trace.
-pub record FollowsTrace (table : Table) (s : Trace) (n : ℕ) : Type 0 where
-  pub held : (t : ℕ) → held_in table t ≡ Held.held s n t
-  pub depth : (t l : ℕ) → depth_in table t l ≡ Held.depth s n t l
+pub record HasHeldSetsOf (table : HoldingTable) (s : Trace) (n : ℕ) : Type 0 where
+  pub held : (t : ℕ) → held_in table t ≡ Held.held_set s n t
+  pub depth : (t l : ℕ) → holding_depth table t l ≡ Held.depth s n t l
 
 -- The operation is neither an acquire nor a release.
 abbrev pub keeps_locks : Op → Bool
@@ -93,32 +94,35 @@ keeps_locks _ = true
 
 -- A table that follows the trace to place n follows it to the next place: after an acquire or a
 -- release if it records that event, after any other event unchanged.
-abbrev pub TablesFollow : Type 0
-TablesFollow = (old new : Table) (s : Trace) (n : ℕ) (e : Event) → FollowsTrace old s n → At s n e →
-    (IsAfter old e.thread e.op new → FollowsTrace new s (suc n)) ×
-    (keeps_locks e.op ≡ true → FollowsTrace old s (suc n))
+abbrev pub HoldingTablesFollow : Type 0
+HoldingTablesFollow = (old new : HoldingTable) (s : Trace) (n : ℕ) (e : Event) →
+    HasHeldSetsOf old s n → At s n e →
+    (IsAfter old e.thread e.op new → HasHeldSetsOf new s (suc n)) ×
+    (keeps_locks e.op ≡ true → HasHeldSetsOf old s (suc n))
 
 -- A table that follows a trace follows it with one more event: after an acquire or a release if it
 -- records that event, after any other event unchanged.
-abbrev pub TablesGrow : Type 0
-TablesGrow = (old new : Table) (s : Trace) (e : Event) → FollowsTrace old s (length s) →
-    (IsAfter old e.thread e.op new → FollowsTrace new (s ++ e ∷ []) (length (s ++ e ∷ []))) ×
-    (keeps_locks e.op ≡ true → FollowsTrace old (s ++ e ∷ []) (length (s ++ e ∷ [])))
+abbrev pub HoldingTablesGrow : Type 0
+HoldingTablesGrow = (old new : HoldingTable) (s : Trace) (e : Event) →
+    HasHeldSetsOf old s (length s) →
+    (IsAfter old e.thread e.op new → HasHeldSetsOf new (s ++ e ∷ []) (length (s ++ e ∷ []))) ×
+    (keeps_locks e.op ≡ true → HasHeldSetsOf old (s ++ e ∷ []) (length (s ++ e ∷ [])))
 
 -- Thread t may acquire lock l: the depth is below MAX_DEPTH, and a new lock finds fewer than
 -- MAX_HELD.
-abbrev pub Fits : Table → ℕ → ℕ → Type 0
+abbrev pub Fits : HoldingTable → ℕ → ℕ → Type 0
 Fits table t l =
-    (depth_in table t l < MAX_DEPTH) ×
-    (depth_in table t l ≡ 0 → length (held_in table t) < MAX_HELD)
+    (holding_depth table t l < MAX_DEPTH) ×
+    (holding_depth table t l ≡ 0 → length (held_in table t) < MAX_HELD)
 
 -- A lawful acquire fits.
 abbrev pub LawfulAcquiresFit : Type 0
-LawfulAcquiresFit = (table : Table) (limit : ℕ) (s : Trace) (t l : ℕ) →
-    FollowsTrace table s (length s) →
+LawfulAcquiresFit = (table : HoldingTable) (limit : ℕ) (s : Trace) (t l : ℕ) →
+    HasHeldSetsOf table s (length s) →
     refusal_of limit s (event t (Acquire l)) ≡ None → Fits table t l
 
 -- Each acquire of a well-formed trace fits at its place.
 abbrev pub AcquiresFit : Type 0
-AcquiresFit = (table : Table) (s : Trace) (n t l : ℕ) → IsWellFormed s → FollowsTrace table s n →
+AcquiresFit = (table : HoldingTable) (s : Trace) (n t l : ℕ) → IsWellFormed s →
+    HasHeldSetsOf table s n →
     At s n (event t (Acquire l)) → Fits table t l

@@ -3,7 +3,7 @@
 ghost use Rattle.std.specs.Prelude.{◌≡◌, ℕ, ◌<◌, [], length, OnOk, OnErr};
 ghost use Rattle.trace_model.specs.declared.traces.event.Op.TheVariants.{Acquire, Release};
 ghost use Rattle.trace_model.specs.declared.limits.TheConstants.{MAX_HELD, MAX_DEPTH};
-ghost use Rattle.held_sets.specs.Tables.{holding_in, held_in, depth_in, HasEntry, IsAfter};
+ghost use Rattle.held_sets.specs.Tables.{holding_in, held_in, holding_depth, HasThreadEntry, IsAfter};
 
 use crate::holding::Holding;
 use crate::set::HeldSet;
@@ -20,9 +20,9 @@ pub struct HeldTable {
 }
 
 impl Model for HeldTable {
-    ghost use Rattle.held_sets.specs.Tables.{Table};
+    ghost use Rattle.held_sets.specs.Tables.{HoldingTable};
 
-    ghost Value = { Table };
+    ghost Value = { HoldingTable };
 
     ghost view = { λ t. t.threads };
 }
@@ -51,7 +51,7 @@ impl HeldTable {
     /// does not hold the lock. Does not allocate. Part of the public API; not called by the
     /// program.
     pub fn depth(&self, thread: u32, lock: u32) -> u8
-        ensures { result ≡ depth_in self.now thread lock }
+        ensures { result ≡ holding_depth self.now thread lock }
     {
         match self.threads.get_ref(thread) {
             Some(holding) => holding.depth(lock),
@@ -68,8 +68,8 @@ impl HeldTable {
     ///
     /// `NoMemory` if an allocation fails. The held locks do not change.
     pub fn acquire(&mut self, thread: u32, lock: u32) -> Result<(), NoMemory>
-        requires nested { depth_in self.old thread lock < MAX_DEPTH }
-        requires room { depth_in self.old thread lock ≡ 0 →
+        requires nested { holding_depth self.old thread lock < MAX_DEPTH }
+        requires room { holding_depth self.old thread lock ≡ 0 →
             length (held_in self.old thread) < MAX_HELD }
         ensures ok { OnOk result (IsAfter self.old thread (Acquire lock) self.new) }
         ensures err { OnErr result ((t : ℕ) → holding_in self.new t ≡ holding_in self.old t) }
@@ -79,8 +79,8 @@ impl HeldTable {
         Ok(())
     }
 
-    /// Reserves memory for an acquire of a lock by `thread`: its entry, which has room for all locks.
-    /// The held locks do not change: an empty entry reads like no entry.
+    /// Reserves memory for an acquire of a lock by `thread`: its entry, which has room for all
+    /// locks. The held locks do not change: an empty entry reads like no entry.
     ///
     /// # Errors
     ///
@@ -88,8 +88,8 @@ impl HeldTable {
     #[inline(always)]
     pub fn reserve(&mut self, thread: u32, _lock: u32) -> Result<(), NoMemory>
         ensures shown { (t : ℕ) → holding_in self.new t ≡ holding_in self.old t }
-        ensures ok { OnOk result (HasEntry self.new thread) }
-        ensures wanting { OnErr result (¬ HasEntry self.old thread) }
+        ensures ok { OnOk result (HasThreadEntry self.new thread) }
+        ensures wanting { OnErr result (¬ HasThreadEntry self.old thread) }
     {
         if !self.threads.find(thread) {
             self.threads.reserve(thread, Holding::new())?;
@@ -101,9 +101,9 @@ impl HeldTable {
     /// Does not allocate.
     #[inline(always)]
     pub fn record(&mut self, thread: u32, lock: u32)
-        requires entry { HasEntry self.old thread }
-        requires nested { depth_in self.old thread lock < MAX_DEPTH }
-        requires room { depth_in self.old thread lock ≡ 0 →
+        requires entry { HasThreadEntry self.old thread }
+        requires nested { holding_depth self.old thread lock < MAX_DEPTH }
+        requires room { holding_depth self.old thread lock ≡ 0 →
             length (held_in self.old thread) < MAX_HELD }
         ensures { IsAfter self.old thread (Acquire lock) self.new }
     {

@@ -5,15 +5,15 @@ use Rattle.std.specs.Option.{option_map_or}
 use Rattle.std.specs.List.Sorted.{IsStrictlyIncreasing}
 use Rattle.trace_model.specs.Theory.Dependencies.{Dependency}
 use Rattle.lock_graph.specs.declared.graph.LockGraph.{LockGraph}
-use Rattle.lock_graph.specs.Lists.{listed, HaveRoom}
+use Rattle.lock_graph.specs.Lists.{lock_numbers, HaveListRoom}
 
 -- The numbers that the graph has for the lock.
 abbrev pub holders : LockGraph → ℕ → List ℕ
-holders g lock = listed g.lists lock
+holders g lock = lock_numbers g.lists lock
 
 -- Memory is reserved for one more number at each of the locks.
-abbrev pub HasRoom : LockGraph → List ℕ → Type 0
-HasRoom g locks = HaveRoom g.lists locks
+abbrev pub HasGraphRoom : LockGraph → List ℕ → Type 0
+HasGraphRoom g locks = HaveListRoom g.lists locks
 
 -- The dependency with this number holds the lock.
 abbrev pub HoldsLock : List Dependency → ℕ → ℕ → Type 0

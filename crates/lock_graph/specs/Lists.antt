@@ -6,16 +6,16 @@ use Rattle.std.specs.HashMap.{get, HashMap}
 use Rattle.std.specs.Global.{Vec}
 
 -- The numbers of the lock. A lock without an entry has none.
-abbrev pub listed : {S : Type 0} → HashMap ℕ (Vec ℕ) S → ℕ → List ℕ
-listed m lock = option_map_or (λ v. v.items) (get nat_eq m lock) []
+abbrev pub lock_numbers : {S : Type 0} → HashMap ℕ (Vec ℕ) S → ℕ → List ℕ
+lock_numbers m lock = option_map_or (λ v. v.items) (get nat_eq m lock) []
 
 -- The list of the lock has spare capacity.
 abbrev pub HasRoomAt : {S : Type 0} → HashMap ℕ (Vec ℕ) S → ℕ → Type 0
 HasRoomAt m lock = IsSomeAnd (get nat_eq m lock) (λ v. vec_len v < vec_capacity v)
 
 -- The list of each of the locks has spare capacity.
-abbrev pub HaveRoom : {S : Type 0} → HashMap ℕ (Vec ℕ) S → List ℕ → Type 0
-HaveRoom m locks = (k : ℕ) → k < length locks → HasRoomAt m (slice_index locks k)
+abbrev pub HaveListRoom : {S : Type 0} → HashMap ℕ (Vec ℕ) S → List ℕ → Type 0
+HaveListRoom m locks = (k : ℕ) → k < length locks → HasRoomAt m (slice_index locks k)
 
 -- The numbers of the lock after `number` was added at each of the locks.
 abbrev pub listed_with : List ℕ → ℕ → ℕ → List ℕ → List ℕ

@@ -5,7 +5,7 @@ ghost use Rattle.std.specs.List.{filter};
 ghost use Rattle.std.specs.List.Sorted.{IsStrictlyIncreasing};
 ghost use Rattle.trace_model.specs.Theory.Dependencies.{Dependency as Triple};
 ghost use Rattle.lock_graph.specs.Lists.{listed_with};
-ghost use Rattle.lock_graph.specs.Graph.{IsGraphOf, HasRoom, holders, holders_at, holders_below};
+ghost use Rattle.lock_graph.specs.Graph.{IsGraphOf, HasGraphRoom, holders, holders_at, holders_below};
 
 use crate::lists::{Lists, record, reserve};
 use dependencies::Dependency;
@@ -61,7 +61,7 @@ impl LockGraph {
     /// `NoMemory` if an allocation fails.
     pub fn reserve(&mut self, _number: u32, dependency: &Dependency) -> Result<(), NoMemory>
         ensures shown { (lock : ℕ) → holders self.new lock ≡ holders self.old lock }
-        ensures ok { OnOk result (HasRoom self.new dependency.now.held) }
+        ensures ok { OnOk result (HasGraphRoom self.new dependency.now.held) }
     {
         reserve(&mut self.lists, self.alloc, dependency.held.locks())
     }
@@ -69,7 +69,7 @@ impl LockGraph {
     /// Adds a dependency at each lock that it holds, as `add` does. Memory must be reserved. Does
     /// not allocate.
     pub fn record(&mut self, number: u32, dependency: &Dependency)
-        requires { HasRoom self.old dependency.now.held }
+        requires { HasGraphRoom self.old dependency.now.held }
         ensures lists { (lock : ℕ) →
             holders self.new lock ≡ listed_with dependency.now.held number lock
             (holders self.old lock) }

@@ -3,7 +3,7 @@
 ghost use Rattle.std.specs.Prelude.{◌≡◌, ℕ, ◌++◌, ◌∷◌, [], nat_eq, cond, OnOk, false};
 ghost use Rattle.std.specs.HashMap.{get};
 ghost use Rattle.std.specs.List.Sorted.{IsStrictlyIncreasing};
-ghost use Rattle.lock_graph.specs.Lists.{listed, listed_with, HasRoomAt, HaveRoom};
+ghost use Rattle.lock_graph.specs.Lists.{lock_numbers, listed_with, HasRoomAt, HaveListRoom};
 
 use indexmap::IndexMap;
 use std::alloc::Global;
@@ -15,8 +15,8 @@ pub(crate) type Lists = IndexMap<u32, Vec<u32>, RandomState>;
 
 /// Reserves memory for one more number at each of the locks.
 pub(crate) fn reserve(lists: &mut Lists, alloc: Global, locks: &[u32]) -> Result<(), NoMemory>
-    ensures shown { (other : ℕ) → listed lists.new other ≡ listed lists.old other }
-    ensures ok { OnOk result (HaveRoom lists.new locks.now) }
+    ensures shown { (other : ℕ) → lock_numbers lists.new other ≡ lock_numbers lists.old other }
+    ensures ok { OnOk result (HaveListRoom lists.new locks.now) }
 {
     for lock in locks {
         reserve_one(lists, alloc, *lock)?;
@@ -26,10 +26,10 @@ pub(crate) fn reserve(lists: &mut Lists, alloc: Global, locks: &[u32]) -> Result
 
 /// Adds a number at each of the locks, which must ascend and have memory reserved.
 pub(crate) fn record(lists: &mut Lists, locks: &[u32], number: u32)
-    requires room { HaveRoom lists.old locks.now }
+    requires room { HaveListRoom lists.old locks.now }
     requires ascends { IsStrictlyIncreasing locks.now }
-    ensures { (other : ℕ) → listed lists.new other ≡ listed_with locks.now number other
-        (listed lists.old other) }
+    ensures { (other : ℕ) → lock_numbers lists.new other ≡ listed_with locks.now number other
+        (lock_numbers lists.old other) }
 {
     for lock in locks {
         record_one(lists, *lock, number);
@@ -38,7 +38,7 @@ pub(crate) fn record(lists: &mut Lists, locks: &[u32], number: u32)
 
 /// Reserves memory for one more number at a lock.
 fn reserve_one(lists: &mut Lists, alloc: Global, lock: u32) -> Result<(), NoMemory>
-    ensures shown { (other : ℕ) → listed lists.new other ≡ listed lists.old other }
+    ensures shown { (other : ℕ) → lock_numbers lists.new other ≡ lock_numbers lists.old other }
     ensures ok { OnOk result (HasRoomAt lists.new lock) }
     ensures kept { (other : ℕ) → HasRoomAt lists.old other → HasRoomAt lists.new other }
 {
@@ -55,8 +55,9 @@ fn reserve_one(lists: &mut Lists, alloc: Global, lock: u32) -> Result<(), NoMemo
 fn record_one(lists: &mut Lists, lock: u32, number: u32)
     requires { HasRoomAt lists.old lock }
     ensures shown { (other : ℕ) →
-        listed lists.new other ≡ (cond (nat_eq lock other) (listed lists.old other ++ number ∷ [])
-        (listed lists.old other)) }
+        lock_numbers lists.new other
+        ≡ (cond (nat_eq lock other) (lock_numbers lists.old other ++ number ∷ [])
+        (lock_numbers lists.old other)) }
     ensures others { (other : ℕ) → nat_eq lock other ≡ false →
         get nat_eq lists.new other ≡ get nat_eq lists.old other }
 {

@@ -9,7 +9,7 @@ use Rattle.trace_model.specs.declared.traces.event.Op.TheVariants.{Fork, Join, A
 use Rattle.trace_model.specs.Theory.Dependencies.{Dependency, same_dependency, with_new}
 use Rattle.trace_model.proofs.Lists.{length-push, take-take_below, take_next}
 use Rattle.held_sets.specs.Tables.{keeps_locks}
-use Rattle.dependencies.specs.Tables.{Listing, named}
+use Rattle.dependencies.specs.Tables.{Listing, listing_dependencies}
 use Rattle.lock_graph.specs.declared.graph.LockGraph.{LockGraph}
 use Rattle.lock_graph.specs.Graph.{HoldsLock, IsGraphOf, HasGraphOf, holders}
 use Rattle.lock_graph.proofs.Beginning.{graphs_begin}
@@ -68,7 +68,7 @@ grown ds (Some d) k l = elim (list_any (same_dependency d) ds) as (λ b. (k ≤ 
     pushed (suc k) [] d l = absurd (omega arith)
     pushed (suc k) (x ∷ xs) d l = ap (λ ys. x ∷ ys) (pushed k xs d (omega arith))
 
-pub named_length : (listing : Listing) → length (named listing) ≡ length listing
+pub named_length : (listing : Listing) → length (listing_dependencies listing) ≡ length listing
 named_length [] = refl
 named_length (row ∷ listing) = ap suc (named_length listing)
 

@@ -12,7 +12,7 @@ use Rattle.trace_model.specs.Theory.Lawful.{refusal_of}
 use Rattle.trace_model.specs.Theory.Dependencies.{Dependency, dependencies_below}
 use Rattle.held_sets.specs.Tables as Held
 use Rattle.dependencies.specs.Tables as Dependencies
-use Rattle.dependencies.specs.Tables.{known, next_of}
+use Rattle.dependencies.specs.Tables.{table_dependencies, next_of}
 use Rattle.lock_graph.specs.Graph.{IsGraphOf, HasGraphOf, holders}
 use Rattle.lock_tables.specs.declared.parts.LockParts.{LockParts}
 use Rattle.lock_tables.specs.declared.tables.LockTables.{LockTables}
@@ -25,28 +25,28 @@ shared_holders (Some graph) lock = holders (arc_value graph) lock
 -- The tables are those of the trace. The graph has a prefix of the dependencies.
 pub record FollowTrace (tables : LockTables) (s : Trace) : Type 0 where
   pub counted : tables.events ≡ length s
-  pub held : Held.FollowsTrace tables.held s (length s)
-  pub dependencies : Dependencies.FollowsTrace tables.dependencies s (length s)
-  pub graphed : tables.graphed ≤ length (known tables.dependencies)
-  pub graph : IsGraphOf (take tables.graphed (known tables.dependencies))
+  pub held : Held.HasHeldSetsOf tables.held s (length s)
+  pub dependencies : Dependencies.HasDependenciesOf tables.dependencies s (length s)
+  pub graphed : tables.graphed ≤ length (table_dependencies tables.dependencies)
+  pub graph : IsGraphOf (take tables.graphed (table_dependencies tables.dependencies))
       (shared_holders tables.graph)
 
 -- If the event is an acquire, then its thread has an entry.
-abbrev pub HasEntryFor : Held.Table → Event → Type 0
-HasEntryFor held e = (lock : ℕ) → e.op ≡ Acquire lock → Held.HasEntry held e.thread
+abbrev pub HasEntryFor : Held.HoldingTable → Event → Type 0
+HasEntryFor held e = (lock : ℕ) → e.op ≡ Acquire lock → Held.HasThreadEntry held e.thread
 
 -- If the event has a dependency, then memory is reserved for its place.
-abbrev pub HasPlaceFor : Dependencies.Table → Held.Table → Event → Type 0
+abbrev pub HasPlaceFor : Dependencies.DependencyTable → Held.HoldingTable → Event → Type 0
 HasPlaceFor table held e = (d : Dependency) → next_of held e ≡ Some d → table.room ≡ true
 
 -- Memory is reserved for the event.
-pub record HasRoomFor (tables : LockTables) (e : Event) : Type 0 where
+pub record HasLockTableRoom (tables : LockTables) (e : Event) : Type 0 where
   pub entry : HasEntryFor tables.held e
   pub place : HasPlaceFor tables.dependencies tables.held e
 
 -- The tables are those of some trace after which the event is lawful.
-abbrev pub IsLawfulNext : LockTables → Event → Type 0
-IsLawfulNext tables e = (s : Trace) × FollowTrace tables s × (refusal_of MAX_EVENTS s e ≡ None)
+abbrev pub IsLawfulForTables : LockTables → Event → Type 0
+IsLawfulForTables tables e = (s : Trace) × FollowTrace tables s × (refusal_of MAX_EVENTS s e ≡ None)
 
 -- The first n events of the trace have `total` dependencies.
 pub record CountsBelow (s : Trace) (total n : ℕ) : Type 0 where
@@ -58,6 +58,6 @@ abbrev pub HasTotal : LockTables → ℕ → ℕ → Type 0
 HasTotal tables total n = (s : Trace) × FollowTrace tables s × CountsBelow s total n
 
 -- The dependencies are those of the trace, and the graph contains their graph.
-pub record ArePartsOf (parts : LockParts) (s : Trace) : Type 0 where
-  pub dependencies : Dependencies.FollowsTrace parts.dependencies s (length s)
-  pub graph : HasGraphOf (known parts.dependencies) (arc_value parts.graph)
+pub record AreLockPartsOf (parts : LockParts) (s : Trace) : Type 0 where
+  pub dependencies : Dependencies.HasDependenciesOf parts.dependencies s (length s)
+  pub graph : HasGraphOf (table_dependencies parts.dependencies) (arc_value parts.graph)

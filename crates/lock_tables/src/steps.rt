@@ -4,7 +4,7 @@ ghost use Rattle.std.specs.Prelude.{◌≡◌, ℕ, ◌++◌, ◌∷◌, [], len
 ghost use Rattle.trace_model.specs.declared.traces.event.Op.TheVariants.{Acquire};
 ghost use Rattle.trace_model.specs.Theory.Trace.{Trace};
 ghost use Rattle.held_sets.specs.Tables as Held;
-ghost use Rattle.dependencies.specs.Tables.{FollowsTrace, AllBelow};
+ghost use Rattle.dependencies.specs.Tables.{HasDependenciesOf, AllBelow};
 ghost use Rattle.lock_tables.specs.Tables.{HasEntryFor, HasPlaceFor};
 
 use dependencies::laws::tables_follow;
@@ -44,9 +44,9 @@ pub(crate) fn reserve_place(
 pub(crate) fn record_place(table: &mut DepTable, held: &HeldTable, event: &Event, place: Place)
     requires room { HasPlaceFor table.old held.now event.now }
     requires below { AllBelow table.old place }
-    ensures { (s : Trace) → place ≡ length s → Held.FollowsTrace held.now s (length s) →
-        FollowsTrace table.old s (length s)
-        → FollowsTrace table.new (s ++ event.now ∷ []) (length (s ++ event.now ∷ [])) }
+    ensures { (s : Trace) → place ≡ length s → Held.HasHeldSetsOf held.now s (length s) →
+        HasDependenciesOf table.old s (length s)
+        → HasDependenciesOf table.new (s ++ event.now ∷ []) (length (s ++ event.now ∷ [])) }
 {
     tables_follow(); // for the proof
     if let Some(dependency) = next_dependency(held, *event) {
@@ -59,8 +59,8 @@ pub(crate) fn record_locks(held: &mut HeldTable, event: &Event)
     requires entry { HasEntryFor held.old event.now }
     requires fits { (lock : ℕ) → event.now.op ≡ Acquire lock →
         Held.Fits held.old event.now.thread lock }
-    ensures { (s : Trace) → Held.FollowsTrace held.old s (length s) →
-        Held.FollowsTrace held.new (s ++ event.now ∷ []) (length (s ++ event.now ∷ [])) }
+    ensures { (s : Trace) → Held.HasHeldSetsOf held.old s (length s) →
+        Held.HasHeldSetsOf held.new (s ++ event.now ∷ []) (length (s ++ event.now ∷ [])) }
 {
     held_follows(); // for the proof
     match event.op {

@@ -5,9 +5,9 @@ ghost use Rattle.std.specs.Arc.{arc_value};
 ghost use Rattle.trace_model.specs.Theory.Trace.{Trace};
 ghost use Rattle.trace_model.specs.Theory.Lawful.{IsWellFormed};
 ghost use Rattle.trace_model.specs.Theory.Dependencies.{Dependency as Triple};
-ghost use Rattle.dependencies.specs.Tables.{known};
+ghost use Rattle.dependencies.specs.Tables.{table_dependencies};
 ghost use Rattle.lock_graph.specs.Graph.{IsGraphOf, HasGraphOf, holders};
-ghost use Rattle.lock_tables.specs.Tables.{shared_holders, FollowTrace, HasRoomFor, IsLawfulNext, HasTotal, CountsBelow, ArePartsOf};
+ghost use Rattle.lock_tables.specs.Tables.{shared_holders, FollowTrace, HasLockTableRoom, IsLawfulForTables, HasTotal, CountsBelow, AreLockPartsOf};
 
 use crate::parts::LockParts;
 use crate::steps::{record_locks, record_place, reserve_locks, reserve_place};
@@ -77,7 +77,7 @@ impl LockTables {
 
     /// Returns the number of dependencies. Does not allocate.
     pub fn len(&self) -> usize
-        ensures { result ≡ length (known self.now.dependencies) }
+        ensures { result ≡ length (table_dependencies self.now.dependencies) }
     {
         self.dependencies.len()
     }
@@ -89,7 +89,7 @@ impl LockTables {
     /// `NoMemory` if an allocation fails.
     pub fn reserve(&mut self, event: &Event) -> Result<(), NoMemory>
         ensures follow { (s : Trace) → FollowTrace self.old s → FollowTrace self.new s }
-        ensures ok { OnOk result (HasRoomFor self.new event.now) }
+        ensures ok { OnOk result (HasLockTableRoom self.new event.now) }
     {
         tables_follow(); // for the proof
         self.catch_up()?;
@@ -101,8 +101,8 @@ impl LockTables {
     /// Records `event`, which must be the next lawful event. Memory must be reserved for it. Does
     /// not allocate.
     pub fn record(&mut self, event: &Event)
-        requires room { HasRoomFor self.old event.now }
-        requires lawful { IsLawfulNext self.old event.now }
+        requires room { HasLockTableRoom self.old event.now }
+        requires lawful { IsLawfulForTables self.old event.now }
         ensures { (s : Trace) → FollowTrace self.old s →
             FollowTrace self.new (s ++ event.now ∷ []) }
     {
@@ -126,7 +126,8 @@ impl LockTables {
     /// `NoMemory` if an allocation fails.
     pub fn catch_up(&mut self) -> Result<(), NoMemory>
         ensures follow { (s : Trace) → FollowTrace self.old s → FollowTrace self.new s }
-        ensures all { OnOk result (length (known self.new.dependencies) ≤ self.new.graphed) }
+        ensures all { OnOk result (length
+            (table_dependencies self.new.dependencies) ≤ self.new.graphed) }
     {
         while self.graphed < self.dependencies.len() {
             self.graph_next()?;
@@ -146,7 +147,7 @@ impl LockTables {
     pub fn share(&self, total: u32, events: u32) -> Result<LockParts, NoMemory>
         requires { HasTotal self.now total events }
         ensures { IfOk result (λ parts. (s : Trace) → FollowTrace self.now s →
-            CountsBelow s total events → ArePartsOf parts (take events s)) }
+            CountsBelow s total events → AreLockPartsOf parts (take events s)) }
     {
         tables_follow(); // for the proof
         let dependencies = self.dependencies.share(total, events)?;
@@ -170,7 +171,7 @@ impl LockTables {
     ///
     /// `NoMemory` if an allocation fails.
     pub fn into_parts(self) -> Result<LockParts, NoMemory>
-        ensures { IfOk result (λ parts. (s : Trace) → FollowTrace self s → ArePartsOf parts s) }
+        ensures { IfOk result (λ parts. (s : Trace) → FollowTrace self s → AreLockPartsOf parts s) }
     {
         let mut tables = self;
         match tables.catch_up() {
@@ -184,8 +185,8 @@ impl LockTables {
 
     /// Returns the dependencies and the graph, which must have all of them.
     fn parts(self) -> Result<LockParts, NoMemory>
-        requires { length (known self.dependencies) ≤ self.graphed }
-        ensures { IfOk result (λ parts. (s : Trace) → FollowTrace self s → ArePartsOf parts s) }
+        requires { length (table_dependencies self.dependencies) ≤ self.graphed }
+        ensures { IfOk result (λ parts. (s : Trace) → FollowTrace self s → AreLockPartsOf parts s) }
     {
         let LockTables {
             alloc,
@@ -225,7 +226,7 @@ impl LockTables {
 
     /// Adds the next dependency to the graph.
     fn graph_next(&mut self) -> Result<(), NoMemory>
-        requires { self.old.graphed < length (known self.old.dependencies) }
+        requires { self.old.graphed < length (table_dependencies self.old.dependencies) }
         ensures follow { (s : Trace) → FollowTrace self.old s → FollowTrace self.new s }
         ensures ok { OnOk result (self.new.graphed ≡ self.old.graphed + 1) }
         ensures dependencies { self.new.dependencies ≡ self.old.dependencies }
@@ -304,10 +305,12 @@ fn graph_of(
     graphed: usize,
     total: usize,
 ) -> Result<Arc<LockGraph, Global>, NoMemory>
-    requires total { total ≤ length (known table.now) }
-    requires graphed { graphed ≤ length (known table.now) }
-    requires graph { IsGraphOf (take graphed (known table.now)) (shared_holders graph.now) }
-    ensures { IfOk result (λ shared. HasGraphOf (take total (known table.now)) (arc_value shared)) }
+    requires total { total ≤ length (table_dependencies table.now) }
+    requires graphed { graphed ≤ length (table_dependencies table.now) }
+    requires graph { IsGraphOf (take graphed (table_dependencies table.now))
+        (shared_holders graph.now) }
+    ensures { IfOk result (λ shared. HasGraphOf (take total (table_dependencies table.now))
+        (arc_value shared)) }
 {
     if let Some(shared) = graph
         && total <= graphed
@@ -324,9 +327,9 @@ fn graph_of(
 /// Adds the dependencies from number `from` up to `to` to the graph.
 fn extend(graph: &mut LockGraph, table: &DepTable, from: usize, to: usize) -> Result<(), NoMemory>
     requires order { from ≤ to }
-    requires within { to ≤ length (known table.now) }
-    requires graph { IsGraphOf (take from (known table.now)) (holders graph.old) }
-    ensures { OnOk result (IsGraphOf (take to (known table.now)) (holders graph.new)) }
+    requires within { to ≤ length (table_dependencies table.now) }
+    requires graph { IsGraphOf (take from (table_dependencies table.now)) (holders graph.old) }
+    ensures { OnOk result (IsGraphOf (take to (table_dependencies table.now)) (holders graph.new)) }
 {
     let _total = table.len(); // for the proof: bounds the numbers
     for number in from..to {

@@ -5,10 +5,10 @@ use Rattle.std.proofs.lemmas.Option.{none-some, same_Some}
 use Rattle.indexmap.specs.IndexMap.{set_value_at}
 use Rattle.std.specs.List.{AllByRecursion, IsDistinct}
 use Rattle.std.specs.Map.{keys_of, lookup, set_value}
-use Rattle.number_map.specs.Positions.{HasPosition}
+use Rattle.number_map.specs.Positions.{HasNumberAt}
 use Rattle.number_map.proofs.Entries.{entry_at, value_at}
 
-module _ {V : Type 0} (es : List (ℕ × V)) (n : ℕ) (position : Option ℕ) (has : HasPosition es n position) (i : ℕ) (is : position ≡ Some i) where
+module _ {V : Type 0} (es : List (ℕ × V)) (n : ℕ) (position : Option ℕ) (has : HasNumberAt es n position) (i : ℕ) (is : position ≡ Some i) where
   -- the entry at the position has the number's value
   pub shown_at : (k : ℕ) (v : V) → Some (k, v) ≡ slice_get es i → Some v ≡ lookup (nat_eq n) es
   shown_at k v at = sym (value_at es i k v (sym at)) ∙ has.value i is

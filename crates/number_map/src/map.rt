@@ -4,7 +4,7 @@ ghost use Rattle.std.specs.Prelude.{◌≡◌, ℕ, Some, None, IsSome, is_some,
 ghost use Rattle.std.specs.Option.{option_copied_mut};
 ghost use Rattle.std.specs.Map.{lookup, set_value};
 ghost use Rattle.std.specs.Borrow.{sem, LendsIf};
-ghost use Rattle.number_map.specs.Positions.{HasPosition};
+ghost use Rattle.number_map.specs.Positions.{HasNumberAt};
 ghost use Rattle.number_map.specs.contracts.map.NumberMap.{the_row};
 
 use crate::position_cache::PositionCache;
@@ -37,7 +37,7 @@ impl<V: Drop> Model for NumberMap<V> {
 /// Returns whether the entry at `position` is that of `number`.
 #[inline(always)]
 fn is_at<V>(entries: &Entries<V>, position: usize, number: u32) -> bool
-    ensures { result ≡ true → HasPosition entries.now.entries number (Some position) }
+    ensures { result ≡ true → HasNumberAt entries.now.entries number (Some position) }
 {
     match entries.get_index(position) {
         Some((known, _)) => *known == number,
@@ -48,7 +48,7 @@ fn is_at<V>(entries: &Entries<V>, position: usize, number: u32) -> bool
 /// Returns the position of `number`, or `None` if it has no entry. Tries `candidate` first.
 #[inline(always)]
 fn position_of<V>(entries: &Entries<V>, candidate: usize, number: u32) -> Option<usize>
-    ensures { HasPosition entries.now.entries number result }
+    ensures { HasNumberAt entries.now.entries number result }
 {
     if is_at(entries, candidate, number) {
         return Some(candidate);
@@ -60,7 +60,7 @@ fn position_of<V>(entries: &Entries<V>, candidate: usize, number: u32) -> Option
 /// numbers were added in order, from 0 or from 1.
 #[inline(never)]
 fn uncached_position_of<V>(entries: &Entries<V>, number: u32) -> Option<usize>
-    ensures { HasPosition entries.now.entries number result }
+    ensures { HasNumberAt entries.now.entries number result }
 {
     let in_order = number as usize;
     if is_at(entries, in_order, number) {
@@ -86,7 +86,7 @@ impl<V: Drop> NumberMap<V> {
     /// Returns the position of `number`, or `None` if it has no entry.
     #[inline(always)]
     fn position(&self, number: u32) -> Option<usize>
-        ensures { HasPosition self.now number result }
+        ensures { HasNumberAt self.now number result }
     {
         position_of(&self.entries, self.cache.candidate(number), number)
     }

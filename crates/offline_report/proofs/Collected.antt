@@ -5,48 +5,48 @@ use Rattle.std.specs.List.{AllZip, range_with_len}
 use Rattle.std.proofs.lemmas.List.FromFn.{get_or-range_with_len, length-range_with_len}
 use Rattle.std.proofs.lemmas.Option.{none-some, same_Some, slice_get_within}
 use Rattle.trace_model.specs.Theory.Trace.{Trace}
-use Rattle.reports.specs.Printed.{Printed}
+use Rattle.reports.specs.Printed.{PrintedRow}
 use Rattle.offline_report.specs.Offline.{AreComputed, AreInPart, AreWhole, IsNotComputed, IsPartOf, IsTaskWithin}
 use Rattle.offline_report.specs.declared.parts.Part.{Part}
 use Rattle.offline_report.specs.declared.refused.OfflineRefused.{OfflineRefused}
 
 module _ (s : Trace) (bound limit : ℕ) where
-  abbrev AreTold : List ℕ → List Part → Type 0
-  AreTold js parts = AllZip (IsTaskWithin s bound limit) js (map Ok parts)
+  abbrev AreParts : List ℕ → List Part → Type 0
+  AreParts js parts = AllZip (IsTaskWithin s bound limit) js (map Ok parts)
 
   -- The rows of the parts.
-  abbrev rows_told : (js : List ℕ) (parts : List Part) → AreTold js parts → List (List Printed)
-  rows_told [] [] h = []
-  rows_told [] (p ∷ parts) h = absurd h
-  rows_told (j ∷ js) [] h = absurd h
-  rows_told (j ∷ js) (p ∷ parts) h = h.0.0.0 ∷ rows_told js parts h.1
+  abbrev rows_of_parts : (js : List ℕ) (parts : List Part) → AreParts js parts → List (List PrintedRow)
+  rows_of_parts [] [] h = []
+  rows_of_parts [] (p ∷ parts) h = absurd h
+  rows_of_parts (j ∷ js) [] h = absurd h
+  rows_of_parts (j ∷ js) (p ∷ parts) h = h.0.0.0 ∷ rows_of_parts js parts h.1
 
-  length_told : (js : List ℕ) (parts : List Part) (h : AreTold js parts) → length (rows_told js parts h) ≡ length js
-  length_told [] [] h = refl
-  length_told [] (p ∷ parts) h = absurd h
-  length_told (j ∷ js) [] h = absurd h
-  length_told (j ∷ js) (p ∷ parts) h = ap suc (length_told js parts h.1)
+  length_of_parts : (js : List ℕ) (parts : List Part) (h : AreParts js parts) → length (rows_of_parts js parts h) ≡ length js
+  length_of_parts [] [] h = refl
+  length_of_parts [] (p ∷ parts) h = absurd h
+  length_of_parts (j ∷ js) [] h = absurd h
+  length_of_parts (j ∷ js) (p ∷ parts) h = ap suc (length_of_parts js parts h.1)
 
-  all_told : (js : List ℕ) (parts : List Part) (h : AreTold js parts) → AllZip IsPartOf (rows_told js parts h) parts
-  all_told [] [] h = tt
-  all_told [] (p ∷ parts) h = absurd h
-  all_told (j ∷ js) [] h = absurd h
-  all_told (j ∷ js) (p ∷ parts) h = (h.0.0.2, all_told js parts h.1)
+  all_parts : (js : List ℕ) (parts : List Part) (h : AreParts js parts) → AllZip IsPartOf (rows_of_parts js parts h) parts
+  all_parts [] [] h = tt
+  all_parts [] (p ∷ parts) h = absurd h
+  all_parts (j ∷ js) [] h = absurd h
+  all_parts (j ∷ js) (p ∷ parts) h = (h.0.0.2, all_parts js parts h.1)
 
-  each_told : (js : List ℕ) (parts : List Part) (h : AreTold js parts) (k j : ℕ) (rows : List Printed) →
-      slice_get (rows_told js parts h) k ≡ Some rows → (part : Part) × (slice_get parts k ≡ Some part) × AreInPart s bound (get_or js k j) rows part
-  each_told [] [] h k j rows is = absurd (none-some rows is)
-  each_told [] (p ∷ parts) h k j rows is = absurd h
-  each_told (i ∷ js) [] h k j rows is = absurd h
-  each_told (i ∷ js) (p ∷ parts) h zero j rows is = (p, refl, subst (λ rows. AreInPart s bound i rows p) (same_Some h.0.0.0 rows is) h.0.0.1)
-  each_told (i ∷ js) (p ∷ parts) h (suc k) j rows is = each_told js parts h.1 k j rows is
+  each_part : (js : List ℕ) (parts : List Part) (h : AreParts js parts) (k j : ℕ) (rows : List PrintedRow) →
+      slice_get (rows_of_parts js parts h) k ≡ Some rows → (part : Part) × (slice_get parts k ≡ Some part) × AreInPart s bound (get_or js k j) rows part
+  each_part [] [] h k j rows is = absurd (none-some rows is)
+  each_part [] (p ∷ parts) h k j rows is = absurd h
+  each_part (i ∷ js) [] h k j rows is = absurd h
+  each_part (i ∷ js) (p ∷ parts) h zero j rows is = (p, refl, subst (λ rows. AreInPart s bound i rows p) (same_Some h.0.0.0 rows is) h.0.0.1)
+  each_part (i ∷ js) (p ∷ parts) h (suc k) j rows is = each_part js parts h.1 k j rows is
 
-  whole_told : limit ≡ 2 ^ 64 - 1 → (js : List ℕ) (parts : List Part) → AreTold js parts → AreWhole parts
-  whole_told e [] [] h k d l = absurd (omega arith)
-  whole_told e [] (p ∷ parts) h k d l = absurd h
-  whole_told e (j ∷ js) [] h k d l = absurd h
-  whole_told e (j ∷ js) (p ∷ parts) h zero d l = h.0.1 e
-  whole_told e (j ∷ js) (p ∷ parts) h (suc k) d l = whole_told e js parts h.1 k d (omega (arith, l))
+  whole_parts : limit ≡ 2 ^ 64 - 1 → (js : List ℕ) (parts : List Part) → AreParts js parts → AreWhole parts
+  whole_parts e [] [] h k d l = absurd (omega arith)
+  whole_parts e [] (p ∷ parts) h k d l = absurd h
+  whole_parts e (j ∷ js) [] h k d l = absurd h
+  whole_parts e (j ∷ js) (p ∷ parts) h zero d l = h.0.1 e
+  whole_parts e (j ∷ js) (p ∷ parts) h (suc k) d l = whole_parts e js parts h.1 k d (omega (arith, l))
 
   one_err : (js : List ℕ) (xs : List (Result Part OfflineRefused)) (e : OfflineRefused) (k : ℕ) → AllZip (IsTaskWithin s bound limit) js xs → k < length xs → get_or xs k (Err e) ≡ Err e → IsNotComputed e
   one_err [] [] e k h lt is = absurd (omega arith)
@@ -58,12 +58,12 @@ module _ (s : Trace) (bound limit : ℕ) where
   -- The parts of all tasks in their order, or the error of one of them.
   pub collected : (n : ℕ) (js : List ℕ) (xs : List (Result Part OfflineRefused)) (v : Result (Vec Part) OfflineRefused) → js ≡ range_with_len 0 n → AllZip (IsTaskWithin s bound limit) js xs
       → MatchResult v (λ c. (ys : List Part) × (xs ≡ map Ok ys) × (c.items ≡ ys)) (λ e. Contains xs (Err e))
-      → MatchResult v (λ c. ((tasks : List (List Printed)) × AreComputed s bound n tasks c.items) × (limit ≡ 2 ^ 64 - 1 → AreWhole c.items)) IsNotComputed
+      → MatchResult v (λ c. ((tasks : List (List PrintedRow)) × AreComputed s bound n tasks c.items) × (limit ≡ 2 ^ 64 - 1 → AreWhole c.items)) IsNotComputed
   collected n js xs (Ok c) is zip h =
       let parts = h.0 in
-      let all : AreTold (range_with_len 0 n) parts = subst (λ l. AllZip (IsTaskWithin s bound limit) l (map Ok parts)) is (subst (AllZip (IsTaskWithin s bound limit) js) h.1 zip) in
-      let tasks = rows_told (range_with_len 0 n) parts all in
-      let total : length tasks ≡ n = length_told (range_with_len 0 n) parts all ∙ length-range_with_len 0 n in (
+      let all : AreParts (range_with_len 0 n) parts = subst (λ l. AllZip (IsTaskWithin s bound limit) l (map Ok parts)) is (subst (AllZip (IsTaskWithin s bound limit) js) h.1 zip) in
+      let tasks = rows_of_parts (range_with_len 0 n) parts all in
+      let total : length tasks ≡ n = length_of_parts (range_with_len 0 n) parts all ∙ length-range_with_len 0 n in (
         (
           tasks,
           subst (AreComputed s bound n tasks) (sym h.2) (record {
@@ -71,11 +71,11 @@ module _ (s : Trace) (bound limit : ℕ) where
             each = λ task rows got.
                 let within : task < n = subst (λ m. task < m) total (slice_get_within tasks task rows got) in
                 let at : get_or (range_with_len 0 n) task 0 ≡ task = omega (arith, get_or-range_with_len 0 n task 0 within) in
-                let (part, there, are) = each_told (range_with_len 0 n) parts all task 0 rows got in
+                let (part, there, are) = each_part (range_with_len 0 n) parts all task 0 rows got in
                 (part, there, subst (λ j. AreInPart s bound j rows part) at are);
-            written = all_told (range_with_len 0 n) parts all;
+            written = all_parts (range_with_len 0 n) parts all;
           }),
         ),
-        λ e. subst AreWhole (sym h.2) (whole_told e (range_with_len 0 n) parts all),
+        λ e. subst AreWhole (sym h.2) (whole_parts e (range_with_len 0 n) parts all),
       )
   collected n js xs (Err e) is zip h = one_err js xs e h.0 zip h.1 h.2

@@ -11,8 +11,8 @@ use Rattle.trace_model.specs.Theory.Cycles.{InOrder, ListBelow}
 use Rattle.trace_model.specs.Theory.Dependencies.{dependencies}
 use Rattle.trace_model.specs.Theory.Rows.{Row, AreRows, IsRow}
 use Rattle.trace_model.proofs.Theory.Unique.{Has, below_asym, contains_had, has_contained, row_unique}
-use Rattle.reports.specs.Printed.{Printed}
-use Rattle.cycle_search.specs.Search.{CycleFrom}
+use Rattle.reports.specs.Printed.{PrintedRow}
+use Rattle.cycle_search.specs.CycleSearch.{CycleFrom}
 use Rattle.findings.specs.Collecting.{AreSomeRows}
 use Rattle.findings.proofs.Members.{numbers_of}
 use Rattle.offline_report.proofs.TaskRows.{plain}
@@ -77,7 +77,7 @@ cycle_of row = row.cycle
 
 module _ (s : Trace) (bound : ℕ) (weight : Row → ℕ) where
   -- The weight of some rows of a task is at most that of all.
-  of_task : (task : ℕ) (rows : List Printed) (all : List Row) → AreSomeRows s (CycleFrom (dependencies s) bound task) rows → AreRows s bound task all →
+  of_task : (task : ℕ) (rows : List PrintedRow) (all : List Row) → AreSomeRows s (CycleFrom (dependencies s) bound task) rows → AreRows s bound task all →
       sum_by weight (plain rows) ≤ sum_by weight all
   of_task task rows all (cycles, some, are) exact =
       let same = numbers_of rows ∙ are.numbers in
@@ -91,8 +91,8 @@ module _ (s : Trace) (bound : ℕ) (weight : Row → ℕ) where
       (there.0, at ∙ ap Some unique))
 
   -- The weight of some rows of tasks is at most that of all.
-  pub of_tasks : (root : ℕ) (tasks : List (List Printed)) (all : List (List Row)) → length tasks ≡ length all →
-      ((k : ℕ) (rows : List Printed) → slice_get tasks k ≡ Some rows → AreSomeRows s (CycleFrom (dependencies s) bound (root + k)) rows) →
+  pub of_tasks : (root : ℕ) (tasks : List (List PrintedRow)) (all : List (List Row)) → length tasks ≡ length all →
+      ((k : ℕ) (rows : List PrintedRow) → slice_get tasks k ≡ Some rows → AreSomeRows s (CycleFrom (dependencies s) bound (root + k)) rows) →
       ((k : ℕ) (rows : List Row) → slice_get all k ≡ Some rows → AreRows s bound (root + k) rows) →
       sum_by weight (plain (flat_map (λ rows. rows) tasks)) ≤ sum_by weight (flat_map (λ rows. rows) all)
   of_tasks root [] all e some exact = omega arith
@@ -103,8 +103,8 @@ module _ (s : Trace) (bound : ℕ) (weight : Row → ℕ) where
       let rest = of_tasks (suc root) tasks all (omega (arith, e))
       (λ k x is. let on : root + suc k ≡ suc root + k = omega arith in subst (λ n. AreSomeRows s (CycleFrom (dependencies s) bound n) x) on (some (suc k) x is))
       (λ k x is. let on : root + suc k ≡ suc root + k = omega arith in subst (λ n. AreRows s bound n x) on (exact (suc k) x is)) in
-      let left = ap (λ (xs : List Printed). sum_by weight (plain xs)) (flat_map-cons (λ (rows : List Printed). rows) rows tasks)
-      ∙ ap (sum_by weight) (map-append (λ (p : Printed). p.row) rows (flat_map (λ rows. rows) tasks))
+      let left = ap (λ (xs : List PrintedRow). sum_by weight (plain xs)) (flat_map-cons (λ (rows : List PrintedRow). rows) rows tasks)
+      ∙ ap (sum_by weight) (map-append (λ (p : PrintedRow). p.row) rows (flat_map (λ rows. rows) tasks))
       ∙ sum_by-append weight (plain rows) (plain (flat_map (λ rows. rows) tasks)) in
       let right = ap (sum_by weight) (flat_map-cons (λ (rows : List Row). rows) v all) ∙ sum_by-append weight v (flat_map (λ rows. rows) all) in
       omega (arith, one, rest, left, right)

@@ -3,14 +3,14 @@ use Rattle.std.proofs.Common.{◌≡◌, ℕ, ◌+◌, ◌<◌, ◌≤◌, List,
 use Rattle.std.specs.List.{AllZip}
 use Rattle.std.proofs.lemmas.List.Concat.{length-flat_map}
 use Rattle.trace_model.specs.declared.limits.TheConstants.{MAX_REPORT}
-use Rattle.reports.specs.Printed.{Printed}
-use Rattle.reports.specs.Text.{about, counts, is_confirmed}
+use Rattle.reports.specs.Printed.{PrintedRow}
+use Rattle.reports.specs.Text.{about, counts, is_confirmed_row}
 use Rattle.reports.proofs.Counting.{count_by-flat_map, confirmed_within, report_by_tasks, rows_within}
-use Rattle.offline_report.specs.Offline.{IsPartOf, size_of, tasks_report, tasks_text, text_of}
+use Rattle.offline_report.specs.Offline.{IsPartOf, size_of, tasks_report, tasks_text, part_text}
 use Rattle.offline_report.specs.declared.parts.Part.{Part}
 use Rattle.offline_report.proofs.Sizes.{confirmed_are, cycles_are, sizes_are, texts_are}
 
-module _ (events bound : ℕ) (tasks : List (List Printed)) (parts : List Part) (written : AllZip IsPartOf tasks parts) where
+module _ (events bound : ℕ) (tasks : List (List PrintedRow)) (parts : List Part) (written : AllZip IsPartOf tasks parts) where
   -- The text before the rows.
   abbrev head : List ℕ
   head = about 0 events bound ++ counts (sum_by (λ part. part.cycles) parts) (sum_by (λ part. part.confirmed) parts)
@@ -18,9 +18,9 @@ module _ (events bound : ℕ) (tasks : List (List Printed)) (parts : List Part) 
   report_is : tasks_report events bound tasks ≡ head ++ tasks_text tasks
   unfolding tasks_report
   report_is =
-      let rows : List Printed → List Printed = λ rows. rows in
+      let rows : List PrintedRow → List PrintedRow = λ rows. rows in
       let cycles = cycles_are tasks parts written ∙ sym (length-flat_map rows tasks) in
-      let confirmed = confirmed_are tasks parts written ∙ sym (count_by-flat_map is_confirmed rows tasks) in
+      let confirmed = confirmed_are tasks parts written ∙ sym (count_by-flat_map is_confirmed_row rows tasks) in
       report_by_tasks 0 events bound rows tasks
       ∙ (λ i. about 0 events bound ++ (counts (sym cycles i) (sym confirmed i) ++ tasks_text tasks))
       ∙ sym (append_assoc (about 0 events bound) (counts (sum_by (λ part. part.cycles) parts) (sum_by (λ part. part.confirmed) parts)) (tasks_text tasks))
@@ -36,8 +36,8 @@ module _ (events bound : ℕ) (tasks : List (List Printed)) (parts : List Part) 
   pub over_head : (text : List ℕ) (rest : ℕ) → text ≡ head → rest + sum_by size_of parts ≡ MAX_REPORT → rest < length text → MAX_REPORT < length (tasks_report events bound tasks)
   over_head text rest is left short = omega (arith, length_is, left, short, ap length is, sizes_are tasks parts written)
 
-  pub is_told : (text : List ℕ) → text ≡ head → text ++ flat_map text_of parts ≡ tasks_report events bound tasks
-  is_told text is = (λ i. is i ++ texts_are tasks parts written i) ∙ sym report_is
+  pub is_part : (text : List ℕ) → text ≡ head → text ++ flat_map part_text parts ≡ tasks_report events bound tasks
+  is_part text is = (λ i. is i ++ texts_are tasks parts written i) ∙ sym report_is
 
   pub is_short : (text : List ℕ) (rest : ℕ) → text ≡ head → rest + sum_by size_of parts ≡ MAX_REPORT → length text ≤ rest → length (tasks_report events bound tasks) ≤ MAX_REPORT
   is_short text rest is left room = omega (arith, length_is, left, room, ap length is, sizes_are tasks parts written)
@@ -53,4 +53,4 @@ module _ (events bound : ℕ) (tasks : List (List Printed)) (parts : List Part) 
 
   pub confirmed_few : (rest : ℕ) → rest + sum_by size_of parts ≡ MAX_REPORT → sum_by (λ part. part.confirmed) parts ≤ MAX_REPORT
   confirmed_few rest left =
-      omega (arith, left, sizes_are tasks parts written, confirmed_are tasks parts written, confirmed_within is_confirmed (λ rows. rows) tasks)
+      omega (arith, left, sizes_are tasks parts written, confirmed_are tasks parts written, confirmed_within is_confirmed_row (λ rows. rows) tasks)

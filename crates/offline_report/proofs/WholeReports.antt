@@ -11,11 +11,11 @@ use Rattle.trace_model.specs.Theory.Trace.{Trace}
 use Rattle.trace_model.specs.declared.limits.TheConstants.{MAX_REPORT}
 use Rattle.trace_model.specs.Theory.Dependencies.{Dependency, dependencies}
 use Rattle.trace_model.specs.Theory.Rows.{Row, AreRows}
-use Rattle.reports.specs.Printed.{Printed, with_dependencies}
-use Rattle.reports.specs.Text.{about, counts, is_confirmed, report, row_text}
+use Rattle.reports.specs.Printed.{PrintedRow, with_dependencies}
+use Rattle.reports.specs.Text.{about, counts, is_confirmed_row, report, row_text}
 use Rattle.reports.proofs.Counting.{flat_map-flat_map}
-use Rattle.offline_report.specs.Offline.{AreComputed, AreTasks, AreWhole, IsNotAdmitted, IsNotComputed, IsRefused, IsTooLong, report_of, size_of, tasks_report}
-use Rattle.cycle_search.specs.Search.{CycleFrom}
+use Rattle.offline_report.specs.Offline.{AreComputed, AreTasks, AreWhole, IsNotAdmitted, IsNotComputed, IsOfflineRefusal, IsTooLong, report_of, size_of, tasks_report}
+use Rattle.cycle_search.specs.CycleSearch.{CycleFrom}
 use Rattle.findings.specs.Collecting.{AreSomeRows}
 use Rattle.trace_model.proofs.Theory.Unique.{rows_unique}
 use Rattle.offline_report.proofs.Lesser.{of_tasks}
@@ -26,18 +26,18 @@ use Rattle.offline_report.specs.declared.refused.OfflineRefused.{OfflineRefused}
 use Rattle.offline_report.specs.declared.refused.OfflineRefused.TheVariants.{Unlawful, TooLong, TooManyCycles, NoMemory}
 
 -- The rows of each task without their dependencies.
-abbrev pub all_plain : List (List Printed) → List (List Row)
+abbrev pub all_plain : List (List PrintedRow) → List (List Row)
 all_plain tasks = map plain tasks
 
-named_rows : (ds : List Dependency) (rows : List Printed) → All (λ p. p ≡ with_dependencies ds p.row) rows → map (with_dependencies ds) (map (λ p. p.row) rows) ≡ rows
+named_rows : (ds : List Dependency) (rows : List PrintedRow) → All (λ p. p ≡ with_dependencies ds p.row) rows → map (with_dependencies ds) (map (λ p. p.row) rows) ≡ rows
 named_rows ds [] h = refl
 named_rows ds (p ∷ rows) h =
-    let P : Printed → Type 0 = λ q. q ≡ with_dependencies ds q.row in
+    let P : PrintedRow → Type 0 = λ q. q ≡ with_dependencies ds q.row in
     let first = All-head P p rows h in
     let rest = named_rows ds rows (All-tail P p rows h) in
     λ i. sym first i ∷ rest i
 
-named_tasks : (ds : List Dependency) (tasks : List (List Printed)) → ((k : ℕ) (rows : List Printed) → slice_get tasks k ≡ Some rows → All (λ p. p ≡ with_dependencies ds p.row) rows) →
+named_tasks : (ds : List Dependency) (tasks : List (List PrintedRow)) → ((k : ℕ) (rows : List PrintedRow) → slice_get tasks k ≡ Some rows → All (λ p. p ≡ with_dependencies ds p.row) rows) →
     map (with_dependencies ds) (flat_map (λ rows. rows) (all_plain tasks)) ≡ flat_map (λ rows. rows) tasks
 named_tasks ds [] h = refl
 named_tasks ds (v ∷ tasks) h =
@@ -46,22 +46,22 @@ named_tasks ds (v ∷ tasks) h =
     ap (map (with_dependencies ds)) (flat_map-cons (λ (rows : List Row). rows) (plain v) (all_plain tasks))
     ∙ map-append (with_dependencies ds) (plain v) (flat_map (λ rows. rows) (all_plain tasks))
     ∙ (λ i. first i ++ rest i)
-    ∙ sym (flat_map-cons (λ (rows : List Printed). rows) v tasks)
+    ∙ sym (flat_map-cons (λ (rows : List PrintedRow). rows) v tasks)
 
 -- The rows of a computed task name their dependencies.
-named_in : (s : Trace) (bound n : ℕ) (tasks : List (List Printed)) (parts : List Part) → AreComputed s bound n tasks parts → (k : ℕ) (rows : List Printed) → slice_get tasks k ≡ Some rows →
+named_in : (s : Trace) (bound n : ℕ) (tasks : List (List PrintedRow)) (parts : List Part) → AreComputed s bound n tasks parts → (k : ℕ) (rows : List PrintedRow) → slice_get tasks k ≡ Some rows →
     All (λ p. p ≡ with_dependencies (dependencies s) p.row) rows
 named_in s bound n tasks parts c k rows is = (c.each k rows is).2.some.2.named
 
 -- The text on the computed parts is that on their rows.
-pub report_is : (s : Trace) (bound n len : ℕ) (tasks : List (List Printed)) (parts : List Part) → AreComputed s bound n tasks parts → len ≡ length s →
+pub report_is : (s : Trace) (bound n len : ℕ) (tasks : List (List PrintedRow)) (parts : List Part) → AreComputed s bound n tasks parts → len ≡ length s →
     tasks_report len bound tasks ≡ report_of s bound (all_plain tasks)
 unfolding report_of tasks_report
 report_is s bound n len tasks parts c l =
     ap (λ k. report 0 k bound (flat_map (λ rows. rows) tasks)) l
     ∙ ap (report 0 (length s) bound) (sym (named_tasks (dependencies s) tasks (named_in s bound n tasks parts c)))
 
-rows_at : (s : Trace) (bound n : ℕ) (tasks : List (List Printed)) (parts : List Part) (task : ℕ) (rows : List Row) (found : Option (List Printed)) →
+rows_at : (s : Trace) (bound n : ℕ) (tasks : List (List PrintedRow)) (parts : List Part) (task : ℕ) (rows : List Row) (found : Option (List PrintedRow)) →
     AreComputed s bound n tasks parts → AreWhole parts → slice_get tasks task ≡ found → option_map plain found ≡ Some rows → AreRows s bound task rows
 rows_at s bound n tasks parts task rows None c w f e = absurd (none-some rows e)
 rows_at s bound n tasks parts task rows (Some v) c w f e =
@@ -69,7 +69,7 @@ rows_at s bound n tasks parts task rows (Some v) c w f e =
     let all = are.whole (sym (ap (λ (p : Part). p.is_whole) (get_or_from_slice_get parts task part part there)) ∙ w task part (slice_get_within parts task part there)) in
     subst (AreRows s bound task) (same_Some (plain v) rows e) (task_rows s bound task v all)
 
-pub are_tasks : (s : Trace) (bound : ℕ) (tasks : List (List Printed)) (parts : List Part) → AreComputed s bound (length (dependencies s)) tasks parts → AreWhole parts → AreTasks s bound (all_plain tasks)
+pub are_tasks : (s : Trace) (bound : ℕ) (tasks : List (List PrintedRow)) (parts : List Part) → AreComputed s bound (length (dependencies s)) tasks parts → AreWhole parts → AreTasks s bound (all_plain tasks)
 are_tasks s bound tasks parts c w = record {
   total = length-map tasks plain ∙ c.total;
   each = λ task rows e. rows_at s bound (length (dependencies s)) tasks parts task rows (slice_get tasks task) c w refl (sym (slice_get-map plain tasks task) ∙ e);
@@ -101,15 +101,15 @@ text_size ds (row ∷ rows) = omega (
   sum_by-cons (size ds) row rows,
 )
 
-module _ (s : Trace) (bound len : ℕ) (tasks : List (List Printed)) (parts : List Part) (c : AreComputed s bound (length (dependencies s)) tasks parts) (l : len ≡ length s)
+module _ (s : Trace) (bound len : ℕ) (tasks : List (List PrintedRow)) (parts : List Part) (c : AreComputed s bound (length (dependencies s)) tasks parts) (l : len ≡ length s)
     (over : MAX_REPORT < length (tasks_report len bound tasks)) where
-  some_at : (k : ℕ) (rows : List Printed) → slice_get tasks k ≡ Some rows → AreSomeRows s (CycleFrom (dependencies s) bound (0 + k)) rows
+  some_at : (k : ℕ) (rows : List PrintedRow) → slice_get tasks k ≡ Some rows → AreSomeRows s (CycleFrom (dependencies s) bound (0 + k)) rows
   some_at k rows is =
       let at : k ≡ 0 + k = omega arith in
       subst (λ root. AreSomeRows s (CycleFrom (dependencies s) bound root) rows) at (c.each k rows is).2.some
 
-  abbrev all_rows : List Printed
-  all_rows = flat_map (λ (rows : List Printed). rows) tasks
+  abbrev all_rows : List PrintedRow
+  all_rows = flat_map (λ (rows : List PrintedRow). rows) tasks
 
   names : map (with_dependencies (dependencies s)) (plain all_rows) ≡ all_rows
   names = let some = joined s bound 0 tasks some_at in named_rows (dependencies s) all_rows some.2.named
@@ -122,11 +122,11 @@ module _ (s : Trace) (bound len : ℕ) (tasks : List (List Printed)) (parts : Li
       let rows = flat_map (λ (rows : List Row). rows) all in
       let lesser = of_tasks s bound (size ds) 0 tasks all (c.total ∙ sym are.total) some_at (λ k v is.
       let at : k ≡ 0 + k = omega arith in subst (λ root. AreRows s bound root v) at (are.each k v is)) in
-      let told = sizes_are tasks parts c.written ∙ ap length (sym (flat_map-flat_map row_text (λ (rows : List Printed). rows) tasks) ∙ ap (flat_map row_text) (sym names)) ∙ text_size ds (plain all_rows) in
+      let fact = sizes_are tasks parts c.written ∙ ap length (sym (flat_map-flat_map row_text (λ (rows : List PrintedRow). rows) tasks) ∙ ap (flat_map row_text) (sym names)) ∙ text_size ds (plain all_rows) in
       let printed = map (with_dependencies ds) rows in
       let head = about 0 (length s) bound in
-      let numbers = counts (length printed) (count_by is_confirmed printed) in
-      omega (arith, told, lesser, text_size ds rows, length-append head (numbers ++ flat_map row_text printed), length-append numbers (flat_map row_text printed))
+      let numbers = counts (length printed) (count_by is_confirmed_row printed) in
+      omega (arith, fact, lesser, text_size ds rows, length-append head (numbers ++ flat_map row_text printed), length-append numbers (flat_map row_text printed))
 
   every : (sum_by size_of parts ≤ MAX_REPORT → AreWhole parts) → (all : List (List Row)) → AreTasks s bound all → MAX_REPORT < length (report_of s bound all)
   every whole all are = by (leb_tells (sum_by size_of parts) MAX_REPORT)
@@ -151,13 +151,13 @@ module _ (s : Trace) (bound len : ℕ) (tasks : List (List Printed)) (parts : Li
         every = every whole;
       }
 
-pub not_computed : (s : Trace) (bound : ℕ) (refused : OfflineRefused) → IsNotComputed refused → IsRefused s bound refused
+pub not_computed : (s : Trace) (bound : ℕ) (refused : OfflineRefused) → IsNotComputed refused → IsOfflineRefusal s bound refused
 not_computed s bound (Unlawful first) h = absurd h
 not_computed s bound TooLong h = absurd h
 not_computed s bound TooManyCycles h = absurd h
 not_computed s bound NoMemory h = tt
 
-pub not_admitted : (s : Trace) (bound : ℕ) (refused : OfflineRefused) → IsNotAdmitted s refused → IsRefused s bound refused
+pub not_admitted : (s : Trace) (bound : ℕ) (refused : OfflineRefused) → IsNotAdmitted s refused → IsOfflineRefusal s bound refused
 not_admitted s bound (Unlawful first) h = h
 not_admitted s bound TooLong h = absurd h
 not_admitted s bound TooManyCycles h = absurd h

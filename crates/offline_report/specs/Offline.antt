@@ -9,10 +9,10 @@ use Rattle.trace_model.specs.Theory.Dependencies.{dependencies}
 use Rattle.trace_model.specs.Theory.Rows.{Row, AreRows, IsRow}
 use Rattle.trace_model.specs.Theory.Cycles.{IsCycle}
 use Rattle.wellformed.specs.FirstUnlawful.{IsFirstUnlawful}
-use Rattle.reports.specs.Printed.{Printed, with_dependencies}
-use Rattle.reports.specs.Text.{report, row_text, is_confirmed}
-use Rattle.cycle_search.specs.Search.{AreSome, CycleFrom, MoreThan}
-use Rattle.findings.specs.Collecting.{AreAllRows, AreSomeRows}
+use Rattle.reports.specs.Printed.{PrintedRow, with_dependencies}
+use Rattle.reports.specs.Text.{report, row_text, is_confirmed_row}
+use Rattle.cycle_search.specs.CycleSearch.{AreSome, CycleFrom, MoreThan}
+use Rattle.findings.specs.Collecting.{AreRowsOfCycles, AreSomeRows}
 use Rattle.offline_report.specs.declared.parts.Part.{Part}
 use Rattle.offline_report.specs.declared.refused.OfflineRefused.{OfflineRefused}
 use Rattle.offline_report.specs.declared.refused.OfflineRefused.TheVariants.{Unlawful, TooLong, TooManyCycles, NoMemory}
@@ -49,12 +49,12 @@ pub record IsTooLong (s : Trace) (bound : ℕ) : Type 0 where
       MAX_REPORT < length (report_of s bound tasks)
 
 -- The reason for which there is no report applies.
-abbrev pub IsRefused : Trace → ℕ → OfflineRefused → Type 0
-IsRefused s bound (Unlawful first) = IsFirstUnlawful s first
-IsRefused s bound TooLong = IsWellFormed s × IsTooLong s bound
-IsRefused s bound TooManyCycles = IsWellFormed s
+abbrev pub IsOfflineRefusal : Trace → ℕ → OfflineRefused → Type 0
+IsOfflineRefusal s bound (Unlawful first) = IsFirstUnlawful s first
+IsOfflineRefusal s bound TooLong = IsWellFormed s × IsTooLong s bound
+IsOfflineRefusal s bound TooManyCycles = IsWellFormed s
     × ((task : ℕ) × MoreThan (CycleFrom (dependencies s) bound task) MAX_CYCLES)
-IsRefused s bound NoMemory = Unit {0}
+IsOfflineRefusal s bound NoMemory = Unit {0}
 
 -- ---- the parts
 
@@ -73,32 +73,32 @@ IsNotComputed TooManyCycles = ⊥
 IsNotComputed NoMemory = Unit {0}
 
 -- The text of these rows, and the numbers of rows and of confirmed rows.
-pub record HasRows (rows : List Printed) (written : List ℕ) (count certain : ℕ) : Type 0 where
+pub record HasRows (rows : List PrintedRow) (written : List ℕ) (count certain : ℕ) : Type 0 where
   pub text : written ≡ flat_map row_text rows
   pub cycles : count ≡ length rows
-  pub confirmed : certain ≡ count_by is_confirmed rows
+  pub confirmed : certain ≡ count_by is_confirmed_row rows
 
 -- The text of a part, and its length.
-abbrev pub text_of : Part → List ℕ
-text_of part = part.text.items
+abbrev pub part_text : Part → List ℕ
+part_text part = part.text.items
 
 abbrev pub size_of : Part → ℕ
-size_of part = length (text_of part)
+size_of part = length (part_text part)
 
 -- The part of these rows.
-abbrev pub IsPartOf : List Printed → Part → Type 0
+abbrev pub IsPartOf : List PrintedRow → Part → Type 0
 IsPartOf rows part = HasRows rows part.text.items part.cycles part.confirmed
 
 -- The rows are some of the task, and all of them if the part is whole.
-pub record AreInPart (s : Trace) (bound task : ℕ) (rows : List Printed) (part : Part) :
+pub record AreInPart (s : Trace) (bound task : ℕ) (rows : List PrintedRow) (part : Part) :
     Type 0 where
   pub some : AreSomeRows s (CycleFrom (dependencies s) bound task) rows
-  pub whole : part.is_whole ≡ true → AreAllRows s (CycleFrom (dependencies s) bound task) rows
+  pub whole : part.is_whole ≡ true → AreRowsOfCycles s (CycleFrom (dependencies s) bound task) rows
 
 -- The part of a task, or a reason that applies.
 abbrev pub IsTask : Trace → ℕ → ℕ → Result Part OfflineRefused → Type 0
 IsTask s bound task result =
-    MatchResult result (λ part. (rows : List Printed) × AreInPart s bound task rows part
+    MatchResult result (λ part. (rows : List PrintedRow) × AreInPart s bound task rows part
     × IsPartOf rows part) IsNotComputed
 
 -- The part of a task whose text is written within a limit. Without a limit it is whole.
@@ -107,10 +107,10 @@ IsTaskWithin s bound limit task result = IsTask s bound task result
     × (limit ≡ 2 ^ 64 - 1 → IfOk result (λ part. part.is_whole ≡ true))
 
 -- The rows of the parts of the first `n` tasks.
-pub record AreComputed (s : Trace) (bound n : ℕ) (tasks : List (List Printed))
+pub record AreComputed (s : Trace) (bound n : ℕ) (tasks : List (List PrintedRow))
     (parts : List Part) : Type 0 where
   pub total : length tasks ≡ n
-  pub each : (task : ℕ) (rows : List Printed) → slice_get tasks task ≡ Some rows →
+  pub each : (task : ℕ) (rows : List PrintedRow) → slice_get tasks task ≡ Some rows →
       (part : Part) × (slice_get parts task ≡ Some part) × AreInPart s bound task rows part
   pub written : AllZip IsPartOf tasks parts
 
@@ -123,9 +123,9 @@ AreGathered {Given} may_give n result =
     (λ refused. Contains given (Err refused))
 
 -- The parts of all tasks.
-abbrev pub ArePartsOf : Trace → ℕ → List Part → Type 0
-ArePartsOf s bound parts =
-    (tasks : List (List Printed)) × AreComputed s bound (length (dependencies s)) tasks parts
+abbrev pub AreTextParts : Trace → ℕ → List Part → Type 0
+AreTextParts s bound parts =
+    (tasks : List (List PrintedRow)) × AreComputed s bound (length (dependencies s)) tasks parts
 
 -- Each part has all rows of its task.
 abbrev pub AreWhole : List Part → Type 0
@@ -134,21 +134,21 @@ AreWhole parts = All (λ part. part.is_whole ≡ true) parts
 -- The parts of all tasks whose texts are written within a limit, or a reason that applies. Without
 -- a limit each part is whole.
 abbrev pub ArePartsWithin : Trace → ℕ → ℕ → Result (Vec Part) OfflineRefused → Type 0
-ArePartsWithin s bound limit result = MatchResult result (λ parts. ArePartsOf s bound parts.items
+ArePartsWithin s bound limit result = MatchResult result (λ parts. AreTextParts s bound parts.items
     × (limit ≡ 2 ^ 64 - 1 → AreWhole parts.items)) IsNotComputed
 
 -- The parts of all tasks, each with all rows unless they are too long together; or a reason that
 -- applies.
 abbrev pub AreAllParts : Trace → ℕ → Result (Vec Part) OfflineRefused → Type 0
-AreAllParts s bound result = MatchResult result (λ parts. ArePartsOf s bound parts.items
+AreAllParts s bound result = MatchResult result (λ parts. AreTextParts s bound parts.items
     × (sum_by size_of parts.items ≤ MAX_REPORT → AreWhole parts.items)) IsNotComputed
 
 -- The text of all rows of the tasks.
-abbrev pub tasks_text : List (List Printed) → List ℕ
+abbrev pub tasks_text : List (List PrintedRow) → List ℕ
 tasks_text tasks = flat_map (λ rows. flat_map row_text rows) tasks
 
 -- The report of question 0 with the rows of all tasks.
-unfoldable pub tasks_report : ℕ → ℕ → List (List Printed) → List ℕ
+unfoldable pub tasks_report : ℕ → ℕ → List (List PrintedRow) → List ℕ
 tasks_report events bound tasks = report 0 events bound (flat_map (λ rows. rows) tasks)
 
 -- The concatenation of the pieces.

@@ -3,7 +3,7 @@ ghost use Rattle.std.specs.Prelude.{◌≡◌, length, IfOk, IfErr, OnOk};
 ghost use Rattle.std.specs.Arc.{arc_value};
 ghost use Rattle.trace_model.specs.Theory.Dependencies.{dependencies};
 ghost use Rattle.trace_model.specs.Theory.Lawful.{IsWellFormed};
-ghost use Rattle.offline_report.specs.Offline.{IsNotAdmitted, IsRefused, IsReport, whole};
+ghost use Rattle.offline_report.specs.Offline.{IsNotAdmitted, IsOfflineRefusal, IsReport, whole};
 
 use crate::parts::{joined, report_pieces};
 use crate::refused::OfflineRefused;
@@ -27,9 +27,9 @@ pub struct Offline {
 
 impl Model for Offline {
     ghost use Rattle.std.specs.Arc.{arc_value};
-    ghost use Rattle.findings.specs.Found.{Asked};
+    ghost use Rattle.findings.specs.Found.{AskedQuestion};
 
-    ghost Value = { Asked };
+    ghost Value = { AskedQuestion };
 
     ghost view = { λ o. record {
       question = 0;
@@ -86,7 +86,7 @@ impl Offline {
     ) -> Result<Vec<Vec<u8>>, OfflineRefused>
         ensures text { IfOk result
             (λ pieces. IsReport self.now.events self.now.bound (whole pieces.items)) }
-        ensures refused { IfErr result (IsRefused self.now.events self.now.bound) }
+        ensures refused { IfErr result (IsOfflineRefusal self.now.events self.now.bound) }
     {
         let analysis: &Analysis = &self.analysis;
         let snapshot = analysis.snapshot();
@@ -109,7 +109,7 @@ impl Offline {
         hold: &H,
     ) -> Result<Vec<u8>, OfflineRefused>
         ensures text { IfOk result (λ text. IsReport self.now.events self.now.bound text.items) }
-        ensures refused { IfErr result (IsRefused self.now.events self.now.bound) }
+        ensures refused { IfErr result (IsOfflineRefusal self.now.events self.now.bound) }
     {
         let pieces = self.pieces(rt, hold)?;
         match joined(self.alloc, &pieces) {

@@ -2,8 +2,8 @@
 ghost use Rattle.std.specs.Prelude.{◌≡◌, ◌+◌, ◌<◌, ◌≤◌, ◌^◌, ◌++◌, List, [], true, false, sum_by, IfOk, IsTrue, MatchOption};
 ghost use Rattle.std.specs.List.{All, AllZip, flat_map};
 ghost use Rattle.trace_model.specs.declared.limits.TheConstants.{MAX_REPORT};
-ghost use Rattle.reports.specs.Printed.{Printed};
-ghost use Rattle.offline_report.specs.Offline.{ArePiecesOf, IsPartOf, size_of, tasks_report, text_of, whole};
+ghost use Rattle.reports.specs.Printed.{PrintedRow};
+ghost use Rattle.offline_report.specs.Offline.{ArePiecesOf, IsPartOf, size_of, tasks_report, part_text, whole};
 
 use reports::head_text;
 use std::alloc::Global;
@@ -82,7 +82,7 @@ fn confirmed_among(parts: &[Part]) -> u64
 /// `NoMemory` if an allocation fails.
 fn in_pieces(alloc: Global, head: Vec<u8>, parts: Vec<Part>) -> Result<Vec<Vec<u8>>, NoMemory>
     ensures { IfOk result (λ pieces. whole pieces.items ≡ head.items ++
-        flat_map text_of parts.items) }
+        flat_map part_text parts.items) }
 {
     let mut pieces = Vec::with_capacity(alloc, parts.len() + 1)?;
     pieces.push_reserved(head);
@@ -103,9 +103,9 @@ pub(crate) fn report_pieces(
     bound: Bound,
     parts: Vec<Part>,
 ) -> Result<Option<Vec<Vec<u8>>>, NoMemory>
-    requires { (tasks : List (List Printed)) × AllZip IsPartOf tasks parts.items }
+    requires { (tasks : List (List PrintedRow)) × AllZip IsPartOf tasks parts.items }
     ensures { IfOk result
-        (λ written. (tasks : List (List Printed)) → AllZip IsPartOf tasks parts.items →
+        (λ written. (tasks : List (List PrintedRow)) → AllZip IsPartOf tasks parts.items →
         ArePiecesOf (tasks_report events bound tasks) written) }
 {
     let Some(rest) = after_parts(&parts) else {

@@ -12,8 +12,8 @@ pub enum OfflineRefused {
     /// The text has more than `MAX_REPORT` bytes.
     #[error("the report is too long")]
     TooLong,
-    /// A task has more than `MAX_CYCLES` cycles. A report is refused as too long before that many are
-    /// found, so only the command `explain` gives this reason.
+    /// A task has more than `MAX_CYCLES` cycles. A report is refused as too long before that many
+    /// are found, so only the command `explain` gives this reason.
     #[error("too many cycles")]
     TooManyCycles,
     /// An allocation failed.

@@ -1,10 +1,10 @@
 //! The text of the report.
 ghost use Rattle.std.specs.Prelude.{IfOk, IfErr};
-ghost use Rattle.offline_report.specs.Offline.{IsRefused, IsReport};
+ghost use Rattle.offline_report.specs.Offline.{IsOfflineRefusal, IsReport};
 
 use crate::opening::Offline;
 use crate::refused::OfflineRefused;
-use findings::{Hold, NoHold};
+use findings::{Hold, RunOn};
 use std::alloc::Global;
 use std::hash::RandomState;
 use std::thread::Threads;
@@ -28,7 +28,7 @@ pub fn offline_with<R: Threads + Sync, H: Hold + Sync>(
     hold: &H,
 ) -> Result<Vec<u8>, OfflineRefused>
     ensures text { IfOk result (λ text. IsReport events.items bound text.items) }
-    ensures refused { IfErr result (IsRefused events.items bound) }
+    ensures refused { IfErr result (IsOfflineRefusal events.items bound) }
 {
     Offline::open(rt, alloc, state, events, bound)?.report(rt, hold)
 }
@@ -46,7 +46,7 @@ pub fn offline<R: Threads + Sync>(
     bound: Bound,
 ) -> Result<Vec<u8>, OfflineRefused>
     ensures text { IfOk result (λ text. IsReport events.items bound text.items) }
-    ensures refused { IfErr result (IsRefused events.items bound) }
+    ensures refused { IfErr result (IsOfflineRefusal events.items bound) }
 {
-    offline_with(rt, alloc, state, events, bound, &NoHold)
+    offline_with(rt, alloc, state, events, bound, &RunOn)
 }

@@ -1,7 +1,7 @@
 //! The text of the rows of a task, written while they are computed.
 ghost use Rattle.std.specs.Prelude.{◌≡◌, ◌-◌, ◌<◌, ◌^◌, [], cond, IfOk, IsTrue, OnOk};
-ghost use Rattle.reports.specs.Text.{is_confirmed};
-ghost use Rattle.offline_report.specs.RowTexts.{IsEmpty};
+ghost use Rattle.reports.specs.Text.{is_confirmed_row};
+ghost use Rattle.offline_report.specs.RowTexts.{HasNoRows};
 
 use crate::parts::Part;
 use findings::Collector;
@@ -37,7 +37,7 @@ impl<'a> RowTexts<'a> {
     /// The caller passes an empty buffer.
     pub(crate) fn new(buffer: TextBuffer, written: &'a AtomicU64, limit: u64) -> RowTexts<'a>
         requires { buffer ≡ [] }
-        ensures empty { IsEmpty result }
+        ensures empty { HasNoRows result }
         ensures limit { result.limit ≡ limit }
     {
         RowTexts {
@@ -103,7 +103,7 @@ impl<'a> Collector<Row> for RowTexts<'a> {
 
 /// Returns 1 for a confirmed row, else 0.
 fn confirmed_of(row: &Row) -> u64
-    ensures { result ≡ cond (is_confirmed row.now) 1 0 }
+    ensures { result ≡ cond (is_confirmed_row row.now) 1 0 }
 {
     u64::from(row.found.is_some())
 }

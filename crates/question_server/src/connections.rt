@@ -28,7 +28,12 @@ fn linger(stream: &TcpStream) {
 }
 
 /// Answers the requests of the stream until it ends or has a fault.
-pub fn converse<R: Wait, C: Calls>(rt: &R, alloc: Global, stream: &TcpStream, calls: &mut C) {
+pub fn handle_connection<R: Wait, C: Calls>(
+    rt: &R,
+    alloc: Global,
+    stream: &TcpStream,
+    calls: &mut C,
+) {
     // If this fails replies are delayed, but right.
     let _ = stream.set_nodelay(true);
     let mut source = ReadSource::new(stream);

@@ -3,16 +3,16 @@
 //! below. Start reading at [`run_server`].
 #![tactic(auto)]
 
+mod backoff;
 mod connections;
-mod duties;
-mod rest;
+mod handle_pool;
+mod server_tasks;
 mod service;
 mod serving;
-mod spares;
 
 pub use desk::Client;
 pub use offline_report::{offline, offline_with};
 pub use sequencer::Calls;
-pub use service::{ServerFault, Service};
+pub use service::{ServerError, Service};
 pub use serving::run_server;
 pub use sessions::{Ended, ServeFault, Sink, Source, serve};

@@ -2,7 +2,7 @@
 
 /// Why a server ended early.
 #[derive(Clone, Copy, Debug, PartialEq, Eq)]
-pub enum ServerFault {
+pub enum ServerError {
     /// An accept failed.
     Listen,
     /// The desk, the claimants or the worker threads could not be created.

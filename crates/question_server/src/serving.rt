@@ -1,12 +1,12 @@
 //! The server's threads.
 ghost use Rattle.std.specs.Prelude.{◌≡◌};
-ghost use Rattle.sequencer.specs.Book.{IsLimit};
+ghost use Rattle.sequencer.specs.Book.{IsBookLimit};
 ghost use Rattle.question_server.specs.Service.{IsWorkers};
 
-use crate::duties::{DeskDuties, Duties};
-use crate::service::{ServerFault, Service};
-use crate::spares::Spares;
-use board::{HistoryId, NewHistory, Shown};
+use crate::handle_pool::HandlePool;
+use crate::server_tasks::{DeskTasks, ServerTasks};
+use crate::service::{ServerError, Service};
+use board::{BoardState, HistoryId, NewHistory};
 use desk::Desk;
 use findings::Hold;
 use std::alloc::Global;
@@ -24,26 +24,26 @@ const MAX_SEATS: u64 = 16;
 
 /// Serves up to `most` sessions, each in its own thread, and returns their number once they have
 /// ended. A connection beyond `MAX_SEATS` or without a thread is closed and not counted.
-fn take_sessions<R: Threads + Wait, D: Duties>(
+fn take_sessions<R: Threads + Wait, D: ServerTasks>(
     rt: &R,
     listener: &TcpListener,
     most: u64,
-    duties: &D,
-) -> Result<u64, ServerFault> {
+    server_tasks: &D,
+) -> Result<u64, ServerError> {
     let seated = AtomicU64::new(0);
     let seated = &seated;
     thread::scope(thread::scope_env(), rt, |scope| {
         let mut taken = 0u64;
         for stream in listener.incoming() {
             let Ok(stream) = stream else {
-                return Err(ServerFault::Listen);
+                return Err(ServerError::Listen);
             };
             if seated.load(Ordering::SeqCst) >= MAX_SEATS {
                 continue;
             }
             seated.fetch_add(1, Ordering::SeqCst);
             let session = move || {
-                duties.hold_session(stream);
+                server_tasks.run_session(stream);
                 seated.fetch_sub(1, Ordering::SeqCst);
             };
             if scope.spawn(session).is_err() {
@@ -60,21 +60,21 @@ fn take_sessions<R: Threads + Wait, D: Duties>(
 }
 
 /// Runs the workers and serves sessions. Stops the workers once the sessions have ended.
-fn run_threads<R: Threads + Wait, D: Duties>(
+fn run_threads<R: Threads + Wait, D: ServerTasks>(
     rt: &R,
     listener: &TcpListener,
     service: Service,
     stop: &AtomicU64,
-    duties: &D,
-) -> Result<u64, ServerFault> {
+    server_tasks: &D,
+) -> Result<u64, ServerError> {
     thread::scope(thread::scope_env(), rt, |scope| {
         for _ in 0..service.workers {
-            if scope.spawn(move || duties.work()).is_err() {
+            if scope.spawn(move || server_tasks.work()).is_err() {
                 stop.store(1, Ordering::SeqCst);
-                return Err(ServerFault::NotMade);
+                return Err(ServerError::NotMade);
             }
         }
-        let served = take_sessions(rt, listener, u64::from(service.sessions), duties);
+        let served = take_sessions(rt, listener, u64::from(service.sessions), server_tasks);
         stop.store(1, Ordering::SeqCst);
         served
     })
@@ -90,20 +90,20 @@ fn serve_desk<
     alloc: Global,
     listener: &TcpListener,
     service: Service,
-    desk: &Arc<Desk<N, R, Shown<N>>>,
-    spares: &Mutex<Spares<N>>,
+    desk: &Arc<Desk<N, R, BoardState<N>>>,
+    handle_pool: &Mutex<HandlePool<N>>,
     hold: &H,
-) -> Result<u64, ServerFault> {
+) -> Result<u64, ServerError> {
     let stop = AtomicU64::new(0);
-    let duties = DeskDuties {
+    let server_tasks = DeskTasks {
         rt,
         alloc,
         desk,
-        spares,
+        handle_pool,
         hold,
         stop: &stop,
     };
-    run_threads(&rt, listener, service, &stop, &duties)
+    run_threads(&rt, listener, service, &stop, &server_tasks)
 }
 
 /// Creates the desk over this history, and runs workers and sessions at it.
@@ -119,13 +119,13 @@ fn serve_named<
     listener: &TcpListener,
     service: Service,
     hold: &H,
-) -> Result<u64, ServerFault>
+) -> Result<u64, ServerError>
     requires book { history.seen.book ≡ N.book }
     requires limit { service.limit ≡ N.limit }
     requires workers { IsWorkers service.workers }
 {
     let count = MAX_SEATS as usize + service.workers as usize;
-    let Ok((desk, readers)) = Desk::<N, R, Shown<N>>::new(
+    let Ok((desk, readers)) = Desk::<N, R, BoardState<N>>::new(
         alloc,
         state,
         rt,
@@ -133,17 +133,17 @@ fn serve_named<
         service.limit,
         count,
     ) else {
-        return Err(ServerFault::NotMade);
+        return Err(ServerError::NotMade);
     };
     let Ok(desk) = Arc::new(alloc, desk) else {
         drop(readers);
-        return Err(ServerFault::NotMade);
+        return Err(ServerError::NotMade);
     };
-    let served = match Spares::new(alloc, service.workers, readers) {
-        Ok(spares) => {
-            let spares = Mutex::new(spares);
-            let served = serve_desk(rt, alloc, listener, service, &desk, &spares, hold);
-            drop(spares);
+    let served = match HandlePool::new(alloc, service.workers, readers) {
+        Ok(handle_pool) => {
+            let handle_pool = Mutex::new(handle_pool);
+            let served = serve_desk(rt, alloc, listener, service, &desk, &handle_pool, hold);
+            drop(handle_pool);
             served
         }
         Err(fault) => Err(fault),
@@ -170,8 +170,8 @@ pub fn run_server<R: Threads + Wait + Clock + Copy + Send + Sync, H: Hold + Sync
     listener: &TcpListener,
     service: Service,
     hold: &H,
-) -> Result<u64, ServerFault>
-    requires limit { IsLimit service.limit }
+) -> Result<u64, ServerError>
+    requires limit { IsBookLimit service.limit }
     requires workers { IsWorkers service.workers }
 {
     serve_named::<Brand, R, H>(rt, alloc, state, NewHistory::new(), listener, service, hold)

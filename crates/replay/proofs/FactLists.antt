@@ -11,8 +11,8 @@ use Rattle.trace_model.specs.Theory.Lookups.{writer_of, writer}
 use Rattle.trace_model.specs.Theory.Walk.{Walks}
 use Rattle.trace_model.proofs.Lists.{at_index, get-push_kept, get-push_last, length-push}
 use Rattle.trace_model.proofs.Theory.Places.{last_place_some, last_place_none}
-use Rattle.replay.specs.Facts.{is_of, previous, each, of_read}
-use Rattle.replay.specs.Walking.{noted}
+use Rattle.replay.specs.Facts.{is_of_thread, previous, each, of_read}
+use Rattle.replay.specs.Walking.{entry_after}
 use Rattle.replay.specs.Tests.{MissesPlace, MissesEarlier}
 use Rattle.replay.proofs.Lists.{one_thread}
 use Rattle.replay.proofs.LastPlaces.{IsPrevious, missed_by_previous}
@@ -46,16 +46,16 @@ get-each f (suc n) q l =
 pub each_more : {X : Type 0} (f : ℕ → X) (n : ℕ) (xs : List X) (x : X) → xs ≡ each f n → x ≡ f n → xs ++ x ∷ [] ≡ each f (n + 1)
 each_more f n xs x e h = rw (add-one, e, h) refl
 
-pub thread_more : (s : Trace) (n t : ℕ) (e : Event) (old new : Option ℕ) → slice_get s n ≡ Some e → old ≡ last_place (is_of s t) n →
-    new ≡ cond (e.thread == t) (Some n) old → new ≡ last_place (is_of s t) (n + 1)
+pub thread_more : (s : Trace) (n t : ℕ) (e : Event) (old new : Option ℕ) → slice_get s n ≡ Some e → old ≡ last_place (is_of_thread s t) n →
+    new ≡ cond (e.thread == t) (Some n) old → new ≡ last_place (is_of_thread s t) (n + 1)
 thread_more s n t e old new at o h = h ∙ rw (add-one, at, o) refl
 
 pub does_more : (s : Trace) (kind : ℕ → Op) (n key : ℕ) (e : Event) (old new : Option ℕ) → slice_get s n ≡ Some e →
-    old ≡ last_place (does s (kind key)) n → new ≡ noted kind e.op n key old → new ≡ last_place (does s (kind key)) (n + 1)
+    old ≡ last_place (does s (kind key)) n → new ≡ entry_after kind e.op n key old → new ≡ last_place (does s (kind key)) (n + 1)
 does_more s kind n key e old new at o h = h ∙ rw (add-one, at, o) refl
 
-pub previous_is : (s : Trace) (n : ℕ) (e : Event) → slice_get s n ≡ Some e → previous s n ≡ last_place (is_of s e.thread) n
-previous_is s n e at = ap (option_and_then (λ x. last_place (is_of s x.thread) n)) at
+pub previous_is : (s : Trace) (n : ℕ) (e : Event) → slice_get s n ≡ Some e → previous s n ≡ last_place (is_of_thread s e.thread) n
+previous_is s n e at = ap (option_and_then (λ x. last_place (is_of_thread s x.thread) n)) at
 
 pub writer_seen : (s : Trace) (n : ℕ) (e : Event) (table : ℕ → Option ℕ) → slice_get s n ≡ Some e →
     ((v : ℕ) → table v ≡ last_place (does s (Write v)) n) → of_read table e.op ≡ writer s n
@@ -71,22 +71,22 @@ of_thread : (s : Trace) (t p : ℕ) (o : Option Event) → slice_get s p ≡ o �
 of_thread s t p None at h = absurd (false≢true h)
 of_thread s t p (Some e) at h = (e.op, at ∙ ap (λ u. Some (event u e.op)) (eqb-true e.thread t h))
 
-is_of_from : (s : Trace) (t p : ℕ) → OfThread s p t → is_of s t p ≡ true
+is_of_from : (s : Trace) (t p : ℕ) → OfThread s p t → is_of_thread s t p ≡ true
 is_of_from s t p (o, h) = rw h (eq-eqb t t refl)
 
-is_previous : (s : Trace) (t n p : ℕ) → last_place (is_of s t) n ≡ Some p → IsPrevious s t n p
+is_previous : (s : Trace) (t n p : ℕ) → last_place (is_of_thread s t) n ≡ Some p → IsPrevious s t n p
 is_previous s t n p e =
-    let k = last_place_some (is_of s t) n p e in
+    let k = last_place_some (is_of_thread s t) n p e in
     (of_thread s t p (slice_get s p) refl k.1, k.0, λ u a b o. k.2 u a b (is_of_from s t u o))
 
 -- A place of the thread below `n` is missing if and only if the last one is.
-pub missed_by_last : (s : Trace) (passed : List ℕ) → Walks s passed → (t n p : ℕ) (b : Bool) → last_place (is_of s t) n ≡ Some p →
+pub missed_by_last : (s : Trace) (passed : List ℕ) → Walks s passed → (t n p : ℕ) (b : Bool) → last_place (is_of_thread s t) n ≡ Some p →
     (b ≡ true → Contains passed p) × (Contains passed p → b ≡ true) →
     (not b ≡ true → MissesPlace s passed t n) × (MissesPlace s passed t n → not b ≡ true)
 missed_by_last s passed w t n p b e h = missed_by_previous s passed w t n p b (is_previous s t n p e) h
 
-pub none_missed : (s : Trace) (passed : List ℕ) (t n : ℕ) → last_place (is_of s t) n ≡ None → MissesPlace s passed t n → ⊥
-none_missed s passed t n e (u, l, o, m) = last_place_none (is_of s t) n e u l (is_of_from s t u o)
+pub none_missed : (s : Trace) (passed : List ℕ) (t n : ℕ) → last_place (is_of_thread s t) n ≡ None → MissesPlace s passed t n → ⊥
+none_missed s passed t n e (u, l, o, m) = last_place_none (is_of_thread s t) n e u l (is_of_from s t u o)
 
 earlier_place : (s : Trace) (passed : List ℕ) (q : ℕ) (e : Event) → slice_get s q ≡ Some e →
     (MissesPlace s passed e.thread q → MissesEarlier s passed q) × (MissesEarlier s passed q → MissesPlace s passed e.thread q)
@@ -112,4 +112,4 @@ none_missed_earlier s passed q within is m =
 pub previous_within : (s : Trace) (q p : ℕ) → q < length s → previous s q ≡ Some p → p < length s
 previous_within s q p within is =
     let (e, at) = at_index s q within in
-    omega (arith, (last_place_some (is_of s e.thread) q p (sym (previous_is s q e at) ∙ is)).0)
+    omega (arith, (last_place_some (is_of_thread s e.thread) q p (sym (previous_is s q e at) ∙ is)).0)

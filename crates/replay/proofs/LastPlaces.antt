@@ -7,12 +7,12 @@ use Rattle.std.specs.Option.{option_map_or}
 use Rattle.std.specs.List.{Contains}
 use Rattle.trace_model.specs.Theory.Trace.{Trace, event, Does, OfThread, EarlierInThread, op_eq, does}
 use Rattle.trace_model.specs.declared.traces.event.Op.{Op}
-use Rattle.trace_model.specs.Theory.Held.{BeginsOn, begun}
+use Rattle.trace_model.specs.Theory.Held.{BeginsOn, begun_lock}
 use Rattle.trace_model.specs.Theory.Walk.{LastIn, Follows, Walks}
 use Rattle.trace_model.proofs.Theory.Ascending.{place_of, contains_at}
 use Rattle.trace_model.proofs.Lists.{get-push, get-push_kept, get-push_last}
 use Rattle.trace_model.proofs.Theory.Places.{does_from, op_eq_same}
-use Rattle.replay.specs.Walking.{noted, noted_begun, IsLastOf, Keeps, IsWalked}
+use Rattle.replay.specs.Walking.{entry_after, noted_begun, IsLastWith, HasLastOfEachKey, IsWalked}
 use Rattle.replay.specs.declared.walked.Walked.{Walked}
 use Rattle.std.specs.HashMap.{get}
 use Rattle.std.specs.Bool.{Decides}
@@ -53,7 +53,7 @@ previous_stands s passed w t q p (o, l, none) c (u, m, k, n) =
 
 -- The last place of the list that begins a section on the lock.
 abbrev pub IsLastAcquire : Trace → List ℕ → ℕ → ℕ → Type 0
-IsLastAcquire s passed l z = IsLastOf passed (λ u. BeginsOn s u l) z
+IsLastAcquire s passed l z = IsLastWith passed (λ u. BeginsOn s u l) z
 
 -- Every other one has its release, and is an earlier place.
 pub others_closed : (s : Trace) (passed : List ℕ) → Walks s passed → (l z p : ℕ) → IsLastAcquire s passed l z → Contains passed p → BeginsOn s p l →
@@ -101,7 +101,7 @@ later_last s passed l z q (i, e, b, none) m = (z, contains_at passed z i e, b, m
 
 -- A table after one more place.
 pub keeps_push : (passed : List ℕ) (P : ℕ → ℕ → Type 0) (test : ℕ → Bool) (q : ℕ) (table : ℕ → Option ℕ) → ((key : ℕ) → Decides (test key) (P key q)) →
-    Keeps passed P table → Keeps (passed ++ q ∷ []) P (λ key. cond (test key) (Some q) (table key))
+    HasLastOfEachKey passed P table → HasLastOfEachKey (passed ++ q ∷ []) P (λ key. cond (test key) (Some q) (table key))
 keeps_push passed P test q table decides keeps key = go (test key) refl (table key) (keeps key)
   where
     older : test key ≡ false → (j u : ℕ) → slice_get (passed ++ q ∷ []) j ≡ Some u → P key u → slice_get passed j ≡ Some u
@@ -110,8 +110,8 @@ keeps_push passed P test q table decides keeps key = go (test key) refl (table k
       | inr a ↦ absurd (false≢true (sym e ∙ (decides key).1 (subst (P key) (sym a.1) d)))
     ]
 
-    go : (b : Bool) → test key ≡ b → (o : Option ℕ) → MatchOption o ((u : ℕ) → P key u → Contains passed u → ⊥) (IsLastOf passed (P key)) →
-        MatchOption (cond b (Some q) o) ((u : ℕ) → P key u → Contains (passed ++ q ∷ []) u → ⊥) (IsLastOf (passed ++ q ∷ []) (P key))
+    go : (b : Bool) → test key ≡ b → (o : Option ℕ) → MatchOption o ((u : ℕ) → P key u → Contains passed u → ⊥) (IsLastWith passed (P key)) →
+        MatchOption (cond b (Some q) o) ((u : ℕ) → P key u → Contains (passed ++ q ∷ []) u → ⊥) (IsLastWith (passed ++ q ∷ []) (P key))
     go true e o m = (
       length passed,
       get-push_last passed q,
@@ -133,7 +133,7 @@ op_decides s kind done q (t, h) key =
     same = ap (λ r. option_map_or (λ e. op_eq e.op (kind key)) r false) h
 
 -- The test decides whether a section on the lock begins.
-begun_decides : (s : Trace) (q : ℕ) (o : Option ℕ) → begun s q ≡ o → (key : ℕ) → Decides (option_map_or (λ l. l == key) o false) (BeginsOn s q key)
+begun_decides : (s : Trace) (q : ℕ) (o : Option ℕ) → begun_lock s q ≡ o → (key : ℕ) → Decides (option_map_or (λ l. l == key) o false) (BeginsOn s q key)
 begun_decides s q None e key = ((λ h. absurd (false≢true h)), λ b. absurd (none-some key (sym e ∙ begun_from s q key b)))
 begun_decides s q (Some l) e key = (
   (λ h. subst (BeginsOn s q) (eqb-true l key h) (begun_so s q l e)),
@@ -148,18 +148,18 @@ missed_by_previous s passed w t q p true is h = (λ e. absurd (false≢true e), 
 missed_by_previous s passed w t q p false is h = (λ _. (p, is.1, is.0, λ c. false≢true (h.1 c)), λ _. refl)
 
 -- The entry of a key in a table.
-pub kept_some : (passed : List ℕ) (P : ℕ → ℕ → Type 0) (table : ℕ → Option ℕ) → Keeps passed P table → (key z : ℕ) → Some z ≡ table key → IsLastOf passed (P key) z
+pub kept_some : (passed : List ℕ) (P : ℕ → ℕ → Type 0) (table : ℕ → Option ℕ) → HasLastOfEachKey passed P table → (key z : ℕ) → Some z ≡ table key → IsLastWith passed (P key) z
 kept_some passed P table k key z e =
-    subst (λ o. MatchOption o ((u : ℕ) → P key u → Contains passed u → ⊥) (IsLastOf passed (P key))) (sym e) (k key)
+    subst (λ o. MatchOption o ((u : ℕ) → P key u → Contains passed u → ⊥) (IsLastWith passed (P key))) (sym e) (k key)
 
-pub kept_none : (passed : List ℕ) (P : ℕ → ℕ → Type 0) (table : ℕ → Option ℕ) → Keeps passed P table → (key : ℕ) → None ≡ table key →
+pub kept_none : (passed : List ℕ) (P : ℕ → ℕ → Type 0) (table : ℕ → Option ℕ) → HasLastOfEachKey passed P table → (key : ℕ) → None ≡ table key →
     (u : ℕ) → P key u → Contains passed u → ⊥
 kept_none passed P table k key e =
-    subst (λ o. MatchOption o ((u : ℕ) → P key u → Contains passed u → ⊥) (IsLastOf passed (P key))) (sym e) (k key)
+    subst (λ o. MatchOption o ((u : ℕ) → P key u → Contains passed u → ⊥) (IsLastWith passed (P key))) (sym e) (k key)
 
 -- The last write of the table is the last write in the list.
 pub kept_write : (s : Trace) (passed : List ℕ) → Walks s passed → (v : ℕ) (o : Option ℕ) →
-    MatchOption o ((u : ℕ) → Does s u (Write v) → Contains passed u → ⊥) (IsLastOf passed (λ u. Does s u (Write v))) →
+    MatchOption o ((u : ℕ) → Does s u (Write v) → Contains passed u → ⊥) (IsLastWith passed (λ u. Does s u (Write v))) →
     MatchOption o (NoWriteIn s passed v) (λ w. LastIn s passed v w × Does s w (Write v))
 kept_write s passed w v None h = h
 kept_write s passed w v (Some z) (i, e, d, none) = (
@@ -190,31 +190,31 @@ inside_push passed q inside l h p = elim (cases_eq q p) [
       )
 ]
 
-keeps_as : (passed : List ℕ) (P : ℕ → ℕ → Type 0) (f g : ℕ → Option ℕ) → ((key : ℕ) → g key ≡ f key) → Keeps passed P f → Keeps passed P g
+keeps_as : (passed : List ℕ) (P : ℕ → ℕ → Type 0) (f g : ℕ → Option ℕ) → ((key : ℕ) → g key ≡ f key) → HasLastOfEachKey passed P f → HasLastOfEachKey passed P g
 keeps_as passed P f g e k key =
-    subst (λ o. MatchOption o ((u : ℕ) → P key u → Contains passed u → ⊥) (IsLastOf passed (P key))) (sym (e key)) (k key)
+    subst (λ o. MatchOption o ((u : ℕ) → P key u → Contains passed u → ⊥) (IsLastWith passed (P key))) (sym (e key)) (k key)
 
 -- A table of an operation.
 keeps_op : (s : Trace) (passed : List ℕ) (q : ℕ) (kind : ℕ → Op) (done : Op) (f g : ℕ → Option ℕ) → Does s q done →
-    Keeps passed (λ key u. Does s u (kind key)) f → ((key : ℕ) → g key ≡ noted kind done q key (f key)) →
-    Keeps (passed ++ q ∷ []) (λ key u. Does s u (kind key)) g
+    HasLastOfEachKey passed (λ key u. Does s u (kind key)) f → ((key : ℕ) → g key ≡ entry_after kind done q key (f key)) →
+    HasLastOfEachKey (passed ++ q ∷ []) (λ key u. Does s u (kind key)) g
 keeps_op s passed q kind done f g d k e =
     let P : ℕ → ℕ → Type 0 = λ key u. Does s u (kind key) in
     keeps_as (passed ++ q ∷ []) P _ g e (keeps_push passed P (λ key. op_eq done (kind key)) q f (op_decides s kind done q d) k)
 
 -- A table of the sections.
-keeps_begun : (s : Trace) (passed : List ℕ) (q : ℕ) (b : Option ℕ) (f g : ℕ → Option ℕ) → begun s q ≡ b →
-    Keeps passed (λ key u. BeginsOn s u key) f → ((key : ℕ) → g key ≡ noted_begun b q key (f key)) →
-    Keeps (passed ++ q ∷ []) (λ key u. BeginsOn s u key) g
+keeps_begun : (s : Trace) (passed : List ℕ) (q : ℕ) (b : Option ℕ) (f g : ℕ → Option ℕ) → begun_lock s q ≡ b →
+    HasLastOfEachKey passed (λ key u. BeginsOn s u key) f → ((key : ℕ) → g key ≡ noted_begun b q key (f key)) →
+    HasLastOfEachKey (passed ++ q ∷ []) (λ key u. BeginsOn s u key) g
 keeps_begun s passed q b f g is k e =
     let P : ℕ → ℕ → Type 0 = λ key u. BeginsOn s u key in
     keeps_as (passed ++ q ∷ []) P _ g e (keeps_push passed P (λ key. option_map_or (λ l. l == key) b false) q f (begun_decides s q b is) k)
 
 -- The tables after one more place.
-pub walked_push : (s : Trace) (passed : List ℕ) (q : ℕ) (done : Op) (b : Option ℕ) (old new : Walked) → IsWalked s passed old → Follows s passed q → Does s q done → begun s q ≡ b →
+pub walked_push : (s : Trace) (passed : List ℕ) (q : ℕ) (done : Op) (b : Option ℕ) (old new : Walked) → IsWalked s passed old → Follows s passed q → Does s q done → begun_lock s q ≡ b →
     new.inside.items ≡ set old.inside.items q true →
-    ((key : ℕ) → get nat_eq new.forks key ≡ noted Fork done q key (get nat_eq old.forks key)) →
-    ((key : ℕ) → get nat_eq new.writes key ≡ noted Write done q key (get nat_eq old.writes key)) →
+    ((key : ℕ) → get nat_eq new.forks key ≡ entry_after Fork done q key (get nat_eq old.forks key)) →
+    ((key : ℕ) → get nat_eq new.writes key ≡ entry_after Write done q key (get nat_eq old.writes key)) →
     ((key : ℕ) → get nat_eq new.acquires key ≡ noted_begun b q key (get nat_eq old.acquires key)) →
     IsWalked s (passed ++ q ∷ []) new
 walked_push s passed q done b old new a f d w i x y z = record {
@@ -247,15 +247,15 @@ walked_empty s t i x y z = record {
   acquires = λ key. empty (get nat_eq t.acquires key) (λ u. BeginsOn s u key) (z key);
 }
   where
-    empty : (o : Option ℕ) (P : ℕ → Type 0) → o ≡ None → MatchOption o ((u : ℕ) → P u → Contains [] u → ⊥) (IsLastOf [] P)
-    empty o P e = subst (λ r. MatchOption r ((u : ℕ) → P u → Contains [] u → ⊥) (IsLastOf [] P)) (sym e) (λ u d c. none-some u (place_of [] u c).1)
+    empty : (o : Option ℕ) (P : ℕ → Type 0) → o ≡ None → MatchOption o ((u : ℕ) → P u → Contains [] u → ⊥) (IsLastWith [] P)
+    empty o P e = subst (λ r. MatchOption r ((u : ℕ) → P u → Contains [] u → ⊥) (IsLastWith [] P)) (sym e) (λ u d c. none-some u (place_of [] u c).1)
 
 -- The tables of the longer list.
 pub walked_next : (s : Trace) → IsWellFormed s → (order : List ℕ) (k q : ℕ) (done : Op) (b : Option ℕ) (old new : Walked) → slice_get order k ≡ Some q →
-    IsWalked s (take k order) old → IsFirst order_tests s (take k order) q None → Does s q done → begun s q ≡ b →
+    IsWalked s (take k order) old → IsFirst order_tests s (take k order) q None → Does s q done → begun_lock s q ≡ b →
     new.inside.items ≡ set old.inside.items q true →
-    ((key : ℕ) → get nat_eq new.forks key ≡ noted Fork done q key (get nat_eq old.forks key)) →
-    ((key : ℕ) → get nat_eq new.writes key ≡ noted Write done q key (get nat_eq old.writes key)) →
+    ((key : ℕ) → get nat_eq new.forks key ≡ entry_after Fork done q key (get nat_eq old.forks key)) →
+    ((key : ℕ) → get nat_eq new.writes key ≡ entry_after Write done q key (get nat_eq old.writes key)) →
     ((key : ℕ) → get nat_eq new.acquires key ≡ noted_begun b q key (get nat_eq old.acquires key)) →
     IsWalked s (take (k + 1) order) new
 walked_next s wf order k q done b old new e a f d w i x y z =

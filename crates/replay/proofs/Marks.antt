@@ -11,7 +11,7 @@ use Rattle.trace_model.proofs.Lists.{at_index, get-push, get-push_kept, get-push
 use Rattle.trace_model.proofs.Theory.Ascending.{place_of, contains_at}
 use Rattle.trace_model.proofs.Theory.Refutation.{set_cases}
 use Rattle.trace_model.proofs.Theory.Derivable.{derived_push, one_more_derived}
-use Rattle.replay.specs.Refuting.{AreMarked, IsUnmarked}
+use Rattle.replay.specs.Refuting.{AreMarksOf, IsUnmarked}
 use Rattle.replay.proofs.Lists.{take_more}
 
 pub derives_more : (s : Trace) (places : List ℕ) (entries : List Derived) (k : ℕ) (d : Derived) → slice_get entries k ≡ Some d →
@@ -28,8 +28,8 @@ set_keeps (x ∷ xs) zero (suc j) y h = h
 set_keeps (x ∷ xs) (suc i) zero y h = h
 set_keeps (x ∷ xs) (suc i) (suc j) y h = set_keeps xs i j y h
 
-pub place_marked : (marks : List Bool) (p : ℕ) (derived : List ℕ) → p < length marks → AreMarked marks derived →
-    AreMarked (slice_set marks p true) (derived ++ p ∷ [])
+pub place_marked : (marks : List Bool) (p : ℕ) (derived : List ℕ) → p < length marks → AreMarksOf marks derived →
+    AreMarksOf (slice_set marks p true) (derived ++ p ∷ [])
 place_marked marks p derived within h q = (
   (λ e. elim (set_cases marks p q true true e) [
     | inl a ↦ contains_at (derived ++ p ∷ []) q (length derived) (subst (λ x. slice_get (derived ++ p ∷ []) (length derived) ≡ Some x) (sym a.0) (get-push_last derived p))
@@ -43,14 +43,14 @@ place_marked marks p derived within h q = (
 )
 
 pub entry_marked : (marks : List Bool) (p : ℕ) (entries : List Derived) (k : ℕ) (d : Derived) → slice_get entries k ≡ Some d → p ≡ d.place → p < length marks →
-    AreMarked marks (derived_places (take k entries)) → AreMarked (slice_set marks p true) (derived_places (take (k + 1) entries))
+    AreMarksOf marks (derived_places (take k entries)) → AreMarksOf (slice_set marks p true) (derived_places (take (k + 1) entries))
 entry_marked marks p entries k d at same within h =
     let more : derived_places (take (k + 1) entries) ≡ derived_places (take k entries) ++ p ∷ [] =
     ap derived_places (take_more entries k d at) ∙ derived_push (take k entries) d ∙ ap (λ x. derived_places (take k entries) ++ x ∷ []) (sym same) in
-    subst (AreMarked (slice_set marks p true)) (sym more) (place_marked marks p (derived_places (take k entries)) within h)
+    subst (AreMarksOf (slice_set marks p true)) (sym more) (place_marked marks p (derived_places (take k entries)) within h)
 
 -- at first exactly the places of no entry are marked
-pub none_marked : (marks : List Bool) → IsUnmarked marks → AreMarked marks []
+pub none_marked : (marks : List Bool) → IsUnmarked marks → AreMarksOf marks []
 none_marked marks h p = ((λ e. absurd (h p e)), λ c. let (j, at) = place_of [] p c in absurd (none-some p at))
 
 pub no_marks_yet : (n : ℕ) → IsUnmarked (replicate n false)
@@ -62,7 +62,7 @@ no_marks_yet (suc n) (suc p) h = no_marks_yet n p h
 abbrev pub MarkedFrom : List Bool → List Derived → ℕ → Type 0
 MarkedFrom marks entries k = (p : ℕ) → slice_get marks p ≡ Some true → (j : ℕ) × (k ≤ j) × (slice_get (derived_places entries) j ≡ Some p)
 
-pub marked_from_first : (marks : List Bool) (entries : List Derived) → AreMarked marks (derived_places entries) → MarkedFrom marks entries 0
+pub marked_from_first : (marks : List Bool) (entries : List Derived) → AreMarksOf marks (derived_places entries) → MarkedFrom marks entries 0
 marked_from_first marks entries h p e = let (j, at) = place_of (derived_places entries) p ((h p).0 e) in (j, omega arith, at)
 
 -- one mark fewer
@@ -90,7 +90,7 @@ all_unmarked marks entries k past h p e =
 
 -- a marked place is in the trace
 pub marked_within : (marks : List Bool) (entries : List Derived) (k p : ℕ) (d : Derived) → slice_get entries k ≡ Some d → p ≡ d.place →
-    AreMarked marks (derived_places entries) → p < length marks
+    AreMarksOf marks (derived_places entries) → p < length marks
 marked_within marks entries k p d at same h =
     slice_get_within marks p true ((h p).1 (contains_at (derived_places entries) p k
     (subst (λ z. slice_get (derived_places entries) k ≡ Some z) (sym same) (derived_at entries k d at))))

@@ -10,7 +10,7 @@ use Rattle.trace_model.specs.declared.traces.event.Op.{Op}
 use Rattle.trace_model.specs.declared.traces.event.Op.TheVariants.{Fork, Join, Acquire, Release, Read, Write}
 use Rattle.trace_model.specs.declared.limits.TheConstants.{MAX_DEPTH}
 use Rattle.trace_model.specs.Theory.Trace.{Trace, event, At}
-use Rattle.trace_model.specs.Theory.Held.{depth, Begins, BeginsOn, Ends, Holds, begun_of, begun}
+use Rattle.trace_model.specs.Theory.Held.{depth, Begins, BeginsOn, Ends, Holds, begun_of, begun_lock}
 use Rattle.trace_model.specs.Theory.Holders.{owner, depth_by}
 use Rattle.trace_model.specs.Theory.Lawful.{IsWellFormed}
 use Rattle.trace_model.specs.Theory.Lookups.{release, LeastRelease}
@@ -23,7 +23,7 @@ use Rattle.trace_model.proofs.Theory.Lookups.{release_is, release_so}
 use Rattle.trace_model.proofs.Theory.Owners.{depth-owner}
 use Rattle.trace_model.proofs.Theory.Sections.{depth-take, others_lack, released_between}
 use Rattle.replay.specs.declared.sections.Open.{Open}
-use Rattle.replay.specs.OpenSections.{deeper, shallower, open_after, begun_if, begun_by, ended_if, ended_by, with_end}
+use Rattle.replay.specs.OpenSections.{deeper, shallower, open_after, begun_if, begun_section, ended_if, ended_section, with_end}
 
 -- The section that is open on the lock right before the place, or `None` if no thread holds it.
 abbrev pub IsOpen : Trace → ℕ → ℕ → Option Open → Type 0
@@ -203,7 +203,7 @@ module _ (s : Trace) (w : IsWellFormed s) (n : ℕ) (e : Event) (at : At s n e) 
           omega (arith, depth_shallow s w is.0 (suc n) l, acquired l is.0 h, is.4)
 
   -- A section begins if none is open.
-  pub begun_seen : (table : ℕ → Option Open) → AreOpen s n table → begun_by table e.op ≡ begun s n
+  pub begun_seen : (table : ℕ → Option Open) → AreOpen s n table → begun_section table e.op ≡ begun_lock s n
   begun_seen table are = go e.op refl ∙ sym (ap (option_and_then (λ x. begun_of s n x.thread x.op)) at)
     where
       of_acquire : (l : ℕ) → e.op ≡ Acquire l → (o : Option Open) → IsOpen s n l o → begun_if l o ≡ cond (depth s n e.thread l == 0) (Some l) None
@@ -217,7 +217,7 @@ module _ (s : Trace) (w : IsWellFormed s) (n : ℕ) (e : Event) (at : At s n e) 
           go true g = absurd (omega (arith, holds, eqb-true (depth s n e.thread l) 0 g))
           go false g = refl
 
-      go : (o : Op) → e.op ≡ o → begun_by table o ≡ begun_of s n e.thread o
+      go : (o : Op) → e.op ≡ o → begun_section table o ≡ begun_of s n e.thread o
       go (Acquire l) f = of_acquire l f (table l) (are l)
       go (Release l) f = refl
       go (Fork l) f = refl
@@ -226,7 +226,7 @@ module _ (s : Trace) (w : IsWellFormed s) (n : ℕ) (e : Event) (at : At s n e) 
       go (Write l) f = refl
 
   -- The section that ends here is that of the acquire with this release.
-  pub ended_so : (table : ℕ → Option Open) → AreOpen s n table → (a : ℕ) → ended_by table e.op ≡ Some a → release s a ≡ Some n
+  pub ended_so : (table : ℕ → Option Open) → AreOpen s n table → (a : ℕ) → ended_section table e.op ≡ Some a → release s a ≡ Some n
   ended_so table are a = go e.op refl
     where
       of_release : (l : ℕ) → e.op ≡ Release l → (o : Option Open) → IsOpen s n l o → ended_if o ≡ Some a → release s a ≡ Some n
@@ -242,7 +242,7 @@ module _ (s : Trace) (w : IsWellFormed s) (n : ℕ) (e : Event) (at : At s n e) 
               subst (λ x. release s x ≡ Some n) (same_Some o.acquire a m)
               (release_is s o.acquire is.0 l n is.2 (is.1, (rel, one), λ u x y ends. is.3 u x y ends))
 
-      go : (o : Op) → e.op ≡ o → ended_by table o ≡ Some a → release s a ≡ Some n
+      go : (o : Op) → e.op ≡ o → ended_section table o ≡ Some a → release s a ≡ Some n
       go (Release l) f h = of_release l f (table l) (are l) h
       go (Acquire l) f h = absurd (none-some a h)
       go (Fork l) f h = absurd (none-some a h)
@@ -272,11 +272,11 @@ release_once s w p q r a b = go (release_so s p r a) (release_so s q r b)
 
 -- The acquire with this release has the open section that ends there.
 pub ended_from : (s : Trace) → IsWellFormed s → (n : ℕ) (e : Event) → At s n e → (table : ℕ → Option Open) → AreOpen s n table →
-    (q : ℕ) → release s q ≡ Some n → ended_by table e.op ≡ Some q
+    (q : ℕ) → release s q ≡ Some n → ended_section table e.op ≡ Some q
 ended_from s w n e at table are q h = go (release_so s q n h)
   where
-    go : (t : ℕ) × (l : ℕ) × Begins s q t l × LeastRelease s t l q n → ended_by table e.op ≡ Some q
-    go (t, l, begins, (after, ends, none)) = ap (ended_by table) (same_op s w n e at t (Release l) ends.0).1 ∙ by (table l) refl (are l)
+    go : (t : ℕ) × (l : ℕ) × Begins s q t l × LeastRelease s t l q n → ended_section table e.op ≡ Some q
+    go (t, l, begins, (after, ends, none)) = ap (ended_section table) (same_op s w n e at t (Release l) ends.0).1 ∙ by (table l) refl (are l)
       where
         by : (o : Option Open) → table l ≡ o → IsOpen s n l o → ended_if o ≡ Some q
         by None f is = absurd (omega (arith, is t, ends.1))
@@ -286,7 +286,7 @@ ended_from s w n e at table are q h = go (release_so s q n h)
             let one : o.depth ≡ 1 = sym is.4 ∙ ap (λ x. depth s n x l) same ∙ ends.1 in
             let found : ended_if (Some o) ≡ Some o.acquire = rw one refl in
             let op : e.op ≡ Release l = (same_op s w n e at t (Release l) ends.0).1 in
-            let is_it = ended_so s w n e at table are o.acquire (ap (ended_by table) op ∙ ap ended_if f ∙ found) in
+            let is_it = ended_so s w n e at table are o.acquire (ap (ended_section table) op ∙ ap ended_if f ∙ found) in
             found ∙ ap Some (release_once s w o.acquire q n is_it h)
 
 -- ---- the releases so far

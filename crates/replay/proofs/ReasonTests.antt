@@ -5,7 +5,7 @@ use Rattle.std.proofs.lemmas.Option.{same_Some}
 use Rattle.trace_model.specs.declared.traces.event.Event.{Event}
 use Rattle.trace_model.specs.declared.traces.event.Op.TheVariants.{Fork, Join}
 use Rattle.trace_model.specs.Theory.Trace.{Trace, At, event, Does}
-use Rattle.trace_model.specs.Theory.Held.{begun}
+use Rattle.trace_model.specs.Theory.Held.{begun_lock}
 use Rattle.trace_model.specs.Theory.Reordering.{ForkOrJoin}
 use Rattle.trace_model.specs.Theory.Refutation.{BeginOnOneLock}
 use Rattle.trace_model.proofs.Theory.Begun.{begun_so, begun_from}
@@ -35,11 +35,11 @@ joined_or_not s p q c a b at bt is own none = (so, from)
     from (inr (d, j, inr o)) = eq-eqb a.thread c (one_thread s p a d at o ∙ sym (joined d j))
 
 -- the table's entries at which sections begin on one lock
-pub one_lock : (s : Trace) (begins : List (Option ℕ)) → ((q : ℕ) → q < length s → slice_get begins q ≡ Some (begun s q)) →
+pub one_lock : (s : Trace) (begins : List (Option ℕ)) → ((q : ℕ) → q < length s → slice_get begins q ≡ Some (begun_lock s q)) →
     (a b : ℕ) → a < length s → b < length s →
     (((l : ℕ) × (slice_get begins a ≡ Some (Some l)) × (slice_get begins b ≡ Some (Some l))) → BeginOnOneLock s a b)
     × (BeginOnOneLock s a b → (l : ℕ) × (slice_get begins a ≡ Some (Some l)) × (slice_get begins b ≡ Some (Some l)))
 one_lock s begins are a b la lb = (
-  (λ (l, x, y). (l, begun_so s a l (same_Some (begun s a) (Some l) (sym (are a la) ∙ x)), begun_so s b l (same_Some (begun s b) (Some l) (sym (are b lb) ∙ y)))),
+  (λ (l, x, y). (l, begun_so s a l (same_Some (begun_lock s a) (Some l) (sym (are a la) ∙ x)), begun_so s b l (same_Some (begun_lock s b) (Some l) (sym (are b lb) ∙ y)))),
   λ (l, x, y). (l, are a la ∙ ap Some (begun_from s a l x), are b lb ∙ ap Some (begun_from s b l y)),
 )

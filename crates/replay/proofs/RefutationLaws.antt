@@ -2,18 +2,19 @@
 use Rattle.std.proofs.Common.{◌≡◌, ℕ, suc, ◌<◌, ◌↔◌, inl, inr, List, [], ◌∷◌, length, slice_get, slice_set, Option, Some, None, MatchOption, refl, sym, ap, subst, ◌∙◌, arith}
 use Rattle.std.proofs.lemmas.Bool.{cases_lt}
 use Rattle.std.proofs.lemmas.Option.{none-some, same_Some, slice_get_within}
-use Rattle.trace_model.specs.declared.refutations.Step.{Step}
+use Rattle.trace_model.specs.declared.refutations.RefutationStep.{RefutationStep}
 use Rattle.trace_model.specs.Theory.Trace.{Trace}
 use Rattle.trace_model.specs.Theory.Dependencies.{Dependency, dependencies}
 use Rattle.trace_model.specs.Theory.Refutation.{EndsAt, IsFirstFrom, AreFirstPlaces, Derives, IsNextPlace, Refutes, IsRefutation}
 use Rattle.trace_model.proofs.Lists.{at_index}
 use Rattle.trace_model.proofs.Theory.Refutation.{same_member}
 use Rattle.trace_model.proofs.Theory.Unique.{no_later_same}
-use Rattle.replay.specs.declared.refutation_verdict.StepFault.{StepFault}
-use Rattle.replay.specs.declared.refutation_verdict.StepFault.TheVariants.{NoSuchMember, Unjustified, NotDerived}
+use Rattle.replay.specs.declared.refutation_verdict.RefutationFault.{RefutationFault}
+use Rattle.replay.specs.declared.refutation_verdict.RefutationFault.TheVariants.{NoSuchMember, Unjustified, NotDerived}
 use Rattle.replay.specs.declared.refutation_verdict.RefutationVerdict.{RefutationVerdict}
 use Rattle.replay.specs.declared.refutation_verdict.RefutationVerdict.TheVariants.{Valid}
-use Rattle.replay.specs.Refuting.{IsFault, IsEndVerdict, IsVerdictFrom, IsFirstUnknown, IsRefutationVerdict, AreKnown}
+use Rattle.replay.specs.Refuting.{IsFault, IsEndVerdict, IsVerdictFrom, IsFirstUnknown, IsRefutationVerdict}
+use Rattle.dependencies.specs.Tables.{AreDependencyNumbers}
 
 -- ---- what is determined
 
@@ -53,7 +54,7 @@ none_unknown s numbers places m (len, first) (i, at, low, before) =
     let same : n ≡ m = same_Some n m (sym at' ∙ at) in
     omega (arith, same, low, slice_get_within (dependencies s) n d has)
 
-no_fault : (s : Trace) (places : List ℕ) (step : Step) (fault : StepFault) → Derives s places step → IsFault s places step fault → ⊥
+no_fault : (s : Trace) (places : List ℕ) (step : RefutationStep) (fault : RefutationFault) → Derives s places step → IsFault s places step fault → ⊥
 no_fault s places step NoSuchMember (p, at, derivation, ends) none = none-some p (sym none ∙ at)
 no_fault s places step (Unjustified d) (p, at, derivation, ends) (present, is, (k, e, before, wrong)) = wrong (derivation k d e)
 no_fault s places step (NotDerived q) (p, at, derivation, ends) (is, before, missing) =
@@ -61,18 +62,18 @@ no_fault s places step (NotDerived q) (p, at, derivation, ends) (is, before, mis
 
 -- ---- from the verdict, and back
 
-end_of_steps : (steps : List Step) (k : ℕ) → IsEndVerdict steps k Valid → steps ≡ []
+end_of_steps : (steps : List RefutationStep) (k : ℕ) → IsEndVerdict steps k Valid → steps ≡ []
 end_of_steps [] k h = refl
 end_of_steps (step ∷ steps) k h = absurd (cc)
 
-valid_refutes : (s : Trace) (numbers : List ℕ) (steps : List Step) (places : List ℕ) (k : ℕ) → IsVerdictFrom s numbers places steps k Valid → Refutes s numbers places steps
+valid_refutes : (s : Trace) (numbers : List ℕ) (steps : List RefutationStep) (places : List ℕ) (k : ℕ) → IsVerdictFrom s numbers places steps k Valid → Refutes s numbers places steps
 valid_refutes s numbers [] places k h = absurd (cc)
 valid_refutes s numbers (step ∷ steps) places k (inl (fault, is, e)) = absurd (cc)
 valid_refutes s numbers (step ∷ steps) places k (inr (None, derives, next, end)) = (None, derives, next, end_of_steps steps (suc k) end)
 valid_refutes s numbers (step ∷ steps) places k (inr (Some q, derives, next, rest)) =
     (Some q, derives, next, valid_refutes s numbers steps (slice_set places step.member q) (suc k) rest)
 
-refutes_valid : (s : Trace) (numbers : List ℕ) (steps : List Step) (places : List ℕ) (k : ℕ) (v : RefutationVerdict) →
+refutes_valid : (s : Trace) (numbers : List ℕ) (steps : List RefutationStep) (places : List ℕ) (k : ℕ) (v : RefutationVerdict) →
     Refutes s numbers places steps → IsVerdictFrom s numbers places steps k v → v ≡ Valid
 refutes_valid s numbers [] places k v r h = absurd r
 refutes_valid s numbers (step ∷ steps) places k v (next, derives, is, then) (inl (fault, f, e)) = absurd (no_fault s places step fault derives f)
@@ -85,7 +86,7 @@ refutes_valid s numbers (step ∷ steps) places k v (Some q, derives, is, then) 
     refutes_valid s numbers steps (slice_set places step.member q) (suc k) v then
     (subst (λ o. MatchOption o (IsEndVerdict steps (suc k) v) (λ q. IsVerdictFrom s numbers (slice_set places step.member q) steps (suc k) v)) same rest)
 
-pub valid_is_refutation : (s : Trace) (numbers : List ℕ) (steps : List Step) (v : RefutationVerdict) → IsRefutationVerdict s numbers steps v →
+pub valid_is_refutation : (s : Trace) (numbers : List ℕ) (steps : List RefutationStep) (v : RefutationVerdict) → IsRefutationVerdict s numbers steps v →
     (v ≡ Valid) ↔ IsRefutation s numbers steps
 valid_is_refutation s numbers steps v (inl (m, unknown, e)) = (
   (λ h. absurd (cc)),
@@ -99,7 +100,7 @@ valid_is_refutation s numbers steps v (inr (places, first, h)) = (
 
 -- ---- what a walk along the steps begins with
 
-pub first_known : (s : Trace) (numbers places : List ℕ) → AreFirstPlaces s numbers places → AreKnown s numbers
+pub first_known : (s : Trace) (numbers places : List ℕ) → AreFirstPlaces s numbers places → AreDependencyNumbers s numbers
 first_known s numbers places (len, first) i m at =
     let (p, is) = at_index places i (omega (arith, len, slice_get_within numbers i m at)) in
     let (d, (n, at', has), f) = first i p is in

@@ -22,7 +22,7 @@ use Rattle.replay.specs.declared.verdict.Verdict.{Verdict}
 use Rattle.replay.specs.declared.verdict.Verdict.TheVariants.{Reaches, Fails}
 use Rattle.replay.specs.Tests.{NoForkIn, NoWriteIn, IsClosedIn, Breaks}
 use Rattle.replay.specs.Laws.{InTrace, IsWitnessFor}
-use Rattle.replay.specs.Verdict.{order_tests, instance_tests, IsFirst, Passes, StopsAt, OrderPasses, IsVerdict}
+use Rattle.replay.specs.Verdict.{order_tests, instance_tests, IsFirst, Passes, IsFirstFault, OrderPasses, IsVerdict}
 use Rattle.replay.proofs.Lists.{in_unless}
 
 -- If no test is the first that fails, each test passes.
@@ -158,7 +158,7 @@ passes_or_stops : (fs : List Fault) (s : Trace) (passed : ℕ → List ℕ) (pla
 passes_or_stops fs s passed places n f q k l e h x = none-some f (first_unique fs s (passed k) q None (Some f) (h k q l e) x)
 
 stops_unique : (fs : List Fault) (s : Trace) (passed : ℕ → List ℕ) (places : List ℕ) (f g : Fault) (p q : ℕ) →
-    StopsAt fs s passed places (f, p) → StopsAt fs s passed places (g, q) → (f ≡ g) × (p ≡ q)
+    IsFirstFault fs s passed places (f, p) → IsFirstFault fs s passed places (g, q) → (f ≡ g) × (p ≡ q)
 stops_unique fs s passed places f g p q (j, a, b, c) (k, d, e, h) =
     elim (cases_lt j k) [
       | inl l ↦ absurd (passes_or_stops fs s passed places k f p j l a e c)
@@ -173,7 +173,7 @@ stops_unique fs s passed places f g p q (j, a, b, c) (k, d, e, h) =
     ]
 
 never_stops : (fs : List Fault) (s : Trace) (passed : ℕ → List ℕ) (places : List ℕ) (f : Fault) (q : ℕ) →
-    Passes fs s passed places (length places) → StopsAt fs s passed places (f, q) → ⊥
+    Passes fs s passed places (length places) → IsFirstFault fs s passed places (f, q) → ⊥
 never_stops fs s passed places f q h (k, e, b, c) = passes_or_stops fs s passed places (length places) f q k (slice_get_within places k q e) e h c
 
 same_fails : (f g : Fault) (p q : ℕ) → (f ≡ g) × (p ≡ q) → Fails f p ≡ Fails g q

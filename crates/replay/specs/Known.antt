@@ -4,5 +4,5 @@ use Rattle.replay.specs.Facts.{AreFacts}
 use Rattle.replay.specs.Walking.{IsWalked}
 
 -- The facts are those of the trace, and the walk passed the places before.
-abbrev pub IsKnown : Known → Type 0
-IsKnown k = AreFacts k.trace.now k.facts.now × IsWalked k.trace.now k.passed.now k.walked.now
+abbrev pub KnowsWalk : Known → Type 0
+KnowsWalk k = AreFacts k.trace.now k.facts.now × IsWalked k.trace.now k.passed.now k.walked.now

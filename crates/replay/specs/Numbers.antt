@@ -5,8 +5,8 @@ use Rattle.trace_model.specs.Theory.Dependencies.{dependencies}
 use Rattle.dependencies.specs.Tables.{HasNumber}
 
 -- The list has for each place the number of its dependency, or none.
-abbrev pub AreNumbers : Trace → List (Option ℕ) → Type 0
-AreNumbers s numbers = (p m : ℕ) →
+abbrev pub AreNumbersByPlace : Trace → List (Option ℕ) → Type 0
+AreNumbersByPlace s numbers = (p m : ℕ) →
     (slice_get numbers p ≡ Some (Some m)) ↔ HasNumber s (dependencies s) p m
 
 -- The first place from n on that has number m in the list, or none.

@@ -28,9 +28,9 @@ begun_if l None = Some l
 begun_if l (Some o) = None
 
 -- The lock on which the operation begins a section.
-abbrev pub begun_by : (ℕ → Option Open) → Op → Option ℕ
-begun_by table (Acquire l) = begun_if l (table l)
-begun_by table _ = None
+abbrev pub begun_section : (ℕ → Option Open) → Op → Option ℕ
+begun_section table (Acquire l) = begun_if l (table l)
+begun_section table _ = None
 
 -- The acquire whose section a release ends.
 abbrev pub ended_if : Option Open → Option ℕ
@@ -38,9 +38,9 @@ ended_if None = None
 ended_if (Some o) = if nat_le o.depth 1 then Some o.acquire else None
 
 -- The acquire whose section the operation ends.
-abbrev pub ended_by : (ℕ → Option Open) → Op → Option ℕ
-ended_by table (Release l) = ended_if (table l)
-ended_by table _ = None
+abbrev pub ended_section : (ℕ → Option Open) → Op → Option ℕ
+ended_section table (Release l) = ended_if (table l)
+ended_section table _ = None
 
 -- The releases so far, after the section of the acquire, if one is given, ends at the place.
 abbrev pub with_end : List (Option ℕ) → Option ℕ → ℕ → List (Option ℕ)

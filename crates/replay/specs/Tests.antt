@@ -65,14 +65,14 @@ Breaks TooFar s passed q = Contains passed q
 Breaks NotReached s passed q = MissesEarlier s passed q
 
 -- The printed name of a test.
-abbrev pub name_of : Fault → List ℕ
-name_of OutOfTrace = codes "OutOfTrace"
-name_of Repeated = codes "Repeated"
-name_of ThreadOrder = codes "ThreadOrder"
-name_of ForkOrder = codes "ForkOrder"
-name_of JoinOrder = codes "JoinOrder"
-name_of WrongWriter = codes "WrongWriter"
-name_of Overlap = codes "Overlap"
-name_of LockOrder = codes "LockOrder"
-name_of TooFar = codes "TooFar"
-name_of NotReached = codes "NotReached"
+abbrev pub test_name : Fault → List ℕ
+test_name OutOfTrace = codes "OutOfTrace"
+test_name Repeated = codes "Repeated"
+test_name ThreadOrder = codes "ThreadOrder"
+test_name ForkOrder = codes "ForkOrder"
+test_name JoinOrder = codes "JoinOrder"
+test_name WrongWriter = codes "WrongWriter"
+test_name Overlap = codes "Overlap"
+test_name LockOrder = codes "LockOrder"
+test_name TooFar = codes "TooFar"
+test_name NotReached = codes "NotReached"

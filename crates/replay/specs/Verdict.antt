@@ -28,8 +28,8 @@ Passes tests s passed places n =
     (k q : ℕ) → k < n → slice_get places k ≡ Some q → IsFirst tests s (passed k) q None
 
 -- The test is the first that fails, at this place, and none failed before.
-abbrev pub StopsAt : List Fault → Trace → (ℕ → List ℕ) → List ℕ → Fault × ℕ → Type 0
-StopsAt tests s passed places (f, q) =
+abbrev pub IsFirstFault : List Fault → Trace → (ℕ → List ℕ) → List ℕ → Fault × ℕ → Type 0
+IsFirstFault tests s passed places (f, q) =
     (k : ℕ) × (slice_get places k ≡ Some q) × Passes tests s passed places k
     × IsFirst tests s (passed k) q (Some f)
 
@@ -42,5 +42,5 @@ abbrev pub IsVerdict : Trace → List ℕ → List ℕ → Verdict → Type 0
 IsVerdict s order instance Reaches =
     OrderPasses s order × Passes instance_tests s (λ _. order) instance (length instance)
 IsVerdict s order instance (Fails f p) =
-    StopsAt order_tests s (λ k. take k order) order (f, p)
-    ⊎ (OrderPasses s order × StopsAt instance_tests s (λ _. order) instance (f, p))
+    IsFirstFault order_tests s (λ k. take k order) order (f, p)
+    ⊎ (OrderPasses s order × IsFirstFault instance_tests s (λ _. order) instance (f, p))

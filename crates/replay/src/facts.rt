@@ -7,7 +7,7 @@ ghost use Rattle.trace_model.specs.Theory.Trace.{last_place};
 ghost use Rattle.trace_model.specs.Theory.Lawful.{IsWellFormed};
 ghost use Rattle.trace_model.specs.Theory.Lookups.{writer};
 ghost use Rattle.replay.specs.Facts as facts_words;
-ghost use Rattle.replay.specs.Facts.{is_of, each, of_read, AreFacts};
+ghost use Rattle.replay.specs.Facts.{is_of_thread, each, of_read, AreFacts};
 
 use crate::last_places::{LastPlaces, last, note_thread, note_write};
 use crate::sections::{Sections, sections_of};
@@ -68,7 +68,7 @@ fn previous_places(
     ensures previous { IfOk result (λ made. made.0.items ≡
         each (facts_words.previous trace.now) (length trace.now)) }
     ensures lasts { IfOk result (λ made. (t : ℕ) →
-        get nat_eq made.1 t ≡ last_place (is_of trace.now t) (length trace.now)) }
+        get nat_eq made.1 t ≡ last_place (is_of_thread trace.now t) (length trace.now)) }
 {
     let mut lasts: LastPlaces = HashMap::with_hasher(alloc, state);
     let mut previous = Vec::with_capacity(alloc, trace.len())?;

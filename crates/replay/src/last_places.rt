@@ -4,7 +4,7 @@ ghost use Rattle.std.specs.Prelude.{◌≡◌, ◌==◌, ℕ, nat_eq, OnOk, Some
 ghost use Rattle.std.specs.HashMap.{get};
 ghost use Rattle.trace_model.specs.declared.traces.event.Op.{Op};
 ghost use Rattle.trace_model.specs.declared.traces.event.Op.TheVariants.{Fork, Write};
-ghost use Rattle.replay.specs.Walking.{noted, noted_begun};
+ghost use Rattle.replay.specs.Walking.{entry_after, noted_begun};
 
 use std::collections::HashMap;
 use std::collections::hash_map::RandomState;
@@ -26,7 +26,7 @@ pub(crate) fn note_thread(lasts: &mut LastPlaces, thread: u32, place: Place) -> 
 /// Sets the last fork of a thread, if the operation is a fork.
 pub(crate) fn note_fork(forks: &mut LastPlaces, op: Op, place: Place) -> Result<(), NoMemory>
     ensures { OnOk result ((key : ℕ) →
-        get nat_eq forks.new key ≡ noted Fork op place key (get nat_eq forks.old key)) }
+        get nat_eq forks.new key ≡ entry_after Fork op place key (get nat_eq forks.old key)) }
 {
     if let Op::Fork(thread) = op {
         forks.insert(thread, place)?;
@@ -37,7 +37,7 @@ pub(crate) fn note_fork(forks: &mut LastPlaces, op: Op, place: Place) -> Result<
 /// Sets the last write to a variable, if the operation is a write.
 pub(crate) fn note_write(writes: &mut LastPlaces, op: Op, place: Place) -> Result<(), NoMemory>
     ensures { OnOk result ((key : ℕ) →
-        get nat_eq writes.new key ≡ noted Write op place key (get nat_eq writes.old key)) }
+        get nat_eq writes.new key ≡ entry_after Write op place key (get nat_eq writes.old key)) }
 {
     if let Op::Write(variable) = op {
         writes.insert(variable, place)?;

@@ -25,6 +25,6 @@ mod verdict;
 mod walked;
 
 pub use checking::check;
-pub use refutation_verdict::{RefutationVerdict, StepFault};
+pub use refutation_verdict::{RefutationFault, RefutationVerdict};
 pub use refuting::EvidenceChecker;
 pub use verdict::{Fault, Verdict};

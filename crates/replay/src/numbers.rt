@@ -8,7 +8,7 @@ ghost use Rattle.trace_model.specs.Theory.Dependencies.{Dependency as Triple};
 ghost use Rattle.trace_model.specs.Theory.Lawful.{IsWellFormed};
 ghost use Rattle.held_sets.specs.Tables as Held;
 ghost use Rattle.dependencies.specs.Tables.{AllBelow, IsNoted, next_of};
-ghost use Rattle.replay.specs.Numbers.{AreNumbers, IsFirstWith};
+ghost use Rattle.replay.specs.Numbers.{AreNumbersByPlace, IsFirstWith};
 
 use dependencies::laws::tables_follow;
 use dependencies::{DepTable, next_dependency};
@@ -49,8 +49,8 @@ fn note_place(
 /// `NoMemory` if an allocation fails.
 fn note_locks(held: &mut HeldTable, event: Event) -> Result<(), NoMemory>
     requires { (lock : ℕ) → event.op ≡ Acquire lock → Held.Fits held.old event.thread lock }
-    ensures { OnOk result ((s : Trace) (n : ℕ) → Held.FollowsTrace held.old s n → At s n event →
-        Held.FollowsTrace held.new s (suc n)) }
+    ensures { OnOk result ((s : Trace) (n : ℕ) → Held.HasHeldSetsOf held.old s n → At s n event →
+        Held.HasHeldSetsOf held.new s (suc n)) }
 {
     held_follows(); // for the proof
     match event.op {
@@ -73,7 +73,7 @@ pub(crate) fn numbers_of(
     trace: &[Event],
 ) -> Result<Vec<Option<u32>>, NoMemory>
     requires { IsWellFormed trace.now }
-    ensures numbers { IfOk result (λ made. AreNumbers trace.now made.items) }
+    ensures numbers { IfOk result (λ made. AreNumbersByPlace trace.now made.items) }
     ensures sized { IfOk result (λ made. length made.items ≡ length trace.now) }
 {
     tables_follow(); // for the proof

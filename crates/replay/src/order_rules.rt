@@ -6,7 +6,7 @@ ghost use Rattle.trace_model.specs.declared.traces.event.Op.{Op};
 ghost use Rattle.trace_model.specs.Theory.Trace.{Does};
 ghost use Rattle.replay.specs.declared.verdict.Fault.{Fault};
 ghost use Rattle.trace_model.specs.Theory.Held as held_words;
-ghost use Rattle.replay.specs.Known.{IsKnown};
+ghost use Rattle.replay.specs.Known.{KnowsWalk};
 ghost use Rattle.replay.specs.Tests.{NoForkIn, MissesPlace, MissesEarlier, MissesThread, IsClosedIn, SeesWriter, LeavesOpen, HasLater, Breaks};
 ghost use Rattle.replay.specs.Verdict.{IsFirst, order_tests, instance_tests};
 
@@ -45,16 +45,16 @@ impl<'a> Known<'a> {
 
     /// Returns the lock on which a section begins at the place.
     pub(crate) fn begun(&self, place: Place) -> Option<u32>
-        requires known { IsKnown self.now }
+        requires known { KnowsWalk self.now }
         requires in_trace { place < length self.now.trace.now }
-        ensures { result ≡ held_words.begun self.now.trace.now place }
+        ensures { result ≡ held_words.begun_lock self.now.trace.now place }
     {
         self.facts.begins[place.get() as usize]
     }
 
     /// Returns whether the place is before the tested one in the list.
     fn is_passed(&self, place: Place) -> bool
-        requires known { IsKnown self.now }
+        requires known { KnowsWalk self.now }
         requires in_trace { place < length self.now.trace.now }
         ensures { IsTrue result ↔ Contains self.now.passed.now place }
     {
@@ -63,7 +63,7 @@ impl<'a> Known<'a> {
 
     /// Returns whether an earlier place of its thread is missing.
     fn misses_earlier(&self, place: Place) -> bool
-        requires known { IsKnown self.now }
+        requires known { KnowsWalk self.now }
         requires in_trace { place < length self.now.trace.now }
         ensures { IsTrue result ↔ MissesEarlier self.now.trace.now self.now.passed.now place }
     {
@@ -75,7 +75,7 @@ impl<'a> Known<'a> {
 
     /// Returns whether a place of the thread is missing.
     fn misses_last(&self, thread: u32) -> bool
-        requires { IsKnown self.now }
+        requires { KnowsWalk self.now }
         ensures { IsTrue result ↔ MissesPlace self.now.trace.now self.now.passed.now thread
             (length self.now.trace.now) }
     {
@@ -87,7 +87,7 @@ impl<'a> Known<'a> {
 
     /// Returns whether the fork of the thread is missing.
     fn misses_fork(&self, thread: u32) -> bool
-        requires { IsKnown self.now }
+        requires { KnowsWalk self.now }
         ensures { IsTrue result ↔ NoForkIn self.now.trace.now self.now.passed.now thread }
     {
         match last(&self.walked.forks, thread) {
@@ -98,7 +98,7 @@ impl<'a> Known<'a> {
 
     /// Returns whether the fork or a place of the thread is missing.
     fn misses_thread(&self, thread: u32) -> bool
-        requires { IsKnown self.now }
+        requires { KnowsWalk self.now }
         ensures { IsTrue result ↔ MissesThread self.now.trace.now self.now.passed.now thread }
     {
         self.misses_fork(thread) || self.misses_last(thread)
@@ -106,7 +106,7 @@ impl<'a> Known<'a> {
 
     /// Returns whether the release of the outermost acquire was passed.
     fn is_closed(&self, place: Place) -> bool
-        requires known { IsKnown self.now }
+        requires known { KnowsWalk self.now }
         requires in_trace { place < length self.now.trace.now }
         ensures { IsTrue result ↔ IsClosedIn self.now.trace.now self.now.passed.now place }
     {
@@ -119,7 +119,7 @@ impl<'a> Known<'a> {
     /// Returns whether an outermost acquire of the lock was passed without its release. If so, the
     /// last one was.
     fn leaves_open(&self, lock: u32) -> bool
-        requires { IsKnown self.now }
+        requires { KnowsWalk self.now }
         ensures { IsTrue result ↔ LeavesOpen self.now.trace.now self.now.passed.now lock }
     {
         match last(&self.walked.acquires, lock) {
@@ -131,7 +131,7 @@ impl<'a> Known<'a> {
     /// Returns whether a later outermost acquire of the lock was passed. If so, the last one is
     /// later.
     fn has_later(&self, place: Place, lock: u32) -> bool
-        requires { IsKnown self.now }
+        requires { KnowsWalk self.now }
         ensures { IsTrue result ↔ HasLater self.now.trace.now self.now.passed.now place lock }
     {
         match last(&self.walked.acquires, lock) {
@@ -142,7 +142,7 @@ impl<'a> Known<'a> {
 
     /// Returns whether the last passed write to the variable is the writer of the read.
     fn sees_writer(&self, place: Place, variable: u32) -> bool
-        requires known { IsKnown self.now }
+        requires known { KnowsWalk self.now }
         requires reads { Does self.now.trace.now place (Op.Read variable) }
         ensures { IsTrue result ↔ SeesWriter self.now.trace.now self.now.passed.now place variable }
     {
@@ -151,7 +151,7 @@ impl<'a> Known<'a> {
 
     /// Returns whether the test `ForkOrder` fails.
     fn breaks_fork_order(&self, place: Place) -> bool
-        requires known { IsKnown self.now }
+        requires known { KnowsWalk self.now }
         requires in_trace { place < length self.now.trace.now }
         ensures { IsTrue result ↔
             Breaks Fault.ForkOrder self.now.trace.now self.now.passed.now place }
@@ -162,7 +162,7 @@ impl<'a> Known<'a> {
 
     /// Returns whether the test `JoinOrder` fails.
     fn breaks_join_order(&self, place: Place) -> bool
-        requires known { IsKnown self.now }
+        requires known { KnowsWalk self.now }
         requires in_trace { place < length self.now.trace.now }
         ensures { IsTrue result ↔
             Breaks Fault.JoinOrder self.now.trace.now self.now.passed.now place }
@@ -175,7 +175,7 @@ impl<'a> Known<'a> {
 
     /// Returns whether the test `WrongWriter` fails.
     fn breaks_writer(&self, place: Place) -> bool
-        requires known { IsKnown self.now }
+        requires known { KnowsWalk self.now }
         requires in_trace { place < length self.now.trace.now }
         ensures { IsTrue result ↔
             Breaks Fault.WrongWriter self.now.trace.now self.now.passed.now place }
@@ -188,7 +188,7 @@ impl<'a> Known<'a> {
 
     /// Returns whether the test `Overlap` fails.
     fn breaks_sections(&self, place: Place) -> bool
-        requires known { IsKnown self.now }
+        requires known { KnowsWalk self.now }
         requires in_trace { place < length self.now.trace.now }
         ensures { IsTrue result ↔
             Breaks Fault.Overlap self.now.trace.now self.now.passed.now place }
@@ -201,7 +201,7 @@ impl<'a> Known<'a> {
 
     /// Returns whether the test `LockOrder` fails.
     fn breaks_lock_order(&self, place: Place) -> bool
-        requires known { IsKnown self.now }
+        requires known { KnowsWalk self.now }
         requires in_trace { place < length self.now.trace.now }
         ensures { IsTrue result ↔
             Breaks Fault.LockOrder self.now.trace.now self.now.passed.now place }
@@ -214,7 +214,7 @@ impl<'a> Known<'a> {
 
     /// Returns the first test that fails at the next place of the list.
     pub(crate) fn order_fault(&self, place: Place) -> Option<Fault>
-        requires { IsKnown self.now }
+        requires { KnowsWalk self.now }
         ensures { IsFirst order_tests self.now.trace.now self.now.passed.now place result }
     {
         if place.get() as usize >= self.trace.len() {
@@ -246,7 +246,7 @@ impl<'a> Known<'a> {
 
     /// Returns the first test that fails at a place of the instance, after the whole list.
     pub(crate) fn instance_fault(&self, place: Place) -> Option<Fault>
-        requires { IsKnown self.now }
+        requires { KnowsWalk self.now }
         ensures { IsFirst instance_tests self.now.trace.now self.now.passed.now place result }
     {
         if place.get() as usize >= self.trace.len() {

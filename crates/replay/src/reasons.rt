@@ -8,7 +8,7 @@ ghost use Rattle.trace_model.specs.Theory.Lookups.{release};
 ghost use Rattle.trace_model.specs.Theory.Reordering.{ForkOrJoin};
 ghost use Rattle.trace_model.specs.Theory.Refutation.{BeginOnOneLock, Justifies, IsDerivation, derived_places};
 ghost use Rattle.replay.specs.Facts.{AreFacts};
-ghost use Rattle.replay.specs.Refuting.{AreMarked, IsUnmarked, IsUnjustified};
+ghost use Rattle.replay.specs.Refuting.{AreMarksOf, IsUnmarked, IsUnjustified};
 
 use crate::facts::Facts;
 use trace_model::{Derived, Event, Op, Place, Reason};
@@ -135,7 +135,7 @@ fn is_justified(
 ) -> bool
     requires facts { AreFacts trace.now facts.now }
     requires sized { length marks.now ≡ length trace.now }
-    ensures { (derived : List ℕ) → AreMarked marks.now derived →
+    ensures { (derived : List ℕ) → AreMarksOf marks.now derived →
         IsTrue result ↔ Justifies trace.now places.now derived entry.now.reason entry.now.place }
 {
     let place = entry.place;
@@ -173,7 +173,7 @@ pub(crate) fn first_unjustified(
     ensures sized { length marks.new.items ≡ length trace.now }
     ensures first { MatchOption result
         (IsDerivation trace.now places.now entries.now
-        × AreMarked marks.new.items (derived_places entries.now))
+        × AreMarksOf marks.new.items (derived_places entries.now))
         (IsUnjustified trace.now places.now entries.now) }
 {
     for entry in entries {
@@ -187,7 +187,7 @@ pub(crate) fn first_unjustified(
 
 /// Removes the marks, which are those of the places of the entries.
 pub(crate) fn unmark(marks: &mut Vec<bool>, entries: &[Derived])
-    requires { AreMarked marks.old.items (derived_places entries.now) }
+    requires { AreMarksOf marks.old.items (derived_places entries.now) }
     ensures sized { length marks.new.items ≡ length marks.old.items }
     ensures unmarked { IsUnmarked marks.new.items }
 {

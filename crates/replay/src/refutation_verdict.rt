@@ -4,7 +4,7 @@ use trace_model::{Derived, Place};
 
 /// Why a step of a refutation is wrong. The tests are made in this order.
 #[derive(Clone, Copy, Debug, PartialEq, Eq)]
-pub enum StepFault {
+pub enum RefutationFault {
     /// The cycle has no member with the index of the step.
     NoSuchMember,
     /// The reason of this entry of the derivation does not hold. It is the first such entry.
@@ -21,7 +21,7 @@ pub enum RefutationVerdict {
     /// The trace has no dependency with this number. It is the first such number of the cycle.
     UnknownNumber(u32),
     /// The step with this number is the first that is wrong.
-    WrongStep(usize, StepFault),
+    WrongStep(usize, RefutationFault),
     /// The member of the step before this one has no next place, so this step is one too many.
     AfterEnd(usize),
     /// All steps are right, but each of their members has a next place.

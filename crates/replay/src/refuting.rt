@@ -10,23 +10,24 @@ ghost use Rattle.replay.specs.declared.verdict.Verdict.{Verdict};
 ghost use Rattle.replay.specs.Laws.{IsWitnessFor};
 ghost use Rattle.replay.specs.Verdict.{IsVerdict};
 ghost use Rattle.replay.specs.Facts.{AreFacts};
-ghost use Rattle.replay.specs.Numbers.{AreNumbers};
-ghost use Rattle.replay.specs.Refuting.{IsFault, IsFirstUnknown, IsEndVerdict, IsVerdictFrom, IsRefutationVerdict, IsUnmarked, AreKnown};
+ghost use Rattle.replay.specs.Numbers.{AreNumbersByPlace};
+ghost use Rattle.replay.specs.Refuting.{IsFault, IsFirstUnknown, IsEndVerdict, IsVerdictFrom, IsRefutationVerdict, IsUnmarked};
+ghost use Rattle.dependencies.specs.Tables.{AreDependencyNumbers};
 
 use crate::checking::walk;
 use crate::facts::{Facts, facts_of};
 use crate::numbers::{numbers_of, place_from};
 use crate::reasons::{first_unjustified, unmark};
-use crate::refutation_verdict::{RefutationVerdict, StepFault};
+use crate::refutation_verdict::{RefutationFault, RefutationVerdict};
 use crate::verdict::Verdict;
 use crate::walked::Walked;
 use std::alloc::Global;
 use std::collections::hash_map::RandomState;
 use std::marker::Model;
-use trace_model::{Cycle, Derived, Event, Instance, NoMemory, Place, Refutation, Step};
+use trace_model::{Cycle, Derived, Event, Instance, NoMemory, Place, Refutation, RefutationStep};
 
-/// A trace, with the tables by which witnesses and refutations are checked against it. Contracts see
-/// it as the trace.
+/// A trace, with the tables by which witnesses and refutations are checked against it. Contracts
+/// see it as the trace.
 #[derive(Drop)]
 pub struct EvidenceChecker<'a> {
     alloc: Global,
@@ -38,13 +39,13 @@ pub struct EvidenceChecker<'a> {
 
 impl<'a> Model for EvidenceChecker<'a> {
     ghost use Rattle.trace_model.specs.Theory.Trace.{Trace};
-    ghost use Rattle.replay.specs.Refuting.{AreTablesOf};
+    ghost use Rattle.replay.specs.Refuting.{AreRefutationTables};
 
     ghost Value = { Trace };
 
     ghost view = { λ c. c.trace.now };
 
-    ghost invariant = { λ c. AreTablesOf c.trace.now c.facts c.numbers.items };
+    ghost invariant = { λ c. AreRefutationTables c.trace.now c.facts c.numbers.items };
 }
 
 impl<'a> EvidenceChecker<'a> {
@@ -81,8 +82,8 @@ impl<'a> EvidenceChecker<'a> {
         self.trace
     }
 
-    /// Returns the verdict of [`check`](crate::check) on a list of places and an instance. Takes one
-    /// pass over the list.
+    /// Returns the verdict of [`check`](crate::check) on a list of places and an instance. Takes
+    /// one pass over the list.
     ///
     /// # Errors
     /// `NoMemory` if an allocation fails.
@@ -147,7 +148,7 @@ fn first_places(numbers: &[Option<u32>], members: &[u32], places: &mut Vec<Place
     requires few { length numbers.now ≤ MAX_EVENTS }
     requires empty { places.old.items ≡ [] }
     requires room { length members.now ≤ vec_capacity places.old }
-    ensures { (s : Trace) → AreNumbers s numbers.now → MatchOption result
+    ensures { (s : Trace) → AreNumbersByPlace s numbers.now → MatchOption result
         (AreFirstPlaces s members.now places.new.items) (IsFirstUnknown s members.now) }
 {
     for number in members {
@@ -181,9 +182,9 @@ fn step_fault(
     trace: &[Event],
     facts: &Facts,
     places: &[Place],
-    step: &Step,
+    step: &RefutationStep,
     marks: &mut Vec<bool>,
-) -> Option<StepFault>
+) -> Option<RefutationFault>
     requires facts { AreFacts trace.now facts.now }
     requires sized { length marks.old.items ≡ length trace.now }
     requires unmarked { IsUnmarked marks.old.items }
@@ -193,15 +194,15 @@ fn step_fault(
         (Derives trace.now places.now step.now) (IsFault trace.now places.now step.now) }
 {
     let Some(present) = present_of(places, step.member) else {
-        return Some(StepFault::NoSuchMember);
+        return Some(RefutationFault::NoSuchMember);
     };
     let entries = step.derivation.entries();
     if let Some(entry) = first_unjustified(trace, facts, places, entries, marks) {
-        return Some(StepFault::Unjustified(entry));
+        return Some(RefutationFault::Unjustified(entry));
     }
     unmark(marks, entries);
     if !ends_at(entries, present) {
-        return Some(StepFault::NotDerived(present));
+        return Some(RefutationFault::NotDerived(present));
     }
     None
 }
@@ -216,14 +217,14 @@ fn next_place(
     requires few { length numbers.now ≤ MAX_EVENTS }
     requires as_many { length places.now ≡ length members.now }
     requires within { member < length places.now }
-    ensures { (s : Trace) → AreNumbers s numbers.now → AreKnown s members.now →
+    ensures { (s : Trace) → AreNumbersByPlace s numbers.now → AreDependencyNumbers s members.now →
         IsNextPlace s members.now places.now member result }
 {
     place_from(numbers, members[member], places[member].get() as usize + 1)
 }
 
 /// Returns the verdict if no member may move after the first `count` steps.
-fn end_verdict(steps: &[Step], count: usize) -> RefutationVerdict
+fn end_verdict(steps: &[RefutationStep], count: usize) -> RefutationVerdict
     requires { count ≤ length steps.now }
     ensures { IsEndVerdict (drop count steps.now) count result }
 {
@@ -240,14 +241,14 @@ fn follow(
     facts: &Facts,
     numbers: &[Option<u32>],
     members: &[u32],
-    steps: &[Step],
+    steps: &[RefutationStep],
     places: &mut Vec<Place>,
     marks: &mut Vec<bool>,
 ) -> RefutationVerdict
     requires facts { AreFacts trace.now facts.now }
-    requires numbers { AreNumbers trace.now numbers.now }
+    requires numbers { AreNumbersByPlace trace.now numbers.now }
     requires few { length numbers.now ≤ MAX_EVENTS }
-    requires known { AreKnown trace.now members.now }
+    requires known { AreDependencyNumbers trace.now members.now }
     requires as_many { length places.old.items ≡ length members.now }
     requires sized { length marks.old.items ≡ length trace.now }
     requires unmarked { IsUnmarked marks.old.items }

@@ -119,7 +119,7 @@ fn note(opened: &mut OpenSections, op: Op, place: Place) -> Result<(), NoMemory>
 
 /// Returns the lock on which the operation begins a section: an acquired lock that is not held.
 fn begun_by(opened: &OpenSections, op: Op) -> Option<u32>
-    ensures { result ≡ words.begun_by (get nat_eq opened.now) op }
+    ensures { result ≡ words.begun_section (get nat_eq opened.now) op }
 {
     let Op::Acquire(lock) = op else { return None };
     match section(opened, lock) {
@@ -130,7 +130,7 @@ fn begun_by(opened: &OpenSections, op: Op) -> Option<u32>
 
 /// Sets the release of the acquire, if one is given, to `place`.
 fn ended_by(opened: &OpenSections, op: Op) -> Option<Place>
-    ensures { result ≡ words.ended_by (get nat_eq opened.now) op }
+    ensures { result ≡ words.ended_section (get nat_eq opened.now) op }
 {
     let Op::Release(lock) = op else { return None };
     let section = section(opened, lock)?;
@@ -162,7 +162,7 @@ pub(crate) fn sections_of(
 ) -> Result<Sections, NoMemory>
     requires { IsWellFormed trace.now }
     ensures begins { IfOk result (λ made. made.begins.items ≡
-        each (held_words.begun trace.now) (length trace.now)) }
+        each (held_words.begun_lock trace.now) (length trace.now)) }
     ensures releases { IfOk result (λ made. (q : ℕ) → q < length trace.now →
         slice_get made.releases.items q ≡ Some (release trace.now q)) }
 {

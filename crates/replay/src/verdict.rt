@@ -33,11 +33,11 @@ pub enum Fault {
 
 impl Fault {
     ghost use Rattle.std.specs.Prelude.{◌≡◌};
-    ghost use Rattle.replay.specs.Tests.{name_of};
+    ghost use Rattle.replay.specs.Tests.{test_name};
 
     /// Returns the name of the test, as it is printed.
     pub fn name(self) -> &'static str
-        ensures { result.now ≡ name_of self }
+        ensures { result.now ≡ test_name self }
     {
         match self {
             Fault::OutOfTrace => "OutOfTrace",

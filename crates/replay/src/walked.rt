@@ -5,7 +5,7 @@ ghost use Rattle.std.specs.HashMap.{get};
 ghost use Rattle.std.specs.List.{Contains};
 ghost use Rattle.std.specs.Result.{OnOk};
 ghost use Rattle.trace_model.specs.declared.traces.event.Op.{Op};
-ghost use Rattle.replay.specs.Walking.{noted, noted_begun};
+ghost use Rattle.replay.specs.Walking.{entry_after, noted_begun};
 
 use crate::last_places::{LastPlaces, note_begun, note_fork, note_write};
 use std::alloc::Global;
@@ -56,10 +56,10 @@ impl Walked {
             slice_set self.old.inside.items place true) }
         ensures forks { OnOk result ((key : ℕ) →
             get nat_eq self.new.forks key ≡
-            noted Op.Fork op place key (get nat_eq self.old.forks key)) }
+            entry_after Op.Fork op place key (get nat_eq self.old.forks key)) }
         ensures writes { OnOk result ((key : ℕ) →
             get nat_eq self.new.writes key ≡
-            noted Op.Write op place key (get nat_eq self.old.writes key)) }
+            entry_after Op.Write op place key (get nat_eq self.old.writes key)) }
         ensures acquires { OnOk result ((key : ℕ) →
             get nat_eq self.new.acquires key ≡
             noted_begun begun place key (get nat_eq self.old.acquires key)) }

@@ -3,17 +3,17 @@ use Rattle.std.proofs.Common.{Bool, true, false, cond, ◌≡◌, ℕ, zero, suc
 use Rattle.std.proofs.lemmas.List.Concat.{flat_map-append, flat_map-cons}
 use Rattle.std.proofs.Math.Seq.{take-append_seam, drop-append_seam}
 use Rattle.std.specs.List.{range_with_len, slice_range}
-use Rattle.trace_model.specs.Theory.Closure.{Places, ascending}
+use Rattle.trace_model.specs.Theory.Closure.{Places, ascending_places}
 use Rattle.fronts.specs.declared.fronts.Fronts.{Fronts}
-use Rattle.fronts.specs.State.{IsNextRange, places_in, places_of}
+use Rattle.fronts.specs.State.{IsNextRange, included_set, included_places}
 use Rattle.fronts.proofs.PlaceLemmas.{range_split}
-use Rattle.reports.specs.Text.{spaced, run_text}
+use Rattle.reports.specs.Text.{number_list, run_text}
 
 abbrev piece : ℕ → List ℕ
 piece n = codes " " ++ decimal n
 
 pub run_split : (a m n : ℕ) → run_text a (m + n) ≡ run_text a m ++ run_text (a + m) n
-run_split a m n = ap spaced (range_split a m n) ∙ flat_map-append piece (range_with_len a m) (range_with_len (a + m) n)
+run_split a m n = ap number_list (range_split a m n) ∙ flat_map-append piece (range_with_len a m) (range_with_len (a + m) n)
 
 run_one : (a : ℕ) → run_text a 1 ≡ piece a
 run_one a = flat_map-cons piece a [] ∙ append-nil (piece a)
@@ -88,36 +88,36 @@ module _ (all first count : ℕ) (within : first + count ≤ all) where
 
 -- The text of the places up to the end of a range.
 pub spaced_next : (f : Fronts) (at start end : ℕ) → IsNextRange f at start end →
-    spaced (ascending (places_in f) end) ≡ spaced (ascending (places_in f) at) ++ run_text start (end - start)
+    number_list (ascending_places (included_set f) end) ≡ number_list (ascending_places (included_set f) at) ++ run_text start (end - start)
 spaced_next f at start end next =
-    ap spaced next.places ∙ flat_map-append piece (ascending (places_in f) at) (range_with_len start (end - start))
+    ap number_list next.places ∙ flat_map-append piece (ascending_places (included_set f) at) (range_with_len start (end - start))
 
-spaced_grows : (set : Places) (m k : ℕ) → length (spaced (ascending set m)) ≤ length (spaced (ascending set (m + k)))
+spaced_grows : (set : Places) (m k : ℕ) → length (number_list (ascending_places set m)) ≤ length (number_list (ascending_places set (m + k)))
 spaced_grows set m zero = let e : m + 0 ≡ m = omega arith in rw e (omega arith)
 spaced_grows set m (suc k) = let e : m + suc k ≡ suc (m + k) = omega arith in rw e (one (spaced_grows set m k) (set (m + k)))
   where
-    one : (length (spaced (ascending set m)) ≤ length (spaced (ascending set (m + k)))) → (b : Bool) →
-        length (spaced (ascending set m)) ≤ length (spaced (cond b (ascending set (m + k) ++ (m + k) ∷ []) (ascending set (m + k))))
+    one : (length (number_list (ascending_places set m)) ≤ length (number_list (ascending_places set (m + k)))) → (b : Bool) →
+        length (number_list (ascending_places set m)) ≤ length (number_list (cond b (ascending_places set (m + k) ++ (m + k) ∷ []) (ascending_places set (m + k))))
     one before true =
         omega (
           arith,
           before,
-          ap length (flat_map-append piece (ascending set (m + k)) ((m + k) ∷ [])),
-          length-append (spaced (ascending set (m + k))) (spaced ((m + k) ∷ [])),
+          ap length (flat_map-append piece (ascending_places set (m + k)) ((m + k) ∷ [])),
+          length-append (number_list (ascending_places set (m + k))) (number_list ((m + k) ∷ [])),
         )
     one before false = before
 
 -- It is not longer than that of all places.
 pub spaced_within : (f : Fronts) (at start end : ℕ) → IsNextRange f at start end →
-    length (spaced (ascending (places_in f) at)) + length (run_text start (end - start)) ≤ length (spaced (places_of f))
+    length (number_list (ascending_places (included_set f) at)) + length (run_text start (end - start)) ≤ length (number_list (included_places f))
 spaced_within f at start end next =
-    let set = places_in f in
+    let set = included_set f in
     let k = f.end - end in
     let e : end + k ≡ f.end = omega (arith, next.within) in
     omega (
       arith,
       spaced_grows set end k,
-      ap (λ n. length (spaced (ascending set n))) e,
+      ap (λ n. length (number_list (ascending_places set n))) e,
       ap length (spaced_next f at start end next),
-      length-append (spaced (ascending set at)) (run_text start (end - start)),
+      length-append (number_list (ascending_places set at)) (run_text start (end - start)),
     )

@@ -7,8 +7,9 @@ pub record Room (S : Type 0) : Type 1 where
   pub least : ℕ
 
 -- The text is appended.
-abbrev pub Adds : {S : Type 0} → Room S → S → List ℕ → S → Type 0
-Adds room old text new = (written : List ℕ) → room.has old written → room.has new (written ++ text)
+abbrev pub AppendsText : {S : Type 0} → Room S → S → List ℕ → S → Type 0
+AppendsText room old text new = (written : List ℕ) → room.has old written →
+    room.has new (written ++ text)
 
 -- There is no room for the text.
 abbrev pub Lacks : {S : Type 0} → Room S → S → List ℕ → Type 0
@@ -18,4 +19,4 @@ Lacks room old text = (written : List ℕ) → room.has old written → room.lea
 -- The text is appended, or there is no room for it.
 abbrev pub Appends : {S E : Type 0} → Room S → S → List ℕ → Result (Unit {0}) E → S → Type 0
 Appends room old text result new =
-    MatchResult result (λ _. Adds room old text new) (λ _. Lacks room old text)
+    MatchResult result (λ _. AppendsText room old text new) (λ _. Lacks room old text)

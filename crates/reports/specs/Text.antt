@@ -2,22 +2,22 @@
 use Rattle.std.specs.Prelude.{◌≡◌, ℕ, List, ◌++◌, length, codes, decimal, Option, Some, None, is_some, count_by, Bool}
 use Rattle.std.specs.List.{flat_map, range_with_len, zip}
 use Rattle.trace_model.specs.Theory.Dependencies.{Dependency}
-use Rattle.trace_model.specs.Theory.Rows.{Found}
-use Rattle.reports.specs.Printed.{Printed}
+use Rattle.trace_model.specs.Theory.Rows.{Evidence}
+use Rattle.reports.specs.Printed.{PrintedRow}
 use Rattle.reports.specs.declared.report.Plan.{Plan}
 
 -- Each number after one space.
-abbrev pub spaced : List ℕ → List ℕ
-spaced numbers = flat_map (λ n. codes " " ++ decimal n) numbers
+abbrev pub number_list : List ℕ → List ℕ
+number_list numbers = flat_map (λ n. codes " " ++ decimal n) numbers
 
 -- The text of `count` consecutive numbers from `first` on.
 abbrev pub run_text : ℕ → ℕ → List ℕ
-run_text first count = spaced (range_with_len first count)
+run_text first count = number_list (range_with_len first count)
 
 -- A member of a cycle, without the end of its line.
 abbrev pub member : Dependency → List ℕ
 member d = codes "  thread " ++ decimal d.thread ++ codes " lock " ++ decimal d.lock ++
-    codes " holds" ++ spaced d.held
+    codes " holds" ++ number_list d.held
 
 -- The line of a member of a potential cycle.
 abbrev pub member_line : Dependency → List ℕ
@@ -29,21 +29,21 @@ placed_line m = member m.0 ++ codes " place " ++ decimal m.1 ++ codes "\n"
 
 -- The line of a witness.
 abbrev pub witness_line : List ℕ → List ℕ
-witness_line places = codes "  witness" ++ spaced places ++ codes "\n"
+witness_line places = codes "  witness" ++ number_list places ++ codes "\n"
 
 -- The rest of a row after the numbers of its cycle.
-abbrev pub verdict : List Dependency → Option Found → List ℕ
+abbrev pub verdict : List Dependency → Option Evidence → List ℕ
 verdict ds None = codes " potential\n" ++ flat_map member_line ds
 verdict ds (Some found) = codes " confirmed\n" ++ flat_map placed_line (zip ds found.places) ++
     witness_line found.witness
 
 -- The text of a row.
-abbrev pub row_text : Printed → List ℕ
-row_text p = codes "cycle" ++ spaced p.row.cycle ++ verdict p.dependencies p.row.found
+abbrev pub row_text : PrintedRow → List ℕ
+row_text p = codes "cycle" ++ number_list p.row.cycle ++ verdict p.dependencies p.row.found
 
 -- The row is confirmed.
-abbrev pub is_confirmed : Printed → Bool
-is_confirmed p = is_some p.row.found
+abbrev pub is_confirmed_row : PrintedRow → Bool
+is_confirmed_row p = is_some p.row.found
 
 -- The beginning of the first line.
 abbrev pub about : ℕ → ℕ → ℕ → List ℕ
@@ -56,12 +56,12 @@ counts cycles confirmed = codes " cycles " ++ decimal cycles ++ codes " confirme
     decimal confirmed ++ codes "\n"
 
 -- The report with these rows on the first `events` events of a trace.
-abbrev pub report : ℕ → ℕ → ℕ → List Printed → List ℕ
+abbrev pub report : ℕ → ℕ → ℕ → List PrintedRow → List ℕ
 report question events bound rows = about question events bound ++
-    (counts (length rows) (count_by is_confirmed rows) ++ flat_map row_text rows)
+    (counts (length rows) (count_by is_confirmed_row rows) ++ flat_map row_text rows)
 
 -- The length of the report's text, and the numbers in its first line.
-abbrev pub IsPlan : ℕ → ℕ → ℕ → List Printed → Plan → Type 0
+abbrev pub IsPlan : ℕ → ℕ → ℕ → List PrintedRow → Plan → Type 0
 IsPlan question events bound rows plan =
     (plan.length ≡ length (report question events bound rows)) × (plan.cycles ≡ length rows)
-    × (plan.confirmed ≡ count_by is_confirmed rows)
+    × (plan.confirmed ≡ count_by is_confirmed_row rows)

@@ -2,7 +2,7 @@
 
 ghost use Rattle.std.specs.Prelude.{◌≡◌, ◌<◌, ◌≤◌, ◌^◌, ◌+◌, length, [], count_by, sum_by, MatchResult};
 ghost use Rattle.trace_model.specs.declared.limits.TheConstants.{MAX_REPORT};
-ghost use Rattle.reports.specs.Text.{is_confirmed};
+ghost use Rattle.reports.specs.Text.{is_confirmed_row};
 
 use crate::row::Row;
 use crate::run_measure::{RunMeasure, digits};
@@ -72,7 +72,7 @@ impl Sink for Counter {
 
 /// Returns the number of confirmed rows.
 pub fn confirmed_in(rows: &[Row]) -> usize
-    ensures { result ≡ count_by is_confirmed rows.now }
+    ensures { result ≡ count_by is_confirmed_row rows.now }
 {
     let mut count = 0;
     for row in rows {
@@ -95,8 +95,8 @@ pub(crate) fn count_rows(tasks: &[Vec<Row>]) -> usize
 
 /// Returns the number of confirmed rows of all tasks.
 pub(crate) fn count_confirmed(tasks: &[Vec<Row>]) -> usize
-    requires { sum_by (λ task. count_by is_confirmed task.items) tasks.now < 2 ^ 64 }
-    ensures { result ≡ sum_by (λ task. count_by is_confirmed task.items) tasks.now }
+    requires { sum_by (λ task. count_by is_confirmed_row task.items) tasks.now < 2 ^ 64 }
+    ensures { result ≡ sum_by (λ task. count_by is_confirmed_row task.items) tasks.now }
 {
     let mut count = 0;
     for task in tasks {

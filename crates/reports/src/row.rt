@@ -16,11 +16,11 @@ pub struct Found {
 
 impl Model for Found {
     ghost use Rattle.trace_model.specs.Theory.Rows as model;
-    ghost use Rattle.fronts.specs.State.{places_of};
+    ghost use Rattle.fronts.specs.State.{included_places};
 
-    ghost Value = { model.Found };
+    ghost Value = { model.Evidence };
 
-    ghost view = { λ f. record { places = f.places; witness = places_of f.witness } };
+    ghost view = { λ f. record { places = f.places; witness = included_places f.witness } };
 }
 
 /// A cycle, the dependencies of its members in its order, and the instance if it is confirmed.
@@ -41,9 +41,9 @@ impl Drop for Row {
 }
 
 impl Model for Row {
-    ghost use Rattle.reports.specs.Printed.{Printed};
+    ghost use Rattle.reports.specs.Printed.{PrintedRow};
 
-    ghost Value = { Printed };
+    ghost Value = { PrintedRow };
 
     ghost view = { λ r. record {
       row = record { cycle = r.cycle; found = r.found };

@@ -5,8 +5,8 @@
 //! stay appended.
 
 ghost use Rattle.std.specs.List.{flat_map, zip};
-ghost use Rattle.fronts.specs.State.{places_of};
-ghost use Rattle.reports.specs.Text.{spaced, member, member_line, placed_line, witness_line, verdict, row_text, about, counts};
+ghost use Rattle.fronts.specs.State.{included_places};
+ghost use Rattle.reports.specs.Text.{number_list, member, member_line, placed_line, witness_line, verdict, row_text, about, counts};
 ghost use Rattle.reports.specs.Sinks.{Appends};
 
 use crate::row::{Found, Row};
@@ -17,7 +17,7 @@ use trace_model::{Instance, Place};
 
 /// Writes numbers in decimal, each after one space.
 pub(crate) fn write_numbers<T: Sink>(text: &mut T, numbers: &[u32]) -> Result<(), T::Refused>
-    ensures { Appends T.room text.old (spaced numbers.now) result text.new }
+    ensures { Appends T.room text.old (number_list numbers.now) result text.new }
 {
     for number in numbers {
         text.put_number(b" ", u64::from(*number))?;
@@ -28,7 +28,7 @@ pub(crate) fn write_numbers<T: Sink>(text: &mut T, numbers: &[u32]) -> Result<()
 /// Writes the places of the fronts in decimal, ascending, each after one space. Consecutive places
 /// are written in one call.
 pub(crate) fn write_places<T: Sink>(text: &mut T, fronts: &Fronts) -> Result<(), T::Refused>
-    ensures { Appends T.room text.old (spaced (places_of fronts.now)) result text.new }
+    ensures { Appends T.room text.old (number_list (included_places fronts.now)) result text.new }
 {
     let mut at = 0;
     while let Some(range) = fronts.range_from(at) {
@@ -102,7 +102,7 @@ pub(crate) fn write_placed<T: Sink>(
 
 /// Writes the line of a witness.
 pub(crate) fn write_witness_line<T: Sink>(text: &mut T, fronts: &Fronts) -> Result<(), T::Refused>
-    ensures { Appends T.room text.old (witness_line (places_of fronts.now)) result text.new }
+    ensures { Appends T.room text.old (witness_line (included_places fronts.now)) result text.new }
 {
     text.put(b"  witness")?;
     write_places(text, fronts)?;

@@ -11,55 +11,55 @@ use denote.Ref.{Bor}
 use Rattle.std.proofs.lemmas.List.{length-map, length-replicate}
 use Rattle.std.proofs.Math.ListN.{length-set}
 use Rattle.std.proofs.Math.Nat.{mul-zero}
-use Rattle.reports.specs.Printed.{Printed}
+use Rattle.reports.specs.Printed.{PrintedRow}
 use Rattle.result_ledger.specs.Inside.{task_of, tasks_of, IsInOrder}
 use Rattle.result_ledger.specs.Tasks.{IsMissing, IsLeastMissing}
 
-pub told : (ms : List Bool) (rs : List (List Printed)) (k : ℕ) (m : Bool) → length ms ≡ length rs → slice_get ms k ≡ Some m →
-    (r : List Printed) × (slice_get (tasks_of ms rs) k ≡ Some (task_of m r))
-told [] rs k m e h = absurd (cc)
-told (x ∷ ms) [] k m e h = absurd (omega arith)
-told (x ∷ ms) (r ∷ rs) zero m e h = let same : x ≡ m = cc in (r, ap (λ b. Some (task_of b r)) same)
-told (x ∷ ms) (r ∷ rs) (suc k) m e h = told ms rs k m (omega arith) h
+pub task_of_mark : (ms : List Bool) (rs : List (List PrintedRow)) (k : ℕ) (m : Bool) → length ms ≡ length rs → slice_get ms k ≡ Some m →
+    (r : List PrintedRow) × (slice_get (tasks_of ms rs) k ≡ Some (task_of m r))
+task_of_mark [] rs k m e h = absurd (cc)
+task_of_mark (x ∷ ms) [] k m e h = absurd (omega arith)
+task_of_mark (x ∷ ms) (r ∷ rs) zero m e h = let same : x ≡ m = cc in (r, ap (λ b. Some (task_of b r)) same)
+task_of_mark (x ∷ ms) (r ∷ rs) (suc k) m e h = task_of_mark ms rs k m (omega arith) h
 
-pub beyond : (ms : List Bool) (rs : List (List Printed)) (k : ℕ) → slice_get ms k ≡ None → slice_get (tasks_of ms rs) k ≡ None
+pub beyond : (ms : List Bool) (rs : List (List PrintedRow)) (k : ℕ) → slice_get ms k ≡ None → slice_get (tasks_of ms rs) k ≡ None
 beyond [] rs k h = refl
 beyond (x ∷ ms) [] k h = refl
 beyond (x ∷ ms) (r ∷ rs) zero h = absurd (cc)
 beyond (x ∷ ms) (r ∷ rs) (suc k) h = beyond ms rs k h
 
-pub unmarked : (ms : List Bool) (rs : List (List Printed)) (k : ℕ) → length ms ≡ length rs → IsMissing (tasks_of ms rs) k → slice_get ms k ≡ Some false
+pub unmarked : (ms : List Bool) (rs : List (List PrintedRow)) (k : ℕ) → length ms ≡ length rs → IsMissing (tasks_of ms rs) k → slice_get ms k ≡ Some false
 unmarked ms rs k e h = go (slice_get ms k) refl
   where
     go : (o : Option Bool) → slice_get ms k ≡ o → o ≡ Some false
     go None f = let b = beyond ms rs k f in absurd (cc)
-    go (Some true) f = let t = told ms rs k true e f in let u = t.1 in absurd (cc)
+    go (Some true) f = let t = task_of_mark ms rs k true e f in let u = t.1 in absurd (cc)
     go (Some false) f = refl
 
-pub counted : (ms : List Bool) (rs : List (List Printed)) → length ms ≡ length rs → count_by is_some (tasks_of ms rs) ≡ count_by (λ m. m) ms
+pub counted : (ms : List Bool) (rs : List (List PrintedRow)) → length ms ≡ length rs → count_by is_some (tasks_of ms rs) ≡ count_by (λ m. m) ms
 counted [] rs e = refl
 counted (x ∷ ms) [] e = absurd (omega arith)
 counted (true ∷ ms) (r ∷ rs) e = sum_by-cons (λ t. cond (is_some t) 1 0) (Some r) (tasks_of ms rs) ∙ ap (λ n. 1 + n) (counted ms rs (omega arith)) ∙ sym (sum_by-cons (λ m. cond m 1 0) true ms)
 counted (false ∷ ms) (r ∷ rs) e = sum_by-cons (λ t. cond (is_some t) 1 0) None (tasks_of ms rs) ∙ ap (λ n. 0 + n) (counted ms rs (omega arith)) ∙ sym (sum_by-cons (λ m. cond m 1 0) false ms)
 
-pub all_told : {X : Type 0} (g : X → List Printed) (ms : List Bool) (rs : List X) → length ms ≡ length rs → ((k : ℕ) → k < length ms → slice_get ms k ≡ Some true) →
+pub all_delivered : {X : Type 0} (g : X → List PrintedRow) (ms : List Bool) (rs : List X) → length ms ≡ length rs → ((k : ℕ) → k < length ms → slice_get ms k ≡ Some true) →
     tasks_of ms (map g rs) ≡ map (λ r. Some (g r)) rs
-all_told g [] [] e h = refl
-all_told g [] (r ∷ rs) e h = absurd (omega arith)
-all_told g (x ∷ ms) [] e h = absurd (omega arith)
-all_told g (x ∷ ms) (r ∷ rs) e h =
+all_delivered g [] [] e h = refl
+all_delivered g [] (r ∷ rs) e h = absurd (omega arith)
+all_delivered g (x ∷ ms) [] e h = absurd (omega arith)
+all_delivered g (x ∷ ms) (r ∷ rs) e h =
     let here : Some x ≡ Some true = h 0 (omega arith) in
     let same : x ≡ true = cc in
-    let rest = all_told g ms rs (omega arith) (λ k l. h (suc k) (omega arith)) in
+    let rest = all_delivered g ms rs (omega arith) (λ k l. h (suc k) (omega arith)) in
     λ i. task_of (same i) (g r) ∷ rest i
 
-pub told_more : {X : Type 0} (g : X → List Printed) (ms : List Bool) (rs : List X) (i : ℕ) (r : X) → length ms ≡ length rs →
+pub tasks_more : {X : Type 0} (g : X → List PrintedRow) (ms : List Bool) (rs : List X) (i : ℕ) (r : X) → length ms ≡ length rs →
     tasks_of (slice_set ms i true) (map g (slice_set rs i r)) ≡ slice_set (tasks_of ms (map g rs)) i (Some (g r))
-told_more g [] [] i r e = refl
-told_more g [] (y ∷ rs) i r e = absurd (omega arith)
-told_more g (x ∷ ms) [] i r e = absurd (omega arith)
-told_more g (x ∷ ms) (y ∷ rs) zero r e = refl
-told_more g (x ∷ ms) (y ∷ rs) (suc i) r e = ap (λ ts. task_of x (g y) ∷ ts) (told_more g ms rs i r (omega arith))
+tasks_more g [] [] i r e = refl
+tasks_more g [] (y ∷ rs) i r e = absurd (omega arith)
+tasks_more g (x ∷ ms) [] i r e = absurd (omega arith)
+tasks_more g (x ∷ ms) (y ∷ rs) zero r e = refl
+tasks_more g (x ∷ ms) (y ∷ rs) (suc i) r e = ap (λ ts. task_of x (g y) ∷ ts) (tasks_more g ms rs i r (omega arith))
 
 pub counted_more : (ms : List Bool) (i : ℕ) → slice_get ms i ≡ Some false → count_by (λ m. m) (slice_set ms i true) ≡ count_by (λ m. m) ms + 1
 counted_more [] i h = absurd (cc)
@@ -80,21 +80,21 @@ still_marked (x ∷ ms) (suc i) (suc k) h = still_marked ms i k h
 clash : (o : Option Bool) → o ≡ Some true → o ≡ Some false → ⊥
 clash o e f = cc
 
-pub least_missing : (ms : List Bool) (rs : List (List Printed)) (n m : ℕ) → IsInOrder ms rs n m → m < length ms → IsLeastMissing (tasks_of ms rs) m
+pub least_missing : (ms : List Bool) (rs : List (List PrintedRow)) (n m : ℕ) → IsInOrder ms rs n m → m < length ms → IsLeastMissing (tasks_of ms rs) m
 least_missing ms rs n m order l = (
-  (told ms rs m false order.long (order.first l)).1,
+  (task_of_mark ms rs m false order.long (order.first l)).1,
   λ other h. elim (cases_lt other m) [
     | inl e ↦ absurd (clash (slice_get ms other) (order.before other e) (unmarked ms rs other order.long h))
     | inr e ↦ e
   ],
 )
 
-pub none_missing : (ms : List Bool) (rs : List (List Printed)) (n m : ℕ) → IsInOrder ms rs n m → length ms ≤ m → (task : ℕ) → IsMissing (tasks_of ms rs) task → ⊥
+pub none_missing : (ms : List Bool) (rs : List (List PrintedRow)) (n m : ℕ) → IsInOrder ms rs n m → length ms ≤ m → (task : ℕ) → IsMissing (tasks_of ms rs) task → ⊥
 none_missing ms rs n m order l task h =
     let gone = unmarked ms rs task order.long h in
     clash (slice_get ms task) (order.before task (omega (arith, slice_get_within ms task false gone))) gone
 
-pub marked_more : {X : Type 0} (g : X → List Printed) (ms : List Bool) (rs : List X) (n m i last : ℕ) (r : X) → IsInOrder ms (map g rs) n m → slice_get ms i ≡ Some false →
+pub marked_more : {X : Type 0} (g : X → List PrintedRow) (ms : List Bool) (rs : List X) (n m i last : ℕ) (r : X) → IsInOrder ms (map g rs) n m → slice_get ms i ≡ Some false →
     m ≤ last → last ≤ length (slice_set ms i true) → ((k : ℕ) → m ≤ k → k < last → slice_get (slice_set ms i true) k ≡ Some true) →
     (last < length (slice_set ms i true) → slice_get (slice_set ms i true) last ≡ Some false) →
     IsInOrder (slice_set ms i true) (map g (slice_set rs i r)) (n + 1) last
@@ -107,16 +107,16 @@ marked_more g ms rs n m i last r order h from within before first = record {
   first = first;
 }
 
-pub none_told : (n : ℕ) (rs : List (List Printed)) → length rs ≡ n → tasks_of (replicate n false) rs ≡ replicate n None
-none_told zero rs e = refl
-none_told (suc n) [] e = absurd (omega arith)
-none_told (suc n) (r ∷ rs) e = ap (λ ts. None ∷ ts) (none_told n rs (omega arith))
+pub none_delivered : (n : ℕ) (rs : List (List PrintedRow)) → length rs ≡ n → tasks_of (replicate n false) rs ≡ replicate n None
+none_delivered zero rs e = refl
+none_delivered (suc n) [] e = absurd (omega arith)
+none_delivered (suc n) (r ∷ rs) e = ap (λ ts. None ∷ ts) (none_delivered n rs (omega arith))
 
 head_of : (n : ℕ) → 0 < n → slice_get (replicate n false) 0 ≡ Some false
 head_of zero l = absurd (omega arith)
 head_of (suc n) l = refl
 
-pub opened : (n : ℕ) (ms : List Bool) (rs : List (List Printed)) → ms ≡ replicate n false → length rs ≡ n → n < 2 ^ 32 → IsInOrder ms rs 0 0
+pub opened : (n : ℕ) (ms : List Bool) (rs : List (List PrintedRow)) → ms ≡ replicate n false → length rs ≡ n → n < 2 ^ 32 → IsInOrder ms rs 0 0
 opened n ms rs e f l = subst (λ xs. IsInOrder xs rs 0 0) (sym e) (record {
   long = length-replicate n false ∙ sym f;
   short = omega arith;
@@ -127,7 +127,7 @@ opened n ms rs e f l = subst (λ xs. IsInOrder xs rs 0 0) (sym e) (record {
 })
 
 -- The same, for marks in a separate list.
-pub marked_at : {X : Type 0} (g : X → List Printed) (ms : List Bool) (rs : List X) (n m i last : ℕ) (r : X) (now : List Bool) → IsInOrder ms (map g rs) n m → slice_get ms i ≡ Some false →
+pub marked_at : {X : Type 0} (g : X → List PrintedRow) (ms : List Bool) (rs : List X) (n m i last : ℕ) (r : X) (now : List Bool) → IsInOrder ms (map g rs) n m → slice_get ms i ≡ Some false →
     now ≡ slice_set ms i true → (m ≤ last) × (last ≤ length now) → ((k : ℕ) → m ≤ k → k < last → slice_get now k ≡ Some true) →
     (last < length now → slice_get now last ≡ Some false) → IsInOrder (slice_set ms i true) (map g (slice_set rs i r)) (n + 1) last
 marked_at g ms rs n m i last r now order h e w b f = marked_more g ms rs n m i last r order h w.0

@@ -1,21 +1,22 @@
 -- The tasks of a question, and the rows of those that are delivered.
 use Rattle.std.specs.Prelude.{◌≡◌, ℕ, ◌≤◌, List, slice_get, Option, Some, None}
-use Rattle.reports.specs.Printed.{Printed}
+use Rattle.reports.specs.Printed.{PrintedRow}
 use Rattle.result_ledger.specs.declared.ledger.LedgerRefused.{LedgerRefused}
 use Rattle.result_ledger.specs.declared.ledger.LedgerRefused.TheVariants.{NoSuchTask, Double}
 
 -- The rows of each task, once it is delivered.
 abbrev pub Tasks : Type 0
-Tasks = List (Option (List Printed))
+Tasks = List (Option (List PrintedRow))
 
 -- The task exists and is not delivered.
 abbrev pub IsMissing : Tasks → ℕ → Type 0
 IsMissing tasks task = slice_get tasks task ≡ Some None
 
 -- Why the rows of a task are refused.
-abbrev pub IsRefused : Tasks → ℕ → LedgerRefused → Type 0
-IsRefused tasks task NoSuchTask = slice_get tasks task ≡ None
-IsRefused tasks task Double = (rows : List Printed) × (slice_get tasks task ≡ Some (Some rows))
+abbrev pub IsLedgerRefusal : Tasks → ℕ → LedgerRefused → Type 0
+IsLedgerRefusal tasks task NoSuchTask = slice_get tasks task ≡ None
+IsLedgerRefusal tasks task Double = (rows : List PrintedRow)
+    × (slice_get tasks task ≡ Some (Some rows))
 
 -- The least task that is not delivered.
 abbrev pub IsLeastMissing : Tasks → ℕ → Type 0

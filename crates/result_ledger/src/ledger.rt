@@ -45,10 +45,10 @@ impl Drop for Ledger {
 
 impl Model for Ledger {
     ghost use Rattle.std.specs.Prelude.{List, Option, map};
-    ghost use Rattle.reports.specs.Printed.{Printed};
+    ghost use Rattle.reports.specs.Printed.{PrintedRow};
     ghost use Rattle.result_ledger.specs.Inside.{IsInOrder, tasks_of};
 
-    ghost Value = { List (Option (List Printed)) };
+    ghost Value = { List (Option (List PrintedRow)) };
 
     ghost view = { λ l. tasks_of l.marks.items (map (λ rows. rows.items) l.rows.items) };
 
@@ -57,7 +57,7 @@ impl Model for Ledger {
 }
 
 impl Ledger {
-    ghost use Rattle.result_ledger.specs.Tasks.{IsMissing, IsLeastMissing, IsRefused};
+    ghost use Rattle.result_ledger.specs.Tasks.{IsMissing, IsLeastMissing, IsLedgerRefusal};
 
     /// Returns a ledger of `total` tasks, none of them delivered.
     ///
@@ -87,7 +87,8 @@ impl Ledger {
     /// - `NoSuchTask` if the question has no such task.
     /// - `Double` if the task was delivered before.
     pub fn test(&self, task: u32) -> Result<(), LedgerRefused>
-        ensures { MatchResult result (λ _. IsMissing self.now task) (IsRefused self.now task) }
+        ensures { MatchResult result (λ _. IsMissing self.now task)
+            (IsLedgerRefusal self.now task) }
     {
         match mark_of(self.marks.as_slice(), task) {
             None => Err(LedgerRefused::NoSuchTask),
@@ -137,7 +138,7 @@ impl Ledger {
     pub fn accept(&mut self, task: u32, rows: Vec<Row>) -> Result<(), (LedgerRefused, Vec<Row>)>
         ensures { MatchResult result
             (λ _. IsMissing self.old task × (self.new ≡ slice_set self.old task (Some rows.items)))
-            (λ refused. IsRefused self.old task refused.0 × (refused.1 ≡ rows)
+            (λ refused. IsLedgerRefusal self.old task refused.0 × (refused.1 ≡ rows)
             × (self.new ≡ self.old)) }
     {
         match self.test(task) {

@@ -3,7 +3,7 @@ use Rattle.std.proofs.Common.{◌≡◌, ℕ, zero, suc, ◌<◌, ◌≤◌, inl
 use Rattle.std.proofs.lemmas.Bool.{cases_eq}
 use Rattle.std.proofs.lemmas.Option.{none-some, same_Some, slice_get_within}
 use Rattle.trace_model.specs.Theory.Trace.{last_place}
-use Rattle.trace_model.specs.Theory.Closure.{Places, ascending}
+use Rattle.trace_model.specs.Theory.Closure.{Places, ascending_places}
 use Rattle.trace_model.proofs.Lists.{get-append, get-push_last, length-push}
 use Rattle.segments.specs.Linking.{count_below}
 
@@ -38,30 +38,30 @@ count-agree f g zero h = refl
 count-agree f g (suc n) h = rw (h n (omega arith), count-agree f g n (λ p l. h p (omega arith))) refl
 
 -- the length of the list of passing places is their count
-pub length_ascending : (test : Places) (n : ℕ) → length (ascending test n) ≡ count_below test n
+pub length_ascending : (test : Places) (n : ℕ) → length (ascending_places test n) ≡ count_below test n
 length_ascending test zero = refl
 length_ascending test (suc n) = go (length_ascending test n) (test n)
   where
-    go : length (ascending test n) ≡ count_below test n → (b : Bool) →
-        length (cond b (ascending test n ++ n ∷ []) (ascending test n)) ≡ cond b (suc (count_below test n)) (count_below test n)
-    go more true = length-push (ascending test n) n ∙ ap suc more
+    go : length (ascending_places test n) ≡ count_below test n → (b : Bool) →
+        length (cond b (ascending_places test n ++ n ∷ []) (ascending_places test n)) ≡ cond b (suc (count_below test n)) (count_below test n)
+    go more true = length-push (ascending_places test n) n ∙ ap suc more
     go more false = more
 
 -- a passing place is in the list of them at the index that its count gives
-pub nth : (test : Places) (n p : ℕ) → p < n → test p ≡ true → slice_get (ascending test n) (count_below test p) ≡ Some p
+pub nth : (test : Places) (n p : ℕ) → p < n → test p ≡ true → slice_get (ascending_places test n) (count_below test p) ≡ Some p
 nth test zero p l h = absurd (omega arith)
 nth test (suc n) p l h = elim (cases_eq p n) [
   | inl same ↦
       let here : test n ≡ true = ap test (sym same) ∙ h in
-      ap (λ b. slice_get (cond b (ascending test n ++ n ∷ []) (ascending test n)) (count_below test p)) here
-      ∙ ap (slice_get (ascending test n ++ n ∷ [])) (ap (count_below test) same ∙ sym (length_ascending test n))
-      ∙ get-push_last (ascending test n) n ∙ ap Some (sym same)
+      ap (λ b. slice_get (cond b (ascending_places test n ++ n ∷ []) (ascending_places test n)) (count_below test p)) here
+      ∙ ap (slice_get (ascending_places test n ++ n ∷ [])) (ap (count_below test) same ∙ sym (length_ascending test n))
+      ∙ get-push_last (ascending_places test n) n ∙ ap Some (sym same)
   | inr other ↦
       let below : p < n = omega arith in
       more (nth test n p below h) (test n)
 ]
   where
-    more : slice_get (ascending test n) (count_below test p) ≡ Some p → (b : Bool) →
-        slice_get (cond b (ascending test n ++ n ∷ []) (ascending test n)) (count_below test p) ≡ Some p
-    more e true = get-append (ascending test n) (n ∷ []) (count_below test p) (slice_get_within (ascending test n) (count_below test p) p e) ∙ e
+    more : slice_get (ascending_places test n) (count_below test p) ≡ Some p → (b : Bool) →
+        slice_get (cond b (ascending_places test n ++ n ∷ []) (ascending_places test n)) (count_below test p) ≡ Some p
+    more e true = get-append (ascending_places test n) (n ∷ []) (count_below test p) (slice_get_within (ascending_places test n) (count_below test p) p e) ∙ e
     more e false = e

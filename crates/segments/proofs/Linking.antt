@@ -13,7 +13,7 @@ use Rattle.segments.proofs.Counting.{count_last, count_none, count-agree}
 pub link_earlier : (test : Places) (p number : ℕ) (link : Link) → IsLink test p link → number < link.number → link.earlier ≡ None → ⊥
 link_earlier test p number link is more none = let zero_is = count_none test p (sym is.earlier_is ∙ none) in let n = is.number_is in omega arith
 
--- the entry is the last one below p that passes
+-- the entry is the last one below p that matches
 pub record IsEarlier (test : Places) (p q : ℕ) : Type 0 where
   pub below : q < p
   pub passes_is : test q ≡ true

@@ -7,6 +7,6 @@ index_of zero = None
 index_of (suc n) = Some n
 
 -- The number that encodes an optional index.
-abbrev pub code_of : Option ℕ → ℕ
-code_of None = zero
-code_of (Some n) = suc n
+abbrev pub code_of_index : Option ℕ → ℕ
+code_of_index None = zero
+code_of_index (Some n) = suc n

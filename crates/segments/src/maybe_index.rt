@@ -8,13 +8,13 @@ pub struct MaybeIndex(u32);
 
 impl Model for MaybeIndex {
     ghost use Rattle.std.specs.Prelude.{Option, ℕ};
-    ghost use Rattle.segments.specs.Links.{index_of, code_of};
+    ghost use Rattle.segments.specs.Links.{index_of, code_of_index};
 
     ghost Value = { Option ℕ };
 
     ghost view = { λ e. index_of e.0 };
 
-    ghost inverse = { λ o. record { 0 = code_of o } };
+    ghost inverse = { λ o. record { 0 = code_of_index o } };
 }
 
 impl MaybeIndex {

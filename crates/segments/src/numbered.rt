@@ -7,7 +7,7 @@ mod share;
 
 ghost use Rattle.std.specs.Prelude.{◌≡◌, ◌≤◌, ◌<◌, ◌+◌, ◌++◌, ◌∷◌, [], ℕ, length, take, true, nat_eq, OnOk, IfOk, if◌then◌else◌};
 ghost use Rattle.std.specs.List.Sorted.{IsStrictlyIncreasing};
-ghost use Rattle.segments.specs.Notes.{places_in, notes_below, Ascend};
+ghost use Rattle.segments.specs.Notes.{noted_places, notes_below, Ascend};
 
 use crate::Segments;
 use crate::links::link_after;
@@ -33,9 +33,9 @@ pub struct NumberedPlaces {
 
 impl Model for NumberedPlaces {
     ghost use Rattle.std.specs.Prelude.{vec_len};
-    ghost use Rattle.segments.specs.Notes.{Numbered, pairs_of, has_room, AreNumbered};
+    ghost use Rattle.segments.specs.Notes.{NumberedPlacesView, pairs_of, has_room, IsNumberedTable};
 
-    ghost Value = { Numbered };
+    ghost Value = { NumberedPlacesView };
 
     ghost view = { λ p. record {
       notes = pairs_of p.notes.0;
@@ -43,7 +43,7 @@ impl Model for NumberedPlaces {
       room = has_room p.notes.1 p.heads;
     } };
 
-    ghost invariant = { λ p. AreNumbered p.notes.0 p.heads.items };
+    ghost invariant = { λ p. IsNumberedTable p.notes.0 p.heads.items };
 }
 
 impl NumberedPlaces {
@@ -100,8 +100,8 @@ impl NumberedPlaces {
 
     /// Returns the places of `number`, which must ascend.
     pub fn places(&self, number: u32) -> PlacesOf<'_>
-        requires { IsStrictlyIncreasing (places_in self.now.notes number) }
-        ensures { result ≡ places_in self.now.notes number }
+        requires { IsStrictlyIncreasing (noted_places self.now.notes number) }
+        ensures { result ≡ noted_places self.now.notes number }
     {
         let list = NumberList {
             notes: &self.notes,

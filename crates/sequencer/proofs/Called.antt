@@ -15,13 +15,13 @@ use Rattle.trace_model.specs.declared.messages.session.Reply.{Reply}
 use Rattle.trace_model.specs.declared.messages.session.Reply.TheVariants as replies
 use Rattle.trace_model.specs.Theory.Lawful.{refusal_of}
 use Rattle.trace_model.specs.Protocol.Batches.{AreLawful, IsLongest}
-use Rattle.trace_model.specs.Protocol.Machine.{Question, State, answer_of, ask_refused, ask_reply, delivered, offer_reply, status_of, step, with_events}
+use Rattle.trace_model.specs.Protocol.Machine.{Question, State, answer_of, ask_refused, ask_reply, delivered_count, offer_reply, status_of, step, with_events}
 use Rattle.trace_model.specs.Protocol.Replies.{IsReply}
 use Rattle.trace_model.proofs.Protocol.Batches.{longest_is}
 use Rattle.sequencer.specs.Book.{IsRefusal, Refuses, TakesMemory}
 use Rattle.sequencer.specs.Batched.{EndsBatch, IsBatched}
 use Rattle.sequencer.specs.Called.{IsSingle, StepsOrMemory, WantsRightly, lacks_memory}
-use Rattle.sequencer.specs.Printing.{printing}
+use Rattle.sequencer.specs.Printing.{report_printer}
 use Rattle.sequencer.specs.declared.batching.Batched.{Batched}
 
 -- ---- a batch
@@ -33,19 +33,19 @@ past events n none = elim (slice_get_cases events n).1 [
 ]
 
 -- the machine's reply to a batch of which this number of events is accepted
-told : (s : State) (events : List Event) (n : ℕ) (o : Option Refusal) → IsLongest s.limit s.accepted events (n, o) →
-    step printing s (Batch events) ≡ (replies.Batched n o (length s.accepted), with_events s (take n events))
-told s events n o h =
+question_view : (s : State) (events : List Event) (n : ℕ) (o : Option Refusal) → IsLongest s.limit s.accepted events (n, o) →
+    step report_printer s (Batch events) ≡ (replies.Batched n o (length s.accepted), with_events s (take n events))
+question_view s events n o h =
     ap (λ (taken : ℕ × Option Refusal). (replies.Batched taken.0 taken.1 (length s.accepted), with_events s (take taken.0 events)))
     (longest_is s.limit s.accepted events n o h)
 
 -- a batch of lawful events is accepted whole
-told_all : (s : State) (events : List Event) (n : ℕ) → n ≤ length events → AreLawful s.limit s.accepted (take n events) →
-    step printing s (Batch (take n events)) ≡ (replies.Batched n None (length s.accepted), with_events s (take n events))
-told_all s events n within lawful =
+all_views : (s : State) (events : List Event) (n : ℕ) → n ≤ length events → AreLawful s.limit s.accepted (take n events) →
+    step report_printer s (Batch (take n events)) ≡ (replies.Batched n None (length s.accepted), with_events s (take n events))
+all_views s events n within lawful =
     let few : length (take n events) ≤ n = omega (arith, length-take n events) in
     let same : take n (take n events) ≡ take n events = take_all n (take n events) few in
-    told s (take n events) n None record {
+    question_view s (take n events) n None record {
       lawful = subst (AreLawful s.limit s.accepted) (sym same) lawful;
       ends = omega (arith, length-take n events, within);
     }
@@ -56,8 +56,8 @@ pub batch_steps : (s next : State) (events : List Event) (b : Batched) → IsBat
 batch_steps s next events b h = by (slice_get events b.accepted) b.refusal refl refl h.ended
   where
     exactly : (o : Option Refusal) → b.refusal ≡ o → IsLongest s.limit s.accepted events (b.accepted, o) →
-        step printing s (Batch events) ≡ (replies.Batched b.accepted b.refusal b.length, next)
-    exactly o is longest = told s events b.accepted o longest ∙ (λ i. (replies.Batched b.accepted (sym is i) (sym h.first i), sym h.appended i))
+        step report_printer s (Batch events) ≡ (replies.Batched b.accepted b.refusal b.length, next)
+    exactly o is longest = question_view s events b.accepted o longest ∙ (λ i. (replies.Batched b.accepted (sym is i) (sym h.first i), sym h.appended i))
 
     by : (at : Option Event) (o : Option Refusal) → slice_get events b.accepted ≡ at → b.refusal ≡ o → EndsBatch next at o →
         StepsOrMemory s (Batch events) (replies.Batched b.accepted b.refusal b.length) next
@@ -74,7 +74,7 @@ batch_steps s next events b h = by (slice_get events b.accepted) b.refusal refl 
       event = e;
       stands = at;
       lawful = lawful;
-      steps = told_all s events b.accepted h.within h.lawful ∙ ap (λ (m : State). (replies.Batched b.accepted None (length s.accepted), m)) (sym h.appended);
+      steps = all_views s events b.accepted h.within h.lawful ∙ ap (λ (m : State). (replies.Batched b.accepted None (length s.accepted), m)) (sym h.appended);
       replies = λ i. replies.Batched b.accepted ((is ∙ ap Some none) i) (h.first i);
     }
 
@@ -87,7 +87,7 @@ is_single (Answer number) none = tt
 is_single (Status number) none = tt
 is_single (Batch events) none = none events refl
 
-pub exact_steps : (s next : State) (request : Request) (reply : Reply) → step printing s request ≡ (reply, next) → StepsOrMemory s request reply next
+pub exact_steps : (s next : State) (request : Request) (reply : Reply) → step report_printer s request ≡ (reply, next) → StepsOrMemory s request reply next
 exact_steps s next (Offer e) reply is = inl is
 exact_steps s next (Ask bound) reply is = inl is
 exact_steps s next (Answer number) reply is = inl is
@@ -95,7 +95,7 @@ exact_steps s next (Status number) reply is = inl is
 exact_steps s next (Batch events) reply is = inl is
 
 refused_by : (s : State) (request : Request) (reply : Reply) → Refuses s request reply →
-    (step printing s request ≡ (reply, s)) ⊎ ((reply ≡ replies.Refused NoMemory) × (s ≡ s) × TakesMemory (step printing s request).0)
+    (step report_printer s request ≡ (reply, s)) ⊎ ((reply ≡ replies.Refused NoMemory) × (s ≡ s) × TakesMemory (step report_printer s request).0)
 refused_by s request reply (inl is) = inl is
 refused_by s request reply (inr (lacks, accepted)) = inr (lacks, refl, accepted)
 
@@ -119,15 +119,15 @@ text_fits : (number : ℕ) (text : List ℕ) (b : Bool) → nat_le (length text)
 text_fits number text true h = not_long (length text) h
 text_fits number text false h = tt
 
-answer_fits : (s : State) (number : ℕ) (o : Option Question) → IsReply (answer_of printing s number o)
+answer_fits : (s : State) (number : ℕ) (o : Option Question) → IsReply (answer_of report_printer s number o)
 answer_fits s number None = tt
 answer_fits s number (Some q) = go (list_all is_some q.tasks)
   where
     text : List ℕ
-    text = printing (take q.length s.accepted) number q
+    text = report_printer (take q.length s.accepted) number q
 
     go : (b : Bool) →
-        IsReply (if b then (if nat_le (length text) MAX_REPORT then replies.Report number text else replies.Refused ReportTooLong) else replies.Pending number (delivered q) (length q.tasks))
+        IsReply (if b then (if nat_le (length text) MAX_REPORT then replies.Report number text else replies.Refused ReportTooLong) else replies.Pending number (delivered_count q) (length q.tasks))
     go true = text_fits number text (nat_le (length text) MAX_REPORT) refl
     go false = tt
 
@@ -143,7 +143,7 @@ ask_fits : (s : State) (o : Option Refusal) → IsReply (ask_reply s o)
 ask_fits s None = tt
 ask_fits s (Some r) = tt
 
-pub step_fits : (s : State) (request : Request) → IsReply (step printing s request).0
+pub step_fits : (s : State) (request : Request) → IsReply (step report_printer s request).0
 step_fits s (Offer e) = offer_fits s (refusal_of s.limit s.accepted e)
 step_fits s (Ask bound) = ask_fits s (ask_refused s bound)
 step_fits s (Answer number) = answer_fits s number (slice_get s.questions number)
@@ -157,7 +157,7 @@ not_lacking A reply lacking lacks none is = absurd (false≢true (sym none ∙ (
 
 -- if no failed allocation is reported, the reply is the machine's
 pub steps_exactly : (s next : State) (request : Request) (reply : Reply) → StepsOrMemory s request reply next → lacks_memory reply ≡ false →
-    step printing s request ≡ (reply, next)
+    step report_printer s request ≡ (reply, next)
 steps_exactly s next (Offer e) reply (inl is) none = is
 steps_exactly s next (Ask bound) reply (inl is) none = is
 steps_exactly s next (Answer number) reply (inl is) none = is

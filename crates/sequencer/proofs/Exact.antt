@@ -17,7 +17,7 @@ use Rattle.trace_model.specs.Theory.Lawful.{refusal_of, IsWellFormed}
 use Rattle.trace_model.specs.Protocol.Batches.{AreLawful, taken_of}
 use Rattle.trace_model.specs.Theory.Dependencies.{dependencies}
 use Rattle.trace_model.specs.Theory.Cycles.{IsCycle}
-use Rattle.trace_model.specs.Theory.Rows.{Row, Found, IsRow, AreRows}
+use Rattle.trace_model.specs.Theory.Rows.{Row, Evidence, IsRow, AreRows}
 use Rattle.trace_model.specs.Protocol.Machine.{State, opening, is_confirmed, rows_of, with_event, with_events, offer, offer_next, ask, ask_refused, ask_next, deliver_next, step}
 use Rattle.trace_model.specs.Protocol.Bounds.{StateFits}
 use Rattle.trace_model.proofs.Protocol.Batches.{is_longest, lawful_parts}
@@ -26,11 +26,11 @@ use Rattle.trace_model.proofs.Theory.Deadlock.{reached_deadlocks}
 use Rattle.trace_model.proofs.Theory.Growing.{well_formed_take}
 use Rattle.trace_model.proofs.Lists.{by_pushes}
 use Rattle.trace_model.proofs.Protocol.Taking.{machine_steps, one_takes}
-use Rattle.snapshots.specs.Found.{FoundRows, AreRowsOf}
+use Rattle.snapshots.specs.Found.{RowsOfTask, AreRowsOf}
 use Rattle.sequencer.specs.Book.{outcome, findings_rows}
-use Rattle.sequencer.specs.Printing.{printing}
+use Rattle.sequencer.specs.Printing.{report_printer}
 use Rattle.sequencer.specs.Sessions.{Action, brings, state_after}
-use Rattle.sequencer.specs.Deliveries.{delivery, Delivered}
+use Rattle.sequencer.specs.Deliveries.{delivery, DeliveryResult}
 use Rattle.sequencer.specs.Exact.{IsAlwaysExact, LeadsToDeadlock, TellsDeadlocks, AlwaysTellsDeadlocks}
 use Rattle.sequencer.proofs.Sent.{after_append, called}
 
@@ -52,7 +52,7 @@ events_fit s events h = by_pushes (FitsWith s) none more events
         ap (λ (a : Trace). record s { accepted = a }) (sym (append_assoc s.accepted xs (e ∷ []))) in
         step_fits AreRows (with_events s xs) (with_events s (xs ++ e ∷ [])) (Accept (e ∷ [])) (one_takes AreRows (with_events s xs) (with_events s (xs ++ e ∷ [])) e parts.1 longer) (before parts.0)
 
-fits_called : (s : State) (r : Request) → StateFits AreRows s → StateFits AreRows (step printing s r).1
+fits_called : (s : State) (r : Request) → StateFits AreRows s → StateFits AreRows (step report_printer s r).1
 fits_called s (Offer e) h = offered (refusal_of s.limit s.accepted e) refl
   where
     offered : (o : Option Refusal) → refusal_of s.limit s.accepted e ≡ o → StateFits AreRows (offer s e).1
@@ -68,7 +68,7 @@ fits_called s (Status number) h = h
 fits_called s (Batch events) h = events_fit s (take (taken_of s.limit s.accepted events).0 events) h (is_longest s.limit s.accepted events).lawful
 
 -- a finding whose rows are exact if it is taken
-pub fits_brought : (s : State) (f : FoundRows) (d : Delivered) → (delivery s f).0 ≡ outcome d → OnOk d (AreRowsOf f.events f.bound f.task f.rows) → StateFits AreRows s → StateFits AreRows (delivery s f).1
+pub fits_brought : (s : State) (f : RowsOfTask) (d : DeliveryResult) → (delivery s f).0 ≡ outcome d → OnOk d (AreRowsOf f.events f.bound f.task f.rows) → StateFits AreRows s → StateFits AreRows (delivery s f).1
 fits_brought s f (Ok u) is exact h =
     let rows = findings_rows f in
     let few : length rows ≤ MAX_CYCLES = omega (arith, length-map f.rows (λ p. p.row), exact.few) in
@@ -80,9 +80,9 @@ fits_brought s f (Err (r, back)) is exact h = subst (StateFits AreRows) (sym (ap
 pub always_called : (s : State) (session : ℕ) (requests : List Request) → StateFits AreRows s → IsAlwaysExact s (called session requests)
 always_called s session requests h zero = h
 always_called s session [] h (suc n) = h
-always_called s session (r ∷ requests) h (suc n) = always_called (step printing s r).1 session requests (fits_called s r h) n
+always_called s session (r ∷ requests) h (suc n) = always_called (step report_printer s r).1 session requests (fits_called s r h) n
 
-pub always_brought : (s : State) (f : FoundRows) → StateFits AreRows s → StateFits AreRows (delivery s f).1 → IsAlwaysExact s (brings f ∷ [])
+pub always_brought : (s : State) (f : RowsOfTask) → StateFits AreRows s → StateFits AreRows (delivery s f).1 → IsAlwaysExact s (brings f ∷ [])
 always_brought s f h g zero = h
 always_brought s f h g (suc zero) = g
 always_brought s f h g (suc (suc n)) = g
@@ -109,7 +109,7 @@ always_last s xs a = subst (λ (x : List Action). StateFits AreRows (state_after
 
 -- ---- what reports tell
 
-leads_by : (s : Trace) → IsWellFormed s → (bound : ℕ) (numbers : List ℕ) (found : Option Found) → IsCycle (dependencies s) bound numbers → IsRow s (record { cycle = numbers; found = found }) → LeadsToDeadlock s (record { cycle = numbers; found = found })
+leads_by : (s : Trace) → IsWellFormed s → (bound : ℕ) (numbers : List ℕ) (found : Option Evidence) → IsCycle (dependencies s) bound numbers → IsRow s (record { cycle = numbers; found = found }) → LeadsToDeadlock s (record { cycle = numbers; found = found })
 leads_by s w bound numbers None c r = tt
 leads_by s w bound numbers (Some f) c r = (r.1.reorders, r.1.reaches, reached_deadlocks s w bound numbers f.places f.witness c r.0.is_instance r.1.reorders r.1.reaches)
 
@@ -129,7 +129,7 @@ tasks_lead s (Some rows ∷ tasks) h = All-append (LeadsToDeadlock s) rows (flat
 pub fits_tells : (s : State) → StateFits AreRows s → TellsDeadlocks s
 fits_tells s h number q at =
     let f = h.each number q at in
-    tasks_lead (take q.length s.accepted) q.tasks (λ task rows e. rows_lead (take q.length s.accepted) (well_formed_take s.accepted q.length h.well_formed) q.bound task rows (f.told task rows e).0)
+    tasks_lead (take q.length s.accepted) q.tasks (λ task rows e. rows_lead (take q.length s.accepted) (well_formed_take s.accepted q.length h.well_formed) q.bound task rows (f.delivered_rows task rows e).0)
 
 -- for a run from the initial state
 pub opened_tells : (start : State) (limit : ℕ) (xs : List Action) → start ≡ opening limit → limit ≤ MAX_EVENTS → (StateFits AreRows start → IsAlwaysExact start xs) → AlwaysTellsDeadlocks (opening limit) xs

@@ -13,14 +13,14 @@ use Rattle.trace_model.specs.Protocol.Machine.{State}
 use Rattle.trace_model.proofs.Lists.{at_index}
 use Rattle.event_frames.specs.Reader.{HasRead}
 use Rattle.event_frames.proofs.Wholes.{nothing_read}
-use Rattle.snapshots.specs.Found.{FoundRows, AreRowsOf}
+use Rattle.snapshots.specs.Found.{RowsOfTask, AreRowsOf}
 use Rattle.sequencer.specs.declared.input.Input.{Input}
 use Rattle.sequencer.specs.declared.input.Input.TheVariants.{Finding}
 use Rattle.sequencer.specs.declared.playing.PlayedSession.{PlayedSession}
 use Rattle.sequencer.specs.declared.playing.Run.{Run}
 use Rattle.sequencer.specs.Book.{outcome}
-use Rattle.sequencer.specs.Sessions.{session_of, text_of, has_ended, fault_of, fresh, actions_of, actions, frames_to, fault_frames, deliveries_of, final_state, sent_to}
-use Rattle.sequencer.specs.Deliveries.{Delivered, handed_back, delivery}
+use Rattle.sequencer.specs.Sessions.{session_of, sent_text, has_ended, fault_of, fresh, actions_of, actions, frames_to, fault_reply, deliveries_of, final_state, sent_to}
+use Rattle.sequencer.specs.Deliveries.{DeliveryResult, handed_back, delivery}
 use Rattle.sequencer.specs.Drains.{IsPlayed, IsServed, IsAnswered, IsNew}
 use Rattle.sequencer.specs.Exact.{IsAlwaysExact}
 use Rattle.sequencer.specs.Played.{AreSent}
@@ -37,9 +37,9 @@ new_served s start session h =
         read = subst (λ (g : List Request). HasRead [] g session.reader) (sym n.requests) h.read;
         ended = λ _. h.not_ended;
         not_ended = λ _. h.not_ended;
-        told = h.untold ∙ sym n.fault;
+        returned = h.fault_free ∙ sym n.fault;
       };
-      sent = h.unsent ∙ ap fault_frames (sym n.fault);
+      sent = h.unsent ∙ ap fault_reply (sym n.fault);
     }
 
 pub starts_played : (run : Run) → length run.sessions.items ≡ 64 → ((s : ℕ) (d : PlayedSession) → s < length run.sessions.items → IsNew (get_or run.sessions.items s d)) → run.deliveries.items ≡ [] → IsPlayed run.book.state [] run
@@ -64,16 +64,16 @@ served_other s start input past session h v =
     let r = v.read in
     let text = text_other s past input h in
     let ended = ended_other s past input h in
-    let fault : fault_of s past ≡ fault_of s (past ++ input ∷ []) = ap (λ (x : List ℕ). fault_in x (has_ended s past)) (sym text) ∙ ap (λ (x : Bool). fault_in (text_of s (past ++ input ∷ [])) x) (sym ended) in
+    let fault : fault_of s past ≡ fault_of s (past ++ input ∷ []) = ap (λ (x : List ℕ). fault_in x (has_ended s past)) (sym text) ∙ ap (λ (x : Bool). fault_in (sent_text s (past ++ input ∷ [])) x) (sym ended) in
     record {
       read = record {
         read = subst (λ (x : List ℕ). HasRead x (requests_in x) session.reader) (sym text) r.read;
         ended = λ u. r.ended u ∙ sym ended;
         not_ended = λ e. r.not_ended (sym ended ∙ e);
-        told = r.told ∙ fault;
+        returned = r.returned ∙ fault;
       };
-      sent = v.sent ∙ (ap (λ (x : List ℕ). x ++ fault_frames (fault_of s past)) (sym (other_more s start past input h))
-          ∙ ap (λ (f : Option Fault). frames_to s start (actions (past ++ input ∷ [])) ++ fault_frames f) fault);
+      sent = v.sent ∙ (ap (λ (x : List ℕ). x ++ fault_reply (fault_of s past)) (sym (other_more s start past input h))
+          ∙ ap (λ (f : Option Fault). frames_to s start (actions (past ++ input ∷ [])) ++ fault_reply f) fault);
     }
 
 -- each session after an input of one of them
@@ -111,13 +111,13 @@ session_played start past input i j old new run after own below at was sessions 
 
 -- ---- a finding
 
-handed : (finding : FoundRows) (delivered : Delivered) → IfErr delivered (λ refused. refused.1 ≡ finding) → delivered ≡ handed_back finding (outcome delivered)
+handed : (finding : RowsOfTask) (delivered : DeliveryResult) → IfErr delivered (λ refused. refused.1 ≡ finding) → delivered ≡ handed_back finding (outcome delivered)
 handed finding (Ok taken) back = refl
-handed finding (Err (refusal, other)) back = ap (λ (f : FoundRows). Err (refusal, f)) back
+handed finding (Err (refusal, other)) back = ap (λ (f : RowsOfTask). Err (refusal, f)) back
 
-pub finding_played : (start : State) (past : List Input) (finding : FoundRows) (delivered : Delivered) (run after : Run) → delivery run.book.state finding ≡ (outcome delivered, after.book.state) → IfErr delivered (λ refused. refused.1 ≡ finding) → OnOk delivered (AreRowsOf finding.events finding.bound finding.task finding.rows) → after.sessions.items ≡ run.sessions.items → after.deliveries.items ≡ run.deliveries.items ++ delivered ∷ [] → IsPlayed start past run → IsPlayed start (past ++ Finding finding ∷ []) after
-finding_played start past finding delivered run after told back taken same more p =
-    let here : delivery (final_state start past) finding ≡ (outcome delivered, after.book.state) = ap (λ (x : State). delivery x finding) (sym p.state) ∙ told in
+pub finding_played : (start : State) (past : List Input) (finding : RowsOfTask) (delivered : DeliveryResult) (run after : Run) → delivery run.book.state finding ≡ (outcome delivered, after.book.state) → IfErr delivered (λ refused. refused.1 ≡ finding) → OnOk delivered (AreRowsOf finding.events finding.bound finding.task finding.rows) → after.sessions.items ≡ run.sessions.items → after.deliveries.items ≡ run.deliveries.items ++ delivered ∷ [] → IsPlayed start past run → IsPlayed start (past ++ Finding finding ∷ []) after
+finding_played start past finding delivered run after returned back taken same more p =
+    let here : delivery (final_state start past) finding ≡ (outcome delivered, after.book.state) = ap (λ (x : State). delivery x finding) (sym p.state) ∙ returned in
     let none : (s : ℕ) → Other s (Finding finding) = λ s e. absurd cc in
     record {
       count = ap length same ∙ p.count;
@@ -125,8 +125,8 @@ finding_played start past finding delivered run after told back taken same more 
           (served_other s start (Finding finding) past (get_or run.sessions.items s d) (none s) (p.each s d l));
       deliveries =
           more
-          ∙ (ap (λ (x : List Delivered). x ++ delivered ∷ []) p.deliveries
-          ∙ (ap (λ (x : Delivered). deliveries_of start past ++ x ∷ []) (handed finding delivered back ∙ ap (λ (x : Option Refusal × State). handed_back finding x.0) (sym here))
+          ∙ (ap (λ (x : List DeliveryResult). x ++ delivered ∷ []) p.deliveries
+          ∙ (ap (λ (x : DeliveryResult). deliveries_of start past ++ x ∷ []) (handed finding delivered back ∙ ap (λ (x : Option Refusal × State). handed_back finding x.0) (sym here))
           ∙ sym (deliveries_found start past finding)));
       state = sym (state_found start past finding ∙ ap (λ (x : Option Refusal × State). x.1) here);
       exact = λ h.

@@ -14,9 +14,9 @@ use Rattle.trace_model.specs.Theory.Dependencies.{dependencies}
 use Rattle.trace_model.specs.Theory.Rows.{Row, AreRows}
 use Rattle.trace_model.specs.Protocol.Machine.{Question, State, ask_refused, answer, deliver_refused, step}
 use Rattle.trace_model.specs.Protocol.Bounds.{StateFits}
-use Rattle.snapshots.specs.Found.{FoundRows}
-use Rattle.sequencer.specs.QuestionState.{QuestionView, question_of, rows_in, HasNamedRows}
-use Rattle.sequencer.specs.Printing.{printing}
+use Rattle.snapshots.specs.Found.{RowsOfTask}
+use Rattle.sequencer.specs.QuestionState.{QuestionView, question_of, plain_rows, HasNamedRows}
+use Rattle.sequencer.specs.Printing.{report_printer}
 use Rattle.sequencer.specs.declared.answering.Answer.{Answer}
 use Rattle.sequencer.specs.declared.answering.Answer.TheVariants.{Pending, Settled}
 use Rattle.sequencer.specs.declared.answering.AnswerRefused.{AnswerRefused}
@@ -28,8 +28,8 @@ use Rattle.sequencer.specs.declared.step.Change.{Change}
 use Rattle.sequencer.specs.declared.step.Change.TheVariants.{Accept, Open, ReadAnswer, ReadStatus}
 
 -- a book may be created with this limit
-abbrev pub IsLimit : ℕ → Type 0
-IsLimit limit = (1 ≤ limit) × (limit ≤ MAX_EVENTS)
+abbrev pub IsBookLimit : ℕ → Type 0
+IsBookLimit limit = (1 ≤ limit) × (limit ≤ MAX_EVENTS)
 
 -- what contracts see of a book: the machine's state, the event that memory is reserved for, and the
 -- number of questions that memory is reserved for
@@ -39,29 +39,29 @@ pub record BookView : Type 0 where
   pub room : ℕ
 
 -- the machine's state, from the fields of a book
-abbrev pub state_of : ℕ → Trace → List QuestionView → State
-state_of limit events asked =
+abbrev pub book_state : ℕ → Trace → List QuestionView → State
+book_state limit events asked =
     record { limit = limit; accepted = events; questions = map question_of asked }
 
 -- the invariant of a book: the state is within its limits, and each question's rows have the
 -- dependencies that they name
 pub record IsBook (admitted limit : ℕ) (events : Trace) (asked : List QuestionView) : Type 0 where
   pub same_limit : admitted ≡ limit
-  pub fits : StateFits AreRows (state_of limit events asked)
-  pub named : (k : ℕ) (told : QuestionView) → slice_get asked k ≡ Some told →
-      HasNamedRows (take told.length events) told
+  pub fits : StateFits AreRows (book_state limit events asked)
+  pub named : (k : ℕ) (question_view : QuestionView) → slice_get asked k ≡ Some question_view →
+      HasNamedRows (take question_view.length events) question_view
 
 -- what contracts see of a step: its change and its reply
-pub record Planned : Type 0 where
+pub record StepView : Type 0 where
   pub change : Change
   pub reply : Reply
 
 -- the request of a change
-abbrev pub request_of : Change → Request
-request_of (Accept e) = Offer e
-request_of (Open asked) = Ask asked.bound
-request_of (ReadAnswer question) = AskAnswer question
-request_of (ReadStatus question) = AskStatus question
+abbrev pub change_request : Change → Request
+change_request (Accept e) = Offer e
+change_request (Open asked) = Ask asked.bound
+change_request (ReadAnswer question) = AskAnswer question
+change_request (ReadStatus question) = AskStatus question
 
 -- a new question about the accepted events: all its tasks are missing
 abbrev pub fresh : State → ℕ → QuestionView
@@ -72,10 +72,10 @@ fresh s bound = record {
 }
 
 -- memory is reserved for the change
-abbrev pub HasRoom : BookView → Change → Type 0
-HasRoom b (Accept e) = b.reserved ≡ Some e
-HasRoom b (Open asked) = (0 < b.room) × (asked ≡ fresh b.state asked.bound)
-HasRoom b _ = Unit {0}
+abbrev pub HasChangeRoom : BookView → Change → Type 0
+HasChangeRoom b (Accept e) = b.reserved ≡ Some e
+HasChangeRoom b (Open asked) = (0 < b.room) × (asked ≡ fresh b.state asked.bound)
+HasChangeRoom b _ = Unit {0}
 
 -- the reply is not a refusal
 abbrev pub IsAccepted : Reply → Type 0
@@ -90,10 +90,10 @@ TakesMemory (Report question text) = Unit {0}
 TakesMemory _ = ⊥
 
 -- the machine accepts the request with this reply, and memory is reserved for its change
-pub record IsPrepared (b : BookView) (planned : Planned) : Type 0 where
-  pub reply_is : (step printing b.state (request_of planned.change)).0 ≡ planned.reply
+pub record IsPrepared (b : BookView) (planned : StepView) : Type 0 where
+  pub reply_is : (step report_printer b.state (change_request planned.change)).0 ≡ planned.reply
   pub accepted : IsAccepted planned.reply
-  pub room : HasRoom b planned.change
+  pub room : HasChangeRoom b planned.change
 
 -- the refusal is the machine's; or it is `NoMemory` and the machine accepts the event
 abbrev pub RefusesOffer : State → Event → Refusal → Type 0
@@ -120,22 +120,22 @@ RefusesAsk s bound r = (ask_refused s bound ≡ Some (ask_refusal r))
 -- the refusal of an answer: the machine's; or `NoMemory` if the machine prints a report
 abbrev pub RefusesAnswer : State → ℕ → AnswerRefused → Type 0
 RefusesAnswer s number r =
-    (answer printing s number ≡ Refused (answer_refusal r))
-    ⊎ ((r ≡ NoAnswer.NoMemory) × TakesMemory (answer printing s number))
+    (answer report_printer s number ≡ Refused (answer_refusal r))
+    ⊎ ((r ≡ NoAnswer.NoMemory) × TakesMemory (answer report_printer s number))
 
 -- the reply is the machine's refusal; or it is `NoMemory` and the machine's reply needs an
 -- allocation
 abbrev pub Refuses : State → Request → Reply → Type 0
 Refuses s request reply =
-    (step printing s request ≡ (reply, s))
-    ⊎ ((reply ≡ Refused NoMemory) × TakesMemory (step printing s request).0)
+    (step report_printer s request ≡ (reply, s))
+    ⊎ ((reply ≡ Refused NoMemory) × TakesMemory (step report_printer s request).0)
 
 -- the reply is a refusal: the machine's; or `NoMemory` if the machine's reply needs an allocation
 abbrev pub IsRefusal : State → Request → Reply → Type 0
 IsRefusal s request reply =
     (refusal : Refusal) × (reply ≡ Refused refusal)
-    × (((step printing s request).0 ≡ reply)
-    ⊎ ((refusal ≡ NoMemory) × TakesMemory (step printing s request).0))
+    × (((step report_printer s request).0 ≡ reply)
+    ⊎ ((refusal ≡ NoMemory) × TakesMemory (step report_printer s request).0))
 
 -- the question is not open; or it is open and an allocation failed
 abbrev pub RefusesSnapshot : State → ℕ → Refusal → Type 0
@@ -144,17 +144,17 @@ RefusesSnapshot s number r =
     ⊎ ((r ≡ NoMemory) × ((q : Question) × (slice_get s.questions number ≡ Some q)))
 
 -- if the question with this number is open, it covers exactly these events
-abbrev pub AreKnown : State → ℕ → Trace → Type 0
-AreKnown s number events = (q : Question) → slice_get s.questions number ≡ Some q →
+abbrev pub AreEventsIfOpen : State → ℕ → Trace → Type 0
+AreEventsIfOpen s number events = (q : Question) → slice_get s.questions number ≡ Some q →
     events ≡ take q.length s.accepted
 
 -- the machine's refusal of a finding, if any
-abbrev pub finding_refused : State → FoundRows → Option Refusal
+abbrev pub finding_refused : State → RowsOfTask → Option Refusal
 finding_refused s f = deliver_refused s f.question f.bound f.events f.task
 
 -- the least missing task of the question
-abbrev pub IsLeastMissing : Question → ℕ → Type 0
-IsLeastMissing q task =
+abbrev pub IsLeastMissingTask : Question → ℕ → Type 0
+IsLeastMissingTask q task =
     (slice_get q.tasks task ≡ Some None)
     × ((other : ℕ) → slice_get q.tasks other ≡ Some None → task ≤ other)
 
@@ -168,9 +168,9 @@ answer_reply question (Pending delivered total) = PendingReply question delivere
 answer_reply question (Settled text) = Report question text
 
 -- the refusal of an outcome, if any
-abbrev pub outcome : Result Unit (Refusal × FoundRows) → Option Refusal
+abbrev pub outcome : Result Unit (Refusal × RowsOfTask) → Option Refusal
 outcome (Ok u) = None
 outcome (Err refused) = Some refused.0
 
-abbrev pub findings_rows : FoundRows → List Row
-findings_rows f = rows_in f.rows
+abbrev pub findings_rows : RowsOfTask → List Row
+findings_rows f = plain_rows f.rows

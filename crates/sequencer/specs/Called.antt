@@ -10,7 +10,7 @@ use Rattle.trace_model.specs.Theory.Lawful.{refusal_of}
 use Rattle.trace_model.specs.Protocol.Replies.{reply_frame}
 use Rattle.trace_model.specs.Protocol.Machine.{State, step}
 use Rattle.sequencer.specs.Book.{TakesMemory}
-use Rattle.sequencer.specs.Printing.{printing}
+use Rattle.sequencer.specs.Printing.{report_printer}
 
 -- the request is not a batch
 abbrev pub IsSingle : Request → Type 0
@@ -25,7 +25,7 @@ pub record EndsForMemory (s : State) (events : List Event) (reply : Reply)
   pub event : Event
   pub stands : slice_get events accepted ≡ Some event
   pub lawful : refusal_of next.limit next.accepted event ≡ None
-  pub steps : step printing s (Batch (take accepted events)) ≡
+  pub steps : step report_printer s (Batch (take accepted events)) ≡
       (Batched accepted None (length s.accepted), next)
   pub replies : reply ≡ Batched accepted (Some NoMemory) (length s.accepted)
 
@@ -33,16 +33,16 @@ pub record EndsForMemory (s : State) (events : List Event) (reply : Reply)
 -- needs an allocation, and nothing changes except for the accepted events of a batch
 abbrev pub StepsOrMemory : State → Request → Reply → State → Type 0
 StepsOrMemory s (Batch events) reply next =
-    (step printing s (Batch events) ≡ (reply, next)) ⊎ EndsForMemory s events reply next
+    (step report_printer s (Batch events) ≡ (reply, next)) ⊎ EndsForMemory s events reply next
 StepsOrMemory s request reply next =
-    (step printing s request ≡ (reply, next))
-    ⊎ ((reply ≡ Refused NoMemory) × (next ≡ s) × TakesMemory (step printing s request).0)
+    (step report_printer s request ≡ (reply, next))
+    ⊎ ((reply ≡ Refused NoMemory) × (next ≡ s) × TakesMemory (step report_printer s request).0)
 
 -- the reply is `NoMemory` only if the machine's reply needs an allocation
 abbrev pub WantsRightly : State → Request → Reply → Type 0
 WantsRightly s request reply =
-    reply ≡ Refused NoMemory → ((step printing s request).0 ≡ reply)
-    ⊎ TakesMemory (step printing s request).0
+    reply ≡ Refused NoMemory → ((step report_printer s request).0 ≡ reply)
+    ⊎ TakesMemory (step report_printer s request).0
 
 -- the reply reports a failed allocation
 abbrev pub lacks_memory : Reply → Bool
@@ -53,10 +53,11 @@ lacks_memory reply = false
 -- the machine after these requests
 abbrev pub state_called : State → List Request → State
 state_called state [] = state
-state_called state (request ∷ requests) = state_called (step printing state request).1 requests
+state_called state (request ∷ requests) =
+    state_called (step report_printer state request).1 requests
 
 -- the reply frames to these requests
 abbrev pub answer_to : State → List Request → List ℕ
 answer_to state [] = []
-answer_to state (request ∷ requests) = reply_frame (step printing state request).0 ++
-    answer_to (step printing state request).1 requests
+answer_to state (request ∷ requests) = reply_frame (step report_printer state request).0 ++
+    answer_to (step report_printer state request).1 requests

@@ -3,7 +3,7 @@
 use Rattle.std.specs.Prelude.{◌≡◌, ℕ, ◌<◌, length, slice_index_or, false, List, [], ◌++◌, None}
 use Rattle.trace_model.specs.declared.messages.session.Request.{Request}
 use Rattle.trace_model.specs.Protocol.Frames.{requests_in, fault_in}
-use Rattle.event_frames.specs.Reader.{Reading, HasRead}
+use Rattle.event_frames.specs.Reader.{FrameReaderView, HasRead}
 use Rattle.trace_model.specs.Theory.Rows.{AreRows}
 use Rattle.trace_model.specs.Protocol.Machine.{State}
 use Rattle.trace_model.specs.Protocol.Bounds.{StateFits}
@@ -12,14 +12,14 @@ use Rattle.sequencer.specs.declared.playing.PlayedSession.{PlayedSession}
 use Rattle.sequencer.specs.declared.playing.Run.{Run}
 use Rattle.sequencer.specs.Called.{state_called, answer_to}
 use Rattle.sequencer.specs.Exact.{IsAlwaysExact}
-use Rattle.sequencer.specs.Sessions.{actions, fault_frames, text_of, has_ended, requests_of, fault_of, deliveries_of, final_state, sent_to}
+use Rattle.sequencer.specs.Sessions.{actions, fault_reply, sent_text, has_ended, requests_of, fault_of, deliveries_of, final_state, sent_to}
 
-pub record Drains (book : State) (reader : Reading) (sent : List ℕ) (book' : State)
-    (reader' : Reading) (sent' : List ℕ) : Type 0 where
+pub record Drains (book : State) (reader : FrameReaderView) (sent : List ℕ) (book' : State)
+    (reader' : FrameReaderView) (sent' : List ℕ) : Type 0 where
   pub state : book' ≡ state_called book (requests_in reader.rest)
   pub out : sent' ≡ sent ++
-      (answer_to book (requests_in reader.rest) ++ fault_frames (fault_in reader.rest reader.ended))
-  pub told : reader'.told ≡ fault_in reader.rest reader.ended
+      (answer_to book (requests_in reader.rest) ++ fault_reply (fault_in reader.rest reader.ended))
+  pub returned : reader'.returned ≡ fault_in reader.rest reader.ended
   pub ended : reader'.ended ≡ reader.ended
   pub whole : (text : List ℕ) (given : List Request) → HasRead text given reader →
       HasRead text (requests_in text) reader'
@@ -27,10 +27,10 @@ pub record Drains (book : State) (reader : Reading) (sent : List ℕ) (book' : S
 -- the session's reader has read all of the session's bytes so far, and reported its fault if there
 -- is one
 pub record IsReadAt (s : ℕ) (past : List Input) (session : PlayedSession) : Type 0 where
-  pub read : HasRead (text_of s past) (requests_of s past) session.reader
-  pub ended : session.reader.told ≡ None → session.reader.ended ≡ has_ended s past
+  pub read : HasRead (sent_text s past) (requests_of s past) session.reader
+  pub ended : session.reader.returned ≡ None → session.reader.ended ≡ has_ended s past
   pub not_ended : has_ended s past ≡ false → session.reader.ended ≡ false
-  pub told : session.reader.told ≡ fault_of s past
+  pub returned : session.reader.returned ≡ fault_of s past
 
 -- in addition the session was sent exactly the bytes of `sent_to`
 pub record IsServed (s : ℕ) (start : State) (past : List Input)
@@ -48,7 +48,7 @@ pub record IsAnswered (s : ℕ) (start : State) (past : List Input) (book : Stat
 pub record IsNew (session : PlayedSession) : Type 0 where
   pub read : HasRead [] [] session.reader
   pub not_ended : session.reader.ended ≡ false
-  pub untold : session.reader.told ≡ None
+  pub fault_free : session.reader.returned ≡ None
   pub unsent : session.sent.items ≡ []
 
 abbrev pub AreNew : List PlayedSession → Type 0

@@ -4,14 +4,14 @@ use Rattle.trace_model.specs.Protocol.Machine.{State}
 use Rattle.sequencer.specs.declared.input.Input.{Input}
 use Rattle.sequencer.specs.declared.playing.PlayRefused.{PlayRefused}
 use Rattle.sequencer.specs.declared.playing.PlayRefused.TheVariants.{BadLimit, NoMemory}
-use Rattle.sequencer.specs.Book.{BookView, IsLimit}
-use Rattle.sequencer.specs.Deliveries.{Delivered}
+use Rattle.sequencer.specs.Book.{BookView, IsBookLimit}
+use Rattle.sequencer.specs.Deliveries.{DeliveryResult}
 use Rattle.sequencer.specs.Sessions.{sent_to}
 
 -- the bytes that each session was sent, the outcome of each finding, and the book
-pub record Left : Type 0 where
+pub record PlayOutcome : Type 0 where
   pub sent : List (List ℕ)
-  pub deliveries : List Delivered
+  pub deliveries : List DeliveryResult
   pub book : BookView
 
 -- each of the 64 sessions was sent exactly the bytes of `sent_to`
@@ -21,5 +21,5 @@ AreSent sent start inputs =
 
 -- a limit is refused exactly if it is not allowed; lack of memory is reported for an allowed one
 abbrev pub IsRightlyRefused : ℕ → PlayRefused → Type 0
-IsRightlyRefused limit BadLimit = IsLimit limit → ⊥
-IsRightlyRefused limit NoMemory = IsLimit limit
+IsRightlyRefused limit BadLimit = IsBookLimit limit → ⊥
+IsRightlyRefused limit NoMemory = IsBookLimit limit

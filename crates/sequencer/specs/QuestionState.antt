@@ -3,7 +3,7 @@ use Rattle.std.specs.Prelude.{◌≡◌, ℕ, List, map, length, slice_get, opti
 use Rattle.trace_model.specs.Theory.Trace.{Trace}
 use Rattle.trace_model.specs.Theory.Rows.{Row}
 use Rattle.trace_model.specs.Protocol.Machine.{Question, cycles_of, confirmed_of}
-use Rattle.reports.specs.Printed.{Printed}
+use Rattle.reports.specs.Printed.{PrintedRow}
 use Rattle.result_ledger.specs.Tasks.{Tasks}
 use Rattle.snapshots.specs.Found.{AreNamed}
 
@@ -15,24 +15,25 @@ pub record QuestionView : Type 0 where
   pub tasks : Tasks
 
 -- the rows without their dependencies
-abbrev pub rows_in : List Printed → List Row
-rows_in rows = map (λ p. p.row) rows
+abbrev pub plain_rows : List PrintedRow → List Row
+plain_rows rows = map (λ p. p.row) rows
 
 -- the machine's question
 abbrev pub question_of : QuestionView → Question
-question_of told = record {
-  length = told.length;
-  bound = told.bound;
-  tasks = map (option_map rows_in) told.tasks;
+question_of question_view = record {
+  length = question_view.length;
+  bound = question_view.bound;
+  tasks = map (option_map plain_rows) question_view.tasks;
 }
 
 -- the three counters are right: tasks, rows of delivered tasks, and confirmed rows among them
-pub record IsCounted (told : QuestionView) (total cycles confirmed : ℕ) : Type 0 where
-  pub tasks : total ≡ length told.tasks
-  pub rows : cycles ≡ cycles_of (question_of told)
-  pub found : confirmed ≡ confirmed_of (question_of told)
+pub record HasRightCounters (question_view : QuestionView)
+    (total cycles confirmed : ℕ) : Type 0 where
+  pub tasks : total ≡ length question_view.tasks
+  pub rows : cycles ≡ cycles_of (question_of question_view)
+  pub found : confirmed ≡ confirmed_of (question_of question_view)
 
 -- each row has the dependencies that its numbers name in this trace
 abbrev pub HasNamedRows : Trace → QuestionView → Type 0
-HasNamedRows s told = (task : ℕ) (rows : List Printed) →
-    slice_get told.tasks task ≡ Some (Some rows) → AreNamed s rows
+HasNamedRows s question_view = (task : ℕ) (rows : List PrintedRow) →
+    slice_get question_view.tasks task ≡ Some (Some rows) → AreNamed s rows

@@ -7,11 +7,11 @@ use Rattle.trace_model.specs.declared.messages.session.Fault.{Fault}
 use Rattle.trace_model.specs.Protocol.Frames.{requests_in, fault_in}
 use Rattle.trace_model.specs.Protocol.Replies.{reply_frame}
 use Rattle.trace_model.specs.Protocol.Machine.{State, step}
-use Rattle.snapshots.specs.Found.{FoundRows}
+use Rattle.snapshots.specs.Found.{RowsOfTask}
 use Rattle.sequencer.specs.declared.input.Input.{Input}
 use Rattle.sequencer.specs.declared.input.Input.TheVariants.{Piece, End, Finding}
-use Rattle.sequencer.specs.Printing.{printing}
-use Rattle.sequencer.specs.Deliveries.{Delivered, delivery, handed_back}
+use Rattle.sequencer.specs.Printing.{report_printer}
+use Rattle.sequencer.specs.Deliveries.{DeliveryResult, delivery, handed_back}
 
 -- ---- what a session sends
 
@@ -22,12 +22,12 @@ session_of (End session) = Some session
 session_of (Finding finding) = None
 
 -- the bytes that a session sent before its end
-abbrev pub text_of : ℕ → List Input → List ℕ
-text_of s [] = []
-text_of s (Piece session bytes ∷ inputs) = (if s == session then bytes.items else []) ++
-    text_of s inputs
-text_of s (End session ∷ inputs) = if s == session then [] else text_of s inputs
-text_of s (Finding finding ∷ inputs) = text_of s inputs
+abbrev pub sent_text : ℕ → List Input → List ℕ
+sent_text s [] = []
+sent_text s (Piece session bytes ∷ inputs) = (if s == session then bytes.items else []) ++
+    sent_text s inputs
+sent_text s (End session ∷ inputs) = if s == session then [] else sent_text s inputs
+sent_text s (Finding finding ∷ inputs) = sent_text s inputs
 
 abbrev pub has_ended : ℕ → List Input → Bool
 has_ended s [] = false
@@ -36,17 +36,17 @@ has_ended s (End session ∷ inputs) = s == session || has_ended s inputs
 has_ended s (Finding finding ∷ inputs) = has_ended s inputs
 
 abbrev pub requests_of : ℕ → List Input → List Request
-requests_of s inputs = requests_in (text_of s inputs)
+requests_of s inputs = requests_in (sent_text s inputs)
 
 abbrev pub fault_of : ℕ → List Input → Option Fault
-fault_of s inputs = fault_in (text_of s inputs) (has_ended s inputs)
+fault_of s inputs = fault_in (sent_text s inputs) (has_ended s inputs)
 
 -- ---- what comes to the machine
 
 -- a request of a session, or a finding
 pub data Action : Type 0 where
   calls : ℕ → Request → Action
-  brings : FoundRows → Action
+  brings : RowsOfTask → Action
 
 -- the requests of a session that become whole with this input
 abbrev pub fresh : ℕ → List Input → Input → List Request
@@ -71,7 +71,7 @@ actions inputs = actions_after [] inputs
 -- ---- what the machine does
 
 abbrev pub after_action : State → Action → State
-after_action state (calls session request) = (step printing state request).1
+after_action state (calls session request) = (step report_printer state request).1
 after_action state (brings finding) = (delivery state finding).1
 
 abbrev pub state_after : State → List Action → State
@@ -81,7 +81,7 @@ state_after state (action ∷ actions) = state_after (after_action state action)
 -- the reply frame for session `s`, empty if the action is not its own
 abbrev pub frame_to : ℕ → State → Action → List ℕ
 frame_to s state (calls session request) = if s == session
-    then reply_frame (step printing state request).0 else []
+    then reply_frame (step report_printer state request).0 else []
 frame_to s state (brings finding) = []
 
 abbrev pub frames_to : ℕ → State → List Action → List ℕ
@@ -89,16 +89,16 @@ frames_to s state [] = []
 frames_to s state (action ∷ actions) = frame_to s state action ++
     frames_to s (after_action state action) actions
 
-abbrev pub fault_frames : Option Fault → List ℕ
-fault_frames None = []
-fault_frames (Some fault) = reply_frame (FaultReply fault)
+abbrev pub fault_reply : Option Fault → List ℕ
+fault_reply None = []
+fault_reply (Some fault) = reply_frame (FaultReply fault)
 
 -- the outcome of the finding of an action
-abbrev pub delivery_of : State → Action → List Delivered
+abbrev pub delivery_of : State → Action → List DeliveryResult
 delivery_of state (calls session request) = []
 delivery_of state (brings finding) = handed_back finding (delivery state finding).0 ∷ []
 
-abbrev pub deliveries : State → List Action → List Delivered
+abbrev pub deliveries : State → List Action → List DeliveryResult
 deliveries state [] = []
 deliveries state (action ∷ actions) = delivery_of state action ++
     deliveries (after_action state action) actions
@@ -107,10 +107,10 @@ deliveries state (action ∷ actions) = delivery_of state action ++
 
 -- all bytes that a session is sent: the replies to its requests, then its fault if it has one
 abbrev pub sent_to : ℕ → State → List Input → List ℕ
-sent_to s state inputs = frames_to s state (actions inputs) ++ fault_frames (fault_of s inputs)
+sent_to s state inputs = frames_to s state (actions inputs) ++ fault_reply (fault_of s inputs)
 
 -- the outcome of each finding, in order
-abbrev pub deliveries_of : State → List Input → List Delivered
+abbrev pub deliveries_of : State → List Input → List DeliveryResult
 deliveries_of state inputs = deliveries state (actions inputs)
 
 -- the machine after all inputs

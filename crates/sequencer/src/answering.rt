@@ -5,7 +5,7 @@ ghost use Rattle.trace_model.specs.Protocol.Machine as machine;
 ghost use Rattle.trace_model.specs.declared.refusal.Refusal.TheVariants as refusals;
 ghost use Rattle.trace_model.specs.declared.messages.session.Reply.TheVariants.{Refused, Status};
 ghost use Rattle.sequencer.specs.Book.{RefusesAnswer, answer_refusal, answer_reply};
-ghost use Rattle.sequencer.specs.Printing.{printing};
+ghost use Rattle.sequencer.specs.Printing.{report_printer};
 
 use crate::book::{Book, NoSuchQuestion};
 use reports::{TextRefused, report_text};
@@ -52,8 +52,8 @@ impl Book {
     /// - `ReportTooLong` if the report has more than `MAX_REPORT` bytes.
     /// - `NoMemory` if the report cannot be allocated; never while tasks are missing.
     pub fn answer(&self, question: u32) -> Result<Answer, AnswerRefused>
-        ensures ok { IfOk result (λ told. machine.answer printing self.now.state question ≡
-            answer_reply question told) }
+        ensures ok { IfOk result (λ answer. machine.answer report_printer self.now.state question ≡
+            answer_reply question answer) }
         ensures refused { IfErr result (RefusesAnswer self.now.state question) }
     {
         let Some(asked) = self.question(question) else {

@@ -4,8 +4,8 @@ ghost use Rattle.std.specs.Prelude.{◌≡◌, ℕ, slice_get, IfErr, IfOk, Matc
 ghost use Rattle.trace_model.specs.Protocol.Machine.{Question, ask_refused, step};
 ghost use Rattle.trace_model.specs.declared.messages.session.Request.TheVariants.{Ask};
 ghost use Rattle.sequencer.specs.declared.step.Change.TheVariants.{Open};
-ghost use Rattle.sequencer.specs.Book.{HasRoom, IsLeastMissing, RefusesAsk, ask_refusal, fresh, opened_reply};
-ghost use Rattle.sequencer.specs.Printing.{printing};
+ghost use Rattle.sequencer.specs.Book.{HasChangeRoom, IsLeastMissingTask, RefusesAsk, ask_refusal, fresh, opened_reply};
+ghost use Rattle.sequencer.specs.Printing.{report_printer};
 
 use crate::book::{Book, NoSuchQuestion};
 use crate::question_state::QuestionState;
@@ -55,7 +55,7 @@ impl Book {
     /// - `TooManyQuestions` if `MAX_QUESTIONS` questions are open.
     /// - `NoMemory` if an allocation fails.
     pub fn ask(&mut self, bound: u8) -> Result<Opened, AskRefused>
-        ensures ok { IfOk result (λ opened. step printing self.old.state (Ask bound) ≡
+        ensures ok { IfOk result (λ opened. step report_printer self.old.state (Ask bound) ≡
             (opened_reply opened, self.new.state)) }
         ensures refused { IfErr result (λ refused. RefusesAsk self.old.state bound refused
             × (self.new.state ≡ self.old.state)) }
@@ -74,7 +74,8 @@ impl Book {
     /// As of `ask`.
     pub fn reserve_question(&mut self, bound: u8) -> Result<QuestionState, AskRefused>
         ensures shown { self.new.state ≡ self.old.state }
-        ensures ok { IfOk result (λ asked. (asked.bound ≡ bound) × HasRoom self.new (Open asked)) }
+        ensures ok { IfOk result (λ asked. (asked.bound ≡ bound)
+            × HasChangeRoom self.new (Open asked)) }
         ensures allowed { IfOk result (λ asked. ask_refused self.old.state bound ≡ None) }
         ensures refused { IfErr result (RefusesAsk self.old.state bound) }
     {
@@ -93,7 +94,8 @@ impl Book {
     /// Creates a question about the accepted events, and reserves memory for it.
     fn new_question(&mut self, bound: Bound) -> Result<QuestionState, NoMemory>
         ensures shown { self.new.state ≡ self.old.state }
-        ensures ok { IfOk result (λ asked. (asked.bound ≡ bound) × HasRoom self.new (Open asked)) }
+        ensures ok { IfOk result (λ asked. (asked.bound ≡ bound)
+            × HasChangeRoom self.new (Open asked)) }
     {
         self.recorder.catch_up()?;
         self.questions.reserve(1)?;
@@ -107,7 +109,8 @@ impl Book {
     pub fn preview(&self, asked: &QuestionState) -> Opened
         requires allowed { ask_refused self.now.state asked.now.bound ≡ None }
         requires fresh { asked.now ≡ fresh self.now.state asked.now.bound }
-        ensures { (step printing self.now.state (Ask asked.now.bound)).0 ≡ opened_reply result }
+        ensures { (step report_printer self.now.state (Ask asked.now.bound)).0
+            ≡ opened_reply result }
     {
         Opened {
             question: self.question_count(),
@@ -126,7 +129,7 @@ impl Book {
         ensures ok { IfOk result (λ task. (q : Question)
             × (slice_get self.now.state.questions question ≡ Some q)
             × MatchOption task ((other : ℕ) → slice_get q.tasks other ≡ Some None → ⊥)
-            (IsLeastMissing q)) }
+            (IsLeastMissingTask q)) }
         ensures refused { IfErr result (λ _. slice_get self.now.state.questions question ≡ None) }
     {
         let Some(asked) = self.question(question) else {

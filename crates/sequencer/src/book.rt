@@ -10,8 +10,8 @@ ghost use Rattle.trace_model.specs.declared.messages.session.Request.TheVariants
 ghost use Rattle.trace_model.specs.declared.messages.session.Reply.TheVariants.{Placed};
 ghost use Rattle.sequencer.specs.declared.book.BookRefused.TheVariants.{BadLimit};
 ghost use Rattle.sequencer.specs.QuestionState.{question_of, HasNamedRows};
-ghost use Rattle.sequencer.specs.Book.{IsLimit, RefusesOffer, fresh};
-ghost use Rattle.sequencer.specs.Printing.{printing};
+ghost use Rattle.sequencer.specs.Book.{IsBookLimit, RefusesOffer, fresh};
+ghost use Rattle.sequencer.specs.Printing.{report_printer};
 
 use crate::question_state::QuestionState;
 use crate::recorder::Recorder;
@@ -57,12 +57,12 @@ impl Drop for Book {
 
 impl Model for Book {
     ghost use Rattle.std.specs.Prelude.{◌-◌, vec_len, vec_capacity};
-    ghost use Rattle.sequencer.specs.Book.{BookView, IsBook, state_of};
+    ghost use Rattle.sequencer.specs.Book.{BookView, IsBook, book_state};
 
     ghost Value = { BookView };
 
     ghost view = { λ b. record {
-      state = state_of b.limit b.recorder.events b.questions.items;
+      state = book_state b.limit b.recorder.events b.questions.items;
       reserved = b.recorder.reserved;
       room = vec_capacity b.questions - vec_len b.questions;
     } };
@@ -79,7 +79,7 @@ impl Book {
     /// `NoMemory` does not occur.
     pub fn new(alloc: Global, state: RandomState, max_events: u32) -> Result<Book, BookRefused>
         ensures made { IfOk result (λ book. book.state ≡ opening max_events) }
-        ensures limit { IsOk result ↔ IsLimit max_events }
+        ensures limit { IsOk result ↔ IsBookLimit max_events }
         ensures refused { IfErr result (λ refused. refused ≡ BadLimit) }
     {
         if max_events == 0 || max_events as usize > MAX_EVENTS {
@@ -194,7 +194,7 @@ impl Book {
     /// The first refusal that applies; `NoMemory` if none applies and an allocation fails. Nothing
     /// changes.
     pub fn offer(&mut self, event: Event) -> Result<Place, Refusal>
-        ensures ok { IfOk result (λ place. step printing self.old.state (Offer event) ≡
+        ensures ok { IfOk result (λ place. step report_printer self.old.state (Offer event) ≡
             (Placed place, self.new.state)) }
         ensures refused { IfErr result (λ refusal. RefusesOffer self.old.state event refusal
             × (self.new.state ≡ self.old.state)) }

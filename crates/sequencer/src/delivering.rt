@@ -5,7 +5,7 @@ ghost use Rattle.std.specs.Result.{result_err};
 ghost use Rattle.std.specs.Option.{option_eq};
 ghost use Rattle.trace_model.specs.Protocol.Machine.{deliver, same_event, same_events};
 ghost use Rattle.snapshots.specs.Found.{AreRowsOf};
-ghost use Rattle.sequencer.specs.Book.{AreKnown, finding_refused, findings_rows, outcome};
+ghost use Rattle.sequencer.specs.Book.{AreEventsIfOpen, finding_refused, findings_rows, outcome};
 
 use crate::book::Book;
 use crate::recorder::Recorder;
@@ -39,7 +39,7 @@ impl Book {
     ///
     /// As of `deliver`.
     pub fn deliver_known(&mut self, finding: Finding) -> Delivered
-        requires known { AreKnown self.old.state finding.question finding.events }
+        requires known { AreEventsIfOpen self.old.state finding.question finding.events }
         ensures machine { deliver self.old.state finding.question finding.bound finding.events
             finding.task (findings_rows finding) ≡ (outcome result, self.new.state) }
         ensures back { IfErr result (λ refused. refused.1 ≡ finding) }
@@ -82,7 +82,7 @@ impl Book {
     ///
     /// As of `admits`, except `OtherTrace`.
     pub fn admits_known(&self, finding: &Finding) -> Result<(), Refusal>
-        requires known { AreKnown self.now.state finding.now.question finding.now.events }
+        requires known { AreEventsIfOpen self.now.state finding.now.question finding.now.events }
         ensures { result_err result ≡ finding_refused self.now.state finding.now }
     {
         let Some(asked) = self.question(finding.question()) else {

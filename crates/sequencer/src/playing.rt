@@ -5,7 +5,7 @@ ghost use Rattle.trace_model.specs.Protocol.Bounds.{StateFits};
 ghost use Rattle.trace_model.specs.Protocol.Machine.{State, opening};
 ghost use Rattle.trace_model.specs.Theory.Rows.{AreRows};
 ghost use Rattle.trace_model.specs.Protocol.Replies.{IsReply, reply_frame};
-ghost use Rattle.sequencer.specs.Book.{IsLimit};
+ghost use Rattle.sequencer.specs.Book.{IsBookLimit};
 ghost use Rattle.sequencer.specs.Called.{lacks_memory};
 ghost use Rattle.sequencer.specs.Drains.{Drains, IsAnswered, AreNew, IsPlayed};
 ghost use Rattle.sequencer.specs.Exact.{IsAlwaysExact, AlwaysTellsDeadlocks};
@@ -94,7 +94,7 @@ fn send(sent: &mut Vec<u8>, reply: Reply) -> Result<(), NoMemory>
 /// Answers each whole request of the reader and sends the replies; then sends the fault, if there
 /// is one.
 fn drain(book: &mut Book, reader: &mut FrameReader, sent: &mut Vec<u8>) -> Result<(), NoMemory>
-    requires { reader.old.told ≡ None }
+    requires { reader.old.returned ≡ None }
     ensures { OnOk result
         (Drains book.old.state reader.old sent.old.items book.new.state reader.new sent.new.items) }
 {
@@ -170,9 +170,9 @@ pub struct Played {
 
 impl Model for Played {
     ghost use Rattle.std.specs.Prelude.{◌≡◌, length, map};
-    ghost use Rattle.sequencer.specs.Played.{Left};
+    ghost use Rattle.sequencer.specs.Played.{PlayOutcome};
 
-    ghost Value = { Left };
+    ghost Value = { PlayOutcome };
 
     ghost view = { λ p. record {
       sent = map (λ session. session.sent.items) p.run.sessions.items;
@@ -280,7 +280,7 @@ pub fn play(
     // At any time, each confirmed row of a report has a witness that leads into its deadlock.
     ensures deadlocks { IfOk result
         (λ _. AlwaysTellsDeadlocks (opening max_events) (actions inputs.items)) }
-    ensures limit { IfOk result (λ _. IsLimit max_events) }
+    ensures limit { IfOk result (λ _. IsBookLimit max_events) }
     ensures refused { IfErr result (IsRightlyRefused max_events) }
 {
     let Ok(book) = Book::new(alloc, state, max_events) else {

@@ -38,13 +38,13 @@ impl Drop for QuestionState {
 }
 
 impl Model for QuestionState {
-    ghost use Rattle.sequencer.specs.QuestionState.{QuestionView, IsCounted};
+    ghost use Rattle.sequencer.specs.QuestionState.{QuestionView, HasRightCounters};
 
     ghost Value = { QuestionView };
 
     ghost view = { λ a. record { length = a.length; bound = a.bound; tasks = a.ledger } };
 
-    ghost invariant = { λ a. IsCounted
+    ghost invariant = { λ a. HasRightCounters
         (record {
           length = a.length;
           bound = a.bound;
@@ -53,7 +53,7 @@ impl Model for QuestionState {
 }
 
 impl QuestionState {
-    ghost use Rattle.trace_model.specs.Protocol.Machine.{delivered};
+    ghost use Rattle.trace_model.specs.Protocol.Machine.{delivered_count};
 
     /// Creates a question about the first `length` events with `total` missing tasks.
     ///
@@ -103,7 +103,7 @@ impl QuestionState {
 
     /// Returns the number of delivered tasks.
     pub(crate) fn delivered(&self) -> u32
-        ensures { result ≡ delivered (question_of self.now) }
+        ensures { result ≡ delivered_count (question_of self.now) }
     {
         self.ledger.delivered()
     }

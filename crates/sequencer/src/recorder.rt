@@ -6,7 +6,7 @@ ghost use Rattle.std.specs.Result.{result_err};
 ghost use Rattle.trace_model.specs.declared.limits.TheConstants.{MAX_EVENTS};
 ghost use Rattle.trace_model.specs.Theory.Dependencies.{dependencies};
 ghost use Rattle.trace_model.specs.Theory.Lawful.{refusal_of, IsWellFormed};
-ghost use Rattle.wellformed.specs.Gate.{with_event};
+ghost use Rattle.wellformed.specs.Gate.{admitted_with};
 
 use lock_tables::LockTables;
 use snapshots::Snapshot;
@@ -17,7 +17,7 @@ use std::sync::Arc;
 use std::sync::ledger::{Blank, Ledger};
 use trace_index::{Copies, TraceIndex};
 use trace_model::{Event, NoMemory, Place, Refusal};
-use wellformed::GateTables;
+use wellformed::AdmissionTables;
 
 /// A well-formed trace with its gate tables, index and lock tables, and the event for which memory
 /// is reserved. Contracts see it as a gate.
@@ -25,21 +25,21 @@ use wellformed::GateTables;
 pub struct Recorder {
     alloc: Global,
     limit: usize,
-    gate: GateTables,
+    admission: AdmissionTables,
     index: TraceIndex,
     tables: LockTables,
     ready: Option<Event>,
 }
 
 impl Model for Recorder {
-    ghost use Rattle.wellformed.specs.Gate.{Admitted};
+    ghost use Rattle.wellformed.specs.Gate.{GateView};
     ghost use Rattle.sequencer.specs.Recording.{IsRecording};
 
-    ghost Value = { Admitted };
+    ghost Value = { GateView };
 
     ghost view = { λ r. record { limit = r.limit; events = r.index.events; reserved = r.ready } };
 
-    ghost invariant = { λ r. IsRecording r.limit r.gate r.index r.tables r.ready };
+    ghost invariant = { λ r. IsRecording r.limit r.admission r.index r.tables r.ready };
 }
 
 /// Records the event in the index, with a new count of copies. Memory must be reserved for it.
@@ -65,7 +65,7 @@ impl Recorder {
         Recorder {
             alloc,
             limit: max_events,
-            gate: GateTables::new(alloc, state),
+            admission: AdmissionTables::new(alloc, state),
             index: TraceIndex::new(alloc, state),
             tables: LockTables::new(alloc, state),
             ready: None,
@@ -80,7 +80,7 @@ impl Recorder {
     pub fn check(&self, event: &Event) -> Result<(), Refusal>
         ensures { result_err result ≡ refusal_of self.now.limit self.now.events event.now }
     {
-        self.gate.check(self.limit, event)
+        self.admission.check(self.limit, event)
     }
 
     /// Returns the number of recorded events. Does not allocate.
@@ -118,7 +118,7 @@ impl Recorder {
         ensures ok { OnOk result (self.new.reserved ≡ Some event.now) }
     {
         self.ready = None;
-        self.gate.reserve(event)?;
+        self.admission.reserve(event)?;
         self.index.reserve(event)?;
         self.tables.reserve(event)?;
         self.ready = Some(*event);
@@ -142,12 +142,12 @@ impl Recorder {
     pub fn record(&mut self, event: &Event)
         requires reserved { self.old.reserved ≡ Some event.now }
         requires lawful { refusal_of self.old.limit self.old.events event.now ≡ None }
-        ensures { self.new ≡ with_event self.old event.now }
+        ensures { self.new ≡ admitted_with self.old event.now }
     {
         self.ready = None;
         record_in::<Brand>(&mut self.index, event, Blank::new(1));
         self.tables.record(event);
-        self.gate.record(event);
+        self.admission.record(event);
     }
 
     /// Returns a snapshot of the first `count` events, which have `total` dependencies. Full

@@ -4,9 +4,9 @@ ghost use Rattle.std.specs.Prelude.{◌≡◌, IfErr, IfOk};
 ghost use Rattle.trace_model.specs.Protocol.Machine as machine;
 ghost use Rattle.trace_model.specs.Protocol.Replies.{IsReply};
 ghost use Rattle.trace_model.specs.declared.messages.session.Request.TheVariants as requests;
-ghost use Rattle.sequencer.specs.Book.{IsPrepared, IsRefusal, Refuses, request_of};
+ghost use Rattle.sequencer.specs.Book.{IsPrepared, IsRefusal, Refuses, change_request};
 ghost use Rattle.sequencer.specs.Called.{IsSingle, StepsOrMemory, WantsRightly};
-ghost use Rattle.sequencer.specs.Printing.{printing};
+ghost use Rattle.sequencer.specs.Printing.{report_printer};
 
 use crate::book::Book;
 use crate::question_state::QuestionState;
@@ -30,9 +30,9 @@ pub struct Step {
 }
 
 impl Model for Step {
-    ghost use Rattle.sequencer.specs.Book.{Planned};
+    ghost use Rattle.sequencer.specs.Book.{StepView};
 
-    ghost Value = { Planned };
+    ghost Value = { StepView };
 
     ghost view = { λ s. record { change = s.change; reply = s.reply } };
 }
@@ -57,7 +57,7 @@ impl Book {
     pub fn prepare(&mut self, request: &Request) -> Result<Step, Reply>
         requires { IsSingle request.now }
         ensures shown { self.new.state ≡ self.old.state }
-        ensures ok { IfOk result (λ planned. (request_of planned.change ≡ request.now)
+        ensures ok { IfOk result (λ planned. (change_request planned.change ≡ request.now)
             × IsPrepared self.new planned) }
         ensures refused { IfErr result (Refuses self.old.state request.now) }
         ensures refusal { IfErr result (IsRefusal self.old.state request.now) }
@@ -73,7 +73,7 @@ impl Book {
 
     fn prepare_offer(&mut self, event: Event) -> Result<Step, Reply>
         ensures shown { self.new.state ≡ self.old.state }
-        ensures ok { IfOk result (λ planned. (request_of planned.change ≡ requests.Offer event)
+        ensures ok { IfOk result (λ planned. (change_request planned.change ≡ requests.Offer event)
             × IsPrepared self.new planned) }
         ensures refused { IfErr result (Refuses self.old.state (requests.Offer event)) }
         ensures refusal { IfErr result (IsRefusal self.old.state (requests.Offer event)) }
@@ -89,7 +89,7 @@ impl Book {
 
     fn prepare_ask(&mut self, bound: u8) -> Result<Step, Reply>
         ensures shown { self.new.state ≡ self.old.state }
-        ensures ok { IfOk result (λ planned. (request_of planned.change ≡ requests.Ask bound)
+        ensures ok { IfOk result (λ planned. (change_request planned.change ≡ requests.Ask bound)
             × IsPrepared self.new planned) }
         ensures refused { IfErr result (Refuses self.old.state (requests.Ask bound)) }
         ensures refusal { IfErr result (IsRefusal self.old.state (requests.Ask bound)) }
@@ -107,22 +107,24 @@ impl Book {
     }
 
     fn prepare_answer(&self, question: u32) -> Result<Step, Reply>
-        ensures ok { IfOk result (λ planned. (request_of planned.change ≡ requests.Answer question)
+        ensures ok { IfOk result (λ planned. (change_request planned.change
+            ≡ requests.Answer question)
             × IsPrepared self.now planned) }
         ensures refused { IfErr result (Refuses self.now.state (requests.Answer question)) }
         ensures refusal { IfErr result (IsRefusal self.now.state (requests.Answer question)) }
     {
         match self.answer(question) {
-            Ok(told) => Ok(Step {
+            Ok(answer) => Ok(Step {
                 change: Change::ReadAnswer(question),
-                reply: told.reply(question),
+                reply: answer.reply(question),
             }),
             Err(refused) => Err(Reply::Refused(refused.refusal())),
         }
     }
 
     fn prepare_status(&self, question: u32) -> Result<Step, Reply>
-        ensures ok { IfOk result (λ planned. (request_of planned.change ≡ requests.Status question)
+        ensures ok { IfOk result (λ planned. (change_request planned.change
+            ≡ requests.Status question)
             × IsPrepared self.now planned) }
         ensures refused { IfErr result (Refuses self.now.state (requests.Status question)) }
         ensures refusal { IfErr result (IsRefusal self.now.state (requests.Status question)) }
@@ -140,7 +142,7 @@ impl Book {
     /// allocate.
     pub fn commit(&mut self, planned: Step) -> Reply
         requires { IsPrepared self.old planned }
-        ensures { machine.step printing self.old.state (request_of planned.change) ≡
+        ensures { machine.step report_printer self.old.state (change_request planned.change) ≡
             (result, self.new.state) }
     {
         let Step { change, reply } = planned;

@@ -1,16 +1,17 @@
 //! Tests in which at most one allocation fails: each call that fails with `NoMemory` is repeated.
-//! The tests pass if no allocation fails; `tests/refused` makes each allocation fail in turn.
+//! The tests pass if no allocation fails; `tests/failing_allocations` makes each allocation fail in
+//! turn.
 
-use crate::book_tests::{FIRST, FindingSource, SECOND, is_report};
+use crate::book_tests::{FIRST, FindingSource, SECOND, refusal_in, report_in};
 use crate::desk_scripts::{Script, try_run_at_desk};
 use crate::fixtures::{
     ANSWER, ASKED, LIMIT, OPENED, OPPOSITE_EVENTS, REPLIES, REPORT, REPORT_HEAD, REQUESTS,
 };
-use crate::test_desk::{TestDesk, TestReader, TestWorker, ask, offer};
+use crate::test_desk::{OPPOSITE_QUESTION, TestDesk, TestReader, TestWorker, ask, offer};
 use crate::workers::workers_at;
 use board::QuestionSummary;
 use desk::{Turn, TurnFailure};
-use findings::{Finding, NoHold};
+use findings::{Finding, RunOn};
 use sequencer::{AnswerRefused, AskRefused, Input, PlayRefused, Played, Session, play};
 use std::alloc::Global;
 use std::hash::RandomState;
@@ -62,14 +63,18 @@ fn inputs(rt: &(impl RandomSource + AllocGlobal), session: Session) -> Option<Ve
     push_inputs(rt, session, &mut inputs).and(Some(inputs))
 }
 
-/// Returns whether all events were placed, the question was opened with two tasks, both findings
-/// were accepted, and the answer is the report.
-fn is_full(run: &Played, session: Session) -> bool {
+/// Asserts that all events were placed, the question was opened with two tasks, both findings were
+/// accepted, and the answer is the report.
+fn is_full(rt: &impl Abort, run: &Played, session: Session) {
     let sent = run.sent(session);
-    sent.get(..OPENED) == Some(&REPLIES[..OPENED])
-        && sent.get(107..116) == Some(REPORT_HEAD.as_slice())
-        && sent.get(116..) == Some(REPORT)
-        && matches!(run.deliveries(), [Ok(()), Ok(())])
+    assert_eq!(rt; sent.get(..OPENED), Some(&REPLIES[..OPENED]));
+    assert_eq!(rt; sent.get(107..116), Some(REPORT_HEAD.as_slice()));
+    assert_eq!(rt; sent.get(116..), Some(REPORT.as_bytes()));
+    assert_eq!(rt; run.book().len(), 10);
+    assert_eq!(rt; run.deliveries().len(), 2);
+    for outcome in run.deliveries() {
+        assert_eq!(rt; refusal_in(outcome), None);
+    }
 }
 
 #[test]
@@ -83,11 +88,11 @@ fn play_answers_all_or_no_memory(rt: HostRuntime) -> Result<(), Fail> {
         };
         match play(alloc, state, LIMIT, inputs) {
             Ok(run) => {
-                assert!(rt; is_full(&run, session));
+                is_full(&rt, &run, session);
                 drop(run);
                 return Ok(());
             }
-            Err(error) => assert!(rt; error == PlayRefused::NoMemory),
+            Err(error) => assert_eq!(rt; error, PlayRefused::NoMemory),
         }
     }
     Err(Fail::from("refused again"))
@@ -114,22 +119,21 @@ fn offers_with_retry<D: TestDesk, R: Abort>(
     if first.is_ok() {
         return;
     }
-    assert_eq!(rt; first.err(), Some(Refusal::NoMemory));
-    assert_eq!(rt; board_state(reader), before);
-    assert!(rt; offer(desk, reader, event).is_ok());
+    assert_eq!(rt; first.err(), Some(Refusal::NoMemory), "{event:?}");
+    assert_eq!(rt; board_state(reader), before, "{event:?}");
+    assert_eq!(rt; offer(desk, reader, event).err(), None, "{event:?}");
 }
 
 /// Asks question 0, and once more after `NoMemory`. Asserts that a failed call does not change the
 /// board.
 fn asks_with_retry<D: TestDesk, R: Abort>(rt: &R, desk: &D, reader: &mut D::Reader) {
     let before = board_state(reader);
-    let first = ask(desk, 2);
-    if first.is_ok() {
-        return;
+    let mut asked = ask(desk, 2);
+    if asked == Err(AskRefused::NoMemory) {
+        assert_eq!(rt; board_state(reader), before);
+        asked = ask(desk, 2);
     }
-    assert_eq!(rt; first.err(), Some(AskRefused::NoMemory));
-    assert_eq!(rt; board_state(reader), before);
-    assert!(rt; ask(desk, 2).is_ok());
+    assert_eq!(rt; asked, Ok(OPPOSITE_QUESTION));
 }
 
 /// Returns whether a turn of the worker delivers a task. Asserts that after a turn that fails with
@@ -142,7 +146,7 @@ fn delivers<D: TestDesk, R: Abort>(
     done: u32,
 ) -> bool {
     let before = board_state(reader);
-    let turn = worker.turn(&NoHold);
+    let turn = worker.turn(&RunOn);
     if turn == Turn::Delivered {
         return true;
     }
@@ -170,7 +174,7 @@ fn works_with_retry<D: TestDesk, R: Abort>(
         }
     }
     assert_eq!(rt; done, 2);
-    assert_eq!(rt; worker.turn(&NoHold), Turn::Idle);
+    assert_eq!(rt; worker.turn(&RunOn), Turn::Idle);
 }
 
 /// Gets the report, with a second call after `NoMemory`. Asserts that a failed call does not change
@@ -182,7 +186,7 @@ fn answers_with_retry<D: TestDesk, R: Abort>(rt: &R, desk: &D, reader: &mut D::R
         assert_eq!(rt; board_state(reader), before);
         first = desk.answer();
     }
-    assert!(rt; is_report(&first, REPORT));
+    assert_eq!(rt; report_in(&first), Ok(REPORT));
 }
 
 #[test]

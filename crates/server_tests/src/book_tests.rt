@@ -2,12 +2,14 @@
 
 use crate::fixtures::{LIMIT, OPPOSITE_EVENTS, REPORT};
 use findings::{Finding, Snapshot};
-use sequencer::{Answer, AnswerRefused, Book};
+use sequencer::{Answer, AnswerRefused, Book, Delivered};
 use std::alloc::Global;
 use std::hash::RandomState;
+use std::process::Abort;
 use std::random::RandomSource;
 use std::sync::Arc;
-use trace_model::{Bound, Event, Op};
+use std::test::*;
+use trace_model::{Bound, Event, Op, Refusal};
 
 /// The question, the bound and the task of a finding. If `has_other_end`, the finding covers events
 /// that differ from the trace in the last one.
@@ -89,7 +91,7 @@ impl FindingSource {
     }
 
     /// Returns the finding with this key, or `None` if an allocation fails.
-    fn finding(&self, key: FindingKey) -> Option<Finding> {
+    pub(crate) fn finding(&self, key: FindingKey) -> Option<Finding> {
         if key.has_other_end {
             finding_over(self.alloc, &self.other, key)
         } else {
@@ -111,45 +113,58 @@ impl FindingSource {
     }
 }
 
-/// Returns whether the answer is this report.
-pub(crate) fn is_report(answer: &Result<Answer, AnswerRefused>, report: &[u8]) -> bool {
+/// Returns the text of the report. If there is none, returns the refusal, or `None` if tasks are
+/// missing.
+pub(crate) fn report_in(
+    answer: &Result<Answer, AnswerRefused>,
+) -> Result<&str, Option<AnswerRefused>> {
     match answer {
-        Ok(Answer::Settled(text)) => text.as_slice() == report,
-        _ => false,
+        Ok(Answer::Settled(text)) => str::from_utf8(text.as_slice()).map_err(|_| None),
+        Ok(Answer::Pending { .. }) => Err(None),
+        Err(refused) => Err(Some(*refused)),
     }
 }
 
-/// Returns whether the book accepts the finding with this key.
-fn delivers(
+/// Returns the refusal of a finding, or `None` if it is accepted.
+pub(crate) fn refusal_in(outcome: &Delivered) -> Option<Refusal> {
+    match outcome {
+        Ok(()) => None,
+        Err((refusal, _)) => Some(*refusal),
+    }
+}
+
+/// Asserts that the book accepts the findings of both tasks, the second one in two phases.
+fn delivers_both(
+    rt: &impl Abort,
     alloc: Global,
     book: &mut Book,
     snapshot: &Arc<Snapshot, Global>,
-    key: FindingKey,
-) -> bool {
-    match finding_over(alloc, snapshot, key) {
-        Some(finding) => book.deliver(finding).is_ok(),
-        None => false,
-    }
+) -> Result<(), Fail> {
+    let first = finding_over(alloc, snapshot, FIRST).ok_or("the first finding")?;
+    let outcome = book.deliver(first);
+    assert_eq!(rt; refusal_in(&outcome), None);
+    drop(outcome);
+    let second = finding_over(alloc, snapshot, SECOND).ok_or("the second finding")?;
+    book.admits(&second)?;
+    book.take(second);
+    Ok(())
 }
 
-/// Returns whether the book accepts the trace, a question, and the findings of its tasks, and then
+/// Asserts that the book accepts the trace, a question, and the findings of its tasks, and then
 /// answers with the report.
-fn reports(alloc: Global, book: &mut Book) -> bool {
-    let Some(snapshot) = ask_over(book, &OPPOSITE_EVENTS) else {
-        return false;
-    };
-    let delivered = delivers(alloc, book, &snapshot, FIRST)
-        && delivers(alloc, book, &snapshot, SECOND);
+fn reports(rt: &impl Abort, alloc: Global, book: &mut Book) -> Result<(), Fail> {
+    let snapshot = ask_over(book, &OPPOSITE_EVENTS).ok_or("a snapshot")?;
+    let delivered = delivers_both(rt, alloc, book, &snapshot);
     drop(snapshot);
-    delivered && is_report(&book.answer(0), REPORT)
+    delivered?;
+    assert_eq!(rt; report_in(&book.answer(0)), Ok(REPORT));
+    Ok(())
 }
 
 #[test]
-fn opposite_orders_by_calls_of_a_book(rt: HostRuntime) {
-    let state = RandomState::new(&rt).expect(&rt, "random keys");
-    let mut book = Book::new(rt.alloc(), state, LIMIT)
-        .ok()
-        .expect(&rt, "a book");
-    assert!(rt; reports(rt.alloc(), &mut book));
+fn opposite_orders_by_calls_of_a_book(rt: HostRuntime) -> Result<(), Fail> {
+    let mut book = Book::new(rt.alloc(), RandomState::new(&rt)?, LIMIT)?;
+    let reported = reports(&rt, rt.alloc(), &mut book);
     drop(book);
+    reported
 }

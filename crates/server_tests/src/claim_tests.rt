@@ -59,6 +59,8 @@ fn race<R: Threads + Sync>(
 #[test]
 fn four_threads_draw_a_thousand_each(rt: HostRuntime) -> Result<(), Fail> {
     let totals = race(&rt, rt.alloc(), 4, 0, 1000)?;
-    assert!(rt; totals[0] == 4000 && totals[1] == 0 && totals[255] == 0);
+    for (question, wanted) in [(0usize, 4000u64), (1, 0), (255, 0)] {
+        assert_eq!(rt; totals.get(question), Some(&wanted), "question {question}");
+    }
     Ok(())
 }

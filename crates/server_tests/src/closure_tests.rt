@@ -5,7 +5,7 @@ ghost use Rattle.std.specs.Prelude.{◌≡◌, ℕ, ◌<◌, length, IsTrue};
 ghost use Rattle.std.specs.List.{Contains};
 ghost use Rattle.trace_model.specs.Theory.Dependencies.{dependencies};
 ghost use Rattle.trace_model.specs.Theory.Lawful.{IsWellFormed};
-ghost use Rattle.dependencies.specs.Tables.{known, FollowsTrace};
+ghost use Rattle.dependencies.specs.Tables.{table_dependencies, HasDependenciesOf};
 
 use crate::fixtures::OPPOSITE_ORDERS;
 use crate::table_tests::{LATER_INSTANCE, index_of_text, table_of};
@@ -16,6 +16,7 @@ use sp_closure::{Steps, close, least_instance};
 use std::alloc::Global;
 use std::hash::RandomState;
 use std::marker::Brand;
+use std::process::Abort;
 use std::sync::ledger::{Blank, Ledger};
 use trace_index::TraceIndex;
 use trace_model::{Event, Instance, NoMemory, Place};
@@ -27,7 +28,8 @@ type Found = (Instance, Vec<Place>);
 
 /// Returns whether each number is that of a dependency of the table.
 fn are_known(table: &DepTable, numbers: &[u32]) -> bool
-    ensures { IsTrue result → (m : ℕ) → Contains numbers.now m → m < length (known table.now) }
+    ensures { IsTrue result → (m : ℕ) → Contains numbers.now m →
+        m < length (table_dependencies table.now) }
 {
     for number in numbers {
         if *number as usize >= table.len() {
@@ -48,7 +50,7 @@ fn found_from<L: Ledger>(
     requires name { blank.name ≡ L.name }
     requires parts { blank.parts ≡ L.parts }
     requires some { 0 < L.parts }
-    requires one_trace { FollowsTrace table.now index.now.events (length index.now.events) }
+    requires one_trace { HasDependenciesOf table.now index.now.events (length index.now.events) }
     requires known { (m : ℕ) → Contains cycle.now m →
         m < length (dependencies index.now.events) }
 {
@@ -68,7 +70,7 @@ fn found_from<L: Ledger>(
 /// Returns what `found_from` returns for the cycle of the dependencies 0 and 1. Returns `None` if
 /// an allocation fails, or there are fewer dependencies.
 fn found_of(alloc: Global, index: &TraceIndex, table: &DepTable) -> Option<Option<Found>>
-    requires { FollowsTrace table.now index.now.events (length index.now.events) }
+    requires { HasDependenciesOf table.now index.now.events (length index.now.events) }
 {
     let cycle = Cycle::new(&[0, 1])?;
     if are_known(table, cycle.numbers()) {
@@ -86,7 +88,7 @@ fn found_over(
     table: &DepTable,
 ) -> Option<Option<Found>>
     requires well_formed { IsWellFormed events.now }
-    requires one_trace { FollowsTrace table.now events.now (length events.now) }
+    requires one_trace { HasDependenciesOf table.now events.now (length events.now) }
 {
     match TraceIndex::build(alloc, state, events) {
         Ok(index) => {
@@ -112,26 +114,23 @@ fn found_in(alloc: Global, state: RandomState, events: &[Event]) -> Option<Optio
     }
 }
 
-/// Returns whether these are exactly the wanted places, in order.
-fn are_places(places: &[Place], wanted: &[u32]) -> bool {
-    if places.len() != wanted.len() {
-        return false;
-    }
+/// Asserts that these are exactly the wanted places, in order.
+fn are_places(rt: &impl Abort, places: &[Place], wanted: &[u32]) {
+    assert_eq!(rt; places.len(), wanted.len());
     for index in 0..wanted.len() {
-        if places[index].get() != wanted[index] {
-            return false;
-        }
+        assert_eq!(rt; places[index].get(), wanted[index], "number {index}");
     }
-    true
 }
 
-/// Returns whether the instance is at these two places, and has this witness.
-fn is_found(found: &Found, (first, second): (u32, u32), witness: &[u32]) -> bool {
+/// Asserts that the instance is at these two places, and has this witness.
+fn is_found(rt: &impl Abort, found: &Found, (first, second): (u32, u32), witness: &[u32]) {
     let (places, order) = found;
-    places.len() == 2
-        && places.get(0) == Some(Place::new(first))
-        && places.get(1) == Some(Place::new(second))
-        && are_places(order.as_slice(), witness)
+    let members = (places.len(), places.get(0), places.get(1));
+    assert_eq!(rt;
+        members,
+        (2, Some(Place::new(first)), Some(Place::new(second)))
+    );
+    are_places(rt, order.as_slice(), witness);
 }
 
 /// Two threads nest two locks in opposite orders, with a write and a read between them.
@@ -150,9 +149,9 @@ fn found_in_text(rt: &HostRuntime, text: &str) -> Option<Option<Found>> {
 fn least_instances(rt: HostRuntime) {
     let found = found_in_text(&rt, LATER_INSTANCE).expect(&rt, "an answer");
     let found = found.expect(&rt, "an instance");
-    assert!(rt; is_found(&found, (13, 9), &[0, 1, 2, 3, 4, 5, 6, 7, 8, 12]));
+    is_found(&rt, &found, (13, 9), &[0, 1, 2, 3, 4, 5, 6, 7, 8, 12]);
     let found = found_in_text(&rt, READ_NEEDS_EARLIER_SECTION).expect(&rt, "an answer");
-    assert!(rt; found.is_none());
+    assert!(rt; found.is_none(), "a read needs the earlier section");
 }
 
 fn are_in_trace(index: &TraceIndex, places: &[Place]) -> bool
@@ -166,13 +165,16 @@ fn are_in_trace(index: &TraceIndex, places: &[Place]) -> bool
     true
 }
 
-/// Returns the places of the closure of these places, ascending.
+/// Whether a closure has place 0, and its places, ascending.
+type Closure = (bool, Vec<Place>);
+
+/// Returns the closure of these places.
 fn closure_from<L: Ledger>(
     alloc: Global,
     index: &TraceIndex,
     places: &[Place],
     blank: Blank,
-) -> Result<Vec<Place>, NoMemory>
+) -> Result<Closure, NoMemory>
     requires name { blank.name ≡ L.name }
     requires parts { blank.parts ≡ L.parts }
     requires some { 0 < L.parts }
@@ -182,13 +184,14 @@ fn closure_from<L: Ledger>(
     let closed = close(alloc, index, places, &mut steps);
     drop(steps);
     let fronts = closed?;
+    let has_start = fronts.has(Place::new(0));
     let witness = write_witness(alloc, index, &fronts);
     drop(fronts);
-    witness
+    Ok((has_start, witness?))
 }
 
 /// Returns what `closure_from` returns, or `None` if a place is not one of the trace.
-fn closure_of(alloc: Global, index: &TraceIndex, places: &[Place]) -> Option<Vec<Place>> {
+fn closure_of(alloc: Global, index: &TraceIndex, places: &[Place]) -> Option<Closure> {
     if are_in_trace(index, places) {
         closure_from::<Brand>(alloc, index, places, Blank::new(1)).ok()
     } else {
@@ -199,10 +202,11 @@ fn closure_of(alloc: Global, index: &TraceIndex, places: &[Place]) -> Option<Vec
 #[test]
 fn closure_of_two_places(rt: HostRuntime) {
     let index = index_of_text(&rt, OPPOSITE_ORDERS).expect(&rt, "an index");
-    let places = closure_of(rt.alloc(), &index, &[Place::new(3), Place::new(7)]);
+    let closure = closure_of(rt.alloc(), &index, &[Place::new(3), Place::new(7)]);
     drop(index);
-    let places = places.expect(&rt, "a closure");
-    assert!(rt; are_places(&places, &[0, 1, 2, 6]));
+    let (has_start, places) = closure.expect(&rt, "a closure");
+    assert!(rt; has_start, "the fork of thread 1");
+    are_places(&rt, &places, &[0, 1, 2, 6]);
 }
 
 #[test]

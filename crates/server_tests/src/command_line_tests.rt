@@ -73,7 +73,7 @@ const VALID: [(&[&str], Invocation<'static>); 7] = [
 #[test]
 fn valid_command_lines(rt: HostRuntime) -> Result<(), Fail> {
     for (words, wanted) in VALID {
-        assert!(rt; parse(rt.alloc(), words).ok() == Some(wanted), "{words:?}");
+        assert_eq!(rt; parse(rt.alloc(), words).ok(), Some(wanted), "{words:?}");
     }
     Ok(())
 }

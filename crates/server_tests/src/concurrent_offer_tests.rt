@@ -114,17 +114,15 @@ fn learn_offered<D: TestDesk>(
     before.extend_from_slice(&given)
 }
 
-/// Returns whether these are the places of all offers, ascending.
-fn are_expected_places(places: &[u32], how: Offers) -> bool {
+/// Asserts that these are the places of all offers, ascending.
+fn are_expected_places(rt: &impl Abort, places: &[u32], how: Offers) {
     let (_, size, total) = how.numbers();
     let mut expected = 0u32;
     for place in places {
-        if *place != expected {
-            return false;
-        }
+        assert_eq!(rt; *place, expected);
         expected = expected.wrapping_add(size);
     }
-    expected == total
+    assert_eq!(rt; expected, total, "the number of events");
 }
 
 /// Offers events from eight threads concurrently. Returns the places, ascending. The reader learns
@@ -150,7 +148,7 @@ pub(crate) fn accepts_concurrent_offers<D: TestDesk, R: Threads + Abort + Sync>(
     how: Offers,
 ) -> Result<(), Fail> {
     let places = places_of_concurrent_offers(rt, alloc, desk, reader, how)?;
-    assert!(rt; are_expected_places(&places, how));
+    are_expected_places(rt, &places, how);
     let (_, _, total) = how.numbers();
     assert_eq!(rt; accepted(reader), Some(total));
     Ok(())

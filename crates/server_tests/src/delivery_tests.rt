@@ -1,12 +1,12 @@
 //! Tests of the delivery of valid and invalid findings: one by one, as lists, and by several
 //! threads.
 
-use crate::book_tests::{FIRST, FindingKey, FindingSource, SECOND, is_report};
+use crate::book_tests::{FIRST, FindingKey, FindingSource, SECOND, refusal_in, report_in};
 use crate::desk_scripts::{Script, run_at_desk};
 use crate::fixtures::REPORT;
 use crate::test_desk::{TestDesk, TestReader, ask, asks_about_opposite_orders};
 use findings::Finding;
-use sequencer::Delivered;
+use sequencer::AskRefused;
 use std::alloc::{AllocError, Global};
 use std::process::Abort;
 use std::random::RandomSource;
@@ -41,16 +41,6 @@ pub(crate) enum Way {
 /// The refusal of each finding, `None` if it is accepted, and the receipts.
 type Outcomes<D> = (Vec<Option<Refusal>>, Vec<<D as TestDesk>::Receipt>);
 
-fn refusal_in(outcome: Delivered) -> Option<Refusal> {
-    match outcome {
-        Ok(()) => None,
-        Err((refusal, finding)) => {
-            drop(finding);
-            Some(refusal)
-        }
-    }
-}
-
 /// Delivers the findings with these keys. Returns `None` if an allocation fails.
 fn deliver_keys<D: TestDesk>(
     desk: &D,
@@ -74,7 +64,9 @@ fn deliver_one_by_one<D: TestDesk>(
 ) -> Result<(), AllocError> {
     for finding in findings {
         let (outcome, receipt) = desk.deliver(finding);
-        outcomes.0.push(refusal_in(outcome))?;
+        let refusal = refusal_in(&outcome);
+        drop(outcome);
+        outcomes.0.push(refusal)?;
         outcomes.1.push(receipt)?;
     }
     Ok(())
@@ -88,9 +80,10 @@ fn deliver_together<D: TestDesk>(
     let Some((delivered, receipt)) = desk.deliver_all(findings) else {
         return Ok(());
     };
-    for outcome in delivered {
+    for outcome in &delivered {
         outcomes.0.push(refusal_in(outcome))?;
     }
+    drop(delivered);
     outcomes.1.push(receipt)?;
     Ok(())
 }
@@ -105,13 +98,18 @@ fn findings_delivered_as_lists(rt: HostRuntime) -> Result<(), Fail> {
     run_at_desk(rt, Script::ListsInTurn(Way::Together))
 }
 
-/// Findings, the outcome of each, and what the board shows of question 0 afterwards.
-type Wanted = (&'static [FindingKey], &'static [Option<Refusal>], Counts);
+/// A case: its name, findings, the outcome of each, and what the board shows of question 0
+/// afterwards.
+type Wanted = (
+    &'static str,
+    &'static [FindingKey],
+    &'static [Option<Refusal>],
+    Counts,
+);
 
-/// Task 1 with findings that are refused; no finding; task 0; and findings that are refused after
-/// all tasks are delivered.
 const LISTS: [Wanted; 4] = [
     (
+        "task 1 with findings that are refused",
         &[
             SECOND,
             SECOND,
@@ -130,9 +128,10 @@ const LISTS: [Wanted; 4] = [
         ],
         (1, 0, 0),
     ),
-    (&[], &[], (1, 0, 0)),
-    (&[FIRST], &[None], (2, 1, 1)),
+    ("no finding", &[], &[], (1, 0, 0)),
+    ("task 0", &[FIRST], &[None], (2, 1, 1)),
     (
+        "findings that are refused after all tasks are delivered",
         &[OTHER_BOUND, FIRST],
         &[Some(Refusal::OtherBound), Some(Refusal::Double)],
         (2, 1, 1),
@@ -147,17 +146,17 @@ pub(crate) fn delivers_in_turn<D: TestDesk, R: RandomSource + AllocGlobal + Abor
     reader: &mut D::Reader,
     way: Way,
 ) -> Result<(), Fail> {
-    assert!(rt; asks_about_opposite_orders(desk, reader));
+    asks_about_opposite_orders(rt, desk, reader);
     // Without a receipt.
-    board_shows(rt, reader, (0, 0, 0))?;
+    board_shows(rt, "before the first list", reader, (0, 0, 0))?;
     let source = FindingSource::new(rt).ok_or("a source of findings")?;
     let delivered = delivers_lists(rt, desk, reader, &source, way);
     drop(source);
     delivered?;
     assert_eq!(rt; desk.missing(), Some(None));
-    assert!(rt; is_report(&desk.answer(), REPORT));
-    assert!(rt; ask(desk, 1).is_err());
-    board_shows(rt, reader, (2, 1, 1))
+    assert_eq!(rt; report_in(&desk.answer()), Ok(REPORT));
+    assert_eq!(rt; ask(desk, 1), Err(AskRefused::BadBound));
+    board_shows(rt, "after the last list", reader, (2, 1, 1))
 }
 
 /// Delivers each list in sequence. Asserts the outcomes and what the board shows after it.
@@ -182,12 +181,12 @@ fn delivers_list<D: TestDesk, R: Abort>(
     way: Way,
     wanted: Wanted,
 ) -> Result<(), Fail> {
-    let (list, refusals, counts) = wanted;
+    let (case, list, refusals, counts) = wanted;
     let (outcomes, receipts) = deliver_keys(desk, source, list, way).ok_or("findings")?;
-    assert_eq!(rt; outcomes.as_slice(), refusals);
+    assert_eq!(rt; outcomes.as_slice(), refusals, "{case}");
     learn_all::<D>(reader, &receipts);
     drop(receipts);
-    board_shows(rt, reader, counts)
+    board_shows(rt, case, reader, counts)
 }
 
 fn learn_all<D: TestDesk>(reader: &mut D::Reader, receipts: &[D::Receipt]) {
@@ -200,18 +199,19 @@ fn learn_all<D: TestDesk>(reader: &mut D::Reader, receipts: &[D::Receipt]) {
 type Counts = (u32, u64, u64);
 
 /// Asserts that the board shows the ten events, one question, and these counts of it.
-fn board_shows(rt: &impl Abort, reader: &mut impl TestReader, counts: Counts) -> Result<(), Fail> {
+fn board_shows(
+    rt: &impl Abort,
+    case: &str,
+    reader: &mut impl TestReader,
+    counts: Counts,
+) -> Result<(), Fail> {
     let summary = reader.status().ok_or("busy")?;
-    assert_eq!(rt; (summary.accepted, summary.opened), (10, 1));
+    assert_eq!(rt; (summary.accepted, summary.opened), (10, 1), "{case}");
     let question = summary.question(0).ok_or("a question")?;
-    assert_eq!(rt;
-        (question.length, question.bound.get(), question.total),
-        (10, 2, 2)
-    );
-    assert_eq!(rt;
-        (question.delivered, question.cycles, question.confirmed),
-        counts
-    );
+    let asked = (question.length, question.bound.get(), question.total);
+    assert_eq!(rt; asked, (10, 2, 2), "{case}");
+    let shown = (question.delivered, question.cycles, question.confirmed);
+    assert_eq!(rt; shown, counts, "{case}");
     Ok(())
 }
 
@@ -231,12 +231,12 @@ pub(crate) fn delivers_concurrently<
     D: TestDesk,
     R: RandomSource + AllocGlobal + Threads + Abort + Sync,
 >(rt: &R, alloc: Global, desk: &D, reader: &mut D::Reader, way: Way) -> Result<(), Fail> {
-    assert!(rt; asks_about_opposite_orders(desk, reader));
+    asks_about_opposite_orders(rt, desk, reader);
     let source = FindingSource::new(rt).ok_or("a source of findings")?;
     let outcomes = deliver_concurrently(rt, alloc, desk, reader, &source, way);
     drop(source);
     has_expected_outcomes(rt, &outcomes?);
-    board_shows(rt, reader, (2, 1, 1))
+    board_shows(rt, "after all deliveries", reader, (2, 1, 1))
 }
 
 /// What each thread delivers.
@@ -287,7 +287,7 @@ const OUTCOMES: [(Option<Refusal>, u32); 4] = [
 fn has_expected_outcomes(rt: &impl Abort, outcomes: &[Option<Refusal>]) {
     assert_eq!(rt; outcomes.len(), 32);
     for (outcome, count) in OUTCOMES {
-        assert_eq!(rt; count_of(outcomes, outcome), count);
+        assert_eq!(rt; count_of(outcomes, outcome), count, "{outcome:?}");
     }
 }
 

@@ -4,8 +4,8 @@ ghost use Rattle.std.specs.Prelude.{◌≡◌};
 
 use crate::desk_scripts::{Script, run_at_desk};
 use crate::fixtures::{LIMIT, rounds};
-use crate::test_desk::{TestDesk, accepted, accepts, offer};
-use board::{HistoryId, NewHistory, Shown};
+use crate::test_desk::{TestDesk, accepted, offer, offer_all};
+use board::{BoardState, HistoryId, NewHistory};
 use desk::{Desk, DeskRefused};
 use event_files::read_events;
 use std::alloc::Global;
@@ -29,7 +29,8 @@ pub(crate) fn places_or_refuses_each<D: TestDesk, R: Abort>(
     reader: &mut D::Reader,
 ) -> Result<(), Fail> {
     for (thread, op, reply) in EVENTS {
-        assert_eq!(rt; placed(desk, reader, Event { thread, op }), reply);
+        let event = Event { thread, op };
+        assert_eq!(rt; placed(desk, reader, event), reply, "{event:?}");
     }
     assert_eq!(rt; accepted(reader), Some(6));
     Ok(())
@@ -74,7 +75,7 @@ pub(crate) fn accepts_repetitions<D: TestDesk, R: Abort>(
     reader: &mut D::Reader,
 ) -> Result<(), Fail> {
     let events = read_events(alloc, &rounds(alloc, 200)?)?;
-    assert!(rt; accepts(desk, reader, &events));
+    assert_eq!(rt; offer_all(desk, reader, &events), None);
     assert_eq!(rt; accepted(reader), Some(1602));
     Ok(())
 }
@@ -111,5 +112,5 @@ fn refused_by<N: HistoryId, R: Wait + Copy>(
     requires book { history.seen.book ≡ N.book }
     requires limit { limit ≡ N.limit }
 {
-    Desk::<N, R, Shown<N>>::new(alloc, state, rt, history, limit, readers).err()
+    Desk::<N, R, BoardState<N>>::new(alloc, state, rt, history, limit, readers).err()
 }

@@ -92,7 +92,7 @@ pub(crate) const SETTLED: [u8; 46] = [
 ];
 
 /// The report of the trace with the bound 2.
-pub(crate) const REPORT: &[u8] = b"question 0 length 10 bound 2 cycles 1 confirmed 1
+pub(crate) const REPORT: &str = "question 0 length 10 bound 2 cycles 1 confirmed 1
 cycle 0 1 confirmed
   thread 1 lock 20 holds 10 place 3
   thread 2 lock 10 holds 20 place 7

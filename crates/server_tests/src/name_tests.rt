@@ -42,6 +42,10 @@ fn name_in_table(number: u8) -> Option<&'static str> {
 #[test]
 fn each_number_has_its_name(rt: HostRuntime) {
     for number in 0..=u8::MAX {
-        assert!(rt; refusal_name(number) == name_in_table(number), "{number}");
+        assert_eq!(rt;
+            refusal_name(number),
+            name_in_table(number),
+            "refusal {number}"
+        );
     }
 }

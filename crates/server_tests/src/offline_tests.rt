@@ -3,7 +3,7 @@
 use crate::meeting::Meeting;
 use event_files::read_events;
 use findings::Hold;
-use offline_report::offline_with;
+use question_server::offline_with;
 use std::alloc::Global;
 use std::hash::RandomState;
 use std::io::{self, Write};
@@ -95,11 +95,17 @@ fn tasks_on_two_threads(rt: HostRuntime) -> Result<(), Fail> {
         questions: AtomicU64::new(0),
         tasks: AtomicU64::new(0),
     };
-    assert!(rt; report_with_hold(&rt, &hold)?.starts_with(FIRST));
-    assert_eq!(rt; hold.meeting.came().0, 1);
-    assert!(rt; !hold.meeting.gave_up());
-    assert_eq!(rt; hold.calls.load(Ordering::SeqCst), TASKS);
-    assert_eq!(rt; hold.questions.load(Ordering::SeqCst), 0);
-    assert_eq!(rt; hold.tasks.load(Ordering::SeqCst), TASKS * (TASKS - 1) / 2);
+    let report = report_with_hold(&rt, &hold)?;
+    assert_eq!(rt; report.get(..FIRST.len()), Some(FIRST));
+    drop(report);
+    assert_eq!(rt; hold.meeting.came().0, 1, "task 0");
+    assert!(rt; !hold.meeting.gave_up(), "a task waits in vain");
+    let calls = hold.calls.load(Ordering::SeqCst);
+    let questions = hold.questions.load(Ordering::SeqCst);
+    let tasks = hold.tasks.load(Ordering::SeqCst);
+    assert_eq!(rt;
+        (calls, questions, tasks),
+        (TASKS, 0, TASKS * (TASKS - 1) / 2)
+    );
     Ok(())
 }

@@ -1,191 +1,317 @@
-//! Names the public functions of all crates, each by the crate that must export it. The tests do not
-//! compile if a function moves or is renamed. They call nothing.
-use board::{
-    BoardReader, BoardWriter, Busy, HistoryId, NotMade, Receipt, Shown, Summary, new_board,
-};
-use claims::{Claimant, claimants, gather};
-use command_line::parse;
-use commands::{run_offline, run_replay, run_script};
-use cycle_search::{Cycle, SearchRefused, cycles_from};
+//! Calls of public functions that no other test makes, each by the crate that must export it. The
+//! answers are those for a few values, or for the trace of opposite orders. The tests do not
+//! compile if a function moves or is renamed.
+
+use crate::book_tests::{FIRST, FindingSource};
+use crate::fixtures::{LIMIT, OPPOSITE_EVENTS, OPPOSITE_ORDERS, REPORT};
+use crate::table_tests::table_of_text;
+use crate::traces::gate_of;
+use board::{BoardState, BoardWriter, HistoryId, new_board};
+use cycle_search::{Components, SearchInput, SearchRefused, cycles_from};
 use dependencies::{DepTable, Dependency};
-use desk::{Desk, DeskRefused, Hold, Locked, Turn, Worker};
+use desk::{Desk, Locked};
 use event_frames::{FrameReader, encode_reply};
-use findings::{ComputeRefused, Finding, Snapshot, compute};
+use findings::{Finding, Snapshot};
 use guards::compatible;
-use held_sets::{HeldSet, HeldTable};
+use held_sets::HeldTable;
 use lock_graph::LockGraph;
-use question_server::{
-    Calls, Client, Ended, ServeFault, Sink, Source, offline, offline_with, run_server, serve,
-};
+use question_server::{Calls, Client, Ended, ServeFault, Sink, Source, offline, serve};
 use replay::{Verdict, check};
 use result_ledger::{Ledger, LedgerRefused};
-use sequencer::{
-    Answer, AnswerRefused, AskRefused, Book, BookRefused, Input, NoSuchQuestion, Opened,
-    PlayRefused, Played, Session, Step, play,
-};
-use sp_closure::{Fronts, Steps, close, least_instance};
+use sequencer::{Batched, Book, NoSuchQuestion};
+use std::alloc::Global;
+use std::hash::RandomState;
+use std::process::Abort;
 use std::sync::Wait;
 use std::sync::ledger::Ledger as Count;
+use std::test::*;
 use std::thread::Threads;
 use trace_index::{Copies, TraceIndex};
-use trace_model::{
-    Bound, Event, Fault, Instance, MAX_BATCH, MAX_DEPTH, MAX_EVENTS, MAX_HELD, MAX_QUESTIONS,
-    MAX_REPORT, MAX_THREADS, NoMemory, Op, Place, Refusal, Reply, Request, refusal_name,
-};
-use wellformed::{Gate, flat};
-use witness::{Row, TextRefused, report_text, write_witness};
+use trace_model::{Bound, Cycle, Event, Instance, NoMemory, Place, Reply, Request};
+use wellformed::Gate;
+use witness::report_text;
 
-/// Names the functions whose calls a contract counts with a ledger.
+/// Returns the bound of the next request if that is an ask.
+fn next_ask(reader: &mut FrameReader) -> Option<u8> {
+    match reader.next() {
+        Ok(Some(Request::Ask(bound))) => Some(bound),
+        _ => None,
+    }
+}
+
+#[test]
+fn frames(rt: HostRuntime) -> Result<(), Fail> {
+    let mut reader = FrameReader::new(rt.alloc());
+    reader.feed(&[0, 2, 7, 2])?;
+    assert_eq!(rt; next_ask(&mut reader), Some(2), "an ask");
+    reader.finish();
+    assert_eq!(rt; next_ask(&mut reader), None, "the end");
+    drop(reader);
+    let frame = encode_reply(rt.alloc(), &Reply::Placed(Place::new(258)))?;
+    assert_eq!(rt; frame.as_slice(), [0, 0, 0, 5, 65, 0, 0, 1, 2].as_slice());
+    Ok(())
+}
+
+/// Acquires two locks in a new table, and releases the first. Asserts the held locks.
+fn holds(rt: &impl Abort, table: &mut HeldTable) -> Result<(), Fail> {
+    assert_eq!(rt; (table.held(1).locks().len(), table.depth(1, 10)), (0, 0));
+    table.acquire(1, 10)?;
+    table.reserve(1, 20)?;
+    assert_eq!(rt; (table.held(1).locks().len(), table.depth(1, 20)), (1, 0));
+    table.record(1, 20);
+    assert_eq!(rt; table.held(1).locks(), [10, 20].as_slice());
+    table.release(1, 10);
+    assert_eq!(rt; table.held(1).locks(), [20].as_slice());
+    assert_eq!(rt; (table.depth(1, 10), table.depth(1, 20)), (0, 1));
+    Ok(())
+}
+
+#[test]
+fn held_locks(rt: HostRuntime) -> Result<(), Fail> {
+    let mut table = HeldTable::new(rt.alloc(), RandomState::new(&rt)?);
+    let held = holds(&rt, &mut table);
+    drop(table);
+    held
+}
+
+/// Returns the dependency of thread 1, which acquires lock 20 while it holds lock 10.
+fn dependency(alloc: Global, state: RandomState) -> Result<Dependency, Fail> {
+    let mut table = HeldTable::new(alloc, state);
+    let acquired = table.acquire(1, 10);
+    let held = table.held(1);
+    drop(table);
+    acquired?;
+    Ok(Dependency {
+        thread: 1,
+        lock: 20,
+        held,
+    })
+}
+
+#[test]
+fn first_dependency(rt: HostRuntime) -> Result<(), Fail> {
+    let state = RandomState::new(&rt)?;
+    let mut table = DepTable::new(rt.alloc(), state);
+    let number = table.note(Place::new(3), dependency(rt.alloc(), state)?)?;
+    assert_eq!(rt; number, 0);
+    drop(table);
+    Ok(())
+}
+
+/// Asserts the dependencies whose held locks have a lock, after one is added and one recorded.
+fn lists_holders(
+    rt: &impl Abort,
+    graph: &mut LockGraph,
+    dependency: &Dependency,
+) -> Result<(), Fail> {
+    graph.add(0, dependency)?;
+    assert_eq!(rt; graph.successors(10), [0].as_slice());
+    graph.reserve(1, dependency)?;
+    graph.record(1, dependency);
+    assert_eq!(rt; graph.successors(10), [0, 1].as_slice());
+    assert_eq!(rt; graph.successors(20), [].as_slice());
+    Ok(())
+}
+
+#[test]
+fn graph_of_locks(rt: HostRuntime) -> Result<(), Fail> {
+    let state = RandomState::new(&rt)?;
+    let dependency = dependency(rt.alloc(), state)?;
+    let mut graph = LockGraph::new(rt.alloc(), state);
+    let listed = lists_holders(&rt, &mut graph, &dependency);
+    drop(graph);
+    drop(dependency);
+    listed
+}
+
+#[test]
+fn opposite_orders_are_compatible(rt: HostRuntime) -> Result<(), Fail> {
+    let table = table_of_text(&rt, OPPOSITE_ORDERS.as_bytes()).ok_or("a table")?;
+    assert_eq!(rt; table.len(), 2);
+    assert!(rt;
+        compatible(&table, &[0], 1),
+        "two threads without a common lock"
+    );
+    assert!(rt; !compatible(&table, &[0], 0), "one thread");
+    drop(table);
+    Ok(())
+}
+
+#[test]
+fn ledger_of_two_tasks(rt: HostRuntime) -> Result<(), Fail> {
+    let mut ledger = Ledger::open(rt.alloc(), 2)?;
+    assert_eq!(rt; (ledger.delivered(), ledger.missing()), (0, Some(0)));
+    assert_eq!(rt; ledger.test(2), Err(LedgerRefused::NoSuchTask));
+    assert!(rt; ledger.accept(0, Vec::new(rt.alloc())).is_ok());
+    assert_eq!(rt; ledger.test(0), Err(LedgerRefused::Double));
+    assert_eq!(rt; (ledger.delivered(), ledger.missing()), (1, Some(1)));
+    assert!(rt; ledger.settled().is_none());
+    drop(ledger);
+    Ok(())
+}
+
+#[test]
+fn report_of_no_cycle(rt: HostRuntime) -> Result<(), Fail> {
+    let two = Bound::new(2).ok_or("a bound")?;
+    let text = report_text(rt.alloc(), 0, 10, two, &[])?;
+    let wanted = "question 0 length 10 bound 2 cycles 0 confirmed 0\n";
+    assert_eq!(rt; str::from_utf8(&text).ok(), Some(wanted));
+    Ok(())
+}
+
+#[test]
+fn report_by_the_server(rt: HostRuntime) -> Result<(), Fail> {
+    let two = Bound::new(2).ok_or("a bound")?;
+    let events = Vec::from_slice(rt.alloc(), &OPPOSITE_EVENTS)?;
+    let text = offline(&rt, rt.alloc(), RandomState::new(&rt)?, events, two)?;
+    assert_eq!(rt; str::from_utf8(&text).ok(), Some(REPORT));
+    Ok(())
+}
+
+#[test]
+fn witness_of_opposite_orders(rt: HostRuntime) -> Result<(), Fail> {
+    let instance = Instance::new(&[Place::new(3), Place::new(7)]).ok_or("an instance")?;
+    let order = [Place::new(0), Place::new(1), Place::new(2), Place::new(6)];
+    let state = RandomState::new(&rt)?;
+    let gate = gate_of(&rt, OPPOSITE_ORDERS.as_bytes()).ok_or("a gate")?;
+    let verdict = check(rt.alloc(), state, gate.events(), &order, &instance);
+    drop(gate);
+    drop(instance);
+    assert_eq!(rt; verdict?, Verdict::Reaches);
+    Ok(())
+}
+
+/// Returns the snapshot of the trace of opposite orders.
+fn build_snapshot<R: Threads>(
+    rt: &R,
+    alloc: Global,
+    state: RandomState,
+    gate: &Gate,
+) -> Result<Snapshot, NoMemory> {
+    Snapshot::build(rt, alloc, state, gate.events())
+}
+
+#[test]
+fn snapshot_of_opposite_orders(rt: HostRuntime) -> Result<(), Fail> {
+    let gate = gate_of(&rt, OPPOSITE_ORDERS.as_bytes()).ok_or("a gate")?;
+    let snapshot = build_snapshot(&rt, rt.alloc(), RandomState::new(&rt)?, &gate);
+    drop(gate);
+    let snapshot = snapshot?;
+    assert_eq!(rt; (snapshot.len(), snapshot.tasks()), (10, 2));
+    assert_eq!(rt; snapshot.event(Place::new(9)), Some(OPPOSITE_EVENTS[9]));
+    drop(snapshot);
+    Ok(())
+}
+
+/// Returns the cycles of at most two members from the first dependency.
+fn cycles_from_first(alloc: Global, snapshot: &Snapshot) -> Result<Vec<Cycle>, SearchRefused> {
+    let (table, graph) = (snapshot.table(), snapshot.graph());
+    if table.len() == 0 {
+        return Ok(Vec::new(alloc));
+    }
+    let components = Components::new(alloc, table, graph)?;
+    let search_input = SearchInput::new(table, graph, &components);
+    let cycles = cycles_from(alloc, &search_input, 0, Bound::least());
+    drop(components);
+    cycles
+}
+
+#[test]
+fn cycle_of_opposite_orders(rt: HostRuntime) -> Result<(), Fail> {
+    let gate = gate_of(&rt, OPPOSITE_ORDERS.as_bytes()).ok_or("a gate")?;
+    let snapshot = build_snapshot(&rt, rt.alloc(), RandomState::new(&rt)?, &gate);
+    drop(gate);
+    let snapshot = snapshot?;
+    let cycles = cycles_from_first(rt.alloc(), &snapshot);
+    drop(snapshot);
+    let cycles = cycles?;
+    assert_eq!(rt; cycles.len(), 1);
+    assert_eq!(rt; cycles[0].numbers(), [0, 1].as_slice());
+    Ok(())
+}
+
+/// Asserts what the finding of task 0 says.
+fn says_first(rt: &impl Abort, finding: Finding) {
+    let key = (finding.question(), finding.bound().get(), finding.task());
+    assert_eq!(rt; key, (0, 2, 0));
+    assert_eq!(rt; (finding.snapshot().len(), finding.rows().len()), (10, 1));
+    assert_eq!(rt; finding.into_rows().len(), 1);
+}
+
+#[test]
+fn finding_of_the_first_task(rt: HostRuntime) -> Result<(), Fail> {
+    let source = FindingSource::new(&rt).ok_or("a source of findings")?;
+    let finding = source.finding(FIRST);
+    drop(source);
+    says_first(&rt, finding.ok_or("a finding")?);
+    Ok(())
+}
+
+/// Returns the place in a reply that an event was placed.
+fn place_in(reply: &Reply) -> Option<u32> {
+    match reply {
+        Reply::Placed(place) => Some(place.get()),
+        _ => None,
+    }
+}
+
+/// Offers an event in two phases. Returns the places in the reply before and after the commit.
+fn offer_in_phases(book: &mut Book, event: Event) -> Option<(Option<u32>, Option<u32>)> {
+    let step = book.prepare(&Request::Offer(event)).ok()?;
+    let before = place_in(step.reply());
+    let after = book.commit(step);
+    Some((before, place_in(&after)))
+}
+
+/// Asserts two phases of an offer, a batch, and the tasks of a question.
+fn accepts_phases(rt: &impl Abort, book: &mut Book) -> Result<(), Fail> {
+    assert_eq!(rt; book.missing(0), Err(NoSuchQuestion));
+    let places = offer_in_phases(book, OPPOSITE_EVENTS[0]);
+    assert_eq!(rt; places, Some((Some(0), Some(0))));
+    let batched = book.offer_batch(&OPPOSITE_EVENTS[1..]);
+    let wanted = Batched {
+        accepted: 9,
+        refusal: None,
+        length: 1,
+    };
+    assert_eq!(rt; batched, wanted);
+    book.ask(2)?;
+    assert_eq!(rt; book.missing(0), Ok(Some(0)));
+    Ok(())
+}
+
+#[test]
+fn book_in_phases(rt: HostRuntime) -> Result<(), Fail> {
+    let mut book = Book::new(rt.alloc(), RandomState::new(&rt)?, LIMIT)?;
+    let accepted = accepts_phases(&rt, &mut book);
+    drop(book);
+    accepted
+}
+
+/// Names the functions whose contracts count what they copy, for which these tests have no ledger.
 fn counted<L: Count>() {
-    let _ = Steps::<L>::new;
     let _ = Copies::<L>::new;
-    let _ = close::<L>;
-    let _ = least_instance::<L>;
+    let _ = TraceIndex::reserve;
     let _ = TraceIndex::record::<L>;
     let _ = Book::snapshot_counted::<L>;
 }
 
-/// Names the function that starts threads.
-fn with_threads<R: Threads>() {
-    let _ = Snapshot::build::<R>;
-}
-
-#[test]
-fn trace_model_and_frames() {
-    let _ = Place::new;
-    let _ = Bound::new;
-    let _ = refusal_name;
-    let _ = FrameReader::new;
-    let _ = FrameReader::feed;
-    let _ = FrameReader::finish;
-    let _ = FrameReader::next;
-    let _ = encode_reply;
-}
-
-#[test]
-fn tables() {
-    let _ = Gate::new;
-    let _ = Gate::check;
-    let _ = Gate::reserve;
-    let _ = Gate::record;
-    let _ = flat;
-    let _ = HeldTable::new;
-    let _ = HeldTable::held;
-    let _ = HeldTable::depth;
-    let _ = HeldTable::acquire;
-    let _ = HeldTable::reserve;
-    let _ = HeldTable::record;
-    let _ = HeldTable::release;
-    let _ = DepTable::new;
-    let _ = DepTable::note;
-    let _ = DepTable::reserve;
-    let _ = DepTable::record;
-    let _ = DepTable::len;
-    let _ = DepTable::get;
-    let _ = DepTable::places;
-    let _ = LockGraph::new;
-    let _ = LockGraph::add;
-    let _ = LockGraph::reserve;
-    let _ = LockGraph::record;
-    let _ = LockGraph::successors;
-    let _ = compatible;
-    let _ = cycles_from;
-}
-
-#[test]
-fn index_closure_and_rows() {
-    let _ = TraceIndex::build;
-    let _ = TraceIndex::len;
-    let _ = TraceIndex::event;
-    let _ = TraceIndex::writer;
-    let _ = TraceIndex::release_of;
-    let _ = TraceIndex::fork_of;
-    let _ = TraceIndex::thread_places;
-    let _ = TraceIndex::acquires;
-    let _ = TraceIndex::reserve;
-    let _ = Fronts::has;
-    let _ = write_witness;
-    let _ = report_text;
-    let _ = check;
-}
-
-#[test]
-fn findings_and_ledger() {
-    let _ = Snapshot::len;
-    let _ = Snapshot::event;
-    let _ = compute;
-    let _ = Finding::question;
-    let _ = Finding::bound;
-    let _ = Finding::task;
-    let _ = Finding::snapshot;
-    let _ = Finding::rows;
-    let _ = Finding::into_rows;
-    let _ = Ledger::open;
-    let _ = Ledger::accept;
-    let _ = Ledger::test;
-    let _ = Ledger::delivered;
-    let _ = Ledger::missing;
-    let _ = Ledger::settled;
-}
-
-#[test]
-fn book_and_runs() {
-    let _ = Book::new;
-    let _ = Book::prepare;
-    let _ = Book::commit;
-    let _ = Step::reply;
-    let _ = Book::offer;
-    let _ = Book::offer_batch;
-    let _ = Book::ask;
-    let _ = Book::snapshot;
-    let _ = Book::missing;
-    let _ = Book::deliver;
-    let _ = Book::admits;
-    let _ = Book::take;
-    let _ = Book::answer;
-    let _ = Book::status;
-    let _ = Session::new;
-    let _ = play;
-    let _ = Played::sent;
-    let _ = Played::deliveries;
-    let _ = Played::book;
-}
-
-/// Names the functions of the desk and the board.
-fn desk_and_board<N: HistoryId, R: Wait + Copy>() {
+/// Names the functions that the tests of a desk call through it.
+fn under_a_desk<N: HistoryId, R: Wait + Copy>() {
     let _ = new_board::<N, R>;
-    let _ = BoardWriter::<N, R, Shown<N>>::grow;
-    let _ = BoardWriter::<N, R, Shown<N>>::publish;
-    let _ = BoardWriter::<N, R, Shown<N>>::receipt;
-    let _ = BoardReader::<N>::status;
-    let _ = BoardReader::<N>::learn;
-    let _ = Desk::<N, R, Shown<N>>::new;
-    let _ = Desk::<N, R, Shown<N>>::offer;
-    let _ = Desk::<N, R, Shown<N>>::offer_batch;
-    let _ = Desk::<N, R, Shown<N>>::ask;
-    let _ = Desk::<N, R, Shown<N>>::deliver;
-    let _ = Desk::<N, R, Shown<N>>::deliver_all;
-    let _ = Desk::<N, R, Shown<N>>::answer;
-    let _ = Desk::<N, R, Shown<N>>::snapshot;
-    let _ = Desk::<N, R, Shown<N>>::missing;
-    let _ = Locked::<N, R, Shown<N>>::new;
-    let _ = Locked::<N, R, Shown<N>>::offer;
-    let _ = Locked::<N, R, Shown<N>>::offer_batch;
-    let _ = Locked::<N, R, Shown<N>>::ask;
-    let _ = Locked::<N, R, Shown<N>>::deliver;
-    let _ = Locked::<N, R, Shown<N>>::deliver_all;
-    let _ = Locked::<N, R, Shown<N>>::answer;
-    let _ = Locked::<N, R, Shown<N>>::snapshot;
-    let _ = Locked::<N, R, Shown<N>>::missing;
-    let _ = Worker::<N, R, Shown<N>>::new;
-    let _ = Client::<N, R, Shown<N>>::new;
-    let _ = Client::<N, R, Shown<N>>::into_reader;
-}
-
-#[test]
-fn claims_and_command_line() {
-    let _ = claimants;
-    let _ = Claimant::draw;
-    let _ = gather;
-    let _ = parse;
+    let _ = BoardWriter::<N, R, BoardState<N>>::grow;
+    let _ = BoardWriter::<N, R, BoardState<N>>::publish;
+    let _ = BoardWriter::<N, R, BoardState<N>>::receipt;
+    let _ = Desk::<N, R, BoardState<N>>::snapshot;
+    let _ = Locked::<N, R, BoardState<N>>::new;
+    let _ = Locked::<N, R, BoardState<N>>::offer;
+    let _ = Locked::<N, R, BoardState<N>>::offer_batch;
+    let _ = Locked::<N, R, BoardState<N>>::ask;
+    let _ = Locked::<N, R, BoardState<N>>::deliver;
+    let _ = Locked::<N, R, BoardState<N>>::deliver_all;
+    let _ = Locked::<N, R, BoardState<N>>::answer;
+    let _ = Locked::<N, R, BoardState<N>>::snapshot;
+    let _ = Locked::<N, R, BoardState<N>>::missing;
+    let _ = Client::<N, R, BoardState<N>>::new;
+    let _ = Client::<N, R, BoardState<N>>::into_reader;
 }

@@ -1,6 +1,6 @@
 //! Tests of a book that fills several segments while at most one allocation fails. The test offers
-//! an event again after `NoMemory`. It passes if no allocation fails; `tests/refused` makes each
-//! allocation fail in turn.
+//! an event again after `NoMemory`. It passes if no allocation fails; `tests/failing_allocations`
+//! makes each allocation fail in turn.
 
 use crate::fixtures::LIMIT;
 use findings::Snapshot;
@@ -31,9 +31,9 @@ fn offers_with_retry(rt: &impl Abort, book: &mut Book, thread: u32, op: Op) {
     let Err(refused) = book.offer(event) else {
         return;
     };
-    assert_eq!(rt; refused, Refusal::NoMemory);
-    assert_eq!(rt; book.len(), before);
-    assert!(rt; book.offer(event).is_ok());
+    assert_eq!(rt; refused, Refusal::NoMemory, "{event:?}");
+    assert_eq!(rt; book.len(), before, "{event:?}");
+    assert_eq!(rt; book.offer(event).err(), None, "{event:?}");
 }
 
 /// Offers the events of a thread that nests each lock in each other one.
@@ -78,24 +78,21 @@ fn snapshot_with_retry(book: &Book) -> Option<Arc<Snapshot, Global>> {
     first.ok()
 }
 
-/// Returns whether the snapshot has exactly the events of the book.
-fn has_events(snapshot: &Snapshot, book: &Book) -> bool {
+/// Asserts that the snapshot has exactly the events of the book.
+fn has_events(rt: &impl Abort, snapshot: &Snapshot, book: &Book) {
+    assert_eq!(rt; snapshot.len(), book.len());
     for index in 0..EVENTS {
         let place = Place::new(index);
-        if snapshot.event(place) != book.event(place) {
-            return false;
-        }
+        assert_eq!(rt; snapshot.event(place), book.event(place), "place {index}");
     }
-    snapshot.len() == book.len()
 }
 
-/// Returns whether the snapshot of question 0 has exactly the events of the book, or `None` if it
-/// is refused again.
-fn shares_events(book: &Book) -> Option<bool> {
-    let snapshot = snapshot_with_retry(book)?;
-    let same = has_events(&snapshot, book);
+/// Asserts that the snapshot of question 0 has exactly the events of the book.
+fn shares_events(rt: &impl Abort, book: &Book) -> Result<(), Fail> {
+    let snapshot = snapshot_with_retry(book).ok_or("a snapshot")?;
+    has_events(rt, &snapshot, book);
     drop(snapshot);
-    Some(same)
+    Ok(())
 }
 
 /// Fills the book, asks question 0, and asserts the events of its snapshot.
@@ -104,8 +101,7 @@ fn fills_and_shares(rt: &impl Abort, book: &mut Book) -> Result<(), Fail> {
     assert_eq!(rt; book.len(), EVENTS as usize);
     let opened = ask_with_retry(book).ok_or("a question")?;
     assert_eq!(rt; (opened.length, opened.total), (EVENTS, DEPENDENCIES));
-    assert_eq!(rt; shares_events(book), Some(true));
-    Ok(())
+    shares_events(rt, book)
 }
 
 #[test]

@@ -5,6 +5,7 @@ use crate::streams::{CountingReader, CountingWriter, Failing, OneByteSink};
 use sequencer::Book;
 use sessions::{Ended, MemorySource, ReadSource, ServeFault, Sink, Source, WriteSink, serve_book};
 use std::hash::RandomState;
+use std::process::Abort;
 use std::random::RandomSource;
 use std::sync::Wait;
 use std::test::*;
@@ -55,40 +56,29 @@ const WHOLE: Streams = Streams {
     flushes: Failing::Never,
 };
 
-/// What a session must end with and write, and how often it must read and write.
+/// What a session must end with and write, and the numbers of its reads and writes if they matter.
 #[derive(Clone, Copy)]
 struct Wanted<'a> {
     ended: Result<Ended, ServeFault>,
     written: &'a [u8],
-    reads: Option<u64>,
-    writes: Option<u64>,
+    calls: Option<(u64, u64)>,
 }
 
 /// A session over `REQUESTS` that ends with the input.
 const COMPLETE: Wanted<'static> = Wanted {
     ended: Ok(Ended::Input),
     written: &REPLIES,
-    reads: None,
-    writes: None,
+    calls: None,
 };
 
-impl Wanted<'_> {
-    /// Returns whether a session ended, wrote and called its streams as wanted.
-    fn are_met(&self, session: &Session, written: &[u8], reads: u64, writes: u64) -> bool {
-        session.ended == self.ended
-            && written == self.written
-            && reads == self.reads.unwrap_or(reads)
-            && writes == self.writes.unwrap_or(writes)
-    }
-}
-
-/// Serves a session over these bytes by these streams. Returns whether it ends as wanted.
+/// Serves a session over these bytes by these streams. Asserts that it ends as wanted.
 fn serves(
-    rt: &(impl RandomSource + AllocGlobal + Wait),
+    rt: &(impl RandomSource + AllocGlobal + Wait + Abort),
+    case: &str,
     bytes: &[u8],
     streams: Streams,
     wanted: Wanted<'_>,
-) -> Result<bool, Fail> {
+) -> Result<(), Fail> {
     let mut written = Vec::new(rt.alloc());
     let mut reads = 0u64;
     let mut writes = 0u64;
@@ -109,19 +99,22 @@ fn serves(
     let session = serve_new_book(rt, &mut source, &mut sink)?;
     drop(source);
     drop(sink);
-    Ok(wanted.are_met(&session, &written, reads, writes))
+    assert_eq!(rt; session.ended, wanted.ended, "{case}");
+    assert_eq!(rt; written.as_slice(), wanted.written, "{case}");
+    let calls = (reads, writes);
+    assert_eq!(rt; calls, wanted.calls.unwrap_or(calls), "{case}");
+    Ok(())
 }
 
-/// Returns whether a session whose source gives one byte per call, and fails at this one, writes
-/// this number of bytes.
+/// Asserts that a session whose source gives one byte per call, and fails at this one, writes this
+/// number of bytes.
 fn fails_at_read(
-    rt: &(impl RandomSource + AllocGlobal + Wait),
+    rt: &(impl RandomSource + AllocGlobal + Wait + Abort),
     call: u64,
     len: usize,
-) -> Result<bool, Fail> {
-    let Some(written) = REPLIES.get(..len) else {
-        return Ok(false);
-    };
+) -> Result<(), Fail> {
+    let case = format!(in rt.alloc(); "read {call}")?;
+    let written = REPLIES.get(..len).ok_or("a number of bytes")?;
     let streams = Streams {
         most_read: 1,
         reads: Failing::At(call),
@@ -132,7 +125,7 @@ fn fails_at_read(
         written,
         ..COMPLETE
     };
-    serves(rt, &REQUESTS, streams, wanted)
+    serves(rt, &case, &REQUESTS, streams, wanted)
 }
 
 #[test]
@@ -140,37 +133,38 @@ fn one_failing_read(rt: HostRuntime) -> Result<(), Fail> {
     for call in 1..112u64 {
         // The session answers each frame that was read completely, before the next read.
         let len = 9 * ((call - 1) / 11) as usize;
-        assert!(rt; fails_at_read(&rt, call, len)?, "call {call}");
+        fails_at_read(&rt, call, len)?;
     }
-    assert!(rt; fails_at_read(&rt, 122, REPLIES.len())?);
-    Ok(())
+    fails_at_read(&rt, 122, REPLIES.len())
 }
 
-/// Returns whether a session whose sink takes one byte per call, and fails at this one, ends as it
+/// Asserts that a session whose sink takes one byte per call, and fails at this one, ends as it
 /// must.
-fn fails_at_write(rt: &(impl RandomSource + AllocGlobal + Wait), call: u64) -> Result<bool, Fail> {
+fn fails_at_write(
+    rt: &(impl RandomSource + AllocGlobal + Wait + Abort),
+    call: u64,
+) -> Result<(), Fail> {
     let mut source = MemorySource::new(Vec::from_slice(rt.alloc(), &REQUESTS)?);
     let mut sink = OneByteSink::new(rt.alloc(), call.wrapping_sub(1));
     let session = serve_new_book(rt, &mut source, &mut sink)?;
     // Every placed event except the last has a complete reply.
-    let events = if call <= 90 {
-        call.saturating_add(8) / 9
-    } else {
-        10
-    };
-    Ok(
-        session.ended == Err(ServeFault::Write)
-            && REPLIES.get(..sink.bytes.len()) == Some(sink.bytes.as_slice())
-            && sink.bytes.len() as u64 == call.wrapping_sub(1)
-            && session.events as u64 == events
-            && session.opened == (call > 90),
-    )
+    let events = call.saturating_add(8).min(98) / 9;
+    let len = call.wrapping_sub(1) as usize;
+    assert_eq!(rt; session.ended, Err(ServeFault::Write), "write {call}");
+    assert_eq!(rt;
+        Some(sink.bytes.as_slice()),
+        REPLIES.get(..len),
+        "write {call}"
+    );
+    assert_eq!(rt; session.events as u64, events, "write {call}");
+    assert_eq!(rt; session.opened, call > 90, "write {call}");
+    Ok(())
 }
 
 #[test]
 fn one_failing_write(rt: HostRuntime) -> Result<(), Fail> {
     for call in 1..=107u64 {
-        assert!(rt; fails_at_write(&rt, call)?, "call {call}");
+        fails_at_write(&rt, call)?;
     }
     Ok(())
 }
@@ -184,8 +178,7 @@ fn interrupted_calls_are_repeated(rt: HostRuntime) -> Result<(), Fail> {
         writes: Failing::EveryOther,
         flushes: Failing::EveryOther,
     };
-    assert!(rt; serves(&rt, &REQUESTS, streams, COMPLETE)?);
-    Ok(())
+    serves(&rt, "interrupted", &REQUESTS, streams, COMPLETE)
 }
 
 #[test]
@@ -199,41 +192,38 @@ fn a_failing_flush_ends_a_session(rt: HostRuntime) -> Result<(), Fail> {
         ended: Err(ServeFault::Write),
         ..COMPLETE
     };
-    assert!(rt; serves(&rt, &REQUESTS, streams, wanted)?);
-    Ok(())
+    serves(&rt, "flush 2", &REQUESTS, streams, wanted)
 }
 
 #[test]
 fn buffered_frames_need_one_read_and_one_write(rt: HostRuntime) -> Result<(), Fail> {
     // The second read returns the end of the input.
     let wanted = Wanted {
-        reads: Some(2),
-        writes: Some(1),
+        calls: Some((2, 1)),
         ..COMPLETE
     };
-    assert!(rt; serves(&rt, &REQUESTS, WHOLE, wanted)?);
-    Ok(())
+    serves(&rt, "whole frames", &REQUESTS, WHOLE, wanted)
 }
 
-/// Bytes that show a fault, the fault, and its reply.
-const FAULTS: [(&[u8], Fault, [u8; 6]); 5] = [
-    (&[0, 0], Fault::BadLength, [0, 0, 0, 2, 71, 2]),
-    (&[0, 1, 200], Fault::BadKind, [0, 0, 0, 2, 71, 1]),
-    (&[0, 9, 0], Fault::BadKind, [0, 0, 0, 2, 71, 1]),
-    (&[0, 2, 1], Fault::BadLength, [0, 0, 0, 2, 71, 2]),
-    (&[0, 9, 7], Fault::BadLength, [0, 0, 0, 2, 71, 2]),
+/// A name, bytes that show a fault, the fault, and its reply.
+#[rattlefmt::skip]
+const FAULTS: [(&str, &[u8], Fault, [u8; 6]); 5] = [
+    ("no body", &[0, 0], Fault::BadLength, [0, 0, 0, 2, 71, 2]),
+    ("kind 200", &[0, 1, 200], Fault::BadKind, [0, 0, 0, 2, 71, 1]),
+    ("kind 0", &[0, 9, 0], Fault::BadKind, [0, 0, 0, 2, 71, 1]),
+    ("a fork of two bytes", &[0, 2, 1], Fault::BadLength, [0, 0, 0, 2, 71, 2]),
+    ("an ask of nine bytes", &[0, 9, 7], Fault::BadLength, [0, 0, 0, 2, 71, 2]),
 ];
 
 #[test]
 fn nothing_is_read_after_a_fault(rt: HostRuntime) -> Result<(), Fail> {
-    for (bytes, fault, reply) in FAULTS {
+    for (case, bytes, fault, reply) in FAULTS {
         let wanted = Wanted {
             ended: Ok(Ended::Frame(fault)),
             written: &reply,
-            reads: Some(1),
-            writes: Some(1),
+            calls: Some((1, 1)),
         };
-        assert!(rt; serves(&rt, bytes, WHOLE, wanted)?, "{bytes:?}");
+        serves(&rt, case, bytes, WHOLE, wanted)?;
     }
     Ok(())
 }

@@ -5,7 +5,7 @@ use crate::fixtures::{
 };
 use crate::meeting::Meeting;
 use crate::workers::TasksMeet;
-use findings::{Hold, NoHold};
+use findings::{Hold, RunOn};
 use question_server::{Service, run_server};
 use std::alloc::Global;
 use std::hash::RandomState;
@@ -50,17 +50,19 @@ fn reply_to(alloc: Global, mut stream: &TcpStream, request: &[u8]) -> io::Result
     reply(alloc, stream)
 }
 
-/// Sends these requests. Returns whether these are their replies.
+/// Sends these requests. Asserts that these are their replies.
 fn exchange(
+    rt: &impl Abort,
     alloc: Global,
     mut stream: &TcpStream,
     requests: &[u8],
     replies: &[u8],
-) -> io::Result<bool> {
+) -> io::Result<()> {
     stream.write_all(requests)?;
     let mut read = vec![in alloc; 0u8; replies.len()]?;
     stream.read_exact(&mut read)?;
-    Ok(read.as_slice() == replies)
+    assert_eq!(rt; read.as_slice(), replies, "replies to {requests:?}");
+    Ok(())
 }
 
 /// Requests the answer of question 0 until it is not pending. Returns the body of that reply.
@@ -75,22 +77,22 @@ fn poll_answer(alloc: Global, stream: &TcpStream) -> io::Result<Vec<u8>> {
     Err(io::Error::from(io::ErrorKind::TimedOut))
 }
 
-/// Runs a whole session. Returns whether each reply is right.
-fn whole_session<R: Net<Stream = TcpStream>>(
+/// Runs a whole session. Asserts each reply.
+fn whole_session<R: Net<Stream = TcpStream> + Abort>(
     rt: &R,
     alloc: Global,
     address: SocketAddr,
-) -> io::Result<bool> {
+) -> io::Result<()> {
     let stream = TcpStream::connect(rt, address)?;
-    let mut right = exchange(alloc, &stream, &REQUESTS[..ASKED], &REPLIES[..OPENED])?;
-    let report = poll_answer(alloc, &stream)?;
-    right &= report.as_slice().strip_prefix(&REPORT_HEAD[4..]) == Some(REPORT);
-    right &= exchange(alloc, &stream, &STATUS, &SETTLED)?;
-    Ok(right)
+    exchange(rt, alloc, &stream, &REQUESTS[..ASKED], &REPLIES[..OPENED])?;
+    let reply = poll_answer(alloc, &stream)?;
+    let report = reply.as_slice().strip_prefix(&REPORT_HEAD[4..]);
+    assert_eq!(rt; report, Some(REPORT.as_bytes()));
+    exchange(rt, alloc, &stream, &STATUS, &SETTLED)
 }
 
 /// The clients that connect to a server.
-#[derive(Clone, Copy)]
+#[derive(Clone, Copy, Debug)]
 enum Peers {
     WholeSession,
     Seventeen,
@@ -107,13 +109,13 @@ impl Peers {
         }
     }
 
-    /// Runs the clients. Returns whether each reply is right.
-    fn hold<R: Net<Stream = TcpStream>>(
+    /// Runs the clients. Asserts each reply.
+    fn hold<R: Net<Stream = TcpStream> + Abort>(
         self,
         rt: &R,
         alloc: Global,
         address: SocketAddr,
-    ) -> io::Result<bool> {
+    ) -> io::Result<()> {
         match self {
             Peers::WholeSession => whole_session(rt, alloc, address),
             Peers::Seventeen => seventeen_connections_in_turn(rt, alloc, address),
@@ -141,11 +143,11 @@ fn serves<
     let sessions = peers.sessions();
     thread::scope(thread::scope_env(), &rt, |scope| {
         let server = scope.spawn(move || serve_sessions(rt, alloc, state, shared, sessions, hold));
-        let right = peers.hold(&rt, alloc, address);
-        assert!(rt; matches!(right, Ok(true)));
+        let failed = peers.hold(&rt, alloc, address).err();
+        assert_eq!(rt; failed.map(|error| error.kind()), None, "{peers:?}");
         match server {
-            Ok(server) => assert!(rt; server.join(&rt) == Some(u64::from(sessions))),
-            Err(_) => assert!(rt; false),
+            Ok(server) => assert_eq!(rt; server.join(&rt), Some(u64::from(sessions)), "{peers:?}"),
+            Err(_) => panic!(rt; "{peers:?}: no thread for the server"),
         }
     });
     Ok(())
@@ -157,7 +159,7 @@ fn client_over_a_socket(rt: HostRuntime) -> Result<(), Fail> {
         rt,
         rt.alloc(),
         RandomState::new(&rt)?,
-        &NoHold,
+        &RunOn,
         Peers::WholeSession,
     )
 }
@@ -175,8 +177,8 @@ fn two_workers_compute_concurrently(rt: HostRuntime) -> Result<(), Fail> {
         Peers::WholeSession,
     )?;
     let (first, second) = hold.meeting.came();
-    assert!(rt; first > 0 && second > 0);
-    assert!(rt; !hold.meeting.gave_up());
+    assert!(rt; first > 0 && second > 0, "calls {first} and {second}");
+    assert!(rt; !hold.meeting.gave_up(), "a worker waits in vain");
     Ok(())
 }
 
@@ -191,23 +193,28 @@ fn answered<R: Net<Stream = TcpStream>>(
     Ok(stream)
 }
 
-/// Returns whether the server closes a new connection without a reply.
-fn is_closed_without_reply<R: Net<Stream = TcpStream>>(
+/// Asserts that the server closes a new connection without a reply.
+fn is_closed_without_reply<R: Net<Stream = TcpStream> + Abort>(
     rt: &R,
     address: SocketAddr,
-) -> io::Result<bool> {
+) -> io::Result<()> {
     let further = TcpStream::connect(rt, address)?;
     let mut buffer = [0u8; 8];
-    Ok((&mut &further).read(&mut buffer)? == 0)
+    assert_eq!(rt;
+        (&mut &further).read(&mut buffer)?,
+        0,
+        "bytes of a refused session"
+    );
+    Ok(())
 }
 
-/// Opens sixteen sessions, and returns whether the server closes one more connection. The sessions
-/// end when the function returns.
-fn sixteen_exclude_another<R: Net<Stream = TcpStream>>(
+/// Opens sixteen sessions, and asserts that the server closes one more connection. The sessions end
+/// when the function returns.
+fn sixteen_exclude_another<R: Net<Stream = TcpStream> + Abort>(
     rt: &R,
     alloc: Global,
     address: SocketAddr,
-) -> io::Result<bool> {
+) -> io::Result<()> {
     let mut open = Vec::new(alloc);
     for _ in 0..16u32 {
         open.push(answered(rt, alloc, address)?)?;
@@ -215,21 +222,21 @@ fn sixteen_exclude_another<R: Net<Stream = TcpStream>>(
     is_closed_without_reply(rt, address)
 }
 
-/// Returns whether the server refuses a connection while sixteen sessions are open, and answers
+/// Asserts that the server refuses a connection while sixteen sessions are open, and answers
 /// another one after they are closed.
-fn seventeen_connections_in_turn<R: Net<Stream = TcpStream>>(
+fn seventeen_connections_in_turn<R: Net<Stream = TcpStream> + Abort>(
     rt: &R,
     alloc: Global,
     address: SocketAddr,
-) -> io::Result<bool> {
-    let none = sixteen_exclude_another(rt, alloc, address)?;
+) -> io::Result<()> {
+    sixteen_exclude_another(rt, alloc, address)?;
     for _ in 0..100_000u32 {
         if answered(rt, alloc, address).is_ok() {
-            return Ok(none);
+            return Ok(());
         }
         thread::yield_now();
     }
-    Ok(false)
+    Err(io::Error::from(io::ErrorKind::TimedOut))
 }
 
 #[test]
@@ -238,7 +245,7 @@ fn seventeen_connections(rt: HostRuntime) -> Result<(), Fail> {
         rt,
         rt.alloc(),
         RandomState::new(&rt)?,
-        &NoHold,
+        &RunOn,
         Peers::Seventeen,
     )
 }
@@ -248,22 +255,22 @@ const MOST_WRITES: u32 = 10_000;
 
 /// One client offers a write and closes its socket without reading. Another client offers writes
 /// until one is placed above the number of its own earlier writes, which shows that the first
-/// client's write was accepted. Returns whether that happens within `MOST_WRITES` writes.
+/// client's write was accepted. Fails with `TimedOut` after `MOST_WRITES` writes.
 fn one_closes_early<R: Net<Stream = TcpStream>>(
     rt: &R,
     alloc: Global,
     address: SocketAddr,
-) -> io::Result<bool> {
+) -> io::Result<()> {
     let closed = TcpStream::connect(rt, address)?;
     (&mut &closed).write_all(&WRITE)?;
     drop(closed);
     let stream = TcpStream::connect(rt, address)?;
     for earlier in 0..MOST_WRITES {
         if place_of_a_write(alloc, &stream)? > earlier {
-            return Ok(true);
+            return Ok(());
         }
     }
-    Ok(false)
+    Err(io::Error::from(io::ErrorKind::TimedOut))
 }
 
 /// Offers a write. Returns its place.
@@ -280,7 +287,7 @@ fn a_client_that_closes_without_reading(rt: HostRuntime) -> Result<(), Fail> {
         rt,
         rt.alloc(),
         RandomState::new(&rt)?,
-        &NoHold,
+        &RunOn,
         Peers::OneClosesEarly,
     )
 }

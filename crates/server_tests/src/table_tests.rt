@@ -2,7 +2,7 @@
 
 ghost use Rattle.std.specs.Prelude.{length, IfOk};
 ghost use Rattle.trace_model.specs.Theory.Lawful.{IsWellFormed};
-ghost use Rattle.dependencies.specs.Tables.{FollowsTrace};
+ghost use Rattle.dependencies.specs.Tables.{HasDependenciesOf};
 
 use crate::fixtures::{OPPOSITE_ORDERS, rounds};
 use crate::traces::gate_of;
@@ -10,9 +10,10 @@ use dependencies::{DepTable, PlacesOf};
 use lock_tables::{LockParts, LockTables};
 use std::alloc::Global;
 use std::hash::RandomState;
+use std::process::Abort;
 use std::test::*;
 use trace_index::{KeyPlaces, TraceIndex};
-use trace_model::{Event, NoMemory, Place};
+use trace_model::{Event, NoMemory, Op, Place};
 
 /// Returns the dependencies of these events.
 pub(crate) fn table_of(
@@ -21,7 +22,7 @@ pub(crate) fn table_of(
     events: &[Event],
 ) -> Result<DepTable, NoMemory>
     requires { IsWellFormed events.now }
-    ensures { IfOk result (λ table. FollowsTrace table events.now (length events.now)) }
+    ensures { IfOk result (λ table. HasDependenciesOf table events.now (length events.now)) }
 {
     let tables = LockTables::of(alloc, state, events)?;
     let LockParts {
@@ -33,7 +34,7 @@ pub(crate) fn table_of(
 }
 
 /// Returns the dependencies of the events of `text`.
-fn table_of_text(rt: &HostRuntime, text: &[u8]) -> Option<DepTable> {
+pub(crate) fn table_of_text(rt: &HostRuntime, text: &[u8]) -> Option<DepTable> {
     let state = RandomState::new(rt).ok()?;
     let gate = gate_of(rt, text)?;
     let table = table_of(rt.alloc(), state, gate.events());
@@ -44,26 +45,26 @@ fn table_of_text(rt: &HostRuntime, text: &[u8]) -> Option<DepTable> {
 /// The thread, the lock and the held locks of a dependency.
 type Wanted = (u32, u32, &'static [u32]);
 
-/// Returns whether these are exactly the dependencies of the table.
-fn lists(table: &DepTable, wanted: &[Wanted]) -> bool {
-    if table.len() != wanted.len() {
-        return false;
-    }
+/// Asserts that these are exactly the dependencies of the table.
+fn lists(rt: &impl Abort, case: &str, table: &DepTable, wanted: &[Wanted]) {
+    assert_eq!(rt; table.len(), wanted.len(), "{case}");
     for number in 0..table.len() {
-        let (thread, lock, held) = wanted[number];
         let found = table.get(number as u32);
-        if found.thread != thread || found.lock != lock || found.held.locks() != held {
-            return false;
-        }
+        let row = (found.thread, found.lock, found.held.locks());
+        assert_eq!(rt; row, wanted[number], "{case}, dependency {number}");
     }
-    true
 }
 
-/// A trace with its dependencies: two threads nest two locks in opposite orders, alone or while
+/// Traces with their dependencies: two threads nest two locks in opposite orders, alone or while
 /// each of them holds a third lock.
-const TABLES: [(&str, &[Wanted]); 2] = [
-    (OPPOSITE_ORDERS, &[(1, 20, &[10]), (2, 10, &[20])]),
+const TABLES: [(&str, &str, &[Wanted]); 2] = [
     (
+        "two locks",
+        OPPOSITE_ORDERS,
+        &[(1, 20, &[10]), (2, 10, &[20])],
+    ),
+    (
+        "a third lock",
         "0f1 0f2 1a5 1a10 1a20 1r20 1r10 1r5 2a5 2a20 2a10 2r10 2r20 2r5",
         &[
             (1, 10, &[5]),
@@ -74,41 +75,34 @@ const TABLES: [(&str, &[Wanted]); 2] = [
     ),
 ];
 
-/// Returns whether these are exactly the dependencies of the trace.
-fn has_dependencies(rt: &HostRuntime, text: &str, wanted: &[Wanted]) -> bool {
-    match table_of_text(rt, text.as_bytes()) {
-        Some(table) => {
-            let lists = lists(&table, wanted);
-            drop(table);
-            lists
-        }
-        None => false,
-    }
-}
-
 #[test]
-fn dependencies_of_traces(rt: HostRuntime) {
-    for (text, wanted) in TABLES {
-        assert!(rt; has_dependencies(&rt, text, wanted), "{text}");
+fn dependencies_of_traces(rt: HostRuntime) -> Result<(), Fail> {
+    for (case, text, wanted) in TABLES {
+        let table = table_of_text(&rt, text.as_bytes()).ok_or(case)?;
+        lists(&rt, case, &table, wanted);
+        drop(table);
     }
+    Ok(())
 }
 
-/// Returns whether these are the 200 places `first`, `first + 8` and so on.
-fn are_every_eighth(places: PlacesOf<'_>, first: u32) -> bool {
-    if places.len() != 200 {
-        return false;
-    }
+/// Asserts that these are the 200 places `first`, `first + 8` and so on.
+fn are_every_eighth(rt: &impl Abort, places: PlacesOf<'_>, first: u32) {
+    assert_eq!(rt; places.len(), 200);
     for index in 0..200u32 {
-        if u64::from(places.get(index as usize).get()) != u64::from(first) + 8 * u64::from(index) {
-            return false;
-        }
+        let place = places.get(index as usize).get();
+        assert_eq!(rt;
+            u64::from(place),
+            u64::from(first) + 8 * u64::from(index),
+            "place {index}"
+        );
     }
-    true
 }
 
-/// Returns whether both dependencies are at 200 places.
-fn repeats(table: &DepTable) -> bool {
-    table.len() == 2 && are_every_eighth(table.places(0), 3) && are_every_eighth(table.places(1), 7)
+/// Asserts that both dependencies are at 200 places.
+fn repeats(rt: &impl Abort, table: &DepTable) {
+    assert_eq!(rt; table.len(), 2);
+    are_every_eighth(rt, table.places(0), 3);
+    are_every_eighth(rt, table.places(1), 7);
 }
 
 #[test]
@@ -116,9 +110,8 @@ fn places_of_two_hundred_repetitions(rt: HostRuntime) -> Result<(), Fail> {
     let text = rounds(rt.alloc(), 200)?;
     let table = table_of_text(&rt, &text).ok_or("a table")?;
     drop(text);
-    let repeats = repeats(&table);
+    repeats(&rt, &table);
     drop(table);
-    assert!(rt; repeats);
     Ok(())
 }
 
@@ -136,35 +129,55 @@ pub(crate) fn index_of_text(rt: &HostRuntime, text: &str) -> Option<TraceIndex> 
 pub(crate) const LATER_INSTANCE: &str =
     "0f1 0f2 1a10 1a20 1r20 1r10 1w7 2d7 2a20 2a10 2r10 2r20 1a10 1a20";
 
-/// Returns whether these are exactly the wanted places, in order.
-fn are_places(places: KeyPlaces<'_>, wanted: &[u32]) -> bool {
-    if places.len() != wanted.len() {
-        return false;
-    }
+/// Asserts that these are exactly the wanted places, in order.
+fn are_places(rt: &impl Abort, case: &str, places: KeyPlaces<'_>, wanted: &[u32]) {
+    assert_eq!(rt; places.len(), wanted.len(), "{case}");
     for index in 0..places.len() {
-        if places.get(index).get() != wanted[index] {
-            return false;
-        }
+        assert_eq!(rt;
+            places.get(index).get(),
+            wanted[index],
+            "{case}, number {index}"
+        );
     }
-    true
 }
 
-/// Returns whether the index gives the answers of the trace `LATER_INSTANCE`.
-fn has_answers(index: &TraceIndex) -> bool {
-    index.writer(Place::new(7)) == Some(Place::new(6))
-        && index.release_of(Place::new(2)) == Some(Place::new(5))
-        && index.release_of(Place::new(8)) == Some(Place::new(11))
-        && index.release_of(Place::new(13)).is_none()
-        && index.fork_of(2) == Some(Place::new(1))
-        && index.fork_of(0).is_none()
-        && are_places(index.acquires(10), &[2, 9, 12])
-        && are_places(index.thread_places(1), &[2, 3, 4, 5, 6, 12, 13])
-        && are_places(index.thread_places(3), &[])
+/// Asserts the look-ups of single places in the trace `LATER_INSTANCE`.
+fn has_links(rt: &impl Abort, index: &TraceIndex) {
+    let event = Event {
+        thread: 1,
+        op: Op::Write(7),
+    };
+    assert_eq!(rt; index.event(Place::new(6)), Some(event));
+    assert_eq!(rt;
+        index.writer(Place::new(7)),
+        Some(Place::new(6)),
+        "the write that 7 reads"
+    );
+    for (acquire, release) in [(2, Some(5)), (8, Some(11)), (13, None)] {
+        let found = index.release_of(Place::new(acquire));
+        assert_eq!(rt; found, release.map(Place::new), "the release of {acquire}");
+    }
+    for (thread, fork) in [(2, Some(1)), (0, None)] {
+        assert_eq!(rt;
+            index.fork_of(thread),
+            fork.map(Place::new),
+            "the fork of {thread}"
+        );
+    }
+}
+
+/// Asserts the look-ups of lists of places in the trace `LATER_INSTANCE`.
+fn has_lists(rt: &impl Abort, index: &TraceIndex) {
+    are_places(rt, "acquires of 10", index.acquires(10), &[2, 9, 12]);
+    let places = index.thread_places(1);
+    are_places(rt, "thread 1", places, &[2, 3, 4, 5, 6, 12, 13]);
+    are_places(rt, "thread 3", index.thread_places(3), &[]);
 }
 
 #[test]
 fn look_ups_of_an_index(rt: HostRuntime) {
     let index = index_of_text(&rt, LATER_INSTANCE).expect(&rt, "an index");
-    assert!(rt; has_answers(&index));
+    has_links(&rt, &index);
+    has_lists(&rt, &index);
     drop(index);
 }

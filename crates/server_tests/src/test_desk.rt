@@ -4,13 +4,14 @@ ghost use Rattle.std.specs.Prelude.{◌≡◌};
 ghost use Rattle.trace_model.specs.Protocol.Batches.{IsBatch};
 
 use crate::fixtures::OPPOSITE_EVENTS;
-use board::{BoardReader, HistoryId, NewHistory, Receipt, Shown, Summary};
+use board::{BoardReader, BoardState, HistoryId, NewHistory, Receipt, Summary};
 use claims::Claimant;
 use desk::{Desk, Turn, Worker};
 use findings::{Finding, Hold};
 use sequencer::{Answer, AnswerRefused, AskRefused, Batched, Delivered, Opened};
 use std::alloc::Global;
 use std::hash::RandomState;
+use std::process::Abort;
 use std::sync::{Arc, Wait};
 use trace_model::{Event, Place, Refusal};
 
@@ -66,19 +67,19 @@ pub(crate) trait TestWorker: Drop {
     fn turn(&mut self, hold: &impl Hold) -> Turn;
 }
 
-impl<N: HistoryId, R: Wait + Copy> TestWorker for Worker<N, R, Shown<N>> {
+impl<N: HistoryId, R: Wait + Copy> TestWorker for Worker<N, R, BoardState<N>> {
     fn turn(&mut self, hold: &impl Hold) -> Turn {
         Worker::turn(self, hold)
     }
 }
 
 impl<N: HistoryId + Send + Sync, R: Wait + Copy + Send + Sync> TestDesk
-    for Arc<Desk<N, R, Shown<N>>> {
+    for Arc<Desk<N, R, BoardState<N>>> {
     type Receipt = Receipt<N>;
 
     type Reader = BoardReader<N>;
 
-    type Worker = Worker<N, R, Shown<N>>;
+    type Worker = Worker<N, R, BoardState<N>>;
 
     fn offer(&self, event: Event) -> (Result<Place, Refusal>, Receipt<N>) {
         Desk::offer(self, event)
@@ -120,13 +121,13 @@ impl<N: HistoryId + Send + Sync, R: Wait + Copy + Send + Sync> TestDesk
         Arc::try_clone(self).ok()
     }
 
-    fn worker(self, claimant: Claimant, reader: BoardReader<N>) -> Worker<N, R, Shown<N>> {
+    fn worker(self, claimant: Claimant, reader: BoardReader<N>) -> Worker<N, R, BoardState<N>> {
         Worker::new(self, claimant, reader)
     }
 }
 
 /// A desk and its readers.
-pub(crate) type NewDesk<N, R> = (Arc<Desk<N, R, Shown<N>>>, Vec<BoardReader<N>>);
+pub(crate) type NewDesk<N, R> = (Arc<Desk<N, R, BoardState<N>>>, Vec<BoardReader<N>>);
 
 /// Returns a new desk with `readers` board readers. Returns `None` if the limit or the number of
 /// readers is out of range, or an allocation fails.
@@ -141,7 +142,7 @@ pub(crate) fn new_desk<N: HistoryId, R: Wait + Copy>(
     requires book { history.seen.book ≡ N.book }
     requires limit { limit ≡ N.limit }
 {
-    let made = Desk::<N, R, Shown<N>>::new(alloc, state, rt, history, limit, readers);
+    let made = Desk::<N, R, BoardState<N>>::new(alloc, state, rt, history, limit, readers);
     let (desk, readers) = made.ok()?;
     Arc::new(alloc, desk).ok().zip(Some(readers))
 }
@@ -157,14 +158,18 @@ pub(crate) fn offer<D: TestDesk>(
     answer
 }
 
-/// Returns whether the desk accepts all of these events.
-pub(crate) fn accepts<D: TestDesk>(desk: &D, reader: &mut D::Reader, events: &[Event]) -> bool {
+/// Offers these events up to the first that the desk refuses. Returns that event and its refusal.
+pub(crate) fn offer_all<D: TestDesk>(
+    desk: &D,
+    reader: &mut D::Reader,
+    events: &[Event],
+) -> Option<(Event, Refusal)> {
     for event in events {
-        if offer(desk, reader, *event).is_err() {
-            return false;
+        if let Err(refusal) = offer(desk, reader, *event) {
+            return Some((*event, refusal));
         }
     }
-    true
+    None
 }
 
 /// Asks a question with this bound. No reader learns the receipt.
@@ -174,10 +179,22 @@ pub(crate) fn ask<D: TestDesk>(desk: &D, bound: u8) -> Result<Opened, AskRefused
     opened
 }
 
-/// Returns whether the desk accepts the trace of opposite orders and opens a question with the
-/// bound 2 over it.
-pub(crate) fn asks_about_opposite_orders<D: TestDesk>(desk: &D, reader: &mut D::Reader) -> bool {
-    accepts(desk, reader, &OPPOSITE_EVENTS) && ask(desk, 2).is_ok()
+/// The question with the bound 2 over the trace of opposite orders.
+pub(crate) const OPPOSITE_QUESTION: Opened = Opened {
+    question: 0,
+    length: 10,
+    total: 2,
+};
+
+/// Asserts that the desk accepts the trace of opposite orders and opens a question with the bound 2
+/// over it.
+pub(crate) fn asks_about_opposite_orders<D: TestDesk>(
+    rt: &impl Abort,
+    desk: &D,
+    reader: &mut D::Reader,
+) {
+    assert_eq!(rt; offer_all(desk, reader, &OPPOSITE_EVENTS), None);
+    assert_eq!(rt; ask(desk, 2), Ok(OPPOSITE_QUESTION));
 }
 
 /// Returns the number of accepted events that the board shows, or `None` if the board is busy.

@@ -1,12 +1,13 @@
 //! Tests of three workers that deliver in an order which the board gives them.
 
-use crate::book_tests::is_report;
+use crate::book_tests::report_in;
 use crate::desk_scripts::{Script, run_at_desk};
-use crate::test_desk::{TestDesk, TestReader, accepts, ask};
+use crate::test_desk::{TestDesk, TestReader, ask, offer_all};
 use crate::worker_tests::all_deliver;
 use crate::workers::workers_at;
 use event_files::read_events;
 use findings::Hold;
+use sequencer::Opened;
 use std::alloc::Global;
 use std::process::Abort;
 use std::sync::atomic::{AtomicU64, Ordering};
@@ -17,7 +18,7 @@ use std::thread::Threads;
 
 const YIELDS: u32 = 1_000_000;
 
-const REPORT: &[u8] = b"question 0 length 15 bound 3 cycles 1 confirmed 1
+const REPORT: &str = "question 0 length 15 bound 3 cycles 1 confirmed 1
 cycle 0 1 2 confirmed
   thread 1 lock 20 holds 10 place 4
   thread 2 lock 30 holds 20 place 8
@@ -28,6 +29,13 @@ cycle 0 1 2 confirmed
 /// Three threads nest three locks in a ring.
 const RING_OF_THREE: &[u8] =
     b"0f1 0f2 0f3 1a10 1a20 1r20 1r10 2a20 2a30 2r30 2r20 3a30 3a10 3r10 3r30";
+
+/// The question about these events.
+const RING_QUESTION: Opened = Opened {
+    question: 0,
+    length: 15,
+    total: 3,
+};
 
 /// A hold that blocks each task until all three tasks are held. Then it blocks task 0 until the
 /// board shows two delivered tasks, and task 1 until it shows one.
@@ -50,17 +58,17 @@ impl<B: TestReader, R: Wait + Copy> Order<B, R> {
     }
 
     fn was_called_for_all(&self) -> bool {
-        self.called[0].load(Ordering::SeqCst) > 0
-            && self.called[1].load(Ordering::SeqCst) > 0
-            && self.called[2].load(Ordering::SeqCst) > 0
+        let [first, second, third] = self.calls();
+        first > 0 && second > 0 && third > 0
     }
 
-    /// Returns whether each task was held once, and no task gave up waiting.
-    fn was_kept(&self) -> bool {
-        self.called[0].load(Ordering::SeqCst) == 1
-            && self.called[1].load(Ordering::SeqCst) == 1
-            && self.called[2].load(Ordering::SeqCst) == 1
-            && self.gave_up.load(Ordering::SeqCst) == 0
+    /// Returns how often each task was held.
+    fn calls(&self) -> [u64; 3] {
+        [
+            self.called[0].load(Ordering::SeqCst),
+            self.called[1].load(Ordering::SeqCst),
+            self.called[2].load(Ordering::SeqCst),
+        ]
     }
 
     /// Returns the number of delivered tasks of the question that the board shows; 0 if it is busy.
@@ -106,8 +114,8 @@ pub(crate) fn three_workers_deliver<D: TestDesk, R: Threads + Wait + Abort + Cop
     others: &mut Vec<D::Reader>,
 ) -> Result<(), Fail> {
     let events = read_events(alloc, RING_OF_THREE)?;
-    assert!(rt; accepts(desk, reader, &events));
-    assert!(rt; ask(desk, 3).is_ok());
+    assert_eq!(rt; offer_all(desk, reader, &events), None);
+    assert_eq!(rt; ask(desk, 3), Ok(RING_QUESTION));
     let order = Order::new(rt, others.pop().ok_or("a reader")?);
     let delivered = deliver_in_order(&rt, alloc, desk, others, &order);
     drop(order);
@@ -123,7 +131,12 @@ fn deliver_in_order<D: TestDesk, R: Threads + Wait + Abort + Copy + Send + Sync>
 ) -> Result<(), Fail> {
     let workers = workers_at(alloc, desk, readers, 3).ok_or("workers")?;
     all_deliver(rt, workers, order)?;
-    assert!(rt; order.was_kept());
-    assert!(rt; is_report(&desk.answer(), REPORT));
+    assert_eq!(rt; order.calls(), [1, 1, 1]);
+    assert_eq!(rt;
+        order.gave_up.load(Ordering::SeqCst),
+        0,
+        "a task waits in vain"
+    );
+    assert_eq!(rt; report_in(&desk.answer()), Ok(REPORT));
     Ok(())
 }

@@ -1,6 +1,6 @@
 //! Tests of workers at a desk.
 
-use crate::book_tests::is_report;
+use crate::book_tests::report_in;
 use crate::desk_scripts::{Script, run_at_desk};
 use crate::fixtures::REPORT;
 use crate::meeting::Meeting;
@@ -29,11 +29,11 @@ pub(crate) fn two_workers_deliver<D: TestDesk, R: Threads + Abort + Sync>(
     reader: &mut D::Reader,
     others: &mut Vec<D::Reader>,
 ) -> Result<(), Fail> {
-    assert!(rt; asks_about_opposite_orders(desk, reader));
+    asks_about_opposite_orders(rt, desk, reader);
     let meeting = meeting_of_two(rt, alloc, desk, others)?;
     assert_eq!(rt; meeting.came(), (1, 1));
-    assert!(rt; !meeting.gave_up());
-    assert!(rt; is_report(&desk.answer(), REPORT));
+    assert!(rt; !meeting.gave_up(), "a worker waits in vain");
+    assert_eq!(rt; report_in(&desk.answer()), Ok(REPORT));
     Ok(())
 }
 
@@ -91,9 +91,9 @@ pub(crate) fn reports_abandoned_tasks<D: TestDesk, R: Abort>(
     reader: &mut D::Reader,
     others: &mut Vec<D::Reader>,
 ) -> Result<(), Fail> {
-    assert!(rt; asks_about_opposite_orders(desk, reader));
+    asks_about_opposite_orders(rt, desk, reader);
     delivers_abandoned(rt, alloc, desk, others)?;
-    assert!(rt; is_report(&desk.answer(), REPORT));
+    assert_eq!(rt; report_in(&desk.answer()), Ok(REPORT));
     Ok(())
 }
 

@@ -6,7 +6,7 @@ use crate::meeting::Meeting;
 use crate::test_desk::{TestDesk, TestWorker};
 use claims::{Claimant, claimants};
 use desk::Turn;
-use findings::{Hold, NoHold};
+use findings::{Hold, RunOn};
 use std::alloc::Global;
 use std::process::Abort;
 
@@ -56,7 +56,7 @@ fn push_workers<D: TestDesk>(
 /// Asserts that the worker delivers two tasks and is then idle.
 pub(crate) fn delivers_two(rt: &impl Abort, worker: &mut impl TestWorker) {
     for turn in [Turn::Delivered, Turn::Delivered, Turn::Idle] {
-        assert_eq!(rt; worker.turn(&NoHold), turn);
+        assert_eq!(rt; worker.turn(&RunOn), turn);
     }
 }
 

@@ -7,7 +7,7 @@ use Rattle.trace_model.specs.Protocol.Replies.{reply_frame}
 use Rattle.trace_model.specs.Protocol.Machine.{State}
 use Rattle.sequencer.specs.Book.{BookView}
 use Rattle.sequencer.specs.Called.{state_called, answer_to}
-use Rattle.sessions.specs.Serving.{standing, Call, Chain, Served, requests_called}
+use Rattle.sessions.specs.Serving.{session_point, Call, Chain, ServesText, requests_called}
 use Rattle.sequencer.specs.Called.{StepsOrMemory, lacks_memory}
 use Rattle.sequencer.proofs.Called.{steps_exactly}
 use Rattle.sessions.specs.Books.{AreMachines, ServedByMachine}
@@ -30,7 +30,7 @@ machine_chain old new (call ∷ calls) c none =
       ap (λ (x : List ℕ). reply_frame call.1 ++ x) rest.1 ∙ ap (λ (p : Reply × State). reply_frame p.0 ++ answer_to p.1 (requests_called calls)) (sym s),
     )
 
-pub served_by_machine : (left written : Option (List ℕ)) (old : BookView) (left' written' sent' : Option (List ℕ)) (new : BookView) (result : Result Ended ServeFault) → Served BookSteps (standing left written old) (standing left' written' new) sent' result → ServedByMachine (standing left written old.state) (standing left' written' new.state) sent' result
+pub served_by_machine : (left written : Option (List ℕ)) (old : BookView) (left' written' sent' : Option (List ℕ)) (new : BookView) (result : Result Ended ServeFault) → ServesText BookSteps (session_point left written old) (session_point left' written' new) sent' result → ServedByMachine (session_point left written old.state) (session_point left' written' new.state) sent' result
 served_by_machine left written old left' written' sent' new result s =
     let chain = chain_states old new s.done s.chain in
     record {

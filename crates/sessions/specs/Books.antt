@@ -4,7 +4,7 @@ use Rattle.std.specs.List.{All}
 use Rattle.trace_model.specs.Protocol.Machine.{State}
 use Rattle.sequencer.specs.Called.{StepsOrMemory, lacks_memory}
 use Rattle.sequencer.specs.Called.{state_called, answer_to}
-use Rattle.sessions.specs.Serving.{Call, requests_called, frames_of, Standing, Served}
+use Rattle.sessions.specs.Serving.{Call, requests_called, frames_of, SessionPoint, ServesText}
 use Rattle.sessions.specs.declared.serving.Ended.{Ended}
 use Rattle.sessions.specs.declared.serving.ServeFault.{ServeFault}
 
@@ -19,7 +19,7 @@ AreMachines old calls new =
     × (frames_of calls ≡ answer_to old (requests_called calls))
 
 -- A text was read, its requests were called in order, and the machine's replies were written.
-pub record ServedByMachine (old new : Standing State) (sent : Option (List ℕ))
+pub record ServedByMachine (old new : SessionPoint State) (sent : Option (List ℕ))
     (result : Result Ended ServeFault) : Type 0 where
-  pub served : Served StepsOrMemory old new sent result
+  pub served : ServesText StepsOrMemory old new sent result
   pub machine : AreMachines old.calls served.done new.calls

@@ -14,13 +14,14 @@ use Rattle.sessions.specs.declared.serving.Ended.{Ended}
 use Rattle.sessions.specs.declared.serving.Ended.TheVariants.{Input, Frame}
 use Rattle.sessions.specs.declared.serving.ServeFault.{ServeFault}
 use Rattle.sessions.specs.declared.serving.ServeFault.TheVariants.{Read, Write, Memory}
-use Rattle.event_frames.specs.Reader.{Reading, HasRead}
+use Rattle.event_frames.specs.Reader.{FrameReaderView, HasRead}
+use Rattle.sequencer.specs.Sessions.{fault_reply}
 
 -- if both lists are known, the first is a prefix of the second
-abbrev pub IsBeginning : Option (List ℕ) → Option (List ℕ) → Type 0
-IsBeginning None whole = Unit {0}
-IsBeginning (Some front) None = ⊥
-IsBeginning (Some front) (Some whole) = (rest : List ℕ) × (front ++ rest ≡ whole)
+abbrev pub IsKnownPrefix : Option (List ℕ) → Option (List ℕ) → Type 0
+IsKnownPrefix None whole = Unit {0}
+IsKnownPrefix (Some front) None = ⊥
+IsKnownPrefix (Some front) (Some whole) = (rest : List ℕ) × (front ++ rest ≡ whole)
 
 -- ---- calls
 
@@ -40,13 +41,9 @@ requests_called calls = map (λ (c : Call). c.0) calls
 abbrev pub frames_of : List Call → List ℕ
 frames_of calls = flat_map (λ (c : Call). reply_frame c.1) calls
 
-abbrev pub fault_frames : Option Fault → List ℕ
-fault_frames None = []
-fault_frames (Some fault) = reply_frame (FaultReply fault)
-
 -- the fault is to be written once no request is left
 abbrev pub owed_fault : List Request → Option Fault → List ℕ
-owed_fault [] fault = fault_frames fault
+owed_fault [] fault = fault_reply fault
 owed_fault (request ∷ requests) fault = []
 
 -- ---- a whole session
@@ -57,7 +54,7 @@ CallsAll text done = requests_called done ≡ requests_in text
 
 -- All replies except the last are written whole. The rest of `out` is a prefix of what is to be
 -- written next: the last reply, and the fault if no request is left.
-pub record AreBegun (done : List Call) (out owed : List ℕ) : Type 0 where
+pub record AreRepliesInProgress (done : List Call) (out owed : List ℕ) : Type 0 where
   pub whole : List Call
   pub last : Option Call
   pub called : done ≡ whole ++ option_to_list last
@@ -71,13 +68,13 @@ abbrev pub EndsOnlyAt : Bool → Option (List ℕ) → Type 0
 EndsOnlyAt ended left = ended ≡ true → IsAtEnd left
 
 -- The calls and the written bytes are prefixes of what the text asks for.
-pub record Begins (text : List ℕ) (left : Option (List ℕ)) (done : List Call)
+pub record ServesPrefix (text : List ℕ) (left : Option (List ℕ)) (done : List Call)
     (out : List ℕ) : Type 0 where
   pub more : List Request
   pub called : requests_called done ++ more ≡ requests_in text
   pub ended : Bool
   pub at_end : EndsOnlyAt ended left
-  pub begun : AreBegun done out (owed_fault more (fault_in text ended))
+  pub begun : AreRepliesInProgress done out (owed_fault more (fault_in text ended))
 
 -- the text has this fault: a truncated frame only at the end of the input, any other fault
 -- regardless of what follows
@@ -104,29 +101,30 @@ EndsAs (Ok (Frame fault)) text left done out = CallsAll text done × StandsIn te
     × (out ≡ frames_of done ++ reply_frame (FaultReply fault))
 EndsAs (Err Read) text left done out = CallsAll text done × (fault_in text false ≡ None)
     × (out ≡ frames_of done)
-EndsAs (Err Write) text left done out = Begins text left done out
-EndsAs (Err Memory) text left done out = Begins text left done out
+EndsAs (Err Write) text left done out = ServesPrefix text left done out
+EndsAs (Err Memory) text left done out = ServesPrefix text left done out
 
 -- all written bytes were sent, or a prefix of them if the session broke off
 abbrev pub WentOut : Result Ended ServeFault → Option (List ℕ) → Option (List ℕ) → Type 0
 WentOut (Ok ended) sent written = sent ≡ written
 WentOut (Err Read) sent written = sent ≡ written
-WentOut (Err Write) sent written = IsBeginning sent written
-WentOut (Err Memory) sent written = IsBeginning sent written
+WentOut (Err Write) sent written = IsKnownPrefix sent written
+WentOut (Err Memory) sent written = IsKnownPrefix sent written
 
 -- a session at its begin or end: the bytes left to read, the written bytes, and the state of the
 -- calls
-pub record Standing (C : Type 0) : Type 0 where
+pub record SessionPoint (C : Type 0) : Type 0 where
   pub left : Option (List ℕ)
   pub written : Option (List ℕ)
   pub calls : C
 
-abbrev pub standing : {C : Type 0} → Option (List ℕ) → Option (List ℕ) → C → Standing C
-standing left written calls = record { left = left; written = written; calls = calls }
+abbrev pub session_point : {C : Type 0} → Option (List ℕ) → Option (List ℕ) → C → SessionPoint C
+session_point left written calls = record { left = left; written = written; calls = calls }
 
 -- A text was read up to its first fault, its requests were called in order, and their replies were
 -- written.
-pub record Served {C : Type 0} (steps : C → Request → Reply → C → Type 0) (old new : Standing C)
+pub record ServesText {C : Type 0} (steps : C → Request → Reply → C →
+    Type 0) (old new : SessionPoint C)
     (sent : Option (List ℕ)) (result : Result Ended ServeFault) : Type 0 where
   pub text : List ℕ
   pub took : Consumes old.left new.left text
@@ -150,38 +148,40 @@ Counts (Ok ended) reads reads' writes writes' = Unit {0}
 -- a session between two reads: the state of the calls, the frame reader, and the written bytes
 pub record Between (C : Type 0) : Type 0 where
   pub calls : C
-  pub reader : Reading
+  pub reader : FrameReaderView
   pub written : Option (List ℕ)
 
-abbrev pub between : {C : Type 0} → C → Reading → Option (List ℕ) → Between C
+abbrev pub between : {C : Type 0} → C → FrameReaderView → Option (List ℕ) → Between C
 between calls reader written = record { calls = calls; reader = reader; written = written }
 
 -- all whole requests of the reader were called and answered, and then its fault was reported
-pub record Answered {C : Type 0} (steps : C → Request → Reply → C → Type 0) (old new : Between C)
+pub record AnswersRequests {C : Type 0} (steps : C → Request → Reply → C →
+    Type 0) (old new : Between C)
     (fault : Option Fault) : Type 0 where
   pub fresh : List Call
   pub chain : Chain steps old.calls fresh new.calls
   pub called : requests_called fresh ≡ requests_in old.reader.rest
   pub stands : fault_in old.reader.rest old.reader.ended ≡ fault
-  pub put : Appends old.written new.written (frames_of fresh ++ fault_frames fault)
-  pub told : new.reader.told ≡ fault
+  pub put : Appends old.written new.written (frames_of fresh ++ fault_reply fault)
+  pub returned : new.reader.returned ≡ fault
   pub ended : new.reader.ended ≡ old.reader.ended
   pub read : (text : List ℕ) (given : List Request) → HasRead text given old.reader →
       HasRead text (requests_in text) new.reader
 
 -- a prefix of the requests was called, and a prefix of what was to be written for them was written
-pub record Broken {C : Type 0} (steps : C → Request → Reply → C → Type 0) (old : Between C)
+pub record BreaksOff {C : Type 0} (steps : C → Request → Reply → C → Type 0) (old : Between C)
     (calls : C) (written : Option (List ℕ)) : Type 0 where
   pub fresh : List Call
   pub chain : Chain steps old.calls fresh calls
   pub more : List Request
   pub called : requests_called fresh ++ more ≡ requests_in old.reader.rest
   pub out : List ℕ
-  pub begun : AreBegun fresh out (owed_fault more (fault_in old.reader.rest old.reader.ended))
+  pub begun : AreRepliesInProgress fresh out (owed_fault more
+      (fault_in old.reader.rest old.reader.ended))
   pub put : Appends old.written written out
 
 -- A write fault occurs only if the count of failures rose. A read fault does not occur here.
-abbrev pub IsCounted : ServeFault → ℕ → ℕ → Type 0
-IsCounted Write before after = before < after
-IsCounted Memory before after = Unit {0}
-IsCounted Read before after = ⊥
+abbrev pub IsCountedFault : ServeFault → ℕ → ℕ → Type 0
+IsCountedFault Write before after = before < after
+IsCountedFault Memory before after = Unit {0}
+IsCountedFault Read before after = ⊥

@@ -1,6 +1,6 @@
 //! A session over a book.
 ghost use Rattle.sessions.specs.Books.{ServedByMachine};
-ghost use Rattle.sessions.specs.Serving.{standing};
+ghost use Rattle.sessions.specs.Serving.{session_point};
 ghost use Rattle.sessions.specs.Serving.{Counts};
 
 use crate::ends::{Sink, Source};
@@ -24,8 +24,8 @@ pub fn serve_book<R: Wait, S: Source, K: Sink>(
     book: &mut Book,
 ) -> Result<Ended, ServeFault>
     ensures served { ServedByMachine
-        (standing (S.left source.old) (K.written sink.old) book.old.state)
-        (standing (S.left source.new) (K.written sink.new) book.new.state)
+        (session_point (S.left source.old) (K.written sink.old) book.old.state)
+        (session_point (S.left source.new) (K.written sink.new) book.new.state)
         (K.sent sink.new) result }
     ensures counted { Counts result (S.failures source.old) (S.failures source.new)
         (K.failures sink.old) (K.failures sink.new) }

@@ -1,7 +1,7 @@
 //! The two ends of a session: a source of bytes and a sink.
 ghost use Rattle.std.specs.Prelude.{◌≡◌, ◌≤◌, ◌<◌, ℕ, List, [], length, take, Option, IfOk, OnOk, OnErr};
 ghost use Rattle.std.specs.Io.KnownBytes.{Consumes, Appends, Keeps, IsAtEnd};
-ghost use Rattle.sessions.specs.Serving.{IsBeginning};
+ghost use Rattle.sessions.specs.Serving.{IsKnownPrefix};
 
 use std::sync::Wait;
 use thiserror::Error;
@@ -75,5 +75,5 @@ pub trait Sink {
         ensures failed { OnErr result (failures self.old < failures self.new) };
 
     /// The sent bytes are a prefix of the bytes that it took.
-    ghost begins: { (sink : Self) → IsBeginning (sent sink) (written sink) };
+    ghost begins: { (sink : Self) → IsKnownPrefix (sent sink) (written sink) };
 }

@@ -2,7 +2,7 @@
 ghost use Rattle.std.specs.Prelude.{◌≡◌, ◌<◌, ℕ, take, None, IfOk, OnOk, OnErr, IfErr};
 ghost use Rattle.std.specs.Io.KnownBytes.{Appends, Keeps};
 ghost use Rattle.trace_model.specs.Protocol.Replies.{reply_frame, IsReply};
-ghost use Rattle.sessions.specs.Serving.{between, standing, Answered, Broken, IsCounted, Served, Counts};
+ghost use Rattle.sessions.specs.Serving.{between, session_point, AnswersRequests, BreaksOff, IsCountedFault, ServesText, Counts};
 ghost use Rattle.sessions.specs.declared.serving.ServeFault.TheVariants.{Write};
 
 use crate::ends::{Sink, Source, TransferFailed};
@@ -67,7 +67,7 @@ fn reply_with<R: Wait, K: Sink>(
         ((n : ℕ) × Appends (K.written sink.old) (K.written sink.new) (take n (reply_frame reply))) }
     ensures same { OnOk result (K.failures sink.new ≡ K.failures sink.old) }
     ensures counted { IfErr result
-        (λ fault. IsCounted fault (K.failures sink.old) (K.failures sink.new)) }
+        (λ fault. IsCountedFault fault (K.failures sink.old) (K.failures sink.new)) }
 {
     let Ok(bytes) = encode_reply(alloc, &reply) else {
         let _ = sink.send(rt);
@@ -88,15 +88,15 @@ fn answer_all<R: Wait, K: Sink, C: Calls>(
     sink: &mut K,
     calls: &mut C,
 ) -> Result<Option<Fault>, ServeFault>
-    requires { reader.old.told ≡ None }
-    ensures ok { IfOk result (λ fault. Answered C.steps
+    requires { reader.old.returned ≡ None }
+    ensures ok { IfOk result (λ fault. AnswersRequests C.steps
         (between calls.old reader.old (K.written sink.old))
         (between calls.new reader.new (K.written sink.new)) fault) }
-    ensures err { OnErr result (Broken C.steps
+    ensures err { OnErr result (BreaksOff C.steps
         (between calls.old reader.old (K.written sink.old)) calls.new (K.written sink.new)) }
     ensures same { OnOk result (K.failures sink.new ≡ K.failures sink.old) }
     ensures counted { IfErr result
-        (λ fault. IsCounted fault (K.failures sink.old) (K.failures sink.new)) }
+        (λ fault. IsCountedFault fault (K.failures sink.old) (K.failures sink.new)) }
 {
     loop {
         match reader.next() {
@@ -146,9 +146,9 @@ pub fn serve<R: Wait, S: Source, K: Sink, C: Calls>(
     sink: &mut K,
     calls: &mut C,
 ) -> Result<Ended, ServeFault>
-    ensures served { Served C.steps
-        (standing (S.left source.old) (K.written sink.old) calls.old)
-        (standing (S.left source.new) (K.written sink.new) calls.new)
+    ensures served { ServesText C.steps
+        (session_point (S.left source.old) (K.written sink.old) calls.old)
+        (session_point (S.left source.new) (K.written sink.new) calls.new)
         (K.sent sink.new) result }
     ensures counted { Counts result (S.failures source.old) (S.failures source.new)
         (K.failures sink.old) (K.failures sink.new) }

@@ -1,7 +1,7 @@
 //! A source over a reader, and a sink over a writer.
 ghost use Rattle.std.specs.Prelude.{◌≡◌, ◌≤◌, ◌<◌, ◌++◌, length, take, drop, IfOk, OnOk, OnErr};
 ghost use Rattle.std.specs.Io.KnownBytes.{Consumes, Appends, Keeps, IsAtEnd, append_known};
-ghost use Rattle.sessions.specs.Pending.{pending, sent_begins};
+ghost use Rattle.sessions.specs.Pending.{buffered_bytes, sent_begins};
 
 use crate::counting::count_failure;
 use crate::ends::{Sink, Source, TransferFailed};
@@ -166,9 +166,9 @@ impl<O: Write + Drop> WriteSink<O> {
     fn hand_on<R: Wait>(&mut self, rt: &R) -> Result<(), TransferFailed>
         requires { self.old.start < self.old.end }
         ensures kept { Keeps (append_known (O.contents self.old.inner)
-            (pending self.old.buffer self.old.start self.old.end))
+            (buffered_bytes self.old.buffer self.old.start self.old.end))
             (append_known (O.contents self.new.inner)
-            (pending self.new.buffer self.new.start self.new.end)) }
+            (buffered_bytes self.new.buffer self.new.start self.new.end)) }
         ensures end { self.new.end ≡ self.old.end }
         ensures ok { OnOk result ((self.old.start < self.new.start)
             × (self.new.failures ≡ self.old.failures)) }
@@ -189,9 +189,9 @@ impl<O: Write + Drop> WriteSink<O> {
     /// Writes all buffered bytes.
     fn empty<R: Wait>(&mut self, rt: &R) -> Result<(), TransferFailed>
         ensures kept { Keeps (append_known (O.contents self.old.inner)
-            (pending self.old.buffer self.old.start self.old.end))
+            (buffered_bytes self.old.buffer self.old.start self.old.end))
             (append_known (O.contents self.new.inner)
-            (pending self.new.buffer self.new.start self.new.end)) }
+            (buffered_bytes self.new.buffer self.new.start self.new.end)) }
         ensures ok { OnOk result ((self.new.start ≡ 0) × (self.new.end ≡ 0)
             × (self.new.failures ≡ self.old.failures)) }
         ensures failed { OnErr result (self.old.failures < self.new.failures) }
@@ -207,9 +207,9 @@ impl<O: Write + Drop> WriteSink<O> {
     /// Ensures that the buffer is not full.
     fn make_room<R: Wait>(&mut self, rt: &R) -> Result<(), TransferFailed>
         ensures kept { Keeps (append_known (O.contents self.old.inner)
-            (pending self.old.buffer self.old.start self.old.end))
+            (buffered_bytes self.old.buffer self.old.start self.old.end))
             (append_known (O.contents self.new.inner)
-            (pending self.new.buffer self.new.start self.new.end)) }
+            (buffered_bytes self.new.buffer self.new.start self.new.end)) }
         ensures ok { OnOk result ((self.new.end < 4096) × (self.new.failures ≡ self.old.failures)) }
         ensures failed { OnErr result (self.old.failures < self.new.failures) }
     {
@@ -224,8 +224,8 @@ impl<O: Write + Drop> WriteSink<O> {
         requires room { self.old.end < 4096 }
         requires some { 0 < length bytes.now }
         ensures count { (0 < result) × (result ≤ length bytes.now) }
-        ensures buffered { pending self.new.buffer self.new.start self.new.end ≡
-            pending self.old.buffer self.old.start self.old.end ++ take result bytes.now }
+        ensures buffered { buffered_bytes self.new.buffer self.new.start self.new.end ≡
+            buffered_bytes self.old.buffer self.old.start self.old.end ++ take result bytes.now }
         ensures inner { self.new.inner ≡ self.old.inner }
         ensures failures { self.new.failures ≡ self.old.failures }
     {
@@ -237,7 +237,7 @@ impl<O: Write + Drop> WriteSink<O> {
 }
 
 impl<O: Write + Drop> Sink for WriteSink<O> {
-    ghost written = { λ s. append_known (O.contents s.inner) (pending s.buffer s.start s.end) };
+    ghost written = { λ s. append_known (O.contents s.inner) (buffered_bytes s.buffer s.start s.end) };
 
     ghost sent = { λ s. O.contents s.inner };
 
@@ -259,5 +259,5 @@ impl<O: Write + Drop> Sink for WriteSink<O> {
         }
     }
 
-    ghost begins = { λ s. sent_begins (O.contents s.inner) (pending s.buffer s.start s.end) };
+    ghost begins = { λ s. sent_begins (O.contents s.inner) (buffered_bytes s.buffer s.start s.end) };
 }

@@ -35,9 +35,9 @@ impl Drop for Finding {
 
 impl Model for Finding {
     ghost use Rattle.std.specs.Arc.{arc_value};
-    ghost use Rattle.snapshots.specs.Found.{AreRowsOf, FoundRows};
+    ghost use Rattle.snapshots.specs.Found.{AreRowsOf, RowsOfTask};
 
-    ghost Value = { FoundRows };
+    ghost Value = { RowsOfTask };
 
     ghost view = { λ f. record {
       question = f.question;

@@ -5,9 +5,9 @@ ghost use Rattle.std.specs.Result.{IsErr};
 ghost use Rattle.trace_model.specs.declared.limits.TheConstants.{MAX_EVENTS};
 ghost use Rattle.trace_model.specs.Theory.Dependencies.{dependencies};
 ghost use Rattle.trace_model.specs.Theory.Lawful.{IsWellFormed};
-ghost use Rattle.dependencies.specs.Tables.{FollowsTrace};
+ghost use Rattle.dependencies.specs.Tables.{HasDependenciesOf};
 ghost use Rattle.lock_graph.specs.Graph.{HasGraphOf};
-ghost use Rattle.lock_tables.specs.Tables.{ArePartsOf};
+ghost use Rattle.lock_tables.specs.Tables.{AreLockPartsOf};
 
 use dependencies::DepTable;
 use lock_graph::LockGraph;
@@ -28,7 +28,7 @@ fn assembled(
     parts: Result<LockParts, NoMemory>,
     index: Result<TraceIndex, NoMemory>,
 ) -> Result<Snapshot, NoMemory>
-    requires { IfOk parts (λ parts. IfOk index (λ index. ArePartsOf parts index.events)) }
+    requires { IfOk parts (λ parts. IfOk index (λ index. AreLockPartsOf parts index.events)) }
     ensures { MatchResult index (λ index. IfOk result (λ snapshot. snapshot ≡ index.events))
         (λ _. IsErr result) }
 {
@@ -95,7 +95,7 @@ impl Snapshot {
             rt,
             || -> Result<LockParts, NoMemory>
                 requires { IsWellFormed events.now }
-                ensures { IfOk result (λ parts. ArePartsOf parts events.entry.now) }
+                ensures { IfOk result (λ parts. AreLockPartsOf parts events.entry.now) }
             { LockTables::of(alloc, state, events)?.into_parts() },
             || -> Result<TraceIndex, NoMemory>
                 requires { IsWellFormed events.now }
@@ -110,7 +110,7 @@ impl Snapshot {
     ///
     /// The caller passes the tables of the index's trace.
     pub fn of(index: TraceIndex, parts: LockParts) -> Snapshot
-        requires { ArePartsOf parts index.events }
+        requires { AreLockPartsOf parts index.events }
         ensures { result ≡ index.events }
     {
         let LockParts {
@@ -158,7 +158,7 @@ impl Snapshot {
 
     /// Returns the dependencies of the trace, with their places. Does not allocate.
     pub fn table(&self) -> &DepTable
-        ensures { FollowsTrace result.now self.now (length self.now) }
+        ensures { HasDependenciesOf result.now self.now (length self.now) }
     {
         &self.dependencies
     }

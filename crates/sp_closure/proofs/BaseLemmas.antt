@@ -20,15 +20,15 @@ use Rattle.fronts.specs.declared.requirements.Section.{Section}
 use Rattle.fronts.specs.declared.requirements.Requirements.{Requirements}
 use Rattle.fronts.specs.declared.overlay.Overlay.{Overlay}
 use Rattle.fronts.specs.declared.propagation.Propagation.{Propagation}
-use Rattle.fronts.specs.EpochArrays.{at}
+use Rattle.fronts.specs.EpochArrays.{value_at}
 use Rattle.fronts.specs.declared.fronts.Fronts.{Fronts}
-use Rattle.fronts.specs.State.{count_of, places_in}
-use Rattle.fronts.specs.Slots.{slots_of, AreSlots, ArePositions, HasFirst, among, front_test, in_front}
-use Rattle.fronts.specs.Overlays.{front_of, done_of, last_of, first_some, IsEmpty}
+use Rattle.fronts.specs.State.{included_count, included_set}
+use Rattle.fronts.specs.Slots.{slots_of, AreSlots, AreSlotPlaces, HasFirst, among, front_test, in_front}
+use Rattle.fronts.specs.Overlays.{front_of, done_of, last_of, first_some, IsEmptyOverlay}
 use Rattle.fronts.specs.Requirements.{AreRequirements}
-use Rattle.fronts.specs.Propagation.{State, IsFit, IsConsistent, sum_to}
-use Rattle.sp_closure.specs.declared.closer.Closer.{Closer}
-use Rattle.sp_closure.specs.Closers.{leads_to, CountsBut, HasBase, Keeps, KeepsFor, KeepsNothing, kept, prefix_before, total_over}
+use Rattle.fronts.specs.Propagation.{PropagationState, IsFit, IsConsistent, sum_to}
+use Rattle.sp_closure.specs.declared.scratch.ClosureScratch.{ClosureScratch}
+use Rattle.sp_closure.specs.Scratches.{leads_to, CountsBut, HasBase, KeepsPlaces, KeepsFor, KeepsNothing, kept_places, prefix_before, total_over}
 use Rattle.fronts.proofs.Counts.{count_le}
 use Rattle.trace_model.proofs.Theory.Computed.{of_thread_from}
 use Rattle.trace_model.proofs.Theory.Derivable.{of_thread_so}
@@ -38,25 +38,25 @@ use Rattle.fronts.proofs.ThreadLemmas.{place_below}
 use Rattle.fronts.proofs.SlotLemmas.{number_is}
 
 -- An empty overlay over an empty one.
-pub front_none : (threads locks more less : ℕ) (under overlay : Overlay) → IsEmpty threads locks under → IsEmpty more less overlay → (a : ℕ) → front_of under overlay a ≡ 0
+pub front_none : (threads locks more less : ℕ) (under overlay : Overlay) → IsEmptyOverlay threads locks under → IsEmptyOverlay more less overlay → (a : ℕ) → front_of under overlay a ≡ 0
 front_none threads locks more less under overlay u e a = rw (e.fronts.none a, u.fronts.none a) refl
 
 -- An empty overlay over another one is that one over an empty overlay.
-pub front_over : (threads locks more less : ℕ) (none base upper : Overlay) → IsEmpty threads locks none → IsEmpty more less upper → (a : ℕ) → front_of base upper a ≡ front_of none base a
+pub front_over : (threads locks more less : ℕ) (none base upper : Overlay) → IsEmptyOverlay threads locks none → IsEmptyOverlay more less upper → (a : ℕ) → front_of base upper a ≡ front_of none base a
 front_over threads locks more less none base upper n e a = rw (e.fronts.none a, n.fronts.none a) refl
 
-pub done_over : (threads locks more less : ℕ) (none base upper : Overlay) → IsEmpty threads locks none → IsEmpty more less upper → (a : ℕ) → done_of base upper a ≡ done_of none base a
+pub done_over : (threads locks more less : ℕ) (none base upper : Overlay) → IsEmptyOverlay threads locks none → IsEmptyOverlay more less upper → (a : ℕ) → done_of base upper a ≡ done_of none base a
 done_over threads locks more less none base upper n e a = rw (e.done.none a, n.done.none a) refl
 
-pub last_over : (threads locks more less : ℕ) (none base upper : Overlay) → IsEmpty threads locks none → IsEmpty more less upper → (l : ℕ) → last_of base upper l ≡ last_of none base l
-last_over threads locks more less none base upper n e l = rw (e.last.none l, n.last.none l) (go (at base.last l))
+pub last_over : (threads locks more less : ℕ) (none base upper : Overlay) → IsEmptyOverlay threads locks none → IsEmptyOverlay more less upper → (l : ℕ) → last_of base upper l ≡ last_of none base l
+last_over threads locks more less none base upper n e l = rw (e.last.none l, n.last.none l) (go (value_at base.last l))
   where
     go : (o : Option Section) → first_some None o ≡ first_some o None
     go None = refl
     go (Some c) = refl
 
 -- The same state.
-pub on_way_same : (items : ℕ → ℕ → Option Item) (x y : State) → IsConsistent items x → ((a : ℕ) → y.front a ≡ x.front a) → ((a : ℕ) → y.done a ≡ x.done a) → ((l : ℕ) → y.last l ≡ x.last l) →
+pub on_way_same : (items : ℕ → ℕ → Option Item) (x y : PropagationState) → IsConsistent items x → ((a : ℕ) → y.front a ≡ x.front a) → ((a : ℕ) → y.done a ≡ x.done a) → ((l : ℕ) → y.last l ≡ x.last l) →
     y.pending ≡ x.pending → IsConsistent items y
 on_way_same items x y w f d l p =
     let same : x ≡ y = λ i. record { front = λ a. sym (f a) i; done = λ a. sym (d a) i; last = λ a. sym (l a) i; pending = sym p i } in
@@ -89,9 +89,9 @@ slot_from slots a p e = rw e (eq-eqb a a refl)
 
 -- The places of a place's thread are those of its slot.
 pub same_thread : (s : Trace) (slots : ℕ → Option ℕ) (count p a t : ℕ) → AreSlots s slots count → slots p ≡ Some a → OfThread s p t → (q : ℕ) → of_thread s t q ≡ in_slot slots a q
-same_thread s slots count p a t known at o q = same_bool (of_thread s t q) (in_slot slots a q)
-    (λ h. slot_from slots a q (known.alike p q a t at o (of_thread_so s t q h)))
-    (λ h. of_thread_from s t q (known.apart p q a t at (slot_so slots a q h) o))
+same_thread s slots count p a t known value_at o q = same_bool (of_thread s t q) (in_slot slots a q)
+    (λ h. slot_from slots a q (known.alike p q a t value_at o (of_thread_so s t q h)))
+    (λ h. of_thread_from s t q (known.apart p q a t value_at (slot_so slots a q h) o))
 
 pub first_counted : (s : Trace) (slots : ℕ → Option ℕ) (count a c : ℕ) → AreSlots s slots count → HasFirst s slots a c → c ≤ count_below (in_slot slots a) (length s)
 first_counted s slots count a zero known has = omega arith
@@ -207,20 +207,20 @@ pub on_ok_map : {X E A : Type 0} (r : Result X E) (P Q : X → Type 0) → ((x :
 on_ok_map (Ok x) P Q f a p = f x a p
 on_ok_map (Err e) P Q f a p = tt
 
--- A closer without a base keeps no places.
-no_base : (s : Trace) (d : Requirements) (c : Closer) (m k : ℕ) → KeepsNothing c → Keeps s d c m k → k ≡ 0
+-- A scratch without a base keeps no places.
+no_base : (s : Trace) (d : Requirements) (c : ClosureScratch) (m k : ℕ) → KeepsNothing c → KeepsPlaces s d c m k → k ≡ 0
 no_base s d c m k none keeps = go keeps.has
   where
     nothing : keeps.of ≡ None → k ≡ 0
-    nothing e = keeps.count ∙ ap (λ b. kept b (prefix_before s d keeps.p) keeps.places) e
+    nothing e = keeps.count ∙ ap (λ b. kept_places b (prefix_before s d keeps.p) keeps.places) e
 
     go : HasBase d c keeps.of keeps.places → k ≡ 0
     go (inl e) = nothing e
     go (inr (inl e)) = nothing (e.0 ∙ none.0)
     go (inr (inr o)) = absurd (none-some o.other (ap (λ xs. slice_get xs o.index) (sym none.1) ∙ o.at))
 
--- A closer that keeps no places counts all included ones.
-pub counted_all : (s : Trace) (d : Requirements) (c : Closer) (numbers : List ℕ) (before after all : ℕ) → KeepsNothing c →
+-- A scratch that keeps no places counts all included ones.
+pub counted_all : (s : Trace) (d : Requirements) (c : ClosureScratch) (numbers : List ℕ) (before after all : ℕ) → KeepsNothing c →
     CountsBut (KeepsFor s d c numbers) before after all → after ≡ before + all
 counted_all s d c numbers before after all none (k, (m, first, keeps), e) =
     omega (arith, e, no_base s d c m k none keeps)
@@ -239,7 +239,7 @@ closure_cut s places set end w closure most p = go (set p) refl
     go false e = and_off (nat_lt p end)
 
 -- A place that is not listed has no slot.
-no_slot : (s : Trace) (slots : ℕ → Option ℕ) (count : ℕ) (positions : List ThreadPrefix) → AreSlots s slots count → ArePositions s slots positions → (p : ℕ) → slice_get positions p ≡ None → slots p ≡ None
+no_slot : (s : Trace) (slots : ℕ → Option ℕ) (count : ℕ) (positions : List ThreadPrefix) → AreSlots s slots count → AreSlotPlaces s slots positions → (p : ℕ) → slice_get positions p ≡ None → slots p ≡ None
 no_slot s slots count positions known are p none = go (slots p) refl
   where
     go : (o : Option ℕ) → slots p ≡ o → o ≡ None
@@ -250,7 +250,7 @@ no_slot s slots count positions known are p none = go (slots p) refl
         absurd (none-some there.0 (sym none ∙ there.1))
 
 -- The listed places that the fronts include.
-in_front_among : (s : Trace) (slots : ℕ → Option ℕ) (count : ℕ) (positions : List ThreadPrefix) (front : ℕ → ℕ) → AreSlots s slots count → ArePositions s slots positions → (p : ℕ) →
+in_front_among : (s : Trace) (slots : ℕ → Option ℕ) (count : ℕ) (positions : List ThreadPrefix) (front : ℕ → ℕ) → AreSlots s slots count → AreSlotPlaces s slots positions → (p : ℕ) →
     in_front s slots front p ≡ among positions front p
 in_front_among s slots count positions front known are p = go (slice_get positions p) refl
   where
@@ -264,9 +264,9 @@ in_front_among s slots count positions front known are p = go (slice_get positio
 -- Fronts that agree with a closure below the number of slots, up to the greatest of the places,
 -- contain it.
 pub set_of_fronts : (s : Trace) (places : List ℕ) (slots : ℕ → Option ℕ) (count : ℕ) (front : ℕ → ℕ) (fronts : Fronts) → IsWellFormed s → AreSlots s slots count →
-    ArePositions s slots (arc_value fronts.positions).items → ((a : ℕ) → a < count → front a ≡ count_of fronts a) →
-    ((p : ℕ) → Contains places p → p ≤ fronts.end) → IsClosure s places (in_front s slots front) → in_front s slots front ≡ places_in fronts
+    AreSlotPlaces s slots (arc_value fronts.positions).items → ((a : ℕ) → a < count → front a ≡ included_count fronts a) →
+    ((p : ℕ) → Contains places p → p ≤ fronts.end) → IsClosure s places (in_front s slots front) → in_front s slots front ≡ included_set fronts
 set_of_fronts s places slots count front fronts w known are same most closure = λ i p.
     (closure_cut s places (in_front s slots front) fronts.end w closure most p
-    ∙ ap (λ b. nat_lt p fronts.end && b) (in_front_same s slots count front (count_of fronts) known same p
-    ∙ in_front_among s slots count (arc_value fronts.positions).items (count_of fronts) known are p)) i
+    ∙ ap (λ b. nat_lt p fronts.end && b) (in_front_same s slots count front (included_count fronts) known same p
+    ∙ in_front_among s slots count (arc_value fronts.positions).items (included_count fronts) known are p)) i

@@ -11,7 +11,7 @@ use Rattle.fronts.specs.declared.members.Member.{Member}
 use Rattle.fronts.specs.Slots.{AreSlots, HoldsFirst, HasFirst}
 use Rattle.fronts.specs.Members.{Each, IsMember, IsAhead, Stops, StopsIn, IsNotPast, lists}
 use Rattle.sp_closure.specs.Entering.{IsFirstMember}
-use Rattle.fronts.specs.Propagation.{State, IsConsistent, Raises, AreAtFront, AreUpTo, AreSame}
+use Rattle.fronts.specs.Propagation.{PropagationState, IsConsistent, Raises, AreAtFront, AreUpTo, AreSame}
 use Rattle.fronts.proofs.MemberLemmas.{holds_upto}
 use Rattle.fronts.proofs.SlotLemmas.{has_before}
 
@@ -73,7 +73,7 @@ same_lists (x ∷ xs) (y ∷ ys) a =
 pub lists_entered : (old pushed new : List Member) (m : Member) (xs : List ℕ) → pushed ≡ old ++ m ∷ [] → m.places ≡ xs → AreSame pushed new → lists new ≡ lists old ++ xs ∷ []
 lists_entered old pushed new m xs e f a = same_lists pushed new a ∙ (ap lists e ∙ (lists_push old m ∙ ap (λ z. lists old ++ z ∷ []) f))
 
-pub consistent_raised : (items : ℕ → ℕ → Option Item) (k : ℕ) (prefix : ThreadPrefix) (x y : State) → IsConsistent items x → Raises k prefix x y → IsConsistent items y
+pub consistent_raised : (items : ℕ → ℕ → Option Item) (k : ℕ) (prefix : ThreadPrefix) (x y : PropagationState) → IsConsistent items x → Raises k prefix x y → IsConsistent items y
 consistent_raised items k prefix x y w r = record {
   inside = λ b j i h l. omega (arith, w.inside b j i h (omega (arith, l, r.growth.done b)), r.growth.grows b);
   reached = λ b j n g h l. omega (arith, w.reached b j n g h (omega (arith, l, r.growth.done b)), r.growth.grows g.slot);

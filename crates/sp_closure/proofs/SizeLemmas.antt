@@ -6,14 +6,14 @@ use Rattle.std.specs.Arc.{arc_value}
 use Rattle.std.specs.List.{Contains}
 use Rattle.trace_model.specs.Theory.Trace.{Trace}
 use Rattle.trace_model.specs.Theory.Lawful.{IsWellFormed}
-use Rattle.trace_model.specs.Theory.Closure.{Places, IsClosure, ascending}
+use Rattle.trace_model.specs.Theory.Closure.{Places, IsClosure, ascending_places}
 use Rattle.segments.specs.Linking.{count_below}
 use Rattle.segments.proofs.Counting.{length_ascending, count-agree}
 use Rattle.trace_index.specs.Numbers.{of_thread}
-use Rattle.fronts.specs.declared.classes.Classes.{Classes}
+use Rattle.fronts.specs.declared.slot_table.SlotTable.{SlotTable}
 use Rattle.fronts.specs.declared.fronts.Fronts.{Fronts}
-use Rattle.fronts.specs.Slots.{slots_of, AreSlots, ArePositions, AreThreadSlots, HasPosition, HasFirst, HasFronts, in_front}
-use Rattle.fronts.specs.State.{count_of, places_in, size_in}
+use Rattle.fronts.specs.Slots.{slots_of, AreSlots, AreSlotPlaces, AreThreadSlots, HasSlotPosition, HasFirst, HasFronts, in_front}
+use Rattle.fronts.specs.State.{included_count, included_set, size_in}
 use Rattle.fronts.specs.Propagation.{sum_to}
 use Rattle.fronts.proofs.FrontLemmas.{lt_true, lt_false}
 use Rattle.fronts.proofs.PlaceLemmas.{false_from}
@@ -35,7 +35,7 @@ step_on : (test : Places) (n : ℕ) → test n ≡ true → count_below test (su
 step_on test n e = ap (λ b. cond b (suc (count_below test n)) (count_below test n)) e
 
 -- The number of a place counts the earlier places of its slot.
-slot_number : (s : Trace) (slots : ℕ → Option ℕ) (count p a m : ℕ) → AreSlots s slots count → HasPosition s slots p a m → count_below (in_slot slots a) p ≡ m
+slot_number : (s : Trace) (slots : ℕ → Option ℕ) (count p a m : ℕ) → AreSlots s slots count → HasSlotPosition s slots p a m → count_below (in_slot slots a) p ≡ m
 slot_number s slots count p a m known x =
     let (t, o) = known.of_place p a x.slot in
     sym (count-agree (of_thread s t) (in_slot slots a) p (λ q l. same_thread s slots count p a t known x.slot o q)) ∙ number_is s p t m o x.number
@@ -108,23 +108,23 @@ sum_counted s slots count front (suc k) known =
 
 -- Fronts within the trace add up to the number of included places.
 pub fronts_size : (s : Trace) (slots : ℕ → Option ℕ) (count : ℕ) (front : ℕ → ℕ) → AreSlots s slots count → ((a : ℕ) → HasFirst s slots a (front a)) →
-    sum_to front count ≡ length (ascending (in_front s slots front) (length s))
+    sum_to front count ≡ length (ascending_places (in_front s slots front) (length s))
 fronts_size s slots count front known has =
     sum_equal front (λ a. count_below (slot_in s slots front a) (length s)) count
     (λ a. omega (arith, slot_counted s slots count front a (length s) known, first_counted s slots count a (front a) known (has a)))
     ∙ (sum_counted s slots count front (length s) known ∙ sym (length_ascending (in_front s slots front) (length s)))
 
 -- Fronts that are a closure with these fronts, and have the same number of places.
-pub record AreGathered (s : Trace) (threads : Classes) (front : ℕ → ℕ) (fronts : Fronts) : Type 0 where
-  pub set : in_front s (slots_of threads) front ≡ places_in fronts
+pub record AreGathered (s : Trace) (threads : SlotTable) (front : ℕ → ℕ) (fronts : Fronts) : Type 0 where
+  pub set : in_front s (slots_of threads) front ≡ included_set fronts
   pub size : HasFronts s (slots_of threads) front → sum_to front threads.count ≡ size_in s fronts
 
-pub all_gathered : (s : Trace) (places : List ℕ) (threads : Classes) (front : ℕ → ℕ) (fronts : Fronts) → IsWellFormed s → AreThreadSlots s threads →
-    ArePositions s (slots_of threads) (arc_value fronts.positions).items → ((a : ℕ) → a < threads.count → count_of fronts a ≡ front a) → ((p : ℕ) → Contains places p → p ≤ fronts.end) →
+pub all_gathered : (s : Trace) (places : List ℕ) (threads : SlotTable) (front : ℕ → ℕ) (fronts : Fronts) → IsWellFormed s → AreThreadSlots s threads →
+    AreSlotPlaces s (slots_of threads) (arc_value fronts.positions).items → ((a : ℕ) → a < threads.count → included_count fronts a ≡ front a) → ((p : ℕ) → Contains places p → p ≤ fronts.end) →
     IsClosure s places (in_front s (slots_of threads) front) → AreGathered s threads front fronts
 all_gathered s places threads front fronts w known are same most closure =
     let set = set_of_fronts s places (slots_of threads) threads.count front fronts w known are (λ a l. sym (same a l)) most closure in
     record {
       set = set;
-      size = λ has. fronts_size s (slots_of threads) threads.count front known has ∙ ap (λ z. length (ascending z (length s))) set;
+      size = λ has. fronts_size s (slots_of threads) threads.count front known has ∙ ap (λ z. length (ascending_places z (length s))) set;
     }

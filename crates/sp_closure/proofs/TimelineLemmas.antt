@@ -11,7 +11,7 @@ use Rattle.sp_closure.specs.declared.timelines.Timeline.{Timeline}
 use Rattle.sp_closure.specs.declared.timelines.Timestamps.{Timestamps}
 use Rattle.sp_closure.specs.declared.timelines.Pointer.{Pointer}
 use Rattle.fronts.specs.Slots.{HoldsFirst}
-use Rattle.fronts.specs.Members.{StopsAt}
+use Rattle.fronts.specs.Members.{EndsBefore}
 use Rattle.sp_closure.specs.Pointers.{NumberAt}
 use Rattle.sp_closure.specs.Timestamps.{AllFrom, AreTimestamps, AreFrom, IsFront, Moves, NoneStops, IsEntryAt, StopsFrom, StopsFromAt, StopsNowhere}
 use Rattle.fronts.proofs.SlotLemmas.{position_before}
@@ -20,7 +20,7 @@ use Rattle.fronts.proofs.SlotLemmas.{position_before}
 -- of
 -- the place there.
 pub timestamp_held : (s : Trace) (timestamps : Timestamps) (are : AreTimestamps s timestamps) (by : Pointer) (set : Places) (q slot front : ℕ) → IsClosed s set → NumberAt s q by.number →
-    StopsAt s set q → StopsFromAt s are.slots timestamps set by → IsFront timestamps by slot front → HoldsFirst s are.slots set slot front
+    EndsBefore s set q → StopsFromAt s are.slots timestamps set by → IsFront timestamps by slot front → HoldsFirst s are.slots set slot front
 timestamp_held s timestamps are by set q slot front closed here stop from (inl none) = λ p n positions less. absurd (omega (arith, none, less))
 timestamp_held s timestamps are by set q slot front closed here stop from (inr has) =
     let is = are.each by.number has.timeline has.timeline_at in
@@ -36,7 +36,7 @@ pub next_from : (s : Trace) (slots : ℕ → Option ℕ) (set : Places) (timelin
     MatchOption result (StopsNowhere s set of.number) (λ e. StopsFrom s slots set timeline (record { number = of.number; entry = e }))
 next_from s slots set timeline of front result holds from next = go result next
   where
-    not_in : (q : ℕ) → StopsAt s set q → (k : ℕ) → (at : IsEntryAt s slots timeline k q) → front ≤ at.timestamp.number
+    not_in : (q : ℕ) → EndsBefore s set q → (k : ℕ) → (at : IsEntryAt s slots timeline k q) → front ≤ at.timestamp.number
     not_in q stop k at = elim (cases_lt at.timestamp.number front) [
       | inl less ↦ absurd (false≢true (sym stop.out ∙ holds q at.timestamp.number at.positions less))
       | inr le ↦ le

@@ -12,8 +12,8 @@ use Rattle.fronts.specs.declared.requirements.ThreadPrefix.{ThreadPrefix}
 use Rattle.sp_closure.specs.declared.timelines.Timestamp.{Timestamp}
 use Rattle.sp_closure.specs.declared.timelines.Timeline.{Timeline}
 use Rattle.sp_closure.specs.declared.timelines.Pointer.{Pointer}
-use Rattle.fronts.specs.Slots.{AreSlots, HasPosition, HasFirst, HoldsFirst}
-use Rattle.sp_closure.specs.Timestamps.{AreTimelines, HasPrefix, IsTimeline, IsWithin, Puts, PutsAt, IsEntryAt, prefix_of_timestamp}
+use Rattle.fronts.specs.Slots.{AreSlots, HasSlotPosition, HasFirst, HoldsFirst}
+use Rattle.sp_closure.specs.Timestamps.{AreTimelines, HasPrefix, IsTimeline, IsLowerBound, Puts, PutsAt, IsEntryAt, prefix_of_timestamp}
 use Rattle.fronts.proofs.SlotLemmas.{has_before, before_position}
 use Rattle.sp_closure.proofs.TableLemmas.{ArePlaces}
 
@@ -21,7 +21,7 @@ use Rattle.sp_closure.proofs.TableLemmas.{ArePlaces}
 pub record IsMade (s : Trace) (slots : ℕ → Option ℕ) (xs : List ℕ) (slot k : ℕ) (x : Timestamp) : Type 0 where
   pub place : ℕ
   pub at : slice_get xs k ≡ Some place
-  pub positions : HasPosition s slots place slot x.number
+  pub positions : HasSlotPosition s slots place slot x.number
   pub fronts : x.fronts.items ≡ []
 
 pub timeline_made : (s : Trace) (slots : ℕ → Option ℕ) (count m : ℕ) (xs : List ℕ) (timeline : Timeline) → AreSlots s slots count → ArePlaces s m xs →
@@ -33,7 +33,7 @@ timeline_made s slots count m xs timeline known are len each = record {
       let (x, at) = at_index timeline.timestamps.items k (omega (arith, len, within)) in
       let is = each k x at in
       let same : is.place ≡ q = same_Some is.place q (sym is.at ∙ hq) in
-      (k, record { timestamp = x; at = at; positions = subst (λ z. HasPosition s slots z timeline.slot x.number) same is.positions });
+      (k, record { timestamp = x; at = at; positions = subst (λ z. HasSlotPosition s slots z timeline.slot x.number) same is.positions });
   ascend = λ i k x y le hx hy.
       let first = each i x hx in
       let second = each k y hy in
@@ -87,14 +87,14 @@ pub entry_stays : (s : Trace) (slots : ℕ → Option ℕ) (old new : Timeline) 
     IsEntryAt s slots new k q
 entry_stays s slots old new entry fronts k q p st =
     let y : Timestamp = record { number = p.timestamp.number; fronts = fronts } in
-    let in_slot : HasPosition s slots q new.slot st.timestamp.number = subst (λ a. HasPosition s slots q a st.timestamp.number) (sym p.slot) st.positions in
+    let in_slot : HasSlotPosition s slots q new.slot st.timestamp.number = subst (λ a. HasSlotPosition s slots q a st.timestamp.number) (sym p.slot) st.positions in
     elim (eqb_tells k entry) [
       | inl e ↦
           let same : p.timestamp ≡ st.timestamp = same_Some p.timestamp st.timestamp (sym p.at ∙ (ap (slice_get old.timestamps.items) (sym e.1) ∙ st.at)) in
           record {
             timestamp = y;
             at = ap (λ xs. slice_get xs k) p.put ∙ (ap (slice_get (slice_set old.timestamps.items entry y)) e.1 ∙ get-set_same old.timestamps.items entry p.timestamp y p.at);
-            positions = subst (λ (z : Timestamp). HasPosition s slots q new.slot z.number) (sym same) in_slot;
+            positions = subst (λ (z : Timestamp). HasSlotPosition s slots q new.slot z.number) (sym same) in_slot;
           }
       | inr e ↦ record {
         timestamp = st.timestamp;
@@ -104,7 +104,7 @@ entry_stays s slots old new entry fronts k q p st =
     ]
 
 pub timeline_put : (s : Trace) (slots : ℕ → Option ℕ) (m : ℕ) (old new : Timeline) (entry : ℕ) (fronts : Vec ℕ) → IsTimeline s slots m old → (p : Puts old entry fronts new) →
-    IsWithin s slots (prefix_of_timestamp old p.timestamp) fronts.items → IsTimeline s slots m new
+    IsLowerBound s slots (prefix_of_timestamp old p.timestamp) fronts.items → IsTimeline s slots m new
 timeline_put s slots m old new entry fronts is p within = record {
   places = λ q here. let (k, st) = is.places q here in (k, entry_stays s slots old new entry fronts k q p st);
   ascend = λ i k x y le hx hy.
@@ -116,18 +116,18 @@ timeline_put s slots m old new entry fronts is p within = record {
       subst (λ a. HasFirst s slots a x.number) (sym p.slot) (subst (HasFirst s slots old.slot) e.number (is.reach k e.was e.at));
   within = λ k x at.
       let e = entry_was old new entry fronts p k x at in
-      subst (λ a. IsWithin s slots (record { slot = a; count = x.number }) x.fronts.items) (sym p.slot) (elim e.timestamp [
-        | inl same ↦ subst (λ (z : Timestamp). IsWithin s slots (prefix_of_timestamp old z) z.fronts.items) same (is.within k e.was e.at)
+      subst (λ a. IsLowerBound s slots (record { slot = a; count = x.number }) x.fronts.items) (sym p.slot) (elim e.timestamp [
+        | inl same ↦ subst (λ (z : Timestamp). IsLowerBound s slots (prefix_of_timestamp old z) z.fronts.items) same (is.within k e.was e.at)
         | inr new ↦
             let was : e.was ≡ p.timestamp = same_Some e.was p.timestamp (sym e.at ∙ (ap (slice_get old.timestamps.items) new.0 ∙ p.at)) in
             let number : p.timestamp.number ≡ x.number = ap (λ (z : Timestamp). z.number) (sym was) ∙ e.number in
-            subst (λ (fs : Vec ℕ). IsWithin s slots (record { slot = old.slot; count = x.number }) fs.items) (sym new.1)
-            (subst (λ n. IsWithin s slots (record { slot = old.slot; count = n }) fronts.items) number within)
+            subst (λ (fs : Vec ℕ). IsLowerBound s slots (record { slot = old.slot; count = x.number }) fs.items) (sym new.1)
+            (subst (λ n. IsLowerBound s slots (record { slot = old.slot; count = n }) fronts.items) number within)
       ]);
 }
 
 pub timelines_put : (s : Trace) (slots : ℕ → Option ℕ) (old new : List Timeline) (at : Pointer) (prefix : ThreadPrefix) (fronts : Vec ℕ) → AreTimelines s slots old → HasPrefix old at prefix →
-    IsWithin s slots prefix fronts.items → PutsAt old at fronts new → AreTimelines s slots new
+    IsLowerBound s slots prefix fronts.items → PutsAt old at fronts new → AreTimelines s slots new
 timelines_put s slots old new at prefix fronts are has within p m timeline h =
     let here : slice_get (slice_set old at.number p.other) m ≡ Some timeline = subst (λ xs. slice_get xs m ≡ Some timeline) p.put h in
     elim (eqb_tells m at.number) [
@@ -140,14 +140,14 @@ timelines_put s slots old new at prefix fronts are has within p m timeline h =
           let prefix_is : prefix ≡ prefix_of_timestamp p.timeline p.puts.timestamp = has.is ∙ (ap (λ (t : Timeline). prefix_of_timestamp t has.timestamp) is ∙ ap (prefix_of_timestamp p.timeline) timestamp) in
           subst (IsTimeline s slots m) same
           (timeline_put s slots m p.timeline p.other at.entry fronts (are m p.timeline (subst (λ j. slice_get old j ≡ Some p.timeline) (sym e.1) p.found)) p.puts
-          (subst (λ g. IsWithin s slots g fronts.items) prefix_is within))
+          (subst (λ g. IsLowerBound s slots g fronts.items) prefix_is within))
       | inr e ↦ are m timeline (sym (get-set_other old at.number m p.other (λ f. e.1 (sym f))) ∙ here)
     ]
 
 -- The fronts of a base are within each closed set that contains its prefix.
 pub fronts_within : {E : Type 0} (s : Trace) (slots : ℕ → Option ℕ) (prefix : ThreadPrefix) (r : Result (Vec ℕ) E) (front : ℕ → ℕ) →
     IfOk r (λ fs. (a n : ℕ) → slice_get fs.items a ≡ Some n → n ≡ front a) →
-    ((set : Places) → IsClosed s set → HoldsFirst s slots set prefix.slot prefix.count → (a : ℕ) → HoldsFirst s slots set a (front a)) → IfOk r (λ fs. IsWithin s slots prefix fs.items)
+    ((set : Places) → IsClosed s set → HoldsFirst s slots set prefix.slot prefix.count → (a : ℕ) → HoldsFirst s slots set a (front a)) → IfOk r (λ fs. IsLowerBound s slots prefix fs.items)
 fronts_within s slots prefix (Ok fs) front is least = λ set closed holds a n at.
     subst (HoldsFirst s slots set a) (sym (is a n at)) (least set closed holds a)
 fronts_within s slots prefix (Err e) front is least = tt

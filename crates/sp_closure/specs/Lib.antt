@@ -1,6 +1,6 @@
 pub mod Pointers
 pub mod Entering
-pub mod Closers
+pub mod Scratches
 pub mod Reaching
 pub mod Timestamps
 pub mod Filling

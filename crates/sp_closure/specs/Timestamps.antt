@@ -8,8 +8,8 @@ use Rattle.sp_closure.specs.declared.timelines.Timestamp.{Timestamp}
 use Rattle.sp_closure.specs.declared.timelines.Timeline.{Timeline}
 use Rattle.sp_closure.specs.declared.timelines.Timestamps.{Timestamps}
 use Rattle.sp_closure.specs.declared.timelines.Pointer.{Pointer}
-use Rattle.fronts.specs.Slots.{HasPosition, HoldsFirst, HasFirst, HoldsPlaces, AreSlots}
-use Rattle.fronts.specs.Members.{StopsAt}
+use Rattle.fronts.specs.Slots.{HasSlotPosition, HoldsFirst, HasFirst, HoldsPlaces, AreSlots}
+use Rattle.fronts.specs.Members.{EndsBefore}
 use Rattle.sp_closure.specs.Pointers.{NumberAt}
 use Rattle.sp_closure.specs.Reaching.{AllStop}
 
@@ -18,15 +18,15 @@ pub record IsEntryAt (s : Trace) (slots : ℕ → Option ℕ) (timeline : Timeli
     (k q : ℕ) : Type 0 where
   pub timestamp : Timestamp
   pub at : slice_get timeline.timestamps.items k ≡ Some timestamp
-  pub positions : HasPosition s slots q timeline.slot timestamp.number
+  pub positions : HasSlotPosition s slots q timeline.slot timestamp.number
 
 -- The prefix of its thread that is before the place of this timestamp.
 abbrev pub prefix_of_timestamp : Timeline → Timestamp → ThreadPrefix
 prefix_of_timestamp timeline timestamp = record { slot = timeline.slot; count = timestamp.number }
 
 -- Each closed set that contains the prefix contains, of each slot, at least the counted places.
-abbrev pub IsWithin : Trace → (ℕ → Option ℕ) → ThreadPrefix → List ℕ → Type 0
-IsWithin s slots prefix fronts = (set : Places) → IsClosed s set →
+abbrev pub IsLowerBound : Trace → (ℕ → Option ℕ) → ThreadPrefix → List ℕ → Type 0
+IsLowerBound s slots prefix fronts = (set : Places) → IsClosed s set →
     HoldsPlaces s slots prefix set →
     (a n : ℕ) → slice_get fronts a ≡ Some n → HoldsFirst s slots set a n
 
@@ -40,7 +40,7 @@ pub record IsTimeline (s : Trace) (slots : ℕ → Option ℕ) (m : ℕ)
   pub reach : (k : ℕ) (x : Timestamp) → slice_get timeline.timestamps.items k ≡ Some x →
       HasFirst s slots timeline.slot x.number
   pub within : (k : ℕ) (x : Timestamp) → slice_get timeline.timestamps.items k ≡ Some x →
-      IsWithin s slots (prefix_of_timestamp timeline x) x.fronts.items
+      IsLowerBound s slots (prefix_of_timestamp timeline x) x.fronts.items
 
 -- The same for each dependency.
 abbrev pub AreTimelines : Trace → (ℕ → Option ℕ) → List Timeline → Type 0
@@ -58,12 +58,12 @@ pub record AreTimestamps (s : Trace) (timestamps : Timestamps) : Type 0 where
 -- Each place of the pointer's dependency at which the set stops is an entry at or after the
 -- pointer's.
 abbrev pub StopsFrom : Trace → (ℕ → Option ℕ) → Places → Timeline → Pointer → Type 0
-StopsFrom s slots set timeline p = (q : ℕ) → NumberAt s q p.number → StopsAt s set q → (k : ℕ)
+StopsFrom s slots set timeline p = (q : ℕ) → NumberAt s q p.number → EndsBefore s set q → (k : ℕ)
     × (p.entry ≤ k) × IsEntryAt s slots timeline k q
 
 -- The set stops at no place of the dependency.
 abbrev pub StopsNowhere : Trace → Places → ℕ → Type 0
-StopsNowhere s set m = (q : ℕ) → NumberAt s q m → StopsAt s set q → ⊥
+StopsNowhere s set m = (q : ℕ) → NumberAt s q m → EndsBefore s set q → ⊥
 
 -- The same for a timeline that is looked up.
 abbrev pub StopsFromAt : (s : Trace) → (ℕ → Option ℕ) → Timestamps → Places → Pointer → Type 0
@@ -110,7 +110,7 @@ IsFront timestamps by slot front = (front ≡ 0) ⊎ HasFront timestamps by slot
 abbrev pub Moves : Timestamps → Pointer → Pointer → Option ℕ → Type 0
 Moves timestamps by of entry = (s : Trace) (are : AreTimestamps s timestamps)
     (set : Places) (q : ℕ) →
-    IsClosed s set → NumberAt s q by.number → StopsAt s set q →
+    IsClosed s set → NumberAt s q by.number → EndsBefore s set q →
     StopsFromAt s are.slots timestamps set by → StopsFromAt s are.slots timestamps set of →
     MatchOption entry (StopsNowhere s set of.number)
     (λ e. StopsFromAt s are.slots timestamps set (record { number = of.number; entry = e }))

@@ -7,7 +7,7 @@
 ghost use Rattle.std.specs.Prelude.{◌≡◌, ℕ, ◌<◌, ◌≤◌, IsTrue, length, slice_get, Option, Some, MatchOption};
 ghost use Rattle.trace_model.specs.Theory.Trace.{Trace};
 ghost use Rattle.trace_model.specs.Theory.Cycles.{IsConfirmed};
-ghost use Rattle.sp_closure.specs.Pointers.{AreKnown};
+ghost use Rattle.dependencies.specs.Tables.{AreDependencyNumbers};
 ghost use Rattle.sp_closure.specs.declared.timelines.Timestamp.{Timestamp};
 ghost use Rattle.sp_closure.specs.Timestamps.{AreTimestamps, AllFrom, IsFront, Moves, StayFrom};
 
@@ -144,7 +144,8 @@ impl Timestamps {
     /// It advances each member past the places that are in the timestamp of another member, until a
     /// member has no place left. `false` says nothing. Does not allocate.
     pub fn excludes(&self, numbers: &[u32]) -> bool
-        ensures { IsTrue result → (s : Trace) → AreTimestamps s self.now → AreKnown s numbers.now →
+        ensures { IsTrue result → (s : Trace) → AreTimestamps s self.now →
+            AreDependencyNumbers s numbers.now →
             IsConfirmed s numbers.now → ⊥ }
     {
         let mut entries = [0; MAX_MEMBERS];

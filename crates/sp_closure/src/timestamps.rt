@@ -2,21 +2,20 @@
 
 ghost use Rattle.std.specs.Prelude.{◌≡◌, ℕ, ◌<◌, ◌≤◌, length, slice_get, Some, IfOk, IfSome};
 ghost use Rattle.std.specs.Option.{ForSome};
-ghost use Rattle.dependencies.specs.Tables.{known};
+ghost use Rattle.dependencies.specs.Tables.{table_dependencies, NumbersWholeTrace};
 ghost use Rattle.fronts.specs.Slots.{slots_of, AreThreadSlots, HasPlaces};
 ghost use Rattle.fronts.specs.Overlays.{front_of};
 ghost use Rattle.fronts.specs.Requirements.{AreRequirements};
 ghost use Rattle.fronts.specs.declared.requirements.ThreadPrefix.{ThreadPrefix};
-ghost use Rattle.sp_closure.specs.Timestamps.{AreTimestamps, AreTimelines, HasPrefix, IsTimeline, IsWithin, Puts, PutsAt};
-ghost use Rattle.sp_closure.specs.Pointers.{FollowsWhole};
-ghost use Rattle.sp_closure.specs.Closers.{IsCloser};
+ghost use Rattle.sp_closure.specs.Timestamps.{AreTimestamps, AreTimelines, HasPrefix, IsTimeline, IsLowerBound, Puts, PutsAt};
+ghost use Rattle.sp_closure.specs.Scratches.{IsScratch};
 ghost use Rattle.sp_closure.specs.Filling.{IsFilling};
 
-use crate::closer::{Closer, MAX_BASES};
-use crate::enter::first_member;
+use crate::add_member::first_member;
+use crate::scratch::{ClosureScratch, MAX_BASES};
 use crate::timelines::{Pointer, Timeline, Timestamp, Timestamps};
 use dependencies::DepTable;
-use fronts::{Classes, Overlay, Requirements, Steps, ThreadPrefix, prefix_before};
+use fronts::{Overlay, Requirements, SlotTable, Steps, ThreadPrefix, prefix_before};
 use std::alloc::Global;
 use std::sync::ledger::Ledger;
 use trace_index::TraceIndex;
@@ -52,13 +51,13 @@ fn fronts_of(
 fn timeline_of(
     alloc: Global,
     index: &TraceIndex,
-    threads: &Classes,
+    threads: &SlotTable,
     table: &DepTable,
     number: u32,
 ) -> Result<Timeline, NoMemory>
     requires slots { AreThreadSlots index.now.events threads.now }
-    requires one_trace { FollowsWhole table.now index.now.events }
-    requires known { number < length (known table.now) }
+    requires one_trace { NumbersWholeTrace table.now index.now.events }
+    requires known { number < length (table_dependencies table.now) }
     ensures { IfOk result (IsTimeline index.now.events (slots_of threads.now) number) }
 {
     let first = first_member(index, threads, table, number);
@@ -85,11 +84,11 @@ fn timeline_of(
 fn timelines_of(
     alloc: Global,
     index: &TraceIndex,
-    threads: &Classes,
+    threads: &SlotTable,
     table: &DepTable,
 ) -> Result<Vec<Timeline>, NoMemory>
     requires slots { AreThreadSlots index.now.events threads.now }
-    requires one_trace { FollowsWhole table.now index.now.events }
+    requires one_trace { NumbersWholeTrace table.now index.now.events }
     ensures { IfOk result (λ timelines.
         AreTimelines index.now.events (slots_of threads.now) timelines.items) }
 {
@@ -174,7 +173,7 @@ fn are_small(requirements: &Requirements, table: &DepTable) -> bool {
     threads <= MAX_BASES + 1 && table.len() <= MAX_TIMESTAMP_ENTRIES / (MAX_BASES + 1)
 }
 
-impl Closer {
+impl ClosureScratch {
     /// Returns the number of places of each thread in the closure of the prefix.
     ///
     /// # Errors
@@ -186,12 +185,12 @@ impl Closer {
         prefix: ThreadPrefix,
         steps: &mut Steps<L>,
     ) -> Result<Vec<u32>, NoMemory>
-        requires closer { IsCloser index.now.events requirements.now self.old }
+        requires scratch { IsScratch index.now.events requirements.now self.old }
         requires reach { HasPlaces index.now.events
             (slots_of requirements.now.threads) prefix }
-        ensures closer { IsCloser index.now.events requirements.now self.new }
+        ensures scratch { IsScratch index.now.events requirements.now self.new }
         ensures timestamp { IfOk result (λ fronts.
-            IsWithin index.now.events (slots_of requirements.now.threads) prefix
+            IsLowerBound index.now.events (slots_of requirements.now.threads) prefix
             fronts.items) }
     {
         self.turn_to(index, requirements, prefix.slot)?;
@@ -289,8 +288,8 @@ impl Closer {
         wanted: &[bool],
         steps: &mut Steps<L>,
     ) -> Result<Timestamps, NoMemory>
-        requires closer { IsCloser index.now.events requirements.now self.old }
-        requires one_trace { FollowsWhole table.now index.now.events }
+        requires scratch { IsScratch index.now.events requirements.now self.old }
+        requires one_trace { NumbersWholeTrace table.now index.now.events }
         ensures { IfOk result (AreTimestamps index.now.events) }
     {
         let mut timelines = timelines_of(self.alloc, index, &requirements.threads, table)?;
@@ -319,14 +318,14 @@ impl Timestamps {
         steps: &mut Steps<L>,
     ) -> Result<Option<Timestamps>, NoMemory>
         requires requirements { AreRequirements index.now.events requirements.now }
-        requires one_trace { FollowsWhole table.now index.now.events }
+        requires one_trace { NumbersWholeTrace table.now index.now.events }
         ensures { IfOk result (λ made. ForSome made (AreTimestamps index.now.events)) }
     {
         if !are_small(requirements, table) {
             return Ok(None);
         }
-        let mut closer = Closer::new(alloc, requirements)?;
-        let timestamps = closer.timestamps(index, requirements, table, wanted, steps)?;
+        let mut scratch = ClosureScratch::new(alloc, requirements)?;
+        let timestamps = scratch.timestamps(index, requirements, table, wanted, steps)?;
         Ok(Some(timestamps))
     }
 }

@@ -9,7 +9,7 @@ use Rattle.trace_model.specs.declared.limits.TheConstants.{MAX_EVENTS}
 use Rattle.trace_model.specs.declared.traces.owner.Owner.{Owner}
 use Rattle.trace_model.specs.Theory.Trace.{Trace, At}
 use Rattle.trace_model.specs.Theory.Held.{depth}
-use Rattle.trace_model.specs.Theory.Holders.{owner, owner_after, owned, released}
+use Rattle.trace_model.specs.Theory.Holders.{owner, owner_after, owner_depth, owner_after_release}
 use Rattle.trace_model.specs.Theory.Lawful.{refusal_of, op_refusal_of, IsWellFormed}
 use Rattle.trace_model.proofs.Theory.Growing.{well_formed_take}
 use Rattle.trace_model.proofs.Theory.Lawful.{passed}
@@ -19,7 +19,7 @@ use Rattle.trace_model.proofs.Theory.Owners.{owner-push, acquired_owned, release
 use Rattle.trace_model.proofs.Theory.Prefix.{Agree, depth-agree}
 use Rattle.trace_model.proofs.Theory.Sections.{depth-take}
 use Rattle.trace_index.specs.declared.row.IndexRow.{IndexRow}
-use Rattle.trace_index.specs.Depths.{DepthTable, depth_in, op_depth, event_depth, IsShallow, depth_noted, AreDeep, AreDepths}
+use Rattle.trace_index.specs.Depths.{DepthTable, lock_depth, op_depth, event_depth, IsShallow, depth_noted, AreDeep, AreDepths}
 use Rattle.trace_index.specs.Links.{trace_of}
 use Rattle.trace_index.proofs.KeyLists.{length_trace, trace_push, trace_take}
 use Rattle.segments.proofs.Lists.{take_one_more}
@@ -28,7 +28,7 @@ use Rattle.segments.proofs.Lists.{take_one_more}
 
 -- the depth of each lock, by its owner
 abbrev pub owned_in : Trace → ℕ → ℕ
-owned_in s l = owned (owner s l)
+owned_in s l = owner_depth (owner s l)
 
 pub op_depth-agree : (f g : ℕ → ℕ) (o : Op) → ((l : ℕ) → f l ≡ g l) → op_depth f o ≡ op_depth g o
 op_depth-agree f g (Acquire l) h = h l
@@ -67,40 +67,40 @@ module _ (s : Trace) (w : IsWellFormed s) (p : ℕ) (e : Event) (at : At s p e) 
 
 -- ---- one more event
 
-released_less : (o : Option Owner) → owned (released o) ≡ owned o - 1
+released_less : (o : Option Owner) → owner_depth (owner_after_release o) ≡ owner_depth o - 1
 released_less None = refl
 released_less (Some x) = go (leb x.depth 1) refl
   where
-    go : (b : Bool) → leb x.depth 1 ≡ b → owned (cond b None (Some (record { thread = x.thread; depth = x.depth - 1 }))) ≡ x.depth - 1
+    go : (b : Bool) → leb x.depth 1 ≡ b → owner_depth (cond b None (Some (record { thread = x.thread; depth = x.depth - 1 }))) ≡ x.depth - 1
     go true e = let least = leb-true x.depth 1 e in omega arith
     go false e = refl
 
 noted_is : (s : Trace) (t : ℕ) (o : Op) (l : ℕ) →
-    depth_noted o (op_depth (owned_in s) o) l (owned_in s l) ≡ owned (owner_after l (owner s l) (record { thread = t; op = o }))
+    depth_noted o (op_depth (owned_in s) o) l (owned_in s l) ≡ owner_depth (owner_after l (owner s l) (record { thread = t; op = o }))
 noted_is s t (Acquire m) l = go (nat_eq m l) refl
   where
     go : (b : Bool) → nat_eq m l ≡ b → cond b (suc (owned_in s m)) (owned_in s l)
-        ≡ owned (cond b (Some (record { thread = t; depth = suc (owned (owner s l)) })) (owner s l))
+        ≡ owner_depth (cond b (Some (record { thread = t; depth = suc (owner_depth (owner s l)) })) (owner s l))
     go true e = ap (λ k. suc (owned_in s k)) (eqb-true m l e)
     go false e = refl
 noted_is s t (Release m) l = go (nat_eq m l) refl
   where
-    go : (b : Bool) → nat_eq m l ≡ b → cond b (owned_in s m - 1) (owned_in s l) ≡ owned (cond b (released (owner s l)) (owner s l))
+    go : (b : Bool) → nat_eq m l ≡ b → cond b (owned_in s m - 1) (owned_in s l) ≡ owner_depth (cond b (owner_after_release (owner s l)) (owner s l))
     go true e = ap (λ k. owned_in s k - 1) (eqb-true m l e) ∙ sym (released_less (owner s l))
     go false e = refl
 noted_is s t _ l = refl
 
 -- the depths after one more event
-pub depths_push : (s : Trace) (e : Event) (d : ℕ) (old : DepthTable) (new : DepthTable) → ((l : ℕ) → depth_in old l ≡ owned_in s l) →
-    d ≡ op_depth (owned_in s) e.op → ((l : ℕ) → depth_in new l ≡ depth_noted e.op d l (depth_in old l)) →
-    (l : ℕ) → depth_in new l ≡ owned_in (s ++ e ∷ []) l
+pub depths_push : (s : Trace) (e : Event) (d : ℕ) (old : DepthTable) (new : DepthTable) → ((l : ℕ) → lock_depth old l ≡ owned_in s l) →
+    d ≡ op_depth (owned_in s) e.op → ((l : ℕ) → lock_depth new l ≡ depth_noted e.op d l (lock_depth old l)) →
+    (l : ℕ) → lock_depth new l ≡ owned_in (s ++ e ∷ []) l
 depths_push s e d old new are is more l =
     more l ∙ ap (depth_noted e.op d l) (are l) ∙ ap (λ k. depth_noted e.op k l (owned_in s l)) is
-    ∙ noted_is s e.thread e.op l ∙ ap owned (sym (owner-push s e l))
+    ∙ noted_is s e.thread e.op l ∙ ap owner_depth (sym (owner-push s e l))
 
 -- the same for the event at the next place
 pub depths_next : (s : Trace) → IsWellFormed s → (n : ℕ) (e : Event) (d : ℕ) (old : DepthTable) (new : DepthTable) → At s n e → d ≡ event_depth s n e →
-    AreDepths s n old → ((l : ℕ) → depth_in new l ≡ depth_noted e.op d l (depth_in old l)) → AreDepths s (n + 1) new
+    AreDepths s n old → ((l : ℕ) → lock_depth new l ≡ depth_noted e.op d l (lock_depth old l)) → AreDepths s (n + 1) new
 depths_next s w n e d old new at is are more l =
     depths_push (take n s) e d old new are (is ∙ sym (owned_there s w n e at)) more l ∙ ap (λ r. owned_in r l) (sym (take_one_more s n e (sym at)))
 

@@ -17,19 +17,19 @@ use Rattle.segments.proofs.Linking.{link-agree}
 use Rattle.trace_index.specs.declared.row.Key.{Key}
 use Rattle.trace_index.specs.declared.row.Key.TheVariants.{OfThread, ForkOf, AcquireOf, WriteOf}
 use Rattle.trace_index.specs.declared.row.IndexRow.{IndexRow}
-use Rattle.trace_index.specs.Links.{passes, object_key, IsRow, link_of, trace_of, AreRows}
+use Rattle.trace_index.specs.Links.{matches, object_key, IsIndexRow, link_of, trace_of, AreIndexRows}
 
 -- the row of a place with the operation has its link
-object_there : (s : Trace) (o : Op) (p : ℕ) (row : IndexRow) → At s p row.event → IsRow s p row → does s o p ≡ true → IsLink (passes s (object_key o)) p row.object
+object_there : (s : Trace) (o : Op) (p : ℕ) (row : IndexRow) → At s p row.event → IsIndexRow s p row → does s o p ≡ true → IsLink (matches s (object_key o)) p row.object
 object_there s o p row a is h =
     let same : row.event.op ≡ o = op_eq_same row.event.op o (sym (ap (λ z. option_map_or (λ e. op_eq e.op o) z false) a) ∙ h) in
-    subst (λ x. IsLink (passes s (object_key x)) p row.object) same is.object_is
+    subst (λ x. IsLink (matches s (object_key x)) p row.object) same is.object_is
 
 -- the row of a place of a key has its link
-pub link_there : (s : Trace) (q : Key) (p : ℕ) (row : IndexRow) → At s p row.event → IsRow s p row → passes s q p ≡ true → IsLink (passes s q) p (link_of q row)
+pub link_there : (s : Trace) (q : Key) (p : ℕ) (row : IndexRow) → At s p row.event → IsIndexRow s p row → matches s q p ≡ true → IsLink (matches s q) p (link_of q row)
 link_there s (OfThread t) p row a is h =
     let same : row.event.thread ≡ t = eqb-true row.event.thread t (sym (ap (λ o. option_map_or (λ e. e.thread == t) o false) a) ∙ h) in
-    subst (λ u. IsLink (passes s (OfThread u)) p row.thread) same is.thread_is
+    subst (λ u. IsLink (matches s (OfThread u)) p row.thread) same is.thread_is
 link_there s (ForkOf c) p row a is h = object_there s (Fork c) p row a is h
 link_there s (AcquireOf l) p row a is h =
     let (t, begins) = begins_so s l p h in
@@ -63,16 +63,16 @@ trace_take (suc n) (x ∷ rows) = ap (λ s. x.event ∷ s) (trace_take n rows)
 
 -- ---- facts of a place depend only on the events up to it
 
-pub passes-agree : (s r : Trace) (q : Key) (p : ℕ) → Agree (suc p) s r → passes s q p ≡ passes r q p
-passes-agree s r (OfThread t) p h = ap (λ o. option_map_or (λ e. e.thread == t) o false) (h p (omega arith))
-passes-agree s r (ForkOf c) p h = does-agree s r (Fork c) p (h p (omega arith))
-passes-agree s r (AcquireOf l) p h = begins_on-agree s r l p h
-passes-agree s r (WriteOf v) p h = does-agree s r (Write v) p (h p (omega arith))
+pub matches-agree : (s r : Trace) (q : Key) (p : ℕ) → Agree (suc p) s r → matches s q p ≡ matches r q p
+matches-agree s r (OfThread t) p h = ap (λ o. option_map_or (λ e. e.thread == t) o false) (h p (omega arith))
+matches-agree s r (ForkOf c) p h = does-agree s r (Fork c) p (h p (omega arith))
+matches-agree s r (AcquireOf l) p h = begins_on-agree s r l p h
+matches-agree s r (WriteOf v) p h = does-agree s r (Write v) p (h p (omega arith))
 
-link_same : (s r : Trace) (q : Key) (p : ℕ) (link : Link) → Agree p s r → IsLink (passes s q) p link → IsLink (passes r q) p link
-link_same s r q p link same is = link-agree (passes s q) (passes r q) p link (λ u l. passes-agree s r q u (λ p m. same p (omega arith))) is
+link_same : (s r : Trace) (q : Key) (p : ℕ) (link : Link) → Agree p s r → IsLink (matches s q) p link → IsLink (matches r q) p link
+link_same s r q p link same is = link-agree (matches s q) (matches r q) p link (λ u l. matches-agree s r q u (λ p m. same p (omega arith))) is
 
-pub row-agree : (s r : Trace) (p : ℕ) (row : IndexRow) → Agree p s r → IsRow s p row → IsRow r p row
+pub row-agree : (s r : Trace) (p : ℕ) (row : IndexRow) → Agree p s r → IsIndexRow s p row → IsIndexRow r p row
 row-agree s r p row same is = record {
   thread_is = link_same s r (OfThread row.event.thread) p row.thread same is.thread_is;
   object_is = link_same s r (object_key row.event.op) p row.object same is.object_is;
@@ -81,7 +81,7 @@ row-agree s r p row same is = record {
 agree_push : (s : Trace) (e : Event) (p : ℕ) → p ≤ length s → Agree p s (s ++ e ∷ [])
 agree_push s e p h u l = sym (get-append s (e ∷ []) u (omega arith))
 
-pub rows_push : (rows : List IndexRow) (row : IndexRow) → AreRows rows → IsRow (trace_of rows) (length rows) row → AreRows (rows ++ row ∷ [])
+pub rows_push : (rows : List IndexRow) (row : IndexRow) → AreIndexRows rows → IsIndexRow (trace_of rows) (length rows) row → AreIndexRows (rows ++ row ∷ [])
 rows_push rows row are next p x h = elim (cases_lt p (length rows)) [
   | inl l ↦
       let old : slice_get rows p ≡ Some x = sym (get-append rows (row ∷ []) p l) ∙ h in
@@ -92,23 +92,23 @@ rows_push rows row are next p x h = elim (cases_lt p (length rows)) [
       let same : p ≡ length rows = omega arith in
       let here : row ≡ x = same_Some row x (sym (get-push_last rows row) ∙ ap (slice_get (rows ++ row ∷ [])) (sym same) ∙ h) in
       moved p x (omega (arith, length_trace rows))
-      (subst (λ n. IsRow (trace_of rows) n x) (sym same) (subst (IsRow (trace_of rows) (length rows)) here next))
+      (subst (λ n. IsIndexRow (trace_of rows) n x) (sym same) (subst (IsIndexRow (trace_of rows) (length rows)) here next))
 ]
   where
-    moved : (p : ℕ) (x : IndexRow) → p ≤ length (trace_of rows) → IsRow (trace_of rows) p x → IsRow (trace_of (rows ++ row ∷ [])) p x
-    moved p x l is = subst (λ s. IsRow s p x) (sym (trace_push rows row)) (row-agree (trace_of rows) (trace_of rows ++ row.event ∷ []) p x (agree_push (trace_of rows) row.event p l) is)
+    moved : (p : ℕ) (x : IndexRow) → p ≤ length (trace_of rows) → IsIndexRow (trace_of rows) p x → IsIndexRow (trace_of (rows ++ row ∷ [])) p x
+    moved p x l is = subst (λ s. IsIndexRow s p x) (sym (trace_push rows row)) (row-agree (trace_of rows) (trace_of rows ++ row.event ∷ []) p x (agree_push (trace_of rows) row.event p l) is)
 
-pub rows_take : (n : ℕ) (rows : List IndexRow) → AreRows rows → AreRows (take n rows)
+pub rows_take : (n : ℕ) (rows : List IndexRow) → AreIndexRows rows → AreIndexRows (take n rows)
 rows_take n rows are p x h =
     let below = get-take_past n rows p x h in
     let there : slice_get rows p ≡ Some x = sym (get-take n rows p below) ∙ h in
-    subst (λ s. IsRow s p x) (sym (trace_take n rows))
+    subst (λ s. IsIndexRow s p x) (sym (trace_take n rows))
     (row-agree (trace_of rows) (take n (trace_of rows)) p x (λ u l. sym (get-take n (trace_of rows) u (omega arith))) (are p x there))
 
-pub rows_none : AreRows []
+pub rows_none : AreIndexRows []
 rows_none p x h = absurd (none-some x h)
 
-pub link_found : (rows : List IndexRow) (q : Key) (p : ℕ) (row : IndexRow) (link : Link) → AreRows rows → Some row ≡ slice_get rows p → passes (trace_of rows) q p ≡ true → link ≡ link_of q row →
-    IsLink (passes (trace_of rows) q) p link
+pub link_found : (rows : List IndexRow) (q : Key) (p : ℕ) (row : IndexRow) (link : Link) → AreIndexRows rows → Some row ≡ slice_get rows p → matches (trace_of rows) q p ≡ true → link ≡ link_of q row →
+    IsLink (matches (trace_of rows) q) p link
 link_found rows q p row link are found h is =
-    subst (IsLink (passes (trace_of rows) q) p) (sym is) (link_there (trace_of rows) q p row (get_trace rows p row (sym found)) (are p row (sym found)) h)
+    subst (IsLink (matches (trace_of rows) q) p) (sym is) (link_there (trace_of rows) q p row (get_trace rows p row (sym found)) (are p row (sym found)) h)

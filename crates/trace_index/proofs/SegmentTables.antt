@@ -26,11 +26,11 @@ use Rattle.trace_index.specs.declared.row.Key.{Key}
 use Rattle.trace_index.specs.declared.row.Key.TheVariants.{OfThread, ForkOf, AcquireOf, WriteOf}
 use Rattle.trace_index.specs.declared.row.IndexRow.{IndexRow}
 use Rattle.trace_index.specs.declared.segment_tables.SegmentTable.{SegmentTable}
-use Rattle.trace_index.specs.Links.{same_key, passes, adds_to, touches, object_key, IsRow, AreLastPlaces, AreLastOf, ended_by, is_place, ends_acquire, ends_at, last_from}
+use Rattle.trace_index.specs.Links.{same_key, matches, adds_to, touches, object_key, IsIndexRow, AreLastPlaces, AreLastOf, ended_at_depth, is_place, ends_acquire, ends_at, last_from}
 use Rattle.trace_index.specs.Depths.{op_depth, event_depth}
-use Rattle.trace_index.specs.SegmentTables.{AreTables, AreAllTables, IsSame}
+use Rattle.trace_index.specs.SegmentTables.{AreSegmentTables, AreAllTables, IsSame}
 use Rattle.trace_index.specs.Releases.{release_in}
-use Rattle.trace_index.proofs.KeyLists.{passes-agree}
+use Rattle.trace_index.proofs.KeyLists.{matches-agree}
 
 -- ---- the last place of a range
 
@@ -116,7 +116,7 @@ or_none : (b c : Bool) → c ≡ false → (b || c) ≡ b
 or_none true c h = refl
 or_none false c h = h
 
-pub touches_is : (s : Trace) (k : ℕ) (e : Event) → At s k e → (d : ℕ) → d ≡ event_depth s k e → (q : Key) → passes s q k ≡ touches e d q
+pub touches_is : (s : Trace) (k : ℕ) (e : Event) → At s k e → (d : ℕ) → d ≡ event_depth s k e → (q : Key) → matches s q k ≡ touches e d q
 touches_is s k e a d is (OfThread t) =
     ap (λ o. option_map_or (λ x. x.thread == t) o false) a ∙ sym (or_none (e.thread == t) (adds_to e.op d (OfThread t)) (no_thread t d e.op))
 touches_is s k e a d is (ForkOf c) = op_adds e d (Fork c) (ForkOf c) (fork_adds c d) s k a
@@ -173,8 +173,8 @@ releases-take n s a p l = same_bool (ends_at (take n s) a p) (ends_at s a p)
     (λ h. is_place_from (release s a) p (release_up n s a p (is_place_so (release (take n s) a) p h)))
     (λ h. is_place_from (release (take n s) a) p (release_down n s a p l (is_place_so (release s a) p h)))
 
-pub passes-take : (n : ℕ) (s : Trace) (q : Key) (p : ℕ) → p < n → passes (take n s) q p ≡ passes s q p
-passes-take n s q p l = passes-agree (take n s) s q p (λ u m. get-take n s u (omega arith))
+pub matches-take : (n : ℕ) (s : Trace) (q : Key) (p : ℕ) → p < n → matches (take n s) q p ≡ matches s q p
+matches-take n s q p l = matches-agree (take n s) s q p (λ u m. get-take n s u (omega arith))
 
 -- an outermost release ends the last section that began on its lock
 module _ (s : Trace) (w : IsWellFormed s) (k t l : ℕ) (here : Ends s k t l) where
@@ -222,7 +222,7 @@ op_at s k e h t o f =
     let same = same_Some e (event t o) (sym h ∙ f) in
     (ap (λ x. x.thread) same, ap (λ x. x.op) same)
 
-pub ends_here : (s : Trace) → IsWellFormed s → (k : ℕ) (row : IndexRow) → At s k row.event → IsRow s k row → row.depth ≡ event_depth s k row.event → (a : ℕ) →
+pub ends_here : (s : Trace) → IsWellFormed s → (k : ℕ) (row : IndexRow) → At s k row.event → IsIndexRow s k row → row.depth ≡ event_depth s k row.event → (a : ℕ) →
     ends_at s a k ≡ ends_acquire row a
 ends_here s w k row h is deep a = go row.event.op refl
   where
@@ -236,7 +236,7 @@ ends_here s w k row h is deep a = go row.event.op refl
           h ∙ ap (λ o. Some (event row.event.thread o)) e,
           ap (op_depth (depth s k row.event.thread)) (sym e) ∙ sym deep ∙ eqb-true row.depth 1 f,
         ) in
-        let link : row.object.earlier ≡ last_place (begins_on s l) k = (subst (λ o. IsLink (passes s (object_key o)) k row.object) e is.object_is).earlier_is in
+        let link : row.object.earlier ≡ last_place (begins_on s l) k = (subst (λ o. IsLink (matches s (object_key o)) k row.object) e is.object_is).earlier_is in
         same_bool (ends_at s a k) (is_place row.object.earlier a)
         (λ g. is_place_from row.object.earlier a (link ∙ last_before s w k row.event.thread l here a (is_place_so (release s a) k g)))
         (λ g. is_place_from (release s a) k (ends_last s w k row.event.thread l here a (sym link ∙ is_place_so row.object.earlier a g)))
@@ -245,7 +245,7 @@ ends_here s w k row h is deep a = go row.event.op refl
         let one : row.depth ≡ 1 = deep ∙ ap (op_depth (depth s k row.event.thread)) op ∙ ap (λ v. depth s k v m) thread ∙ releases.1 in
         eqb-false row.depth 1 f one) a
 
-    go : (o : Op) → row.event.op ≡ o → ends_at s a k ≡ is_place (ended_by o row.depth row.object.earlier) a
+    go : (o : Op) → row.event.op ≡ o → ends_at s a k ≡ is_place (ended_at_depth o row.depth row.object.earlier) a
     go (Release l) e = ended l e (row.depth == 1) refl
     go o e = plain o e (λ m f. cc)
 
@@ -275,27 +275,27 @@ module _ (s : Trace) (n : ℕ) (sealed : List (Arc SegmentTable Global)) (tail :
   pub whole : 4096 * length sealed + (n - 4096 * length sealed) ≡ n
   whole = let b = are.begun in omega arith
 
-  pub tail_last : (q : Key) (p : ℕ) → Some p ≡ get same_key tail.last q → Some p ≡ last_place (passes s q) n
+  pub tail_last : (q : Key) (p : ℕ) → Some p ≡ get same_key tail.last q → Some p ≡ last_place (matches s q) n
   tail_last q p h =
       let w = whole in
-      last_here (passes s q) (4096 * length sealed) (n - 4096 * length sealed) n p (omega arith) (sym (are.tail_are.last_are q) ∙ sym h)
+      last_here (matches s q) (4096 * length sealed) (n - 4096 * length sealed) n p (omega arith) (sym (are.tail_are.last_are q) ∙ sym h)
       (λ u a l. absurd (omega arith))
 
-  pub tail_no : (q : Key) → None ≡ get same_key tail.last q → (u : ℕ) → 4096 * length sealed ≤ u → u < n → passes s q u ≡ false
+  pub tail_no : (q : Key) → None ≡ get same_key tail.last q → (u : ℕ) → 4096 * length sealed ≤ u → u < n → matches s q u ≡ false
   tail_no q h u a l =
       let w = whole in
-      from_none (passes s q) (4096 * length sealed) (n - 4096 * length sealed) (sym (are.tail_are.last_are q) ∙ sym h) u a (omega arith)
+      from_none (matches s q) (4096 * length sealed) (n - 4096 * length sealed) (sym (are.tail_are.last_are q) ∙ sym h) u a (omega arith)
 
   pub sealed_last : (q : Key) (j p : ℕ) (m : Arc SegmentTable Global) → slice_get sealed j ≡ Some m → Some p ≡ get same_key (arc_value m).last q →
-      ((u : ℕ) → 4096 * (j + 1) ≤ u → u < n → passes s q u ≡ false) → Some p ≡ last_place (passes s q) n
+      ((u : ℕ) → 4096 * (j + 1) ≤ u → u < n → matches s q u ≡ false) → Some p ≡ last_place (matches s q) n
   sealed_last q j p m found h later =
       let b = are.begun in
       let within = slice_get_within sealed j m found in
-      last_here (passes s q) (4096 * j) 4096 n p (omega arith) (sym ((are.sealed_are j m found).last_are q) ∙ sym h) (λ u a l. later u (omega arith) l)
+      last_here (matches s q) (4096 * j) 4096 n p (omega arith) (sym ((are.sealed_are j m found).last_are q) ∙ sym h) (λ u a l. later u (omega arith) l)
 
   pub sealed_no : (q : Key) (j : ℕ) (m : Arc SegmentTable Global) → slice_get sealed j ≡ Some m → None ≡ get same_key (arc_value m).last q →
-      (u : ℕ) → 4096 * j ≤ u → u < 4096 * (j + 1) → passes s q u ≡ false
-  sealed_no q j m found h u a l = from_none (passes s q) (4096 * j) 4096 (sym ((are.sealed_are j m found).last_are q) ∙ sym h) u a (omega arith)
+      (u : ℕ) → 4096 * j ≤ u → u < 4096 * (j + 1) → matches s q u ≡ false
+  sealed_no q j m found h u a l = from_none (matches s q) (4096 * j) 4096 (sym ((are.sealed_are j m found).last_are q) ∙ sym h) u a (omega arith)
 
   pub tail_end : (a p : ℕ) → Some p ≡ release_in tail.releases a → ends_at s a p ≡ true
   tail_end a p h = (from_some (ends_at s a) (4096 * length sealed) (n - 4096 * length sealed) p (sym (are.tail_are.releases_are a) ∙ sym h)).passes_is
@@ -328,46 +328,46 @@ module _ (s : Trace) (n : ℕ) (sealed : List (Arc SegmentTable Global)) (tail :
               let at : j ≡ length sealed = omega arith in
               let here : m ≡ x = same_Some m x (sym (get-push_last sealed m) ∙ ap (slice_get (sealed ++ m ∷ [])) (sym at) ∙ h) in
               let value : tail ≡ arc_value x = sym same ∙ ap (λ y. arc_value y) here in
-              subst (λ i. AreTables s (4096 * i) 4096 (arc_value x)) (sym at)
-              (subst (AreTables s (4096 * length sealed) 4096) value (subst (λ i. AreTables s (4096 * length sealed) i tail) size are.tail_are))
+              subst (λ i. AreSegmentTables s (4096 * i) 4096 (arc_value x)) (sym at)
+              (subst (AreSegmentTables s (4096 * length sealed) 4096) value (subst (λ i. AreSegmentTables s (4096 * length sealed) i tail) size are.tail_are))
         ];
-        tail_are = subst (λ i. AreTables s (4096 * length (sealed ++ m ∷ [])) i fresh) (sym none) (record { last_are = last; releases_are = releases });
+        tail_are = subst (λ i. AreSegmentTables s (4096 * length (sealed ++ m ∷ [])) i fresh) (sym none) (record { last_are = last; releases_are = releases });
         begun = omega arith;
         few = omega arith;
       }
 
 -- the last places of one more segment
-pub segment_noted : {S T : Type 0} (s : Trace) (i : ℕ) (m : SegmentTable) (last_places : HashMap Key ℕ S) (last_places' : HashMap Key ℕ T) → AreTables s (4096 * i) 4096 m → AreLastPlaces s (4096 * i) last_places →
+pub segment_noted : {S T : Type 0} (s : Trace) (i : ℕ) (m : SegmentTable) (last_places : HashMap Key ℕ S) (last_places' : HashMap Key ℕ T) → AreSegmentTables s (4096 * i) 4096 m → AreLastPlaces s (4096 * i) last_places →
     ((q : Key) → get same_key last_places' q ≡ option_or (get same_key m.last q) (get same_key last_places q)) → AreLastPlaces s (4096 * (i + 1)) last_places'
 segment_noted s i m last_places last_places' tables are more q =
     let next : 4096 * i + 4096 ≡ 4096 * (i + 1) = omega arith in
-    more q ∙ ap (λ o. option_or o (get same_key last_places q)) (tables.last_are q) ∙ ap (option_or (last_from (passes s q) (4096 * i) 4096)) (are q)
-    ∙ sym (last_split (passes s q) (4096 * i) 4096) ∙ ap (last_place (passes s q)) next
+    more q ∙ ap (λ o. option_or o (get same_key last_places q)) (tables.last_are q) ∙ ap (option_or (last_from (matches s q) (4096 * i) 4096)) (are q)
+    ∙ sym (last_split (matches s q) (4096 * i) 4096) ∙ ap (last_place (matches s q)) next
 
 -- the last places of all segments, if the sealed ones are noted
 pub last_of_all : {S : Type 0} (s : Trace) (n : ℕ) (sealed : List (Arc SegmentTable Global)) (tail : SegmentTable) (older : HashMap Key ℕ S) → AreAllTables s n sealed tail →
     AreLastPlaces s (4096 * length sealed) older → AreLastOf s n tail.last older
 last_of_all s n sealed tail older are last_places q =
     let k = 4096 * length sealed in
-    ap (λ o. option_or o (get same_key older q)) (are.tail_are.last_are q) ∙ ap (option_or (last_from (passes s q) k (n - k))) (last_places q)
-    ∙ sym (last_split (passes s q) k (n - k)) ∙ ap (last_place (passes s q)) (whole s n sealed tail are)
+    ap (λ o. option_or o (get same_key older q)) (are.tail_are.last_are q) ∙ ap (option_or (last_from (matches s q) k (n - k))) (last_places q)
+    ∙ sym (last_split (matches s q) k (n - k)) ∙ ap (last_place (matches s q)) (whole s n sealed tail are)
 
 -- ---- one more place
 
-tables-agree : (s r : Trace) (k n : ℕ) (m : SegmentTable) → ((q : Key) (p : ℕ) → p < k + n → passes s q p ≡ passes r q p) → ((a p : ℕ) → p < k + n → ends_at s a p ≡ ends_at r a p) →
-    AreTables s k n m → AreTables r k n m
+tables-agree : (s r : Trace) (k n : ℕ) (m : SegmentTable) → ((q : Key) (p : ℕ) → p < k + n → matches s q p ≡ matches r q p) → ((a p : ℕ) → p < k + n → ends_at s a p ≡ ends_at r a p) →
+    AreSegmentTables s k n m → AreSegmentTables r k n m
 tables-agree s r k n m f g are = record {
-  last_are = λ q. are.last_are q ∙ from-agree (passes s q) (passes r q) k n (f q);
+  last_are = λ q. are.last_are q ∙ from-agree (matches s q) (matches r q) k n (f q);
   releases_are = λ a. are.releases_are a ∙ from-agree (ends_at s a) (ends_at r a) k n (g a);
 }
 
 -- the tables of a trace are those of a prefix of it, and conversely
-pub tables_down : (s : Trace) (i k n : ℕ) (m : SegmentTable) → k + n ≤ i → AreTables s k n m → AreTables (take i s) k n m
+pub tables_down : (s : Trace) (i k n : ℕ) (m : SegmentTable) → k + n ≤ i → AreSegmentTables s k n m → AreSegmentTables (take i s) k n m
 tables_down s i k n m fits are =
-    tables-agree s (take i s) k n m (λ q p l. sym (passes-take i s q p (omega arith))) (λ a p l. sym (releases-take i s a p (omega arith))) are
+    tables-agree s (take i s) k n m (λ q p l. sym (matches-take i s q p (omega arith))) (λ a p l. sym (releases-take i s a p (omega arith))) are
 
-pub tables_up : (s : Trace) (i k n : ℕ) (m : SegmentTable) → k + n ≤ i → AreTables (take i s) k n m → AreTables s k n m
-tables_up s i k n m fits are = tables-agree (take i s) s k n m (λ q p l. passes-take i s q p (omega arith)) (λ a p l. releases-take i s a p (omega arith)) are
+pub tables_up : (s : Trace) (i k n : ℕ) (m : SegmentTable) → k + n ≤ i → AreSegmentTables (take i s) k n m → AreSegmentTables s k n m
+tables_up s i k n m fits are = tables-agree (take i s) s k n m (λ q p l. matches-take i s q p (omega arith)) (λ a p l. releases-take i s a p (omega arith)) are
 
 from_next : (test : ℕ → Bool) (k n p : ℕ) (b : Bool) (o r : Option ℕ) → k + n ≡ p → test p ≡ b → o ≡ last_from test k n → r ≡ cond b (Some p) o → r ≡ last_from test k (suc n)
 from_next test k n p b o r same e h g =
@@ -379,10 +379,10 @@ pub record HasNoted (row : IndexRow) (place : ℕ) (old new : SegmentTable) : Ty
   pub last : (q : Key) → get same_key new.last q ≡ cond (touches row.event row.depth q) (Some place) (get same_key old.last q)
   pub releases : (a : ℕ) → release_in new.releases a ≡ cond (ends_acquire row a) (Some place) (release_in old.releases a)
 
-pub tables_next : (s : Trace) → IsWellFormed s → (p : ℕ) (row : IndexRow) → At s p row.event → IsRow s p row → row.depth ≡ event_depth s p row.event →
-    (k n : ℕ) → k + n ≡ p → (m new : SegmentTable) → AreTables s k n m → HasNoted row p m new → AreTables s k (suc n) new
+pub tables_next : (s : Trace) → IsWellFormed s → (p : ℕ) (row : IndexRow) → At s p row.event → IsIndexRow s p row → row.depth ≡ event_depth s p row.event →
+    (k n : ℕ) → k + n ≡ p → (m new : SegmentTable) → AreSegmentTables s k n m → HasNoted row p m new → AreSegmentTables s k (suc n) new
 tables_next s w p row here is deep k n same m new are noted = record {
-  last_are = λ q. from_next (passes s q) k n p (touches row.event row.depth q) (get same_key m.last q) (get same_key new.last q) same
+  last_are = λ q. from_next (matches s q) k n p (touches row.event row.depth q) (get same_key m.last q) (get same_key new.last q) same
       (touches_is s p row.event here row.depth deep q) (are.last_are q) (noted.last q);
   releases_are = λ a. from_next (ends_at s a) k n p (ends_acquire row a) (release_in m.releases a) (release_in new.releases a) same
       (ends_here s w p row here is deep a) (are.releases_are a) (noted.releases a);

@@ -7,7 +7,7 @@ use Rattle.trace_model.specs.declared.traces.event.Op.TheVariants.{Acquire, Rele
 use Rattle.trace_model.specs.declared.limits.TheConstants.{MAX_DEPTH}
 use Rattle.trace_model.specs.Theory.Trace.{Trace}
 use Rattle.trace_model.specs.Theory.Held.{depth}
-use Rattle.trace_model.specs.Theory.Holders.{owner, owned}
+use Rattle.trace_model.specs.Theory.Holders.{owner, owner_depth}
 use Rattle.trace_index.specs.declared.row.IndexRow.{IndexRow}
 use Rattle.trace_index.specs.declared.row.Ready.{Ready}
 use Rattle.trace_index.specs.Links.{trace_of}
@@ -17,17 +17,17 @@ abbrev pub DepthTable : Type 0
 DepthTable = List (ℕ × ℕ)
 
 -- The depth of the lock in the table. A lock without an entry is not held.
-abbrev pub depth_in : DepthTable → ℕ → ℕ
-depth_in table l = unwrap_or (lookup (nat_eq l) table) 0
+abbrev pub lock_depth : DepthTable → ℕ → ℕ
+lock_depth table l = unwrap_or (lookup (nat_eq l) table) 0
 
 -- The lock has an entry.
-abbrev pub HasEntry : DepthTable → ℕ → Type 0
-HasEntry table l = IsSome (lookup (nat_eq l) table)
+abbrev pub HasDepthEntry : DepthTable → ℕ → Type 0
+HasDepthEntry table l = IsSome (lookup (nat_eq l) table)
 
 -- The lock that the operation names, if any, has an entry.
 abbrev pub HasOpEntry : DepthTable → Op → Type 0
-HasOpEntry table (Acquire l) = HasEntry table l
-HasOpEntry table (Release l) = HasEntry table l
+HasOpEntry table (Acquire l) = HasDepthEntry table l
+HasOpEntry table (Release l) = HasDepthEntry table l
 HasOpEntry table _ = Unit {0}
 
 -- The depth of the lock that the operation names, 0 if it names none.
@@ -58,7 +58,7 @@ AreDeep rows = (p : ℕ) (row : IndexRow) → slice_get rows p ≡ Some row →
 
 -- The table has the depths after the first n events.
 abbrev pub AreDepths : Trace → ℕ → DepthTable → Type 0
-AreDepths s n table = (l : ℕ) → depth_in table l ≡ owned (owner (take n s) l)
+AreDepths s n table = (l : ℕ) → lock_depth table l ≡ owner_depth (owner (take n s) l)
 
 -- The table has the depths after the first `noted` rows, and the reserved row has the depth of its
 -- event.
@@ -69,4 +69,4 @@ pub record IsDeep (rows : List IndexRow) (table : DepthTable) (noted : ℕ)
   pub all : (r : Ready) → next ≡ Some r → noted ≡ length rows
   pub entry : (r : Ready) → next ≡ Some r → HasOpEntry table r.row.event.op
   pub ready : (r : Ready) → next ≡ Some r →
-      r.row.depth ≡ op_depth (λ l. owned (owner (trace_of rows) l)) r.row.event.op
+      r.row.depth ≡ op_depth (λ l. owner_depth (owner (trace_of rows) l)) r.row.event.op

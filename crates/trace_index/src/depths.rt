@@ -2,7 +2,7 @@
 ghost use Rattle.std.specs.Prelude.{◌≡◌, ℕ, ◌+◌, ◌<◌, ◌≤◌, ◌^◌, length, OnOk, cond, nat_eq};
 ghost use Rattle.trace_model.specs.declared.limits.TheConstants.{MAX_EVENTS};
 ghost use Rattle.trace_model.specs.Theory.Lawful.{IsWellFormed};
-ghost use Rattle.trace_index.specs.Depths.{depth_in, op_depth, depth_noted, HasEntry, HasOpEntry, IsShallow, AreDeep, AreDepths};
+ghost use Rattle.trace_index.specs.Depths.{lock_depth, op_depth, depth_noted, HasDepthEntry, HasOpEntry, IsShallow, AreDeep, AreDepths};
 ghost use Rattle.trace_index.specs.Links.{trace_of};
 
 use crate::row::IndexRow;
@@ -24,7 +24,7 @@ pub(crate) struct Depths {
 impl Depths {
     /// Returns the table with no noted row.
     pub(crate) fn new(alloc: Global, state: RandomState) -> Depths
-        ensures depths { (lock : ℕ) → depth_in result.table lock ≡ 0 }
+        ensures depths { (lock : ℕ) → lock_depth result.table lock ≡ 0 }
         ensures noted { result.noted ≡ 0 }
     {
         Depths {
@@ -36,7 +36,7 @@ impl Depths {
     /// Returns the depth of a lock.
     #[inline(always)]
     fn of(&self, lock: u32) -> u8
-        ensures { result ≡ depth_in self.now.table lock }
+        ensures { result ≡ lock_depth self.now.table lock }
     {
         self.table.get(lock).unwrap_or(0)
     }
@@ -44,7 +44,7 @@ impl Depths {
     /// Returns the depth of the lock that the operation names, 0 if it names none.
     #[inline(always)]
     pub(crate) fn before(&self, op: Op) -> u8
-        ensures { result ≡ op_depth (depth_in self.now.table) op }
+        ensures { result ≡ op_depth (lock_depth self.now.table) op }
     {
         match op {
             Op::Acquire(lock) | Op::Release(lock) => self.of(lock),
@@ -55,7 +55,8 @@ impl Depths {
     /// Reserves an entry for the lock that the operation names.
     #[inline(always)]
     pub(crate) fn reserve(&mut self, op: Op) -> Result<(), NoMemory>
-        ensures shown { (lock : ℕ) → depth_in self.new.table lock ≡ depth_in self.old.table lock }
+        ensures shown { (lock : ℕ) →
+            lock_depth self.new.table lock ≡ lock_depth self.old.table lock }
         ensures noted { self.new.noted ≡ self.old.noted }
         ensures ok { OnOk result (HasOpEntry self.new.table op) }
     {
@@ -72,8 +73,8 @@ impl Depths {
         requires entry { HasOpEntry self.old.table op }
         requires shallow { IsShallow op depth }
         requires few { self.old.noted + 1 < 2 ^ 64 }
-        ensures depths { (lock : ℕ) → depth_in self.new.table lock ≡
-            depth_noted op depth lock (depth_in self.old.table lock) }
+        ensures depths { (lock : ℕ) → lock_depth self.new.table lock ≡
+            depth_noted op depth lock (lock_depth self.old.table lock) }
         ensures noted { self.new.noted ≡ self.old.noted + 1 }
     {
         match op {

@@ -2,8 +2,8 @@
 
 ghost use Rattle.std.specs.Prelude.{◌≡◌, ◌≤◌, length};
 ghost use Rattle.trace_model.specs.declared.limits.TheConstants.{MAX_EVENTS};
-ghost use Rattle.trace_index.specs.Links.{passes as has_place, link_of, IsRow, AreRows, AreLastOf, trace_of};
-ghost use Rattle.trace_index.specs.Positions.{ArePositions};
+ghost use Rattle.trace_index.specs.Links.{matches as has_place, link_of, IsIndexRow, AreIndexRows, AreLastOf, trace_of};
+ghost use Rattle.trace_index.specs.Positions.{AreKeyPositions};
 
 use crate::places::{Places, Positions, last_of};
 use crate::row::{IndexRow, Key, index_of, object_key};
@@ -27,11 +27,11 @@ fn link_in(row: &IndexRow, key: Key) -> Link
 pub(crate) struct KeyList<'a> {
     pub(crate) rows: &'a Segments<IndexRow>,
     pub(crate) key: Key,
-    ghost linked: { AreRows rows.now.0 },
+    ghost linked: { AreIndexRows rows.now.0 },
 }
 
 impl<'a> Linked for KeyList<'a> {
-    ghost passes = { λ list. has_place (trace_of list.rows.now.0) list.key };
+    ghost matches = { λ list. has_place (trace_of list.rows.now.0) list.key };
 
     ghost size = { λ list. length list.rows.now.0 };
 
@@ -55,14 +55,14 @@ pub(crate) fn row_after(
     depth: u8,
     place: Place,
 ) -> IndexRow
-    requires rows { AreRows rows.now.0 }
-    requires positions { ArePositions tail.now event positions }
+    requires rows { AreIndexRows rows.now.0 }
+    requires positions { AreKeyPositions tail.now event positions }
     requires last { AreLastOf (trace_of rows.now.0) (length rows.now.0) tail.now older.now }
     requires place { place ≡ length rows.now.0 }
     requires short { length rows.now.0 ≤ MAX_EVENTS }
     ensures event { result.event ≡ event }
     ensures depth { result.depth ≡ depth }
-    ensures row { IsRow (trace_of rows.now.0) (length rows.now.0) result }
+    ensures row { IsIndexRow (trace_of rows.now.0) (length rows.now.0) result }
 {
     let own = KeyList {
         rows,

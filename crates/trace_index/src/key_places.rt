@@ -14,13 +14,13 @@ pub struct KeyPlaces<'a> {
 
 impl<'a> Model for KeyPlaces<'a> {
     ghost use Rattle.std.specs.Prelude.{List, ℕ, length};
-    ghost use Rattle.trace_model.specs.Theory.Closure.{ascending};
-    ghost use Rattle.trace_index.specs.Links.{passes, trace_of};
+    ghost use Rattle.trace_model.specs.Theory.Closure.{ascending_places};
+    ghost use Rattle.trace_index.specs.Links.{matches, trace_of};
     ghost use Rattle.trace_index.specs.Room.{IsKeyPlaces};
 
     ghost Value = { List ℕ };
 
-    ghost view = { λ v. ascending (passes (trace_of v.list.rows.now.0) v.list.key)
+    ghost view = { λ v. ascending_places (matches (trace_of v.list.rows.now.0) v.list.key)
         (length v.list.rows.now.0) };
 
     ghost invariant = { λ v. IsKeyPlaces v.list.rows.now.0 v.list.key v.last };

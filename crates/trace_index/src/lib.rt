@@ -25,12 +25,12 @@ ghost use Rattle.std.specs.Prelude.{◌≡◌, ℕ, ◌<◌, ◌≤◌, ◌↔�
 ghost use Rattle.trace_model.specs.declared.limits.TheConstants.{MAX_EVENTS};
 ghost use Rattle.trace_model.specs.declared.traces.event.Op.TheVariants.{Fork};
 ghost use Rattle.trace_model.specs.Theory.Trace.{Does};
-ghost use Rattle.trace_model.specs.Theory.Held.{begins_on, begun};
-ghost use Rattle.trace_model.specs.Theory.Closure.{ascending};
+ghost use Rattle.trace_model.specs.Theory.Held.{begins_on, begun_lock};
+ghost use Rattle.trace_model.specs.Theory.Closure.{ascending_places};
 ghost use Rattle.trace_model.specs.Theory.Lawful.{IsWellFormed};
 ghost use Rattle.trace_model.specs.Theory.Lookups.{writer, release};
 ghost use Rattle.trace_index.specs.Numbers.{of_thread, number_at, thread_before, acquire_before};
-ghost use Rattle.trace_index.specs.Links.{passes, written_by, begun_by, taken_before};
+ghost use Rattle.trace_index.specs.Links.{matches, written_by, begun_at_depth, taken_before};
 
 pub use copies::Copies;
 use depths::Depths;
@@ -60,7 +60,7 @@ fn writer_in(row: &IndexRow) -> Option<Place>
 
 /// Returns the lock on which a critical section begins at a row: that of an outermost acquire.
 fn begun_in(row: &IndexRow) -> Option<u32>
-    ensures { result ≡ begun_by row.now.event.op row.now.depth }
+    ensures { result ≡ begun_at_depth row.now.event.op row.now.depth }
 {
     match row.event.op {
         Op::Acquire(lock) => { if row.depth == 0 { Some(lock) } else { None } }
@@ -120,9 +120,9 @@ pub struct TraceIndex {
 impl Model for TraceIndex {
     ghost use Rattle.std.specs.Option.{option_map};
     ghost use Rattle.trace_index.specs.Links.{trace_of};
-    ghost use Rattle.trace_index.specs.Room.{Indexed, IsWhole};
+    ghost use Rattle.trace_index.specs.Room.{IndexView, IsWhole};
 
-    ghost Value = { Indexed };
+    ghost Value = { IndexView };
 
     ghost view = { λ i. record {
       events = trace_of i.rows.0;
@@ -210,7 +210,7 @@ impl TraceIndex {
     /// is an outermost acquire.
     #[inline(always)]
     pub fn begun(&self, place: Place) -> Option<u32>
-        ensures { result ≡ begun self.now.events place }
+        ensures { result ≡ begun_lock self.now.events place }
     {
         match self.rows.get(place.get() as usize) {
             Some(row) => begun_in(&row),
@@ -256,7 +256,7 @@ impl TraceIndex {
 
     /// Returns the places of a key, ascending.
     fn places_of(&self, key: Key) -> KeyPlaces<'_>
-        ensures { result ≡ ascending (passes self.now.events key) (length self.now.events) }
+        ensures { result ≡ ascending_places (matches self.now.events key) (length self.now.events) }
     {
         let list = KeyList {
             rows: &self.rows,
@@ -268,7 +268,8 @@ impl TraceIndex {
 
     /// Returns the places of `thread`, ascending.
     pub fn thread_places(&self, thread: u32) -> KeyPlaces<'_>
-        ensures { result ≡ ascending (of_thread self.now.events thread) (length self.now.events) }
+        ensures { result
+            ≡ ascending_places (of_thread self.now.events thread) (length self.now.events) }
     {
         self.places_of(Key::OfThread(thread))
     }
@@ -276,7 +277,7 @@ impl TraceIndex {
     /// Returns the places of the outermost acquires of `lock` by any thread, ascending. Part of the
     /// public API; not called by the program.
     pub fn acquires(&self, lock: u32) -> KeyPlaces<'_>
-        ensures { result ≡ ascending (begins_on self.now.events lock)
+        ensures { result ≡ ascending_places (begins_on self.now.events lock)
             (length self.now.events) }
     {
         self.places_of(Key::AcquireOf(lock))

@@ -4,10 +4,10 @@ ghost use Rattle.std.specs.Prelude.{◌≡◌, ◌≤◌, ◌<◌, ◌+◌, ◌-
 ghost use Rattle.std.specs.HashMap.{get};
 ghost use Rattle.trace_model.specs.Theory.Trace.{Trace, last_place};
 ghost use Rattle.trace_index.specs.declared.row.Key.{Key as KeyValue};
-ghost use Rattle.trace_index.specs.Links.{same_key, touches, passes, ends_acquire, ends_at};
+ghost use Rattle.trace_index.specs.Links.{same_key, touches, matches, ends_acquire, ends_at};
 ghost use Rattle.trace_index.specs.Releases.{release_in};
-ghost use Rattle.trace_index.specs.SegmentTables.{AreAllTables, HasRoom, IsSame};
-ghost use Rattle.trace_index.specs.Positions.{ArePositions};
+ghost use Rattle.trace_index.specs.SegmentTables.{AreAllTables, HasPlaceRoom, IsSame};
+ghost use Rattle.trace_index.specs.Positions.{AreKeyPositions};
 
 use crate::growing::ended;
 use crate::places::{Places, Positions, last, record, reserve};
@@ -50,7 +50,7 @@ impl SegmentTable {
     /// Reserves memory for one more place.
     pub(crate) fn reserve(&mut self) -> Result<(), NoMemory>
         ensures same { IsSame self.new self.old }
-        ensures ok { OnOk result (HasRoom self.new) }
+        ensures ok { OnOk result (HasPlaceRoom self.new) }
     {
         reserve(&mut self.last)?;
         self.releases.reserve()
@@ -59,8 +59,8 @@ impl SegmentTable {
     /// Records one more place, with this row and these positions of its keys.
     #[inline(always)]
     pub(crate) fn record(&mut self, row: &IndexRow, positions: Positions, place: Place)
-        requires positions { ArePositions self.old.last row.now.event positions }
-        requires room { HasRoom self.old }
+        requires positions { AreKeyPositions self.old.last row.now.event positions }
+        requires room { HasPlaceRoom self.old }
         ensures last { (q : KeyValue) → get same_key self.new.last q ≡
             (if touches row.now.event row.now.depth q then Some place
             else get same_key self.old.last q) }
@@ -79,7 +79,7 @@ pub(crate) fn last_in_segments(
     key: Key,
 ) -> Option<Place>
     ensures { (s : Trace) (n : ℕ) → AreAllTables s n sealed.now tail.now →
-        result ≡ last_place (passes s key) n }
+        result ≡ last_place (matches s key) n }
 {
     if let Some(place) = last(&tail.last, key) {
         return Some(place);
@@ -169,7 +169,7 @@ impl SegmentTables {
             AreAllTables s len self.new.sealed.items self.new.tail }
         ensures more { length self.old.sealed.items ≤ length self.new.sealed.items }
         ensures fits { OnOk result (len < 4096 * length self.new.sealed.items + 4096) }
-        ensures room { OnOk result (HasRoom self.new.tail) }
+        ensures room { OnOk result (HasPlaceRoom self.new.tail) }
     {
         self.seal(alloc, state, len)?;
         self.tail.reserve()?;

@@ -7,7 +7,7 @@ use Rattle.trace_model.specs.Theory.Lookups.{writer, release}
 use Rattle.trace_model.specs.Theory.Dependencies.{Dependency, dependencies}
 use Rattle.trace_model.specs.WorkedTraces.{f, j, a, r, w, opposite_orders, gate_lock, later_instance, swapped_sections, three_locks, read_without_writer, forked_after, joined_before}
 use Rattle.trace_model.specs.declared.traces.event.Op.TheVariants.{Fork, Join, Acquire, Release, Read, Write}
-use Rattle.trace_model.specs.Theory.Reordering.{Reached}
+use Rattle.trace_model.specs.Theory.Reordering.{AreReached}
 use Rattle.trace_model.specs.declared.messages.session.Reply.TheVariants.{Opened, Pending, Refused, Report}
 use Rattle.trace_model.specs.declared.refusal.Refusal.TheVariants.{BadBound, NoSuchQuestion, NoSuchTask, Double, OtherBound, OtherTrace}
 use Rattle.trace_model.specs.Protocol.Machine.{State, ask, deliver, answer}
@@ -47,20 +47,20 @@ refusals-at_four = refl
 refusals-full : refusal_of 3 (w 0 1 ∷ w 0 1 ∷ w 0 1 ∷ []) (w 9 1) ≡ Some Full
 refusals-full = refl
 
-opposite_orders-reached : Reached opposite_orders (3 ∷ 7 ∷ [])
+opposite_orders-reached : AreReached opposite_orders (3 ∷ 7 ∷ [])
 opposite_orders-reached = reached_if opposite_orders (3 ∷ 7 ∷ []) (0 ∷ 1 ∷ 2 ∷ 6 ∷ []) refl
 
-later_instance-reached : Reached later_instance (13 ∷ 9 ∷ [])
+later_instance-reached : AreReached later_instance (13 ∷ 9 ∷ [])
 later_instance-reached = reached_if later_instance (13 ∷ 9 ∷ []) (0 ∷ 1 ∷ 2 ∷ 3 ∷ 4 ∷ 5 ∷ 6 ∷ 7 ∷ 8 ∷ 12 ∷ []) refl
 
-three_locks-reached : Reached three_locks (4 ∷ 8 ∷ 12 ∷ [])
+three_locks-reached : AreReached three_locks (4 ∷ 8 ∷ 12 ∷ [])
 three_locks-reached = reached_if three_locks (4 ∷ 8 ∷ 12 ∷ []) (0 ∷ 1 ∷ 2 ∷ 3 ∷ 7 ∷ 11 ∷ []) refl
 
-read_without_writer-reached : Reached read_without_writer (5 ∷ 9 ∷ [])
+read_without_writer-reached : AreReached read_without_writer (5 ∷ 9 ∷ [])
 read_without_writer-reached = reached_if read_without_writer (5 ∷ 9 ∷ []) (0 ∷ 1 ∷ 2 ∷ 3 ∷ 4 ∷ 8 ∷ []) refl
 
 -- the write that the read needs comes after the place
-read_needs_earlier_section : Reached later_instance (3 ∷ 9 ∷ []) → ⊥
+read_needs_earlier_section : AreReached later_instance (3 ∷ 9 ∷ []) → ⊥
 read_needs_earlier_section (order, o, e) =
     let c = reordering_closes later_instance order o in
     let seven = reaching_holds later_instance order (3 ∷ 9 ∷ []) e 9 7 (1, omega arith, refl) (2, (Read 7, refl), (Acquire 10, refl), omega arith) in
@@ -70,7 +70,7 @@ read_needs_earlier_section (order, o, e) =
 
 -- the closure contains both sections of lock 30, so it contains the first release, which is after
 -- the place
-swapped_sections-not_found : Reached swapped_sections (4 ∷ 11 ∷ []) → ⊥
+swapped_sections-not_found : AreReached swapped_sections (4 ∷ 11 ∷ []) → ⊥
 swapped_sections-not_found (order, o, e) =
     let c = reordering_closes swapped_sections order o in
     let h = reaching_holds swapped_sections order (4 ∷ 11 ∷ []) e in
@@ -81,7 +81,7 @@ swapped_sections-not_found (order, o, e) =
     (e 4 (0, omega arith, refl)).0 (listed_contains order 4 four)
 
 -- the fork is after the place
-fork_orders_the_threads : Reached forked_after (1 ∷ 6 ∷ []) → ⊥
+fork_orders_the_threads : AreReached forked_after (1 ∷ 6 ∷ []) → ⊥
 fork_orders_the_threads (order, o, e) =
     let c = reordering_closes forked_after order o in
     let five = reaching_holds forked_after order (1 ∷ 6 ∷ []) e 6 5 (1, omega arith, refl) (1, (Acquire 20, refl), (Acquire 10, refl), omega arith) in
@@ -90,7 +90,7 @@ fork_orders_the_threads (order, o, e) =
     (e 1 (0, omega arith, refl)).0 (listed_contains order 1 one)
 
 -- the join needs all places of the joined thread
-join_orders_the_threads : Reached joined_before (2 ∷ 7 ∷ []) → ⊥
+join_orders_the_threads : AreReached joined_before (2 ∷ 7 ∷ []) → ⊥
 join_orders_the_threads (order, o, e) =
     let c = reordering_closes joined_before order o in
     let five = reaching_holds joined_before order (2 ∷ 7 ∷ []) e 7 5 (1, omega arith, refl) (0, (Join 1, refl), (Acquire 20, refl), omega arith) in

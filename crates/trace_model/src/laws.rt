@@ -1,6 +1,6 @@
 //! The laws of the definitions: each function has a theorem as its contract, and no body.
 
-ghost use Rattle.trace_model.specs.Theory.Laws.{HeldIsHeld, HoldsInSection, WriterIsGreatest, ReleaseIsLeast, ClosureIsExistence, ClosureIsSmallest, ClosureIsBefore, ClosureIsStable, LesserIsReached, StandsIsStanding, HeldByOtherIsHeld, HeldAscends, DependenciesAreNumbered, ReachedIsDeadlocked, RowsAreUnique, RowsAreSound, ConfirmedStays, WellFormedGrows, ReorderingIsWalk, ClosureGrows, CaughtIsEarly, ThreadsAreForked, ThreadsAreForkedOnce, NothingFollowsJoin, ReleaseIsOwn, SectionsAreApart};
+ghost use Rattle.trace_model.specs.Theory.Laws.{HeldListIsHeldSet, HoldsInSection, WriterIsGreatest, ReleaseIsLeast, ClosureIsExistence, ClosureIsSmallest, ClosureIsBefore, ClosureIsStable, LesserIsReached, OccursIffSomeEvent, HeldByOtherIffOwner, HeldAscends, DependenciesAreNumbered, ReachedIsDeadlocked, RowsAreUnique, RowsAreSound, ConfirmedStays, WellFormedGrows, ReorderingIsWalk, ClosureGrows, CaughtIsEarly, ThreadsAreForked, ThreadsAreForkedOnce, NothingFollowsJoin, ReleaseIsOwn, SectionsAreApart};
 ghost use Rattle.trace_model.specs.Theory.EventLaws.{OneMoreEvent, OwnerHolds, HeldAreFew, LawfulHigher};
 ghost use Rattle.trace_model.specs.Theory.Refutation.{DerivedIsInClosure, RefutedIsNotConfirmed, NotConfirmedIsRefuted};
 ghost use Rattle.trace_model.specs.Protocol.RunLaws.{SummariesAreStates, RunsFit, RunsSplit, MachineTakesSteps, RunsAreUnique, RunsAreSound, RunsAreLegal, StatusesAreShown};
@@ -10,7 +10,7 @@ ghost use Rattle.trace_model.specs.Protocol.Batches.{BatchesAreLongest};
 
 /// States that held sets, writers and releases are what their definitions say.
 pub fn lookups_are_exact()
-    ensures held { HeldIsHeld }
+    ensures held { HeldListIsHeldSet }
     ensures section { HoldsInSection }
     ensures writer { WriterIsGreatest }
     ensures release { ReleaseIsLeast }
@@ -34,11 +34,11 @@ pub fn lesser_is_reached()
     ensures { LesserIsReached }
 {}
 
-/// States that the tests of the gate decide what is in the trace and what is held, and that held
-/// sets ascend.
+/// States that the tests of the admission check decide what is in the trace and what is held, and
+/// that held sets ascend.
 pub fn held_is_exact()
-    ensures stands { StandsIsStanding }
-    ensures other { HeldByOtherIsHeld }
+    ensures stands { OccursIffSomeEvent }
+    ensures other { HeldByOtherIffOwner }
     ensures ascends { HeldAscends }
 {}
 

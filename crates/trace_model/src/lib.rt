@@ -24,7 +24,7 @@ pub use messages::session::{Fault, Reply, Request};
 pub use messages::status::QuestionStatus;
 pub use messages::step::BoardStep;
 pub use refusal::{NoMemory, Refusal, refusal_name};
-pub use refutations::{Derivation, Derived, Reason, Refutation, Step};
+pub use refutations::{Derivation, Derived, Reason, Refutation, RefutationStep};
 pub use traces::bound::Bound;
 pub use traces::cycle::Cycle;
 pub use traces::event::{Event, Op};

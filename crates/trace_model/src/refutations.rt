@@ -16,8 +16,8 @@ pub enum Reason {
     ForkJoin(Place),
     /// This derived place is a read, and the place is its writer.
     ReadsFrom(Place),
-    /// Critical sections on one lock begin at these two derived places, and the place is the release
-    /// of the first, which is the earlier one.
+    /// Critical sections on one lock begin at these two derived places, and the place is the
+    /// release of the first, which is the earlier one.
     Sections(Place, Place),
 }
 
@@ -56,10 +56,10 @@ impl Derivation {
     }
 }
 
-/// A step of a refutation: the derivation ends with the present place of the member with this 0-based
-/// index, so the member moves to the next place of its dependency.
+/// A step of a refutation: the derivation ends with the present place of the member with this
+/// 0-based index, so the member moves to the next place of its dependency.
 #[derive(Drop)]
-pub struct Step {
+pub struct RefutationStep {
     pub member: usize,
     pub derivation: Derivation,
 }
@@ -70,14 +70,14 @@ pub struct Step {
 /// Contracts see the list of its steps.
 #[derive(Drop)]
 pub struct Refutation {
-    pub steps: Vec<Step>,
+    pub steps: Vec<RefutationStep>,
 }
 
 impl Model for Refutation {
     ghost use Rattle.std.specs.Prelude.{List};
-    ghost use Rattle.trace_model.specs.declared.refutations.Step.{Step};
+    ghost use Rattle.trace_model.specs.declared.refutations.RefutationStep.{RefutationStep};
 
-    ghost Value = { List Step };
+    ghost Value = { List RefutationStep };
 
     ghost view = { λ r. r.steps.items };
 }
@@ -86,7 +86,7 @@ impl Refutation {
     ghost use Rattle.std.specs.Prelude.{◌≡◌};
 
     /// Returns the steps, in order. Does not allocate.
-    pub fn steps(&self) -> &[Step]
+    pub fn steps(&self) -> &[RefutationStep]
         ensures { result.now ≡ self.now }
     {
         self.steps.as_slice()

@@ -10,7 +10,7 @@ use Rattle.trace_model.specs.declared.limits.TheConstants.{MAX_EVENTS}
 use Rattle.trace_model.specs.declared.traces.owner.Owner.{Owner}
 use Rattle.trace_model.specs.Theory.Trace.{Trace, event, At, op_eq}
 use Rattle.trace_model.specs.Theory.Held.{depth}
-use Rattle.trace_model.specs.Theory.Holders.{owned, owner, owner_after, released}
+use Rattle.trace_model.specs.Theory.Holders.{owner_depth, owner, owner_after, owner_after_release}
 use Rattle.trace_model.specs.Theory.Lawful.{op_refusal_of, IsWellFormed}
 use Rattle.trace_model.proofs.Theory.Growing.{well_formed_take}
 use Rattle.trace_model.proofs.Theory.Held.{DepthCases, depth_cases}
@@ -21,7 +21,7 @@ use Rattle.trace_model.proofs.Theory.Owners.{owner-push}
 use Rattle.trace_model.proofs.Theory.Places.{op_eq_same}
 use Rattle.trace_model.proofs.Theory.Prefix.{depth-agree}
 use Rattle.trace_model.proofs.Theory.Sections.{depth-take}
-use Rattle.wellformed.specs.Flat.{acquires_taken, taken, taken_after, IsFlat}
+use Rattle.wellformed.specs.Flat.{acquires_taken, is_taken, taken_after, IsFlat}
 use Rattle.trace_model.proofs.Theory.Owners.{acquired_owned, released_owned}
 
 -- every acquire below n is outermost
@@ -59,44 +59,44 @@ flat-front s e flat p t l at =
 
 -- ---- the last event on a lock
 
-pub taken-push : (s : Trace) (e : Event) (l : ℕ) → taken (s ++ e ∷ []) l ≡ taken_after l (taken s l) e
+pub taken-push : (s : Trace) (e : Event) (l : ℕ) → is_taken (s ++ e ∷ []) l ≡ taken_after l (is_taken s l) e
 taken-push s e l = fold-append (taken_after l) false s (e ∷ [])
 
 -- a lock at depth 1 is free after one release
-once : (o : Option Owner) → owned o ≤ 1 → owned (released o) ≡ 0
+once : (o : Option Owner) → owner_depth o ≤ 1 → owner_depth (owner_after_release o) ≡ 0
 once None h = refl
 once (Some x) h = rw (le-leb x.depth 1 h) refl
 
 module _ (s : Trace) (w : IsWellFormed s) (flat : IsFlat s) (e : Event) (lawful : op_refusal_of s e.thread e.op ≡ None) (l : ℕ) where
-  owned_once : e.op ≡ Release l → owned (owner s l) ≤ 1
+  owned_once : e.op ≡ Release l → owner_depth (owner s l) ≤ 1
   owned_once is =
       let same = released_owned s w e.thread l (subst (λ o. op_refusal_of s e.thread o ≡ None) is lawful) in
       omega (arith, same, flat_shallow s (length s) (flat_below s (length s) flat) (length s) e.thread l (omega arith))
 
-  taken_next : taken s l ≡ ltb 0 (owned (owner s l)) → taken_after l (taken s l) e ≡ ltb 0 (owned (owner_after l (owner s l) e))
+  taken_next : is_taken s l ≡ ltb 0 (owner_depth (owner s l)) → taken_after l (is_taken s l) e ≡ ltb 0 (owner_depth (owner_after l (owner s l) e))
   taken_next was = go (op_eq e.op (Acquire l)) (op_eq e.op (Release l)) refl
     where
       go : (a r : Bool) → op_eq e.op (Release l) ≡ r →
-          cond a true (cond r false (taken s l))
-          ≡ ltb 0 (owned (cond a (Some (record { thread = e.thread; depth = suc (owned (owner s l)) })) (cond r (released (owner s l)) (owner s l))))
-      go true r k = sym (lt-ltb 0 (suc (owned (owner s l))) (omega arith))
+          cond a true (cond r false (is_taken s l))
+          ≡ ltb 0 (owner_depth (cond a (Some (record { thread = e.thread; depth = suc (owner_depth (owner s l)) })) (cond r (owner_after_release (owner s l)) (owner s l))))
+      go true r k = sym (lt-ltb 0 (suc (owner_depth (owner s l))) (omega arith))
       go false true k = rw (once (owner s l) (owned_once (op_eq_same e.op (Release l) k))) refl
       go false false k = was
 
 -- in a flat trace a lock has an owner exactly if its last event is an acquire
-pub taken-owned : (s : Trace) → IsWellFormed s → IsFlat s → (l : ℕ) → taken s l ≡ ltb 0 (owned (owner s l))
-taken-owned = by_pushes (λ s. IsWellFormed s → IsFlat s → (l : ℕ) → taken s l ≡ ltb 0 (owned (owner s l)))
+pub taken-owned : (s : Trace) → IsWellFormed s → IsFlat s → (l : ℕ) → is_taken s l ≡ ltb 0 (owner_depth (owner s l))
+taken-owned = by_pushes (λ s. IsWellFormed s → IsFlat s → (l : ℕ) → is_taken s l ≡ ltb 0 (owner_depth (owner s l)))
     (λ w flat l. refl)
     (λ s e known w flat l.
     let front = well_formed-front s e w in
     let flat-s = flat-front s e flat in
     taken-push s e l
     ∙ taken_next s front flat-s e (lawful_op MAX_EVENTS s e (well_formed-last s e w)) l (known front flat-s l)
-    ∙ ap (λ o. ltb 0 (owned o)) (sym (owner-push s e l)))
+    ∙ ap (λ o. ltb 0 (owner_depth o)) (sym (owner-push s e l)))
 
 -- an acquire is inner exactly if the last event on its lock before it is an acquire
 pub taken-depth : (s : Trace) → IsWellFormed s → (q t l : ℕ) → IsFlatBelow s q → At s q (event t (Acquire l)) →
-    taken (take q s) l ≡ ltb 0 (depth s q t l)
+    is_taken (take q s) l ≡ ltb 0 (depth s q t l)
 taken-depth s w q t l flat at =
     let front = well_formed_take s q w in
     let same = acquired_owned (take q s) front t l (passed s w q t (Acquire l) at).2 in
@@ -120,7 +120,7 @@ module _ (s : Trace) (w : IsWellFormed s) (q : ℕ) (flat : IsFlatBelow s q) whe
         let same : p ≡ q = omega arith in
         let here : At s q (event t (Acquire l)) = subst (λ x. At s x (event t (Acquire l))) same acquires in
         let is : e ≡ event t (Acquire l) = same_Some e (event t (Acquire l)) (sym at ∙ here) in
-        let free : taken (take q s) l ≡ false = subst (λ (x : Event). acquires_taken (take q s) x.op ≡ false) is h in
+        let free : is_taken (take q s) l ≡ false = subst (λ (x : Event). acquires_taken (take q s) x.op ≡ false) is h in
         let none = ltb-false 0 (depth s q t l) (sym (taken-depth s w q t l flat here) ∙ free) in
         subst (λ x. depth s x t l ≡ 0) (sym same) (omega (arith, none))
   ]

@@ -1,4 +1,4 @@
--- The first event of a list that the gate refuses.
+-- The first event of a list that the admission check refuses.
 use Rattle.std.specs.Prelude.{◌≡◌, take, Option, Some, None}
 use Rattle.trace_model.specs.declared.limits.TheConstants.{MAX_EVENTS}
 use Rattle.trace_model.specs.declared.traces.event.Event.{Event}

@@ -26,19 +26,20 @@ taken_after l b e =
     else b)
 
 -- The last event on lock l is an acquire.
-abbrev pub taken : Trace → ℕ → Bool
-taken s l = fold (taken_after l) false s
+abbrev pub is_taken : Trace → ℕ → Bool
+is_taken s l = fold (taken_after l) false s
 
 -- The operation acquires a lock whose last event is an acquire.
 abbrev pub acquires_taken : Trace → Op → Bool
-acquires_taken s (Acquire l) = taken s l
+acquires_taken s (Acquire l) = is_taken s l
 acquires_taken s _ = false
 
 -- The definitions without inner acquires agree with the present ones on the trace.
 pub record AgreesWithFormer (s : Trace) : Type 0 where
-  pub well_formed : former_lawful.IsWellFormed s
-  pub reorderings : (order : List ℕ) → former_reordering.IsReordering s order ↔ IsReordering s order
-  pub dependencies_are : former_dependencies.dependencies s ≡ dependencies s
-  pub row : (row : Row) → former_rows.IsRow s row ↔ IsRow s row
+  pub well_formed : former_lawful.IsFormerWellFormed s
+  pub reorderings : (order : List ℕ) →
+      former_reordering.IsFormerReordering s order ↔ IsReordering s order
+  pub dependencies_are : former_dependencies.former_dependencies s ≡ dependencies s
+  pub row : (row : Row) → former_rows.IsFormerRow s row ↔ IsRow s row
   pub rows : (bound root : ℕ) (rows : List Row) →
-      former_rows.AreRows s bound root rows ↔ AreRows s bound root rows
+      former_rows.AreFormerRows s bound root rows ↔ AreRows s bound root rows

@@ -12,12 +12,12 @@ abbrev pub ThreadTable : Type 0
 ThreadTable = List (ℕ × ThreadEntry)
 
 -- The state of a thread that no event names.
-abbrev pub unknown : ThreadEntry
-unknown = record { forked = false; joined = false; held = 0 }
+abbrev pub unknown_thread : ThreadEntry
+unknown_thread = record { forked = false; joined = false; held = 0 }
 
 -- The state of the thread in the table.
 abbrev pub thread_in : ThreadTable → ℕ → ThreadEntry
-thread_in m t = unwrap_or (lookup (nat_eq t) m) unknown
+thread_in m t = unwrap_or (lookup (nat_eq t) m) unknown_thread
 
 -- The thread has an entry.
 abbrev pub HasThread : ThreadTable → ℕ → Type 0
@@ -25,15 +25,15 @@ HasThread m t = IsSome (lookup (nat_eq t) m)
 
 -- The number of held locks after the operation, if it was n before and the depth of its lock was
 -- `depth`.
-abbrev pub count_after : ℕ → Op → ℕ → ℕ
-count_after depth (Acquire l) n = if depth == 0 then n + 1 else n
-count_after depth (Release l) n = if nat_le depth 1 then n - 1 else n
-count_after depth _ n = n
+abbrev pub held_count_after : ℕ → Op → ℕ → ℕ
+held_count_after depth (Acquire l) n = if depth == 0 then n + 1 else n
+held_count_after depth (Release l) n = if nat_le depth 1 then n - 1 else n
+held_count_after depth _ n = n
 
 -- The state of thread t after event e, if it was x before and the depth of the lock was `depth`.
 abbrev pub thread_after : ℕ → Event → ℕ → ThreadEntry → ThreadEntry
 thread_after depth e t x = record {
   forked = x.forked || op_eq e.op (Fork t);
   joined = x.joined || op_eq e.op (Join t);
-  held = if e.thread == t then count_after depth e.op x.held else x.held;
+  held = if e.thread == t then held_count_after depth e.op x.held else x.held;
 }

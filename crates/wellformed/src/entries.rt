@@ -3,7 +3,7 @@ ghost use Rattle.std.specs.Prelude.{◌≡◌, ◌+◌, ◌<◌, ◌^◌, ℕ, O
 ghost use Rattle.wellformed.specs.Owners.{owner_in, op_owner};
 ghost use Rattle.wellformed.specs.Threads.{thread_in, thread_after, HasThread};
 ghost use Rattle.wellformed.specs.Tables.{HasOpThread, HasOpLock};
-ghost use Rattle.trace_model.specs.Theory.Holders.{owner_after, owned, released};
+ghost use Rattle.trace_model.specs.Theory.Holders.{owner_after, owner_depth, owner_after_release};
 ghost use Rattle.trace_model.specs.declared.limits.TheConstants.{MAX_DEPTH};
 
 use crate::owners::{Owners, owner_of};
@@ -23,7 +23,7 @@ pub fn owner_of_op(owners: &Owners, op: Op) -> Option<Owner>
 
 /// Returns the depth of the owner, 0 for a free lock.
 pub fn depth_of(owner: Option<Owner>) -> u8
-    ensures { result ≡ owned owner }
+    ensures { result ≡ owner_depth owner }
 {
     match owner {
         Some(owner) => owner.depth,
@@ -33,7 +33,7 @@ pub fn depth_of(owner: Option<Owner>) -> u8
 
 /// Returns the owner after one release.
 fn released_once(owner: Option<Owner>) -> Option<Owner>
-    ensures { result ≡ released owner }
+    ensures { result ≡ owner_after_release owner }
 {
     match owner {
         Some(owner) if owner.depth > 1 => Some(Owner {
@@ -49,7 +49,7 @@ fn released_once(owner: Option<Owner>) -> Option<Owner>
 pub fn record_lock(owners: &mut Owners, event: &Event, was: Option<Owner>)
     requires entry { HasOpLock owners.old event.now.op }
     requires was { was ≡ op_owner owners.old event.now.op }
-    requires room { (lock : ℕ) → event.now.op ≡ Op.Acquire lock → owned was < MAX_DEPTH }
+    requires room { (lock : ℕ) → event.now.op ≡ Op.Acquire lock → owner_depth was < MAX_DEPTH }
     ensures { (lock : ℕ) → owner_in owners.new lock ≡
         owner_after lock (owner_in owners.old lock) event.now }
 {

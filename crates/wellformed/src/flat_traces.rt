@@ -1,7 +1,7 @@
 //! Traces without inner acquires.
 ghost use Rattle.std.specs.Prelude.{◌≡◌, ◌↔◌, IsTrue};
 ghost use Rattle.trace_model.specs.Theory.Lawful.{IsWellFormed};
-ghost use Rattle.wellformed.specs.Flat.{acquires_taken, taken, AgreesWithFormer, IsFlat};
+ghost use Rattle.wellformed.specs.Flat.{acquires_taken, is_taken, AgreesWithFormer, IsFlat};
 
 use trace_model::{Event, Op};
 
@@ -39,7 +39,7 @@ fn acquires_taken(before: &[Event], op: Op) -> bool
 /// Returns whether the last event on the lock is an acquire. Searches from the end, since the event
 /// is mostly near it.
 fn is_taken(before: &[Event], lock: u32) -> bool
-    ensures { result ≡ taken before.now lock }
+    ensures { result ≡ is_taken before.now lock }
 {
     let mut rest = before;
     while let Some((last, front)) = rest.split_last() {

@@ -4,16 +4,16 @@ ghost use Rattle.std.specs.Prelude.{◌≡◌, ◌≢◌, ◌≤◌, length, Non
 ghost use Rattle.std.specs.Result.{result_err};
 ghost use Rattle.trace_model.specs.declared.limits.TheConstants.{MAX_EVENTS};
 ghost use Rattle.trace_model.specs.Theory.Lawful.{refusal_of, IsWellFormed};
-ghost use Rattle.wellformed.specs.Gate.{with_event};
+ghost use Rattle.wellformed.specs.Gate.{admitted_with};
 
-use crate::GateTables;
+use crate::AdmissionTables;
 use std::alloc::Global;
 use std::hash::RandomState;
 use std::marker::Model;
 use trace_model::{Event, NoMemory, Refusal};
 
 /// The recorded events, each lawful after the events before it, and the reserved event. Part of the
-/// public API; not called by the program, which uses [`GateTables`].
+/// public API; not called by the program, which uses [`AdmissionTables`].
 ///
 /// Contracts see the limit, the events and the reserved event.
 #[derive(Drop)]
@@ -21,15 +21,15 @@ pub struct Gate {
     limit: usize,
     events: Vec<Event>,
     reserved: Option<Event>,
-    tables: GateTables,
+    tables: AdmissionTables,
 }
 
 impl Model for Gate {
     ghost use Rattle.std.specs.Prelude.{vec_len, vec_capacity};
-    ghost use Rattle.wellformed.specs.Gate.{Admitted};
-    ghost use Rattle.wellformed.specs.Tables.{IsKept};
+    ghost use Rattle.wellformed.specs.Gate.{GateView};
+    ghost use Rattle.wellformed.specs.Tables.{IsRightGate};
 
-    ghost Value = { Admitted };
+    ghost Value = { GateView };
 
     ghost view = { λ g. record {
       limit = g.limit;
@@ -37,7 +37,7 @@ impl Model for Gate {
       reserved = g.reserved;
     } };
 
-    ghost invariant = { λ g. IsKept g.limit g.events.items g.reserved
+    ghost invariant = { λ g. IsRightGate g.limit g.events.items g.reserved
         (vec_len g.events, vec_capacity g.events) g.tables };
 }
 
@@ -52,7 +52,7 @@ impl Gate {
             limit: max_events,
             events: Vec::new(alloc),
             reserved: None,
-            tables: GateTables::new(alloc, state),
+            tables: AdmissionTables::new(alloc, state),
         }
     }
 
@@ -98,7 +98,7 @@ impl Gate {
     pub fn record(&mut self, event: &Event)
         requires reserved { self.old.reserved ≡ Some event.now }
         requires lawful { refusal_of self.old.limit self.old.events event.now ≡ None }
-        ensures { self.new ≡ with_event self.old event.now }
+        ensures { self.new ≡ admitted_with self.old event.now }
     {
         self.tables.record(event);
         self.events.push_reserved(*event);

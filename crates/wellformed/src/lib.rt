@@ -1,8 +1,9 @@
-//! The gate: decides which events may follow the recorded ones.
+//! The admission check: decides which events may follow the recorded ones.
 //!
-//! [`GateTables`] has what the gate needs of the recorded events. `check` returns exactly the first
-//! refusal that applies, `reserve` allocates for an event, and `record` adds it without allocating.
-//! [`first_unlawful`] checks a whole list. Start reading at [`GateTables`].
+//! [`AdmissionTables`] has what the admission check needs of the recorded events. `check` returns
+//! exactly the first refusal that applies, `reserve` allocates for an event, and `record` adds it
+//! without allocating. [`first_unlawful`] checks a whole list. Start reading at
+//! [`AdmissionTables`].
 //!
 //! Public API that the program does not call: [`Gate`], the gate with its list of events, and
 //! [`flat`], which tests that a trace has no inner acquire.
@@ -18,5 +19,5 @@ mod whole_lists;
 
 pub use flat_traces::flat;
 pub use gate::Gate;
-pub use tables::GateTables;
+pub use tables::AdmissionTables;
 pub use whole_lists::{FirstUnlawful, first_unlawful};

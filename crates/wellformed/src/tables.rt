@@ -1,14 +1,14 @@
-//! The tables of the gate.
+//! The tables of the admission check.
 
 ghost use Rattle.std.specs.Prelude.{◌≡◌, ◌+◌, ◌<◌, ◌^◌, cond, length, None, [], ◌∷◌, ◌++◌, OnErr, OnOk};
 ghost use Rattle.std.specs.Result.{result_err};
 ghost use Rattle.trace_model.specs.declared.limits.TheConstants.{MAX_EVENTS};
 ghost use Rattle.trace_model.specs.declared.traces.event.Event.{Event as EventValue};
 ghost use Rattle.trace_model.specs.Theory.Trace.{Trace};
-ghost use Rattle.trace_model.specs.Theory.Held.{depth, held};
+ghost use Rattle.trace_model.specs.Theory.Held.{depth, held_set};
 ghost use Rattle.trace_model.specs.Theory.Holders.{depth_by, is_other_owner};
 ghost use Rattle.trace_model.specs.Theory.Lawful.{is_fork, held_by_other, op_refusal_of, refusal_of};
-ghost use Rattle.wellformed.specs.Tables.{FollowEvents, HasRoomFor, IsLawfulNext};
+ghost use Rattle.wellformed.specs.Tables.{FollowEvents, HasAdmissionRoom, IsLawfulForGate};
 
 use crate::entries::{
     depth_of, owner_of_op, record_lock, record_thread, reserve_lock, reserve_threads,
@@ -27,24 +27,24 @@ struct Holder {
     other: bool,
 }
 
-/// The facts of the recorded events that the gate needs: the number of events and of forks, the
-/// state of each thread, and the owner of each lock.
+/// The facts of the recorded events that the admission check needs: the number of events and of
+/// forks, the state of each thread, and the owner of each lock.
 ///
 /// The events themselves are not stored here.
 #[derive(Drop)]
-pub struct GateTables {
+pub struct AdmissionTables {
     count: usize,
     forks: usize,
     threads: Threads,
     owners: Owners,
 }
 
-impl GateTables {
+impl AdmissionTables {
     /// Returns the tables of the empty trace. Does not allocate.
-    pub fn new(alloc: Global, state: RandomState) -> GateTables
+    pub fn new(alloc: Global, state: RandomState) -> AdmissionTables
         ensures { FollowEvents result [] }
     {
-        GateTables {
+        AdmissionTables {
             count: 0,
             forks: 0,
             threads: NumberMap::new(alloc, state),
@@ -117,7 +117,7 @@ impl GateTables {
     /// Tests an acquire of `lock` by `thread`, which holds `count` locks.
     fn check_acquire(&self, thread: u32, lock: u32, count: u32) -> Result<(), Refusal>
         ensures { (s : Trace) → FollowEvents self.now s →
-            count ≡ length (held s (length s) thread) →
+            count ≡ length (held_set s (length s) thread) →
             result_err result ≡ op_refusal_of s thread (Op.Acquire lock) }
     {
         let holder = self.holder(thread, lock);
@@ -163,9 +163,10 @@ impl GateTables {
     #[inline(always)]
     pub fn reserve(&mut self, event: &Event) -> Result<(), NoMemory>
         ensures follow { (s : Trace) → FollowEvents self.old s → FollowEvents self.new s }
-        ensures ok { OnOk result (HasRoomFor self.new event.now) }
-        ensures kept { (e : EventValue) → HasRoomFor self.old e → HasRoomFor self.new e }
-        ensures wanting { OnErr result (¬ HasRoomFor self.old event.now) }
+        ensures ok { OnOk result (HasAdmissionRoom self.new event.now) }
+        ensures kept { (e : EventValue) → HasAdmissionRoom self.old e →
+            HasAdmissionRoom self.new e }
+        ensures wanting { OnErr result (¬ HasAdmissionRoom self.old event.now) }
     {
         reserve_threads(&mut self.threads, event)?;
         reserve_lock(&mut self.owners, event)
@@ -175,8 +176,8 @@ impl GateTables {
     /// allocate.
     #[inline(always)]
     pub fn record(&mut self, event: &Event)
-        requires room { HasRoomFor self.old event.now }
-        requires lawful { IsLawfulNext self.old event.now }
+        requires room { HasAdmissionRoom self.old event.now }
+        requires lawful { IsLawfulForGate self.old event.now }
         ensures { (s : Trace) → FollowEvents self.old s → refusal_of MAX_EVENTS s event.now ≡ None →
             FollowEvents self.new (s ++ event.now ∷ []) }
     {

@@ -1,6 +1,6 @@
 //! The state of each thread.
 ghost use Rattle.std.specs.Prelude.{◌≡◌};
-ghost use Rattle.wellformed.specs.Threads.{thread_in, unknown};
+ghost use Rattle.wellformed.specs.Threads.{thread_in, unknown_thread};
 
 use number_map::NumberMap;
 

@@ -1,9 +1,9 @@
-//! Whole lists of events through the gate.
+//! Whole lists of events through the admission check.
 
 ghost use Rattle.std.specs.Prelude.{IfOk};
 ghost use Rattle.wellformed.specs.FirstUnlawful.{IsPassage};
 
-use crate::tables::GateTables;
+use crate::tables::AdmissionTables;
 use std::alloc::Global;
 use std::hash::RandomState;
 use trace_model::{Event, MAX_EVENTS, NoMemory, Refusal};
@@ -30,13 +30,13 @@ pub fn first_unlawful(
 ) -> Result<Option<FirstUnlawful>, NoMemory>
     ensures { IfOk result (IsPassage events.now) }
 {
-    let mut gate = GateTables::new(alloc, state);
+    let mut tables = AdmissionTables::new(alloc, state);
     for (index, event) in events.iter().enumerate() {
-        if let Err(refusal) = gate.check(MAX_EVENTS, event) {
+        if let Err(refusal) = tables.check(MAX_EVENTS, event) {
             return Ok(Some(FirstUnlawful { index, refusal }));
         }
-        gate.reserve(event)?;
-        gate.record(event);
+        tables.reserve(event)?;
+        tables.record(event);
     }
     Ok(None)
 }

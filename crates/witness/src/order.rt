@@ -1,10 +1,10 @@
 //! Writes the witness of an instance from the fronts of its closure.
 
 ghost use Rattle.std.specs.Prelude.{◌≡◌, List, ℕ, length, IfOk};
-ghost use Rattle.trace_model.specs.Theory.Closure.{IsClosure, ascending};
-ghost use Rattle.trace_model.specs.Theory.Reordering.{Reached};
+ghost use Rattle.trace_model.specs.Theory.Closure.{IsClosure, ascending_places};
+ghost use Rattle.trace_model.specs.Theory.Reordering.{AreReached};
 ghost use Rattle.trace_model.specs.Theory.Rows.{IsWitness};
-ghost use Rattle.fronts.specs.State.{places_in};
+ghost use Rattle.fronts.specs.State.{included_set};
 
 use fronts::Fronts;
 use std::alloc::Global;
@@ -26,10 +26,11 @@ pub fn write_witness(
     fronts: &Fronts,
 ) -> Result<Vec<Place>, NoMemory>
     ensures ascends { IfOk result
-        (λ order. order.items ≡ ascending (places_in fronts.now) (length index.now.events)) }
+        (λ order. order.items
+        ≡ ascending_places (included_set fronts.now) (length index.now.events)) }
     ensures smallest { IfOk result (λ order. (places : List ℕ) →
-        IsClosure index.now.events places (places_in fronts.now) →
-        Reached index.now.events places →
+        IsClosure index.now.events places (included_set fronts.now) →
+        AreReached index.now.events places →
         IsWitness index.now.events places order.items) }
 {
     let len = index.len();

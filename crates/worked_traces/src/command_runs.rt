@@ -1,6 +1,6 @@
 //! Runs a case by the function of its command.
-ghost use Rattle.command_line.specs.CommandLine.{IsInRange};
-ghost use Rattle.sequencer.specs.Book.{IsLimit};
+ghost use Rattle.command_line.specs.CommandLine.{HasNumbersInRange};
+ghost use Rattle.sequencer.specs.Book.{IsBookLimit};
 
 use anyhow::{Context, Result, bail};
 use command_line::Invocation;
@@ -33,7 +33,7 @@ impl Outcome {
     }
 
     fn script(&mut self, rt: &HostRuntime, file: &str, limit: u32) -> io::Result<()>
-        requires { IsLimit limit }
+        requires { IsBookLimit limit }
     {
         let state = RandomState::new(rt)?;
         let bytes = fs::read(rt, file)?;
@@ -85,15 +85,14 @@ impl Outcome {
     }
 }
 
-/// Returns what `explain` prints for the trace in the bytes: all its cycles, or one of them.
+/// Returns what `explain` prints for the trace: all its cycles, or one of them.
 ///
 /// # Errors
 /// Fails if an allocation fails.
 pub(crate) fn explained<T: Threads>(
     rt: &HostRuntime,
     threads: &T,
-    file: &str,
-    bytes: &[u8],
+    file: NamedFile<'_>,
     bound: Bound,
     cycle: &Option<Cycle>,
 ) -> io::Result<Outcome> {
@@ -101,7 +100,7 @@ pub(crate) fn explained<T: Threads>(
     let state = RandomState::new(rt)?;
     let mut outcome = Outcome::new(alloc);
     let (out, err) = (&mut outcome.out, &mut outcome.err);
-    outcome.status = run_explain(threads, alloc, state, file, bytes, bound, cycle, out, err);
+    outcome.status = run_explain(threads, alloc, state, file, bound, cycle, out, err);
     Ok(outcome)
 }
 
@@ -121,6 +120,41 @@ pub(crate) fn checked(
     Ok(outcome)
 }
 
+/// Runs `explain` over the file with this name: all cycles, or the one that the words name.
+fn explain<T: Threads>(
+    rt: &HostRuntime,
+    threads: &T,
+    file: &str,
+    bound: Bound,
+    words: Option<&str>,
+) -> Result<Outcome> {
+    let cycle = match words {
+        Some(words) => Some(cycle_of(rt.alloc(), words.as_bytes())?.context("a cycle")?),
+        None => None,
+    };
+    let bytes = fs::read(rt, file)?;
+    let file = NamedFile {
+        name: file,
+        bytes: &bytes,
+    };
+    Ok(explained(rt, threads, file, bound, &cycle)?)
+}
+
+/// Runs `check` over the files with these names.
+fn check(rt: &HostRuntime, trace: &str, file: &str) -> io::Result<Outcome> {
+    let events = fs::read(rt, trace)?;
+    let cycles = fs::read(rt, file)?;
+    let trace = NamedFile {
+        name: trace,
+        bytes: &events,
+    };
+    let file = NamedFile {
+        name: file,
+        bytes: &cycles,
+    };
+    checked(rt, trace, file)
+}
+
 /// Runs a command line. A report is computed on threads of `threads`.
 ///
 /// # Errors
@@ -130,7 +164,7 @@ pub(crate) fn run<T: Threads + Sync>(
     threads: &T,
     invocation: &Invocation<'_>,
 ) -> Result<Outcome>
-    requires { IsInRange invocation.now }
+    requires { HasNumbersInRange invocation.now }
 {
     let mut outcome = Outcome::new(rt.alloc());
     match invocation {
@@ -146,26 +180,9 @@ pub(crate) fn run<T: Threads + Sync>(
             let Some(bound) = Bound::new(*bound as u8) else {
                 unreachable!()
             };
-            let cycle = match cycle {
-                Some(words) => Some(cycle_of(rt.alloc(), words.as_bytes())?.context("a cycle")?),
-                None => None,
-            };
-            let bytes = fs::read(rt, *file)?;
-            return Ok(explained(rt, threads, file, &bytes, bound, &cycle)?);
+            return explain(rt, threads, file, bound, *cycle);
         }
-        Invocation::Check { trace, file } => {
-            let events = fs::read(rt, *trace)?;
-            let cycles = fs::read(rt, *file)?;
-            let trace = NamedFile {
-                name: trace,
-                bytes: &events,
-            };
-            let file = NamedFile {
-                name: file,
-                bytes: &cycles,
-            };
-            return Ok(checked(rt, trace, file)?);
-        }
+        Invocation::Check { trace, file } => return Ok(check(rt, trace, file)?),
         Invocation::Serve { .. } => bail!("no case is a server"),
     }
     Ok(outcome)

@@ -19,8 +19,8 @@ pub(crate) fn are_valid(rt: &HostRuntime, trace: &[u8], text: &[u8]) -> Result<b
     Ok(checked(rt, trace, file)?.status == Status::Done)
 }
 
-/// Returns whether `explain` prints the first line and the rows of the report, and the checker accepts
-/// what it prints.
+/// Returns whether `explain` prints the first line and the rows of the report, and the checker
+/// accepts what it prints.
 pub(crate) fn are_explained<T: Threads>(
     rt: &HostRuntime,
     threads: &T,
@@ -28,7 +28,11 @@ pub(crate) fn are_explained<T: Threads>(
     bound: Bound,
     report: &[u8],
 ) -> Result<bool> {
-    let outcome = explained(rt, threads, "the trace", trace, bound, &None)?;
+    let trace = NamedFile {
+        name: "the trace",
+        bytes: trace,
+    };
+    let outcome = explained(rt, threads, trace, bound, &None)?;
     let report = str::from_utf8(report).ok().context("a report in text")?;
     let text = str::from_utf8(&outcome.out).ok().context("cycles in text")?;
     let mut rows = String::new(rt.alloc());
@@ -42,5 +46,5 @@ pub(crate) fn are_explained<T: Threads>(
             rows.push_str("\n")?;
         }
     }
-    Ok(rows.as_str() == report && are_valid(rt, trace, &outcome.out)?)
+    Ok(rows.as_str() == report && are_valid(rt, trace.bytes, &outcome.out)?)
 }

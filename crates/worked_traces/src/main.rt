@@ -4,7 +4,7 @@
 //! of `data` is a command; `sessions` is a run of sessions. Start with `main`.
 #![tactic(auto)]
 
-ghost use Rattle.command_line.specs.CommandLine.{IsInRange};
+ghost use Rattle.command_line.specs.CommandLine.{HasNumbersInRange};
 
 mod case;
 mod command_runs;
@@ -54,7 +54,7 @@ fn fault_in_other_ways<T: Threads>(
     invocation: &Invocation<'_>,
     outcome: &Outcome,
 ) -> Result<Option<&'static str>>
-    requires { IsInRange invocation.now }
+    requires { HasNumbersInRange invocation.now }
 {
     match invocation {
         Invocation::Offline { file, bound } if outcome.status == Status::Done => {
@@ -94,7 +94,7 @@ fn fault_in_invocation<T: Threads + Sync>(
     case: Case<'_>,
     invocation: &Invocation<'_>,
 ) -> Result<Option<&'static str>>
-    requires { IsInRange invocation.now }
+    requires { HasNumbersInRange invocation.now }
 {
     let outcome = run(rt, threads, invocation)?;
     match difference_in(rt, case, &outcome)? {

@@ -1,6 +1,6 @@
 //! Runs cases of sessions: pieces of bytes, ends of sessions, and findings in one run.
 use anyhow::{Context, Result, bail};
-use event_files::{event, lines_of, number, words_of};
+use event_files::{event, lines_of, parse_number, words_of};
 use findings::{Finding, Snapshot};
 use sequencer::{Book, Delivered, Input, Played, Session, play};
 use std::alloc::Global;
@@ -12,7 +12,7 @@ use trace_model::{Bound, MAX_EVENTS, refusal_name};
 
 /// Returns the session with this number, 0 to 63.
 fn session_of(word: &[u8]) -> Result<Session> {
-    let index = u8::try_from(number(word).context("a number")?)?;
+    let index = u8::try_from(parse_number(word).context("a number")?)?;
     Session::new(index).context("a session is 0 to 63")
 }
 
@@ -91,9 +91,9 @@ fn finding_in(rt: &HostRuntime, words: &[&[u8]]) -> Result<Input> {
         bail!("a finding has a question, a bound and a task");
     };
     let mut key = [0u32; 3];
-    key[0] = number(question).context("a question")?;
-    key[1] = number(bound).context("a bound")?;
-    key[2] = number(task).context("a task")?;
+    key[0] = parse_number(question).context("a question")?;
+    key[1] = parse_number(bound).context("a bound")?;
+    key[2] = parse_number(task).context("a task")?;
     Ok(Input::Finding(finding_of(rt, key, events)?))
 }
 
@@ -102,7 +102,7 @@ fn limit_in(words: &[&[u8]]) -> Result<u32> {
     let [limit] = words else {
         bail!("a limit is one number");
     };
-    number(limit).context("a number")
+    parse_number(limit).context("a number")
 }
 
 /// Returns the input of a line that begins with this keyword.

@@ -5,7 +5,7 @@ ghost use Rattle.commands.specs.ScriptFile.{AddsLine, IsNotUnderstood, IsScriptO
 ghost use Rattle.commands.specs.declared.script_command.reading.Command.TheVariants.{Offer};
 
 use crate::exit::CommandError;
-use event_files::{lines_of, number, push_events, words_of};
+use event_files::{lines_of, parse_number, push_events, words_of};
 use std::alloc::Global;
 use std::str;
 use trace_model::{Event, EventBatch, NoMemory};
@@ -50,8 +50,8 @@ fn delivery(keyword: &[u8], question: &[u8], task: &[u8]) -> Option<Command>
 {
     match str::from_utf8(keyword).ok()? {
         "deliver" => Some(Command::Deliver {
-            question: number(question)?,
-            task: number(task)?,
+            question: parse_number(question)?,
+            task: parse_number(task)?,
         }),
         _ => None,
     }
@@ -63,7 +63,7 @@ fn parse_command(words: &[&[u8]]) -> Option<Command>
     ensures none { IfNone result (SaysOnlyEvents (map (λ word. word.now) words.now)) }
 {
     match words {
-        [keyword, about] => command_about(keyword, number(about)?),
+        [keyword, about] => command_about(keyword, parse_number(about)?),
         [keyword, question, task] => delivery(keyword, question, task),
         _ => None,
     }

@@ -2,7 +2,7 @@ use Rattle.std.proofs.Common.{◌≤◌, ◌∙◌, length, true≢false, refl, 
 use Rattle.std.proofs.lemmas.List.{take_all}
 use Rattle.std.proofs.lemmas.List.Elements.{All-more}
 use Rattle.std.specs.List.{All}
-use Rattle.dependencies.specs.Tables.{known}
+use Rattle.dependencies.specs.Tables.{table_dependencies}
 use Rattle.guards.specs.Compatible.{NumbersApart}
 use Rattle.guards.proofs.compatible.Goals as goal
 
@@ -14,10 +14,10 @@ returns-then-not-numbers_apart c = (
 
 pub loop-member-preserved : goal.loop-member-preserved
 loop-member-preserved c =
-    All-more (λ m. NumbersApart (known c.args.table.now) m c.args.number) c.args.members.now c.loop-member.member-index 0 c.loop-member-test.true
+    All-more (λ m. NumbersApart (table_dependencies c.args.table.now) m c.args.number) c.args.members.now c.loop-member.member-index 0 c.loop-member-test.true
     c.loop-member.invariant (c.numbers_apart.ensures.0 c.if-not-numbers_apart.false)
 
 pub returns : goal.returns
 returns c =
     let end : length c.args.members.now ≤ c.loop-member.member-index = omega arith in
-    ((λ t. subst (All (λ m. NumbersApart (known c.args.table.now) m c.args.number)) (take_all c.loop-member.member-index c.args.members.now end) c.loop-member.invariant), (λ h. refl))
+    ((λ t. subst (All (λ m. NumbersApart (table_dependencies c.args.table.now) m c.args.number)) (take_all c.loop-member.member-index c.args.members.now end) c.loop-member.invariant), (λ h. refl))

@@ -113,21 +113,21 @@ fn no_task_goes_on_over_the_limit(rt: HostRuntime) -> Result<(), Fail> {
         let notes = Notes::new();
         let total = offline.tasks();
         let parts = parts_within(&rt, rt.alloc(), &offline.analysis, total, &notes, limit)?;
-        assert_eq!(rt; parts.len(), 8);
-        assert_eq!(rt; are_whole(&parts), tasks == 255);
-        assert_eq!(rt; (limit, notes.tasks()), (limit, tasks));
+        assert_eq!(rt; parts.len(), 8, "limit {limit}");
+        assert_eq!(rt; are_whole(&parts), tasks == 255, "limit {limit}");
+        assert_eq!(rt; notes.tasks(), tasks, "limit {limit}");
     }
     Ok(())
 }
 
 /// Computes task 0 on a piece without a job, as if the memory for it was refused, and then task 1
-/// on a piece with one. Returns whether both lack memory.
-fn both_lack_memory<A: About + Send + Sync>(
+/// on a piece with one. Returns both refusals, `None` for a task that is computed.
+fn refusals_without_memory<A: About + Send + Sync>(
     alloc: Global,
     analysis: &Arc<Analysis, Global>,
     hold: &Notes,
     limit: u64,
-) -> bool
+) -> [Option<OfflineRefused>; 2]
     requires events { (arc_value analysis.now).events ≡ A.events }
     requires bound { (arc_value analysis.now).bound ≡ A.bound }
     requires limit { limit ≡ A.limit }
@@ -150,15 +150,21 @@ fn both_lack_memory<A: About + Send + Sync>(
     let mut piece = question.piece();
     let first = question.compute(&mut without_job, 0);
     let second = question.compute(&mut piece, 1);
-    matches!(first, Err(OfflineRefused::NoMemory))
-        && matches!(second, Err(OfflineRefused::NoMemory))
+    [first.err(), second.err()]
 }
 
 #[test]
 fn no_task_begins_after_a_failed_allocation(rt: HostRuntime) -> Result<(), Fail> {
     let offline = opened(&rt)?;
     let notes = Notes::new();
-    assert!(rt; both_lack_memory::<Brand>(rt.alloc(), &offline.analysis, &notes, u64::MAX));
+    let refused = refusals_without_memory::<Brand>(rt.alloc(), &offline.analysis, &notes, u64::MAX);
+    assert_eq!(rt;
+        refused,
+        [
+            Some(OfflineRefused::NoMemory),
+            Some(OfflineRefused::NoMemory)
+        ]
+    );
     assert_eq!(rt; notes.tasks(), 0);
     Ok(())
 }

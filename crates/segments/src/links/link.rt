@@ -2,8 +2,8 @@
 
 use crate::MaybeIndex;
 
-/// The link of an entry that passes: the number of earlier entries that pass, the index of the last
-/// of them, and the index of one further back. The first entry that passes jumps to itself.
+/// The link of an entry that matches: the number of earlier entries that match, the index of the
+/// last of them, and the index of one further back. The first entry that matches jumps to itself.
 #[derive(Clone, Copy)]
 pub struct Link {
     pub number: u32,
@@ -17,14 +17,14 @@ pub trait Linked {
     ghost use Rattle.segments.specs.Linking.{IsLink};
 
     /// The test that entries pass.
-    ghost passes: { Self → ℕ → Bool };
+    ghost matches: { Self → ℕ → Bool };
 
     /// The number of entries.
     ghost size: { Self → ℕ };
 
-    /// Returns the link of an entry that passes.
+    /// Returns the link of an entry that matches.
     fn link_at(&self, index: u32) -> Link
         requires within { index < size self.now }
-        requires passing { passes self.now index ≡ true }
-        ensures { IsLink (passes self.now) index result };
+        requires passing { matches self.now index ≡ true }
+        ensures { IsLink (matches self.now) index result };
 }

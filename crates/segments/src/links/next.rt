@@ -12,10 +12,10 @@ use crate::links::link::{Link, Linked};
 /// a path of jumps has few steps.
 fn further<L: Linked>(list: &L, index: u32, link: Link, number: u32) -> u32
     requires within { index < L.size list.now }
-    requires passing { L.passes list.now index ≡ true }
-    requires link { IsLink (L.passes list.now) index link }
+    requires passing { L.matches list.now index ≡ true }
+    requires link { IsLink (L.matches list.now) index link }
     ensures within { result ≤ index }
-    ensures passes { L.passes list.now result ≡ true }
+    ensures matches { L.matches list.now result ≡ true }
 {
     let rounds = number.trailing_zeros();
     if rounds == 0 {
@@ -28,13 +28,13 @@ fn further<L: Linked>(list: &L, index: u32, link: Link, number: u32) -> u32
     jump
 }
 
-/// Returns the link of the next entry, if it passes. `last` is the last entry that passes, and
+/// Returns the link of the next entry, if it matches. `last` is the last entry that matches, and
 /// `index` is the length of the list.
 #[inline(always)]
 pub fn link_after<L: Linked>(list: &L, last: Option<u32>, index: u32) -> Link
-    requires last { last ≡ last_place (L.passes list.now) (L.size list.now) }
+    requires last { last ≡ last_place (L.matches list.now) (L.size list.now) }
     requires index { index ≡ L.size list.now }
-    ensures { IsLink (L.passes list.now) index result }
+    ensures { IsLink (L.matches list.now) index result }
 {
     let Some(before) = last else {
         return Link {

@@ -10,11 +10,11 @@ use crate::links::link::Linked;
 /// one.
 fn entry_before<L: Linked>(list: &L, from: u32, number: u32) -> u32
     requires within { from < L.size list.now }
-    requires passing { L.passes list.now from ≡ true }
-    requires number { number ≤ count_below (L.passes list.now) from }
+    requires passing { L.matches list.now from ≡ true }
+    requires number { number ≤ count_below (L.matches list.now) from }
     ensures within { result < L.size list.now }
-    ensures passes { L.passes list.now result ≡ true }
-    ensures number { count_below (L.passes list.now) result ≡ number }
+    ensures matches { L.matches list.now result ≡ true }
+    ensures number { count_below (L.matches list.now) result ≡ number }
 {
     let mut index = from;
     let mut link = list.link_at(index);
@@ -37,12 +37,12 @@ fn entry_before<L: Linked>(list: &L, from: u32, number: u32) -> u32
 /// Returns the passing entry that `number` passing entries precede. `last` is the last passing
 /// entry.
 pub fn entry_at<L: Linked>(list: &L, last: Option<u32>, number: usize) -> u32
-    requires last { last ≡ last_place (L.passes list.now) (L.size list.now) }
-    requires number { number < count_below (L.passes list.now) (L.size list.now) }
+    requires last { last ≡ last_place (L.matches list.now) (L.size list.now) }
+    requires number { number < count_below (L.matches list.now) (L.size list.now) }
     requires few { L.size list.now ≤ 4294967296 }
     ensures within { result < L.size list.now }
-    ensures passes { L.passes list.now result ≡ true }
-    ensures number { count_below (L.passes list.now) result ≡ number }
+    ensures matches { L.matches list.now result ≡ true }
+    ensures number { count_below (L.matches list.now) result ≡ number }
 {
     let Some(from) = last else { unreachable!() };
     entry_before(list, from, number as u32)
@@ -50,8 +50,8 @@ pub fn entry_at<L: Linked>(list: &L, last: Option<u32>, number: usize) -> u32
 
 /// Returns the number of passing entries. `last` is the last of them.
 pub fn count_passing<L: Linked>(list: &L, last: Option<u32>) -> usize
-    requires { last ≡ last_place (L.passes list.now) (L.size list.now) }
-    ensures { result ≡ count_below (L.passes list.now) (L.size list.now) }
+    requires { last ≡ last_place (L.matches list.now) (L.size list.now) }
+    ensures { result ≡ count_below (L.matches list.now) (L.size list.now) }
 {
     match last {
         Some(last) => list.link_at(last).number as usize + 1,
@@ -62,9 +62,9 @@ pub fn count_passing<L: Linked>(list: &L, last: Option<u32>) -> usize
 /// Returns the last passing entry with an index below `bound`. `last` is the last passing entry of
 /// all.
 pub fn last_below<L: Linked>(list: &L, last: Option<u32>, bound: usize) -> Option<u32>
-    requires last { last ≡ last_place (L.passes list.now) (L.size list.now) }
+    requires last { last ≡ last_place (L.matches list.now) (L.size list.now) }
     requires within { bound ≤ L.size list.now }
-    ensures { result ≡ last_place (L.passes list.now) bound }
+    ensures { result ≡ last_place (L.matches list.now) bound }
 {
     let mut at = last;
     while let Some(index) = at {

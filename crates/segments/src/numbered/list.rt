@@ -14,11 +14,11 @@ pub struct PlacesOf<'a> {
 
 impl<'a> Model for PlacesOf<'a> {
     ghost use Rattle.std.specs.Prelude.{List, ℕ};
-    ghost use Rattle.segments.specs.Notes.{places_in, pairs_of, IsPlacesOf};
+    ghost use Rattle.segments.specs.Notes.{noted_places, pairs_of, IsPlacesOf};
 
     ghost Value = { List ℕ };
 
-    ghost view = { λ v. places_in (pairs_of v.list.notes.now.0) v.list.number };
+    ghost view = { λ v. noted_places (pairs_of v.list.notes.now.0) v.list.number };
 
     ghost invariant = { λ v. IsPlacesOf v.list.notes.now.0 v.list.number v.last };
 }

@@ -1,7 +1,7 @@
 //! The linked list of a number.
 
 ghost use Rattle.std.specs.Prelude.{length};
-ghost use Rattle.segments.specs.Notes.{is_of, pairs_of, AreNotes};
+ghost use Rattle.segments.specs.Notes.{is_of_number, pairs_of, AreNotes};
 
 use crate::Segments;
 use crate::links::{Link, Linked};
@@ -16,7 +16,7 @@ pub(crate) struct NumberList<'a> {
 }
 
 impl<'a> Linked for NumberList<'a> {
-    ghost passes = { λ list. is_of (pairs_of list.notes.now.0) list.number };
+    ghost matches = { λ list. is_of_number (pairs_of list.notes.now.0) list.number };
 
     ghost size = { λ list. length list.notes.now.0 };
 

@@ -3,7 +3,7 @@
 ghost use Rattle.std.specs.Prelude.{◌≡◌, ◌≤◌, ◌<◌, ℕ, length, take, slice_get, IfOk};
 ghost use Rattle.std.specs.Option.{option_flatten};
 ghost use Rattle.trace_model.specs.Theory.Trace.{last_place};
-ghost use Rattle.segments.specs.Notes.{is_of, pairs_of, notes_below, Ascend, AreNotes, AreHeads};
+ghost use Rattle.segments.specs.Notes.{is_of_number, pairs_of, notes_below, Ascend, AreNotes, AreHeads};
 
 use crate::Segments;
 use crate::links::last_below;
@@ -66,7 +66,7 @@ pub(crate) fn heads_below(
     requires few { length heads.now ≤ 4294967296 }
     ensures len { IfOk result (λ below. length below.items ≡ length heads.now) }
     ensures heads { IfOk result (λ below. (m : ℕ) → m < length heads.now →
-        slice_get below.items m ≡ Some (last_place (is_of (pairs_of notes.now.0) m) count)) }
+        slice_get below.items m ≡ Some (last_place (is_of_number (pairs_of notes.now.0) m) count)) }
 {
     let mut below = Vec::with_capacity(alloc, heads.len())?;
     for number in 0..heads.len() {

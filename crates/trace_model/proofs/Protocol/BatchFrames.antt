@@ -12,7 +12,7 @@ use Rattle.trace_model.specs.declared.traces.event.Op.{Op}
 use Rattle.trace_model.specs.declared.traces.event.Op.TheVariants.{Fork, Join, Acquire, Release, Read, Write}
 use Rattle.trace_model.specs.declared.messages.session.Fault.{Fault}
 use Rattle.trace_model.specs.declared.messages.session.Fault.TheVariants.{BadBatch}
-use Rattle.trace_model.specs.Protocol.Frames.{kind_of, object_of, event_bytes, IsInRange, is_batch_length, is_event_kind, cells_fault, batch_fault, fields_fault, op_of, event_of, events_of, IsBytes}
+use Rattle.trace_model.specs.Protocol.Frames.{kind_of, object_of, event_bytes, FitsWords, is_batch_length, is_event_kind, cells_fault, batch_fault, fields_fault, op_of, event_of, events_in, IsBytes}
 use Rattle.trace_model.proofs.Protocol.Bytes.{IsBytes-drop, IsBytes-take, word_again, word_takes, word_below}
 
 -- ---- what was written is read again
@@ -33,7 +33,7 @@ is_kind_of (Release lock) = refl
 is_kind_of (Read variable) = refl
 is_kind_of (Write variable) = refl
 
-cell_again : (e : Event) (rest : List ℕ) → IsInRange e → event_of (event_bytes e ++ rest) ≡ e
+cell_again : (e : Event) (rest : List ℕ) → FitsWords e → event_of (event_bytes e ++ rest) ≡ e
 cell_again e rest (t, o) =
     ap (λ (n : ℕ). record { thread = n; op = op_of (kind_of e.op) (from_be_bytes w32 (to_be_bytes w32 (object_of e.op))) }) (word_again e.thread t)
     ∙ ap (λ (n : ℕ). record { thread = e.thread; op = op_of (kind_of e.op) n }) (word_again (object_of e.op) o)
@@ -41,11 +41,11 @@ cell_again e rest (t, o) =
 
 -- the bytes of these events, in any continuation
 pub record AreAgain (es : List Event) (rest : List ℕ) : Type 0 where
-  pub events : events_of (length es) (flat_map event_bytes es ++ rest) ≡ es
+  pub events : events_in (length es) (flat_map event_bytes es ++ rest) ≡ es
   pub after : drop (9 * length es) (flat_map event_bytes es ++ rest) ≡ rest
   pub sound : cells_fault (length es) (flat_map event_bytes es ++ rest) ≡ None
 
-pub cells_again : (es : List Event) (rest : List ℕ) → AllByRecursion IsInRange es → AreAgain es rest
+pub cells_again : (es : List Event) (rest : List ℕ) → AllByRecursion FitsWords es → AreAgain es rest
 cells_again [] rest h = record { events = refl; after = refl; sound = refl }
 cells_again (e ∷ es) rest h =
     let others = cells_again es rest h.1 in
@@ -53,7 +53,7 @@ cells_again (e ∷ es) rest h =
     let parts : flat_map event_bytes (e ∷ es) ++ rest ≡ event_bytes e ++ t = ap (λ (x : List ℕ). x ++ rest) (flat_map-cons event_bytes e es) ∙ append_assoc (event_bytes e) (flat_map event_bytes es) rest in
     let nine : 9 * length (e ∷ es) ≡ 9 + 9 * length es = omega arith in
     record {
-      events = ap (events_of (suc (length es))) parts ∙ (ap (λ (x : Event). x ∷ events_of (length es) t) (cell_again e t h.0) ∙ ap (λ (x : List Event). e ∷ x) others.events);
+      events = ap (events_in (suc (length es))) parts ∙ (ap (λ (x : Event). x ∷ events_in (length es) t) (cell_again e t h.0) ∙ ap (λ (x : List Event). e ∷ x) others.events);
       after = (λ i. drop (nine i) (parts i)) ∙ (sym (drop-drop (9 * length es) 9 (event_bytes e ++ t)) ∙ others.after);
       sound = ap (cells_fault (suc (length es))) parts ∙ (ap (λ (b : Bool). cond b (cells_fault (length es) t) (Some BadBatch)) (is_kind_of e.op) ∙ others.sound);
     }
@@ -83,7 +83,7 @@ eight_cells fields =
 
 -- nine bytes whose kind is that of an event
 cell_takes : (kind : ℕ) (cells : List ℕ) → 1 ≤ kind → kind ≤ 6 → 8 ≤ length cells → IsBytes cells →
-    IsInRange (event_of (kind ∷ cells)) × (event_bytes (event_of (kind ∷ cells)) ++ drop 8 cells ≡ kind ∷ cells)
+    FitsWords (event_of (kind ∷ cells)) × (event_bytes (event_of (kind ∷ cells)) ++ drop 8 cells ≡ kind ∷ cells)
 cell_takes kind cells low high long bytes =
     let thread = from_be_bytes w32 (take 4 cells) in
     let object = from_be_bytes w32 (take 4 (drop 4 cells)) in
@@ -96,9 +96,9 @@ cell_takes kind cells low high long bytes =
 
 -- n events of nine bytes without a fault, and the events that are read from them
 pub record AreTaken (n : ℕ) (cells : List ℕ) : Type 0 where
-  pub ranges : AllByRecursion IsInRange (events_of n cells)
-  pub count : length (events_of n cells) ≡ n
-  pub written : flat_map event_bytes (events_of n cells) ++ drop (9 * n) cells ≡ cells
+  pub ranges : AllByRecursion FitsWords (events_in n cells)
+  pub count : length (events_in n cells) ≡ n
+  pub written : flat_map event_bytes (events_in n cells) ++ drop (9 * n) cells ≡ cells
 
 event_kind_range : (kind : ℕ) → is_event_kind kind ≡ true → (1 ≤ kind) × (kind ≤ 6)
 event_kind_range kind e = (grind (arith, nat_tests), grind (arith, nat_tests))
@@ -117,7 +117,7 @@ cells_take (suc n) (kind ∷ cells) bytes long sound =
     let first = cell_takes kind cells range.0 range.1 (omega (arith, long)) own in
     let others = cells_take n (drop 8 cells) (IsBytes-drop 8 cells own) (omega (arith, long, length-drop 8 cells)) passed.1 in
     let e = event_of (kind ∷ cells) in
-    let es = events_of n (drop 8 cells) in
+    let es = events_in n (drop 8 cells) in
     let nine : drop (9 * suc n) (kind ∷ cells) ≡ drop (9 * n) (drop 8 cells) = ap (λ (k : ℕ). drop k (kind ∷ cells)) (omega arith) ∙ sym (drop-drop (9 * n) 9 (kind ∷ cells)) in
     record {
       ranges = (first.0, others.ranges);

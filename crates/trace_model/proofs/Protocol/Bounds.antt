@@ -14,7 +14,7 @@ use Rattle.trace_model.specs.Theory.Trace.{Trace}
 use Rattle.trace_model.specs.Theory.Dependencies.{Dependency, dependency_at, same_dependency, with_new, dependencies_below, dependencies}
 use Rattle.trace_model.specs.Theory.Rows.{Row}
 use Rattle.trace_model.specs.Protocol.Machine.{Question, State, opening, is_confirmed, rows_of}
-use Rattle.trace_model.specs.Protocol.Runs.{Good, TakesStep, IsRun, Shown, Summary, summary, ShowsState}
+use Rattle.trace_model.specs.Protocol.Runs.{Good, TakesStep, IsRun, QuestionCounts, Summary, summary, ShowsState}
 use Rattle.trace_model.specs.Protocol.Bounds.{QuestionFits, StateFits, ShownFits, RunFits}
 use Rattle.trace_model.proofs.Theory.Lawful.{passes}
 use Rattle.trace_model.proofs.Theory.Growing.{well_formed_nil}
@@ -51,23 +51,23 @@ fits_longer good s more q h =
       at_least = h.at_least;
       at_most = h.at_most;
       total = rw same h.total;
-      told = rw same h.told;
+      delivered_rows = rw same h.delivered_rows;
     }
 
-fits_told : (good : Good) (s : Trace) (q : Question) (task : ℕ) (rows : List Row) →
+fits_delivered : (good : Good) (s : Trace) (q : Question) (task : ℕ) (rows : List Row) →
     good (take q.length s) q.bound task rows → length rows ≤ MAX_CYCLES → slice_get q.tasks task ≡ Some None →
     QuestionFits good s q → QuestionFits good s (record q { tasks = slice_set q.tasks task (Some rows) })
-fits_told good s q task rows ok few missing h = record {
+fits_delivered good s q task rows ok few missing h = record {
   within = h.within;
   at_least = h.at_least;
   at_most = h.at_most;
   total = length-set q.tasks task (Some rows) ∙ h.total;
-  told = λ k told e. elim (cases_eq task k) [
+  delivered_rows = λ k delivered_rows e. elim (cases_eq task k) [
     | inl same ↦
-        let is : Some rows ≡ Some told = same_Some (Some rows) (Some told) (sym (get-set_same q.tasks task None (Some rows) missing) ∙ subst (λ z. slice_get (slice_set q.tasks task (Some rows)) z ≡ Some (Some told)) (sym same) e) in
-        subst (λ r. good (take q.length s) q.bound k r × (length r ≤ MAX_CYCLES)) (same_Some rows told is)
+        let is : Some rows ≡ Some delivered_rows = same_Some (Some rows) (Some delivered_rows) (sym (get-set_same q.tasks task None (Some rows) missing) ∙ subst (λ z. slice_get (slice_set q.tasks task (Some rows)) z ≡ Some (Some delivered_rows)) (sym same) e) in
+        subst (λ r. good (take q.length s) q.bound k r × (length r ≤ MAX_CYCLES)) (same_Some rows delivered_rows is)
         (subst (λ z. good (take q.length s) q.bound z rows × (length rows ≤ MAX_CYCLES)) same (ok, few))
-    | inr other ↦ h.told k told (sym (get-set_other q.tasks task k (Some rows) other) ∙ e)
+    | inr other ↦ h.delivered_rows k delivered_rows (sym (get-set_other q.tasks task k (Some rows) other) ∙ e)
   ];
 }
 
@@ -92,7 +92,7 @@ step_fits good s next (Open bound total) (allowed, all, is) h =
       at_least = ltb-false bound MIN_BOUND range.0;
       at_most = ltb-false MAX_BOUND bound range.1;
       total = length-replicate n None ∙ ap (λ r. length (dependencies r)) (sym (take-length s.accepted));
-      told = λ task rows e. absurd (no_rows n task rows e);
+      delivered_rows = λ task rows e. absurd (no_rows n task rows e);
     } in
     subst (StateFits good) (sym is) record {
       limit = h.limit;
@@ -106,7 +106,7 @@ step_fits good s next (Open bound total) (allowed, all, is) h =
     }
 step_fits good s next (Deliver number task cycles confirmed) (q, rows, at, missing, ok, few, c, f, is) h =
     let fresh : Question = record q { tasks = slice_set q.tasks task (Some rows) } in
-    let told : QuestionFits good s.accepted fresh = fits_told good s.accepted q task rows ok few missing (h.each number q at) in
+    let delivered_rows : QuestionFits good s.accepted fresh = fits_delivered good s.accepted q task rows ok few missing (h.each number q at) in
     subst (StateFits good) (sym is) record {
       limit = h.limit;
       well_formed = h.well_formed;
@@ -115,7 +115,7 @@ step_fits good s next (Deliver number task cycles confirmed) (q, rows, at, missi
       each = λ k y hy. elim (cases_eq number k) [
         | inl same ↦
             let ey : fresh ≡ y = same_Some fresh y (sym (get-set_same s.questions number q fresh at) ∙ subst (λ z. slice_get (slice_set s.questions number fresh) z ≡ Some y) (sym same) hy) in
-            subst (QuestionFits good s.accepted) ey told
+            subst (QuestionFits good s.accepted) ey delivered_rows
         | inr other ↦ h.each k y (sym (get-set_other s.questions number k fresh other) ∙ hy)
       ];
     }
@@ -143,7 +143,7 @@ cycles_most (None ∷ tasks) h =
 cycles_most (Some rows ∷ tasks) h =
     omega (arith, h zero rows refl, cycles_most tasks (λ task r e. h (suc task) r e), sum_by-cons (λ x. length (rows_of x)) (Some rows) tasks)
 
-shown_fits : (good : Good) (b : Summary) (s : State) → ShowsState b s → StateFits good s → (k : ℕ) (shown : Shown) → slice_get b.questions k ≡ Some shown → ShownFits b shown
+shown_fits : (good : Good) (b : Summary) (s : State) → ShowsState b s → StateFits good s → (k : ℕ) (shown : QuestionCounts) → slice_get b.questions k ≡ Some shown → ShownFits b shown
 shown_fits good b s (a, l, each) h k shown at =
     let there = at_index s.questions k (omega (arith, slice_get_within b.questions k shown at, l)) in
     let q = there.0 in
@@ -157,7 +157,7 @@ shown_fits good b s (a, l, each) h k shown at =
       at_most = rw e2 f.at_most;
       total = omega (arith, e1, e3, f.total, f.within, fewer, beginning);
       delivered = omega (arith, e3, e4, count_by-le-length is_some q.tasks);
-      cycles = omega (arith, e3, e5, cycles_most q.tasks (λ task rows e. (f.told task rows e).1));
+      cycles = omega (arith, e3, e5, cycles_most q.tasks (λ task rows e. (f.delivered_rows task rows e).1));
       confirmed = omega (arith, e5, e6, sum_by-le-sum_by (λ x. count_by is_confirmed (rows_of x)) (λ x. length (rows_of x)) q.tasks (λ x. count_by-le-length is_confirmed (rows_of x)));
     }
 

@@ -9,7 +9,7 @@ use Rattle.trace_model.specs.declared.messages.session.Request.{Request}
 use Rattle.trace_model.specs.declared.messages.session.Request.TheVariants.{Ask, Answer, Status, Batch}
 use Rattle.trace_model.specs.declared.messages.session.Fault.{Fault}
 use Rattle.trace_model.specs.declared.messages.session.Fault.TheVariants.{BadKind, BadLength}
-use Rattle.trace_model.specs.Protocol.Frames.{kind_of, object_of, frame, IsRequest, ok_unless, is_kind, is_length_of, fields_fault, header_fault, op_of, events_of, event_bytes, request_of, whole_frame, leading_of, IsBytes}
+use Rattle.trace_model.specs.Protocol.Frames.{kind_of, object_of, frame, IsRequest, ok_unless, is_kind, is_length_of, fields_fault, header_fault, op_of, events_in, event_bytes, request_of, whole_frame, leading_of, IsBytes}
 use Rattle.trace_model.proofs.Protocol.Bytes.{IsBytes-drop, IsBytes-take, word_takes, word_below, half_takes}
 use Rattle.trace_model.proofs.Protocol.BatchFrames.{batch_length, batch_sound, cells_take, eight_cells, length_cells, op_takes}
 use Rattle.trace_model.proofs.Protocol.Written.{offer, request_event}
@@ -136,7 +136,7 @@ request_status : (fields : List ℕ) → request_of 9 fields ≡ Status (from_be
 unfolding request_of
 request_status fields = refl
 
-request_batch : (fields : List ℕ) → request_of 10 fields ≡ Batch (events_of (get_or fields 0 0) (drop 1 fields))
+request_batch : (fields : List ℕ) → request_of 10 fields ≡ Batch (events_in (get_or fields 0 0) (drop 1 fields))
 unfolding request_of
 request_batch fields = refl
 
@@ -145,7 +145,7 @@ batch_cells p q n a b rest e f = append_assoc p (10 ∷ n ∷ a) rest ∙ (λ i.
 
 batch_taken : (high low : ℕ) (fields : List ℕ) → IsBytes (high ∷ low ∷ 10 ∷ fields) → is_length_of 10 (from_be_bytes w16 (high ∷ low ∷ [])) ≡ true →
     fields_fault 10 (from_be_bytes w16 (high ∷ low ∷ [])) fields ≡ None → from_be_bytes w16 (high ∷ low ∷ []) ≤ length fields + 1 →
-    IsTaken high low 10 fields (Batch (events_of (get_or fields 0 0) (drop 1 fields))) (drop (from_be_bytes w16 (high ∷ low ∷ []) - 1) fields)
+    IsTaken high low 10 fields (Batch (events_in (get_or fields 0 0) (drop 1 fields))) (drop (from_be_bytes w16 (high ∷ low ∷ []) - 1) fields)
 unfolding frame
 batch_taken high low [] fits right sound long = let l = batch_length (from_be_bytes w16 (high ∷ low ∷ [])) right in absurd (omega (arith, l.0, l.1, long))
 batch_taken high low (count ∷ cells) fits right sound long =
@@ -154,14 +154,14 @@ batch_taken high low (count ∷ cells) fits right sound long =
     let l = batch_length len right in
     let s = batch_sound n count cells sound in
     let taken = cells_take n cells (λ i. fits (suc (suc (suc (suc i))))) (omega (arith, long, l.0)) s.1 in
-    let es = events_of n cells in
+    let es = events_in n cells in
     let size : length (10 ∷ length es ∷ flat_map event_bytes es) ≡ len = omega (arith, length_cells es, taken.count, l.0) in
     let half : to_be_bytes w16 (length (10 ∷ length es ∷ flat_map event_bytes es)) ≡ high ∷ low ∷ [] = ap (to_be_bytes w16) size ∙ half_is high low 10 (count ∷ cells) len fits refl in
     let place : len - 1 ≡ suc (9 * n) = omega (arith, l.0) in
     let after : drop (len - 1) (count ∷ cells) ≡ drop (9 * n) cells = ap (λ (k : ℕ). drop k (count ∷ cells)) place in
     let written = batch_cells _ _ (length es) (flat_map event_bytes es) cells (drop (9 * n) cells) half taken.written in
     let counted : length es ≡ count = taken.count ∙ sym s.0 in
-    subst (λ (k : ℕ). IsTaken high low 10 (count ∷ cells) (Batch (events_of k cells)) (drop (len - 1) (count ∷ cells))) (sym s.0) (
+    subst (λ (k : ℕ). IsTaken high low 10 (count ∷ cells) (Batch (events_in k cells)) (drop (len - 1) (count ∷ cells))) (sym s.0) (
       ((omega (arith, taken.count, l.1), omega (arith, taken.count, l.2)), taken.ranges),
       sym (ap (λ (t : List ℕ). (to_be_bytes w16 (length (10 ∷ length es ∷ flat_map event_bytes es)) ++ (10 ∷ length es ∷ flat_map event_bytes es)) ++ t) after
           ∙ (written ∙ ap (λ (k : ℕ). high ∷ low ∷ 10 ∷ k ∷ cells) counted)),

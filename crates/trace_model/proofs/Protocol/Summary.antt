@@ -12,28 +12,28 @@ use Rattle.trace_model.specs.declared.messages.step.BoardStep.TheVariants.{Accep
 use Rattle.trace_model.specs.Theory.Dependencies.{dependencies}
 use Rattle.trace_model.specs.Theory.Rows.{Row}
 use Rattle.trace_model.specs.Protocol.Machine.{Question, State, opening, is_confirmed, rows_of, same_events}
-use Rattle.trace_model.specs.Protocol.Runs.{Good, TakesStep, IsRun, Shown, Summary, count_step, count_steps, ShowsQuestion, ShowsState, SummaryIsState}
+use Rattle.trace_model.specs.Protocol.Runs.{Good, TakesStep, IsRun, QuestionCounts, Summary, count_step, count_steps, ShowsQuestion, ShowsState, SummaryIsState}
 use Rattle.trace_model.proofs.Theory.Places.{op_eq_same, op_eq_itself}
 use Rattle.trace_model.proofs.Lists.{at_index, get-push, get-set_other, get-set_same}
 
 -- a sum over the tasks when a missing one is delivered
-pub sum_told : (f : Option (List Row) → ℕ) (tasks : List (Option (List Row))) (task : ℕ) (rows : List Row) → f None ≡ 0 →
+pub sum_delivered : (f : Option (List Row) → ℕ) (tasks : List (Option (List Row))) (task : ℕ) (rows : List Row) → f None ≡ 0 →
     slice_get tasks task ≡ Some None → sum_by f (slice_set tasks task (Some rows)) ≡ sum_by f tasks + f (Some rows)
-sum_told f tasks task rows zero_at h =
+sum_delivered f tasks task rows zero_at h =
     let e = sum_by-set f tasks task (Some rows) None (slice_get_within tasks task None h) in
     let n : f (get_or tasks task None) ≡ 0 = ap f (get_or_from_slice_get tasks task None None h) ∙ zero_at in
     omega (arith, e, n)
 
-pub shows_told : (shown : Shown) (q : Question) (task : ℕ) (rows : List Row) → slice_get q.tasks task ≡ Some None → ShowsQuestion shown q →
+pub shows_delivered : (shown : QuestionCounts) (q : Question) (task : ℕ) (rows : List Row) → slice_get q.tasks task ≡ Some None → ShowsQuestion shown q →
     ShowsQuestion (record shown { delivered = shown.delivered + 1; cycles = shown.cycles + length rows; confirmed = shown.confirmed + count_by is_confirmed rows })
     (record q { tasks = slice_set q.tasks task (Some rows) })
-shows_told shown q task rows h (a, b, c, d, e, f) = (
+shows_delivered shown q task rows h (a, b, c, d, e, f) = (
   a,
   b,
   rw length-set c,
-  ap (λ x. x + 1) d ∙ sym (sum_told (λ x. cond (is_some x) 1 0) q.tasks task rows refl h),
-  ap (λ x. x + length rows) e ∙ sym (sum_told (λ x. length (rows_of x)) q.tasks task rows refl h),
-  ap (λ x. x + count_by is_confirmed rows) f ∙ sym (sum_told (λ x. count_by is_confirmed (rows_of x)) q.tasks task rows refl h),
+  ap (λ x. x + 1) d ∙ sym (sum_delivered (λ x. cond (is_some x) 1 0) q.tasks task rows refl h),
+  ap (λ x. x + length rows) e ∙ sym (sum_delivered (λ x. length (rows_of x)) q.tasks task rows refl h),
+  ap (λ x. x + count_by is_confirmed rows) f ∙ sym (sum_delivered (λ x. count_by is_confirmed (rows_of x)) q.tasks task rows refl h),
 )
 
 pub step_shows : (good : Good) (s next : State) (step : BoardStep) (b : Summary) → TakesStep good s step next → ShowsState b s → ShowsState (count_step b step) next
@@ -74,19 +74,19 @@ step_shows good s next (Open bound total) b (allowed, all, is) (a, l, each) =
 step_shows good s next (Deliver number task cycles confirmed) b (q, rows, at, missing, ok, few, c, f, is) (a, l, each) =
     let there = at_index b.questions number (omega (arith, slice_get_within s.questions number q at, l)) in
     let shown = there.0 in
-    let told : Shown = record shown { delivered = shown.delivered + 1; cycles = shown.cycles + cycles; confirmed = shown.confirmed + confirmed } in
+    let delivered_question : QuestionCounts = record shown { delivered = shown.delivered + 1; cycles = shown.cycles + cycles; confirmed = shown.confirmed + confirmed } in
     let fresh : Question = record q { tasks = slice_set q.tasks task (Some rows) } in
-    let shows : ShowsQuestion told fresh = rw (c, f) (shows_told shown q task rows missing (each number shown q there.1 at)) in
+    let shows : ShowsQuestion delivered_question fresh = rw (c, f) (shows_delivered shown q task rows missing (each number shown q there.1 at)) in
     subst (ShowsState (count_step b (Deliver number task cycles confirmed))) (sym is)
     (rw there.1 (
       a,
-      length-set b.questions number told ∙ l ∙ sym (length-set s.questions number fresh),
+      length-set b.questions number delivered_question ∙ l ∙ sym (length-set s.questions number fresh),
       λ k x y hx hy. elim (cases_eq number k) [
         | inl same ↦
-            let ex : told ≡ x = same_Some told x (sym (get-set_same b.questions number shown told there.1) ∙ subst (λ z. slice_get (slice_set b.questions number told) z ≡ Some x) (sym same) hx) in
+            let ex : delivered_question ≡ x = same_Some delivered_question x (sym (get-set_same b.questions number shown delivered_question there.1) ∙ subst (λ z. slice_get (slice_set b.questions number delivered_question) z ≡ Some x) (sym same) hx) in
             let ey : fresh ≡ y = same_Some fresh y (sym (get-set_same s.questions number q fresh at) ∙ subst (λ z. slice_get (slice_set s.questions number fresh) z ≡ Some y) (sym same) hy) in
-            subst (λ z. ShowsQuestion z y) ex (subst (ShowsQuestion told) ey shows)
-        | inr other ↦ each k x y (sym (get-set_other b.questions number k told other) ∙ hx) (sym (get-set_other s.questions number k fresh other) ∙ hy)
+            subst (λ z. ShowsQuestion z y) ex (subst (ShowsQuestion delivered_question) ey shows)
+        | inr other ↦ each k x y (sym (get-set_other b.questions number k delivered_question other) ∙ hx) (sym (get-set_other s.questions number k fresh other) ∙ hy)
       ],
     ))
 

@@ -15,7 +15,7 @@ use Rattle.trace_model.specs.Protocol.Batches.{IsBatch, taken_of}
 use Rattle.trace_model.specs.Theory.Dependencies.{dependencies}
 use Rattle.trace_model.specs.Theory.Rows.{Row, AreRows, AreSound}
 use Rattle.trace_model.specs.Protocol.Machine.{Question, State, opening, is_confirmed, offer, offer_batch, offer_next, with_event, ask, ask_next, ask_refused, same_events, task_refused, deliver, deliver_next, deliver_refused, deliver_refused_by, with_rows, with_task, status_of, status}
-use Rattle.trace_model.specs.Protocol.Runs.{Good, TakesStep, IsRun, IsLegal, Summary, Shown, ShowsState, shown_status_of, shown_status}
+use Rattle.trace_model.specs.Protocol.Runs.{Good, TakesStep, IsRun, IsLegal, Summary, QuestionCounts, ShowsState, shown_status_of, shown_status}
 use Rattle.trace_model.specs.Protocol.RunLaws.{MachineSteps}
 use Rattle.trace_model.proofs.Theory.Lawful.{passes}
 use Rattle.trace_model.proofs.Protocol.Batches.{is_longest, lawful_one}
@@ -170,7 +170,7 @@ run_legal limit last steps le run = (raised MAX_EVENTS last, run_raised AreRows 
 pub status_shown : (b : Summary) (s : State) (number : ℕ) → ShowsState b s → shown_status b number ≡ status s number
 status_shown b s number (a, l, each) = go (slice_get b.questions number) refl (slice_get s.questions number) refl
   where
-    go : (x : Option Shown) → slice_get b.questions number ≡ x → (y : Option Question) → slice_get s.questions number ≡ y →
+    go : (x : Option QuestionCounts) → slice_get b.questions number ≡ x → (y : Option Question) → slice_get s.questions number ≡ y →
         shown_status_of b number x ≡ status_of s number y
     go None e None f = refl
     go None e (Some q) f =

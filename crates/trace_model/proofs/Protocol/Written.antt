@@ -12,7 +12,7 @@ use Rattle.trace_model.specs.declared.messages.session.Request.{Request}
 use Rattle.trace_model.specs.declared.messages.session.Request.TheVariants.{Offer, Ask, Answer, Status, Batch}
 use Rattle.trace_model.specs.declared.messages.session.Fault.{Fault}
 use Rattle.trace_model.specs.declared.messages.session.Fault.TheVariants.{BadLength}
-use Rattle.trace_model.specs.Protocol.Frames.{kind_of, object_of, event_bytes, body, frame, IsRequest, is_batch_length, batch_fault, ok_unless, header_fault, op_of, events_of, request_of, whole_frame, leading_of}
+use Rattle.trace_model.specs.Protocol.Frames.{kind_of, object_of, event_bytes, body, frame, IsRequest, is_batch_length, batch_fault, ok_unless, header_fault, op_of, events_in, request_of, whole_frame, leading_of}
 use Rattle.trace_model.proofs.Protocol.Bytes.{word_again}
 use Rattle.trace_model.proofs.Protocol.BatchFrames.{batch_length_of, batch_sound_again, cells_again, length_cells, op_again}
 
@@ -90,7 +90,7 @@ batch_header events rest h =
     let sound : batch_fault (len / 9) (n ∷ cells) ≡ None = ap (λ (k : ℕ). batch_fault (k / 9) (n ∷ cells)) size ∙ (ap (λ (k : ℕ). batch_fault k (n ∷ cells)) of.1 ∙ batch_sound_again n cells (cells_again events rest h.1).sound) in
     (λ i. cond (some i) (Some BadLength) (cond (not (right i)) (Some BadLength) (batch_fault (len / 9) (n ∷ cells)))) ∙ sound
 
-batch_again : (n : ℕ) (cells : List ℕ) → request_of 10 (n ∷ cells) ≡ Batch (events_of n cells)
+batch_again : (n : ℕ) (cells : List ℕ) → request_of 10 (n ∷ cells) ≡ Batch (events_in n cells)
 unfolding request_of
 batch_again n cells = refl
 

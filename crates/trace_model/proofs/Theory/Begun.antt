@@ -7,9 +7,9 @@ use Rattle.trace_model.specs.declared.traces.event.Event.{Event}
 use Rattle.trace_model.specs.declared.traces.event.Op.{Op}
 use Rattle.trace_model.specs.declared.traces.event.Op.TheVariants.{Fork, Join, Acquire, Release, Read, Write}
 use Rattle.trace_model.specs.Theory.Trace.{Trace, At, event}
-use Rattle.trace_model.specs.Theory.Held.{depth, BeginsOn, begun_of, begun}
+use Rattle.trace_model.specs.Theory.Held.{depth, BeginsOn, begun_of, begun_lock}
 
-pub begun_so : (s : Trace) (p k : ℕ) → begun s p ≡ Some k → BeginsOn s p k
+pub begun_so : (s : Trace) (p k : ℕ) → begun_lock s p ≡ Some k → BeginsOn s p k
 begun_so s p k h = go (slice_get s p) refl h
   where
     outer : (t l : ℕ) → At s p (event t (Acquire l)) → (b : Bool) → (depth s p t l == 0) ≡ b →
@@ -30,7 +30,7 @@ begun_so s p k h = go (slice_get s p) refl h
     go None e f = absurd (none-some k f)
     go (Some x) e f = by_op x.thread x.op e f
 
-pub begun_from : (s : Trace) (p k : ℕ) → BeginsOn s p k → begun s p ≡ Some k
+pub begun_from : (s : Trace) (p k : ℕ) → BeginsOn s p k → begun_lock s p ≡ Some k
 begun_from s p k (t, (at, none)) =
     ap (option_and_then (λ e. begun_of s p e.thread e.op)) at
     ∙ ap (λ b. cond b (Some k) None) (eq-eqb (depth s p t k) 0 none)

@@ -13,7 +13,7 @@ use Rattle.trace_model.specs.declared.refusal.Refusal.{Refusal}
 use Rattle.trace_model.specs.declared.limits.TheConstants.{MAX_EVENTS}
 use Rattle.trace_model.specs.Theory.Lawful.{refusal_of, IsWellFormed}
 use Rattle.trace_model.specs.Theory.Lookups.{writer, release}
-use Rattle.trace_model.specs.Theory.Reordering.{ForkOrJoin, Reached}
+use Rattle.trace_model.specs.Theory.Reordering.{ForkOrJoin, AreReached}
 use Rattle.trace_model.specs.Theory.Closure.{Places, IsClosed}
 use Rattle.trace_model.proofs.Theory.Places.{op_eq_itself}
 use Rattle.trace_model.proofs.Theory.Ascending.{place_of, listed, listed_so}
@@ -138,7 +138,7 @@ well_formed_if s h p e at =
 pub earlier_from : (s : Trace) (q p : ℕ) → EarlierInThread s q p → earlier_at s q p ≡ true
 earlier_from s q p (t, a, (o, h), l) = rw h (and_from (ltb q p) (of_thread s t q) (lt-ltb q p l) (of_thread_from s t q a))
 
-pub reached_if : (s : Trace) (places witness : List ℕ) → reached_test s places witness ≡ true → Reached s places
+pub reached_if : (s : Trace) (places witness : List ℕ) → reached_test s places witness ≡ true → AreReached s places
 reached_if s places witness h =
     let n = length s in
     let a = and_parts ((all_below n (lawful_at s) && closed_test s (listed witness)) && list_all (λ q. ltb q n) witness) _ h in

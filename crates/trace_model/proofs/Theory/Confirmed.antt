@@ -9,9 +9,9 @@ use Rattle.trace_model.specs.Theory.Trace.{Trace}
 use Rattle.trace_model.specs.Theory.Lawful.{IsWellFormed}
 use Rattle.trace_model.specs.Theory.Dependencies.{Dependency, dependency_at, same_dependency, with_new, dependencies_below, dependencies}
 use Rattle.trace_model.specs.Theory.Cycles.{Member, next, IsCycle, IsInstance}
-use Rattle.trace_model.specs.Theory.Reordering.{Reached}
-use Rattle.trace_model.specs.Theory.Closure.{Places, IsClosed, HoldsPredecessors, InClosure, IsClosure, ascending}
-use Rattle.trace_model.specs.Theory.Rows.{Found, Row, IsLeastInstance, IsWitness, IsRow, AreRows}
+use Rattle.trace_model.specs.Theory.Reordering.{AreReached}
+use Rattle.trace_model.specs.Theory.Closure.{Places, IsClosed, HoldsPredecessors, InClosure, IsClosure, ascending_places}
+use Rattle.trace_model.specs.Theory.Rows.{Evidence, Row, IsLeastInstance, IsWitness, IsRow, AreRows}
 use Rattle.trace_model.specs.Theory.Laws.{lesser}
 use Rattle.trace_model.proofs.Theory.Prefix.{Agree}
 use Rattle.trace_model.proofs.Lists.{at_index, get-append, get-push_kept}
@@ -142,7 +142,7 @@ module _ (s more : Trace) (v : IsWellFormed s) (w : IsWellFormed (s ++ more)) (b
       long : IsInstance (s ++ more) numbers places
       long = instance_longer places h.is_instance
 
-      reached : Reached (s ++ more) places
+      reached : AreReached (s ++ more) places
       reached = (reached_longer s more v w places low).0 h.is_reached
 
       below : (other : List ℕ) (p : ℕ) → (k : ℕ) × (slice_get (lesser places other) k ≡ Some p) → p < length s
@@ -169,7 +169,7 @@ witness_closure s v places order h = is_closure_from s places (listed order) clo
         let r = closed_reaches s places both
         (λ p u hp e. and_from (set u) (listed order u) (d p u hp e) (holds p u hp e))
         (λ p hp k. (h.reaches p hp).0 (listed_contains order p (and_parts (set p) (listed order p) k).1)) in
-        let k = h.smallest (ascending both (length s)) o r q (listed_contains order q t) in
+        let k = h.smallest (ascending_places both (length s)) o r q (listed_contains order q t) in
         (and_parts (set q) (listed order q) (ascending_contains both (length s) q k).1).0
 
 witness_longer : (s more : Trace) → IsWellFormed s → IsWellFormed (s ++ more) → (places order : List ℕ) →
@@ -182,23 +182,23 @@ witness_longer s more v w places order low h = subst (λ list. IsWitness (s ++ m
         let l = closure_longer s more v w places low q in
         (λ t. l.0 (k.0 t), λ i. k.1 (l.1 i))
 
-    found : IsWitness (s ++ more) places (ascending (listed order) (length (s ++ more)))
+    found : IsWitness (s ++ more) places (ascending_places (listed order) (length (s ++ more)))
     found = closure_witness (s ++ more) w places (listed order) closure
         ((reached_longer s more v w places low).0 (order, h.reorders, h.reaches))
 
-    same : ascending (listed order) (length (s ++ more)) ≡ order
-    same = same_list (λ x y. x < y) (λ x y l m. omega arith) (ascending (listed order) (length (s ++ more))) order
-        (increasing_ordered (ascending (listed order) (length (s ++ more))) found.ascends) (increasing_ordered order h.ascends)
+    same : ascending_places (listed order) (length (s ++ more)) ≡ order
+    same = same_list (λ x y. x < y) (λ x y l m. omega arith) (ascending_places (listed order) (length (s ++ more))) order
+        (increasing_ordered (ascending_places (listed order) (length (s ++ more))) found.ascends) (increasing_ordered order h.ascends)
         (λ x k. has_contained order x (listed_contains order x
-        (ascending_contains (listed order) (length (s ++ more)) x (contains_had (ascending (listed order) (length (s ++ more))) x k)).1))
+        (ascending_contains (listed order) (length (s ++ more)) x (contains_had (ascending_places (listed order) (length (s ++ more))) x k)).1))
         (λ x k.
         let here = contains_had order x k in
-        has_contained (ascending (listed order) (length (s ++ more))) x (contains_ascending (listed order) (length (s ++ more)) x
+        has_contained (ascending_places (listed order) (length (s ++ more))) x (contains_ascending (listed order) (length (s ++ more)) x
         (omega (arith, h.reorders.in_trace x here, length-append s more)) (contains_listed order x here)))
 
 -- ---- the row stays
 
-row_longer : (s more : Trace) → IsWellFormed s → IsWellFormed (s ++ more) → (bound : ℕ) (numbers : List ℕ) (found : Option Found) → IsCycle (dependencies s) bound numbers →
+row_longer : (s more : Trace) → IsWellFormed s → IsWellFormed (s ++ more) → (bound : ℕ) (numbers : List ℕ) (found : Option Evidence) → IsCycle (dependencies s) bound numbers →
     IsSome found → IsRow s (record { cycle = numbers; found = found }) → IsRow (s ++ more) (record { cycle = numbers; found = found })
 row_longer s more v w bound numbers None c is h = absurd (false≢true is)
 row_longer s more v w bound numbers (Some f) c is h = (

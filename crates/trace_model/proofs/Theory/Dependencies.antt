@@ -11,7 +11,7 @@ use Rattle.trace_model.specs.declared.traces.event.Event.{Event}
 use Rattle.trace_model.specs.declared.traces.event.Op.{Op}
 use Rattle.trace_model.specs.declared.traces.event.Op.TheVariants.{Fork, Join, Acquire, Release, Read, Write}
 use Rattle.trace_model.specs.Theory.Trace.{Trace, event, At}
-use Rattle.trace_model.specs.Theory.Held.{depth, Begins, held, has}
+use Rattle.trace_model.specs.Theory.Held.{depth, Begins, held_set, has}
 use Rattle.trace_model.specs.Theory.Dependencies.{Dependency, dependency_of, dependency_at, same_dependency, with_new, dependencies_below}
 use Rattle.trace_model.proofs.Theory.Held.{held_from}
 use Rattle.trace_model.proofs.Theory.Prefix.{Agree, held-agree}
@@ -19,24 +19,24 @@ use Rattle.trace_model.proofs.Lists.{get-push, get-push_kept, get-push_last}
 
 -- the event at a place with a dependency
 pub dependency_so : (s : Trace) (p : ℕ) (d : Dependency) → dependency_at s p ≡ Some d →
-    Begins s p d.thread d.lock × (d.held ≡ held s p d.thread) × (0 < length d.held)
+    Begins s p d.thread d.lock × (d.held ≡ held_set s p d.thread) × (0 < length d.held)
 dependency_so s p d h = go (slice_get s p) refl h
   where
-    parts : (t l k : ℕ) (ks : List ℕ) → held s p t ≡ k ∷ ks → At s p (event t (Acquire l)) → (b : Bool) → has l (k ∷ ks) ≡ b →
+    parts : (t l k : ℕ) (ks : List ℕ) → held_set s p t ≡ k ∷ ks → At s p (event t (Acquire l)) → (b : Bool) → has l (k ∷ ks) ≡ b →
         cond b None (Some (record { thread = t; lock = l; held = k ∷ ks })) ≡ Some d →
-        Begins s p d.thread d.lock × (d.held ≡ held s p d.thread) × (0 < length d.held)
+        Begins s p d.thread d.lock × (d.held ≡ held_set s p d.thread) × (0 < length d.held)
     parts t l k ks e a true f i = absurd (none-some d i)
     parts t l k ks e a false f i =
         let same = same_Some (record { thread = t; lock = l; held = k ∷ ks }) d i in
         let free : 0 < depth s p t l → ⊥ = λ z. false≢true (sym f ∙ subst (λ (x : List ℕ). has l x ≡ true) e (held_from s p t l z)) in
         let outer : depth s p t l ≡ 0 = elim (cases_lt 0 (depth s p t l)) [ inl z ↦ absurd (free z) | inr z ↦ omega arith ] in (
           subst (λ x. Begins s p x.thread x.lock) same (a, outer),
-          subst (λ x. x.held ≡ held s p x.thread) same (sym e),
+          subst (λ x. x.held ≡ held_set s p x.thread) same (sym e),
           subst (λ x. 0 < length x.held) same (omega arith),
         )
 
-    by_op : (t : ℕ) (o : Op) (ks : List ℕ) → held s p t ≡ ks → At s p (event t o) → dependency_of t o ks ≡ Some d →
-        Begins s p d.thread d.lock × (d.held ≡ held s p d.thread) × (0 < length d.held)
+    by_op : (t : ℕ) (o : Op) (ks : List ℕ) → held_set s p t ≡ ks → At s p (event t o) → dependency_of t o ks ≡ Some d →
+        Begins s p d.thread d.lock × (d.held ≡ held_set s p d.thread) × (0 < length d.held)
     by_op t (Acquire l) (k ∷ ks) e a i = parts t l k ks e a (has l (k ∷ ks)) refl i
     by_op t (Acquire l) [] e a i = absurd (none-some d i)
     by_op t (Fork l) ks e a i = absurd (none-some d i)
@@ -45,10 +45,10 @@ dependency_so s p d h = go (slice_get s p) refl h
     by_op t (Read l) ks e a i = absurd (none-some d i)
     by_op t (Write l) ks e a i = absurd (none-some d i)
 
-    go : (o : Option Event) → slice_get s p ≡ o → option_and_then (λ e. dependency_of e.thread e.op (held s p e.thread)) o ≡ Some d →
-        Begins s p d.thread d.lock × (d.held ≡ held s p d.thread) × (0 < length d.held)
+    go : (o : Option Event) → slice_get s p ≡ o → option_and_then (λ e. dependency_of e.thread e.op (held_set s p e.thread)) o ≡ Some d →
+        Begins s p d.thread d.lock × (d.held ≡ held_set s p d.thread) × (0 < length d.held)
     go None e i = absurd (none-some d i)
-    go (Some x) e i = by_op x.thread x.op (held s p x.thread) refl e i
+    go (Some x) e i = by_op x.thread x.op (held_set s p x.thread) refl e i
 
 -- equal dependencies
 pub same_dependency_so : (a b : Dependency) → same_dependency a b ≡ true → a ≡ b
@@ -176,8 +176,8 @@ numbered s (suc n) = with_new_numbered s n (dependencies_below s n) (dependency_
 pub dependency_at-agree : (s r : Trace) (p : ℕ) → Agree (suc p) s r → dependency_at s p ≡ dependency_at r p
 dependency_at-agree s r p h = rw (h p (omega arith)) (go (slice_get r p))
   where
-    go : (o : Option Event) → option_and_then (λ e. dependency_of e.thread e.op (held s p e.thread)) o
-        ≡ option_and_then (λ e. dependency_of e.thread e.op (held r p e.thread)) o
+    go : (o : Option Event) → option_and_then (λ e. dependency_of e.thread e.op (held_set s p e.thread)) o
+        ≡ option_and_then (λ e. dependency_of e.thread e.op (held_set r p e.thread)) o
     go None = refl
     go (Some e) = ap (dependency_of e.thread e.op) (held-agree s r p e.thread (λ q l. h q (omega arith)))
 

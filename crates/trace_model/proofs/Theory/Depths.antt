@@ -10,7 +10,7 @@ use Rattle.trace_model.specs.declared.traces.event.Op.{Op}
 use Rattle.trace_model.specs.declared.traces.event.Op.TheVariants.{Fork, Join, Acquire, Release, Read, Write}
 use Rattle.trace_model.specs.declared.limits.TheConstants.{MAX_EVENTS, MAX_HELD, MAX_DEPTH}
 use Rattle.trace_model.specs.Theory.Trace.{Trace, event, At, op_eq}
-use Rattle.trace_model.specs.Theory.Held.{depth, depth_after, depth_step, with_lock, without_lock, held_after, held_step, held, has}
+use Rattle.trace_model.specs.Theory.Held.{depth, depth_after, depth_step, with_lock, without_lock, held_after, held_step, held_set, has}
 use Rattle.trace_model.specs.Theory.Lawful.{held_by, op_refusal_of, IsWellFormed}
 use Rattle.trace_model.specs.Theory.Holders.{is_acquire_by, is_release_by}
 use Rattle.trace_model.proofs.Theory.Held.{held_from}
@@ -79,36 +79,36 @@ module _ (s : Trace) (w : IsWellFormed s) (t : ℕ) where
   depth_there : (p l : ℕ) (e : Event) → At s p e → depth (take p s) (length (take p s)) t l ≡ depth s p t l
   depth_there p l e at = ap (λ n. depth (take p s) n t l) (whole p e at) ∙ depth-agree (take p s) s p t l (λ q k. get-take p s q k)
 
-  held_there : (p : ℕ) (e : Event) → At s p e → held (take p s) (length (take p s)) t ≡ held s p t
-  held_there p e at = ap (λ n. held (take p s) n t) (whole p e at) ∙ held-agree (take p s) s p t (λ q k. get-take p s q k)
+  held_there : (p : ℕ) (e : Event) → At s p e → held_set (take p s) (length (take p s)) t ≡ held_set s p t
+  held_there p e at = ap (λ n. held_set (take p s) n t) (whole p e at) ∙ held-agree (take p s) s p t (λ q k. get-take p s q k)
 
-  acquired : (p l : ℕ) → At s p (event t (Acquire l)) → length (held s p t) ≤ MAX_HELD → length (with_lock l (held s p t)) ≤ MAX_HELD
-  acquired p l at le = go (has l (held s p t)) refl
+  acquired : (p l : ℕ) → At s p (event t (Acquire l)) → length (held_set s p t) ≤ MAX_HELD → length (with_lock l (held_set s p t)) ≤ MAX_HELD
+  acquired p l at le = go (has l (held_set s p t)) refl
     where
       e : Event
       e = event t (Acquire l)
 
-      passed_it : (held_by (take p s) t l ≡ false → length (held (take p s) (length (take p s)) t) < MAX_HELD)
+      passed_it : (held_by (take p s) t l ≡ false → length (held_set (take p s) (length (take p s)) t) < MAX_HELD)
       passed_it = (lawful_acquire (take p s) t l (at_place p (Acquire l) at)).2
 
-      new : has l (held s p t) ≡ false → held_by (take p s) t l ≡ false
+      new : has l (held_set s p t) ≡ false → held_by (take p s) t l ≡ false
       new h = ap (ltb 0) (depth_there p l e at) ∙ by (ltb 0 (depth s p t l)) refl
         where
           by : (b : Bool) → ltb 0 (depth s p t l) ≡ b → b ≡ false
           by true f = absurd (false≢true (sym h ∙ held_from s p t l (ltb-true 0 (depth s p t l) f)))
           by false f = refl
 
-      go : (b : Bool) → has l (held s p t) ≡ b → length (with_lock l (held s p t)) ≤ MAX_HELD
-      go true h = let same = with-known l (held s p t) (ascends_held s p t) h in omega (arith, ap length same)
+      go : (b : Bool) → has l (held_set s p t) ≡ b → length (with_lock l (held_set s p t)) ≤ MAX_HELD
+      go true h = let same = with-known l (held_set s p t) (ascends_held s p t) h in omega (arith, ap length same)
       go false h =
           let few = passed_it (new h) in
           let there = ap length (held_there p e at) in
-          omega (arith, length-with l (held s p t) h)
+          omega (arith, length-with l (held_set s p t) h)
 
-  held_op : (p : ℕ) (o : Op) → At s p (event t o) → length (held s p t) ≤ MAX_HELD → length (held_after (depth s p t) o (held s p t)) ≤ MAX_HELD
+  held_op : (p : ℕ) (o : Op) → At s p (event t o) → length (held_set s p t) ≤ MAX_HELD → length (held_after (depth s p t) o (held_set s p t)) ≤ MAX_HELD
   held_op p (Acquire l) at le = acquired p l at le
-  held_op p (Release l) at le = elim (leb (depth s p t l) 1) as (λ b. length (cond b (without_lock l (held s p t)) (held s p t)) ≤ MAX_HELD) [
-    | true ↦ omega (arith, length-filter (λ k. not (k == l)) (held s p t), count_by-le-length (λ k. not (k == l)) (held s p t))
+  held_op p (Release l) at le = elim (leb (depth s p t l) 1) as (λ b. length (cond b (without_lock l (held_set s p t)) (held_set s p t)) ≤ MAX_HELD) [
+    | true ↦ omega (arith, length-filter (λ k. not (k == l)) (held_set s p t), count_by-le-length (λ k. not (k == l)) (held_set s p t))
     | false ↦ le
   ]
   held_op p (Fork c) at le = le
@@ -117,16 +117,16 @@ module _ (s : Trace) (w : IsWellFormed s) (t : ℕ) where
   held_op p (Write v) at le = le
 
   -- a thread holds at most MAX_HELD locks at any place
-  pub held_shallow : (p : ℕ) → length (held s p t) ≤ MAX_HELD
+  pub held_shallow : (p : ℕ) → length (held_set s p t) ≤ MAX_HELD
   held_shallow zero = omega arith
   held_shallow (suc p) = go (held_shallow p) (slice_get s p) refl
     where
-      step : (x : Event) → slice_get s p ≡ Some x → length (held s p t) ≤ MAX_HELD → (b : Bool) → (x.thread == t) ≡ b →
-          length (cond b (held_after (depth s p t) x.op (held s p t)) (held s p t)) ≤ MAX_HELD
+      step : (x : Event) → slice_get s p ≡ Some x → length (held_set s p t) ≤ MAX_HELD → (b : Bool) → (x.thread == t) ≡ b →
+          length (cond b (held_after (depth s p t) x.op (held_set s p t)) (held_set s p t)) ≤ MAX_HELD
       step x e le true same = held_op p x.op (e ∙ ap (λ u. Some (event u x.op)) (eqb-true x.thread t same)) le
       step x e le false same = le
 
-      go : length (held s p t) ≤ MAX_HELD → (o : Option Event) → slice_get s p ≡ o → length (held_step (depth s p t) o t (held s p t)) ≤ MAX_HELD
+      go : length (held_set s p t) ≤ MAX_HELD → (o : Option Event) → slice_get s p ≡ o → length (held_step (depth s p t) o t (held_set s p t)) ≤ MAX_HELD
       go le None e = le
       go le (Some x) e = step x e le (x.thread == t) refl
 

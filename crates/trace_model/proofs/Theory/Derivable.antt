@@ -12,7 +12,7 @@ use Rattle.trace_model.specs.declared.refutations.Reason.{Reason}
 use Rattle.trace_model.specs.declared.refutations.Reason.TheVariants.{BeforeMember, ThreadOrder, ForkJoin, ReadsFrom, Sections}
 use Rattle.trace_model.specs.declared.refutations.Derived.{Derived}
 use Rattle.trace_model.specs.Theory.Trace.{Trace, event, At, OfThread, EarlierInThread, does, last_place}
-use Rattle.trace_model.specs.Theory.Held.{BeginsOn, begun}
+use Rattle.trace_model.specs.Theory.Held.{BeginsOn, begun_lock}
 use Rattle.trace_model.specs.Theory.Lookups.{writer, release}
 use Rattle.trace_model.specs.Theory.Reordering.{ForkOrJoin}
 use Rattle.trace_model.specs.Theory.Closure.{Places, IsClosed, HoldsPredecessors}
@@ -89,19 +89,19 @@ abbrev pub same_lock : Option ℕ → Option ℕ → Bool
 same_lock None o = false
 same_lock (Some l) o = is_place o l
 
-same_lock_so : (s : Trace) (a b : ℕ) → same_lock (begun s a) (begun s b) ≡ true → BeginOnOneLock s a b
-same_lock_so s a b h = go (begun s a) refl h
+same_lock_so : (s : Trace) (a b : ℕ) → same_lock (begun_lock s a) (begun_lock s b) ≡ true → BeginOnOneLock s a b
+same_lock_so s a b h = go (begun_lock s a) refl h
   where
-    go : (o : Option ℕ) → begun s a ≡ o → same_lock o (begun s b) ≡ true → BeginOnOneLock s a b
+    go : (o : Option ℕ) → begun_lock s a ≡ o → same_lock o (begun_lock s b) ≡ true → BeginOnOneLock s a b
     go None e k = absurd (false≢true k)
-    go (Some l) e k = (l, begun_so s a l e, begun_so s b l (is_place_so (begun s b) l k))
+    go (Some l) e k = (l, begun_so s a l e, begun_so s b l (is_place_so (begun_lock s b) l k))
 
-same_lock_from : (s : Trace) (a b l : ℕ) → BeginsOn s a l → BeginsOn s b l → same_lock (begun s a) (begun s b) ≡ true
+same_lock_from : (s : Trace) (a b l : ℕ) → BeginsOn s a l → BeginsOn s b l → same_lock (begun_lock s a) (begun_lock s b) ≡ true
 same_lock_from s a b l x y = rw (begun_from s a l x, begun_from s b l y) (eq-eqb l l refl)
 
 -- the release at p ends the earlier of two sections that begin at a and b
 abbrev pub released_by : Trace → ℕ → ℕ → ℕ → Bool
-released_by s p a b = (ltb a b && same_lock (begun s a) (begun s b)) && is_place (release s a) p
+released_by s p a b = (ltb a b && same_lock (begun_lock s a) (begun_lock s b)) && is_place (release s a) p
 
 -- the event at q needs p, or reads what p wrote
 abbrev pub required_by : Trace → ℕ → ℕ → Bool
@@ -142,8 +142,8 @@ derivable_so s places derived p h =
 
     by_two : (a b : ℕ) → Contains derived a → Contains derived b → released_by s p a b ≡ true → (r : Reason) × Justifies s places derived r p
     by_two a b c d e =
-        let x = and_parts (ltb a b && same_lock (begun s a) (begun s b)) (is_place (release s a) p) e in
-        let y = and_parts (ltb a b) (same_lock (begun s a) (begun s b)) x.0 in
+        let x = and_parts (ltb a b && same_lock (begun_lock s a) (begun_lock s b)) (is_place (release s a) p) e in
+        let y = and_parts (ltb a b) (same_lock (begun_lock s a) (begun_lock s b)) x.0 in
         (Sections a b, (c, d, ltb-true a b y.0, same_lock_so s a b y.1, is_place_so (release s a) p x.1))
 
 passes_contained : (f : ℕ → Bool) (xs : List ℕ) (x : ℕ) → Contains xs x → f x ≡ true → list_any f xs ≡ true
@@ -167,7 +167,7 @@ complete_closes s places derived h = record {
       (or_right (list_any (required_by s p) derived) _
       (passes_contained (λ a. list_any (released_by s p a) derived) derived a (listed_contains derived a c)
       (passes_contained (released_by s p a) derived b (listed_contains derived b d)
-      (and_from (ltb a b && same_lock (begun s a) (begun s b)) _
+      (and_from (ltb a b && same_lock (begun_lock s a) (begun_lock s b)) _
       (and_from (ltb a b) _ (lt-ltb a b below) (same_lock_from s a b l x y))
       (is_place_from (release s a) p e))))));
 }

@@ -8,8 +8,8 @@ use Rattle.trace_model.specs.Theory.Trace.{Trace, Does}
 use Rattle.trace_model.specs.Theory.Held.{BeginsOn}
 use Rattle.trace_model.specs.Theory.Lawful.{IsWellFormed}
 use Rattle.trace_model.specs.Theory.Lookups.{writer, release}
-use Rattle.trace_model.specs.Theory.Reordering.{Before, ForkOrJoin, LastWrite, IsReordering, Reaches, Reached}
-use Rattle.trace_model.specs.Theory.Closure.{Places, IsClosed, HoldsPredecessors, InClosure, IsClosure, ascending}
+use Rattle.trace_model.specs.Theory.Reordering.{Before, ForkOrJoin, LastWrite, IsReordering, Reaches, AreReached}
+use Rattle.trace_model.specs.Theory.Closure.{Places, IsClosed, HoldsPredecessors, InClosure, IsClosure, ascending_places}
 use Rattle.trace_model.proofs.Theory.Lawful.{fork_before, join_after, fork_before_join}
 use Rattle.trace_model.proofs.Theory.Sections.{released_between}
 use Rattle.trace_model.proofs.Theory.Lookups.{writer_so, no_writer_so, writer_of_read}
@@ -22,7 +22,7 @@ needed_before s w p q (inr (c, j, inl f)) = fork_before_join s w p q c f j
 needed_before s w p q (inr (c, j, inr o)) = join_after s w q p c j o
 
 -- a closed set, ascending, is a reordering
-pub closed_reorders : (s : Trace) → IsWellFormed s → (set : Places) → IsClosed s set → IsReordering s (ascending set (length s))
+pub closed_reorders : (s : Trace) → IsWellFormed s → (set : Places) → IsClosed s set → IsReordering s (ascending_places set (length s))
 closed_reorders s w set c = record {
   in_trace = λ q h. (ascending_contains set (length s) q h).0;
   distinct = ascending_distinct set (length s);
@@ -36,8 +36,8 @@ closed_reorders s w set c = record {
   sections = λ p q l a b before.
       let below = ascending_before set (length s) p q before in
       let r = released_between s w p q l below a b in
-      let x = ascending_contains set (length s) p (before_left (ascending set (length s)) p q before) in
-      let y = ascending_contains set (length s) q (before_right (ascending set (length s)) p q before) in
+      let x = ascending_contains set (length s) p (before_left (ascending_places set (length s)) p q before) in
+      let y = ascending_contains set (length s) q (before_right (ascending_places set (length s)) p q before) in
       let z = c.sections p q r.0 l below a b x.1 y.1 r.1 in (
         r.0,
         r.1,
@@ -47,10 +47,10 @@ closed_reorders s w set c = record {
   lock_order = λ p q l a b before. ascending_before set (length s) p q before;
 }
   where
-    written : (q v : ℕ) → Contains (ascending set (length s)) q → Does s q (Read v) → (o : Option ℕ) → writer s q ≡ o →
+    written : (q v : ℕ) → Contains (ascending_places set (length s)) q → Does s q (Read v) → (o : Option ℕ) → writer s q ≡ o →
         MatchOption o
-        ((u : ℕ) → Does s u (Write v) → Before (ascending set (length s)) u q → ⊥)
-        (LastWrite s (ascending set (length s)) v q)
+        ((u : ℕ) → Does s u (Write v) → Before (ascending_places set (length s)) u q → ⊥)
+        (LastWrite s (ascending_places set (length s)) v q)
     written q v h d None e = λ u x before. no_writer_so s q v d e u (ascending_before set (length s) u q before) x
     written q v h d (Some x) e =
         let r = ascending_contains set (length s) q h in
@@ -61,7 +61,7 @@ closed_reorders s w set c = record {
 
 -- it reaches places that are not in the set, if the set holds their predecessors
 pub closed_reaches : (s : Trace) (places : List ℕ) (set : Places) → HoldsPredecessors s places set →
-    ((p : ℕ) → Contains places p → set p ≡ true → ⊥) → Reaches s (ascending set (length s)) places
+    ((p : ℕ) → Contains places p → set p ≡ true → ⊥) → Reaches s (ascending_places set (length s)) places
 closed_reaches s places set holds none p within = (
   (λ h. none p within (ascending_contains set (length s) p h).1),
   λ q e. contains_ascending set (length s) q (slice_get_within s q _ e.1.1) (holds p q within e),
@@ -131,10 +131,10 @@ closure_holds s places set is p q h e = (is q).1 (λ z c d. d p q h e)
 
 -- the closure holds none of the places exactly if some reordering reaches them
 pub existence : (s : Trace) → IsWellFormed s → (places : List ℕ) (set : Places) → IsClosure s places set →
-    (((p : ℕ) → Contains places p → IsTrue (set p) → ⊥) ↔ Reached s places)
+    (((p : ℕ) → Contains places p → IsTrue (set p) → ⊥) ↔ AreReached s places)
 existence s w places set is = (
   (λ none. (
-    ascending set (length s),
+    ascending_places set (length s),
     closed_reorders s w set (closure_closes s places set is),
     closed_reaches s places set (closure_holds s places set is) none,
   )),

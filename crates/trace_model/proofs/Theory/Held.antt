@@ -7,7 +7,7 @@ use Rattle.trace_model.specs.declared.traces.event.Event.{Event}
 use Rattle.trace_model.specs.declared.traces.event.Op.{Op}
 use Rattle.trace_model.specs.declared.traces.event.Op.TheVariants.{Fork, Join, Acquire, Release, Read, Write}
 use Rattle.trace_model.specs.Theory.Trace.{Trace, event}
-use Rattle.trace_model.specs.Theory.Held.{depth, depth_after, depth_step, Ends, Holds, InSection, with_lock, without_lock, held_after, held_step, held, has}
+use Rattle.trace_model.specs.Theory.Held.{depth, depth_after, depth_step, Ends, Holds, InSection, with_lock, without_lock, held_after, held_step, held_set, has}
 
 pub has_with : (l m : ℕ) (ks : List ℕ) → has m (with_lock l ks) ≡ true → (l ≡ m) ⊎ (has m ks ≡ true)
 has_with l m [] h = elim (or_cases (l == m) false h) [ inl a ↦ inl (eqb-true l m a) | inr b ↦ absurd (false≢true b) ]
@@ -118,15 +118,15 @@ step_fits depths (Some x) t l ks h = go (x.thread == t)
     go true = op_fits depths x.op l ks h
     go false = h
 
-pub held_fits : (s : Trace) (p t l : ℕ) → Fits l (held s p t) (depth s p t l)
+pub held_fits : (s : Trace) (p t l : ℕ) → Fits l (held_set s p t) (depth s p t l)
 held_fits s zero t l = ((λ k. absurd (false≢true k)), λ k. absurd (omega arith))
-held_fits s (suc p) t l = step_fits (depth s p t) (slice_get s p) t l (held s p t) (held_fits s p t l)
+held_fits s (suc p) t l = step_fits (depth s p t) (slice_get s p) t l (held_set s p t) (held_fits s p t l)
 
 -- the list contains the lock exactly if the thread holds it
-pub held_so : (s : Trace) (p t l : ℕ) → has l (held s p t) ≡ true → Holds s p t l
+pub held_so : (s : Trace) (p t l : ℕ) → has l (held_set s p t) ≡ true → Holds s p t l
 held_so s p t l = (held_fits s p t l).0
 
-pub held_from : (s : Trace) (p t l : ℕ) → Holds s p t l → has l (held s p t) ≡ true
+pub held_from : (s : Trace) (p t l : ℕ) → Holds s p t l → has l (held_set s p t) ≡ true
 held_from s p t l = (held_fits s p t l).1
 
 -- ---- what an event does to a depth

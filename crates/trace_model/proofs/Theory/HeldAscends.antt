@@ -6,7 +6,7 @@ use Rattle.trace_model.specs.declared.traces.event.Event.{Event}
 use Rattle.trace_model.specs.declared.traces.event.Op.{Op}
 use Rattle.trace_model.specs.declared.traces.event.Op.TheVariants.{Fork, Join, Acquire, Release, Read, Write}
 use Rattle.trace_model.specs.Theory.Trace.{Trace}
-use Rattle.trace_model.specs.Theory.Held.{depth, with_lock, without_lock, held_after, held_step, held}
+use Rattle.trace_model.specs.Theory.Held.{depth, with_lock, without_lock, held_after, held_step, held_set}
 
 -- above every element
 abbrev pub Above : ℕ → List ℕ → Type 0
@@ -75,9 +75,9 @@ step_ascends depths (Some x) t ks h = go (x.thread == t)
     go true = after_ascends depths x.op ks h
     go false = h
 
-pub ascends_held : (s : Trace) (p t : ℕ) → Ascends (held s p t)
+pub ascends_held : (s : Trace) (p t : ℕ) → Ascends (held_set s p t)
 ascends_held s zero t = tt
-ascends_held s (suc p) t = step_ascends (depth s p t) (slice_get s p) t (held s p t) (ascends_held s p t)
+ascends_held s (suc p) t = step_ascends (depth s p t) (slice_get s p) t (held_set s p t) (ascends_held s p t)
 
 pub increasing_from : (xs : List ℕ) → Ascends xs → IsStrictlyIncreasing xs
 increasing_from [] h k l = absurd (omega arith)
@@ -87,5 +87,5 @@ increasing_from (x ∷ y ∷ ys) h (suc k) l =
     let e : suc k + 1 ≡ suc (k + 1) = omega arith in
     rw e (increasing_from (y ∷ ys) h.1 k (omega arith))
 
-pub held_ascends : (s : Trace) (p t : ℕ) → IsStrictlyIncreasing (held s p t)
-held_ascends s p t = increasing_from (held s p t) (ascends_held s p t)
+pub held_ascends : (s : Trace) (p t : ℕ) → IsStrictlyIncreasing (held_set s p t)
+held_ascends s p t = increasing_from (held_set s p t) (ascends_held s p t)

@@ -5,7 +5,7 @@ use Rattle.std.proofs.lemmas.Option.{none-some, same_Some}
 use Rattle.std.specs.List.{Contains}
 use Rattle.trace_model.specs.Theory.Trace.{Trace, event, OfThread, EarlierInThread}
 use Rattle.trace_model.specs.Theory.Lawful.{IsWellFormed}
-use Rattle.trace_model.specs.Theory.Reordering.{Reached}
+use Rattle.trace_model.specs.Theory.Reordering.{AreReached}
 use Rattle.trace_model.specs.Theory.Laws.{lesser, OfSameThreads}
 use Rattle.trace_model.proofs.Theory.Ascending.{place_of, contains_at, listed, listed_contains}
 use Rattle.trace_model.proofs.Theory.Existence.{reordering_closes, reaching_holds}
@@ -37,7 +37,7 @@ earlier_both s q x y p (t, a, b) m (u, c, d, l) =
     ]
 
 pub lesser_reached : (s : Trace) → IsWellFormed s → (xs ys : List ℕ) → OfSameThreads s xs ys →
-    Reached s xs → Reached s ys → Reached s (lesser xs ys)
+    AreReached s xs → AreReached s ys → AreReached s (lesser xs ys)
 lesser_reached s w xs ys same (a, oa, ra) (b, ob, rb) =
     reached_from s w (lesser xs ys) (λ q. listed a q && listed b q)
     (both_closed s (listed a) (listed b) (reordering_closes s a oa) (reordering_closes s b ob))

@@ -5,7 +5,7 @@ use Rattle.std.proofs.lemmas.Option.{none-some, same_Some, slice_get_within}
 use Rattle.std.specs.List.{Contains, list_any}
 use Rattle.std.specs.Option.{option_map_or}
 use Rattle.trace_model.specs.declared.refutations.Derived.{Derived}
-use Rattle.trace_model.specs.declared.refutations.Step.{Step}
+use Rattle.trace_model.specs.declared.refutations.RefutationStep.{RefutationStep}
 use Rattle.trace_model.specs.Theory.Trace.{Trace, first_place}
 use Rattle.trace_model.specs.Theory.Lawful.{IsWellFormed}
 use Rattle.trace_model.specs.Theory.Dependencies.{Dependency, dependency_at, same_dependency, dependencies}
@@ -114,8 +114,8 @@ caught_member s w numbers places h not_confirmed entries whole = go (list_any (l
 module _ (s : Trace) (w : IsWellFormed s) (numbers : List ℕ) (not_confirmed : IsConfirmed s numbers → ⊥) where
   one_step : (places : List ℕ) → ArePresent s numbers places →
       ((i p q : ℕ) (d : Dependency) → slice_get places i ≡ Some p → p < q → Member (dependencies s) numbers i d → dependency_at s q ≡ Some d →
-      (steps : List Step) × Refutes s numbers (slice_set places i q) steps) →
-      (steps : List Step) × Refutes s numbers places steps
+      (steps : List RefutationStep) × Refutes s numbers (slice_set places i q) steps) →
+      (steps : List RefutationStep) × Refutes s numbers places steps
   one_step places h more =
       let (entries, whole) = whole_derivation s places in
       let (i, p, at, caught) = caught_member s w numbers places h not_confirmed entries whole in
@@ -126,7 +126,7 @@ module _ (s : Trace) (w : IsWellFormed s) (numbers : List ℕ) (not_confirmed : 
     where
       go : (entries : List Derived) → IsDerivation s places entries → (i p : ℕ) → slice_get places i ≡ Some p → EndsAt entries p →
           (d : Dependency) → Member (dependencies s) numbers i d → (next : Option ℕ) → IsFirstFrom s d (suc p) next →
-          (steps : List Step) × Refutes s numbers places steps
+          (steps : List RefutationStep) × Refutes s numbers places steps
       go entries derivation i p at ends d member None first =
           (record { member = i; derivation = entries } ∷ [], (None, (p, at, derivation, ends), (p, d, at, member, first), refl))
       go entries derivation i p at ends d member (Some q) first =
@@ -134,7 +134,7 @@ module _ (s : Trace) (w : IsWellFormed s) (numbers : List ℕ) (not_confirmed : 
           (record { member = i; derivation = entries } ∷ steps, (Some q, (p, at, derivation, ends), (p, d, at, member, first), rest))
 
   steps_from : (n : ℕ) (places : List ℕ) → ArePresent s numbers places → remaining (length s) places ≤ n →
-      (steps : List Step) × Refutes s numbers places steps
+      (steps : List RefutationStep) × Refutes s numbers places steps
   steps_from zero places h low = one_step places h (λ i p q d at l member is.
       absurd (omega (arith, low, remaining_less (length s) places i p q at l (within_trace s q d is))))
   steps_from (suc n) places h low = one_step places h (λ i p q d at l member is.
@@ -142,7 +142,7 @@ module _ (s : Trace) (w : IsWellFormed s) (numbers : List ℕ) (not_confirmed : 
       (omega (arith, low, remaining_less (length s) places i p q at l (within_trace s q d is))))
 
 pub not_confirmed_refuted : (s : Trace) → IsWellFormed s → (bound : ℕ) (numbers : List ℕ) → IsCycle (dependencies s) bound numbers →
-    (IsConfirmed s numbers → ⊥) → (steps : List Step) × IsRefutation s numbers steps
+    (IsConfirmed s numbers → ⊥) → (steps : List RefutationStep) × IsRefutation s numbers steps
 not_confirmed_refuted s w bound numbers cycle not_confirmed =
     let (places, first) = first_places s numbers cycle.known in
     let (steps, r) = steps_from s w numbers not_confirmed (remaining (length s) places) places (first_present s numbers places first) (omega arith) in

@@ -8,8 +8,8 @@ use Rattle.trace_model.specs.declared.traces.event.Op.{Op}
 use Rattle.trace_model.specs.declared.traces.event.Op.TheVariants.{Acquire, Release}
 use Rattle.trace_model.specs.declared.refusal.Refusal.TheVariants.{Full, TooNested, HeldByOther, TooDeep, NotHeld}
 use Rattle.trace_model.specs.declared.limits.TheConstants.{MAX_EVENTS, MAX_HELD, MAX_DEPTH}
-use Rattle.trace_model.specs.Theory.Trace.{Trace, op_eq, stands}
-use Rattle.trace_model.specs.Theory.Held.{depth, depth_step, held_step, held}
+use Rattle.trace_model.specs.Theory.Trace.{Trace, op_eq, occurs}
+use Rattle.trace_model.specs.Theory.Held.{depth, depth_step, held_step, held_set}
 use Rattle.trace_model.specs.Theory.Lawful.{is_fork, forks, held_by, held_by_other, op_refusal_of, refusal_of, IsWellFormed}
 use Rattle.trace_model.specs.Theory.Dependencies.{dependency_of, dependency_at, with_new, dependencies}
 use Rattle.trace_model.proofs.Theory.Prefix.{depth-agree, held_step-agree, held-agree}
@@ -18,8 +18,8 @@ use Rattle.trace_model.proofs.Theory.Growing.{well_formed_take, well_formed_push
 use Rattle.trace_model.proofs.Theory.Dependencies.{dependencies-agree}
 use Rattle.trace_model.proofs.Lists.{by_pushes, get-append, get-push_last, length-push, or-false, take-push}
 
-pub stands-push : (s : Trace) (e : Event) (o : Op) → stands (s ++ e ∷ []) o ≡ (stands s o || op_eq e.op o)
-stands-push s e o = list_any-append (λ d. op_eq d.op o) s (e ∷ []) ∙ ap (λ b. stands s o || b) (or-false (op_eq e.op o))
+pub stands-push : (s : Trace) (e : Event) (o : Op) → occurs (s ++ e ∷ []) o ≡ (occurs s o || op_eq e.op o)
+stands-push s e o = list_any-append (λ d. op_eq d.op o) s (e ∷ []) ∙ ap (λ b. occurs s o || b) (or-false (op_eq e.op o))
 
 pub forks-push : (s : Trace) (e : Event) → forks (s ++ e ∷ []) ≡ forks s + cond (is_fork e.op) 1 0
 forks-push s e = omega (arith, sum_by-append (λ d. cond (is_fork d.op) 1 0) s (e ∷ []))
@@ -32,23 +32,23 @@ depth-front s e t l = depth-agree (s ++ e ∷ []) s (length s) t l (λ p k. get-
 pub depth-push : (s : Trace) (e : Event) (t l : ℕ) → depth (s ++ e ∷ []) (length (s ++ e ∷ [])) t l ≡ depth_step (Some e) t l (depth s (length s) t l)
 depth-push s e t l = rw (length-push s e, get-push_last s e, depth-front s e t l) refl
 
-pub held-front : (s : Trace) (e : Event) (t : ℕ) → held (s ++ e ∷ []) (length s) t ≡ held s (length s) t
+pub held-front : (s : Trace) (e : Event) (t : ℕ) → held_set (s ++ e ∷ []) (length s) t ≡ held_set s (length s) t
 held-front s e t = held-agree (s ++ e ∷ []) s (length s) t (λ p l. get-append s (e ∷ []) p l)
 
 pub held-push : (s : Trace) (e : Event) (t : ℕ) →
-    held (s ++ e ∷ []) (length (s ++ e ∷ [])) t ≡ held_step (depth s (length s) t) (Some e) t (held s (length s) t)
+    held_set (s ++ e ∷ []) (length (s ++ e ∷ [])) t ≡ held_step (depth s (length s) t) (Some e) t (held_set s (length s) t)
 held-push s e t =
-    ap (λ n. held (s ++ e ∷ []) n t) (length-push s e)
-    ∙ ap (λ o. held_step (depth (s ++ e ∷ []) (length s) t) o t (held (s ++ e ∷ []) (length s) t)) (get-push_last s e)
+    ap (λ n. held_set (s ++ e ∷ []) n t) (length-push s e)
+    ∙ ap (λ o. held_step (depth (s ++ e ∷ []) (length s) t) o t (held_set (s ++ e ∷ []) (length s) t)) (get-push_last s e)
     ∙ ap (held_step (depth (s ++ e ∷ []) (length s) t) (Some e) t) (held-front s e t)
-    ∙ held_step-agree (depth (s ++ e ∷ []) (length s) t) (depth s (length s) t) (Some e) t (held s (length s) t) (depth-front s e t)
+    ∙ held_step-agree (depth (s ++ e ∷ []) (length s) t) (depth s (length s) t) (Some e) t (held_set s (length s) t) (depth-front s e t)
 
 -- ---- dependencies
 
-pub dependency_at-push : (s : Trace) (e : Event) → dependency_at (s ++ e ∷ []) (length s) ≡ dependency_of e.thread e.op (held s (length s) e.thread)
+pub dependency_at-push : (s : Trace) (e : Event) → dependency_at (s ++ e ∷ []) (length s) ≡ dependency_of e.thread e.op (held_set s (length s) e.thread)
 dependency_at-push s e = rw (get-push_last s e, held-front s e e.thread) refl
 
-pub dependencies-push : (s : Trace) (e : Event) → dependencies (s ++ e ∷ []) ≡ with_new (dependencies s) (dependency_of e.thread e.op (held s (length s) e.thread))
+pub dependencies-push : (s : Trace) (e : Event) → dependencies (s ++ e ∷ []) ≡ with_new (dependencies s) (dependency_of e.thread e.op (held_set s (length s) e.thread))
 dependencies-push s e =
     rw (length-push s e, dependencies-agree (s ++ e ∷ []) s (length s) (λ p l. get-append s (e ∷ []) p l), dependency_at-push s e) refl
 
@@ -84,14 +84,14 @@ lawful_op limit s e h = (lawful_parts limit s e.thread e.op h).2
 
 -- the tests that an acquire passed
 pub lawful_acquire : (s : Trace) (t l : ℕ) → op_refusal_of s t (Acquire l) ≡ None →
-    (depth s (length s) t l < MAX_DEPTH) × (held_by_other s t l ≡ false) × (held_by s t l ≡ false → length (held s (length s) t) < MAX_HELD)
+    (depth s (length s) t l < MAX_DEPTH) × (held_by_other s t l ≡ false) × (held_by s t l ≡ false → length (held_set s (length s) t) < MAX_HELD)
 lawful_acquire s t l h =
     let nested = passes (leb MAX_DEPTH (depth s (length s) t l)) TooNested _ h in
     let other = passes (held_by_other s t l) HeldByOther _ nested.1 in
-    let deep = passes (not (held_by s t l) && leb MAX_HELD (length (held s (length s) t))) TooDeep _ other.1 in (
+    let deep = passes (not (held_by s t l) && leb MAX_HELD (length (held_set s (length s) t))) TooDeep _ other.1 in (
       leb-false MAX_DEPTH (depth s (length s) t l) nested.0,
       other.0,
-      λ new. leb-false MAX_HELD (length (held s (length s) t)) (ap (λ b. not b && leb MAX_HELD (length (held s (length s) t))) (sym new) ∙ deep.0),
+      λ new. leb-false MAX_HELD (length (held_set s (length s) t)) (ap (λ b. not b && leb MAX_HELD (length (held_set s (length s) t))) (sym new) ∙ deep.0),
     )
 
 pub lawful_release : (s : Trace) (t l : ℕ) → op_refusal_of s t (Release l) ≡ None → 0 < depth s (length s) t l

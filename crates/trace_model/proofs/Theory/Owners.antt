@@ -11,7 +11,7 @@ use Rattle.trace_model.specs.declared.limits.TheConstants.{MAX_EVENTS}
 use Rattle.trace_model.specs.Theory.Trace.{Trace, op_eq}
 use Rattle.trace_model.specs.Theory.Held.{depth, depth_after}
 use Rattle.trace_model.specs.Theory.Lawful.{held_by_other, op_refusal_of, IsWellFormed}
-use Rattle.trace_model.specs.Theory.Holders.{owner, owner_after, owned, released, depth_by, is_other_owner}
+use Rattle.trace_model.specs.Theory.Holders.{owner, owner_after, owner_depth, owner_after_release, depth_by, is_other_owner}
 use Rattle.trace_model.proofs.Theory.Sections.{other_so, other_from}
 use Rattle.trace_model.proofs.Theory.OneMore.{depth-push, well_formed-front, well_formed-last, lawful_op, lawful_acquire, lawful_release}
 use Rattle.trace_model.proofs.Lists.{by_pushes, same_bool}
@@ -67,7 +67,7 @@ releases_so (Read v) l a = absurd (false≢true a)
 releases_so (Write v) l a = absurd (false≢true a)
 
 -- if no other thread holds the lock, then this thread holds it at the depth of its owner
-alone : (o : Option Owner) (u : ℕ) → is_other_owner o u ≡ false → depth_by o u ≡ owned o
+alone : (o : Option Owner) (u : ℕ) → is_other_owner o u ≡ false → depth_by o u ≡ owner_depth o
 alone None u h = refl
 alone (Some x) u h = go (x.thread == u) h
   where
@@ -84,7 +84,7 @@ not_theirs (Some x) u t h k = go (x.thread == u) refl h
     go true e f = ap (λ y. cond (y == t) x.depth 0) (eqb-true x.thread u e) ∙ ap (λ b. cond b x.depth 0) k
     go false e f = absurd (false≢true (sym f))
 
-released_by : (o : Option Owner) (t : ℕ) → depth_by (released o) t ≡ depth_by o t - 1
+released_by : (o : Option Owner) (t : ℕ) → depth_by (owner_after_release o) t ≡ depth_by o t - 1
 released_by None t = refl
 released_by (Some x) t = go (leb x.depth 1) refl
   where
@@ -100,7 +100,7 @@ released_by (Some x) t = go (leb x.depth 1) refl
     go true e = least (x.thread == t) e
     go false e = more (x.thread == t)
 
-still_deep : (o : Option Owner) → ((x : Owner) → o ≡ Some x → 0 < x.depth) → (y : Owner) → released o ≡ Some y → 0 < y.depth
+still_deep : (o : Option Owner) → ((x : Owner) → o ≡ Some x → 0 < x.depth) → (y : Owner) → owner_after_release o ≡ Some y → 0 < y.depth
 still_deep None d y e = absurd (none-some y e)
 still_deep (Some x) d y e = go (leb x.depth 1) refl e
   where
@@ -115,9 +115,9 @@ module _ (s : Trace) (e : Event) (l : ℕ) (lawful : op_refusal_of s e.thread e.
   Next o = ((x : Owner) → o ≡ Some x → 0 < x.depth)
       × ((t : ℕ) → cond (e.thread == t) (depth_after e.op l (depth s (length s) t l)) (depth s (length s) t l) ≡ depth_by o t)
 
-  of_acquire : op_eq e.op (Acquire l) ≡ true → Next (Some (record { thread = e.thread; depth = suc (owned (owner s l)) }))
+  of_acquire : op_eq e.op (Acquire l) ≡ true → Next (Some (record { thread = e.thread; depth = suc (owner_depth (owner s l)) }))
   of_acquire a = (
-    (λ x f. subst (λ (z : Owner). 0 < z.depth) (same_Some (record { thread = e.thread; depth = suc (owned (owner s l)) }) x f) (omega arith)),
+    (λ x f. subst (λ (z : Owner). 0 < z.depth) (same_Some (record { thread = e.thread; depth = suc (owner_depth (owner s l)) }) x f) (omega arith)),
     λ t. go t (e.thread == t) refl,
   )
     where
@@ -125,13 +125,13 @@ module _ (s : Trace) (e : Event) (l : ℕ) (lawful : op_refusal_of s e.thread e.
       free = sym (other e.thread) ∙ (lawful_acquire s e.thread l (subst (λ o. op_refusal_of s e.thread o ≡ None) (acquires_so e.op l a) lawful)).1
 
       go : (t : ℕ) (b : Bool) → (e.thread == t) ≡ b →
-          cond b (depth_after e.op l (depth s (length s) t l)) (depth s (length s) t l) ≡ cond b (suc (owned (owner s l))) 0
+          cond b (depth_after e.op l (depth s (length s) t l)) (depth s (length s) t l) ≡ cond b (suc (owner_depth (owner s l))) 0
       go t true k =
           taken e.op l (depth s (length s) t l) a
           ∙ ap suc (was.each t ∙ ap (depth_by (owner s l)) (sym (eqb-true e.thread t k)) ∙ alone (owner s l) e.thread free)
       go t false k = was.each t ∙ not_theirs (owner s l) e.thread t free k
 
-  of_release : op_eq e.op (Release l) ≡ true → Next (released (owner s l))
+  of_release : op_eq e.op (Release l) ≡ true → Next (owner_after_release (owner s l))
   of_release r = (still_deep (owner s l) was.deep, λ t. go t (e.thread == t) refl ∙ sym (released_by (owner s l) t))
     where
       mine : 0 < depth_by (owner s l) e.thread
@@ -161,7 +161,7 @@ module _ (s : Trace) (e : Event) (l : ℕ) (lawful : op_refusal_of s e.thread e.
   next_owner = go (op_eq e.op (Acquire l)) refl (op_eq e.op (Release l)) refl
     where
       go : (a : Bool) → op_eq e.op (Acquire l) ≡ a → (r : Bool) → op_eq e.op (Release l) ≡ r →
-          Next (cond a (Some (record { thread = e.thread; depth = suc (owned (owner s l)) })) (cond r (released (owner s l)) (owner s l)))
+          Next (cond a (Some (record { thread = e.thread; depth = suc (owner_depth (owner s l)) })) (cond r (owner_after_release (owner s l)) (owner s l)))
       go true f r g = of_acquire f
       go false f true g = of_release g
       go false f false g = of_other f g
@@ -208,11 +208,11 @@ held_by_other-owner s w t l = other_is s l (owner_is s w l) t
 
 -- ---- the lock of a lawful event has the depth of its owner
 
-pub acquired_owned : (s : Trace) → IsWellFormed s → (t l : ℕ) → op_refusal_of s t (Acquire l) ≡ None → depth s (length s) t l ≡ owned (owner s l)
+pub acquired_owned : (s : Trace) → IsWellFormed s → (t l : ℕ) → op_refusal_of s t (Acquire l) ≡ None → depth s (length s) t l ≡ owner_depth (owner s l)
 acquired_owned s w t l h =
     depth-owner s w t l ∙ alone (owner s l) t (sym (held_by_other-owner s w t l) ∙ (lawful_acquire s t l h).1)
 
-pub released_owned : (s : Trace) → IsWellFormed s → (t l : ℕ) → op_refusal_of s t (Release l) ≡ None → depth s (length s) t l ≡ owned (owner s l)
+pub released_owned : (s : Trace) → IsWellFormed s → (t l : ℕ) → op_refusal_of s t (Release l) ≡ None → depth s (length s) t l ≡ owner_depth (owner s l)
 released_owned s w t l h =
     let same = depth-owner s w t l in
     same ∙ alone (owner s l) t (not_other (owner s l) (subst (λ n. 0 < n) same (lawful_release s t l h)))

@@ -6,7 +6,7 @@ use Rattle.std.specs.Option.{option_map_or}
 use Rattle.trace_model.specs.declared.traces.event.Event.{Event}
 use Rattle.trace_model.specs.declared.traces.event.Op.{Op}
 use Rattle.trace_model.specs.declared.traces.event.Op.TheVariants.{Fork, Join, Acquire, Release, Read, Write}
-use Rattle.trace_model.specs.Theory.Trace.{Trace, event, Does, op_eq, does, stands, last_place, first_place}
+use Rattle.trace_model.specs.Theory.Trace.{Trace, event, Does, op_eq, does, occurs, last_place, first_place}
 
 -- which branch gave the value
 pub cond_some_cases : (b : Bool) (n p : ℕ) (o : Option ℕ) → cond b (Some n) o ≡ Some p →
@@ -129,19 +129,19 @@ pub does_from : (s : Trace) (o : Op) (p : ℕ) → Does s p o → does s o p ≡
 does_from s o p (t, h) = rw h (op_eq_itself o)
 
 -- `stands` decides that some place has the operation
-pub stands_so : (s : Trace) (o : Op) → stands s o ≡ true → (p : ℕ) × Does s p o
+pub stands_so : (s : Trace) (o : Op) → occurs s o ≡ true → (p : ℕ) × Does s p o
 stands_so [] o h = absurd (false≢true h)
 stands_so (e ∷ s) o h =
-    let more : stands s o ≡ true → (p : ℕ) × Does s p o = stands_so s o in
-    elim (or_cases (op_eq e.op o) (stands s o) h) [
+    let more : occurs s o ≡ true → (p : ℕ) × Does s p o = stands_so s o in
+    elim (or_cases (op_eq e.op o) (occurs s o) h) [
       | inl k ↦ (zero, (e.thread, ap (λ y. Some (event e.thread y)) (op_eq_same e.op o k)))
       | inr k ↦ let r = more k in (suc r.0, r.1)
     ]
 
-pub stands_from : (s : Trace) (o : Op) (p : ℕ) → Does s p o → stands s o ≡ true
+pub stands_from : (s : Trace) (o : Op) (p : ℕ) → Does s p o → occurs s o ≡ true
 stands_from [] o p (t, h) = absurd (none-some (event t o) h)
 stands_from (e ∷ s) o zero (t, h) =
     let k : op_eq e.op o ≡ true = rw (same_Some e (event t o) h) (op_eq_itself o) in
-    or_left (op_eq e.op o) (stands s o) k
+    or_left (op_eq e.op o) (occurs s o) k
 stands_from (e ∷ s) o (suc p) (t, h) =
-    or_right (op_eq e.op o) (stands s o) (stands_from s o p (t, h))
+    or_right (op_eq e.op o) (occurs s o) (stands_from s o p (t, h))

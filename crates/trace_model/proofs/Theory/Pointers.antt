@@ -3,7 +3,7 @@ use Rattle.std.proofs.Common.{◌≡◌, ℕ, ◌<◌, ◌≤◌, List, length, 
 use Rattle.std.proofs.lemmas.Option.{slice_get_within, slice_get-get_or}
 use Rattle.std.specs.List.{Contains}
 use Rattle.trace_model.specs.Theory.Trace.{Trace, OfThread}
-use Rattle.trace_model.specs.Theory.Reordering.{Reached}
+use Rattle.trace_model.specs.Theory.Reordering.{AreReached}
 use Rattle.trace_model.specs.Theory.Closure.{InClosure}
 use Rattle.trace_model.specs.Theory.Rows.{NoLater}
 use Rattle.trace_model.specs.Theory.Laws.{OfSameThreads}
@@ -27,7 +27,7 @@ closure_grows s xs ys len same later q h set c d =
 
 -- a pointer whose place is caught is not that of any reached instance that is no earlier
 pub caught_is_early : (s : Trace) (xs ys : List ℕ) → length xs ≡ length ys → OfSameThreads s xs ys → NoLater xs ys →
-    Reached s ys → (k x y : ℕ) → slice_get xs k ≡ Some x → slice_get ys k ≡ Some y → InClosure s xs x → x < y
+    AreReached s ys → (k x y : ℕ) → slice_get xs k ≡ Some x → slice_get ys k ≡ Some y → InClosure s xs x → x < y
 caught_is_early s xs ys len same later (order, o, r) k x y hx hy h =
     let le : x ≤ y = later k x y hx hy in
     let other : x ≡ y → ⊥ = λ e.

@@ -5,7 +5,7 @@ use Rattle.trace_model.specs.declared.traces.event.Event.{Event}
 use Rattle.trace_model.specs.declared.traces.event.Op.{Op}
 use Rattle.trace_model.specs.declared.traces.event.Op.TheVariants.{Fork, Join, Acquire, Release, Read, Write}
 use Rattle.trace_model.specs.Theory.Trace.{Trace, op_eq, does, last_place}
-use Rattle.trace_model.specs.Theory.Held.{depth, begins_on, held_after, held_step, held}
+use Rattle.trace_model.specs.Theory.Held.{depth, begins_on, held_after, held_step, held_set}
 use Rattle.trace_model.specs.Theory.Lookups.{writer_of, writer}
 
 -- the two traces have the same events below n
@@ -29,13 +29,13 @@ pub held_step-agree : (f g : ℕ → ℕ) (o : Option Event) (t : ℕ) (ks : Lis
 held_step-agree f g None t ks h = refl
 held_step-agree f g (Some e) t ks h = ap (λ xs. cond (e.thread == t) xs ks) (held_after-agree f g e.op ks h)
 
-pub held-agree : (s r : Trace) (n t : ℕ) → Agree n s r → held s n t ≡ held r n t
+pub held-agree : (s r : Trace) (n t : ℕ) → Agree n s r → held_set s n t ≡ held_set r n t
 held-agree s r zero t h = refl
 held-agree s r (suc n) t h =
     let before = λ (p : ℕ) (l : p < n). h p (omega arith) in
-    ap (λ o. held_step (depth s n t) o t (held s n t)) (h n (omega arith))
+    ap (λ o. held_step (depth s n t) o t (held_set s n t)) (h n (omega arith))
     ∙ ap (held_step (depth s n t) (slice_get r n) t) (held-agree s r n t before)
-    ∙ held_step-agree (depth s n t) (depth r n t) (slice_get r n) t (held r n t) (λ l. depth-agree s r n t l before)
+    ∙ held_step-agree (depth s n t) (depth r n t) (slice_get r n) t (held_set r n t) (λ l. depth-agree s r n t l before)
 
 pub begins_on-agree : (s r : Trace) (l p : ℕ) → Agree (suc p) s r → begins_on s l p ≡ begins_on r l p
 begins_on-agree s r l p h = ap (λ o. option_map_or (λ e. op_eq e.op (Acquire l) && (depth s p e.thread l == 0)) o false) (h p (omega arith)) ∙ go (slice_get r p)

@@ -8,13 +8,13 @@ use Rattle.std.specs.List.{Contains}
 use Rattle.trace_model.specs.declared.refutations.Reason.{Reason}
 use Rattle.trace_model.specs.declared.refutations.Reason.TheVariants.{BeforeMember, ThreadOrder, ForkJoin, ReadsFrom, Sections}
 use Rattle.trace_model.specs.declared.refutations.Derived.{Derived}
-use Rattle.trace_model.specs.declared.refutations.Step.{Step}
+use Rattle.trace_model.specs.declared.refutations.RefutationStep.{RefutationStep}
 use Rattle.trace_model.specs.declared.traces.event.Op.TheVariants.{Acquire}
 use Rattle.trace_model.specs.Theory.Trace.{Trace, OfThread}
 use Rattle.trace_model.specs.Theory.Closure.{InClosure}
 use Rattle.trace_model.specs.Theory.Dependencies.{Dependency, dependency_at, dependencies}
 use Rattle.trace_model.specs.Theory.Cycles.{Member, IsInstance, IsConfirmed}
-use Rattle.trace_model.specs.Theory.Reordering.{Reached}
+use Rattle.trace_model.specs.Theory.Reordering.{AreReached}
 use Rattle.trace_model.specs.Theory.Rows.{NoLater}
 use Rattle.trace_model.specs.Theory.Laws.{OfSameThreads}
 use Rattle.trace_model.specs.Theory.Refutation.{Justifies, derived_places, IsDerivation, EndsAt, IsFirstFrom, AreFirstPlaces, Refutes, IsRefutation}
@@ -124,7 +124,7 @@ pub of_its_thread : (s : Trace) (p : ℕ) (d : Dependency) → dependency_at s p
 of_its_thread s p d h = (Acquire d.lock, (dependency_so s p d h).0.0)
 
 -- a member that moves does not pass its place in a reached instance
-next_not_passed : (s : Trace) (numbers others places : List ℕ) (steps : List Step) (i q y : ℕ) (d : Dependency) (next : Option ℕ) →
+next_not_passed : (s : Trace) (numbers others places : List ℕ) (steps : List RefutationStep) (i q y : ℕ) (d : Dependency) (next : Option ℕ) →
     NoLater places others → slice_get others i ≡ Some y → dependency_at s y ≡ Some d → q < y → IsFirstFrom s d (suc q) next →
     MatchOption next (steps ≡ []) (λ x. Refutes s numbers (slice_set places i x) steps) →
     ((x : ℕ) → dependency_at s x ≡ Some d → NoLater (slice_set places i x) others → Refutes s numbers (slice_set places i x) steps → ⊥) → ⊥
@@ -139,7 +139,7 @@ next_not_passed s numbers others places steps i q y d (Some x) later at dep past
     ]) then
 
 -- the steps cannot pass a reached instance
-not_passed : (s : Trace) (numbers others : List ℕ) → IsInstance s numbers others → Reached s others → (steps : List Step) (places : List ℕ) →
+not_passed : (s : Trace) (numbers others : List ℕ) → IsInstance s numbers others → AreReached s others → (steps : List RefutationStep) (places : List ℕ) →
     ArePresent s numbers places → NoLater places others → Refutes s numbers places steps → ⊥
 not_passed s numbers others is reached [] places h later r = r
 not_passed s numbers others is reached (step ∷ steps) places h later (next, (p, at, derivation, ends), (q, d, at_q, member, first), then) =
@@ -165,6 +165,6 @@ first_no_later s numbers places others h is k x y a b =
     let dep = is.1 k m.0 y d m.1 m.2 b in
     elim (cases_lt y x) [ inl l ↦ absurd (first.2 y (omega arith) l dep) | inr l ↦ l ]
 
-pub refuted_not_confirmed : (s : Trace) (numbers : List ℕ) (steps : List Step) → IsRefutation s numbers steps → IsConfirmed s numbers → ⊥
+pub refuted_not_confirmed : (s : Trace) (numbers : List ℕ) (steps : List RefutationStep) → IsRefutation s numbers steps → IsConfirmed s numbers → ⊥
 refuted_not_confirmed s numbers steps (places, first, r) (others, is, reached) =
     not_passed s numbers others is reached steps places (first_present s numbers places first) (first_no_later s numbers places others first is) r

@@ -10,8 +10,8 @@ use Rattle.trace_model.specs.Theory.Trace.{Trace, event, At, Does, OfThread, Ear
 use Rattle.trace_model.specs.Theory.Held.{depth, Begins, Ends, BeginsOn}
 use Rattle.trace_model.specs.Theory.Lawful.{IsWellFormed}
 use Rattle.trace_model.specs.Theory.Lookups.{writer, release}
-use Rattle.trace_model.specs.Theory.Reordering.{ForkOrJoin, Reached}
-use Rattle.trace_model.specs.Theory.Closure.{Places, IsClosed, HoldsPredecessors, InClosure, ascending}
+use Rattle.trace_model.specs.Theory.Reordering.{ForkOrJoin, AreReached}
+use Rattle.trace_model.specs.Theory.Closure.{Places, IsClosed, HoldsPredecessors, InClosure, ascending_places}
 use Rattle.trace_model.proofs.Theory.Prefix.{depth-agree, writer-agree}
 use Rattle.trace_model.proofs.Theory.Sections.{released_between}
 use Rattle.trace_model.proofs.Theory.Lookups.{writer_so, release_so, release_is}
@@ -172,11 +172,11 @@ closure_longer s r v w places low q = (
 
 -- from a closed set to what it reaches
 pub reached_from : (s : Trace) → IsWellFormed s → (places : List ℕ) (set : Places) → IsClosed s set → HoldsPredecessors s places set →
-    ((p : ℕ) → Contains places p → set p ≡ true → ⊥) → Reached s places
-reached_from s w places set c d none = (ascending set (length s), closed_reorders s w set c, closed_reaches s places set d none)
+    ((p : ℕ) → Contains places p → set p ≡ true → ⊥) → AreReached s places
+reached_from s w places set c d none = (ascending_places set (length s), closed_reorders s w set c, closed_reaches s places set d none)
 
 pub reached_longer : (s r : Trace) → IsWellFormed s → IsWellFormed (s ++ r) → (places : List ℕ) →
-    ((p : ℕ) → Contains places p → p < length s) → Reached s places ↔ Reached (s ++ r) places
+    ((p : ℕ) → Contains places p → p < length s) → AreReached s places ↔ AreReached (s ++ r) places
 reached_longer s r v w places low = (
   (λ (order, o, e). reached_from (s ++ r) w places (within s (listed order))
       (closed_longer s r v w (listed order) (reordering_closes s order o))

@@ -9,11 +9,11 @@ use Rattle.trace_model.specs.Theory.Trace.{Trace}
 use Rattle.trace_model.specs.Theory.Dependencies.{dependencies}
 use Rattle.trace_model.specs.Theory.Cycles.{ListBelow, AreCyclesFrom}
 use Rattle.trace_model.specs.Theory.Lawful.{IsWellFormed}
-use Rattle.trace_model.specs.Theory.Reordering.{Reached}
-use Rattle.trace_model.specs.Theory.Closure.{Places, IsClosure, ascending}
+use Rattle.trace_model.specs.Theory.Reordering.{AreReached}
+use Rattle.trace_model.specs.Theory.Closure.{Places, IsClosure, ascending_places}
 use Rattle.trace_model.proofs.Theory.Ascending.{ascending_increases, ascending_contains}
 use Rattle.trace_model.proofs.Theory.Existence.{existence, closed_reorders, closed_reaches, closure_closes, closure_holds, closure_in_every}
-use Rattle.trace_model.specs.Theory.Rows.{Found, Row, NoLater, IsLeastInstance, IsWitness, IsRow, AreRows, IsSound, AreSound}
+use Rattle.trace_model.specs.Theory.Rows.{Evidence, Row, NoLater, IsLeastInstance, IsWitness, IsRow, AreRows, IsSound, AreSound}
 
 abbrev pub Has : {X : Type 0} → List X → X → Type 0
 Has xs x = (k : ℕ) × (slice_get xs k ≡ Some x)
@@ -100,7 +100,7 @@ pub least_unique : (s : Trace) (numbers a b : List ℕ) → IsLeastInstance s nu
 least_unique s numbers a b c d = no_later_same a b (c.is_instance.0 ∙ sym d.is_instance.0)
     (c.least b d.is_instance d.is_reached) (d.least a c.is_instance c.is_reached)
 
-pub found_unique : (s : Trace) (numbers : List ℕ) (a b : Option Found) →
+pub found_unique : (s : Trace) (numbers : List ℕ) (a b : Option Evidence) →
     IsRow s (record { cycle = numbers; found = a }) → IsRow s (record { cycle = numbers; found = b }) → a ≡ b
 found_unique s numbers None None h k = refl
 found_unique s numbers None (Some f) h k = absurd (h (f.places, k.0.is_instance, k.0.is_reached))
@@ -130,14 +130,14 @@ each_unique s (x ∷ xs) (y ∷ ys) e a b =
 pub rows_unique : (s : Trace) (bound root : ℕ) (a b : List Row) → AreRows s bound root a → AreRows s bound root b → a ≡ b
 rows_unique s bound root a b c d = each_unique s a b (cycles_unique s bound root _ _ c.cycles d.cycles) c.exact d.exact
 
-pub ascending_strict : (set : Places) (n : ℕ) → IsStrictlyIncreasing (ascending set n)
+pub ascending_strict : (set : Places) (n : ℕ) → IsStrictlyIncreasing (ascending_places set n)
 ascending_strict set n k l =
     ascending_increases set n k (k + 1) _ _ (omega arith)
-    (slice_get-get_or (ascending set n) k 0 (omega arith)) (slice_get-get_or (ascending set n) (k + 1) 0 l)
+    (slice_get-get_or (ascending_places set n) k 0 (omega arith)) (slice_get-get_or (ascending_places set n) (k + 1) 0 l)
 
 -- the closure of places that are reached, ascending, is their witness
-pub closure_witness : (s : Trace) → IsWellFormed s → (places : List ℕ) (set : Places) → IsClosure s places set → Reached s places →
-    IsWitness s places (ascending set (length s))
+pub closure_witness : (s : Trace) → IsWellFormed s → (places : List ℕ) (set : Places) → IsClosure s places set → AreReached s places →
+    IsWitness s places (ascending_places set (length s))
 closure_witness s w places set is reached = record {
   ascends = ascending_strict set (length s);
   reorders = closed_reorders s w set (closure_closes s places set is);
@@ -148,7 +148,7 @@ closure_witness s w places set is reached = record {
 
 -- ---- exact rows are sound
 
-found_sound : (s : Trace) (numbers : List ℕ) (found : Option Found) →
+found_sound : (s : Trace) (numbers : List ℕ) (found : Option Evidence) →
     IsRow s (record { cycle = numbers; found = found }) → IsSound s (record { cycle = numbers; found = found })
 found_sound s numbers None h = tt
 found_sound s numbers (Some f) h = (h.0.is_instance, h.1.ascends, h.1.reorders, h.1.reaches)

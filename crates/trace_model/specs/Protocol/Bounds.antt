@@ -7,7 +7,7 @@ use Rattle.trace_model.specs.Theory.Lawful.{IsWellFormed}
 use Rattle.trace_model.specs.Theory.Dependencies.{dependencies}
 use Rattle.trace_model.specs.Theory.Rows.{Row}
 use Rattle.trace_model.specs.Protocol.Machine.{Question, State, opening}
-use Rattle.trace_model.specs.Protocol.Runs.{Good, IsRun, Shown, Summary, summary}
+use Rattle.trace_model.specs.Protocol.Runs.{Good, IsRun, QuestionCounts, Summary, summary}
 
 -- A question covers a prefix of the trace, has a valid bound and one task for each dependency, and
 -- each delivered task has good rows.
@@ -16,7 +16,7 @@ pub record QuestionFits (good : Good) (s : Trace) (q : Question) : Type 0 where
   pub at_least : MIN_BOUND ≤ q.bound
   pub at_most : q.bound ≤ MAX_BOUND
   pub total : length q.tasks ≡ length (dependencies (take q.length s))
-  pub told : (task : ℕ) (rows : List Row) → slice_get q.tasks task ≡ Some (Some rows) →
+  pub delivered_rows : (task : ℕ) (rows : List Row) → slice_get q.tasks task ≡ Some (Some rows) →
       good (take q.length s) q.bound task rows × (length rows ≤ MAX_CYCLES)
 
 -- The state is within the limits, and its trace is well formed.
@@ -29,7 +29,7 @@ pub record StateFits (good : Good) (s : State) : Type 0 where
       QuestionFits good s.accepted q
 
 -- The counts of one question on the board are within the limits.
-pub record ShownFits (b : Summary) (shown : Shown) : Type 0 where
+pub record ShownFits (b : Summary) (shown : QuestionCounts) : Type 0 where
   pub before : shown.before ≤ b.accepted
   pub at_least : MIN_BOUND ≤ shown.bound
   pub at_most : shown.bound ≤ MAX_BOUND
@@ -42,7 +42,8 @@ pub record ShownFits (b : Summary) (shown : Shown) : Type 0 where
 pub record SummaryFits (b : Summary) : Type 0 where
   pub accepted : b.accepted ≤ MAX_EVENTS
   pub opened : length b.questions ≤ MAX_QUESTIONS
-  pub each : (k : ℕ) (shown : Shown) → slice_get b.questions k ≡ Some shown → ShownFits b shown
+  pub each : (k : ℕ) (shown : QuestionCounts) → slice_get b.questions k ≡ Some shown →
+      ShownFits b shown
 
 -- The state after each run, and its summary, are within the limits.
 abbrev pub RunFits : Good → Type 0

@@ -49,16 +49,16 @@ unfoldable pub frame : Request → List ℕ
 frame request = to_be_bytes w16 (length (body request)) ++ body request
 
 -- The numbers of the event fit in 32 bits.
-abbrev pub IsInRange : Event → Type 0
-IsInRange e = (e.thread < 2 ^ 32) × (object_of e.op < 2 ^ 32)
+abbrev pub FitsWords : Event → Type 0
+FitsWords e = (e.thread < 2 ^ 32) × (object_of e.op < 2 ^ 32)
 
 -- The fields of the request are in range.
 abbrev pub IsRequest : Request → Type 0
-IsRequest (Offer e) = IsInRange e
+IsRequest (Offer e) = FitsWords e
 IsRequest (Ask bound) = bound < 2 ^ 8
 IsRequest (Answer question) = question < 2 ^ 32
 IsRequest (Status question) = question < 2 ^ 32
-IsRequest (Batch events) = IsBatch events × AllByRecursion IsInRange events
+IsRequest (Batch events) = IsBatch events × AllByRecursion FitsWords events
 
 -- ---- faults
 
@@ -158,9 +158,9 @@ event_of cells =
     }
 
 -- The n events in the first 9 * n bytes.
-abbrev pub events_of : ℕ → List ℕ → List Event
-events_of zero cells = []
-events_of (suc n) cells = event_of cells ∷ events_of n (drop 9 cells)
+abbrev pub events_in : ℕ → List ℕ → List Event
+events_in zero cells = []
+events_in (suc n) cells = event_of cells ∷ events_in n (drop 9 cells)
 
 -- The request of a known kind with these fields.
 unfoldable pub request_of : ℕ → List ℕ → Request
@@ -173,7 +173,7 @@ request_of kind fields =
     if kind == 7 then Ask (slice_index fields 0) else (
     if kind == 8 then Answer (from_be_bytes w32 (take 4 fields)) else (
     if kind == 9 then Status (from_be_bytes w32 (take 4 fields))
-    else Batch (events_of (slice_index fields 0) (drop 1 fields)))))
+    else Batch (events_in (slice_index fields 0) (drop 1 fields)))))
 
 -- The first request and the bytes after it, if the bytes, which show no fault, begin with a whole
 -- frame.

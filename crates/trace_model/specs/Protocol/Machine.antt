@@ -33,8 +33,8 @@ abbrev pub opening : ℕ → State
 opening limit = record { limit = limit; accepted = []; questions = [] }
 
 -- The number of delivered tasks.
-abbrev pub delivered : Question → ℕ
-delivered q = count_by is_some q.tasks
+abbrev pub delivered_count : Question → ℕ
+delivered_count q = count_by is_some q.tasks
 
 -- The row is confirmed.
 abbrev pub is_confirmed : Row → Bool
@@ -55,8 +55,8 @@ confirmed_of q = sum_by (λ task. count_by is_confirmed (rows_of task)) q.tasks
 
 -- How the text of a report is printed: from the events that the question covers, its number, and
 -- its rows.
-abbrev pub Printing : Type 0
-Printing = Trace → ℕ → Question → List ℕ
+abbrev pub ReportPrinter : Type 0
+ReportPrinter = Trace → ℕ → Question → List ℕ
 
 -- The state with one more event.
 abbrev pub with_event : State → Event → State
@@ -79,8 +79,8 @@ with_question s bound =
 -- The state with the rows of one task added to question q.
 abbrev pub with_task : State → ℕ → Question → ℕ → List Row → State
 with_task s number q task rows =
-    let told : Question = record q { tasks = slice_set q.tasks task (Some rows) } in
-    record s { questions = slice_set s.questions number told }
+    let delivered_question : Question = record q { tasks = slice_set q.tasks task (Some rows) } in
+    record s { questions = slice_set s.questions number delivered_question }
 
 -- The reply to an offered event with this refusal or none.
 abbrev pub offer_reply : State → Option Refusal → Reply
@@ -169,16 +169,16 @@ deliver s number bound events task rows =
     let r = deliver_refused s number bound events task in (r, deliver_next s number task rows r)
 
 -- The answer for this question, if there is one.
-abbrev pub answer_of : Printing → State → ℕ → Option Question → Reply
+abbrev pub answer_of : ReportPrinter → State → ℕ → Option Question → Reply
 answer_of text s number None = Refused NoSuchQuestion
 answer_of text s number (Some q) =
-    let told = text (take q.length s.accepted) number q in
+    let report = text (take q.length s.accepted) number q in
     if list_all is_some q.tasks
-    then (if nat_le (length told) MAX_REPORT then Report number told else Refused ReportTooLong)
-    else Pending number (delivered q) (length q.tasks)
+    then (if nat_le (length report) MAX_REPORT then Report number report else Refused ReportTooLong)
+    else Pending number (delivered_count q) (length q.tasks)
 
 -- The answer is pending while a task is not delivered, and else the report if it is not too long.
-abbrev pub answer : Printing → State → ℕ → Reply
+abbrev pub answer : ReportPrinter → State → ℕ → Reply
 answer text s number = answer_of text s number (slice_get s.questions number)
 
 -- The status of this question, if there is one.
@@ -192,7 +192,7 @@ status_of s number (Some q) =
       length = q.length;
       bound = q.bound;
       total = length q.tasks;
-      delivered = delivered q;
+      delivered = delivered_count q;
       cycles = cycles_of q;
       confirmed = confirmed_of q;
     })
@@ -202,7 +202,7 @@ abbrev pub status : State → ℕ → Reply
 status s number = status_of s number (slice_get s.questions number)
 
 -- The reply to a request, and the state after it.
-abbrev pub step : Printing → State → Request → Reply × State
+abbrev pub step : ReportPrinter → State → Request → Reply × State
 step text s (Offer e) = offer s e
 step text s (Ask bound) = ask s bound
 step text s (Answer number) = (answer text s number, s)

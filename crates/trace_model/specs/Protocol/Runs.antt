@@ -8,7 +8,7 @@ use Rattle.trace_model.specs.Theory.Trace.{Trace}
 use Rattle.trace_model.specs.Protocol.Batches.{AreLawful, IsBatch}
 use Rattle.trace_model.specs.Theory.Dependencies.{dependencies}
 use Rattle.trace_model.specs.Theory.Rows.{Row, AreRows}
-use Rattle.trace_model.specs.Protocol.Machine.{Question, State, opening, ask_refused, is_confirmed, delivered, cycles_of, confirmed_of, with_events, with_question, with_task}
+use Rattle.trace_model.specs.Protocol.Machine.{Question, State, opening, ask_refused, is_confirmed, delivered_count, cycles_of, confirmed_of, with_events, with_question, with_task}
 use Rattle.trace_model.specs.declared.messages.session.Reply.{Reply}
 use Rattle.trace_model.specs.declared.messages.session.Reply.TheVariants.{Refused, Status}
 use Rattle.trace_model.specs.declared.refusal.Refusal.TheVariants.{NoSuchQuestion}
@@ -46,7 +46,7 @@ abbrev pub IsLegal : List BoardStep → Type 0
 IsLegal steps = IsLegalRun AreRows steps
 
 -- The counts of one question.
-pub record Shown : Type 0 where
+pub record QuestionCounts : Type 0 where
   pub before : ℕ
   pub bound : ℕ
   pub total : ℕ
@@ -57,13 +57,14 @@ pub record Shown : Type 0 where
 -- The number of accepted events, and the counts of each question.
 pub record Summary : Type 0 where
   pub accepted : ℕ
-  pub questions : List Shown
+  pub questions : List QuestionCounts
 
 -- The counts of all questions after a delivery to the question with this number.
-abbrev pub add_delivery : List Shown → Option Shown → ℕ → ℕ → ℕ → List Shown
+abbrev pub add_delivery : List QuestionCounts → Option QuestionCounts → ℕ → ℕ → ℕ →
+    List QuestionCounts
 add_delivery shown None number cycles confirmed = shown
 add_delivery shown (Some q) number cycles confirmed =
-    let more : Shown = record q {
+    let more : QuestionCounts = record q {
       delivered = q.delivered + 1;
       cycles = q.cycles + cycles;
       confirmed = q.confirmed + confirmed;
@@ -74,7 +75,7 @@ add_delivery shown (Some q) number cycles confirmed =
 abbrev pub count_step : Summary → BoardStep → Summary
 count_step b (Accept events) = record b { accepted = b.accepted + length events }
 count_step b (Open bound total) =
-    let fresh : Shown = record {
+    let fresh : QuestionCounts = record {
       before = b.accepted;
       bound = bound;
       total = total;
@@ -99,22 +100,22 @@ abbrev pub summary : List BoardStep → Summary
 summary steps = count_steps (record { accepted = 0; questions = [] }) steps
 
 -- The counts are those of the question.
-abbrev pub ShowsQuestion : Shown → Question → Type 0
+abbrev pub ShowsQuestion : QuestionCounts → Question → Type 0
 ShowsQuestion shown q =
     (shown.before ≡ q.length) × (shown.bound ≡ q.bound) × (shown.total ≡ length q.tasks)
-    × (shown.delivered ≡ delivered q) × (shown.cycles ≡ cycles_of q)
+    × (shown.delivered ≡ delivered_count q) × (shown.cycles ≡ cycles_of q)
     × (shown.confirmed ≡ confirmed_of q)
 
 -- The summary is that of the state.
 abbrev pub ShowsState : Summary → State → Type 0
 ShowsState b s =
     (b.accepted ≡ length s.accepted) × (length b.questions ≡ length s.questions)
-    × ((k : ℕ) (shown : Shown) (q : Question) → slice_get b.questions k ≡ Some shown →
+    × ((k : ℕ) (shown : QuestionCounts) (q : Question) → slice_get b.questions k ≡ Some shown →
     slice_get s.questions k ≡ Some q →
     ShowsQuestion shown q)
 
 -- The status computed from the counts of this question, if there is one.
-abbrev pub shown_status_of : Summary → ℕ → Option Shown → Reply
+abbrev pub shown_status_of : Summary → ℕ → Option QuestionCounts → Reply
 shown_status_of b number None = Refused NoSuchQuestion
 shown_status_of b number (Some q) =
     Status (record {

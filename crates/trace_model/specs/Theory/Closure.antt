@@ -36,6 +36,7 @@ abbrev pub IsClosure : Trace → List ℕ → Places → Type 0
 IsClosure s places set = (q : ℕ) → IsTrue (set q) ↔ InClosure s places q
 
 -- The places below n that are in the set, ascending.
-abbrev pub ascending : Places → ℕ → List ℕ
-ascending set zero = []
-ascending set (suc n) = if set n then ascending set n ++ n ∷ [] else ascending set n
+abbrev pub ascending_places : Places → ℕ → List ℕ
+ascending_places set zero = []
+ascending_places set (suc n) = if set n then ascending_places set n ++ n ∷ []
+    else ascending_places set n

@@ -4,7 +4,7 @@ use Rattle.std.specs.Prelude.{◌≡◌, ◌≢◌, ℕ, suc, ◌<◌, ◌≤◌
 use Rattle.std.specs.List.{Contains}
 use Rattle.trace_model.specs.Theory.Trace.{Trace}
 use Rattle.trace_model.specs.Theory.Dependencies.{Dependency, dependency_at, dependencies}
-use Rattle.trace_model.specs.Theory.Reordering.{Reached}
+use Rattle.trace_model.specs.Theory.Reordering.{AreReached}
 
 -- The i-th number of the list is the number of dependency d.
 abbrev pub Member : List Dependency → List ℕ → ℕ → Dependency → Type 0
@@ -64,4 +64,4 @@ IsInstance s numbers places =
 -- Some sync-preserving reordering reaches an instance of the cycle: a sync-preserving deadlock of
 -- Tunç et al. 2023.
 abbrev pub IsConfirmed : Trace → List ℕ → Type 0
-IsConfirmed s numbers = (places : List ℕ) × IsInstance s numbers places × Reached s places
+IsConfirmed s numbers = (places : List ℕ) × IsInstance s numbers places × AreReached s places

@@ -7,7 +7,7 @@ use Rattle.std.specs.Option.{option_and_then}
 use Rattle.trace_model.specs.declared.traces.event.Op.{Op}
 use Rattle.trace_model.specs.declared.traces.event.Op.TheVariants.{Acquire}
 use Rattle.trace_model.specs.Theory.Trace.{Trace}
-use Rattle.trace_model.specs.Theory.Held.{held, has}
+use Rattle.trace_model.specs.Theory.Held.{held_set, has}
 
 -- A thread acquires a lock that it does not hold, while it holds the locks `held`, which ascend.
 pub record Dependency : Type 0 where
@@ -24,7 +24,7 @@ dependency_of t _ _ = None
 
 -- The dependency of place p, or none unless p is an outermost acquire with a nonempty held set.
 abbrev pub dependency_at : Trace → ℕ → Option Dependency
-dependency_at s p = option_and_then (λ e. dependency_of e.thread e.op (held s p e.thread))
+dependency_at s p = option_and_then (λ e. dependency_of e.thread e.op (held_set s p e.thread))
     (slice_get s p)
 
 -- Equality of dependencies, as a derived `==` computes it.

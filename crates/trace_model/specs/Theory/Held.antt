@@ -59,8 +59,8 @@ begun_of s p t (Acquire l) = if depth s p t l == 0 then Some l else None
 begun_of s p t _ = None
 
 -- The lock of the critical section that begins at place p, or none.
-abbrev pub begun : Trace → ℕ → Option ℕ
-begun s p = option_and_then (λ e. begun_of s p e.thread e.op) (slice_get s p)
+abbrev pub begun_lock : Trace → ℕ → Option ℕ
+begun_lock s p = option_and_then (λ e. begun_of s p e.thread e.op) (slice_get s p)
 
 -- Thread t holds lock l right before place p.
 abbrev pub Holds : Trace → ℕ → ℕ → ℕ → Type 0
@@ -97,6 +97,6 @@ held_step depths None t ks = ks
 held_step depths (Some e) t ks = if e.thread == t then held_after depths e.op ks else ks
 
 -- The held set of thread t right before place p: the lock set of Havelund 2000, ascending.
-abbrev pub held : Trace → ℕ → ℕ → List ℕ
-held s zero t = []
-held s (suc p) t = held_step (depth s p t) (slice_get s p) t (held s p t)
+abbrev pub held_set : Trace → ℕ → ℕ → List ℕ
+held_set s zero t = []
+held_set s (suc p) t = held_step (depth s p t) (slice_get s p) t (held_set s p t)

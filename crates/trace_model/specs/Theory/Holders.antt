@@ -6,21 +6,21 @@ use Rattle.trace_model.specs.declared.traces.owner.Owner.{Owner}
 use Rattle.trace_model.specs.Theory.Trace.{Trace, op_eq}
 
 -- The depth of an owner. A free lock has depth 0.
-abbrev pub owned : Option Owner → ℕ
-owned None = 0
-owned (Some o) = o.depth
+abbrev pub owner_depth : Option Owner → ℕ
+owner_depth None = 0
+owner_depth (Some o) = o.depth
 
 -- The owner after one release.
-abbrev pub released : Option Owner → Option Owner
-released None = None
-released (Some o) = if nat_le o.depth 1 then None
+abbrev pub owner_after_release : Option Owner → Option Owner
+owner_after_release None = None
+owner_after_release (Some o) = if nat_le o.depth 1 then None
     else Some (record { thread = o.thread; depth = o.depth - 1 })
 
 -- The owner of lock l after event e, if it was o before.
 abbrev pub owner_after : ℕ → Option Owner → Event → Option Owner
 owner_after l o e =
-    if op_eq e.op (Acquire l) then Some (record { thread = e.thread; depth = suc (owned o) })
-    else (if op_eq e.op (Release l) then released o else o)
+    if op_eq e.op (Acquire l) then Some (record { thread = e.thread; depth = suc (owner_depth o) })
+    else (if op_eq e.op (Release l) then owner_after_release o else o)
 
 -- The owner of lock l after the trace, or none if the lock is free.
 abbrev pub owner : Trace → ℕ → Option Owner

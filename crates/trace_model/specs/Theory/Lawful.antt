@@ -8,8 +8,8 @@ use Rattle.trace_model.specs.declared.traces.event.Op.TheVariants.{Fork, Join, A
 use Rattle.trace_model.specs.declared.refusal.Refusal.{Refusal}
 use Rattle.trace_model.specs.declared.refusal.Refusal.TheVariants.{Full, Unforked, Ended, AlreadyForked, TooManyThreads, JoinsItself, JoinUnknown, JoinedTwice, TooNested, HeldByOther, TooDeep, NotHeld}
 use Rattle.trace_model.specs.declared.limits.TheConstants.{MAX_EVENTS, MAX_FORKS, MAX_HELD, MAX_DEPTH}
-use Rattle.trace_model.specs.Theory.Trace.{Trace, At, stands}
-use Rattle.trace_model.specs.Theory.Held.{depth, held}
+use Rattle.trace_model.specs.Theory.Trace.{Trace, At, occurs}
+use Rattle.trace_model.specs.Theory.Held.{depth, held_set}
 
 -- The operation is a fork.
 abbrev pub is_fork : Op → Bool
@@ -31,18 +31,19 @@ held_by_other s t l = list_any (λ e. not (e.thread == t) && held_by s e.thread 
 -- The first refusal that applies to operation o of thread t after the trace, or none.
 abbrev pub op_refusal_of : Trace → ℕ → Op → Option Refusal
 op_refusal_of s t (Fork c) =
-    if c == 0 || stands s (Fork c) then Some AlreadyForked
+    if c == 0 || occurs s (Fork c) then Some AlreadyForked
     else (if nat_le MAX_FORKS (forks s) then Some TooManyThreads
     else None)
 op_refusal_of s t (Join c) =
     if c == t then Some JoinsItself
-    else (if c == 0 || not (stands s (Fork c)) then Some JoinUnknown
-    else (if stands s (Join c) then Some JoinedTwice
+    else (if c == 0 || not (occurs s (Fork c)) then Some JoinUnknown
+    else (if occurs s (Join c) then Some JoinedTwice
     else None))
 op_refusal_of s t (Acquire l) =
     if nat_le MAX_DEPTH (depth s (length s) t l) then Some TooNested
     else (if held_by_other s t l then Some HeldByOther
-    else (if not (held_by s t l) && nat_le MAX_HELD (length (held s (length s) t)) then Some TooDeep
+    else (if not (held_by s t l) && nat_le MAX_HELD (length (held_set s (length s) t))
+    then Some TooDeep
     else None))
 op_refusal_of s t (Release l) = if held_by s t l then None else Some NotHeld
 op_refusal_of s t (Read v) = None
@@ -53,8 +54,8 @@ op_refusal_of s t (Write v) = None
 abbrev pub refusal_of : ℕ → Trace → Event → Option Refusal
 refusal_of limit s e =
     if nat_le limit (length s) then Some Full
-    else (if not (e.thread == 0) && not (stands s (Fork e.thread)) then Some Unforked
-    else (if stands s (Join e.thread) then Some Ended
+    else (if not (e.thread == 0) && not (occurs s (Fork e.thread)) then Some Unforked
+    else (if occurs s (Join e.thread) then Some Ended
     else op_refusal_of s e.thread e.op))
 
 -- Each event of the trace is lawful after the events before it.

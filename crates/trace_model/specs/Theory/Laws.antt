@@ -6,20 +6,20 @@ use Rattle.trace_model.specs.declared.limits.TheConstants.{MAX_EVENTS}
 use Rattle.trace_model.specs.declared.traces.event.Event.{Event}
 use Rattle.trace_model.specs.declared.traces.event.Op.{Op}
 use Rattle.trace_model.specs.declared.traces.event.Op.TheVariants.{Fork, Join, Read}
-use Rattle.trace_model.specs.Theory.Trace.{Trace, Does, OfThread, stands}
-use Rattle.trace_model.specs.Theory.Held.{Begins, BeginsOn, Ends, Holds, InSection, held, has}
+use Rattle.trace_model.specs.Theory.Trace.{Trace, Does, OfThread, occurs}
+use Rattle.trace_model.specs.Theory.Held.{Begins, BeginsOn, Ends, Holds, InSection, held_set, has}
 use Rattle.trace_model.specs.Theory.Lawful.{held_by_other, refusal_of, IsWellFormed}
 use Rattle.trace_model.specs.Theory.Dependencies.{Dependency, dependency_at, dependencies}
 use Rattle.trace_model.specs.Theory.Cycles.{IsCycle, IsInstance}
 use Rattle.trace_model.specs.Theory.Rows.{Row, NoLater, AreRows, LeavesDeadlocked, AreSound}
 use Rattle.trace_model.specs.Theory.Walk.{Walks}
 use Rattle.trace_model.specs.Theory.Lookups.{writer, release, GreatestWrite, LeastRelease}
-use Rattle.trace_model.specs.Theory.Reordering.{IsReordering, Reaches, Reached}
-use Rattle.trace_model.specs.Theory.Closure.{Places, InClosure, IsClosure, ascending}
+use Rattle.trace_model.specs.Theory.Reordering.{IsReordering, Reaches, AreReached}
+use Rattle.trace_model.specs.Theory.Closure.{Places, InClosure, IsClosure, ascending_places}
 
 -- The held set contains exactly the locks that are held.
-abbrev pub HeldIsHeld : Type 0
-HeldIsHeld = (s : Trace) (p t l : ℕ) → IsTrue (has l (held s p t)) ↔ Holds s p t l
+abbrev pub HeldListIsHeldSet : Type 0
+HeldListIsHeldSet = (s : Trace) (p t l : ℕ) → IsTrue (has l (held_set s p t)) ↔ Holds s p t l
 
 -- The writer of a read is the last write to its variable before it.
 abbrev pub WriterIsGreatest : Type 0
@@ -41,16 +41,16 @@ ReleaseIsLeast = (s : Trace) (p r : ℕ) →
 abbrev pub ClosureIsExistence : Type 0
 ClosureIsExistence =
     (s : Trace) → IsWellFormed s → (places : List ℕ) (set : Places) → IsClosure s places set →
-    ((p : ℕ) → Contains places p → IsTrue (set p) → ⊥) ↔ Reached s places
+    ((p : ℕ) → Contains places p → IsTrue (set p) → ⊥) ↔ AreReached s places
 
 -- If the places are reached, then the closure in ascending order is a reordering that reaches them,
 -- and each other such reordering contains the closure.
 abbrev pub ClosureIsSmallest : Type 0
 ClosureIsSmallest =
     (s : Trace) → IsWellFormed s → (places : List ℕ) (set : Places) → IsClosure s places set →
-    Reached s places →
-    IsReordering s (ascending set (length s))
-    × Reaches s (ascending set (length s)) places
+    AreReached s places →
+    IsReordering s (ascending_places set (length s))
+    × Reaches s (ascending_places set (length s)) places
     × ((order : List ℕ) → IsReordering s order → Reaches s order places →
     (q : ℕ) → IsTrue (set q) → Contains order q)
 
@@ -66,7 +66,7 @@ ClosureIsStable =
     (s more : Trace) → IsWellFormed s → IsWellFormed (s ++ more) → (places : List ℕ) →
     ((p : ℕ) → Contains places p → p < length s) →
     ((q : ℕ) → InClosure s places q ↔ InClosure (s ++ more) places q)
-    × (Reached s places ↔ Reached (s ++ more) places)
+    × (AreReached s places ↔ AreReached (s ++ more) places)
 
 -- The lesser place of the two lists at each index.
 abbrev pub lesser : List ℕ → List ℕ → List ℕ
@@ -83,21 +83,21 @@ OfSameThreads s xs ys =
 abbrev pub LesserIsReached : Type 0
 LesserIsReached =
     (s : Trace) → IsWellFormed s → (xs ys : List ℕ) → OfSameThreads s xs ys →
-    Reached s xs → Reached s ys → Reached s (lesser xs ys)
+    AreReached s xs → AreReached s ys → AreReached s (lesser xs ys)
 
 -- The test `stands` is true exactly if some event of the trace has the operation.
-abbrev pub StandsIsStanding : Type 0
-StandsIsStanding = (s : Trace) (o : Op) → IsTrue (stands s o) ↔ ((p : ℕ) × Does s p o)
+abbrev pub OccursIffSomeEvent : Type 0
+OccursIffSomeEvent = (s : Trace) (o : Op) → IsTrue (occurs s o) ↔ ((p : ℕ) × Does s p o)
 
 -- The test `held_by_other` is true exactly if a thread other than t holds the lock after the trace.
-abbrev pub HeldByOtherIsHeld : Type 0
-HeldByOtherIsHeld =
+abbrev pub HeldByOtherIffOwner : Type 0
+HeldByOtherIffOwner =
     (s : Trace) (t l : ℕ) → IsTrue (held_by_other s t l) ↔
     ((u : ℕ) × (u ≢ t) × Holds s (length s) u l)
 
 -- Held sets ascend.
 abbrev pub HeldAscends : Type 0
-HeldAscends = (s : Trace) (p t : ℕ) → IsStrictlyIncreasing (held s p t)
+HeldAscends = (s : Trace) (p t : ℕ) → IsStrictlyIncreasing (held_set s p t)
 
 -- Dependencies are distinct, are those of the outermost acquires, and are numbered by first
 -- appearance.
@@ -165,7 +165,7 @@ ClosureGrows =
 abbrev pub CaughtIsEarly : Type 0
 CaughtIsEarly =
     (s : Trace) (xs ys : List ℕ) → length xs ≡ length ys → OfSameThreads s xs ys → NoLater xs ys →
-    Reached s ys →
+    AreReached s ys →
     (k x y : ℕ) → slice_get xs k ≡ Some x → slice_get ys k ≡ Some y → InClosure s xs x → x < y
 
 -- In a well-formed trace, each event is of thread 0 or of a thread that was forked before it.

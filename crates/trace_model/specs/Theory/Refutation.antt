@@ -4,7 +4,7 @@ use Rattle.std.specs.List.{Contains}
 use Rattle.trace_model.specs.declared.refutations.Reason.{Reason}
 use Rattle.trace_model.specs.declared.refutations.Reason.TheVariants.{BeforeMember, ThreadOrder, ForkJoin, ReadsFrom, Sections}
 use Rattle.trace_model.specs.declared.refutations.Derived.{Derived}
-use Rattle.trace_model.specs.declared.refutations.Step.{Step}
+use Rattle.trace_model.specs.declared.refutations.RefutationStep.{RefutationStep}
 use Rattle.trace_model.specs.Theory.Trace.{Trace, EarlierInThread}
 use Rattle.trace_model.specs.Theory.Held.{BeginsOn}
 use Rattle.trace_model.specs.Theory.Lookups.{writer, release}
@@ -59,7 +59,7 @@ EndsAt entries p = (before : List Derived) × (d : Derived) × (entries ≡ befo
     × (d.place ≡ p)
 
 -- The step derives the present place of its member, by its last entry (this project's profile).
-abbrev pub Derives : Trace → List ℕ → Step → Type 0
+abbrev pub Derives : Trace → List ℕ → RefutationStep → Type 0
 Derives s places step =
     (p : ℕ) × (slice_get places step.member ≡ Some p)
     × IsDerivation s places step.derivation × EndsAt step.derivation p
@@ -74,7 +74,7 @@ IsNextPlace s numbers places i next =
 -- The steps refute the cycle from the present places of its members on: each step derives the
 -- present place of its member, which then moves to its next place. The last step is the one whose
 -- member has no next place (this project's profile).
-abbrev pub Refutes : Trace → List ℕ → List ℕ → List Step → Type 0
+abbrev pub Refutes : Trace → List ℕ → List ℕ → List RefutationStep → Type 0
 Refutes s numbers places [] = ⊥
 Refutes s numbers places (step ∷ steps) =
     (next : Option ℕ) × Derives s places step × IsNextPlace s numbers places step.member next
@@ -83,7 +83,7 @@ Refutes s numbers places (step ∷ steps) =
 
 -- The steps are a refutation of the cycle: they refute it from the first places on (this project's
 -- profile).
-abbrev pub IsRefutation : Trace → List ℕ → List Step → Type 0
+abbrev pub IsRefutation : Trace → List ℕ → List RefutationStep → Type 0
 IsRefutation s numbers steps =
     (places : List ℕ) × AreFirstPlaces s numbers places × Refutes s numbers places steps
 
@@ -96,7 +96,7 @@ DerivedIsInClosure =
 -- A cycle with a refutation is not confirmed.
 abbrev pub RefutedIsNotConfirmed : Type 0
 RefutedIsNotConfirmed =
-    (s : Trace) (numbers : List ℕ) (steps : List Step) → IsRefutation s numbers steps →
+    (s : Trace) (numbers : List ℕ) (steps : List RefutationStep) → IsRefutation s numbers steps →
     IsConfirmed s numbers → ⊥
 
 -- Every cycle that is not confirmed has a refutation.
@@ -104,4 +104,4 @@ abbrev pub NotConfirmedIsRefuted : Type 0
 NotConfirmedIsRefuted =
     (s : Trace) → IsWellFormed s → (bound : ℕ) (numbers : List ℕ) →
     IsCycle (dependencies s) bound numbers → (IsConfirmed s numbers → ⊥) →
-    (steps : List Step) × IsRefutation s numbers steps
+    (steps : List RefutationStep) × IsRefutation s numbers steps

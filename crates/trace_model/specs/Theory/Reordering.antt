@@ -49,5 +49,5 @@ Reaches s order places =
     (Contains order p → ⊥) × ((q : ℕ) → EarlierInThread s q p → Contains order q)
 
 -- Some sync-preserving reordering reaches the places.
-abbrev pub Reached : Trace → List ℕ → Type 0
-Reached s places = (order : List ℕ) × IsReordering s order × Reaches s order places
+abbrev pub AreReached : Trace → List ℕ → Type 0
+AreReached s places = (order : List ℕ) × IsReordering s order × Reaches s order places

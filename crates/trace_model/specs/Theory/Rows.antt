@@ -8,17 +8,17 @@ use Rattle.trace_model.specs.Theory.Held.{Begins}
 use Rattle.trace_model.specs.Theory.Lookups.{release}
 use Rattle.trace_model.specs.Theory.Dependencies.{dependencies}
 use Rattle.trace_model.specs.Theory.Cycles.{next, AreCyclesFrom, IsInstance, IsConfirmed}
-use Rattle.trace_model.specs.Theory.Reordering.{IsReordering, Reaches, Reached}
+use Rattle.trace_model.specs.Theory.Reordering.{IsReordering, Reaches, AreReached}
 
 -- A reached instance, and a witness: a reordering that reaches it.
-pub record Found : Type 0 where
+pub record Evidence : Type 0 where
   pub places : List ℕ
   pub witness : List ℕ
 
 -- A cycle, and what was found for it if it is confirmed.
 pub record Row : Type 0 where
   pub cycle : List ℕ
-  pub found : Option Found
+  pub found : Option Evidence
 
 -- No place of the first list is later than the place of the second list at the same index.
 abbrev pub NoLater : List ℕ → List ℕ → Type 0
@@ -28,8 +28,9 @@ NoLater xs ys = (k x y : ℕ) → slice_get xs k ≡ Some x → slice_get ys k �
 -- instance.
 pub record IsLeastInstance (s : Trace) (numbers places : List ℕ) : Type 0 where
   pub is_instance : IsInstance s numbers places
-  pub is_reached : Reached s places
-  pub least : (other : List ℕ) → IsInstance s numbers other → Reached s other → NoLater places other
+  pub is_reached : AreReached s places
+  pub least : (other : List ℕ) → IsInstance s numbers other → AreReached s other →
+      NoLater places other
 
 -- The list is an ascending reordering that reaches the places, and each other such reordering
 -- contains its places.

@@ -47,8 +47,8 @@ abbrev pub does : Trace → Op → ℕ → Bool
 does s o p = option_map_or (λ e. op_eq e.op o) (slice_get s p) false
 
 -- Some event of the trace has operation o.
-abbrev pub stands : Trace → Op → Bool
-stands s o = list_any (λ e. op_eq e.op o) s
+abbrev pub occurs : Trace → Op → Bool
+occurs s o = list_any (λ e. op_eq e.op o) s
 
 -- The greatest place below n that passes the test, or none.
 abbrev pub last_place : (ℕ → Bool) → ℕ → Option ℕ

@@ -69,15 +69,15 @@ module _ (s : Trace) (w : IsWellFormed s) (flat : IsFlat s) where
           let ends = ends_there p r t l begins k.0 between (does_so s (Release l) r k.2) in
           sym (first_place_is (ends_of s t l) (suc p) n r (k.0, k.1, ends_from s t l r ends, λ x a b d. k.3 x a b (releases x d)))
 
-  op_release : (p t : ℕ) (op : Op) → At s p (event t op) → former.release_of s p op ≡ release s p
+  op_release : (p t : ℕ) (op : Op) → At s p (event t op) → former.former_release_of s p op ≡ release s p
   op_release p t (Acquire l) at =
       let begins : Begins s p t l = (at, flat p t l at) in
       first_is p t l (length s - suc p) begins ∙ sym (release_computes s p t l begins)
   op_release p t _ at = rw at refl
 
-  pub release_is : (p : ℕ) → former.release s p ≡ release s p
+  pub release_is : (p : ℕ) → former.former_release s p ≡ release s p
   release_is p = go (slice_get s p) refl
     where
-      go : (o : Option Event) → slice_get s p ≡ o → option_and_then (λ e. former.release_of s p e.op) o ≡ release s p
+      go : (o : Option Event) → slice_get s p ≡ o → option_and_then (λ e. former.former_release_of s p e.op) o ≡ release s p
       go None at = rw at refl
       go (Some x) at = op_release p x.thread x.op at

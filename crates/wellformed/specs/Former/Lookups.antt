@@ -6,10 +6,10 @@ use Rattle.trace_model.specs.declared.traces.event.Op.TheVariants.{Acquire, Rele
 use Rattle.trace_model.specs.Theory.Trace.{Trace, does, first_place}
 
 -- The first later release of the lock, if operation o is an acquire at place p.
-abbrev pub release_of : Trace → ℕ → Op → Option ℕ
-release_of s p (Acquire l) = first_place (does s (Release l)) (suc p) (length s - suc p)
-release_of s p _ = None
+abbrev pub former_release_of : Trace → ℕ → Op → Option ℕ
+former_release_of s p (Acquire l) = first_place (does s (Release l)) (suc p) (length s - suc p)
+former_release_of s p _ = None
 
 -- The release of the acquire at place p, or none.
-abbrev pub release : Trace → ℕ → Option ℕ
-release s p = option_and_then (λ e. release_of s p e.op) (slice_get s p)
+abbrev pub former_release : Trace → ℕ → Option ℕ
+former_release s p = option_and_then (λ e. former_release_of s p e.op) (slice_get s p)

@@ -27,5 +27,5 @@ returns-clause-shown g c =
 
 pub returns-clause-seen : goal.returns-clause-seen
 returns-clause-seen g c =
-    let told = of_ok _ _ c.publish_as.result.1 (c.publish_as.ensures.succeeds g.met.T.BoardValue.sure) c.publish_as.ensures.rule in
-    told.1 ∙ returns-clause-shown g c
+    let reported = of_ok _ _ c.publish_as.result.1 (c.publish_as.ensures.succeeds g.met.T.BoardValue.sure) c.publish_as.ensures.rule in
+    reported.1 ∙ returns-clause-shown g c

@@ -4,13 +4,13 @@ use Rattle.std.specs.List.{flat_map}
 use Rattle.event_files.specs.ExplainedText.{stated_cycle}
 use Rattle.event_files.specs.declared.explanations.Explained.{Explained}
 use Rattle.commands.specs.Check.{AddsRows, checked_lines}
-use Rattle.commands.specs.CheckWords.{head_line}
+use Rattle.commands.specs.CheckWords.{head_verdict_line}
 use Rattle.commands.specs.declared.exit.Status.{Status}
 use Rattle.commands.specs.declared.exit.Status.TheVariants.{Done, Refused}
 use Rattle.std.specs.Prelude.{if◌then◌else◌}
 use Rattle.commands.proofs.check_command.check_all.Goals as goal
 use Rattle.commands.proofs.check_command.check_all.Goals.{then-is_head_valid+then-are_rows_valid, else-is_head_valid, else-is_head_valid-via-then-is_head_valid+else-are_rows_valid, else-is_head_valid-via-else-is_head_valid}
-use Rattle.dependencies.specs.Tables.{FollowsTrace}
+use Rattle.dependencies.specs.Tables.{HasDependenciesOf}
 
 both_done : (a b : Bool) → a ≡ true → b ≡ true → Done ≡ (if a && b then Done else Refused)
 both_done a b x y = λ i. if (sym x i) && (sym y i) then Done else Refused
@@ -23,7 +23,7 @@ head_wrong : (a b : Bool) → a ≡ false → Refused ≡ (if a && b then Done e
 head_wrong a b x = λ i. if (sym x i) && b then Done else Refused
 
 pub push_rows-requires-clause-table : goal.push_rows-requires-clause-table
-push_rows-requires-clause-table c = subst (λ (s : Trace). FollowsTrace c.in_ok-table.table s (length s)) (sym c.in_ok-checker.ensures) c.in_ok-table.ensures
+push_rows-requires-clause-table c = subst (λ (s : Trace). HasDependenciesOf c.in_ok-table.table s (length s)) (sym c.in_ok-checker.ensures) c.in_ok-table.ensures
 
 pub returns : goal.returns
 returns c =
@@ -44,6 +44,6 @@ returns c =
       rows = rows;
       head_is = heads_are;
       rows_are = rows_are;
-      printed = rows_grew ∙ ap (λ l. l ++ checked_lines (map stated_cycle c.args.file.now.cycles.items) rows) (heads_grew ∙ ap (λ (l : List ℕ). l ++ flat_map head_line heads) c.new-text.ensures.items);
+      printed = rows_grew ∙ ap (λ l. l ++ checked_lines (map stated_cycle c.args.file.now.cycles.items) rows) (heads_grew ∙ ap (λ (l : List ℕ). l ++ flat_map head_verdict_line heads) c.new-text.ensures.items);
       ended = ended ∙ (λ i. if (heads_valid i) && (rows_valid i) then Done else Refused);
     }

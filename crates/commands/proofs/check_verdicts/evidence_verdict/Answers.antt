@@ -8,7 +8,7 @@ use Rattle.event_files.specs.declared.explanations.Evidence.{Evidence}
 use Rattle.event_files.specs.declared.explanations.ExplainedMember.{ExplainedMember}
 use Rattle.event_files.specs.declared.explanations.ExplainedStep.{ExplainedStep}
 use Rattle.event_files.specs.ExplainedText.{StatedMember, is_witness, refutation, stated_cycle, stated_evidence, stated_member}
-use Rattle.trace_model.specs.declared.refutations.Step.{Step}
+use Rattle.trace_model.specs.declared.refutations.RefutationStep.{RefutationStep}
 use Rattle.replay.specs.Refuting.{IsRefutationVerdict}
 use Rattle.replay.specs.Verdict.{IsVerdict}
 use Rattle.commands.specs.Check.{steps_in}
@@ -47,4 +47,4 @@ returns-in_ok-verdict-in-Refutation c =
     let (x, xs, is) = first_step steps (ap (λ (l : List ExplainedStep). length l == 0) (sym c.as_slice.ensures.value) ∙ sym c.is_empty.ensures ∙ c.if-is_empty.false) in
     let all = c.in_ok-refutation-in-Refutation.ensures
     ∙ (λ i. steps_in (map stated_member (c.deref-in-Refutation.ensures.value i)) (c.deref-in-Refutation-2.ensures.value i)) ∙ ap (steps_in r.members) is in
-    (c.requires.of_trace, (x, xs, ap stated_evidence c.in-Refutation.is ∙ ap refutation is, subst (λ (l : List Step). IsRefutationVerdict s r.cycle l v) all c.in_ok-verdict-in-Refutation.ensures.verdict))
+    (c.requires.of_trace, (x, xs, ap stated_evidence c.in-Refutation.is ∙ ap refutation is, subst (λ (l : List RefutationStep). IsRefutationVerdict s r.cycle l v) all c.in_ok-verdict-in-Refutation.ensures.verdict))

@@ -7,7 +7,7 @@ use Rattle.event_files.specs.ExplainedText.{stated_cycle}
 use Rattle.event_files.specs.declared.explanations.Explained.{Explained}
 use Rattle.event_files.specs.declared.explanations.ReportHead.{ReportHead}
 use Rattle.commands.specs.Check.{IsHeadVerdict}
-use Rattle.commands.specs.CheckWords.{head_line}
+use Rattle.commands.specs.CheckWords.{head_verdict_line}
 use Rattle.commands.proofs.check_words.push_head.Goals as goal
 
 and_true : (b : Bool) → b ≡ (b && true)
@@ -25,5 +25,5 @@ returns c =
       v ∷ [],
       subst (λ (o : Option ReportHead). AllZip (IsHeadVerdict (length s) rows) (option_to_list o) (v ∷ [])) (sym c.in-Some.is) (is, tt),
       c.is_valid_head.ensures ∙ and_true _,
-      c.in_ok-push_head_verdict.ensures ∙ ap (λ l. old ++ l) (sym (flat_map-cons head_line v [] ∙ append-nil (head_line v))),
+      c.in_ok-push_head_verdict.ensures ∙ ap (λ l. old ++ l) (sym (flat_map-cons head_verdict_line v [] ∙ append-nil (head_verdict_line v))),
     )

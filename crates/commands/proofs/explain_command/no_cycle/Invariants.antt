@@ -1,9 +1,9 @@
 use Rattle.std.proofs.Common.{◌≡◌, ◌++◌, codes, take}
 use Rattle.std.specs.List.{flat_map}
-use Rattle.commands.specs.Text.{labeled}
+use Rattle.event_files.specs.Refutations.{label_and_number}
 use Rattle.commands.proofs.explain_command.no_cycle.Given as goal
 
 -- The numbers so far.
 abbrev pub invariant-loop-number : goal.invariant-loop-number
 invariant-loop-number l =
-    l.text.items ≡ codes "no cycle" ++ flat_map (labeled (codes " ")) (take l.number-index l.number-items)
+    l.text.items ≡ codes "no cycle" ++ flat_map (label_and_number (codes " ")) (take l.number-index l.number-items)

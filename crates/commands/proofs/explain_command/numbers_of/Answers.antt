@@ -12,4 +12,4 @@ returns-in_default c numbers are =
     let within : i < length numbers = subst (λ k. i < k) (sym long) c.loop-word-test.true in
     let none : Bor (List ℕ) = record { ref_ptr = (0, 0); now = [] } in
     let same : (get_or words i none).now ≡ decimal n = sym (get_or-map shown words i none [] c.loop-word-test.true) ∙ ap (λ (l : List (List ℕ)). get_or l i []) (sym are.1) ∙ get_or-map decimal numbers i 0 [] within in
-    c.in_default.not-Some n (c.number.ensures.complete n (are.0 i 0 within) same)
+    c.in_default.not-Some n (c.parse_number.ensures.complete n (are.0 i 0 within) same)

@@ -2,7 +2,7 @@ use Rattle.std.proofs.Common.{ℕ, List, Option, sym, subst}
 use Rattle.std.specs.Arc.{arc_value}
 use Rattle.trace_model.specs.Theory.Trace.{Trace}
 use Rattle.commands.specs.Explain.{PrintsChosen, PrintsOneOf}
-use Rattle.commands.specs.Output.{EndsAs}
+use Rattle.commands.specs.Output.{EndsWithResult}
 use Rattle.commands.proofs.explain_command.write_chosen.Goals as goal
 
 pub returns-in-Some : goal.returns-in-Some
@@ -11,6 +11,6 @@ returns-in-Some g c =
     let after = g.O.Write.contents c.write_one.new.out in
     let n = c.in-Some.cycle in
     let r = c.write_one.result in
-    subst (λ (x : Option (List ℕ)). EndsAs (PrintsChosen c.args.events.now c.args.bound x) ⊥ r before after) (sym c.in-Some.is)
-    (subst (λ (b : ℕ). EndsAs (PrintsOneOf c.args.events.now b n) ⊥ r before after) c.in_ok-analysis.ensures.1
-    (subst (λ (s : Trace). EndsAs (PrintsOneOf s (arc_value c.in_ok-analysis.analysis).bound n) ⊥ r before after) c.in_ok-analysis.ensures.0 c.write_one.ensures))
+    subst (λ (x : Option (List ℕ)). EndsWithResult (PrintsChosen c.args.events.now c.args.bound x) ⊥ r before after) (sym c.in-Some.is)
+    (subst (λ (b : ℕ). EndsWithResult (PrintsOneOf c.args.events.now b n) ⊥ r before after) c.in_ok-analysis.ensures.1
+    (subst (λ (s : Trace). EndsWithResult (PrintsOneOf s (arc_value c.in_ok-analysis.analysis).bound n) ⊥ r before after) c.in_ok-analysis.ensures.0 c.write_one.ensures))

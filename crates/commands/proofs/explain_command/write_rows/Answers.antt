@@ -2,7 +2,7 @@ use Rattle.std.proofs.Common.{◌<◌, ◌+◌, List, [], ◌∷◌, ◌++◌, a
 use Rattle.std.specs.Prelude.{OnErr}
 use Rattle.std.specs.Io.KnownBytes.{Appends}
 use Rattle.std.proofs.lemmas.Result.{err_from_is_err_and}
-use Rattle.reports.specs.Printed.{Printed}
+use Rattle.reports.specs.Printed.{PrintedRow}
 use Rattle.commands.specs.Explain.{Explains, ExplainsSome}
 use Rattle.commands.specs.Output.{AppendsPart, IsCutShort}
 use Rattle.commands.proofs.ExplainedTexts.{at_index, explains_more, explains_none, explains_one}
@@ -23,7 +23,7 @@ loop-index-preserved g c =
     let within : i < length f.rows = omega (arith, c.loop-index-test.true, ap length c.rows-index-end.ensures.rows) in
     let (row, at, more) = at_index f.rows i within in
     let own = c.in_ok-text.text.items in
-    let explained = subst (λ (rows : List Printed). Explains f.events rows (text ++ own)) (sym more) (explains_more f.events (take i f.rows) (row ∷ []) text own is (explains_one f.events row own (c.in_ok-text.ensures.text row at))) in
+    let explained = subst (λ (rows : List PrintedRow). Explains f.events rows (text ++ own)) (sym more) (explains_more f.events (take i f.rows) (row ∷ []) text own is (explains_one f.events row own (c.in_ok-text.ensures.text row at))) in
     record {
       written = (text ++ own, explained, appends_more before mid after text own grew (subst (Appends mid after) c.deref.ensures.value c.in_ok-write_bytes.ensures.written));
       empty = c.in_ok-text.ensures.empty;
@@ -50,7 +50,7 @@ returns-in_err-write_bytes-clause-cut g c =
     let within : i < length f.rows = omega (arith, c.loop-index-test.true, ap length c.rows-index-end.ensures.rows) in
     let (row, at, more) = at_index f.rows i within in
     let own = c.in_ok-text.text.items in
-    let explained = subst (λ (rows : List Printed). Explains f.events rows (text ++ own)) (sym more) (explains_more f.events (take i f.rows) (row ∷ []) text own is (explains_one f.events row own (c.in_ok-text.ensures.text row at))) in
+    let explained = subst (λ (rows : List PrintedRow). Explains f.events rows (text ++ own)) (sym more) (explains_more f.events (take i f.rows) (row ∷ []) text own is (explains_one f.events row own (c.in_ok-text.ensures.text row at))) in
     let p = err_from_is_err_and c.from_residual-in_err-write_bytes.result c.from_residual-in_err-write_bytes.ensures.1 in
     let part = subst (AppendsPart mid after) c.deref.ensures.value c.in_err-write_bytes.ensures.cut in
     subst (λ r. OnErr r (IsCutShort before after (ExplainsSome f.events f.rows))) (sym p.1) (cut_part before after (ExplainsSome f.events f.rows) (text ++ own) (i + 1, explained) (part_after before mid after text own grew part))

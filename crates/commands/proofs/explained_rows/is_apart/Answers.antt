@@ -1,6 +1,6 @@
 use Rattle.std.proofs.Common.{◌<◌, ◌∙◌, arith, get_or, length, refl, sym, true≢false}
 use Rattle.std.proofs.lemmas.Bool.{false≢true}
-use Rattle.dependencies.specs.Tables.{known}
+use Rattle.dependencies.specs.Tables.{table_dependencies}
 use Rattle.commands.proofs.RowTests.{apart_more, number_at}
 use Rattle.commands.proofs.explained_rows.is_apart.Goals as goal
 
@@ -21,7 +21,7 @@ loop-earlier-preserved c =
     let n = c.loop-earlier.earlier in
     let i = c.args.index in
     let within : n < length numbers = omega (arith, c.loop-earlier-test.true, c.requires.within) in
-    apart_more (known c.args.table.now) numbers i n c.get.result.now c.get-member.result.now (get_or numbers n 0, number_at numbers n within, c.get.ensures)
+    apart_more (table_dependencies c.args.table.now) numbers i n c.get.result.now c.get-member.result.now (get_or numbers n 0, number_at numbers n within, c.get.ensures)
     (get_or numbers i 0, number_at numbers i c.requires.within, c.get-member.ensures) (c.are_apart.ensures.0 c.if-not-are_apart.false) c.loop-earlier.invariant
 
 pub returns : goal.returns

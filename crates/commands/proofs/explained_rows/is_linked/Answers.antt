@@ -1,7 +1,7 @@
 use Rattle.std.proofs.Common.{◌≡◌, ◌<◌, arith, length}
 use Rattle.trace_model.specs.Theory.Cycles.{next}
 use Rattle.trace_model.specs.Theory.Held.{has}
-use Rattle.dependencies.specs.Tables.{known}
+use Rattle.dependencies.specs.Tables.{table_dependencies}
 use Rattle.cycle_search.proofs.Paths.{next-inside, next-last}
 use Rattle.commands.proofs.RowTests.{linked_iff, number_at}
 use Rattle.std.proofs.Common.{◌∙◌}
@@ -22,5 +22,5 @@ returns c =
       | then-index-numbers w ↦ omega (arith, within, w.next-is)
       | else-index-numbers w ↦ omega (arith, within, w.if-index-numbers.false, w.next-is)
     ] in
-    linked_iff (known c.args.table.now) numbers i n _ _ c.get.result.now c.get-2.result.now c.contains.result (number_at numbers i within) c.get.ensures after (number_at numbers n inside) c.get-2.ensures
+    linked_iff (table_dependencies c.args.table.now) numbers i n _ _ c.get.result.now c.get-2.result.now c.contains.result (number_at numbers i within) c.get.ensures after (number_at numbers n inside) c.get-2.ensures
     (c.contains.ensures ∙ (λ k. has (c.behind-table.view_is k).lock (c.behind-table-2.view_is k).held))

@@ -1,7 +1,7 @@
 use Rattle.std.proofs.Common.{◌≡◌, ◌<◌, ◌∙◌, ℕ, List, Some, arith, ap, get_or, length, slice_get, sym, subst}
 use Rattle.std.proofs.lemmas.List.{length-map}
 use Rattle.std.proofs.lemmas.Option.{slice_get-get_or}
-use Rattle.dependencies.specs.Tables.{known}
+use Rattle.dependencies.specs.Tables.{table_dependencies}
 use Rattle.event_files.specs.ExplainedText.{stated_cycle, stated_member}
 use Rattle.event_files.specs.declared.explanations.ExplainedMember.{ExplainedMember}
 use Rattle.commands.specs.ExplainedRows.{States}
@@ -22,10 +22,10 @@ loop-index-preserved c =
     let inside : i < length items = omega (arith, within, ap length value, length-map items stated_member, c.requires.row.each) in
     let is : member ≡ get_or items i member = subst (λ (l : List ExplainedMember). member ≡ get_or l i member) c.as_slice-members.ensures.value c.index-members-index.is in
     let there = member_at items i member (slice_get-get_or items i member inside ∙ ap Some (sym is)) in
-    holds_more e.cycle (States (known c.args.table.now) (stated_cycle e)) i m here c.loop-index.invariant
-    (states_so (known c.args.table.now) (stated_cycle e) i m (stated_member member) c.get.result.now there c.get.ensures (c.states.ensures.0 c.if-not-states.false))
+    holds_more e.cycle (States (table_dependencies c.args.table.now) (stated_cycle e)) i m here c.loop-index.invariant
+    (states_so (table_dependencies c.args.table.now) (stated_cycle e) i m (stated_member member) c.get.result.now there c.get.ensures (c.states.ensures.0 c.if-not-states.false))
 
 pub returns : goal.returns
 returns c =
     let e = c.args.explained.now in
-    holds_all e.cycle (States (known c.args.table.now) (stated_cycle e)) c.loop-index.index (omega (arith, c.loop-index-test.false, ap length c.numbers-numbers.ensures.value)) c.loop-index.invariant
+    holds_all e.cycle (States (table_dependencies c.args.table.now) (stated_cycle e)) c.loop-index.index (omega (arith, c.loop-index-test.false, ap length c.numbers-numbers.ensures.value)) c.loop-index.invariant

@@ -5,7 +5,7 @@ use Rattle.std.proofs.lemmas.List.{append-nil, take-append-drop, take_all, take_
 use Rattle.std.proofs.lemmas.List.Concat.{flat_map-append, flat_map-cons}
 use Rattle.std.proofs.lemmas.Result.{err_from_is_err_and}
 use Rattle.offline_report.specs.Offline.{whole}
-use Rattle.commands.specs.Exit.{status_of}
+use Rattle.commands.specs.Exit.{error_status}
 use Rattle.commands.specs.Output.{AppendsPart, IsJust}
 use Rattle.commands.specs.declared.exit.Status.TheVariants.{Done}
 use Rattle.commands.proofs.Outputs.{cut_part, ends_output, keeps_after, part_after, part_all, part_more}
@@ -31,7 +31,7 @@ returns-in_err-write_bytes g c =
     let more = take_more pieces i piece c.loop-piece-test.true ∙ ap (λ (x : Vec ℕ). take i pieces ++ x ∷ []) (sym c.piece-item.is) in
     let cut = subst (AppendsPart between after) c.deref.ensures.value c.in_err-write_bytes.ensures.cut in
     let part = part_more before after (whole (take i pieces) ++ piece.items) (whole (drop (i + 1) pieces)) (part_after before between after (whole (take i pieces)) piece.items c.loop-piece.invariant cut) in
-    ends_output (IsJust Done (whole pieces)) _ _ p.0 before after p.1 (ap status_of p.2 ∙ c.in_err-write_bytes.ensures.failed)
+    ends_output (IsJust Done (whole pieces)) _ _ p.0 before after p.1 (ap error_status p.2 ∙ c.in_err-write_bytes.ensures.failed)
     (cut_part before after _ (whole pieces) (Done, (refl, refl)) (subst (AppendsPart before after) (sym (whole_more pieces i piece more)) part))
 
 pub returns-in_err-flush : goal.returns-in_err-flush
@@ -43,4 +43,4 @@ returns-in_err-flush g c =
     let p = err_from_is_err_and c.from_residual-in_err-flush.result c.from_residual-in_err-flush.ensures.1 in
     let all = subst (λ (l : List (Vec ℕ)). Appends before between (whole l)) (take_all c.loop-piece.piece-index pieces c.loop-piece-test.false) c.loop-piece.invariant in
     let grew = keeps_after before between after (whole pieces) all c.in_err-flush.ensures.bytes in
-    ends_output (IsJust Done (whole pieces)) _ _ p.0 before after p.1 (ap status_of p.2) (cut_part before after _ (whole pieces) (Done, (refl, refl)) (part_all before after (whole pieces) grew))
+    ends_output (IsJust Done (whole pieces)) _ _ p.0 before after p.1 (ap error_status p.2) (cut_part before after _ (whole pieces) (Done, (refl, refl)) (part_all before after (whole pieces) grew))

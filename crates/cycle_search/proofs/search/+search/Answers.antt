@@ -4,10 +4,10 @@ use Rattle.std.proofs.lemmas.Grind.{get_or_default_zero}
 use Rattle.std.proofs.lemmas.Result.{err_from_is_err_and}
 use Rattle.std.specs.List.{Contains}
 use Rattle.trace_model.specs.Theory.Dependencies.{Dependency}
-use Rattle.dependencies.specs.Tables.{known}
-use Rattle.cycle_search.specs.Search.{IsPath, AboveFirst, LinksTo, ClosesBack, CycleOver, CycleUpTo, IsAmong, AreAll, CycleBeyond, CycleThrough, HasDistances, SearchedThrough}
+use Rattle.dependencies.specs.Tables.{table_dependencies}
+use Rattle.cycle_search.specs.CycleSearch.{IsPath, AboveFirst, LinksTo, CompletesAsLast, CycleOver, CycleUpTo, IsAmong, AreAll, CycleBeyond, CycleThrough, HasDistances, SearchedThrough}
 use Rattle.cycle_search.specs.Collecting.{AcceptsAll, TakesSoFar}
-use Rattle.cycle_search.specs.Acquirers.{IsNext}
+use Rattle.cycle_search.specs.Acquirers.{IsLeastAbove}
 use Rattle.cycle_search.specs.Distances.{AreDistances}
 use Rattle.trace_model.proofs.Lists.{length-push, get-push_kept}
 use Rattle.trace_model.proofs.Theory.Unique.{contains_had}
@@ -29,15 +29,15 @@ extend-visit-requires g t c =
     let here : Contains items m = (i, c.loop-next-test.true, get_or_default_zero items i m c.loop-next-test.true) in
     let same = sym c.loop-next.invariant.same in
     let shorter = ap (λ (p : List ℕ). length p) same in
-    let accepts = accepts-through g.C.Collector.taking c.args.search.now.searched.now c.args.search.now.members c.args.path.now.items _ m
-    (CycleOver c.args.search.now.searched.now c.args.search.now.members c.args.path.now.items (IsAmong items i)) c.args.collector.now c.loop-next.collector
+    let accepts = accepts-through g.C.Collector.taking c.args.search.now.search_input.now c.args.search.now.members c.args.path.now.items _ m
+    (CycleOver c.args.search.now.search_input.now c.args.search.now.members c.args.path.now.items (IsAmong items i)) c.args.collector.now c.loop-next.collector
     same c.loop-next.invariant.added c.requires.accepts in
-    (λ κs lives. (omega (arith, shorter), (lives.0, (lives.1, (subst (λ p. IsPath c.args.search.now.searched.now p) same c.requires.path, (subst (λ (p : List ℕ). length p < c.args.search.now.members) same c.requires.room, (c.requires.members, (subst (λ p. HasDistances c.args.search.now p) same c.requires.distances, (n.known m here, (subst (λ p. AboveFirst p m) same (n.above m here), (subst (λ p. LinksTo c.args.search.now.searched.now p m) same (n.linked m here), accepts)))))))))))
+    (λ κs lives. (omega (arith, shorter), (lives.0, (lives.1, (subst (λ p. IsPath c.args.search.now.search_input.now p) same c.requires.path, (subst (λ (p : List ℕ). length p < c.args.search.now.members) same c.requires.room, (c.requires.members, (subst (λ p. HasDistances c.args.search.now p) same c.requires.distances, (n.known m here, (subst (λ p. AboveFirst p m) same (n.above m here), (subst (λ p. LinksTo c.args.search.now.search_input.now p m) same (n.linked m here), accepts)))))))))))
 
 pub extend-returns-in_err-visit-clause-all : goal.extend-returns-in_err-visit-clause-all
 extend-returns-in_err-visit-clause-all g t c =
     let taking = g.C.Collector.taking in
-    let ds = c.args.search.now.searched.now in
+    let ds = c.args.search.now.search_input.now in
     let bound = c.args.search.now.members in
     let path = c.args.path.now.items in
     let items = c.successors-nexts.result.now in
@@ -66,7 +66,7 @@ extend-returns-then-search-nexts g t c = record {
 
 pub extend-loop-next-init : goal.extend-loop-next-init
 extend-loop-next-init g t c =
-    let over = CycleOver c.args.search.now.searched.now c.args.search.now.members c.args.path.now.items (IsAmong c.successors-nexts.result.now 0) in
+    let over = CycleOver c.args.search.now.search_input.now c.args.search.now.members c.args.path.now.items (IsAmong c.successors-nexts.result.now 0) in
     record {
       same = refl;
       added = takes-none g.C.Collector.taking over c.args.collector.now (all-none over (λ n h. omega (arith, h.1.1)));
@@ -75,7 +75,7 @@ extend-loop-next-init g t c =
 pub extend-loop-next-preserved : goal.extend-loop-next-preserved
 extend-loop-next-preserved g t c =
     let taking = g.C.Collector.taking in
-    let ds = c.args.search.now.searched.now in
+    let ds = c.args.search.now.search_input.now in
     let bound = c.args.search.now.members in
     let path = c.args.path.now.items in
     let items = c.successors-nexts.result.now in
@@ -92,7 +92,7 @@ extend-loop-next-preserved g t c =
 
 pub extend-returns : goal.extend-returns
 extend-returns g t c =
-    let ds = c.args.search.now.searched.now in
+    let ds = c.args.search.now.search_input.now in
     let bound = c.args.search.now.members in
     let path = c.args.path.now.items in
     let items = c.successors-nexts.result.now in
@@ -105,9 +105,9 @@ extend-returns g t c =
 
 -- The result of the search for the next closing member, for the unchanged path.
 closer-of : (ds : List Dependency) (path path' : List ℕ) (last : ℕ) (found answer : Option ℕ) → path' ≡ path → found ≡ answer →
-    IsNext last (ClosesBack ds path') found → IsNext last (ClosesBack ds path) answer
+    IsLeastAbove last (CompletesAsLast ds path') found → IsLeastAbove last (CompletesAsLast ds path) answer
 closer-of ds path path' last found answer same is least =
-    subst (IsNext last (ClosesBack ds path)) is (subst (λ p. IsNext last (ClosesBack ds p) found) same least)
+    subst (IsLeastAbove last (CompletesAsLast ds path)) is (subst (λ p. IsLeastAbove last (CompletesAsLast ds p) found) same least)
 
 pub close-loop-next-init : goal.close-loop-next-init
 close-loop-next-init g t c =
@@ -115,39 +115,39 @@ close-loop-next-init g t c =
     record {
       same = refl;
       first = omega (arith, head);
-      added = takes-none g.C.Collector.taking (CycleUpTo c.args.search.now.searched.now c.args.search.now.members c.args.path.now.items _) c.args.collector.now
-          (closers-begin c.args.search.now.searched.now c.args.search.now.members c.args.path.now.items c.requires.path c.requires.room _
+      added = takes-none g.C.Collector.taking (CycleUpTo c.args.search.now.search_input.now c.args.search.now.members c.args.path.now.items _) c.args.collector.now
+          (closers-begin c.args.search.now.search_input.now c.args.search.now.members c.args.path.now.items c.requires.path c.requires.room _
           (slice_get-get_or c.args.path.now.items 0 0 c.requires.path.begun ∙ ap Some head));
     }
 
-pub close-next_closer-requires : goal.close-next_closer-requires
-close-next_closer-requires g t c = subst (λ p. IsPath c.args.search.now.searched.now p) (sym c.loop-next.invariant.same) c.requires.path
+pub close-next_completing-requires : goal.close-next_completing-requires
+close-next_completing-requires g t c = subst (λ p. IsPath c.args.search.now.search_input.now p) (sym c.loop-next.invariant.same) c.requires.path
 
 pub close-links-requires : goal.close-links-requires
 close-links-requires g t c =
-    let back = (c.next_closer.ensures.sound c.in-Some.next c.in-Some.is).1 in
+    let back = (c.next_completing.ensures.sound c.in-Some.next c.in-Some.is).1 in
     record {
-      path = subst (λ p. IsPath c.args.search.now.searched.now p) (sym c.loop-next.invariant.same) c.requires.path;
-      next = slice_get_within c.args.search.now.searched.now c.in-Some.next back.1 back.3;
+      path = subst (λ p. IsPath c.args.search.now.search_input.now p) (sym c.loop-next.invariant.same) c.requires.path;
+      next = slice_get_within c.args.search.now.search_input.now c.in-Some.next back.1 back.3;
     }
 
 pub close-visit-requires : goal.close-visit-requires
 close-visit-requires g t c =
     let d = c.decreases in
-    let more = c.next_closer.ensures.sound c.in-Some.next c.in-Some.is in
+    let more = c.next_completing.ensures.sound c.in-Some.next c.in-Some.is in
     let same = sym c.loop-next.invariant.same in
     let shorter = ap (λ (p : List ℕ). length p) same in
     let head = ap (λ (p : List ℕ). get_or p 0 0) same in
     let begun = λ (first : ℕ) (at : slice_get c.loop-next.path.items 0 ≡ Some first). get_or_from_slice_get c.loop-next.path.items 0 first 0 at in
-    let accepts = accepts-through g.C.Collector.taking c.args.search.now.searched.now c.args.search.now.members c.args.path.now.items _ c.in-Some.next
-    (CycleUpTo c.args.search.now.searched.now c.args.search.now.members c.args.path.now.items c.loop-next.last) c.args.collector.now c.loop-next.collector
+    let accepts = accepts-through g.C.Collector.taking c.args.search.now.search_input.now c.args.search.now.members c.args.path.now.items _ c.in-Some.next
+    (CycleUpTo c.args.search.now.search_input.now c.args.search.now.members c.args.path.now.items c.loop-next.last) c.args.collector.now c.loop-next.collector
     same c.loop-next.invariant.added c.requires.accepts in
-    (λ κs lives. (omega (arith, shorter, c.requires.room), (lives.0, (lives.1, (subst (λ p. IsPath c.args.search.now.searched.now p) same c.requires.path, (omega (arith, shorter, c.requires.room), (c.requires.members, (subst (λ p. HasDistances c.args.search.now p) same c.requires.distances, (slice_get_within c.args.search.now.searched.now c.in-Some.next more.1.1 more.1.3, (λ first at. omega (arith, head, more.0, begun first at, c.loop-next.invariant.first), (c.links.ensures.0 c.if-links.true, accepts)))))))))))
+    (λ κs lives. (omega (arith, shorter, c.requires.room), (lives.0, (lives.1, (subst (λ p. IsPath c.args.search.now.search_input.now p) same c.requires.path, (omega (arith, shorter, c.requires.room), (c.requires.members, (subst (λ p. HasDistances c.args.search.now p) same c.requires.distances, (slice_get_within c.args.search.now.search_input.now c.in-Some.next more.1.1 more.1.3, (λ first at. omega (arith, head, more.0, begun first at, c.loop-next.invariant.first), (c.links.ensures.0 c.if-links.true, accepts)))))))))))
 
 pub close-returns-in_err-visit-clause-all : goal.close-returns-in_err-visit-clause-all
 close-returns-in_err-visit-clause-all g t c =
     let taking = g.C.Collector.taking in
-    let ds = c.args.search.now.searched.now in
+    let ds = c.args.search.now.search_input.now in
     let bound = c.args.search.now.members in
     let path = c.args.path.now.items in
     let last = c.loop-next.last in
@@ -156,53 +156,53 @@ close-returns-in_err-visit-clause-all g t c =
     ended taking (CycleBeyond ds bound path) c.args.collector.now _ _ p.0 _ p.1 (sym p.2)
     (refuses-after taking (CycleUpTo ds bound path last) (CycleThrough ds bound path m) (CycleBeyond ds bound path) c.args.collector.now c.loop-next.collector _
     (closers-some ds bound path c.requires.path c.requires.room last m
-    (closer-of ds path _ last _ _ c.loop-next.invariant.same c.in-Some.is c.next_closer.ensures))
+    (closer-of ds path _ last _ _ c.loop-next.invariant.same c.in-Some.is c.next_completing.ensures))
     c.loop-next.invariant.added
     (refuses-for taking (λ q. CycleThrough ds bound q m) c.loop-next.path.items path c.loop-next.collector _ c.loop-next.invariant.same c.in_err-visit.ensures.all))
 
-smaller : (ds : List Dependency) (path : List ℕ) (last next : ℕ) → (last < next) × ClosesBack ds path next → length ds - next < length ds - last
+smaller : (ds : List Dependency) (path : List ℕ) (last next : ℕ) → (last < next) × CompletesAsLast ds path next → length ds - next < length ds - last
 smaller ds path last next (more, (first, d, head, at, takes)) = omega (arith, more, slice_get_within ds next d at)
 
 pub close-loop-next-smaller-in_ok-visit : goal.close-loop-next-smaller-in_ok-visit
-close-loop-next-smaller-in_ok-visit g t c = smaller c.args.search.now.searched.now _ _ _ (c.next_closer.ensures.sound c.in-Some.next c.in-Some.is)
+close-loop-next-smaller-in_ok-visit g t c = smaller c.args.search.now.search_input.now _ _ _ (c.next_completing.ensures.sound c.in-Some.next c.in-Some.is)
 
 pub close-loop-next-preserved-in_ok-visit : goal.close-loop-next-preserved-in_ok-visit
 close-loop-next-preserved-in_ok-visit g t c =
     let taking = g.C.Collector.taking in
-    let ds = c.args.search.now.searched.now in
+    let ds = c.args.search.now.search_input.now in
     let bound = c.args.search.now.members in
     let path = c.args.path.now.items in
     let last = c.loop-next.last in
     let m = c.in-Some.next in
     record {
       same = c.in_ok-visit.ensures.path ∙ c.loop-next.invariant.same;
-      first = omega (arith, c.loop-next.invariant.first, (c.next_closer.ensures.sound m c.in-Some.is).0);
+      first = omega (arith, c.loop-next.invariant.first, (c.next_completing.ensures.sound m c.in-Some.is).0);
       added = takes-after taking (CycleUpTo ds bound path last) (CycleThrough ds bound path m) (CycleUpTo ds bound path m)
           c.args.collector.now c.loop-next.collector c.visit.new.collector
           (closers-more ds bound path c.requires.path c.requires.room last m
-          (closer-of ds path _ last _ _ c.loop-next.invariant.same c.in-Some.is c.next_closer.ensures))
+          (closer-of ds path _ last _ _ c.loop-next.invariant.same c.in-Some.is c.next_completing.ensures))
           c.loop-next.invariant.added
           (subst (λ p. TakesSoFar taking (CycleThrough ds bound p m) c.loop-next.collector c.visit.new.collector) c.loop-next.invariant.same c.in_ok-visit.ensures.all);
     }
 
 pub close-loop-next-smaller : goal.close-loop-next-smaller
-close-loop-next-smaller g t c = smaller c.args.search.now.searched.now _ _ _ (c.next_closer.ensures.sound c.in-Some.next c.in-Some.is)
+close-loop-next-smaller g t c = smaller c.args.search.now.search_input.now _ _ _ (c.next_completing.ensures.sound c.in-Some.next c.in-Some.is)
 
 pub close-loop-next-preserved : goal.close-loop-next-preserved
 close-loop-next-preserved g t c =
     let taking = g.C.Collector.taking in
-    let ds = c.args.search.now.searched.now in
+    let ds = c.args.search.now.search_input.now in
     let bound = c.args.search.now.members in
     let path = c.args.path.now.items in
     let last = c.loop-next.last in
     let m = c.in-Some.next in
     record {
       same = c.loop-next.invariant.same;
-      first = omega (arith, c.loop-next.invariant.first, (c.next_closer.ensures.sound m c.in-Some.is).0);
+      first = omega (arith, c.loop-next.invariant.first, (c.next_completing.ensures.sound m c.in-Some.is).0);
       added = takes-after taking (CycleUpTo ds bound path last) (CycleThrough ds bound path m) (CycleUpTo ds bound path m)
           c.args.collector.now c.loop-next.collector c.loop-next.collector
           (closers-more ds bound path c.requires.path c.requires.room last m
-          (closer-of ds path _ last _ _ c.loop-next.invariant.same c.in-Some.is c.next_closer.ensures))
+          (closer-of ds path _ last _ _ c.loop-next.invariant.same c.in-Some.is c.next_completing.ensures))
           c.loop-next.invariant.added
           (takes-none taking (CycleThrough ds bound path m) c.loop-next.collector (rejected ds bound path m c.requires.path.begun
           (λ f. true≢false (sym (c.links.ensures.1 (subst (λ p. LinksTo ds p m) (sym c.loop-next.invariant.same) f.linked)) ∙ c.if-links.false))));
@@ -210,7 +210,7 @@ close-loop-next-preserved g t c =
 
 pub close-returns : goal.close-returns
 close-returns g t c =
-    let ds = c.args.search.now.searched.now in
+    let ds = c.args.search.now.search_input.now in
     let bound = c.args.search.now.members in
     let path = c.args.path.now.items in
     let last = c.loop-next.last in
@@ -218,7 +218,7 @@ close-returns g t c =
       path = c.loop-next.invariant.same;
       all = takes-as g.C.Collector.taking (CycleUpTo ds bound path last) (CycleBeyond ds bound path) c.args.collector.now c.loop-next.collector
           (closers-end ds bound path c.requires.path c.requires.room last
-          (closer-of ds path _ last _ _ c.loop-next.invariant.same c.in_default.is c.next_closer.ensures))
+          (closer-of ds path _ last _ _ c.loop-next.invariant.same c.in_default.is c.next_completing.ensures))
           c.loop-next.invariant.added;
     }
 
@@ -227,15 +227,15 @@ visit-same_component-requires g t c =
     let path = c.requires.path in
     let first = path.known 0 0 path.begun in
     let next = c.requires.known in
-    let each = c.searched.invariant.components.each in
-    let same = ap length c.searched.view_is in
+    let each = c.search_input.invariant.components.each in
+    let same = ap length c.search_input.view_is in
     record { begun = path.begun; first = omega arith; next = omega arith }
 
 pub visit-returns-then-not-fits : goal.visit-returns-then-not-fits
 visit-returns-then-not-fits g t c = record {
   path = refl;
   all = takes-none g.C.Collector.taking (SearchedThrough c.args.search.now c.args.path.now c.args.next) c.args.collector.now
-      (rejected c.args.search.now.searched.now c.args.search.now.members c.args.path.now.items c.args.next c.requires.path.begun
+      (rejected c.args.search.now.search_input.now c.args.search.now.members c.args.path.now.items c.args.next c.requires.path.begun
       (λ f. true≢false (sym (c.fits.ensures.1 f.compatible) ∙ c.if-not-fits.true)));
 }
 
@@ -245,7 +245,7 @@ visit-returns-then-ends_open g t c =
     let test = c.if-ends_open.true in record {
       path = refl;
       all = takes-none g.C.Collector.taking (SearchedThrough c.args.search.now c.args.path.now c.args.next) c.args.collector.now
-          (full c.args.search.now.searched.now c.args.search.now.members c.args.path.now.items c.args.next (ends.is_open test)
+          (full c.args.search.now.search_input.now c.args.search.now.members c.args.path.now.items c.args.next (ends.is_open test)
           (omega (arith, ends.last test, length-push c.args.path.now.items c.args.next)));
     }
 
@@ -253,7 +253,7 @@ pub visit-returns-then-is_too_far : goal.visit-returns-then-is_too_far
 visit-returns-then-is_too_far g t c = record {
   path = refl;
   all = takes-none g.C.Collector.taking (SearchedThrough c.args.search.now c.args.path.now c.args.next) c.args.collector.now
-      (too-far c.args.search.now.searched.now c.args.search.now.members c.args.path.now.items c.args.next c.args.search.now.distances.now
+      (too-far c.args.search.now.search_input.now c.args.search.now.members c.args.path.now.items c.args.next c.args.search.now.distances.now
       c.requires.path.begun c.requires.distances c.requires.known (c.is_too_far.ensures c.if-is_too_far.true));
 }
 
@@ -261,15 +261,15 @@ pub visit-returns-then-not-same_component : goal.visit-returns-then-not-same_com
 visit-returns-then-not-same_component g t c = record {
   path = refl;
   all = takes-none g.C.Collector.taking (SearchedThrough c.args.search.now c.args.path.now c.args.next) c.args.collector.now
-      (subst (λ ds. AreAll (CycleThrough ds c.args.search.now.members c.args.path.now.items c.args.next) []) c.searched.view_is
-      (other-component (known c.searched.inside.table.now) c.args.search.now.members c.args.path.now.items c.args.next c.searched.inside.components.now
-      c.searched.invariant.components c.requires.path.begun (λ e. true≢false (sym (c.same_component.ensures.1 e) ∙ c.if-not-same_component.true))));
+      (subst (λ ds. AreAll (CycleThrough ds c.args.search.now.members c.args.path.now.items c.args.next) []) c.search_input.view_is
+      (other-component (table_dependencies c.search_input.inside.table.now) c.args.search.now.members c.args.path.now.items c.args.next c.search_input.inside.components.now
+      c.search_input.invariant.components c.requires.path.begun (λ e. true≢false (sym (c.same_component.ensures.1 e) ∙ c.if-not-same_component.true))));
 }
 
 pub visit-returns-in_err-take-clause-all : goal.visit-returns-in_err-take-clause-all
 visit-returns-in_err-take-clause-all g t c =
     let taking = g.C.Collector.taking in
-    let ds = c.args.search.now.searched.now in
+    let ds = c.args.search.now.search_input.now in
     let bound = c.args.search.now.members in
     let path = c.args.path.now.items in
     let p = err_from_is_err_and c.from_residual.result c.from_residual.ensures.1 in
@@ -283,7 +283,7 @@ visit-returns-in_err-take-clause-all g t c =
 pub visit-extend-requires : goal.visit-extend-requires
 visit-extend-requires g t c =
     let d = c.decreases in
-    let ds = c.args.search.now.searched.now in
+    let ds = c.args.search.now.search_input.now in
     let path = c.args.path.now.items in
     let m = c.args.next in
     let pushed = sym c.push.ensures.items in
@@ -297,7 +297,7 @@ visit-extend-requires g t c =
 
 pub visit-take-requires : goal.visit-take-requires
 visit-take-requires g t c =
-    let ds = c.args.search.now.searched.now in
+    let ds = c.args.search.now.search_input.now in
     let bound = c.args.search.now.members in
     let path = c.args.path.now.items in
     let cycle = path ++ c.args.next ∷ [] in
@@ -310,7 +310,7 @@ visit-take-requires g t c =
 pub visit-returns-in_err-extend-clause-all : goal.visit-returns-in_err-extend-clause-all
 visit-returns-in_err-extend-clause-all g t c =
     let taking = g.C.Collector.taking in
-    let ds = c.args.search.now.searched.now in
+    let ds = c.args.search.now.search_input.now in
     let bound = c.args.search.now.members in
     let path = c.args.path.now.items in
     let p = err_from_is_err_and c.from_residual-in_err-extend.result c.from_residual-in_err-extend.ensures.1 in
@@ -322,7 +322,7 @@ visit-returns-in_err-extend-clause-all g t c =
 pub visit-returns : goal.visit-returns
 visit-returns g t c =
     let taking = g.C.Collector.taking in
-    let ds = c.args.search.now.searched.now in
+    let ds = c.args.search.now.search_input.now in
     let bound = c.args.search.now.members in
     let path = c.args.path.now.items in
     let pushed = c.push.ensures.items in

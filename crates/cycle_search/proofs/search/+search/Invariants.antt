@@ -1,6 +1,6 @@
 use Rattle.std.proofs.Common.{◌≡◌, ◌-◌, ◌*◌, ◌≤◌, length, slice_index}
 use Rattle.cycle_search.specs.Collecting.{TakesSoFar}
-use Rattle.cycle_search.specs.Search.{CycleOver, IsAmong, CycleUpTo}
+use Rattle.cycle_search.specs.CycleSearch.{CycleOver, IsAmong, CycleUpTo}
 use Rattle.cycle_search.proofs.search.+search.Given as goal
 
 abbrev pub decreases-extend : goal.decreases-extend
@@ -15,15 +15,15 @@ decreases-visit g l = 3 * (l.search.now.members - length l.path.now.items) - 2
 abbrev pub invariant-extend-loop-next : goal.invariant-extend-loop-next
 invariant-extend-loop-next g l = record {
   same : l.path.items ≡ l.fn.path.items;
-  added : TakesSoFar g.C.Collector.taking (CycleOver l.search.searched.now l.search.members l.fn.path.items (IsAmong l.nexts l.next-index)) l.fn.collector l.collector;
+  added : TakesSoFar g.C.Collector.taking (CycleOver l.search.search_input.now l.search.members l.fn.path.items (IsAmong l.nexts l.next-index)) l.fn.collector l.collector;
 }
 
 abbrev pub decreases-close-loop-next : goal.decreases-close-loop-next
-decreases-close-loop-next g l = length l.search.searched.now - l.last
+decreases-close-loop-next g l = length l.search.search_input.now - l.last
 
 abbrev pub invariant-close-loop-next : goal.invariant-close-loop-next
 invariant-close-loop-next g l = record {
   same : l.path.items ≡ l.fn.path.items;
   first : slice_index l.fn.path.items 0 ≤ l.last;
-  added : TakesSoFar g.C.Collector.taking (CycleUpTo l.search.searched.now l.search.members l.fn.path.items l.last) l.fn.collector l.collector;
+  added : TakesSoFar g.C.Collector.taking (CycleUpTo l.search.search_input.now l.search.members l.fn.path.items l.last) l.fn.collector l.collector;
 }

@@ -1,4 +1,4 @@
-use Rattle.desk.proofs.Told.{status_none, status_some}
+use Rattle.desk.proofs.Responses.{status_none, status_some}
 use Rattle.desk.proofs.client.status_in.Goals as goal
 
 pub returns-in-Some : goal.returns-in-Some

@@ -2,7 +2,7 @@ use Rattle.std.proofs.Common.{◌≡◌, true, take, length, slice_get, sym, ap,
 use Rattle.std.specs.Option.{option_eq}
 use Rattle.trace_model.specs.Protocol.Machine.{same_event}
 use Rattle.std.proofs.Math.Seq.{take-length}
-use Rattle.sequencer.proofs.Told.{same_at}
+use Rattle.sequencer.proofs.QuestionAnswers.{same_at}
 use Rattle.desk.proofs.shared.have_same_events.Goals as goal
 
 pub loop-index-preserved : goal.loop-index-preserved

@@ -2,7 +2,7 @@ use Rattle.std.proofs.Common.{◌≡◌, ℕ, List, [], Bor, Some, get_or, map, 
 use Rattle.std.proofs.Common.{arith}
 use Rattle.std.proofs.lemmas.Grind.{common_steps}
 use Rattle.std.proofs.lemmas.List.Elements.{All-push, All-same}
-use Rattle.trace_model.specs.Protocol.Frames.{IsInRange}
+use Rattle.trace_model.specs.Protocol.Frames.{FitsWords}
 use Rattle.std.proofs.lemmas.Option.{slice_get-get_or, slice_get-map}
 use Rattle.std.specs.Prelude.{option_map, slice_get}
 use Rattle.event_files.specs.EventFile.{IsEventWord}
@@ -23,5 +23,5 @@ loop-word-preserved c =
     let kept = c.loop-word.invariant in (
       grind (arith, common_steps),
       λ before.
-          All-same IsInRange _ _ c.in_ok-push.ensures.items (All-push IsInRange c.loop-word.events.items c.in-Some.event (kept.1 before) c.in-Some.ensures.fits),
+          All-same FitsWords _ _ c.in_ok-push.ensures.items (All-push FitsWords c.loop-word.events.items c.in-Some.event (kept.1 before) c.in-Some.ensures.fits),
     )

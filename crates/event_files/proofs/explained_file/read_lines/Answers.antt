@@ -1,6 +1,6 @@
 use Rattle.std.proofs.Common.{◌≡◌, ◌+◌, ◌<◌, ◌≤◌, ℕ, List, [], Bor, inl, inr, get_or, map, sym, subst, ◌∙◌, arith}
 use Rattle.std.proofs.lemmas.List.{get_or-map, length-map, take_all}
-use Rattle.event_files.specs.ExplainedFile.{kept}
+use Rattle.event_files.specs.ExplainedFile.{unskipped_lines}
 use Rattle.event_files.specs.ExplainedReading.{IsEnd, IsReadOf, ReadsLine, stated_reading}
 use Rattle.event_files.proofs.ExplainedLoops.{ends_early, first_wrong, merged, nothing_read, only_text, reads_next, whole_text}
 use Rattle.event_files.proofs.explained_file.read_lines.Goals as goal
@@ -55,21 +55,21 @@ returns-in-Some-2-clause-read c =
     let lines = map shown c.args.lines.now in
     let r = stated_reading c.loop-line.reading in
     let past = subst (λ n. n ≤ c.loop-line.line-index) (sym (length-map c.args.lines.now shown)) c.loop-line-test.false in
-    let read = subst (λ l. IsReadOf (kept l) r) (take_all c.loop-line.line-index lines past) c.loop-line.invariant.read in
-    whole_text (kept lines) r c.in-Some-2.explained (subst (IsEnd r) c.in-Some-2.is c.in_ok-explained.ensures) read
+    let read = subst (λ l. IsReadOf (unskipped_lines l) r) (take_all c.loop-line.line-index lines past) c.loop-line.invariant.read in
+    whole_text (unskipped_lines lines) r c.in-Some-2.explained (subst (IsEnd r) c.in-Some-2.is c.in_ok-explained.ensures) read
 
 pub returns-in-Some-2-clause-unique : goal.returns-in-Some-2-clause-unique
 returns-in-Some-2-clause-unique c =
     let lines = map shown c.args.lines.now in
     let r = stated_reading c.loop-line.reading in
     let past = subst (λ n. n ≤ c.loop-line.line-index) (sym (length-map c.args.lines.now shown)) c.loop-line-test.false in
-    let read = subst (λ l. IsReadOf (kept l) r) (take_all c.loop-line.line-index lines past) c.loop-line.invariant.read in
-    only_text (kept lines) r c.in-Some-2.explained (subst (IsEnd r) c.in-Some-2.is c.in_ok-explained.ensures) read
+    let read = subst (λ l. IsReadOf (unskipped_lines l) r) (take_all c.loop-line.line-index lines past) c.loop-line.invariant.read in
+    only_text (unskipped_lines lines) r c.in-Some-2.explained (subst (IsEnd r) c.in-Some-2.is c.in_ok-explained.ensures) read
 
 pub returns-in-None-clause-refused : goal.returns-in-None-clause-refused
 returns-in-None-clause-refused c =
     let lines = map shown c.args.lines.now in
     let r = stated_reading c.loop-line.reading in
     let past = subst (λ n. n ≤ c.loop-line.line-index) (sym (length-map c.args.lines.now shown)) c.loop-line-test.false in
-    let read = subst (λ l. IsReadOf (kept l) r) (take_all c.loop-line.line-index lines past) c.loop-line.invariant.read in
+    let read = subst (λ l. IsReadOf (unskipped_lines l) r) (take_all c.loop-line.line-index lines past) c.loop-line.invariant.read in
     inr (ends_early lines c.after_last.result r c.after_last.ensures (subst (IsEnd r) c.in-None.is c.in_ok-explained.ensures) read)

@@ -1,24 +1,24 @@
 use Rattle.std.proofs.Common.{lit<, ◌≡◌, ◌++◌, List, [], ℕ, codes, Some, refl, ◌∙◌}
 use Rattle.std.proofs.lemmas.Option.{none-some, some_pair_parts}
 use Rattle.event_files.specs.ExplainedText.{head_line}
-use Rattle.event_files.specs.Refutations.{labeled}
+use Rattle.event_files.specs.Refutations.{label_and_number}
 use Rattle.event_files.specs.declared.explanations.ReportHead.{ReportHead}
 use Rattle.event_files.proofs.ExplainedTexts.{split_five}
 use Rattle.event_files.proofs.explained_lines.head_in.Goals as goal
 
 -- the ends of the first line of a report
 abbrev last_two : ReportHead → List ℕ
-last_two h = labeled (codes " cycles ") h.cycles ++ labeled (codes " confirmed ") h.confirmed ++ []
+last_two h = label_and_number (codes " cycles ") h.cycles ++ label_and_number (codes " confirmed ") h.confirmed ++ []
 
 abbrev last_three : ReportHead → List ℕ
-last_three h = labeled (codes " bound ") h.bound ++ last_two h
+last_three h = label_and_number (codes " bound ") h.bound ++ last_two h
 
 abbrev last_four : ReportHead → List ℕ
-last_four h = labeled (codes " length ") h.length ++ last_three h
+last_four h = label_and_number (codes " length ") h.length ++ last_three h
 
-apart : (h : ReportHead) (text : List ℕ) → text ≡ head_line h → text ≡ labeled (codes "question ") h.question ++ last_four h
+apart : (h : ReportHead) (text : List ℕ) → text ≡ head_line h → text ≡ label_and_number (codes "question ") h.question ++ last_four h
 apart h text is =
-    is ∙ split_five (labeled (codes "question ") h.question) (labeled (codes " length ") h.length) (labeled (codes " bound ") h.bound) (labeled (codes " cycles ") h.cycles) (labeled (codes " confirmed ") h.confirmed)
+    is ∙ split_five (label_and_number (codes "question ") h.question) (label_and_number (codes " length ") h.length) (label_and_number (codes " bound ") h.bound) (label_and_number (codes " cycles ") h.cycles) (label_and_number (codes " confirmed ") h.confirmed)
 
 pub returns-in_err-length-clause-complete : goal.returns-in_err-length-clause-complete
 returns-in_err-length-clause-complete c = λ h small is.

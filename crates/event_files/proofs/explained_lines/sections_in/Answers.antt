@@ -1,17 +1,17 @@
 use Rattle.std.proofs.Common.{lit<, ◌≡◌, ◌++◌, List, ℕ, codes, Some, refl, ◌∙◌}
 use Rattle.std.proofs.lemmas.Option.{none-some, some_pair_parts}
-use Rattle.event_files.specs.Refutations.{labeled, reason_line}
+use Rattle.event_files.specs.Refutations.{label_and_number, reason_line}
 use Rattle.trace_model.specs.declared.refutations.Reason.TheVariants.{Sections}
 use Rattle.event_files.proofs.ExplainedTexts.{split_two}
 use Rattle.event_files.proofs.explained_lines.sections_in.Goals as goal
 
 abbrev last_two : ℕ → ℕ → List ℕ
 last_two second place =
-    labeled (codes " and ") second ++ labeled (codes " acquire one lock: place ") place ++ codes " releases it between them"
+    label_and_number (codes " and ") second ++ label_and_number (codes " acquire one lock: place ") place ++ codes " releases it between them"
 
-apart : (first second place : ℕ) (text : List ℕ) → text ≡ reason_line (Sections first second) place → text ≡ labeled (codes "  places ") first ++ last_two second place
+apart : (first second place : ℕ) (text : List ℕ) → text ≡ reason_line (Sections first second) place → text ≡ label_and_number (codes "  places ") first ++ last_two second place
 apart first second place text is =
-    is ∙ split_two (labeled (codes "  places ") first) (labeled (codes " and ") second) (labeled (codes " acquire one lock: place ") place) (codes " releases it between them")
+    is ∙ split_two (label_and_number (codes "  places ") first) (label_and_number (codes " and ") second) (label_and_number (codes " acquire one lock: place ") place) (codes " releases it between them")
 
 pub returns-in_err-second-clause-complete : goal.returns-in_err-second-clause-complete
 returns-in_err-second-clause-complete c = λ first second place small is.

@@ -6,7 +6,7 @@ use Rattle.std.proofs.lemmas.List.Elements.{All-from_recursion}
 use Rattle.trace_model.specs.Theory.Trace.{Trace}
 use Rattle.trace_model.specs.Theory.Refutation.{EndsAt, Refutes}
 use Rattle.trace_model.specs.declared.refutations.Derived.{Derived}
-use Rattle.trace_model.specs.declared.refutations.Step.{Step}
+use Rattle.trace_model.specs.declared.refutations.RefutationStep.{RefutationStep}
 use Rattle.event_files.specs.Refutations.{IsWritable}
 use Rattle.event_files.proofs.laws.refutations_are_writable.Goals as goal
 
@@ -14,14 +14,14 @@ use Rattle.event_files.proofs.laws.refutations_are_writable.Goals as goal
 some_of : (entries : List Derived) (p : ℕ) → EndsAt entries p → 0 < length entries
 some_of entries p (before, d, whole, same) = subst (λ xs. 0 < length xs) (sym whole) (omega (arith, length-append before (d ∷ [])))
 
-rest_writable : (s : Trace) (numbers places threads : List ℕ) (member : ℕ) (steps : List Step) (next : Option ℕ) → length places ≡ length threads →
+rest_writable : (s : Trace) (numbers places threads : List ℕ) (member : ℕ) (steps : List RefutationStep) (next : Option ℕ) → length places ≡ length threads →
     ((others : List ℕ) → length others ≡ length threads → Refutes s numbers others steps → AllByRecursion (IsWritable threads) steps) →
     MatchOption next (steps ≡ []) (λ q. Refutes s numbers (slice_set places member q) steps) → AllByRecursion (IsWritable threads) steps
 rest_writable s numbers places threads member steps None sized all end = subst (AllByRecursion (IsWritable threads)) (sym end) tt
 rest_writable s numbers places threads member steps (Some q) sized all rest =
     all (slice_set places member q) (length-set places member q ∙ sized) rest
 
-all_writable : (s : Trace) (numbers places threads : List ℕ) (steps : List Step) → length places ≡ length threads → Refutes s numbers places steps →
+all_writable : (s : Trace) (numbers places threads : List ℕ) (steps : List RefutationStep) → length places ≡ length threads → Refutes s numbers places steps →
     AllByRecursion (IsWritable threads) steps
 all_writable s numbers places threads [] sized r = absurd r
 all_writable s numbers places threads (step ∷ steps) sized r =

@@ -7,11 +7,11 @@ use Rattle.event_files.proofs.numbered_text.number_in.Goals as goal
 pub returns-in_err-value-clause-complete : goal.returns-in_err-value-clause-complete
 returns-in_err-value-clause-complete c = λ n rest small stops is.
     let begins = number_begins c.args.text.now n rest c.digit_count-digits.result small stops is c.digit_count-digits.ensures in
-    absurd (none-some _ (sym c.in_err-value.was ∙ c.number.ensures.complete n small begins.digits))
+    absurd (none-some _ (sym c.in_err-value.was ∙ c.parse_number.ensures.complete n small begins.digits))
 
 pub returns-clause-complete : goal.returns-clause-complete
 returns-clause-complete c = λ n rest small stops is.
     let begins = number_begins c.args.text.now n rest c.digit_count-digits.result small stops is c.digit_count-digits.ensures in (
-      same_Some _ _ (sym c.in_ok-value.was ∙ c.number.ensures.complete n small begins.digits),
+      same_Some _ _ (sym c.in_ok-value.was ∙ c.parse_number.ensures.complete n small begins.digits),
       take-drop_rest c.args.text.now c.digit_count-digits.result ∙ begins.others,
     )

@@ -13,14 +13,14 @@ returns-then-not-is_ascii_digit-clause-none c = λ all.
 pub returns-in_err-checked_mul-clause-none : goal.returns-in_err-checked_mul-clause-none
 returns-in_err-checked_mul-clause-none c =
     let large = beginning_is_no_more c.args.digits.now c.loop-digit.digit-index c.loop-digit-test.true in
-    subst (λ told. IfNone told (IsTooLarge c.args.digits.now)) (sym c.from_residual.ensures)
+    subst (λ outcome. IfNone outcome (IsTooLarge c.args.digits.now)) (sym c.from_residual.ensures)
     (λ all. omega (arith, large, c.loop-digit.invariant.0.1, c.in_err-checked_mul.ensures))
 
 pub returns-in_err-value-clause-none : goal.returns-in_err-value-clause-none
 returns-in_err-value-clause-none c =
     let digit : digit_value (get_or c.args.digits.now c.loop-digit.digit-index 0) ≡ c.from.result = grind (arith, nat_tests) in
     let large = beginning_is_no_more c.args.digits.now c.loop-digit.digit-index c.loop-digit-test.true in
-    subst (λ told. IfNone told (IsTooLarge c.args.digits.now)) (sym c.from_residual-in_err-value.ensures)
+    subst (λ outcome. IfNone outcome (IsTooLarge c.args.digits.now)) (sym c.from_residual-in_err-value.ensures)
     (λ all. omega (arith, large, digit, c.loop-digit.invariant.0.1, c.in_ok-checked_mul.ensures.1, c.in_err-value.ensures))
 
 pub loop-digit-preserved : goal.loop-digit-preserved
@@ -37,7 +37,7 @@ loop-digit-preserved c =
     )
 
 pub returns-in_err-checked_mul-clause-some : goal.returns-in_err-checked_mul-clause-some
-returns-in_err-checked_mul-clause-some c = subst (λ told. IfSome told (IsValueOf c.args.digits.now)) (sym c.from_residual.ensures) tt
+returns-in_err-checked_mul-clause-some c = subst (λ outcome. IfSome outcome (IsValueOf c.args.digits.now)) (sym c.from_residual.ensures) tt
 
 pub returns-in_err-value-clause-some : goal.returns-in_err-value-clause-some
-returns-in_err-value-clause-some c = subst (λ told. IfSome told (IsValueOf c.args.digits.now)) (sym c.from_residual-in_err-value.ensures) tt
+returns-in_err-value-clause-some c = subst (λ outcome. IfSome outcome (IsValueOf c.args.digits.now)) (sym c.from_residual-in_err-value.ensures) tt

@@ -13,4 +13,4 @@ returns-in_default c = λ numbers are.
     let here = (get_or words i none).now in
     let at : slice_get (map shown words) i ≡ Some here = slice_get-map shown words i ∙ ap (option_map shown) (slice_get-get_or words i none c.loop-word-test.true) in
     let numeral = numeral_at numbers (map shown words) i here are at in
-    c.in_default.not-Some numeral.0 (c.number.ensures.complete numeral.0 numeral.1 numeral.2)
+    c.in_default.not-Some numeral.0 (c.parse_number.ensures.complete numeral.0 numeral.1 numeral.2)

@@ -1,6 +1,6 @@
 use Rattle.std.proofs.Common.{◌≡◌, ◌+◌, ◌-◌, ◌*◌, suc, length, take, drop, ◌++◌, ◌∷◌, [], sym, ap, ◌∙◌, arith}
 use Rattle.std.proofs.lemmas.List.{length-drop, take_all}
-use Rattle.trace_model.specs.Protocol.Frames.{event_of, events_of}
+use Rattle.trace_model.specs.Protocol.Frames.{event_of, events_in}
 use Rattle.event_frames.proofs.Batches.{events_more, length_events}
 use Rattle.event_frames.proofs.cells.read_batch.Goals as goal
 
@@ -16,5 +16,5 @@ loop-index-preserved c =
     let one : suc i ≡ i + 1 = omega arith in (
       omega (arith, c.loop-index-test.true),
       c.push.ensures ∙ ((λ j. c.loop-index.invariant.1 j ++ (c.event_of-in-loop-index.ensures ∙ ap event_of rest) j ∷ [])
-          ∙ (sym (events_more i cells) ∙ ap (λ n. events_of n cells) one)),
+          ∙ (sym (events_more i cells) ∙ ap (λ n. events_in n cells) one)),
     )

@@ -1,6 +1,6 @@
 use Rattle.std.proofs.Common.{ℕ, List}
 use Rattle.trace_model.specs.Theory.Trace.{Trace}
-use Rattle.explain.specs.Search.{IsSearch}
+use Rattle.explain.specs.DerivationSearch.{IsSearch}
 use Rattle.explain.specs.Needed.{AreClosed, IsNeededDerivation}
 use Rattle.explain.proofs.extract.add_marked.Given as goal
 

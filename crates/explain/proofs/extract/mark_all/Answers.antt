@@ -1,6 +1,6 @@
 use Rattle.std.proofs.Common.{◌≡◌, suc, ◌+◌, ◌-◌, ◌<◌, inl, inr, length, Some, sym, ap, subst, ◌∙◌, arith}
 use Rattle.std.proofs.lemmas.Option.{slice_get-get_or}
-use Rattle.explain.specs.Needed.{IsKept, AreClosed}
+use Rattle.explain.specs.Needed.{KeepsMarks, AreClosed}
 use Rattle.explain.proofs.NeededEntries.{closed_more, closed_skip}
 use Rattle.explain.proofs.extract.mark_all.Goals as goal
 use Rattle.explain.proofs.extract.mark_all.Goals.{then-index, else-index}
@@ -25,7 +25,7 @@ loop-k-preserved c =
           let new = w.mark_named.new.needed.items in
           record {
             sized = ap (λ (v : _). length v.items) w.needed-is ∙ e.sized ∙ h.sized;
-            kept = subst (λ (v : _). IsKept c.args.needed.now.items v.items) (sym w.needed-is) (λ j m. e.kept j (h.kept j m));
+            kept = subst (λ (v : _). KeepsMarks c.args.needed.now.items v.items) (sym w.needed-is) (λ j m. e.kept j (h.kept j m));
             closed = λ s places is. subst (λ (v : _). AreClosed x v.items (n - (k + 1))) (sym w.needed-is) (subst (AreClosed x new) here
                 (closed_more s places x old new i (n - k) d is at next e.kept
                 (λ m a. elim (e.only m a) [ inl b ↦ inl b | inr b ↦ inr (b is.indices) ])
@@ -33,7 +33,7 @@ loop-k-preserved c =
           }
       | else-index w ↦ record {
         sized = ap (λ (v : _). length v.items) w.needed-is ∙ h.sized;
-        kept = subst (λ (v : _). IsKept c.args.needed.now.items v.items) (sym w.needed-is) h.kept;
+        kept = subst (λ (v : _). KeepsMarks c.args.needed.now.items v.items) (sym w.needed-is) h.kept;
         closed = λ s places is. subst (λ (v : _). AreClosed x v.items (n - (k + 1))) (sym w.needed-is) (subst (AreClosed x old) here
             (closed_skip x old i (n - k) (mark ∙ ap Some w.if-index.false) next (h.closed s places is)));
       }

@@ -2,24 +2,23 @@ use Rattle.std.proofs.Common.{◌≡◌, ℕ, ◌<◌, ◌++◌, get_or, length,
 use Rattle.std.proofs.Math.ListN.{length-replicate}
 use Rattle.std.proofs.lemmas.List.{length-set}
 use Rattle.std.proofs.lemmas.Option.{same_Some, slice_get-get_or, slice_get_within}
-use Rattle.trace_model.specs.Theory.Reordering.{Reached}
+use Rattle.trace_model.specs.Theory.Reordering.{AreReached}
 use Rattle.trace_model.specs.Theory.Refutation.{AreFirstPlaces, Derives, IsNextPlace, Refutes}
 use Rattle.trace_model.proofs.Lists.{length-push}
 use Rattle.trace_model.proofs.Theory.Refutation.{first_present, present_moves}
-use Rattle.dependencies.specs.Tables.{places_of}
-use Rattle.explain.specs.Moving.{AreKnown}
+use Rattle.dependencies.specs.Tables.{dependency_places, AreDependencyNumbers}
 use Rattle.explain.proofs.Moves.{all_known, some_listed, first_are, first_entries, entries_move, one_step_more, last_step, next_is, all_zero}
 use Rattle.explain.proofs.refute.refutation_of.Goals as goal
 use Rattle.explain.proofs.refute.refutation_of.Goals.{After-numbers-members, In_ok-push}
 
-known : (c : After-numbers-members) → AreKnown c.args.index.now.events c.numbers-members.result.now
+known : (c : After-numbers-members) → AreDependencyNumbers c.args.index.now.events c.numbers-members.result.now
 known c = all_known c.args.index.now.events c.args.cycle.now c.numbers-members.result.now c.numbers-members.ensures.value c.requires.known
 
 derives : (c : In_ok-push) → Derives c.args.index.now.events c.loop-count.places.items c.in-Some.step
 derives c =
     let s = c.args.index.now.events in
     subst (λ xs. Derives s xs c.in-Some.step) c.as_slice.ensures.value
-    (subst (λ o. MatchOption o (Reached s c.as_slice.result.now) (Derives s c.as_slice.result.now)) c.in-Some.is c.in_ok-step.ensures)
+    (subst (λ o. MatchOption o (AreReached s c.as_slice.result.now) (Derives s c.as_slice.result.now)) c.in-Some.is c.in_ok-step.ensures)
 
 within : (c : In_ok-push) → c.in-Some.step.member < length c.loop-count.places.items
 within c = let d = derives c in slice_get_within c.loop-count.places.items c.in-Some.step.member d.0 d.1
@@ -77,7 +76,7 @@ place_after-requires-clause-entry c =
     let e = c.index.result.now in
     let d = derives at in
     let (x, is, there) = c.loop-count.invariant.entries i m d.0 (number_at at) d.1 in
-    subst (λ z. z < length (places_of c.args.table.now m)) (same_Some x e (sym is ∙ entry_at at e c.index.ensures)) (slice_get_within (places_of c.args.table.now m) x d.0 there)
+    subst (λ z. z < length (dependency_places c.args.table.now m)) (same_Some x e (sym is ∙ entry_at at e c.index.ensures)) (slice_get_within (dependency_places c.args.table.now m) x d.0 there)
 
 pub returns-in_default-place_after : goal.returns-in_default-place_after
 returns-in_default-place_after c =
@@ -127,7 +126,7 @@ loop-count-preserved c =
     let q = c.in-Some-place_after.next.1 in
     let n = c.in-Some-place_after.next.0 in
     let moves = c.in-Some-place_after.ensures.next in
-    let here : slice_get (places_of table m) n ≡ Some q = ap (slice_get (places_of table m)) moves.0 ∙ moves.1 in
+    let here : slice_get (dependency_places table m) n ≡ Some q = ap (slice_get (dependency_places table m)) moves.0 ∙ moves.1 in
     let next = subst (IsNextPlace s members places i) moves.1
     (next_is table s members places entries i m e c.requires.one_trace (known at.After-numbers-members) at_m c.in-Some-place_after.ensures.ascends h.entries entry d.0 d.1) in
     let pushed = c.in_ok-push.ensures.items in

@@ -1,5 +1,5 @@
 use Rattle.std.proofs.Common.{◌≡◌, List, ◌++◌, length}
-use Rattle.trace_model.specs.declared.refutations.Step.{Step}
+use Rattle.trace_model.specs.declared.refutations.RefutationStep.{RefutationStep}
 use Rattle.trace_model.specs.Theory.Refutation.{Refutes}
 use Rattle.trace_model.proofs.Theory.Refutation.{ArePresent}
 use Rattle.explain.specs.Moving.{AreEntries}
@@ -12,6 +12,6 @@ invariant-loop-count l = record {
   entries : AreEntries l.table l.members l.places.items l.entries.items;
   as_many : length l.entries.items ≡ length l.members;
   counted : length l.steps.items ≡ l._count;
-  refutes : (rest : List Step) → Refutes l.index.events l.members l.places.items rest →
+  refutes : (rest : List RefutationStep) → Refutes l.index.events l.members l.places.items rest →
       Refutes l.index.events l.members l.initial.places.items (l.steps.items ++ rest);
 }

@@ -4,9 +4,9 @@ use Rattle.std.proofs.lemmas.Result.{err_from_is_err_and}
 use Rattle.trace_model.specs.declared.limits.TheConstants.{MAX_CYCLES}
 use Rattle.trace_model.specs.Theory.Trace.{Trace}
 use Rattle.trace_model.specs.Theory.Dependencies.{dependencies}
-use Rattle.cycle_search.specs.Search.{CycleFrom, MoreThan}
+use Rattle.cycle_search.specs.CycleSearch.{CycleFrom, MoreThan}
 use Rattle.findings.specs.declared.computing.ComputeRefused.TheVariants.{TooManyCycles}
-use Rattle.findings.specs.Found.{Asked}
+use Rattle.findings.specs.Found.{AskedQuestion}
 use Rattle.findings.proofs.computing.compute.Goals as goal
 
 pub returns-in_err-analysis-clause-too_many : goal.returns-in_err-analysis-clause-too_many
@@ -21,9 +21,9 @@ returns c =
     let a = arc_value c.in_ok-analysis.analysis in
     let s = arc_value c.args.snapshot in
     let of = c.new-2.ensures in
-    let is : c.new-2.result.bound ≡ c.args.bound = ap (λ (q : Asked). q.bound) of ∙ c.in_ok-analysis.ensures.1 in
-    let events = ap (λ (q : Asked). q.events) of ∙ c.in_ok-analysis.ensures.0 in
-    let question = ap (λ (q : Asked). q.question) of in
+    let is : c.new-2.result.bound ≡ c.args.bound = ap (λ (q : AskedQuestion). q.bound) of ∙ c.in_ok-analysis.ensures.1 in
+    let events = ap (λ (q : AskedQuestion). q.events) of ∙ c.in_ok-analysis.ensures.0 in
+    let question = ap (λ (q : AskedQuestion). q.question) of in
     record {
       asked = subst (λ (n : ℕ). IfOk r (λ f. (f.question ≡ n) × (f.bound ≡ c.args.bound) × (f.task ≡ task) × (f.events ≡ s))) question
           (subst (λ (n : ℕ). IfOk r (λ f. (f.question ≡ c.new-2.result.question) × (f.bound ≡ n) × (f.task ≡ task) × (f.events ≡ s))) is

@@ -3,7 +3,7 @@ use Rattle.std.proofs.lemmas.List.{take_all}
 use Rattle.std.proofs.lemmas.Result.{IfOk-from_err}
 use Rattle.std.specs.Prelude.{flat_map, option_to_list}
 use Rattle.trace_model.specs.Theory.Dependencies.{Dependency}
-use Rattle.dependencies.specs.Tables.{known}
+use Rattle.dependencies.specs.Tables.{table_dependencies}
 use Rattle.findings.proofs.Members.{named_push}
 use Rattle.findings.proofs.rows.named_by.Goals as goal
 
@@ -24,7 +24,7 @@ loop-number-preserved c =
     let v = c.loop-number.invariant in
     let added = c.push_reserved.ensures in
     record {
-      named = named_push (known c.args.table.now) c.args.numbers.now c.loop-number.named.items c.push_reserved.new.self.items c.loop-number.number-index c.copied.result c.loop-number-test.true v.named
+      named = named_push (table_dependencies c.args.table.now) c.args.numbers.now c.loop-number.named.items c.push_reserved.new.self.items c.loop-number.number-index c.copied.result c.loop-number-test.true v.named
           (c.get.ensures ∙ ap (λ (d : Dependency). Some d) (sym c.copied.ensures)) added.items;
       counted = omega (arith, added.len, v.counted);
       room = omega (arith, added.capacity, v.room);
@@ -33,4 +33,4 @@ loop-number-preserved c =
 pub returns : goal.returns
 returns c =
     c.loop-number.invariant.named
-    ∙ ap (flat_map (λ m. option_to_list (slice_get (known c.args.table.now) m))) (take_all c.loop-number.number-index c.args.numbers.now c.loop-number-test.false)
+    ∙ ap (flat_map (λ m. option_to_list (slice_get (table_dependencies c.args.table.now) m))) (take_all c.loop-number.number-index c.args.numbers.now c.loop-number-test.false)

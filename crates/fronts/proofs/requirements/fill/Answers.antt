@@ -3,7 +3,7 @@ use Rattle.std.proofs.lemmas.Option.{slice_get_read}
 use Rattle.std.proofs.lemmas.Result.{IfOk-from_err}
 use Rattle.std.specs.Global.{Global}
 use Rattle.fronts.specs.declared.requirements.ThreadPrefix.{ThreadPrefix}
-use Rattle.fronts.specs.Slots.{slots_of, ArePositions, HasPosition}
+use Rattle.fronts.specs.Slots.{slots_of, AreSlotPlaces, HasSlotPosition}
 use Rattle.fronts.specs.Pushing.{with_slots, AddsRequirements, AreAllBuilt}
 use Rattle.fronts.proofs.BuildLemmas.{slot_within, all_pushed, each_pushed, length_pushed}
 use Rattle.fronts.proofs.requirements.fill.Goals as goal
@@ -27,7 +27,7 @@ loop-place-preserved c =
     let a = position.slot in
     let inv = c.loop-place.invariant in
     let to = c.push_reserved.new.self in
-    let positions : HasPosition s slots place a position.count = subst (λ p. HasPosition s slots p a position.count) c.new-place.ensures c.prefix_before-position.ensures in
+    let positions : HasSlotPosition s slots place a position.count = subst (λ p. HasSlotPosition s slots p a position.count) c.new-place.ensures c.prefix_before-position.ensures in
     let few : a < threads.count = slot_within s threads place a c.requires.slots positions.slot in
     let at : slice_get lists a ≡ Some old = slice_get_read lists threads.count a old (sym inv.length) few c.index_mut.ensures.value in
     let adds : AddsRequirements all place old.items new.items = subst (λ p. AddsRequirements all p old.items new.items) c.new-place.ensures c.in_ok-push_requirements.ensures in
@@ -35,7 +35,7 @@ loop-place-preserved c =
       length = length-set lists a new ∙ inv.length;
       count = length_pushed c.loop-place.positions.items to.items place position c.push_reserved.ensures.items inv.count;
       room = subst (λ z. length s ≤ z) (sym c.push_reserved.ensures.capacity) inv.room;
-      each = each_pushed (λ p to. HasPosition s slots p to.slot to.count) c.loop-place.positions.items to.items place position c.push_reserved.ensures.items inv.count inv.each positions;
+      each = each_pushed (λ p to. HasSlotPosition s slots p to.slot to.count) c.loop-place.positions.items to.items place position c.push_reserved.ensures.items inv.count inv.each positions;
       built = rw add-one (all_pushed all threads.count place a lists old new c.requires.slots positions.slot at adds inv.built);
     }
 
@@ -67,7 +67,7 @@ returns c =
     let at_end : c.loop-place.place ≡ length s = omega (arith, c.loop-place-test.false, c.len-place-end.ensures.length, c.loop-place.auto.place-end) in
     let is = c.loop-place.invariant in
     record {
-      positions = subst (λ (z : Vec ThreadPrefix Global). ArePositions s (slots_of threads) z.items) (sym c.in_ok-new.ensures.ok) (record { each = is.each; all = is.count ∙ at_end });
+      positions = subst (λ (z : Vec ThreadPrefix Global). AreSlotPlaces s (slots_of threads) z.items) (sym c.in_ok-new.ensures.ok) (record { each = is.each; all = is.count ∙ at_end });
       length = is.length;
       built = subst (λ p. AreAllBuilt (with_slots s threads c.args.locks.now) p c.loop-place.lists.items) at_end is.built;
     }

@@ -2,7 +2,7 @@ use Rattle.std.proofs.Common.{◌≡◌, rules, length, Some, sym, ◌∙◌}
 use Rattle.std.proofs.lemmas.Result.{IfOk-from_err, on_ok_weaker}
 use Rattle.trace_index.specs.Numbers.{number_at}
 use Rattle.fronts.specs.Slots.{slots_of}
-use Rattle.fronts.specs.Pushing.{reaching, adding, with_slots}
+use Rattle.fronts.specs.Pushing.{reached_items, requirement_items, with_slots}
 use Rattle.fronts.proofs.FirstLemmas.{some_within}
 use Rattle.fronts.proofs.PushLemmas.{need_within, requirements_from, four_pushed}
 use Rattle.fronts.proofs.requirements.push_requirements.Goals as goal
@@ -45,7 +45,7 @@ returns c =
       n,
       _,
       num,
-      four_pushed c.args.items.now.items _ _ _ _ (reaching s slots n a) (reaching s slots n b) (reaching s slots n d) (adding n o)
+      four_pushed c.args.items.now.items _ _ _ _ (reached_items s slots n a) (reached_items s slots n b) (reached_items s slots n d) (requirement_items n o)
           (c.in_ok-push_reach.ensures) (c.in_ok-push_reach-2.ensures) (c.in_ok-push_reach-3.ensures) new,
       requirements_from (with_slots s c.args.threads.now c.args.locks.now) c.args.threads.now.count c.args.place n a b d o c.requires.slots num c.start_of-start.ensures c.first_need-first.ensures c.last_need-last.ensures c.begin_of-begin.ensures,
     )) c.push_requirement.ensures

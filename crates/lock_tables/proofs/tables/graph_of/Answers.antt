@@ -1,6 +1,6 @@
 use Rattle.std.proofs.Common.{take, sym, subst, arith}
 use Rattle.std.specs.Arc.{arc_value}
-use Rattle.dependencies.specs.Tables.{known}
+use Rattle.dependencies.specs.Tables.{table_dependencies}
 use Rattle.lock_graph.specs.Graph.{HasGraphOf, IsGraphOf}
 use Rattle.std.proofs.lemmas.Result.{IfOk-from_err}
 use Rattle.lock_tables.specs.Tables.{shared_holders}
@@ -13,14 +13,14 @@ extend-requires-clause-graph c = graph_same _ _ _ c.in_ok-copy.ensures c.require
 
 pub returns : goal.returns
 returns c =
-    let all = known c.args.table.now in
+    let all = table_dependencies c.args.table.now in
     subst (HasGraphOf (take c.args.total all)) (sym c.in_ok-try_clone.ensures)
     (graph_part all c.args.total c.args.graphed (arc_value c.in-Some.shared)
     (subst (λ o. IsGraphOf (take c.args.graphed all) (shared_holders o)) c.in-Some.is c.requires.graph) c.if-total-graphed.true c.requires.graphed)
 
 pub returns-2 : goal.returns-2
 returns-2 c =
-    let all = known c.args.table.now in
+    let all = table_dependencies c.args.table.now in
     subst (HasGraphOf (take c.args.total all)) (sym c.in_ok-new.ensures.ok)
     (elim c.if-graphed-total.branch [
       | then-graphed-total+in_ok-extend w ↦ subst (HasGraphOf (take c.args.total all)) (sym w.copy-is)

@@ -1,5 +1,5 @@
 use Rattle.std.proofs.Common.{sym, ◌∙◌, arith}
-use Rattle.offline_report.proofs.Texts.{confirmed_few, cycles_within, is_short, is_told, over_head, over_rows}
+use Rattle.offline_report.proofs.Texts.{confirmed_few, cycles_within, is_short, is_part, over_head, over_rows}
 use Rattle.offline_report.proofs.parts.report_pieces.Goals as goal
 
 pub returns-in_default : goal.returns-in_default
@@ -28,6 +28,6 @@ pub returns : goal.returns
 returns c tasks written =
     let left = rw c.deref.ensures.value at c.in-Some.ensures in
     let head = rw (c.cycles_in.ensures, c.deref-2.ensures.value, c.confirmed_among.ensures, c.deref-3.ensures.value) at c.in_ok-head.ensures in (
-      c.in_ok-pieces.ensures ∙ is_told c.args.events c.args.bound tasks c.args.parts.items written c.in_ok-head.head.items head,
+      c.in_ok-pieces.ensures ∙ is_part c.args.events c.args.bound tasks c.args.parts.items written c.in_ok-head.head.items head,
       is_short c.args.events c.args.bound tasks c.args.parts.items written c.in_ok-head.head.items c.in-Some.rest head left (omega (arith, c.if-rest-len.false, c.len.ensures)),
     )

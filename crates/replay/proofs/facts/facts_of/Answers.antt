@@ -2,7 +2,7 @@ use Rattle.std.proofs.Common.{length, ap, ◌∙◌}
 use Rattle.std.specs.List.{slice_get}
 use Rattle.trace_model.specs.Theory.Lookups.{writer}
 use Rattle.trace_model.proofs.Theory.OneMore.{length_well_formed}
-use Rattle.trace_model.specs.Theory.Held.{begun}
+use Rattle.trace_model.specs.Theory.Held.{begun_lock}
 use Rattle.std.proofs.lemmas.Result.{IfOk-from_err}
 use Rattle.replay.specs.Facts.{previous}
 use Rattle.replay.proofs.FactLists.{get-each}
@@ -20,7 +20,7 @@ returns c =
     record {
       previous = λ q l. ap (λ xs. slice_get xs q) c.in_ok-previous.ensures.previous ∙ get-each (previous s) (length s) q l;
       writers = λ q l. ap (λ xs. slice_get xs q) c.in_ok-writers.ensures ∙ get-each (writer s) (length s) q l;
-      begins = λ q l. ap (λ xs. slice_get xs q) c.in_ok-begins.ensures.begins ∙ get-each (begun s) (length s) q l;
+      begins = λ q l. ap (λ xs. slice_get xs q) c.in_ok-begins.ensures.begins ∙ get-each (begun_lock s) (length s) q l;
       releases = c.in_ok-begins.ensures.releases;
       lasts = c.in_ok-previous.ensures.lasts;
     }

@@ -2,7 +2,7 @@ use Rattle.std.proofs.Common.{◌≡◌, ◌≤◌, get_or, length, ap, sym, sub
 use Rattle.std.proofs.lemmas.Option.{slice_get-get_or}
 use Rattle.std.proofs.lemmas.Result.{IfOk-from_err}
 use Rattle.trace_model.specs.Theory.Trace.{last_place}
-use Rattle.replay.specs.Facts.{previous, each, is_of}
+use Rattle.replay.specs.Facts.{previous, each, is_of_thread}
 use Rattle.replay.proofs.FactLists.{no_event, each_more, has_each, thread_more, previous_is}
 use Rattle.replay.proofs.facts.previous_places.Goals as goal
 
@@ -39,5 +39,5 @@ returns c =
     let whole : c.loop-index.index ≡ length s = omega (arith, c.loop-index-test.false, c.loop-index.auto.index-end) in
     record {
       previous = c.loop-index.invariant.previous ∙ ap (each (previous s)) whole;
-      lasts = λ t. c.loop-index.invariant.lasts t ∙ ap (last_place (is_of s t)) whole;
+      lasts = λ t. c.loop-index.invariant.lasts t ∙ ap (last_place (is_of_thread s t)) whole;
     }

@@ -4,7 +4,7 @@ use Rattle.trace_model.specs.Theory.Trace.{event}
 use Rattle.trace_model.proofs.Lists.{length-push}
 use Rattle.trace_model.proofs.Theory.OneMore.{length_well_formed}
 use Rattle.held_sets.specs.Tables as Held
-use Rattle.dependencies.specs.Tables.{AllBelow, FollowsTrace, next_of}
+use Rattle.dependencies.specs.Tables.{AllBelow, HasDependenciesOf, next_of}
 use Rattle.replay.proofs.FactLists.{no_event}
 use Rattle.replay.proofs.NumberTables.{Noted, Lists, follows_more, lists_more}
 use Rattle.replay.proofs.numbers.numbers_of.Goals as goal
@@ -42,8 +42,8 @@ loop-index-preserved c =
       numbers = subst (λ xs. Lists xs new) (sym c.push_reserved.ensures.items) (lists_more old new n o c.in_ok-number.number c.loop-index.numbers.items h.sized noted h.numbers);
       sized = omega (arith, ap length c.push_reserved.ensures.items, length-push c.loop-index.numbers.items c.in_ok-number.number, h.sized);
       room = subst (λ z. length s ≤ z) (sym c.push_reserved.ensures.capacity) h.room;
-      held = subst (Held.FollowsTrace c.note_locks.new.held s) up (c.in_ok-note_locks.ensures s n h.held at);
-      table = subst (FollowsTrace new s) up (follows_more c.tables_follow.ensures.follow c.tables_follow.ensures.stay s n old new o c.in_ok-number.number h.table is noted);
+      held = subst (Held.HasHeldSetsOf c.note_locks.new.held s) up (c.in_ok-note_locks.ensures s n h.held at);
+      table = subst (HasDependenciesOf new s) up (follows_more c.tables_follow.ensures.follow c.tables_follow.ensures.stay s n old new o c.in_ok-number.number h.table is noted);
     }
 
 pub returns-clause-numbers : goal.returns-clause-numbers
@@ -52,5 +52,5 @@ returns-clause-numbers c p m =
     let t = c.loop-index.table in
     let whole : c.loop-index.index ≡ length s = omega (arith, c.loop-index-test.false, c.loop-index.auto.index-end) in
     let a = c.loop-index.invariant.numbers p m in
-    let b = (c.tables_follow.ensures.number t s (subst (FollowsTrace t s) whole c.loop-index.invariant.table)).1 m p in
+    let b = (c.tables_follow.ensures.number t s (subst (HasDependenciesOf t s) whole c.loop-index.invariant.table)).1 m p in
     (λ h. b.0 (a.0 h), λ h. a.1 (b.1 h))

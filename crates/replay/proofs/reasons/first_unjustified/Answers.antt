@@ -4,7 +4,7 @@ use Rattle.std.proofs.lemmas.List.{length-set, take_all}
 use Rattle.std.proofs.lemmas.Option.{slice_get-get_or}
 use Rattle.trace_model.specs.Theory.Refutation.{Justifies, IsDerivation, derived_places}
 use Rattle.trace_model.proofs.Theory.Derivable.{derivable_within}
-use Rattle.replay.specs.Refuting.{AreMarked}
+use Rattle.replay.specs.Refuting.{AreMarksOf}
 use Rattle.replay.proofs.Marks.{derives_more, entry_marked}
 use Rattle.replay.proofs.reasons.first_unjustified.Goals as goal
 use Rattle.replay.proofs.reasons.first_unjustified.Goals.{After-entry-item, After-get}
@@ -15,7 +15,7 @@ entry_at c = slice_get-get_or c.args.entries.now c.loop-entry.entry-index c.entr
 justified : (c : After-get) → Justifies c.args.trace.now c.args.places.now (derived_places (take c.loop-entry.entry-index c.args.entries.now)) c.entry-item.result.reason c.entry-item.result.place
 justified c =
     let derived = derived_places (take c.loop-entry.entry-index c.args.entries.now) in
-    (c.is_justified.ensures derived (subst (λ xs. AreMarked xs derived) (sym c.deref.ensures.value) c.loop-entry.invariant.marked)).0 c.if-not-is_justified.false
+    (c.is_justified.ensures derived (subst (λ xs. AreMarksOf xs derived) (sym c.deref.ensures.value) c.loop-entry.invariant.marked)).0 c.if-not-is_justified.false
 
 within : (c : After-get) → c.get.result < length c.loop-entry.marks.items
 within c =
@@ -26,7 +26,7 @@ within c =
 pub returns-then-not-is_justified-clause-first : goal.returns-then-not-is_justified-clause-first
 returns-then-not-is_justified-clause-first c =
     let derived = derived_places (take c.loop-entry.entry-index c.args.entries.now) in
-    let marked = subst (λ xs. AreMarked xs derived) (sym c.deref.ensures.value) c.loop-entry.invariant.marked in (
+    let marked = subst (λ xs. AreMarksOf xs derived) (sym c.deref.ensures.value) c.loop-entry.invariant.marked in (
       c.loop-entry.entry-index,
       entry_at (goal.at.returns-then-not-is_justified-clause-first c).After-entry-item,
       c.loop-entry.invariant.derives,
@@ -55,5 +55,5 @@ returns-clause-first c =
     let entries = c.args.entries.now in
     let all = take_all c.loop-entry.entry-index entries (omega (arith, c.loop-entry-test.false)) in (
       subst (IsDerivation c.args.trace.now c.args.places.now) all c.loop-entry.invariant.derives,
-      subst (λ (xs : _). AreMarked c.loop-entry.marks.items (derived_places xs)) all c.loop-entry.invariant.marked,
+      subst (λ (xs : _). AreMarksOf c.loop-entry.marks.items (derived_places xs)) all c.loop-entry.invariant.marked,
     )

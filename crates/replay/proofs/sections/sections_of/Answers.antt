@@ -5,10 +5,10 @@ use Rattle.std.proofs.lemmas.Option.{slice_get-get_or}
 use Rattle.std.proofs.Math.ListN.{length-replicate}
 use Rattle.trace_model.specs.Theory.Lookups.{release}
 use Rattle.trace_model.proofs.Theory.OneMore.{length_well_formed}
-use Rattle.trace_model.specs.Theory.Held.{begun}
+use Rattle.trace_model.specs.Theory.Held.{begun_lock}
 use Rattle.std.proofs.lemmas.Result.{IfOk-from_err}
 use Rattle.replay.specs.Facts.{each}
-use Rattle.replay.specs.OpenSections.{open_after, ended_by, with_end}
+use Rattle.replay.specs.OpenSections.{open_after, ended_section, with_end}
 use Rattle.replay.proofs.FactLists.{no_event, each_more, has_each}
 use Rattle.replay.proofs.OpenSections.{IsOpen, so_far, so_far_all, none_so_far, none_open, open_more, has_room, begun_seen, ended_so, ended_from, releases_more, length-with_end}
 use Rattle.replay.proofs.sections.sections_of.Goals as goal
@@ -30,7 +30,7 @@ loop-index-init c =
     }
 
 pub push_reserved-requires : goal.push_reserved-requires
-push_reserved-requires c = omega (arith, has_each (begun c.args.trace.now) c.loop-index.index c.loop-index.begins.items c.loop-index.invariant.begins, c.loop-index.invariant.room, c.loop-index-test.true)
+push_reserved-requires c = omega (arith, has_each (begun_lock c.args.trace.now) c.loop-index.index c.loop-index.begins.items c.loop-index.invariant.begins, c.loop-index.invariant.room, c.loop-index-test.true)
 
 pub overflow_cast-index : goal.overflow_cast-index
 overflow_cast-index c = omega (arith, length_well_formed c.args.trace.now c.requires, c.loop-index-test.true)
@@ -50,17 +50,17 @@ loop-index-preserved c =
     let h = c.loop-index.invariant in
     let table = get nat_eq c.loop-index.opened in
     let up : suc n ≡ n + 1 = omega arith in
-    let made : c.end.new.releases.items ≡ with_end c.loop-index.releases.items (ended_by table e.op) n
+    let made : c.end.new.releases.items ≡ with_end c.loop-index.releases.items (ended_section table e.op) n
     = c.end.ensures ∙ ap (λ k. with_end c.loop-index.releases.items c.ended_by-ended.result k) c.new-place.ensures
     ∙ ap (λ o. with_end c.loop-index.releases.items o n) c.ended_by-ended.ensures in
-    let more = releases_more s n c.loop-index.releases.items (ended_by table e.op) h.sized
+    let more = releases_more s n c.loop-index.releases.items (ended_section table e.op) h.sized
     (ended_so s c.requires n e at table h.sections) (ended_from s c.requires n e at table h.sections) h.releases in
     record {
       begins = c.push_reserved.ensures.items
-          ∙ each_more (begun s) n c.loop-index.begins.items c.begun_by-begun.result h.begins
+          ∙ each_more (begun_lock s) n c.loop-index.begins.items c.begun_by-begun.result h.begins
           (c.begun_by-begun.ensures ∙ begun_seen s c.requires n e at table h.sections);
       room = subst (λ z. length s ≤ z) (sym c.push_reserved.ensures.capacity) h.room;
-      sized = ap length made ∙ length-with_end c.loop-index.releases.items (ended_by table e.op) n ∙ h.sized;
+      sized = ap length made ∙ length-with_end c.loop-index.releases.items (ended_section table e.op) n ∙ h.sized;
       releases = λ q l. ap (λ xs. slice_get xs q) made ∙ more q l ∙ ap (λ k. Some (so_far k (release s q))) up;
       sections = λ l. subst (λ k. IsOpen s k l (get nat_eq c.note.new.opened l)) up
           (subst (IsOpen s (suc n) l) (sym (c.in_ok-note.ensures l ∙ ap (λ p. open_after e.op p table l) c.new-place.ensures)) (open_more s c.requires n e at table h.sections l));
@@ -86,6 +86,6 @@ returns c =
     let s = c.args.trace.now in
     let whole : c.loop-index.index ≡ length s = omega (arith, c.loop-index-test.false, c.loop-index.auto.index-end) in
     record {
-      begins = c.loop-index.invariant.begins ∙ ap (each (begun s)) whole;
+      begins = c.loop-index.invariant.begins ∙ ap (each (begun_lock s)) whole;
       releases = λ q l. c.loop-index.invariant.releases q l ∙ ap (λ k. Some (so_far k (release s q))) whole ∙ ap Some (so_far_all s q);
     }

@@ -1,6 +1,6 @@
 use Rattle.std.proofs.Common.{[], arith}
 use Rattle.std.proofs.lemmas.Result.{err_from_is_err_and}
-use Rattle.reports.specs.Text.{is_confirmed}
+use Rattle.reports.specs.Text.{is_confirmed_row}
 use Rattle.reports.proofs.Counting.{rows_within, confirmed_within, over_rows, over_about, over_counts, planned}
 use Rattle.reports.proofs.report.plan_of.Goals as goal
 
@@ -19,7 +19,7 @@ pub count_rows-cycles-requires : goal.count_rows-cycles-requires
 count_rows-cycles-requires c = omega (arith, rows_within (λ task. task.items) c.args.tasks.now, c.in_ok-write_tasks.ensures [] c.new-counter.ensures)
 
 pub count_confirmed-confirmed-requires : goal.count_confirmed-confirmed-requires
-count_confirmed-confirmed-requires c = omega (arith, confirmed_within is_confirmed (λ task. task.items) c.args.tasks.now, c.in_ok-write_tasks.ensures [] c.new-counter.ensures)
+count_confirmed-confirmed-requires c = omega (arith, confirmed_within is_confirmed_row (λ task. task.items) c.args.tasks.now, c.in_ok-write_tasks.ensures [] c.new-counter.ensures)
 
 pub returns-in_err-write_counts : goal.returns-in_err-write_counts
 returns-in_err-write_counts c =

@@ -1,6 +1,6 @@
 use Rattle.std.proofs.Common.{ℕ, List, ◌++◌, ◌≤◌, length, codes, decimal, subst, length-append, arith}
 use Rattle.reports.specs.Text.{about}
-use Rattle.reports.specs.Sinks.{Adds, Lacks}
+use Rattle.reports.specs.Sinks.{AppendsText, Lacks}
 use Rattle.reports.proofs.Sinks.{adds_number, appends_number, lacks_begun, lacks_number}
 use Rattle.reports.proofs.write.write_about.Goals as goal
 
@@ -25,11 +25,11 @@ returns-in_err-put_number-2 g c =
     let x = codes "question " ++ decimal c.args.question in
     lacks_number g.T.Sink.room _ _ _ x (codes " length ") (about c.args.question c.args.events c.args.bound) c.args.events c.from-2.result _ c.from-2.ensures
     c.from_residual-in_err-put_number-2.ensures.0 (parts x (codes " length ") (decimal c.args.events) (codes " bound ") (decimal c.args.bound)).1
-    (subst (λ n. Adds g.T.Sink.room c.args.text.now (codes "question " ++ decimal n) c.put_number.new.self) c.from.ensures c.in_ok-put_number.ensures) c.in_err-put_number-2.ensures
+    (subst (λ n. AppendsText g.T.Sink.room c.args.text.now (codes "question " ++ decimal n) c.put_number.new.self) c.from.ensures c.in_ok-put_number.ensures) c.in_err-put_number-2.ensures
 
 pub returns : goal.returns
 returns g c =
     let x = codes "question " ++ decimal c.args.question in
-    let first = subst (λ n. Adds g.T.Sink.room c.args.text.now (codes "question " ++ decimal n) c.put_number.new.self) c.from.ensures c.in_ok-put_number.ensures in
+    let first = subst (λ n. AppendsText g.T.Sink.room c.args.text.now (codes "question " ++ decimal n) c.put_number.new.self) c.from.ensures c.in_ok-put_number.ensures in
     let second = adds_number g.T.Sink.room _ _ _ x (codes " length ") c.args.events c.from-2.result c.from-2.ensures first c.in_ok-put_number-2.ensures in
     appends_number g.T.Sink.room _ _ _ (x ++ codes " length " ++ decimal c.args.events) (codes " bound ") c.args.bound c.from-3.result _ c.from-3.ensures second c.put_number-3.ensures

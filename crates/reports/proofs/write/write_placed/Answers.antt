@@ -3,7 +3,7 @@ use Rattle.std.specs.List.{zip}
 use Rattle.std.proofs.lemmas.List.{take_all}
 use Rattle.std.proofs.lemmas.Slice.Zip.{length-zip}
 use Rattle.reports.specs.Text.{placed_line}
-use Rattle.reports.specs.Sinks.{Adds}
+use Rattle.reports.specs.Sinks.{AppendsText}
 use Rattle.reports.proofs.Pairs.{at_place, pair_more}
 use Rattle.reports.proofs.Sinks.{adds_next, lacks_one}
 use Rattle.reports.proofs.write.write_placed.Goals as goal
@@ -22,4 +22,4 @@ loop-i-preserved g c =
 pub returns : goal.returns
 returns g c =
     let whole : take c.loop-i.i (zip c.args.dependencies.now c.args.places.now) ≡ (zip c.args.dependencies.now c.args.places.now) = take_all _ _ (omega (arith, length-zip c.args.dependencies.now c.args.places.now)) in
-    subst (λ pairs. Adds g.T.Sink.room c.args.text.now (flat_map placed_line pairs) c.loop-i.text) whole c.loop-i.invariant
+    subst (λ pairs. AppendsText g.T.Sink.room c.args.text.now (flat_map placed_line pairs) c.loop-i.text) whole c.loop-i.invariant

@@ -1,6 +1,6 @@
 use Rattle.std.proofs.Common.{◌≡◌, ℕ, ◌+◌, ◌≤◌, List, ◌++◌, length, codes, decimal, append_assoc, length-append, subst, sym, ◌∙◌, arith}
 use Rattle.reports.specs.Text.{member, placed_line}
-use Rattle.reports.specs.Sinks.{Adds}
+use Rattle.reports.specs.Sinks.{AppendsText}
 use Rattle.reports.proofs.Sinks.{adds_both, appends_second, lacks_part, lacks_begun}
 use Rattle.reports.proofs.write.write_placed_line.Goals as goal
 
@@ -19,7 +19,7 @@ returns g c =
     let same : c.from.result ≡ c.args.place = c.from.ensures ∙ c.get.ensures in
     let both = adds_both g.T.Sink.room _ _ _ m (codes " place " ++ decimal c.args.place) c.in_ok-write_member.ensures (rw same at c.in_ok-put_number.ensures) in
     appends_second g.T.Sink.room _ _ _ (m ++ codes " place " ++ decimal c.args.place) (codes "\n") _
-    (subst (λ t. Adds g.T.Sink.room c.args.text.now t c.put_number.new.self) (sym (append_assoc m (codes " place ") (decimal c.args.place))) both) c.put.ensures
+    (subst (λ t. AppendsText g.T.Sink.room c.args.text.now t c.put_number.new.self) (sym (append_assoc m (codes " place ") (decimal c.args.place))) both) c.put.ensures
 
 pub returns-in_err-write_member : goal.returns-in_err-write_member
 returns-in_err-write_member g c =

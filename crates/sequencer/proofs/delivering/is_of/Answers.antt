@@ -5,7 +5,7 @@ use Rattle.std.specs.Option.{option_eq}
 use Rattle.trace_model.specs.Protocol.Machine.{same_event}
 use Rattle.trace_model.specs.Theory.Trace.{Trace}
 use Rattle.trace_model.proofs.Lists.{get-take}
-use Rattle.sequencer.proofs.Told.{is_at, other_events, other_at, same_at, same_all}
+use Rattle.sequencer.proofs.QuestionAnswers.{is_at, other_events, other_at, same_at, same_all}
 use Rattle.sequencer.proofs.delivering.is_of.Goals as goal
 
 -- the first n events have the same event at the place

@@ -1,7 +1,7 @@
 use Rattle.std.proofs.Common.{List, length, sym, ap, subst, arith}
 use Rattle.std.proofs.lemmas.List.Elements.{All-push}
 use Rattle.trace_model.proofs.Lists.{length-push}
-use Rattle.event_frames.specs.Reader.{Reading}
+use Rattle.event_frames.specs.Reader.{FrameReaderView}
 use Rattle.sequencer.specs.Drains.{AreNew, IsNew}
 use Rattle.sequencer.specs.declared.playing.PlayedSession.{PlayedSession}
 use Rattle.sequencer.proofs.playing.open_sessions.Goals as goal
@@ -13,8 +13,8 @@ loop-preserved c =
     let made = c.new.ensures.made in
     let is : IsNew session = record {
       read = c.new.ensures.grammar;
-      not_ended = ap (λ (r : Reading). r.ended) made;
-      untold = ap (λ (r : Reading). r.told) made;
+      not_ended = ap (λ (r : FrameReaderView). r.ended) made;
+      fault_free = ap (λ (r : FrameReaderView). r.returned) made;
       unsent = c.new-in-loop.ensures.items;
     } in (
       omega (arith, ap (λ (xs : List PlayedSession). length xs) items, length-push c.loop.sessions.items session, c.loop.invariant.0),

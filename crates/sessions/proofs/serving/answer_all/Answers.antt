@@ -2,7 +2,7 @@ use Rattle.std.proofs.Common.{ℕ, List, Ok, ap, ◌∙◌, subst}
 use Rattle.std.proofs.lemmas.Result.{err_from_is_err_and}
 use Rattle.trace_model.specs.declared.messages.session.Request.{Request}
 use Rattle.event_frames.specs.Reader.{Answers, Tells, HasRead}
-use Rattle.sessions.specs.Serving.{IsCounted}
+use Rattle.sessions.specs.Serving.{IsCountedFault}
 use Rattle.sessions.proofs.Answering.{answered_one, broken_reply, answered_all, answered_fault, broken_fault, frame_positive}
 use Rattle.sessions.proofs.serving.answer_all.Goals as goal
 
@@ -41,7 +41,7 @@ returns-in_err-reply_with-in-Ok-Some g c =
       ok = tt;
       err = broken_reply g.C.Calls.steps c.args.calls.now c.args.reader.now (g.K.Sink.written c.args.sink.now) (g.K.Sink.failures c.args.sink.now) c.loop-request.calls c.loop-request.reader (g.K.Sink.written c.loop-request.sink) (g.K.Sink.failures c.loop-request.sink) c.in-Ok-Some.request c.next.new.self c.call-reply.result c.call-reply.new.self (g.K.Sink.written c.reply_with.new.sink) b.0 c.loop-request.invariant t c.call-reply.ensures.step b.1;
       same = tt;
-      counted = rw p.2 (subst (λ n. IsCounted c.in_err-reply_with-in-Ok-Some.field-0.0 n (g.K.Sink.failures c.reply_with.new.sink)) c.loop-request.invariant.same c.in_err-reply_with-in-Ok-Some.ensures.counted);
+      counted = rw p.2 (subst (λ n. IsCountedFault c.in_err-reply_with-in-Ok-Some.field-0.0 n (g.K.Sink.failures c.reply_with.new.sink)) c.loop-request.invariant.same c.in_err-reply_with-in-Ok-Some.ensures.counted);
     })
 
 pub returns-in_err-reply_with-in-Err : goal.returns-in_err-reply_with-in-Err
@@ -53,7 +53,7 @@ returns-in_err-reply_with-in-Err g c =
       ok = tt;
       err = broken_fault g.C.Calls.steps c.args.calls.now c.args.reader.now (g.K.Sink.written c.args.sink.now) (g.K.Sink.failures c.args.sink.now) c.loop-request.calls c.loop-request.reader (g.K.Sink.written c.loop-request.sink) (g.K.Sink.failures c.loop-request.sink) c.in-Err.fault c.next.new.self (g.K.Sink.written c.reply_with-in-Err.new.sink) b.0 c.loop-request.invariant t b.1;
       same = tt;
-      counted = rw p.2 (subst (λ n. IsCounted c.in_err-reply_with-in-Err.field-0.0 n (g.K.Sink.failures c.reply_with-in-Err.new.sink)) c.loop-request.invariant.same c.in_err-reply_with-in-Err.ensures.counted);
+      counted = rw p.2 (subst (λ n. IsCountedFault c.in_err-reply_with-in-Err.field-0.0 n (g.K.Sink.failures c.reply_with-in-Err.new.sink)) c.loop-request.invariant.same c.in_err-reply_with-in-Err.ensures.counted);
     })
 
 pub returns-in-Err : goal.returns-in-Err

@@ -5,10 +5,10 @@ use Rattle.std.proofs.lemmas.Result.{IfOk-from_err, IfOk-at_ok, IfOk-weaker}
 use Rattle.std.proofs.lemmas.List.{take_more, take_all}
 use Rattle.std.proofs.lemmas.Option.{slice_get-get_or, none-some}
 use Rattle.trace_model.specs.Theory.Closure.{Places, IsClosed}
-use Rattle.dependencies.specs.Tables.{places_of}
+use Rattle.dependencies.specs.Tables.{dependency_places}
 use Rattle.fronts.specs.Slots.{slots_of}
 use Rattle.fronts.specs.Members.{lists}
-use Rattle.fronts.specs.Context.{fronts, slots, state, items, inside, events_of}
+use Rattle.fronts.specs.Context.{fronts, slots, state, items, inside, context_events}
 use Rattle.fronts.proofs.InvariantLemmas.{done_closes}
 use Rattle.sp_closure.specs.Reaching.{AllStop, IsLeastWith}
 use Rattle.sp_closure.proofs.BaseLemmas.{by_ok}
@@ -25,15 +25,15 @@ loop-number-init g c =
       fits = c.requires.fixpoint.fits;
       consistent = c.requires.fixpoint.consistent;
       pending = λ a k. let (i, l, e) = subst (λ z. Contains z a) c.requires.fixpoint.nothing k in absurd (omega (arith, l));
-      behind = subst (AreAtFront (events_of gr) (slots gr) (fronts gr c.args.propagation.now)) (sym none) (record { each = λ i x h. absurd (none-some x h); at = λ i x h. absurd (none-some x h) });
+      behind = subst (AreAtFront (context_events gr) (slots gr) (fronts gr c.args.propagation.now)) (sym none) (record { each = λ i x h. absurd (none-some x h); at = λ i x h. absurd (none-some x h) });
       listed = ap lists none;
       steps = refl;
-      bound = λ set d h. subst (λ ms. IsBound (events_of gr) (slots gr) (fronts gr c.args.propagation.now) ms set) (sym none)
+      bound = λ set d h. subst (λ ms. IsBound (context_events gr) (slots gr) (fronts gr c.args.propagation.now) ms set) (sym none)
           (bound_alone gr.index.now.events (slots gr) (fronts gr c.args.propagation.now) set d (c.requires.within set d h));
     }
 
-pub enter-requires : goal.enter-requires
-enter-requires g c =
+pub add_member-requires : goal.add_member-requires
+add_member-requires g c =
     let inv = c.loop-number.invariant in
     let xs = c.args.numbers.now in
     let i = c.loop-number.number-index in
@@ -53,18 +53,18 @@ run-requires g c =
       ready = record {
         sound = c.requires.fixpoint.sound;
         fits = inv.fits;
-        behind = subst (AreAtFront (events_of c.args.context.now) (slots c.args.context.now) (fronts c.args.context.now c.loop-number.propagation)) (sym c.as_mut_slice.ensures.value) inv.behind;
+        behind = subst (AreAtFront (context_events c.args.context.now) (slots c.args.context.now) (fronts c.args.context.now c.loop-number.propagation)) (sym c.as_mut_slice.ensures.value) inv.behind;
       };
       consistent = inv.consistent;
       known = inv.pending;
     }
 
-pub returns-in_err-enter : goal.returns-in_err-enter
-returns-in_err-enter g c =
+pub returns-in_err-add_member : goal.returns-in_err-add_member
+returns-in_err-add_member g c =
     let is_err = c.from_residual.ensures.0 in
     record {
-      fits = c.enter.ensures.fits;
-      steps = omega (arith, c.loop-number.invariant.steps, c.enter.ensures.steps);
+      fits = c.add_member.ensures.fits;
+      steps = omega (arith, c.loop-number.invariant.steps, c.add_member.ensures.steps);
       none = IfOk-from_err c.from_residual.result _ is_err;
       least = IfOk-from_err c.from_residual.result _ is_err;
     }
@@ -76,10 +76,10 @@ returns-then-not-branch g c =
     let i = c.loop-number.number-index in
     let m = get_or xs i 0 in
     record {
-      fits = c.enter.ensures.fits;
-      steps = omega (arith, c.loop-number.invariant.steps, c.enter.ensures.steps);
+      fits = c.add_member.ensures.fits;
+      steps = omega (arith, c.loop-number.invariant.steps, c.add_member.ensures.steps);
       none = λ is. none_confirmed s xs c.requires.known (λ set d stop.
-          false≢true (sym c.if-not-branch.true ∙ (c.in_ok-enter.ensures.bound set (c.loop-number.invariant.bound set d stop)
+          false≢true (sym c.if-not-branch.true ∙ (c.in_ok-add_member.ensures.bound set (c.loop-number.invariant.bound set d stop)
           (stops_in s c.args.table.now xs i m set c.requires.one_trace stop (slice_get-get_or xs i 0 c.loop-number-test.true))).0));
       least = λ is. absurd (false≢true is);
     }
@@ -92,16 +92,16 @@ loop-number-preserved g c =
     let xs = c.args.numbers.now in
     let i = c.loop-number.number-index in
     let m = get_or xs i 0 in
-    let f = places_of c.args.table.now in
-    let e = c.in_ok-enter.ensures in
+    let f = dependency_places c.args.table.now in
+    let e = c.in_ok-add_member.ensures in
     let goes = c.if-not-branch.false in
     record {
-      fits = c.enter.ensures.fits;
+      fits = c.add_member.ensures.fits;
       consistent = e.consistent goes;
       pending = e.pending goes;
       behind = e.behind goes;
       listed = e.lists ∙ (ap (λ z. z ++ f m ∷ []) inv.listed ∙ (sym (map_push f (take i xs) m) ∙ ap (map f) (sym (take_more xs i 0 c.loop-number-test.true))));
-      steps = omega (arith, inv.steps, c.enter.ensures.steps);
+      steps = omega (arith, inv.steps, c.add_member.ensures.steps);
       bound = λ set d stop. (e.bound set (inv.bound set d stop)
           (stops_in s c.args.table.now xs i m set c.requires.one_trace stop (slice_get-get_or xs i 0 c.loop-number-test.true))).1;
     }
@@ -118,8 +118,8 @@ returns g c =
     let new = c.run.new.self in
     let ms = c.run.new.members in
     let value = c.as_mut_slice.ensures.value in
-    let bounds : (set : Places) → IsClosed s set → AllStop s xs set → IsBound (events_of gr) (slots gr) (fronts gr c.loop-number.propagation) c.as_mut_slice.result.now set =
-    λ set k stop. subst (λ zs. IsBound (events_of gr) (slots gr) (fronts gr c.loop-number.propagation) zs set) (sym value) (inv.bound set k stop) in
+    let bounds : (set : Places) → IsClosed s set → AllStop s xs set → IsBound (context_events gr) (slots gr) (fronts gr c.loop-number.propagation) c.as_mut_slice.result.now set =
+    λ set k stop. subst (λ zs. IsBound (context_events gr) (slots gr) (fronts gr c.loop-number.propagation) zs set) (sym value) (inv.bound set k stop) in
     record {
       fits = ran.carries.fits;
       steps = omega (arith, inv.steps, ran.carries.steps);
@@ -134,7 +134,7 @@ returns g c =
             closed = done_closes s (slots gr) (slots_of d.locks) d.threads.count d.locks.count (items gr) (state gr new) c.requires.fixpoint.sound.slots c.requires.fixpoint.sound.locks c.requires.fixpoint.sound.items
                 (IfOk-at_ok _ ok ran.consistent is) (IfOk-at_ok _ ok ran.nothing is);
             behind = IfOk-at_ok _ ok ran.carries.behind is;
-            listed = same_lists c.as_mut_slice.result.now ms ran.carries.same ∙ (ap lists value ∙ (inv.listed ∙ ap (map (places_of table)) whole));
+            listed = same_lists c.as_mut_slice.result.now ms ran.carries.same ∙ (ap lists value ∙ (inv.listed ∙ ap (map (dependency_places table)) whole));
             bound = λ set k stop. (IfOk-at_ok _ ok ran.carries.bound set (bounds set k stop) tt).1;
           } in
           let back = written c.loop-number.members.len ms _

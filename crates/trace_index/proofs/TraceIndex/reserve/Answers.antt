@@ -2,14 +2,14 @@ use Rattle.std.proofs.lemmas.Option.{same_Some}
 use Rattle.std.proofs.Common.{◌≡◌, ◌*◌, length, refl, sym, ap, subst, ◌∙◌, w32, arith, ℕ, List, None, Some}
 use Rattle.std.proofs.Math.Facts.{Fits-below}
 use Rattle.trace_model.specs.Theory.Trace.{Trace}
-use Rattle.trace_index.specs.Depths.{depth_in, op_depth, HasOpEntry}
+use Rattle.trace_index.specs.Depths.{lock_depth, op_depth, HasOpEntry}
 use Rattle.trace_index.specs.Links.{trace_of, AreLastPlaces}
 use Rattle.trace_index.specs.SegmentTables.{AreAllTables}
 use Rattle.trace_index.proofs.Deep.{owned_in, op_depth-agree}
 use Rattle.trace_index.proofs.SegmentTables.{last_of_all}
-use Rattle.trace_index.specs.Positions.{ArePositions}
+use Rattle.trace_index.specs.Positions.{AreKeyPositions}
 use Rattle.trace_index.specs.declared.row.IndexRow.{IndexRow}
-use Rattle.trace_index.specs.Room.{Indexed, IsIndex}
+use Rattle.trace_index.specs.Room.{IndexView, IsIndex}
 use Rattle.trace_index.proofs.OneFurther.{rows_short, still_none, followed, ready_next, deep_still, deep_entered, depths_of_all}
 use Rattle.trace_index.proofs.TraceIndex.reserve.Goals as goal
 
@@ -140,7 +140,7 @@ invariant_of-self-2 c =
           c.in_ok-follow.ensures.last_places c.in_ok-follow.ensures.within)
           (record {
             row_is = c.ready_for-ready.ensures.row;
-            positions_are = subst (λ e. ArePositions m.tail.last e r.positions) (sym c.ready_for-ready.ensures.event) c.ready_for-ready.ensures.positions;
+            positions_are = subst (λ e. AreKeyPositions m.tail.last e r.positions) (sym c.ready_for-ready.ensures.event) c.ready_for-ready.ensures.positions;
             row_room = c.in_ok-reserve.ensures.ok;
             table_room = c.in_ok-reserve-2.ensures.room;
             tables_fit = omega arith;
@@ -152,13 +152,13 @@ invariant_of-self-2 c =
         entry = λ x h. subst (λ y. HasOpEntry d.table y.row.event.op) (same_Some r x h) (subst (λ e. HasOpEntry d.table e.op) (sym c.ready_for-ready.ensures.event) c.in_ok-reserve-3.ensures.ok);
         ready = λ x h. subst (λ y. y.row.depth ≡ op_depth (owned_in (trace_of rows)) y.row.event.op) (same_Some r x h)
             (c.ready_for-ready.ensures.depth ∙ c.before-depth.ensures
-            ∙ op_depth-agree (depth_in d.table) (owned_in (trace_of rows)) c.args.event.now.op (depths_of_all rows d.table d.noted still.depths_are all)
+            ∙ op_depth-agree (lock_depth d.table) (owned_in (trace_of rows)) c.args.event.now.op (depths_of_all rows d.table d.noted still.depths_are all)
             ∙ ap (λ e. op_depth (owned_in (trace_of rows)) e.op) (sym c.ready_for-ready.ensures.event));
       };
     }
 
 -- the events do not change
-same_events : (rows rows' : List IndexRow) (shown : Indexed) → rows' ≡ rows → trace_of rows ≡ shown.events → trace_of rows' ≡ shown.events
+same_events : (rows rows' : List IndexRow) (shown : IndexView) → rows' ≡ rows → trace_of rows ≡ shown.events → trace_of rows' ≡ shown.events
 same_events rows rows' shown same are = ap trace_of same ∙ are
 
 pub returns-in_err-reserve-clause-events : goal.returns-in_err-reserve-clause-events

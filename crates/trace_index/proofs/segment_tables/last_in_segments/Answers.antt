@@ -3,7 +3,7 @@ use Rattle.std.proofs.lemmas.Bool.{cases_lt}
 use Rattle.std.proofs.lemmas.Option.{slice_get_read}
 use Rattle.std.specs.HashMap.{get}
 use Rattle.trace_index.specs.declared.segment_tables.SegmentTable.{SegmentTable}
-use Rattle.trace_index.specs.Links.{same_key, passes}
+use Rattle.trace_index.specs.Links.{same_key, matches}
 use Rattle.trace_index.proofs.SegmentTables.{tail_last, tail_no, sealed_last, sealed_no, none_last}
 use Rattle.trace_index.proofs.segment_tables.last_in_segments.Goals as goal
 
@@ -42,4 +42,4 @@ loop-index-preserved c =
 pub returns : goal.returns
 returns c = λ s n are.
     let t = c.loop-index-test.false in
-    none_last (passes s c.args.key) n (λ u l. c.loop-index.invariant.later s n u are (omega arith) l)
+    none_last (matches s c.args.key) n (λ u l. c.loop-index.invariant.later s n u are (omega arith) l)

@@ -2,8 +2,8 @@ use Rattle.std.proofs.Common.{◌∙◌, inr, sym, ap, subst, add-one, arith}
 use Rattle.std.specs.Prelude.{slice_get}
 use Rattle.std.proofs.lemmas.Result.{err_from_is_err_and}
 use Rattle.trace_model.specs.Protocol.Machine.{State}
-use Rattle.findings.specs.Found.{Asked}
-use Rattle.commands.specs.ScriptRun.{Delivers, DeliversNext, IsJobIn, IsNextTask, RefusesTask, Works}
+use Rattle.findings.specs.Found.{AskedQuestion}
+use Rattle.commands.specs.ScriptRun.{DeliversTask, DeliversNext, IsJobIn, IsNextTask, RefusesTask, Works}
 use Rattle.commands.proofs.ScriptTasks.{none_beyond, remains, tells_more}
 use Rattle.commands.proofs.script_command.ScriptSession.deliver_missing.Goals as goal
 
@@ -15,10 +15,10 @@ loop-worked-preserved c =
     let task = c.in-Ok-Some.task in
     let same = c.in_ok-deliver_task.ensures.same in
     let own = c.in_ok-deliver_task.ensures.delivered in
-    let gave = subst (λ number. Delivers state number task next) kept.number own in
+    let gave = subst (λ number. DeliversTask state number task next) kept.number own in
     let least = rw c.in-Ok-Some.field-0-is at c.in-Ok-Some.ensures.ok in
     record {
-      number = ap (λ (job : Asked). job.question) same ∙ kept.number;
+      number = ap (λ (job : AskedQuestion). job.question) same ∙ kept.number;
       job = subst (IsJobIn next) (sym same) (remains state next task c.loop-worked.job kept.job own);
       delivered = subst (λ n. DeliversNext n c.args.self.now.book.state c.args.question next) (sym (add-one c.loop-worked.worked)) (state, task, kept.delivered, least, gave);
       counted = tells_more state next c.args.question task c.loop-worked.worked kept.counted gave;
@@ -32,14 +32,14 @@ returns-in_err-deliver_task c =
     let next = c.deliver_task.new.self.book.state in
     let number = c.args.question in
     let task = c.in-Ok-Some.task in
-    let told = c.in_err-deliver_task.ensures.refused in
+    let outcome = c.in_err-deliver_task.ensures.refused in
     let p = err_from_is_err_and c.from_residual.result c.from_residual.ensures.1 in
     let least = rw c.in-Ok-Some.field-0-is at c.in-Ok-Some.ensures.ok in
-    let refuses = subst (RefusesTask state number task) (sym p.2) (subst (λ n. RefusesTask state n task c.in_err-deliver_task.field-0.0) kept.number told.1) in
+    let refuses = subst (RefusesTask state number task) (sym p.2) (subst (λ n. RefusesTask state n task c.in_err-deliver_task.field-0.0) kept.number outcome.1) in
     subst (λ r. Works old number r next) (sym p.1) (
       c.loop-worked.worked,
-      subst (DeliversNext c.loop-worked.worked old number) (sym told.0) kept.delivered,
-      inr (task, subst (λ (s : State). IsNextTask s number task) (sym told.0) least, subst (λ (s : State). RefusesTask s number task p.0) (sym told.0) refuses),
+      subst (DeliversNext c.loop-worked.worked old number) (sym outcome.0) kept.delivered,
+      inr (task, subst (λ (s : State). IsNextTask s number task) (sym outcome.0) least, subst (λ (s : State). RefusesTask s number task p.0) (sym outcome.0) refuses),
     )
 
 pub unreachable-requires : goal.unreachable-requires

@@ -7,7 +7,7 @@ pub returns-in_err-ok-clause-none : goal.returns-in_err-ok-clause-none
 returns-in_err-ok-clause-none c =
     let words = c.args.keyword.now ∷ decimal c.args.number ∷ [] in
     let fault = error_of c.from_utf8.result _ _ c.from_utf8.ensures.cases (sym c.ok.ensures.value ∙ c.in_err-ok.was) in
-    subst (λ told. IfNone told (SaysOnlyEvents words)) (sym c.from_residual.ensures) (no_keyword c.args.keyword.now (decimal c.args.number ∷ []) fault.1.0)
+    subst (λ outcome. IfNone outcome (SaysOnlyEvents words)) (sym c.from_residual.ensures) (no_keyword c.args.keyword.now (decimal c.args.number ∷ []) fault.1.0)
 
 pub returns-in_err-ok-in-ask-clause-none : goal.returns-in_err-ok-in-ask-clause-none
 returns-in_err-ok-in-ask-clause-none c =
@@ -15,4 +15,4 @@ returns-in_err-ok-in-ask-clause-none c =
     let large = large_of c.try_from.result c.args.number c.try_from.ensures (sym c.ok-in-ask.ensures.value ∙ c.in_err-ok-in-ask.was) in
     let text = value_of c.from_utf8.result c.in_ok-ok.field-0 _ _ c.from_utf8.ensures.cases (sym c.ok.ensures.value ∙ c.in_ok-ok.was) in
     let ask = sym text.0 ∙ c.in-ask.is in
-    subst (λ told. IfNone told (SaysOnlyEvents words)) (sym c.from_residual-in_err-ok-in-ask.ensures) (large_bound c.args.keyword.now c.args.number (omega (arith, c.ranges.number.fits)) large ask)
+    subst (λ outcome. IfNone outcome (SaysOnlyEvents words)) (sym c.from_residual-in_err-ok-in-ask.ensures) (large_bound c.args.keyword.now c.args.number (omega (arith, c.ranges.number.fits)) large ask)

@@ -7,4 +7,4 @@ pub returns-in_err-ok-clause-none : goal.returns-in_err-ok-clause-none
 returns-in_err-ok-clause-none c =
     let more = c.args.question.now ∷ c.args.task.now ∷ [] in
     let fault = error_of c.from_utf8.result _ _ c.from_utf8.ensures.cases (sym c.ok.ensures.value ∙ c.in_err-ok.was) in
-    subst (λ told. IfNone told (SaysOnlyEvents (c.args.keyword.now ∷ more))) (sym c.from_residual.ensures) (no_keyword c.args.keyword.now more fault.1.0)
+    subst (λ outcome. IfNone outcome (SaysOnlyEvents (c.args.keyword.now ∷ more))) (sym c.from_residual.ensures) (no_keyword c.args.keyword.now more fault.1.0)

@@ -1,12 +1,12 @@
 use Rattle.std.proofs.Common.{ℕ, List, subst}
-use Rattle.dependencies.specs.Tables.{known}
-use Rattle.cycle_search.specs.Edges.{AreMarked}
+use Rattle.dependencies.specs.Tables.{table_dependencies}
+use Rattle.cycle_search.specs.Edges.{AreSuccessorsMarked}
 use Rattle.cycle_search.proofs.ComponentLemmas.{components-ascend}
 use Rattle.cycle_search.proofs.components.Components.new.Goals as goal
 
 pub returns : goal.returns
 returns c =
-    let ds = known c.args.table.now in
+    let ds = table_dependencies c.args.table.now in
     components-ascend ds (record { numbers = c.in_ok-numbers.numbers; cyclic = c.in_ok-cyclic.cyclic; acquirers = c.in_ok-acquirers.acquirers; locks = c.in_ok-locks.locks })
     c.in_ok-numbers.ensures.each c.in_ok-numbers.ensures.ascend
-    (subst (λ (xs : List ℕ). AreMarked ds xs c.in_ok-cyclic.cyclic.items) c.deref.ensures.value c.in_ok-cyclic.ensures) c.in_ok-locks.ensures c.in_ok-acquirers.ensures
+    (subst (λ (xs : List ℕ). AreSuccessorsMarked ds xs c.in_ok-cyclic.cyclic.items) c.deref.ensures.value c.in_ok-cyclic.ensures) c.in_ok-locks.ensures c.in_ok-acquirers.ensures

@@ -3,8 +3,8 @@ use Rattle.std.specs.Arc.{arc_value}
 use Rattle.trace_model.specs.Protocol.Runs.{IsLegal}
 use Rattle.sequencer.specs.Book.{RefusesSnapshot}
 use Rattle.desk.specs.Published.{DeskView}
-use Rattle.desk.specs.Questions.{AreEventsOf}
-use Rattle.desk.proofs.Outcome.{on_err, refused_after, told_after}
+use Rattle.desk.specs.Questions.{IsAboutEvents}
+use Rattle.desk.proofs.Outcome.{on_err, refused_after, outcome_after}
 use Rattle.desk.proofs.desk.Desk.snapshot.Goals as goal
 
 pub returns : goal.returns
@@ -15,7 +15,7 @@ returns g c =
     let question = c.args.question in
     let names = c.receipt.ensures.published ∙ ap (λ (k : DeskView). k.published) (c.deref-2.ensures ∙ sym c.deref.ensures) in
     record {
-      ok = told_after limit kept kept run c.snapshot.result (λ shared state. AreEventsOf state question (arc_value shared)) c.snapshot.ensures.now names refl c.snapshot.ensures.ok;
+      ok = outcome_after limit kept kept run c.snapshot.result (λ shared state. IsAboutEvents state question (arc_value shared)) c.snapshot.ensures.now names refl c.snapshot.ensures.ok;
       refused = refused_after limit kept kept run c.snapshot.result (λ refusal state. RefusesSnapshot state question refusal) c.snapshot.ensures.now names (on_err c.snapshot.result refl) c.snapshot.ensures.refused;
       legal = subst IsLegal (sym c.receipt.ensures.published) c.receipt.ensures.legal;
     }

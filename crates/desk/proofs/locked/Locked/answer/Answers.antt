@@ -11,7 +11,7 @@ returns g c =
     let k = c.self.invariant in
     record {
       before = after_shown limit _ _ c.self.view_is k.after;
-      told = search rules;
+      response = search rules;
       refused = search rules;
       same = refl;
       receipt = c.receipt.ensures ∙ ap (λ (x : DeskView). x.published) c.self.view_is;

@@ -5,9 +5,9 @@ use Rattle.trace_model.specs.declared.messages.session.Reply.TheVariants.{Refuse
 use Rattle.trace_model.specs.declared.refusal.Refusal.TheVariants.{NoMemory}
 use Rattle.trace_model.specs.Protocol.Machine.{step}
 use Rattle.sequencer.specs.Book.{Refuses, ask_refusal, opened_reply}
-use Rattle.sequencer.specs.Printing.{printing}
+use Rattle.sequencer.specs.Printing.{report_printer}
 use Rattle.sequencer.specs.declared.asking.AskRefused.TheVariants as NoAsk
-use Rattle.sequencer.proofs.Told.{refused_ask}
+use Rattle.sequencer.proofs.QuestionAnswers.{refused_ask}
 use Rattle.desk.proofs.Steps.{Moves, goes, kept_on, legal_next, stays, steps_ask, takes_ask}
 use Rattle.desk.proofs.locked.Locked.ask.Goals as goal
 use Rattle.desk.proofs.locked.Locked.ask.Goals.{After-record_question}
@@ -52,6 +52,6 @@ returns g c =
     let next = c.record_question.new.self.state in
     let bound = c.args.bound in
     let opened = c.preview-opened.result in
-    let it = goes (taken g (goal.at.returns g c).After-record_question) _ _ _ (λ x. step printing x (Ask bound) ≡ (opened_reply opened, next)) c.self.view_is c.publish.ensures.published c.publish.ensures.waiting
+    let it = goes (taken g (goal.at.returns g c).After-record_question) _ _ _ (λ x. step report_printer x (Ask bound) ≡ (opened_reply opened, next)) c.self.view_is c.publish.ensures.published c.publish.ensures.waiting
     (steps_ask c.self.inside.book.state c.reserve_question.new.self.state next bound c.in-Ok.asked.bound opened c.in-Ok.ensures.shown c.in-Ok.ensures.ok.0 c.in-Ok.ensures.allowed c.preview-opened.ensures c.record_question.ensures) in
     record { before = it.before; after = it.after; opened = it.is; published = it.published; refused = tt; same = tt; receipt = c.publish.ensures.receipt; legal = it.legal }

@@ -1,7 +1,7 @@
 use Rattle.std.proofs.Common.{◌≡◌, List, [], ◌∷◌, ◌++◌, length, refl, sym, ap, subst, ◌∙◌, arith, append_assoc}
 use Rattle.std.proofs.lemmas.List.{append-nil, nil_from_length}
-use Rattle.snapshots.specs.Found.{FoundRows}
-use Rattle.sequencer.specs.Deliveries.{Delivered}
+use Rattle.snapshots.specs.Found.{RowsOfTask}
+use Rattle.sequencer.specs.Deliveries.{DeliveryResult}
 use Rattle.trace_model.specs.Protocol.Runs.{IsLegal}
 use Rattle.desk.specs.Published.{After, DeskView}
 use Rattle.desk.specs.Together.{AreOutcomes, taken_steps}
@@ -31,14 +31,14 @@ loop-finding-preserved g c =
     let is = outcome_of g.N.HistoryId.limit c.loop-finding.self c.deliver-outcome.new.self f o i.after d.went in
     let items = c.push_reserved.ensures.items in
     record {
-      are = subst (λ (os : List Delivered). AreOutcomes g.N.HistoryId.limit c.args.self.now.published (c.loop-finding.yielded ++ f ∷ []) os) (sym items)
+      are = subst (λ (os : List DeliveryResult). AreOutcomes g.N.HistoryId.limit c.args.self.now.published (c.loop-finding.yielded ++ f ∷ []) os) (sym items)
           (outcomes_more g.N.HistoryId.limit c.args.self.now.published c.loop-finding.self.published c.loop-finding.yielded c.loop-finding.outcomes.items f o i.are i.run is);
       run = steps_more c.args.self.now.published c.loop-finding.self.published c.deliver-outcome.new.self.published c.loop-finding.yielded c.loop-finding.outcomes.items f o i.are.count i.run
           (steps_of c.loop-finding.self c.deliver-outcome.new.self f o d.went)
-          ∙ ap (λ (os : List Delivered). c.args.self.now.published ++ taken_steps (c.loop-finding.yielded ++ f ∷ []) os) (sym items);
+          ∙ ap (λ (os : List DeliveryResult). c.args.self.now.published ++ taken_steps (c.loop-finding.yielded ++ f ∷ []) os) (sym items);
       after = d.after;
       rest = append_assoc c.loop-finding.yielded (f ∷ []) c.next.new.self.rest.items
-          ∙ ap (λ (xs : List FoundRows). c.loop-finding.yielded ++ xs) (sym c.in-Some.ensures.steps.0) ∙ i.rest;
+          ∙ ap (λ (xs : List RowsOfTask). c.loop-finding.yielded ++ xs) (sym c.in-Some.ensures.steps.0) ∙ i.rest;
       room = omega (arith, i.room, c.push_reserved.ensures.len, c.push_reserved.ensures.capacity, ap length c.in-Some.ensures.steps.0);
     }
 
@@ -66,11 +66,11 @@ returns g c =
     let run = c.args.self.now.published in
     let none : rest.items ≡ [] = nil_from_length rest.items (omega (arith, rest.ok.0, c.in-None.ensures.steps.0)) in
     let all : c.loop-finding.yielded ≡ c.args.findings.items =
-    sym (append-nil c.loop-finding.yielded) ∙ (ap (λ (xs : List FoundRows). c.loop-finding.yielded ++ xs) (sym none) ∙ i.rest) in
+    sym (append-nil c.loop-finding.yielded) ∙ (ap (λ (xs : List RowsOfTask). c.loop-finding.yielded ++ xs) (sym none) ∙ i.rest) in
     record {
       after = i.after;
-      outcomes = subst (λ (fs : List FoundRows). AreOutcomes g.N.HistoryId.limit run fs outcomes) all i.are;
-      published = i.run ∙ ap (λ (fs : List FoundRows). run ++ taken_steps fs outcomes) all;
+      outcomes = subst (λ (fs : List RowsOfTask). AreOutcomes g.N.HistoryId.limit run fs outcomes) all i.are;
+      published = i.run ∙ ap (λ (fs : List RowsOfTask). run ++ taken_steps fs outcomes) all;
       receipt = c.receipt.ensures.published;
       back = tt;
       same = tt;

@@ -5,8 +5,8 @@ use Rattle.trace_model.specs.declared.messages.session.Reply.TheVariants.{Placed
 use Rattle.trace_model.specs.declared.refusal.Refusal.TheVariants.{NoMemory}
 use Rattle.trace_model.specs.Protocol.Machine.{step}
 use Rattle.sequencer.specs.Book.{Refuses}
-use Rattle.sequencer.specs.Printing.{printing}
-use Rattle.sequencer.proofs.Told.{refused_offer}
+use Rattle.sequencer.specs.Printing.{report_printer}
+use Rattle.sequencer.proofs.QuestionAnswers.{refused_offer}
 use Rattle.desk.proofs.Steps.{Moves, goes, kept_on, legal_next, stays, steps_offer, takes_offer}
 use Rattle.desk.proofs.locked.Locked.offer.Goals as goal
 use Rattle.desk.proofs.locked.Locked.offer.Goals.{After-record_event}
@@ -48,6 +48,6 @@ returns g c =
     let next = c.record_event.new.self.state in
     let event = c.args.event in
     let place = c.new-place.result in
-    let it = goes (taken g (goal.at.returns g c).After-record_event) _ _ _ (λ x. step printing x (Offer event) ≡ (Placed place, next)) c.self.view_is c.publish.ensures.published c.publish.ensures.waiting
+    let it = goes (taken g (goal.at.returns g c).After-record_event) _ _ _ (λ x. step report_printer x (Offer event) ≡ (Placed place, next)) c.self.view_is c.publish.ensures.published c.publish.ensures.waiting
     (steps_offer c.self.inside.book.state c.reserve_event.new.self.state next event place c.in_default.ensures.shown c.in_default.ensures.ok.1 (c.new-place.ensures ∙ c.len.ensures.value) c.record_event.ensures) in
     record { before = it.before; after = it.after; placed = it.is; published = it.published; refused = tt; same = tt; receipt = c.publish.ensures.receipt; legal = it.legal }

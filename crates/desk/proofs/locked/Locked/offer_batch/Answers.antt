@@ -3,7 +3,7 @@ use Rattle.trace_model.specs.declared.messages.step.BoardStep.TheVariants.{Accep
 use Rattle.trace_model.specs.Protocol.Machine.{State}
 use Rattle.trace_model.specs.declared.refusal.Refusal.TheVariants.{NoMemory}
 use Rattle.sequencer.specs.Batched.{IsBatched}
-use Rattle.board.specs.Fits.{truncated}
+use Rattle.board.specs.Fits.{truncated_step}
 use Rattle.desk.specs.Published.{DeskView}
 use Rattle.desk.proofs.Steps.{Moves, accepting_some, first_admitted, goes, kept_on, legal_next, none_accepted, none_batched, stays, takes_batch}
 use Rattle.desk.proofs.locked.Locked.offer_batch.Goals as goal
@@ -23,7 +23,7 @@ taken : (g : Over) (c : After-truncate g) →
     Moves g.N.HistoryId.limit c.self.inside.board.published c.self.inside.board.waiting (c.truncate.new.self.published ++ c.truncate.new.self.waiting) c.self.inside.book.state c.record_batch-batched.new.self.state (Accept (take c.record_batch-batched.result.accepted c.args.events.now))
 taken g c =
     let waits : c.truncate.new.self.waiting ≡ Accept (take c.record_batch-batched.result.accepted c.args.events.now) ∷ [] =
-    c.truncate.ensures.waiting ∙ (ap (map (truncated c.from.result)) c.in-Ok.ensures.waiting ∙ (λ i. Accept (take (c.from.ensures i) (c.in-Some.ensures.value i)) ∷ [])) in
+    c.truncate.ensures.waiting ∙ (ap (map (truncated_step c.from.result)) c.in-Ok.ensures.waiting ∙ (λ i. Accept (take (c.from.ensures i) (c.in-Some.ensures.value i)) ∷ [])) in
     record {
       kept = c.self.invariant;
       takes = takes_batch c.self.inside.book.state _ c.args.events.now c.record_batch-batched.result c.requires c.record_batch-batched.ensures.some (came g c);

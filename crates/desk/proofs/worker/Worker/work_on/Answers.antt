@@ -6,7 +6,7 @@ use Rattle.desk.specs.declared.worker.Turn.{Turn}
 use Rattle.desk.specs.declared.worker.Picked.{Picked}
 use Rattle.desk.specs.Published.{Afterwards}
 use Rattle.desk.specs.Questions.{IsFirstMissing}
-use Rattle.desk.specs.Turns.{HasTooMany, IsDrawn, WorkerView}
+use Rattle.desk.specs.Turns.{QuestionHasTooMany, IsDrawn, WorkerView}
 use Rattle.desk.proofs.Turns.{known_since}
 use Rattle.desk.proofs.worker.Worker.work_on.Goals as goal
 
@@ -20,7 +20,7 @@ returns-in-Err-clause-later g c = known_since _ _ _ _ c.self.view_is c.pick-pick
 pub returns-in-Err-clause-too_many : goal.returns-in-Err-clause-too_many
 returns-in-Err-clause-too_many g c =
     let task = c.in-Some.picked.task in
-    let Many : ℕ → Type 0 = λ question. HasTooMany g.N.HistoryId.limit c.compute.new.reader.known question c.args.unsettled.shown.bound task in
+    let Many : ℕ → Type 0 = λ question. QuestionHasTooMany g.N.HistoryId.limit c.compute.new.reader.known question c.args.unsettled.shown.bound task in
     λ e. (task, subst Many c.from-question.ensures (c.compute.ensures.too_many (c.in-Err.is ∙ ap (λ (t : Turn). Err t) e)))
 
 pub returns-in-Err-clause-gives_up : goal.returns-in-Err-clause-gives_up
@@ -42,7 +42,7 @@ returns-in-Err-clause-gives_up g c = elim c.give_up.ensures [
             subst (λ (w : WorkerView). IsPrefix w.known c.pick-picked.new.reader.known) c.self.view_is c.pick-picked.ensures.later,
             c.compute.ensures.later,
             subst (λ b. MatchBool b (missing (Some task)) (drawn task)) gives.0
-                (subst (λ o. MatchOption o (missing None) (λ (p : Picked). MatchBool p.left (missing (Some p.task)) (drawn p.task))) c.in-Some.is c.in-Ok.ensures.picked),
+                (subst (λ o. MatchOption o (missing None) (λ (p : Picked). MatchBool p.all_drawn (missing (Some p.task)) (drawn p.task))) c.in-Some.is c.in-Ok.ensures.picked),
           ),
           gives.2 ∙ ap (λ (w : WorkerView). slice_set w.given_up c.args.unsettled.number true) c.self.view_is,
         ),

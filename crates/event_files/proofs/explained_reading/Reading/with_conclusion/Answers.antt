@@ -1,8 +1,8 @@
 use Rattle.std.proofs.Common.{◌≡◌, ◌<◌, [], length, map, sym, subst, ◌∙◌}
 use Rattle.std.proofs.lemmas.Bool.{true≢false}
-use Rattle.event_files.specs.Refutations.{last_place}
+use Rattle.event_files.specs.Refutations.{last_derived_place}
 use Rattle.event_files.specs.ExplainedText.{stated_cycle, stated_member}
-use Rattle.event_files.specs.ExplainedReading.{Follows, IsWrongNext, stated_state, steps}
+use Rattle.event_files.specs.ExplainedReading.{ReadsStatedLine, IsWrongNext, stated_state, steps}
 use Rattle.event_files.specs.ExplainedLines.{conclusion}
 use Rattle.event_files.proofs.ExplainedReadings.{follows_conclusion, reading, wrong_conclusion, wrong_last}
 use Rattle.event_files.proofs.explained_reading.Reading.with_conclusion.Goals as goal
@@ -17,8 +17,8 @@ returns-then-not-is_last c =
     let cs = map stated_cycle c.args.self.cycles.items in
     let ms = map stated_member c.in-Steps.members.items in
     let es = c.in-Steps.entries.items in
-    let other : (0 < length es) × (last_place es ≡ c.args.place) → ⊥ = λ last.
-    true≢false (sym (c.is_last.ensures.1 (subst (λ l. (0 < length l) × (last_place l ≡ c.args.place)) (sym c.deref.ensures.value) last)) ∙ c.if-not-is_last.true) in
+    let other : (0 < length es) × (last_derived_place es ≡ c.args.place) → ⊥ = λ last.
+    true≢false (sym (c.is_last.ensures.1 (subst (λ l. (0 < length l) × (last_derived_place l ≡ c.args.place)) (sym c.deref.ensures.value) last)) ∙ c.if-not-is_last.true) in
     subst (λ s. IsWrongNext (reading h cs (stated_state s)) (conclusion c.args.thread c.args.place)) (sym c.in-Steps.is)
     (wrong_last h cs c.in-Steps.cycle ms c.in-Steps.steps.items es c.args.thread c.args.place other)
 
@@ -29,7 +29,7 @@ returns c =
     let ms = map stated_member c.in-Steps.members.items in
     let es = c.in-Steps.entries.items in
     let new = c.push.new.self.items in
-    let last = subst (λ l. (0 < length l) × (last_place l ≡ c.args.place)) c.deref.ensures.value (c.is_last.ensures.0 c.if-not-is_last.false) in
+    let last = subst (λ l. (0 < length l) × (last_derived_place l ≡ c.args.place)) c.deref.ensures.value (c.is_last.ensures.0 c.if-not-is_last.false) in
     let follows = follows_conclusion h cs c.in-Steps.cycle ms c.in-Steps.steps.items new es c.args.thread c.args.place last.0 last.1 c.in_ok-push.ensures.items in
-    subst (λ l. Follows (reading h cs (stated_state c.args.self.state)) (conclusion c.args.thread c.args.place) (reading h cs (steps c.in-Steps.cycle ms new l))) (sym c.new.ensures.items)
-    (subst (λ s. Follows (reading h cs (stated_state s)) (conclusion c.args.thread c.args.place) (reading h cs (steps c.in-Steps.cycle ms new []))) (sym c.in-Steps.is) follows)
+    subst (λ l. ReadsStatedLine (reading h cs (stated_state c.args.self.state)) (conclusion c.args.thread c.args.place) (reading h cs (steps c.in-Steps.cycle ms new l))) (sym c.new.ensures.items)
+    (subst (λ s. ReadsStatedLine (reading h cs (stated_state s)) (conclusion c.args.thread c.args.place) (reading h cs (steps c.in-Steps.cycle ms new []))) (sym c.in-Steps.is) follows)

@@ -1,7 +1,7 @@
 use Rattle.std.proofs.Common.{map, sym, subst}
 use Rattle.trace_model.specs.declared.refutations.Derived.{Derived}
 use Rattle.event_files.specs.ExplainedText.{stated_cycle, stated_member}
-use Rattle.event_files.specs.ExplainedReading.{Follows, stated_state, steps}
+use Rattle.event_files.specs.ExplainedReading.{ReadsStatedLine, stated_state, steps}
 use Rattle.event_files.specs.ExplainedLines.{entry}
 use Rattle.event_files.proofs.ExplainedReadings.{follows_entry, reading, wrong_entry}
 use Rattle.event_files.proofs.explained_reading.Reading.with_entry.Goals as goal
@@ -18,5 +18,5 @@ returns c =
     let ms = map stated_member c.in-Steps.members.items in
     let done = c.in-Steps.steps.items in
     let new = c.push.new.self.items in
-    subst (λ s. Follows (reading h cs (stated_state s)) (entry d) (reading h cs (steps c.in-Steps.cycle ms done new))) (sym c.in-Steps.is)
+    subst (λ s. ReadsStatedLine (reading h cs (stated_state s)) (entry d) (reading h cs (steps c.in-Steps.cycle ms done new))) (sym c.in-Steps.is)
     (follows_entry h cs c.in-Steps.cycle ms done c.in-Steps.entries.items new d c.in_ok-push.ensures.items)

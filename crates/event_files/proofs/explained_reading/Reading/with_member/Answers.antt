@@ -2,7 +2,7 @@ use Rattle.std.proofs.Common.{◌≡◌, map, ap, sym, ◌∙◌, subst}
 use Rattle.std.specs.Prelude.{is_some}
 use Rattle.std.proofs.lemmas.List.{map-append}
 use Rattle.event_files.specs.ExplainedText.{stated_cycle, stated_member}
-use Rattle.event_files.specs.ExplainedReading.{Follows, IsWrongNext, stated_state}
+use Rattle.event_files.specs.ExplainedReading.{ReadsStatedLine, IsWrongNext, stated_state}
 use Rattle.event_files.specs.ExplainedLines.{member}
 use Rattle.event_files.proofs.ExplainedReadings.{differ, follows_member, reading, same_bool, wrong_member, wrong_place}
 use Rattle.event_files.proofs.explained_reading.Reading.with_member.Goals as goal
@@ -28,6 +28,6 @@ returns c =
     let new = map stated_member c.push.new.self.items in
     let m = stated_member c.args.next in
     let placed : is_some m.place ≡ c.in-Members.is_confirmed = sym c.is_some.ensures ∙ same_bool c.is_some.result c.in-Members.is_confirmed c.if-is_some-is_confirmed.false in
-    subst (λ s. Follows (reading h cs (stated_state s)) (member m) (reading h cs (stated_state c.state_after-state.result))) (sym c.in-Members.is)
+    subst (λ s. ReadsStatedLine (reading h cs (stated_state s)) (member m) (reading h cs (stated_state c.state_after-state.result))) (sym c.in-Members.is)
     (follows_member h cs c.in-Members.cycle c.in-Members.is_confirmed ms new m (stated_state c.state_after-state.result) placed
     (ap (map stated_member) c.in_ok-push.ensures.items ∙ map-append stated_member c.in-Members.members.items _) c.state_after-state.ensures)

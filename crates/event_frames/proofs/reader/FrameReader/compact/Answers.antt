@@ -10,7 +10,7 @@ returns-then-start-gt0 c =
     let rest = moved_rest bytes.items c.copy_within.new.self.items c.truncate.new.self.items start c.len-end.result (omega (arith, c.self.invariant.0, c.len-end.ensures))
     (omega (arith, c.len-end.ensures, bytes.ok.0)) c.copy_within.ensures.items c.truncate.ensures.items ∙ ap (λ v. v.rest) seen in
     let ended = ap (λ v. v.ended) seen in
-    let told = ap (λ v. v.told) seen in
+    let returned = ap (λ v. v.returned) seen in
     let buffered = c.truncate.new.self.ok.0 ∙ ap length rest in
     let capacity = c.truncate.ensures.capacity ∙ c.copy_within.ensures.capacity ∙ ap (λ v. v.capacity) seen in
-    λ i. record { rest = rest i; ended = ended i; told = told i; buffered = buffered i; capacity = capacity i }
+    λ i. record { rest = rest i; ended = ended i; returned = returned i; buffered = buffered i; capacity = capacity i }

@@ -1,6 +1,6 @@
 use Rattle.std.proofs.Common.{subst}
 use Rattle.trace_model.specs.Theory.Dependencies.{Dependency, dependencies}
-use Rattle.cycle_search.specs.Search.{CycleFrom}
+use Rattle.cycle_search.specs.CycleSearch.{CycleFrom}
 use Rattle.cycle_search.proofs.Collecting.{takes-none}
 use Rattle.cycle_search.proofs.Listing.{all-none}
 use Rattle.findings.proofs.tables.Tables.collect.Goals as goal

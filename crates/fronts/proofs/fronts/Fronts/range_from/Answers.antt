@@ -1,6 +1,6 @@
 use Rattle.std.proofs.Common.{◌≡◌, ◌<◌, inl, inr, sym, ap, ◌∙◌, arith}
 use Rattle.std.proofs.lemmas.Bool.{cases_lt, false≢true}
-use Rattle.fronts.specs.State.{places_in}
+use Rattle.fronts.specs.State.{included_set}
 use Rattle.fronts.proofs.PlaceLemmas.{at_end, ascending_cut, next_range}
 use Rattle.fronts.proofs.fronts.Fronts.range_from.Goals as goal
 
@@ -14,7 +14,7 @@ returns-then-start-self c =
       | inl l ↦ l
       | inr l ↦
           let e : end ≡ start = omega (arith, l, c.next.ensures.later) in
-          absurd (false≢true (sym (c.next.ensures.first (omega (arith, e, less))) ∙ ap (places_in f) e ∙ c.next-start.ensures.first less))
+          absurd (false≢true (sym (c.next.ensures.first (omega (arith, e, less))) ∙ ap (included_set f) e ∙ c.next-start.ensures.first less))
     ] in
     next_range f c.args.at start end c.next-start.ensures.later some (c.next.ensures.within (omega (arith, less)))
     c.next-start.ensures.before c.next.ensures.before
@@ -24,4 +24,4 @@ returns-else-start-self c =
     let f = c.args.self.now in
     let start = c.next-start.result in
     let over = c.if-start-self.false in
-    sym (at_end f start (omega (arith, over))) ∙ ascending_cut (places_in f) c.args.at start c.next-start.ensures.later c.next-start.ensures.before
+    sym (at_end f start (omega (arith, over))) ∙ ascending_cut (included_set f) c.args.at start c.next-start.ensures.later c.next-start.ensures.before

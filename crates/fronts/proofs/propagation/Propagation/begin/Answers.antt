@@ -3,8 +3,8 @@ use Rattle.std.proofs.lemmas.Result.{IfOk-weaker}
 use Rattle.fronts.specs.declared.requirements.Section.{Section}
 use Rattle.fronts.specs.declared.propagation.Propagation.{Propagation}
 use Rattle.fronts.specs.EpochArrays.{size}
-use Rattle.fronts.specs.Context.{HoldsEnd, state, events_of, slots}
-use Rattle.fronts.specs.Propagation.{Begins, HasBegun, Raises, State}
+use Rattle.fronts.specs.Context.{HoldsEnd, state, context_events, slots}
+use Rattle.fronts.specs.Propagation.{BeginsSection, HasBegun, Raises, PropagationState}
 use Rattle.fronts.proofs.RaiseLemmas.{front_in, done_in}
 use Rattle.fronts.proofs.StageLemmas.{carries_here, carries_from, ready_same}
 use Rattle.fronts.proofs.InvariantLemmas.{begins_first, begins_same, raises_followed}
@@ -12,7 +12,7 @@ use Rattle.fronts.proofs.propagation.Propagation.begin.Goals as goal
 use Rattle.fronts.specs.Slots.{HoldsPlaces}
 
 -- The lock's last section stays, and the end of the earlier one is included.
-raises_kept : (k l : ℕ) (c d : Section) (x y : State) → x.last l ≡ Some d → c.place < d.place → Raises k c.end x y → Begins k l c x y
+raises_kept : (k l : ℕ) (c d : Section) (x y : PropagationState) → x.last l ≡ Some d → c.place < d.place → Raises k c.end x y → BeginsSection k l c x y
 raises_kept k l c d x y was less r = record {
   begun = subst (λ o. HasBegun o c y l) (sym was) (inr (inl (less, r.last l ∙ was, r.upto)));
   others = λ j ne. r.last j;
@@ -60,7 +60,7 @@ pub returns-then-get-clause-carries : goal.returns-then-get-clause-carries
 returns-then-get-clause-carries g c =
     let gr = c.args.context.now in
     let was = sym c.last.ensures ∙ c.in-Some.is in
-    carries_from gr (HoldsPlaces (events_of gr) (slots gr) c.in-Some.last.end) (HoldsEnd gr c.args.self.now c.args.lock c.args.section) c.args.self.now
+    carries_from gr (HoldsPlaces (context_events gr) (slots gr) c.in-Some.last.end) (HoldsEnd gr c.args.self.now c.args.lock c.args.section) c.args.self.now
     (record { overlay = c.set_last-then-get.new.self; pending = c.args.self.now.pending }) c.args.members.now c.args.steps.now _ _ c.set_last-then-get.ensures.fronts
     (λ set b ends. ends.of_last c.in-Some.last was (omega (arith, c.if-get.true, c.get.ensures, c.get-in-Some.ensures))) c.include.ensures.carries
 
@@ -76,7 +76,7 @@ pub returns-then-get-2-clause-carries : goal.returns-then-get-2-clause-carries
 returns-then-get-2-clause-carries g c =
     let gr = c.args.context.now in
     let was = sym c.last.ensures ∙ c.in-Some.is in
-    carries_from gr (HoldsPlaces (events_of gr) (slots gr) c.args.section.end) (HoldsEnd gr c.args.self.now c.args.lock c.args.section) c.args.self.now c.args.self.now
+    carries_from gr (HoldsPlaces (context_events gr) (slots gr) c.args.section.end) (HoldsEnd gr c.args.self.now c.args.lock c.args.section) c.args.self.now c.args.self.now
     c.args.members.now c.args.steps.now _ _ refl
     (λ set b ends. ends.of_new c.in-Some.last was (omega (arith, c.if-get-2.true, c.get-else-get.ensures, c.get-else-get-2.ensures))) c.include-then-get-2.ensures.carries
 

@@ -5,7 +5,7 @@ use Rattle.fronts.specs.declared.propagation.Propagation.{Propagation}
 use Rattle.fronts.specs.EpochArrays.{size}
 use Rattle.fronts.specs.Slots.{slots_of, HoldsPlaces}
 use Rattle.fronts.specs.Requirements.{item}
-use Rattle.fronts.specs.Context.{Any, HoldsEnd, fronts, slots, state, items, done, events_of}
+use Rattle.fronts.specs.Context.{Any, HoldsEnd, fronts, slots, state, items, processed_count, context_events}
 use Rattle.fronts.proofs.RaiseLemmas.{front_in, last_in}
 use Rattle.fronts.proofs.StageLemmas.{carries_from, ready_same}
 use Rattle.fronts.proofs.InvariantLemmas.{meets_reach, meets_begin, prefix_reach, end_reach, same_end, reach_holds, sections_hold}
@@ -29,7 +29,7 @@ include-requires-clause-reach g c =
     let gr = c.args.context.now in
     let known = c.requires.ready.sound in
     let at = c.requires.next ∙ ap (λ n. Some (item c.args.item.number n)) c.in-Reach.is in
-    let (q, r, x, requirement, is) = known.items.reach c.args.slot (done gr c.args.self.now c.args.slot) c.args.item.number c.in-Reach.prefix at in
+    let (q, r, x, requirement, is) = known.items.reach c.args.slot (processed_count gr c.args.self.now c.args.slot) c.args.item.number c.in-Reach.prefix at in
     prefix_reach gr.index.now.events (slots gr) gr.requirements.now.threads.count c.in-Reach.prefix r known.slots is
 
 pub begin-requires-clause-lock : goal.begin-requires-clause-lock
@@ -37,7 +37,7 @@ begin-requires-clause-lock g c =
     let gr = c.args.context.now in
     let known = c.requires.ready.sound in
     let at = c.requires.next ∙ ap (λ n. Some (item c.args.item.number n)) c.in-Begin.is in
-    let (k, x, begins, is_l, ends) = known.items.begin c.args.slot (done gr c.args.self.now c.args.slot) c.args.item.number c.in-Begin.lock c.in-Begin.section at in
+    let (k, x, begins, is_l, ends) = known.items.begin c.args.slot (processed_count gr c.args.self.now c.args.slot) c.args.item.number c.in-Begin.lock c.in-Begin.section at in
     let (l, e, less) = known.locks.each c.in-Begin.section.place k begins in
     omega (arith, less, same_Some l c.in-Begin.lock (sym e ∙ is_l))
 
@@ -46,7 +46,7 @@ begin-requires-clause-end g c =
     let gr = c.args.context.now in
     let known = c.requires.ready.sound in
     let at = c.requires.next ∙ ap (λ n. Some (item c.args.item.number n)) c.in-Begin.is in
-    let (k, x, begins, is_l, ends) = known.items.begin c.args.slot (done gr c.args.self.now c.args.slot) c.args.item.number c.in-Begin.lock c.in-Begin.section at in
+    let (k, x, begins, is_l, ends) = known.items.begin c.args.slot (processed_count gr c.args.self.now c.args.slot) c.args.item.number c.in-Begin.lock c.in-Begin.section at in
     rw c.in-Begin.is
     (end_reach gr.index.now.events (slots gr) gr.requirements.now.threads.count c.in-Begin.section known.slots ends)
 
@@ -77,8 +77,8 @@ returns-in-Reach-clause-carries g c =
     let old = c.args.self.now in
     let known = c.requires.ready.sound in
     let at = c.requires.next ∙ ap (λ n. Some (item c.args.item.number n)) c.in-Reach.is in
-    carries_from gr (HoldsPlaces (events_of gr) (slots gr) c.in-Reach.prefix) Any old (record { overlay = c.count_met.new.self; pending = old.pending }) c.args.members.now c.args.steps.now _ _ c.count_met.ensures.fronts
-    (λ set b any. reach_holds gr.index.now.events (slots gr) (slots_of gr.requirements.now.locks) gr.requirements.now.threads.count (items gr) c.args.slot (done gr old c.args.slot)
+    carries_from gr (HoldsPlaces (context_events gr) (slots gr) c.in-Reach.prefix) Any old (record { overlay = c.count_met.new.self; pending = old.pending }) c.args.members.now c.args.steps.now _ _ c.count_met.ensures.fronts
+    (λ set b any. reach_holds gr.index.now.events (slots gr) (slots_of gr.requirements.now.locks) gr.requirements.now.threads.count (items gr) c.args.slot (processed_count gr old c.args.slot)
     c.args.item.number c.in-Reach.prefix set (fronts gr old) known.slots known.items at c.requires.number b.ahead.closed b.holds) c.include.ensures.carries
 
 pub returns-in-Begin-clause-meets : goal.returns-in-Begin-clause-meets
@@ -91,7 +91,7 @@ returns-in-Begin-clause-meets g c =
     let l = c.in-Begin.lock in
     let e = c.in-Begin.section in
     let at = c.requires.next ∙ ap (λ n. Some (item c.args.item.number n)) c.in-Begin.is in
-    let (k, x, begins, is_l, ends) = known.items.begin c.args.slot (done gr old c.args.slot) c.args.item.number l e at in
+    let (k, x, begins, is_l, ends) = known.items.begin c.args.slot (processed_count gr old c.args.slot) c.args.item.number l e at in
     let kept = rw c.in-Begin.is at c.begin.ensures.begins in
     IfOk-weaker c.begin.result _ _ (λ goes more is.
     meets_begin (items gr) gr.requirements.now.threads.count c.args.slot c.args.item.number l e (state gr old)
@@ -117,11 +117,11 @@ returns-in-Begin-clause-carries g c =
       of_last = λ d h before.
           let was = ap (λ epoch_array. last_in gr.under.now epoch_array l) (sym c.count_met.ensures.last) ∙ h in
           let (a, j, n, less, at_d) = c.requires.consistent.lasts l d was in
-          sections_hold s (slots gr) locks gr.requirements.now.threads.count gr.requirements.now.locks.count (items gr) a c.args.slot j (done gr old c.args.slot) n c.args.item.number l d e set (fronts gr old)
+          sections_hold s (slots gr) locks gr.requirements.now.threads.count gr.requirements.now.locks.count (items gr) a c.args.slot j (processed_count gr old c.args.slot) n c.args.item.number l d e set (fronts gr old)
           known.slots known.locks known.items at_d at (c.requires.consistent.inside a j _ at_d less) c.requires.number before b.ahead.closed b.holds;
       of_new = λ d h before.
           let was = ap (λ epoch_array. last_in gr.under.now epoch_array l) (sym c.count_met.ensures.last) ∙ h in
           let (a, j, n, less, at_d) = c.requires.consistent.lasts l d was in
-          sections_hold s (slots gr) locks gr.requirements.now.threads.count gr.requirements.now.locks.count (items gr) c.args.slot a (done gr old c.args.slot) j c.args.item.number n l e d set (fronts gr old)
+          sections_hold s (slots gr) locks gr.requirements.now.threads.count gr.requirements.now.locks.count (items gr) c.args.slot a (processed_count gr old c.args.slot) j c.args.item.number n l e d set (fronts gr old)
           known.slots known.locks known.items at at_d c.requires.number (c.requires.consistent.inside a j _ at_d less) before b.ahead.closed b.holds;
     }) (rw c.in-Begin.is at c.begin.ensures.carries)

@@ -5,7 +5,7 @@ use Rattle.fronts.specs.EpochArrays.{size}
 use Rattle.fronts.specs.Slots.{HasFirst}
 use Rattle.fronts.specs.Overlays.{front_of}
 use Rattle.fronts.specs.Propagation.{sum_to, IsFit}
-use Rattle.fronts.specs.Context.{fronts, slots, state, events_of}
+use Rattle.fronts.specs.Context.{fronts, slots, state, context_events}
 use Rattle.fronts.proofs.RaiseLemmas.{IsLifted, lifted_from, lifted_fits, lifted_steps, lifted_raises, lifted_behind, lifted_bound, done_in, last_in}
 use Rattle.fronts.proofs.StageLemmas.{moved_same}
 use Rattle.fronts.proofs.propagation.Propagation.raise_to.Goals as goal
@@ -26,7 +26,7 @@ lifted g c =
     c.args.prefix.slot c.in-Some.prefix.slot c.args.prefix.count c.in-Some.prefix.count
     c.raise_front.ensures.front advanced.slot c.requires.further advanced.more
 
-fits_after : (g : Over) (c : After-push g) → IsFit (events_of c.args.context.now) c.args.context.now.requirements.now c.args.context.now.under.now (record { overlay = c.raise_front.new.self; pending = c.push.new.self })
+fits_after : (g : Over) (c : After-push g) → IsFit (context_events c.args.context.now) c.args.context.now.requirements.now c.args.context.now.under.now (record { overlay = c.raise_front.new.self; pending = c.push.new.self })
 fits_after g c =
     let gr = c.args.context.now in
     let advanced = c.in-Some.ensures.advanced in

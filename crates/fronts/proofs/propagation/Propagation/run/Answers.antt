@@ -2,7 +2,7 @@ use Rattle.std.proofs.Common.{◌≡◌, ◌-◌, length, slice_get, Some, take,
 use Rattle.std.proofs.lemmas.Bool.{false≢true}
 use Rattle.std.proofs.lemmas.Result.{IfOk-from_err}
 use Rattle.trace_model.proofs.Theory.Ascending.{contains_at}
-use Rattle.fronts.specs.Context.{state, items, done}
+use Rattle.fronts.specs.Context.{state, items, processed_count}
 use Rattle.fronts.proofs.RunLemmas.{undone, less_undone, meet_less, popped, pop_known, pop_consistent, same_more}
 use Rattle.fronts.proofs.StageLemmas.{same_members}
 use Rattle.fronts.proofs.propagation.Propagation.run.Goals as goal
@@ -107,8 +107,8 @@ loop-slot-smaller-else-not-branch g c =
     let e = subst (λ zs. slice_get zs (length zs - 1) ≡ Some c.in-Some.slot) c.deref.ensures.value (sym c.last.ensures.value ∙ sym c.copied.ensures ∙ c.in-Some.is) in
     let slot = c.loop-slot.invariant.known c.in-Some.slot (contains_at xs c.in-Some.slot (length xs - 1) e) in
     let meets = c.in_ok-meet-in-Some-next_item.ensures.meets c.if-not-branch.false in
-    let old = done gr c.loop-slot.self in
-    let new = done gr c.meet.new.self in
+    let old = processed_count gr c.loop-slot.self in
+    let new = processed_count gr c.meet.new.self in
     let less = less_undone d old new c.in-Some.slot d.threads.count c.in-Some-next_item.item slot c.in-Some-next_item.ensures.next.0 meets.done in
     meet_less (undone d old d.threads.count) (undone d new d.threads.count) (length xs) (length c.meet.new.self.pending.items) less meets.pending
 

@@ -1,5 +1,5 @@
 use Rattle.std.proofs.Common.{refl, arith}
-use Rattle.dependencies.specs.Tables.{known}
+use Rattle.dependencies.specs.Tables.{table_dependencies}
 use Rattle.std.proofs.lemmas.Result.{IfOk-from_err}
 use Rattle.lock_tables.proofs.OneFurther.{graph_same, graph_next}
 use Rattle.lock_tables.proofs.tables.LockTables.graph_next.Goals as goal
@@ -19,7 +19,7 @@ returns-clause-follow c s f = record {
   held = f.held;
   dependencies = f.dependencies;
   graphed = (let l = c.requires in omega arith);
-  graph = graph_next (known c.args.self.now.dependencies) c.args.self.now.graphed c.args.self.now.graphed c.get-dependency.result.now _ _ refl c.get-dependency.ensures c.requires
+  graph = graph_next (table_dependencies c.args.self.now.dependencies) c.args.self.now.graphed c.args.self.now.graphed c.get-dependency.result.now _ _ refl c.get-dependency.ensures c.requires
       c.in_ok-add_to.ensures.ok f.graph;
 }
 

@@ -1,7 +1,7 @@
 use Rattle.std.proofs.Common.{subst, arith}
 use Rattle.std.proofs.lemmas.List.{take_all}
 use Rattle.std.specs.Arc.{arc_value}
-use Rattle.dependencies.specs.Tables.{known}
+use Rattle.dependencies.specs.Tables.{table_dependencies}
 use Rattle.lock_graph.specs.Graph.{HasGraphOf}
 use Rattle.lock_tables.proofs.OneFurther.{graph_part, graph_same}
 use Rattle.lock_tables.proofs.tables.LockTables.parts.Goals as goal
@@ -9,7 +9,7 @@ use Rattle.lock_tables.proofs.tables.LockTables.parts.Goals as goal
 pub returns-in-Ok : goal.returns-in-Ok
 returns-in-Ok c s f =
     let tables = c.args.self in
-    let ds = known tables.dependencies in
+    let ds = table_dependencies tables.dependencies in
     let own = c.in-Ok.graph in
     record {
       dependencies = f.dependencies;

@@ -1,9 +1,9 @@
 use Rattle.std.proofs.Common.{◌≡◌, ◌≤◌, Option, length, take, sym, subst, ap, ◌∙◌, arith, None}
 use Rattle.trace_model.specs.Theory.Dependencies.{Dependency, dependency_of, with_new}
-use Rattle.trace_model.specs.Theory.Held.{held}
+use Rattle.trace_model.specs.Theory.Held.{held_set}
 use Rattle.trace_model.proofs.Lists.{length-push}
 use Rattle.trace_model.proofs.Theory.OneMore.{dependencies-push, lawful_room}
-use Rattle.dependencies.specs.Tables.{AllBelow, known}
+use Rattle.dependencies.specs.Tables.{AllBelow, table_dependencies}
 use Rattle.lock_graph.specs.Graph.{IsGraphOf}
 use Rattle.trace_model.specs.declared.limits.TheConstants.{MAX_EVENTS}
 use Rattle.trace_model.specs.Theory.Lawful.{refusal_of}
@@ -22,9 +22,9 @@ returns c s f =
     let e = c.args.event.now in
     let old = c.args.self.now in
     let table = c.record_place.ensures s (c.new.ensures ∙ f.counted) f.held f.dependencies in
-    let next : Option Dependency = dependency_of e.thread e.op (held s (length s) e.thread) in
-    let more = grown (known old.dependencies) next old.graphed f.graphed in
-    let is : known c.record_place.new.table ≡ with_new (known old.dependencies) next = table.0 ∙ dependencies-push s e ∙ ap (λ ds. with_new ds next) (sym f.dependencies.0) in
+    let next : Option Dependency = dependency_of e.thread e.op (held_set s (length s) e.thread) in
+    let more = grown (table_dependencies old.dependencies) next old.graphed f.graphed in
+    let is : table_dependencies c.record_place.new.table ≡ with_new (table_dependencies old.dependencies) next = table.0 ∙ dependencies-push s e ∙ ap (λ ds. with_new ds next) (sym f.dependencies.0) in
     let len = length-push s e in
     let count = f.counted in
     record {

@@ -1,6 +1,6 @@
 use Rattle.std.proofs.Common.{◌≤◌, length, take, sym, subst}
 use Rattle.held_sets.proofs.Follow.{follows_shown}
-use Rattle.dependencies.specs.Tables.{Listing, named}
+use Rattle.dependencies.specs.Tables.{Listing, listing_dependencies}
 use Rattle.lock_graph.specs.Graph.{IsGraphOf}
 use Rattle.std.proofs.lemmas.Result.{IfOk-from_err}
 use Rattle.lock_tables.specs.Tables.{shared_holders}
@@ -26,8 +26,8 @@ returns-clause-follow c s before =
       counted = f.counted;
       held = follows_shown _ _ s (length s) c.reserve_locks.ensures.shown f.held;
       dependencies = c.tables_follow.ensures.stay tables.dependencies c.reserve_place.new.table s (length s) same f.dependencies;
-      graphed = subst (λ (listing : Listing). tables.graphed ≤ length (named listing)) (sym same) f.graphed;
-      graph = subst (λ (listing : Listing). IsGraphOf (take tables.graphed (named listing)) (shared_holders tables.graph)) (sym same) f.graph;
+      graphed = subst (λ (listing : Listing). tables.graphed ≤ length (listing_dependencies listing)) (sym same) f.graphed;
+      graph = subst (λ (listing : Listing). IsGraphOf (take tables.graphed (listing_dependencies listing)) (shared_holders tables.graph)) (sym same) f.graph;
     }
 
 pub returns-in_err-catch_up-clause-ok : goal.returns-in_err-catch_up-clause-ok

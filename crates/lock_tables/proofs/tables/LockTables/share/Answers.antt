@@ -1,7 +1,7 @@
 use Rattle.std.proofs.Common.{take, sym, subst, arith}
 use Rattle.std.proofs.lemmas.List.{length-take-le}
 use Rattle.std.specs.Arc.{arc_value}
-use Rattle.dependencies.specs.Tables.{FollowsTrace}
+use Rattle.dependencies.specs.Tables.{HasDependenciesOf}
 use Rattle.lock_graph.specs.Graph.{HasGraphOf}
 use Rattle.std.proofs.lemmas.Result.{IfOk-from_err}
 use Rattle.lock_tables.proofs.OneFurther.{named_length}
@@ -26,7 +26,7 @@ returns c s f counts =
     let len = length-take-le n s counts.within in
     let part = c.in_ok-dependencies.ensures in
     record {
-      dependencies = subst (FollowsTrace c.in_ok-dependencies.dependencies (take n s)) (sym len)
+      dependencies = subst (HasDependenciesOf c.in_ok-dependencies.dependencies (take n s)) (sym len)
           ((c.tables_follow.ensures.part c.args.self.now.dependencies c.in_ok-dependencies.dependencies s c.args.total n f.dependencies counts.within counts.counted).1 part);
       graph = subst (λ ds. HasGraphOf ds (arc_value c.in_ok-graph.graph)) (sym part.dependencies) c.in_ok-graph.ensures;
     }

@@ -1,6 +1,6 @@
 use Rattle.std.proofs.Common.{sym, ap, subst, ◌∙◌, IfErr}
 use Rattle.std.proofs.lemmas.Result.{IfOk-from_err, err_from_is_err_and}
-use Rattle.offline_report.specs.Offline.{IsRefused, IsReport, whole}
+use Rattle.offline_report.specs.Offline.{IsOfflineRefusal, IsReport, whole}
 use Rattle.offline_report.proofs.opening.Offline.report.Goals as goal
 
 pub returns-in_err-pieces : goal.returns-in_err-pieces
@@ -9,7 +9,7 @@ returns-in_err-pieces g c =
     let p = err_from_is_err_and c.from_residual.result c.from_residual.ensures.1 in
     record {
       text = IfOk-from_err c.from_residual.result _ c.from_residual.ensures.0;
-      refused = subst (λ r. IfErr r (IsRefused q.events q.bound)) (sym p.1) (subst (IsRefused q.events q.bound) (sym p.2) c.in_err-pieces.ensures.refused);
+      refused = subst (λ r. IfErr r (IsOfflineRefusal q.events q.bound)) (sym p.1) (subst (IsOfflineRefusal q.events q.bound) (sym p.2) c.in_err-pieces.ensures.refused);
     }
 
 pub returns-in-Ok : goal.returns-in-Ok

@@ -11,11 +11,11 @@ returns-then-not-is_over c start before took = (
 
 pub returns-in-Ok-part : goal.returns-in-Ok-part
 returns-in-Ok-part c start before took =
-    let told = c.in-Ok-part.ensures.part in (
+    let fact = c.in-Ok-part.ensures.part in (
       omega (arith, took.0, c.is_over.ensures c.if-not-is_over.false),
-      told.3,
+      fact.3,
       λ empty.
           let more = has_more before c.args.row c.args.self.now.buffer c.push_row.new.self _ _ _ _ _ (took.1 empty) c.in-Ok.ensures (omega (arith, c.len.ensures, c.len.type_inv))
           c.saturating_add-self.ensures c.saturating_add-self-2.ensures c.confirmed_of.ensures in
-          record { text = told.0 ∙ more.text; cycles = told.1 ∙ more.cycles; confirmed = told.2 ∙ more.confirmed },
+          record { text = fact.0 ∙ more.text; cycles = fact.1 ∙ more.cycles; confirmed = fact.2 ∙ more.confirmed },
     )

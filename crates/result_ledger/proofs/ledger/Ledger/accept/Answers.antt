@@ -4,7 +4,7 @@ use Rattle.std.proofs.lemmas.List.{length-map}
 use Rattle.std.proofs.lemmas.List.Sums.{count_by-le-length}
 use Rattle.std.proofs.Math.ListN.{length-set}
 use Rattle.result_ledger.specs.Tasks.{IsMissing}
-use Rattle.result_ledger.proofs.TaskList.{unmarked, marked_at, counted_more, told_more}
+use Rattle.result_ledger.proofs.TaskList.{unmarked, marked_at, counted_more, tasks_more}
 use Rattle.result_ledger.proofs.ledger.Ledger.accept.Goals as goal
 
 pub index_mut-requires : goal.index_mut-requires
@@ -31,6 +31,6 @@ invariant_of-self c =
 pub returns-in-Ok : goal.returns-in-Ok
 returns-in-Ok c = (
   c.in-Ok.ensures,
-  told_more (λ rows. rows.items) c.self.inside.marks.items c.self.inside.rows.items c.args.task c.args.rows (omega (arith, c.self.invariant.long, length-map c.self.inside.rows.items (λ rows. rows.items)))
+  tasks_more (λ rows. rows.items) c.self.inside.marks.items c.self.inside.rows.items c.args.task c.args.rows (omega (arith, c.self.invariant.long, length-map c.self.inside.rows.items (λ rows. rows.items)))
       ∙ ap (λ tasks. slice_set tasks c.args.task (Some c.args.rows.items)) c.self.view_is,
 )

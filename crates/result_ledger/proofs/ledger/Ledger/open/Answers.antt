@@ -1,7 +1,7 @@
 use Rattle.std.proofs.Common.{◌≡◌, None, false, [], ◌∷◌, map, replicate, ap, ◌∙◌, length, length-append, arith}
 use Rattle.std.proofs.lemmas.List.{length-replicate, length-map}
 use Rattle.std.proofs.lemmas.Result.{IfOk-from_err}
-use Rattle.result_ledger.proofs.TaskList.{opened, none_told, marks_more}
+use Rattle.result_ledger.proofs.TaskList.{opened, none_delivered, marks_more}
 use Rattle.result_ledger.specs.Inside.{tasks_of}
 use Rattle.result_ledger.proofs.ledger.Ledger.open.Goals as goal
 
@@ -14,7 +14,7 @@ returns c =
     let rows = map (λ rows. rows.items) c.loop-task.rows.items in
     let whole : c.loop-task._task ≡ c.args.total = omega arith in
     ap (λ marks. tasks_of marks rows) c.loop-task.invariant.marks
-    ∙ none_told c.loop-task._task rows (length-map c.loop-task.rows.items (λ rows. rows.items) ∙ c.loop-task.invariant.rows)
+    ∙ none_delivered c.loop-task._task rows (length-map c.loop-task.rows.items (λ rows. rows.items) ∙ c.loop-task.invariant.rows)
     ∙ ap (λ n. replicate n None) whole
 
 pub returns-in_err-rows : goal.returns-in_err-rows

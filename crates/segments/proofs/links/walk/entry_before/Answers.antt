@@ -6,10 +6,10 @@ use Rattle.segments.proofs.links.walk.entry_before.Goals.{In-Some}
 
 pub unreachable-requires : goal.unreachable-requires
 unreachable-requires g c =
-    link_earlier (g.L.Linked.passes c.args.list.now) c.loop-link.index c.args.number c.loop-link.link c.loop-link.invariant.link_is c.loop-link-test.true (sym c.get.ensures ∙ c.in_default.is)
+    link_earlier (g.L.Linked.matches c.args.list.now) c.loop-link.index c.args.number c.loop-link.link c.loop-link.invariant.link_is c.loop-link-test.true (sym c.get.ensures ∙ c.in_default.is)
 
-is_earlier : (g : Over) (c : In-Some g) → IsEarlier (g.L.Linked.passes c.args.list.now) c.loop-link.index c.in-Some.earlier
-is_earlier g c = earlier_is (g.L.Linked.passes c.args.list.now) c.loop-link.index c.in-Some.earlier c.loop-link.link c.loop-link.invariant.link_is (sym c.get.ensures ∙ c.in-Some.is)
+is_earlier : (g : Over) (c : In-Some g) → IsEarlier (g.L.Linked.matches c.args.list.now) c.loop-link.index c.in-Some.earlier
+is_earlier g c = earlier_is (g.L.Linked.matches c.args.list.now) c.loop-link.index c.in-Some.earlier c.loop-link.link c.loop-link.invariant.link_is (sym c.get.ensures ∙ c.in-Some.is)
 
 pub link_at-link-requires-else-link-index : goal.link_at-link-requires-else-link-index
 link_at-link-requires-else-link-index g c =

@@ -7,7 +7,7 @@ use Rattle.segments.proofs.links.walk.last_below.Goals as goal
 
 pub loop-at-init : goal.loop-at-init
 loop-at-init g c =
-    let test = g.L.Linked.passes c.args.list.now in
+    let test = g.L.Linked.matches c.args.list.now in
     let size = g.L.Linked.size c.args.list.now in
     let w = c.requires.within in
     record {
@@ -17,7 +17,7 @@ loop-at-init g c =
 
 pub returns-then-index-bound : goal.returns-then-index-bound
 returns-then-index-bound g c =
-    let test = g.L.Linked.passes c.args.list.now in
+    let test = g.L.Linked.matches c.args.list.now in
     let here = c.loop-at.invariant.there c.in-Some.index c.in-Some.is in
     sym (last_place_is test c.args.bound c.in-Some.index (
       c.if-index-bound.true,
@@ -32,7 +32,7 @@ link_at-link-requires g c = let here = c.loop-at.invariant.there c.in-Some.index
 
 pub loop-at-preserved-then-link-bound : goal.loop-at-preserved-then-link-bound
 loop-at-preserved-then-link-bound g c =
-    let test = g.L.Linked.passes c.args.list.now in
+    let test = g.L.Linked.matches c.args.list.now in
     let here = c.loop-at.invariant.there c.in-Some.index c.in-Some.is in
     let a = here.0 in
     let b = c.link_at-link.ensures.jump_within in
@@ -46,11 +46,11 @@ loop-at-preserved-then-link-bound g c =
 pub loop-at-smaller : goal.loop-at-smaller
 loop-at-smaller g c =
     falls c.loop-at.at c.get-at.result c.in-Some.index c.in-Some.is
-    (λ i h. (earlier_is (g.L.Linked.passes c.args.list.now) c.in-Some.index i c.link_at-link.result c.link_at-link.ensures (sym c.get-at.ensures ∙ h)).below)
+    (λ i h. (earlier_is (g.L.Linked.matches c.args.list.now) c.in-Some.index i c.link_at-link.result c.link_at-link.ensures (sym c.get-at.ensures ∙ h)).below)
 
 pub loop-at-preserved : goal.loop-at-preserved
 loop-at-preserved g c =
-    let test = g.L.Linked.passes c.args.list.now in
+    let test = g.L.Linked.matches c.args.list.now in
     let a = (c.loop-at.invariant.there c.in-Some.index c.in-Some.is).0 in
     let d = c.if-index-bound.false in
     record {
@@ -62,4 +62,4 @@ loop-at-preserved g c =
     }
 
 pub returns : goal.returns
-returns g c = none_last (g.L.Linked.passes c.args.list.now) c.args.bound (λ u l t. subst (λ o. IsSomeAnd o (λ i. u ≤ i)) c.in_default.is (c.loop-at.invariant.later u l t))
+returns g c = none_last (g.L.Linked.matches c.args.list.now) c.args.bound (λ u l t. subst (λ o. IsSomeAnd o (λ i. u ≤ i)) c.in_default.is (c.loop-at.invariant.later u l t))

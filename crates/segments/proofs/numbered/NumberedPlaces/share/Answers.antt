@@ -1,7 +1,7 @@
 use Rattle.std.proofs.Common.{◌≡◌, ◌<◌, ℕ, Some, List, Option, length, slice_get, ap, subst, ◌∙◌, arith}
 use Rattle.trace_model.specs.Theory.Trace.{last_place}
 use Rattle.std.proofs.lemmas.Result.{IfOk-from_err}
-use Rattle.segments.specs.Notes.{is_of, pairs_of, notes_below}
+use Rattle.segments.specs.Notes.{is_of_number, pairs_of, notes_below}
 use Rattle.segments.proofs.Noted.{numbered_take, length_pairs, pairs_take}
 use Rattle.segments.proofs.numbered.NumberedPlaces.share.Goals as goal
 
@@ -14,7 +14,7 @@ invariant_of-result c =
     let below = c.in_ok-heads.heads.items in
     numbered_take i.notes.0 c.in_ok-notes.notes.0 i.heads.items below c.count_below-count.result c.self.invariant (omega arith) c.in_ok-notes.ensures
     (c.in_ok-heads.ensures.len ∙ ap length c.deref.ensures.value)
-    (subst (λ (xs : List (Option ℕ)). (m : ℕ) → m < length xs → slice_get below m ≡ Some (last_place (is_of (pairs_of i.notes.0) m) c.count_below-count.result)) c.deref.ensures.value c.in_ok-heads.ensures.heads)
+    (subst (λ (xs : List (Option ℕ)). (m : ℕ) → m < length xs → slice_get below m ≡ Some (last_place (is_of_number (pairs_of i.notes.0) m) c.count_below-count.result)) c.deref.ensures.value c.in_ok-heads.ensures.heads)
 
 pub returns-clause-notes : goal.returns-clause-notes
 returns-clause-notes c =

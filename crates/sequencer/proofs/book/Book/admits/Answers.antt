@@ -3,7 +3,7 @@ use Rattle.trace_model.specs.Theory.Trace.{Trace}
 use Rattle.trace_model.specs.Protocol.Machine.{deliver_refused_by, same_events, task_refused}
 use Rattle.sequencer.specs.QuestionState.{question_of}
 use Rattle.sequencer.specs.Book.{BookView}
-use Rattle.sequencer.proofs.Told.{other_bound, other_trace, same_test}
+use Rattle.sequencer.proofs.QuestionAnswers.{other_bound, other_trace, same_test}
 use Rattle.sequencer.proofs.book.Book.admits.Goals as goal
 
 pub returns-in_default : goal.returns-in_default

@@ -1,7 +1,7 @@
 use Rattle.std.proofs.Common.{◌≡◌, ◌==◌, false, not, slice_get, ap, ◌∙◌}
 use Rattle.trace_model.specs.Protocol.Machine.{task_refused}
 use Rattle.sequencer.specs.QuestionState.{question_of}
-use Rattle.sequencer.proofs.Told.{known_test}
+use Rattle.sequencer.proofs.QuestionAnswers.{known_test}
 use Rattle.sequencer.proofs.book.Book.admits_known.Goals as goal
 
 pub returns : goal.returns

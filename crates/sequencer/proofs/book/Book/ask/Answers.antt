@@ -6,11 +6,11 @@ use Rattle.sequencer.proofs.book.Book.ask.Goals as goal
 
 pub returns-in_err-asked : goal.returns-in_err-asked
 returns-in_err-asked c =
-    let told = err_from_is_err_and c.from_residual.result c.from_residual.ensures.1 in
-    let refused = subst (RefusesAsk c.args.self.now.state c.args.bound) (sym told.2) c.in_err-asked.ensures.refused in
+    let question_view = err_from_is_err_and c.from_residual.result c.from_residual.ensures.1 in
+    let refused = subst (RefusesAsk c.args.self.now.state c.args.bound) (sym question_view.2) c.in_err-asked.ensures.refused in
     record {
       ok = IfOk-from_err c.from_residual.result _ c.from_residual.ensures.0;
-      refused = rw told.1 (refused, c.in_err-asked.ensures.shown);
+      refused = rw question_view.1 (refused, c.in_err-asked.ensures.shown);
     }
 
 pub preview-opened-requires : goal.preview-opened-requires

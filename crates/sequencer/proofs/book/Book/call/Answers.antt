@@ -4,9 +4,9 @@ use Rattle.trace_model.specs.declared.messages.session.Request.{Request}
 use Rattle.trace_model.specs.declared.messages.session.Request.TheVariants.{Batch}
 use Rattle.trace_model.specs.Protocol.Machine.{State, step}
 use Rattle.trace_model.specs.Protocol.Replies.{IsReply}
-use Rattle.sequencer.specs.Book.{IsAccepted, request_of}
+use Rattle.sequencer.specs.Book.{IsAccepted, change_request}
 use Rattle.sequencer.specs.Called.{StepsOrMemory}
-use Rattle.sequencer.specs.Printing.{printing}
+use Rattle.sequencer.specs.Printing.{report_printer}
 use Rattle.sequencer.proofs.Called.{batch_steps, exact_steps, is_single, refused_rightly, refused_steps, step_fits}
 use Rattle.sequencer.proofs.book.Book.call.Goals as goal
 
@@ -22,7 +22,7 @@ returns-in-Batch-clause-steps c =
 pub returns-in-Ok-clause-steps : goal.returns-in-Ok-clause-steps
 returns-in-Ok-clause-steps c =
     exact_steps c.args.self.now.state c.commit.new.self.state c.args.request.now c.commit.result
-    ((λ i. step printing (sym c.prepare.ensures.shown i) (sym c.in-Ok.ensures.ok.0 i)) ∙ c.commit.ensures)
+    ((λ i. step report_printer (sym c.prepare.ensures.shown i) (sym c.in-Ok.ensures.ok.0 i)) ∙ c.commit.ensures)
 
 pub returns-in-Err-clause-steps : goal.returns-in-Err-clause-steps
 returns-in-Err-clause-steps c =
@@ -36,7 +36,7 @@ returns-in-Batch-clause-wanting c = λ lacks. absurd (subst IsAccepted (sym c.re
 
 pub returns-in-Ok-clause-wanting : goal.returns-in-Ok-clause-wanting
 returns-in-Ok-clause-wanting c = λ lacks.
-    inl (ap (λ (p : Reply × State). p.0) ((λ i. step printing (sym c.prepare.ensures.shown i) (sym c.in-Ok.ensures.ok.0 i)) ∙ c.commit.ensures))
+    inl (ap (λ (p : Reply × State). p.0) ((λ i. step report_printer (sym c.prepare.ensures.shown i) (sym c.in-Ok.ensures.ok.0 i)) ∙ c.commit.ensures))
 
 pub returns-in-Err-clause-wanting : goal.returns-in-Err-clause-wanting
 returns-in-Err-clause-wanting c = refused_rightly c.args.self.now.state c.args.request.now c.in-Err.reply c.in-Err.ensures.refusal
@@ -53,7 +53,7 @@ returns-in-Batch-clause-fits c = subst IsReply (sym c.reply.ensures) tt
 pub returns-in-Ok-clause-fits : goal.returns-in-Ok-clause-fits
 returns-in-Ok-clause-fits c =
     let reply = ap (λ (p : Reply × State). p.0) c.commit.ensures in
-    subst IsReply reply (step_fits c.prepare.new.self.state (request_of c.in-Ok.planned.change))
+    subst IsReply reply (step_fits c.prepare.new.self.state (change_request c.in-Ok.planned.change))
 
 pub returns-in-Err-clause-fits : goal.returns-in-Err-clause-fits
 returns-in-Err-clause-fits c = subst IsReply (sym c.in-Err.ensures.refusal.1) tt

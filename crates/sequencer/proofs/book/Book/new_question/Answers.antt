@@ -3,7 +3,7 @@ use Rattle.std.proofs.lemmas.Result.{IfOk-from_err, IfOk-weaker}
 use Rattle.trace_model.specs.Theory.Trace.{Trace}
 use Rattle.trace_model.specs.Theory.Dependencies.{dependencies}
 use Rattle.trace_model.proofs.Protocol.Bounds.{dependencies_few}
-use Rattle.sequencer.specs.Book.{BookView, state_of}
+use Rattle.sequencer.specs.Book.{BookView, book_state}
 use Rattle.sequencer.proofs.KeptOn.{kept_again, opened_room}
 use Rattle.sequencer.proofs.book.Book.new_question.Goals as goal
 
@@ -27,7 +27,7 @@ pub returns-in_err-catch_up : goal.returns-in_err-catch_up
 returns-in_err-catch_up c =
     let b = c.self.inside in
     record {
-      shown = ap (λ (s : Trace). state_of b.limit s b.questions.items) c.catch_up.ensures.0 ∙ ap (λ (k : BookView). k.state) c.self.view_is;
+      shown = ap (λ (s : Trace). book_state b.limit s b.questions.items) c.catch_up.ensures.0 ∙ ap (λ (k : BookView). k.state) c.self.view_is;
       ok = IfOk-from_err c.from_residual.result _ c.from_residual.ensures.0;
     }
 
@@ -41,7 +41,7 @@ pub returns-in_err-reserve : goal.returns-in_err-reserve
 returns-in_err-reserve c =
     let b = c.self.inside in
     record {
-      shown = (λ i. state_of b.limit (c.catch_up.ensures.0 i) (c.reserve.ensures.items i)) ∙ ap (λ (k : BookView). k.state) c.self.view_is;
+      shown = (λ i. book_state b.limit (c.catch_up.ensures.0 i) (c.reserve.ensures.items i)) ∙ ap (λ (k : BookView). k.state) c.self.view_is;
       ok = IfOk-from_err c.from_residual-in_err-reserve.result _ c.from_residual-in_err-reserve.ensures.0;
     }
 
@@ -56,8 +56,8 @@ returns c =
     let b = c.self.inside in
     let v = c.reserve.new.self in
     let room : 0 < vec_capacity v - vec_len v = omega (arith, c.in_ok-reserve.ensures.ok) in
-    let s = state_of b.limit c.catch_up.new.self.events v.items in
+    let s = book_state b.limit c.catch_up.new.self.events v.items in
     record {
-      shown = (λ i. state_of b.limit (c.catch_up.ensures.0 i) (c.reserve.ensures.items i)) ∙ ap (λ (k : BookView). k.state) c.self.view_is;
-      ok = IfOk-weaker c.new.result _ _ (λ told is. opened_room s (vec_capacity v - vec_len v) told c.len-length.result c.args.bound c.dependencies-total.result room is c.len-length.ensures.length c.dependencies-total.ensures) c.new.ensures;
+      shown = (λ i. book_state b.limit (c.catch_up.ensures.0 i) (c.reserve.ensures.items i)) ∙ ap (λ (k : BookView). k.state) c.self.view_is;
+      ok = IfOk-weaker c.new.result _ _ (λ question_view is. opened_room s (vec_capacity v - vec_len v) question_view c.len-length.result c.args.bound c.dependencies-total.result room is c.len-length.ensures.length c.dependencies-total.ensures) c.new.ensures;
     }

@@ -8,11 +8,11 @@ use Rattle.sequencer.proofs.book.Book.offer.Goals as goal
 
 pub returns-in_err-reserve_event : goal.returns-in_err-reserve_event
 returns-in_err-reserve_event c =
-    let told = err_from_is_err_and c.from_residual.result c.from_residual.ensures.1 in
-    let refused = subst (RefusesOffer c.args.self.now.state c.args.event) (sym told.2) c.in_err-reserve_event.ensures.refused in
+    let question_view = err_from_is_err_and c.from_residual.result c.from_residual.ensures.1 in
+    let refused = subst (RefusesOffer c.args.self.now.state c.args.event) (sym question_view.2) c.in_err-reserve_event.ensures.refused in
     record {
       ok = IfOk-from_err c.from_residual.result _ c.from_residual.ensures.0;
-      refused = rw told.1 (refused, c.in_err-reserve_event.ensures.shown);
+      refused = rw question_view.1 (refused, c.in_err-reserve_event.ensures.shown);
     }
 
 pub record_event-requires : goal.record_event-requires

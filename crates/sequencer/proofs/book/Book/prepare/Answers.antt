@@ -10,13 +10,13 @@ returns-in-Ask c = rw c.in-Ask.is c.prepare_ask.ensures
 
 pub returns-in-Answer : goal.returns-in-Answer
 returns-in-Answer c =
-    let told = c.prepare_answer.ensures in
-    rw c.in-Answer.is (record { shown = refl; ok = told.ok; refused = told.refused; refusal = told.refusal })
+    let fact = c.prepare_answer.ensures in
+    rw c.in-Answer.is (record { shown = refl; ok = fact.ok; refused = fact.refused; refusal = fact.refusal })
 
 pub returns-in-Status : goal.returns-in-Status
 returns-in-Status c =
-    let told = c.prepare_status.ensures in
-    rw c.in-Status.is (record { shown = refl; ok = told.ok; refused = told.refused; refusal = told.refusal })
+    let fact = c.prepare_status.ensures in
+    rw c.in-Status.is (record { shown = refl; ok = fact.ok; refused = fact.refused; refusal = fact.refusal })
 
 pub unreachable-requires : goal.unreachable-requires
 unreachable-requires c = subst IsSingle c.in-Batch.is c.requires

@@ -3,7 +3,7 @@ use Rattle.trace_model.specs.declared.messages.session.Reply.TheVariants.{Refuse
 use Rattle.trace_model.specs.declared.messages.session.Request.TheVariants.{Ask}
 use Rattle.trace_model.specs.Protocol.Machine.{ask_refused}
 use Rattle.sequencer.specs.Book.{IsAccepted, IsRefusal, Refuses}
-use Rattle.sequencer.proofs.Told.{refused_ask}
+use Rattle.sequencer.proofs.QuestionAnswers.{refused_ask}
 use Rattle.sequencer.proofs.book.Book.prepare_ask.Goals as goal
 
 pub preview-requires : goal.preview-requires
@@ -30,6 +30,6 @@ returns-in-Ok c = record {
 pub returns-in-Err : goal.returns-in-Err
 returns-in-Err c =
     let s = c.args.self.now.state in
-    let told = refused_ask s c.args.bound c.in-Err.refused c.in-Err.ensures.refused in
+    let question_view = refused_ask s c.args.bound c.in-Err.refused c.in-Err.ensures.refused in
     let reply = ap Refused (sym c.refusal.ensures) in
-    record { shown = c.in-Err.ensures.shown; ok = tt; refused = subst (Refuses s (Ask c.args.bound)) reply told.0; refusal = subst (IsRefusal s (Ask c.args.bound)) reply told.1 }
+    record { shown = c.in-Err.ensures.shown; ok = tt; refused = subst (Refuses s (Ask c.args.bound)) reply question_view.0; refusal = subst (IsRefusal s (Ask c.args.bound)) reply question_view.1 }

@@ -2,13 +2,13 @@ use Rattle.std.proofs.Common.{◌≡◌, None, refl, sym, ap, ◌∙◌, subst}
 use Rattle.trace_model.specs.declared.messages.session.Reply.TheVariants.{Placed}
 use Rattle.trace_model.specs.Protocol.Machine.{State}
 use Rattle.trace_model.specs.Theory.Lawful.{refusal_of}
-use Rattle.sequencer.proofs.Told.{placed_offer, refused_offer}
+use Rattle.sequencer.proofs.QuestionAnswers.{placed_offer, refused_offer}
 use Rattle.sequencer.proofs.book.Book.prepare_offer.Goals as goal
 
 pub returns-in-Err : goal.returns-in-Err
 returns-in-Err c =
-    let told = refused_offer c.args.self.now.state c.args.event c.in-Err.refusal c.in-Err.ensures.refused in
-    record { shown = c.in-Err.ensures.shown; ok = tt; refused = told.0; refusal = told.1 }
+    let question_view = refused_offer c.args.self.now.state c.args.event c.in-Err.refusal c.in-Err.ensures.refused in
+    record { shown = c.in-Err.ensures.shown; ok = tt; refused = question_view.0; refusal = question_view.1 }
 
 pub returns : goal.returns
 returns c =

@@ -12,11 +12,11 @@ pub snapshot-requires : goal.snapshot-requires
 snapshot-requires g c =
     let s = c.self.inside.recorder.events in
     let shown : s ≡ c.args.self.now.state.accepted = ap (λ (k : BookView). k.state.accepted) c.self.view_is in
-    let told = c.in-Some.ensures in
+    let question_view = c.in-Some.ensures in
     let long = c.length.ensures in
     record {
-      within = subst (λ n. n ≤ length s) (sym long) (subst (λ (r : Trace). c.in-Some.asked.now.length ≤ length r) (sym shown) told.within);
-      total = c.total.ensures ∙ (told.total ∙ (λ i. length (dependencies (take (sym long i) (sym shown i)))));
+      within = subst (λ n. n ≤ length s) (sym long) (subst (λ (r : Trace). c.in-Some.asked.now.length ≤ length r) (sym shown) question_view.within);
+      total = c.total.ensures ∙ (question_view.total ∙ (λ i. length (dependencies (take (sym long i) (sym shown i)))));
     }
 
 pub returns-in-Ok : goal.returns-in-Ok

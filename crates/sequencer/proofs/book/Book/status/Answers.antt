@@ -2,7 +2,7 @@ use Rattle.std.proofs.Common.{option_map, sym, ap, ◌∙◌}
 use Rattle.std.proofs.lemmas.List.{length-map}
 use Rattle.trace_model.specs.declared.messages.session.Reply.TheVariants.{Status}
 use Rattle.trace_model.specs.Protocol.Machine.{status_of}
-use Rattle.sequencer.specs.QuestionState.{rows_in}
+use Rattle.sequencer.specs.QuestionState.{plain_rows}
 use Rattle.sequencer.proofs.book.Book.status.Goals as goal
 
 pub returns-in_default : goal.returns-in_default
@@ -17,7 +17,7 @@ returns c = record {
         opened = sym c.question_count.ensures i;
         length = sym c.length.ensures i;
         bound = sym c.bound.ensures i;
-        total = (length-map c.in-Some.asked.now.tasks (option_map rows_in) ∙ sym c.total.ensures) i;
+        total = (length-map c.in-Some.asked.now.tasks (option_map plain_rows) ∙ sym c.total.ensures) i;
         delivered = sym c.delivered.ensures i;
         cycles = sym c.cycles.ensures i;
         confirmed = sym c.confirmed.ensures i;

@@ -1,8 +1,8 @@
 use Rattle.std.proofs.Common.{◌≡◌, slice_set, None, sym, ap, subst, ◌∙◌, arith}
 use Rattle.std.proofs.lemmas.Option.{slice_get_within}
 use Rattle.trace_model.specs.Protocol.Machine.{deliver, deliver_refused}
-use Rattle.sequencer.specs.Book.{BookView, IsBook, state_of, findings_rows}
-use Rattle.sequencer.proofs.KeptOn.{few_cycles, is_admitted, own_missing, own_question, kept_told, told_state, told_with}
+use Rattle.sequencer.specs.Book.{BookView, IsBook, book_state, findings_rows}
+use Rattle.sequencer.proofs.KeptOn.{few_cycles, is_admitted, own_missing, own_question, kept_view, view_in_state, view_with}
 use Rattle.sequencer.proofs.book.Book.take.Goals as goal
 
 pub index_mut-asked-requires : goal.index_mut-asked-requires
@@ -11,7 +11,7 @@ index_mut-asked-requires c =
     let f = c.args.finding in
     let admits = ap (λ (k : BookView). deliver_refused k.state f.question f.bound f.events f.task) c.self.view_is ∙ c.requires in
     let a = is_admitted b.limit b.recorder.events b.questions.items f admits in
-    rw c.question-question.ensures (omega (arith, slice_get_within b.questions.items f.question a.told a.known, b.questions.ok))
+    rw c.question-question.ensures (omega (arith, slice_get_within b.questions.items f.question a.question_view a.known, b.questions.ok))
 
 pub record-requires-clause-missing : goal.record-requires-clause-missing
 record-requires-clause-missing c =
@@ -34,11 +34,11 @@ record-requires-clause-few c =
 -- the finding in the book afterwards
 written : (c : goal.After-self-1) →
     slice_set c.self.inside.questions.items c.question-question.result c.record.new.self
-    ≡ slice_set c.self.inside.questions.items c.args.finding.question (told_with c.index_mut-asked.result.now c.args.finding.task c.args.finding.rows)
+    ≡ slice_set c.self.inside.questions.items c.args.finding.question (view_with c.index_mut-asked.result.now c.args.finding.task c.args.finding.rows)
 written c =
     let now = c.index_mut-asked.result.now in
-    let is : c.record.new.self ≡ told_with now c.args.finding.task c.args.finding.rows =
-    c.record.ensures ∙ (λ i. told_with now (c.task-task.ensures i) (c.into_rows.ensures.rows i)) in
+    let is : c.record.new.self ≡ view_with now c.args.finding.task c.args.finding.rows =
+    c.record.ensures ∙ (λ i. view_with now (c.task-task.ensures i) (c.into_rows.ensures.rows i)) in
     λ i. slice_set c.self.inside.questions.items (c.question-question.ensures i) (is i)
 
 pub invariant_of-self : goal.invariant_of-self
@@ -49,7 +49,7 @@ invariant_of-self c =
     let admits = ap (λ (k : BookView). deliver_refused k.state f.question f.bound f.events f.task) c.self.view_is ∙ c.requires in
     let known = own_question b.limit b.recorder.events b.questions.items f now c.question-question.result admits c.index_mut-asked.ensures.value c.question-question.ensures in
     subst (IsBook b.recorder.limit b.limit b.recorder.events) (sym (written c))
-    (kept_told b.recorder.limit b.limit b.recorder.events b.questions.items f now admits known c.into_rows.ensures.exact c.self.invariant)
+    (kept_view b.recorder.limit b.limit b.recorder.events b.questions.items f now admits known c.into_rows.ensures.exact c.self.invariant)
 
 pub returns-clause-machine : goal.returns-clause-machine
 returns-clause-machine c =
@@ -59,8 +59,8 @@ returns-clause-machine c =
     let admits = ap (λ (k : BookView). deliver_refused k.state f.question f.bound f.events f.task) c.self.view_is ∙ c.requires in
     let known = own_question b.limit b.recorder.events b.questions.items f now c.question-question.result admits c.index_mut-asked.ensures.value c.question-question.ensures in
     ap (λ (k : BookView). deliver k.state f.question f.bound f.events f.task (findings_rows f)) (sym c.self.view_is)
-    ∙ (told_state b.limit b.recorder.events b.questions.items f now admits known
-    ∙ ap (λ questions. (None, state_of b.limit b.recorder.events questions)) (sym (written c)))
+    ∙ (view_in_state b.limit b.recorder.events b.questions.items f now admits known
+    ∙ ap (λ questions. (None, book_state b.limit b.recorder.events questions)) (sym (written c)))
 
 pub returns-clause-exact : goal.returns-clause-exact
 returns-clause-exact c = c.into_rows.ensures.exact

@@ -6,16 +6,16 @@ use Rattle.trace_model.specs.Theory.Trace.{Trace}
 use Rattle.trace_model.specs.Theory.Lawful.{refusal_of}
 use Rattle.trace_model.proofs.Theory.OneMore.{lawful_higher, lawful_room}
 use Rattle.lock_tables.specs.Tables.{FollowTrace}
-use Rattle.wellformed.specs.Gate.{Admitted, with_event}
+use Rattle.wellformed.specs.Gate.{GateView, admitted_with}
 use Rattle.wellformed.specs.Tables.{FollowEvents}
 use Rattle.sequencer.proofs.recorder.Recorder.record.Goals as goal
 use Rattle.sequencer.proofs.recorder.Recorder.record.Goals.{After-new}
 
 ready : (c : After-new) → c.self.inside.ready ≡ Some c.args.event.now
-ready c = ap (λ (g : Admitted). g.reserved) c.self.view_is ∙ c.requires.reserved
+ready c = ap (λ (g : GateView). g.reserved) c.self.view_is ∙ c.requires.reserved
 
 lawful : (c : After-new) → refusal_of c.self.inside.limit c.self.inside.index.events c.args.event.now ≡ None
-lawful c = ap (λ (g : Admitted). refusal_of g.limit g.events c.args.event.now) c.self.view_is ∙ c.requires.lawful
+lawful c = ap (λ (g : GateView). refusal_of g.limit g.events c.args.event.now) c.self.view_is ∙ c.requires.lawful
 
 -- an event that is lawful below the recorder's limit is lawful below the largest one
 lawful_most : (c : After-new) → refusal_of MAX_EVENTS c.self.inside.index.events c.args.event.now ≡ None
@@ -38,8 +38,8 @@ record-requires c = record {
 
 pub record-requires-2 : goal.record-requires-2
 record-requires-2 c = record {
-  room = (c.self.invariant.room c.args.event.now (ready (goal.at.record-requires-2 c).After-new)).in_gate;
-  lawful = (c.self.inside.index.events, c.self.invariant.gate_is, lawful_most (goal.at.record-requires-2 c).After-new);
+  room = (c.self.invariant.room c.args.event.now (ready (goal.at.record-requires-2 c).After-new)).in_admission;
+  lawful = (c.self.inside.index.events, c.self.invariant.admission_is, lawful_most (goal.at.record-requires-2 c).After-new);
 }
 
 longer : {X : Type 0} (xs : List X) (x : X) (most : ℕ) → length xs < most → length (xs ++ x ∷ []) ≤ most
@@ -51,11 +51,11 @@ invariant_of-self c =
     let e = c.args.event.now in
     let i = c.self.invariant in
     let more = sym c.record_in.ensures in
-    let gate = c.record-2.ensures b.index.events i.gate_is (lawful_most (goal.at.invariant_of-self c).After-new) in
+    let admission = c.record-2.ensures b.index.events i.admission_is (lawful_most (goal.at.invariant_of-self c).After-new) in
     record {
       small = i.small;
       within = subst (λ (s : Trace). length s ≤ b.limit) more (longer b.index.events e b.limit (lawful_room b.limit b.index.events e (lawful (goal.at.invariant_of-self c).After-new)));
-      gate_is = subst (FollowEvents c.record-2.new.self) more gate;
+      admission_is = subst (FollowEvents c.record-2.new.self) more admission;
       tables_are = subst (FollowTrace c.record.new.self) more (c.record.ensures b.index.events i.tables_are);
       room = λ other h. absurd (none-some other h);
     }
@@ -64,6 +64,6 @@ pub returns : goal.returns
 returns c =
     let b = c.self.inside in
     let e = c.args.event.now in
-    let added : ◌≡◌ {A = Admitted} (record { limit = b.limit; events = c.record_in.new.index.events; reserved = None }) (record { limit = b.limit; events = b.index.events ++ e ∷ []; reserved = None }) =
+    let added : ◌≡◌ {A = GateView} (record { limit = b.limit; events = c.record_in.new.index.events; reserved = None }) (record { limit = b.limit; events = b.index.events ++ e ∷ []; reserved = None }) =
     ap (λ (s : Trace). record { limit = b.limit; events = s; reserved = None }) c.record_in.ensures in
-    added ∙ ap (λ (g : Admitted). with_event g e) c.self.view_is
+    added ∙ ap (λ (g : GateView). admitted_with g e) c.self.view_is

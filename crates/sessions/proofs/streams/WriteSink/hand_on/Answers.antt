@@ -1,5 +1,5 @@
 use Rattle.std.proofs.Common.{refl, arith}
-use Rattle.sessions.specs.Pending.{pending}
+use Rattle.sessions.specs.Pending.{buffered_bytes}
 use Rattle.sessions.proofs.Buffered.{handed_on}
 use Rattle.sessions.proofs.Puts.{kept_beside}
 use Rattle.sessions.proofs.streams.WriteSink.hand_on.Goals as goal
@@ -18,7 +18,7 @@ pub returns-in-Err : goal.returns-in-Err
 returns-in-Err g c =
     let s = c.args.self.now in
     record {
-      kept = kept_beside (g.O.Write.contents s.inner) (g.O.Write.contents c.write_from.new.writer) (pending s.buffer s.start s.end) c.in-Err.ensures.err;
+      kept = kept_beside (g.O.Write.contents s.inner) (g.O.Write.contents c.write_from.new.writer) (buffered_bytes s.buffer s.start s.end) c.in-Err.ensures.err;
       end = refl;
       ok = tt;
       failed = c.count_failure-self.ensures;

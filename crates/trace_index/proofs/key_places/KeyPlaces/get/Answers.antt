@@ -1,13 +1,13 @@
 use Rattle.std.proofs.Common.{◌∙◌, sym, ap, length, slice_get, arith, Some}
-use Rattle.trace_model.specs.Theory.Closure.{ascending}
+use Rattle.trace_model.specs.Theory.Closure.{ascending_places}
 use Rattle.segments.proofs.Counting.{length_ascending, nth}
-use Rattle.trace_index.specs.Links.{passes, trace_of}
+use Rattle.trace_index.specs.Links.{matches, trace_of}
 use Rattle.trace_index.proofs.key_places.KeyPlaces.get.Goals as goal
 
 pub entry_at-requires : goal.entry_at-requires
 entry_at-requires c =
     let i = c.self.inside in
-    let n = length_ascending (passes (trace_of i.list.rows.now.0) i.list.key) (length i.list.rows.now.0) in
+    let n = length_ascending (matches (trace_of i.list.rows.now.0) i.list.key) (length i.list.rows.now.0) in
     let same = ap length c.self.view_is in
     let more = c.requires in
     let short = c.self.invariant.short in
@@ -16,7 +16,7 @@ entry_at-requires c =
 pub returns : goal.returns
 returns c =
     let i = c.self.inside in
-    let test = passes (trace_of i.list.rows.now.0) i.list.key in
+    let test = matches (trace_of i.list.rows.now.0) i.list.key in
     ap (λ xs. slice_get xs c.args.index) (sym c.self.view_is)
-    ∙ ap (slice_get (ascending test (length i.list.rows.now.0))) (sym c.entry_at.ensures.number)
-    ∙ nth test (length i.list.rows.now.0) c.entry_at.result c.entry_at.ensures.within c.entry_at.ensures.passes ∙ ap Some (sym c.new.ensures)
+    ∙ ap (slice_get (ascending_places test (length i.list.rows.now.0))) (sym c.entry_at.ensures.number)
+    ∙ nth test (length i.list.rows.now.0) c.entry_at.result c.entry_at.ensures.within c.entry_at.ensures.matches ∙ ap Some (sym c.new.ensures)

@@ -1,6 +1,6 @@
 use Rattle.std.proofs.Common.{◌*◌, length, refl, sym, subst, arith}
 use Rattle.std.proofs.lemmas.Option.{slice_get_read}
-use Rattle.trace_index.specs.SegmentTables.{AreTables}
+use Rattle.trace_index.specs.SegmentTables.{AreSegmentTables}
 use Rattle.trace_index.proofs.SegmentTables.{segment_noted}
 use Rattle.trace_index.proofs.last_places.LastPlaces.follow.Goals as goal
 
@@ -13,5 +13,5 @@ loop-index-preserved c =
       noted_is = refl;
       within = omega arith;
       last_places = λ s are old. segment_noted s i c.deref.result.now c.loop-index.self.places c.record_all.new.places
-          (subst (AreTables s (4096 * i) 4096) (sym c.deref.ensures) (are i c.index-sealed-index.result found)) (c.loop-index.invariant.last_places s are old) c.in_ok-record_all.ensures.ok;
+          (subst (AreSegmentTables s (4096 * i) 4096) (sym c.deref.ensures) (are i c.index-sealed-index.result found)) (c.loop-index.invariant.last_places s are old) c.in_ok-record_all.ensures.ok;
     }

@@ -1,7 +1,7 @@
 use Rattle.std.proofs.Common.{◌∙◌, sym, ap, length, slice_get, arith}
 use Rattle.std.proofs.lemmas.Option.{none-some}
 use Rattle.trace_model.proofs.Lists.{at_index}
-use Rattle.segments.specs.Notes.{pairs_of, places_in}
+use Rattle.segments.specs.Notes.{pairs_of, noted_places}
 use Rattle.segments.proofs.Noted.{length_in, nth_in, get_pair}
 use Rattle.segments.proofs.numbered.list.PlacesOf.get.Goals as goal
 
@@ -24,5 +24,5 @@ returns c =
     let note = c.in-Some.note in
     let found = get_pair i.list.notes.now.0 c.entry_at-found.result note (sym c.in-Some.ensures) in
     ap (λ xs. slice_get xs c.args.index) (sym c.self.view_is)
-    ∙ ap (slice_get (places_in (pairs_of i.list.notes.now.0) i.list.number)) (sym c.entry_at-found.ensures.number)
-    ∙ nth_in (pairs_of i.list.notes.now.0) i.list.number c.entry_at-found.result (note.number, note.place) found c.entry_at-found.ensures.passes
+    ∙ ap (slice_get (noted_places (pairs_of i.list.notes.now.0) i.list.number)) (sym c.entry_at-found.ensures.number)
+    ∙ nth_in (pairs_of i.list.notes.now.0) i.list.number c.entry_at-found.result (note.number, note.place) found c.entry_at-found.ensures.matches

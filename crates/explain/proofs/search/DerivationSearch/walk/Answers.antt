@@ -1,0 +1,102 @@
+use Rattle.std.proofs.Common.{◌≡◌, ◌∷◌, [], ◌++◌, inl, inr, MatchOption, refl, sym, subst, ◌∙◌, arith}
+use Rattle.std.proofs.lemmas.List.Elements.{Contains-append_left}
+use Rattle.std.proofs.lemmas.Option.{same_Some}
+use Rattle.trace_model.specs.declared.traces.event.Op.TheVariants.{Fork}
+use Rattle.trace_model.specs.Theory.Trace.{Does, OfThread}
+use Rattle.trace_model.proofs.Theory.Least.{at_thread}
+use Rattle.explain.specs.DerivationSearch.{IsCaughtAt, IsCaughtNowhere}
+use Rattle.explain.proofs.Adding.{extends_trans}
+use Rattle.explain.proofs.Walking.{before_some, walk_less}
+use Rattle.explain.proofs.Finished.{followed_stays, place_in, fork_at, walk_goes_on, walk_ends}
+use Rattle.explain.proofs.search.DerivationSearch.walk.Goals as goal
+
+pub loop-next-init : goal.loop-next-init
+loop-next-init c =
+    let s = c.args.index.now.events in
+    let x = c.args.self.now in
+    let y = c.require.new.self in
+    let last = c.args.range.now.prefix.last in
+    let t = c.in-Some.event.thread in
+    let own : OfThread s last t = (c.in-Some.event.op, sym c.event.ensures ∙ c.in-Some.is) in
+    record {
+      on = λ u n o e. let same : last ≡ n = same_Some last n e in (subst (λ z. OfThread s z u) same o, omega (arith, same));
+      followed = λ followed is here f.
+          let (i, e, h) = c.in_ok-require.ensures.required c.args.places.now is here here (λ p k xs a b. (a, inl (t, own, (c.fork_of.ensures p).0 k))) in (
+            followed,
+            (i, e, followed_stays s followed x y e c.in_ok-require.ensures.locks f),
+            λ q k. k,
+            λ u p o d. h p ((c.fork_of.ensures p).1 (subst (λ z. Does s p (Fork z)) (at_thread s last u t o own) d)),
+            λ q (f, u, e, a, b, l) after. absurd (omega (arith, after last refl, l, same_Some last f e)),
+          );
+    }
+
+pub loop-next-smaller : goal.loop-next-smaller
+loop-next-smaller c =
+    let s = c.args.index.now.events in
+    let place = c.in-Some-next.place in
+    let t = c.in-Some.event.thread in
+    let own : OfThread s c.args.range.now.prefix.last t = (c.in-Some.event.op, sym c.event.ensures ∙ c.in-Some.is) in
+    walk_less s t place (c.loop-next.invariant.on t place own c.in-Some-next.is).0
+    c.thread_before-next.result c.loop-next.next c.thread_before-next.ensures c.in-Some-next.is
+
+pub loop-next-preserved : goal.loop-next-preserved
+loop-next-preserved c =
+    let s = c.args.index.now.events in
+    let x = c.args.self.now in
+    let y = c.loop-next.self in
+    let z = c.follow.new.self in
+    let prefix = c.args.range.now.prefix in
+    let last = prefix.last in
+    let t = c.in-Some.event.thread in
+    let own : OfThread s last t = (c.in-Some.event.op, sym c.event.ensures ∙ c.in-Some.is) in
+    let place = c.in-Some-next.place in
+    let h = c.loop-next.invariant in
+    let on = h.on t place own c.in-Some-next.is in
+    record {
+      on = λ u n o e.
+          let at = h.on u place o c.in-Some-next.is in
+          let k = before_some s u place n at.0 (sym c.thread_before-next.ensures ∙ e) in (k.0, omega (arith, k.1, at.1));
+      followed = λ followed is here f.
+          let (all, (i, e, g), sub, fork, done) = h.followed followed is here f in
+          let (j, k, also) = c.in_ok-follow.ensures c.args.places.now all i (place_in s c.args.places.now x y prefix t place own on e here)
+          (fork_at s y last t place own on.0 fork) g in (
+            all ++ place ∷ [],
+            (j, extends_trans s x y z e k, also),
+            λ q m. Contains-append_left all (place ∷ []) q (sub q m),
+            λ u p o d. k.has p (fork u p o d),
+            λ q m after. walk_goes_on s t last place all on.0 own (λ a b r. done a b (λ n v. r n (sym c.in-Some-next.is ∙ v))) q m
+                (λ n v. after n (c.thread_before-next.ensures ∙ v)),
+          );
+    }
+
+pub returns-in-Some-next : goal.returns-in-Some-next
+returns-in-Some-next c followed is here f =
+    let s = c.args.index.now.events in
+    let y = c.loop-next.self in
+    let z = c.follow.new.self in
+    let prefix = c.args.range.now.prefix in
+    let t = c.in-Some.event.thread in
+    let own : OfThread s prefix.last t = (c.in-Some.event.op, sym c.event.ensures ∙ c.in-Some.is) in
+    let place = c.in-Some-next.place in
+    let on = c.loop-next.invariant.on t place own c.in-Some-next.is in
+    let (all, (i, e, g), sub, fork, done) = c.loop-next.invariant.followed followed is here f in
+    let (j, k, also) = c.in_ok-follow.ensures c.args.places.now all i (place_in s c.args.places.now c.args.self.now y prefix t place own on e here)
+    (fork_at s y prefix.last t place own on.0 fork) g in
+    (j, subst (λ o. MatchOption o (IsCaughtNowhere s z c.args.places.now) (IsCaughtAt s z c.args.places.now)) c.in-Some-caught.is c.caught.ensures)
+
+pub returns-then-is_past : goal.returns-then-is_past
+returns-then-is_past c followed is here f =
+    let (all, added, sub, fork, done) = c.loop-next.invariant.followed followed is here f in (
+      all,
+      added,
+      (
+        sub,
+        walk_ends c.args.index.now.events c.args.range.now c.loop-next.next all done
+            (inr (c.in-Some-next.place, c.in-Some-next.is, c.is_past.ensures.past c.if-is_past.true)),
+      ),
+    )
+
+pub returns-in_default-next : goal.returns-in_default-next
+returns-in_default-next c followed is here f =
+    let (all, added, sub, fork, done) = c.loop-next.invariant.followed followed is here f in
+    (all, added, (sub, walk_ends c.args.index.now.events c.args.range.now c.loop-next.next all done (inl c.in_default-next.is)))

@@ -1,0 +1,81 @@
+//! The work of the server's threads.
+use crate::backoff::Backoff;
+use crate::connections::handle_connection;
+use crate::handle_pool::HandlePool;
+use board::{BoardState, HistoryId};
+use desk::{Client, Desk, Turn, TurnFailure, Worker};
+use findings::Hold;
+use std::alloc::Global;
+use std::net::TcpStream;
+use std::sync::atomic::{AtomicU64, Ordering};
+use std::sync::{Arc, Mutex, Wait};
+use std::time::Clock;
+
+/// The work of the server's threads, which share it.
+pub trait ServerTasks: Sync {
+    /// Lets a worker take turns until the workers must stop.
+    fn work(&self);
+
+    /// Serves a session over the stream.
+    fn run_session(&self, stream: TcpStream);
+}
+
+/// The work at a desk.
+#[derive(Drop)]
+pub struct DeskTasks<'a, N: HistoryId, R: Wait + Copy, H: Hold> {
+    pub rt: R,
+    pub alloc: Global,
+    pub desk: &'a Arc<Desk<N, R, BoardState<N>>>,
+    pub handle_pool: &'a Mutex<HandlePool<N>>,
+    pub hold: &'a H,
+    /// Nonzero once the workers must stop.
+    pub stop: &'a AtomicU64,
+}
+
+impl<
+    'a,
+    N: HistoryId + Send + Sync,
+    R: Wait + Clock + Copy + Send + Sync,
+    H: Hold + Sync,
+> ServerTasks for DeskTasks<'a, N, R, H> {
+    /// The worker sleeps while its turns deliver nothing, longer if they fail for lack of memory.
+    fn work(&self) {
+        let Ok(desk) = Arc::try_clone(self.desk) else {
+            return;
+        };
+        let taken = self.handle_pool.lock(&self.rt).take_for_worker();
+        let Some((claimant, reader)) = taken else {
+            return;
+        };
+        let mut worker = Worker::new(desk, claimant, reader);
+        let mut backoff = Backoff::new();
+        for _ in self.rt.forever() {
+            if self.stop.load(Ordering::SeqCst) != 0 {
+                return;
+            }
+            if backoff.sleeps(&self.rt) {
+                continue;
+            }
+            match worker.turn(self.hold) {
+                Turn::Delivered => backoff.delivered(),
+                Turn::Failed(TurnFailure::NoMemory) => backoff.after_failure(),
+                _ => backoff.after_nothing(&self.rt),
+            }
+        }
+    }
+
+    fn run_session(&self, stream: TcpStream) {
+        let Ok(desk) = Arc::try_clone(self.desk) else {
+            return;
+        };
+        let taken = self.handle_pool.lock(&self.rt).take_reader();
+        let Some(reader) = taken else {
+            return;
+        };
+        let mut client = Client::new(desk, reader);
+        handle_connection(&self.rt, self.alloc, &stream, &mut client);
+        self.handle_pool
+            .lock(&self.rt)
+            .give_back(client.into_reader());
+    }
+}

@@ -1,5 +1,0 @@
-use Rattle.sp_closure.specs.Filling.{IsFilling}
-use Rattle.sp_closure.proofs.closer.Closer.fill_all.Given as goal
-
-abbrev pub invariant-loop-at : goal.invariant-loop-at
-invariant-loop-at g l = IsFilling l.fn.index.events l.fn.requirements l.self l.timelines.items
