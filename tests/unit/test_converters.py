@@ -1,13 +1,13 @@
-"""Tests the windows of converted traces, from_std and from_ftrace. The lines of the kernel are written from their documented formats."""
+"""Tests the events that from_std and from_ftrace make of foreign traces. The lines of the kernel are written from their documented formats."""
 import os
 import unittest
-from unittest.mock import patch
 
 from goodlock.commands import from_ftrace, from_std
 from goodlock.commands.from_ftrace import Head, Switch, head_of, switch_of
+from goodlock.conversion import Numbers, converted
 from goodlock.errors import InputError
-from goodlock.limits import LARGEST
-from goodlock.windows import Numbers, converted, one_line
+from goodlock.limits import LARGEST, MOST_HELD_OF_RUN
+from goodlock.traces import one_line
 from written import InFolder, ends
 
 BANK = """T0|fork(T1)|Bank.java:3
@@ -105,19 +105,19 @@ w-13 [000] 1.000013: lock_release: 0xb1 &T
 
 
 class Converts(InFolder):
-    def convert(self, text: str, tool: object, most: int = 1_000_000) -> list[str]:
-        """Converts a text to `out.trace` and others, and returns what the tool prints."""
+    def convert(self, text: str, tool: object) -> list[str]:
+        """Converts a text to `out.trace`, and returns what the tool prints about it."""
         converter = (from_std if tool is from_std else from_ftrace).Converter(self.write("in", text))
-        windows = converted("out", most, converter.convert)
-        return [*windows.lines(), *converter.lines()]
+        conversion = converted("out.trace", converter.convert)
+        return [*conversion.lines(), *converter.lines()]
 
     def events(self, name: str = "out.trace") -> str:
         return " ".join(line for line in self.read(name).splitlines() if not line.startswith("#"))
 
-    def check_fault(self, text: str, tool: object, message: str, most: int = 1_000_000) -> None:
+    def check_fault(self, text: str, tool: object, message: str) -> None:
         with self.subTest(text=text[:60]), ends():
             with self.assertRaisesRegex(InputError, f"^in:{message}$"):
-                self.convert(text, tool, most)
+                self.convert(text, tool)
             self.assertEqual(os.listdir(), ["in"])
 
 
@@ -125,26 +125,30 @@ class FromStd(Converts):
     def test_bank(self) -> None:
         printed = self.convert(BANK, from_std)
         self.assertEqual(self.events(), "0f1 1f2 1f3 2a1 2a2 2r2 2r1 3a2 3a1 3w1 3r1 3r2 0f4 4d1 1j2")
-        self.assertEqual(printed, ["out.trace: 15 events, 4 threads, 2 locks",
-                                   "dropped, not lawful: HeldByOther 1, NotHeld 1, AlreadyForked 1, Ended 1", "left out: request 1"])
+        self.assertEqual(printed, ["dropped, not lawful: HeldByOther 1, NotHeld 1, AlreadyForked 1, Ended 1", "left out: request 1"])
         for line in ["# thread 2 is T1", "# lock 1 is L1", "# at Bank.java:35"]:
             self.assertIn(line, self.read("out.trace").splitlines())
 
-    def test_windows(self) -> None:
-        """The second window begins with the locks that T2 holds, as deep as it holds them. Threads keep their numbers."""
-        deep = BANK.replace("T2|acq(L1)|Bank.java:55\n", "T2|acq(L1)|Bank.java:55\n" * 2)
-        printed = self.convert(deep, from_std, most=10)
-        self.assertEqual(self.events(), "0f1 1f2 1f3 2a1 2a2 2r2 2r1 3a2 3a1 3a1")
-        self.assertEqual(self.events("out.2.trace"), "0f3 3a2 3a1 3a1 3w1 3r1 3r2 0f4 4d1")
-        self.assertEqual(printed[0], "out.trace to out.2.trace: 19 events, 4 threads, 2 locks")
-        self.assertIn("# thread 3 is T2", self.read("out.2.trace").splitlines())
+    def test_lines(self) -> None:
+        """Each event has its line, where it is not the one after that of the event before. The fork of T0 is made of line 1, too."""
+        self.convert(BANK, from_std)
+        lines = [line for line in self.read("out.trace").splitlines() if line.startswith("# line") or not line.startswith("#")]
+        self.assertEqual(lines, ["# line 1 of in", "0f1", "# line 1 of in", "1f2", "1f3", "2a1", "# line 5 of in", "2a2", "2r2", "2r1", "3a2",
+                                 "3a1", "# line 12 of in", "3w1", "3r1", "3r2", "0f4", "# line 15 of in", "4d1",
+                                 "# line 17 of in", "1j2"])
+
+    def test_many_held_locks(self) -> None:
+        """More locks may be held than in a trace."""
+        acquires = [f"T1|acq(L{number})|{number}\n" for number in range(MOST_HELD_OF_RUN + 1)]
+        self.assertEqual(self.convert("".join(acquires[:-1]), from_std), [])
+        self.assertEqual(self.convert("".join(acquires), from_std), ["dropped, not lawful: TooDeep 1"])
 
     def test_odd_names(self) -> None:
         text = "T1|acq(operator()(int))|ä b.cc:3\n\n# note\nT1|rel(operator()(int))\nmain thread | begin | x\n"
         printed = self.convert(text, from_std)
         self.assertEqual(self.events(), "0f1 1a1 1r1")
-        self.assertIn("# at ä b.cc:3\n0f1\n# lock 1 is operator()(int)\n1a1\n", self.read("out.trace"))
-        self.assertEqual(printed[1:], ["left out: begin 1"])
+        self.assertIn("# at ä b.cc:3\n0f1\n# lock 1 is operator()(int)\n# line 1 of in\n1a1\n", self.read("out.trace"))
+        self.assertEqual(printed, ["left out: begin 1"])
 
     def test_faults(self) -> None:
         form = r"it is not THREAD\|OPERATION\(TARGET\)\|LOCATION"
@@ -155,7 +159,6 @@ class FromStd(Converts):
             (" " * 20_000 + "x\n", f"1: .*: {form}"), ("T|a(" + " (" * 20_000 + "\n", f"1: .*: {form}"),
         ]:
             self.check_fault(text, from_std, message)
-        self.check_fault("T1|acq(L1)|1\nT1|acq(L2)|2\nT1|acq(L3)|3\n", from_std, "3: does not fit a window: .*", most=3)
 
 
 class FromFtrace(Converts):
@@ -163,7 +166,7 @@ class FromFtrace(Converts):
         """The flags show interrupts. The first lock is only read; the second acquire of &A waits until 100.000016."""
         printed = self.convert(KERNEL, from_ftrace)
         self.assertEqual(self.events(), "0f1 1a1 0f3 3a2 3r2 1a3 1r3 1r1 0f4 4a2 4r2 0f2 2a1 2r1")
-        self.assertEqual(printed, ["out.trace: 14 events, 4 threads, 3 locks", "acquires for reading, which became an order: 1"])
+        self.assertEqual(printed, ["acquires for reading, which became an order: 1"])
         for line in ["# lock 3 is &(&B->lock)->rlock at 00000000000000b1", "# at class &A->mutex", "# thread 3 is softirq of processor 000",
                      "# thread 4 is idle task of processor 000"]:
             self.assertIn(line, self.read("out.trace").splitlines())
@@ -172,7 +175,7 @@ class FromFtrace(Converts):
         for text, lost in [(TRACE_CMD, ["lines about events that the tracer lost: 1"]), (PERF, [])]:
             printed = self.convert(text, from_ftrace)
             self.assertEqual(self.events(), "0f1 1a1 1a2 1r2 1r1 0f2 2a2 2a1 2r1 2a4 2a3 2r4 2r3 2r2 0f3 3a3 3a2 3r2 3r3")
-            self.assertEqual(printed[1:], ["tried acquires of a thread that held locks, which are marked: 1", *lost])
+            self.assertEqual(printed, ["tried acquires of a thread that held locks, which are marked: 1", *lost])
             self.assertIn("# mark 4", self.read("out.trace").splitlines())
 
     def test_readers(self) -> None:
@@ -211,18 +214,6 @@ class FromFtrace(Converts):
             ("a:1 [120] X|K ==> b c:3 [-1]", Switch(1, "X", "b c", 3)), ("bash", None), ("prev_comm=a ==> next_comm=b", None), ("a b ==> c d", None),
         ]:
             self.assertEqual(switch_of(text), switch, text)
-
-
-class Limits(Converts):
-    def test_threads_of_a_window(self) -> None:
-        """A window has at most the threads that a trace may have; thread 0 is one of them."""
-        with patch("goodlock.windows.MOST_THREADS", 4):
-            self.convert("".join(f"T{number}|w(x)|\n" for number in range(4)), from_std)
-        self.assertEqual((self.events(), self.events("out.2.trace")), ("0f1 1w1 0f2 2w1 0f3 3w1", "0f4 4w1"))
-
-    def test_join_of_a_thread_of_an_earlier_window(self) -> None:
-        self.convert("T1|fork(T2)|\nT2|w(x)|\nT1|w(x)|\nT1|join(T2)|\nT1|w(y)|\n", from_std, most=4)
-        self.assertEqual((self.events(), self.events("out.2.trace")), ("0f1 1f2 2w1 1w1", "0f1 1w2"))
 
 
 class Small(unittest.TestCase):

@@ -55,6 +55,7 @@ TABLES: dict[str, dict[str, Key]] = {
         "allow-partial": SWITCH,
         "bound": Key(f'{BOUND.allowed}, or "auto"', lambda found: found == "auto" or BOUND.allows(found)),
         "error-exitcode": number(0, 255),
+        "keep-log": TEXT,
         "on-deadlock": TEXT,
         "seconds": number(1, 86_400),
         "stacks": number(1, 5),

@@ -6,6 +6,7 @@ MOST_EVENTS = 1_048_576
 MOST_THREADS = 1_024
 MOST_HELD = 32
 MOST_DEPTH = 255
+MOST_HELD_OF_RUN = 1_024  # by a thread of a run that tools/reduce reads
 LEAST_BOUND, MOST_BOUND = 2, 8
 
 # In a window after the first one the program's first thread is FIRST_THREAD. Helpers are artificial threads. Markers are locks that mark

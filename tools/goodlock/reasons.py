@@ -43,7 +43,7 @@ class Reason:
         self.left_out = refutation.count - len(refutation.steps)
         for step in refutation.steps:
             self.word_step(step.entries)
-            self.sentences.append(conclusion(step, is_only=refutation.count == 1))
+            self.sentences.append(conclusion(self.index, step, is_only=refutation.count == 1))
             self.waits += [] if step.then is None else [step.then]
 
     def word_step(self, entries: list[Entry]) -> None:
@@ -89,18 +89,20 @@ def sentence(index: Index, entry: Entry) -> str:
             f"before, at {spot(index, first)}, so it must have released it, at {here}.")
 
 
-def conclusion(step: RefutationStep, is_only: bool) -> str:
+def conclusion(index: Index, step: RefutationStep, is_only: bool) -> str:
     """Returns what the entries of a step show, and unless it is the only step where the member may wait next."""
-    passed = f"So thread {step.thread} has passed place {step.place}, before which it would have to wait."
+    passed = f"So thread {step.thread} has passed {index.origin(step.place).title}, before which it would have to wait."
     if is_only:
         return passed
-    return f"{passed} It has no later place to wait." if step.then is None else f"{passed} It may wait next before place {step.then}."
+    if step.then is None:
+        return f"{passed} It has no later place to wait."
+    return f"{passed} It may wait next before {index.origin(step.then).title}."
 
 
 def spot(index: Index, place: int) -> str:
     """Returns a place with its source line, if the trace has it: `place 7 (bank.c:35)`."""
-    source = source_of(index.events[place])
-    return f"place {place} ({source})" if source else f"place {place}"
+    source, title = source_of(index.events[place]), index.origin(place).title
+    return f"{title} ({source})" if source else title
 
 
 def deed(event: Event) -> str:

@@ -15,6 +15,7 @@ MEMBER = re.compile(rf"  thread {NUMBER} lock {NUMBER} holds((?: {NUMBER})+)(?: 
 WITNESS = "  witness"
 NOTE = re.compile(r"    (?:  )?\S.*")
 MORE = re.compile(rf"    and {NUMBER} more cycles? at these lines, {NUMBER} of them confirmed")
+REPRODUCED, FURTHER = "    reproduced in run ", "      "
 REFUSED = re.compile(r"refused [0-9]+ \w+(?: at [0-9]+)?")
 OTHER_LINE = re.compile(r"(placed|batch|refused|opened|pending|worked|delivered|status) .*")
 FEWER_EVENTS = "the trace has fewer events"
@@ -47,7 +48,8 @@ class Report:
 @dataclass
 class Cycle:
     """A cycle of a report. `numbers` are those of its dependencies; `witness` has the places of its witness, if it is confirmed. An agent
-    may print one cycle for several: `more` counts the others, `more_confirmed` those confirmed."""
+    may print one cycle for several: `more` counts the others, `more_confirmed` those confirmed. `reproduced` has the lines about a run in
+    which the deadlock happened: `reproduced in run 1, 0.50 s, 4 steps`, and who waited where."""
 
     numbers: tuple[int, ...]
     is_confirmed: bool
@@ -55,6 +57,7 @@ class Cycle:
     witness: list[int] = field(default_factory=list)
     more: int = 0
     more_confirmed: int = 0
+    reproduced: list[str] = field(default_factory=list)
 
     @property
     def name(self) -> str:
@@ -209,6 +212,8 @@ class ReportReader:
             if not self.cycle or self.is_in_members():
                 raise self.refuse(f"{shown(line.strip())}: no cycle is before it")
             self.cycle.more, self.cycle.more_confirmed = int(match[1]), int(match[2])
+        elif self.cycle and not self.is_in_members() and line.startswith(FURTHER if self.cycle.reproduced else REPRODUCED):
+            self.cycle.reproduced.append(line.strip())
         elif OTHER_LINE.fullmatch(line) and self.is_between():
             self.last_refusal = line if REFUSED.fullmatch(line) else self.last_refusal
         elif not (NOTE.fullmatch(line) and self.report):

@@ -12,7 +12,8 @@ from goodlock.commandline import plural
 from goodlock.groups import Group, Groups, Location, Pair, advice_for
 from goodlock.locations import Root
 from goodlock.reports import Report
-from goodlock.traces import CALLED_BY, Index, description_of
+from goodlock.reproduce.notes import command_for
+from goodlock.traces import CALLED_BY, Index, Origin, description_of
 
 
 class Verdict(enum.Enum):
@@ -68,6 +69,17 @@ class Spot:
     callers: tuple[str, ...] = ()
     name: Optional[str] = None
     has_source: bool = True
+    origin: Optional[Origin] = None
+
+    @property
+    def at(self) -> str:
+        """The place in a sentence, as in the file from which the trace was reduced: `place 17`."""
+        return self.origin.title if self.origin else f"place {self.place}"
+
+    @property
+    def label(self) -> str:
+        """The place as a list shows it."""
+        return self.origin.label if self.origin else str(self.place)
 
     @property
     def target(self) -> str:
@@ -110,6 +122,17 @@ class WitnessStep:
     left_out: int = 0
     location: Optional[Location] = None
     callers: tuple[str, ...] = ()
+    origin: Optional[Origin] = None
+
+    @property
+    def at(self) -> str:
+        """The place in a sentence, as in the file from which the trace was reduced: `place 17`."""
+        return self.origin.title if self.origin else f"place {self.place}"
+
+    @property
+    def label(self) -> str:
+        """The place as a list shows it."""
+        return self.origin.label if self.origin else str(self.place)
 
     @property
     def source(self) -> str:
@@ -142,7 +165,7 @@ class KeptApart:
 class Result:
     """A group of cycles with the same code locations, or a deadlock that happened. `example` has the numbers of the cycle that the members
     are of. `before` is the verdict in the baseline, `suppressed_by` the line of the suppressions. `traces` are the first traces with it,
-    of `trace_count`."""
+    of `trace_count`. `reproduced` has the lines about a run in which the deadlock happened again, `reproduce` the command for one."""
 
     verdict: Verdict
     members: tuple[ResultMember, ...]
@@ -158,6 +181,8 @@ class Result:
     suppressed_by: Optional[int] = None
     traces: tuple[str, ...] = ()
     trace_count: int = 1
+    reproduced: tuple[str, ...] = ()
+    reproduce: str = ""
 
     @property
     def rule(self) -> str:
@@ -289,7 +314,12 @@ def headline(results: Sequence[Result]) -> str:
 
 def spot_of(index: Index, place: int, lock: int, root: Root) -> Spot:
     location, name = root.location(index.where(place)), index.names.get(("lock", lock))
-    return Spot(location, lock, place, callers_of(index, place), name, bool(index.events[place].where))
+    return Spot(location, lock, place, callers_of(index, place), name, bool(index.events[place].where), original(index, place))
+
+
+def original(index: Index, place: int) -> Optional[Origin]:
+    """Returns where an event was in the files from which the trace was reduced; None if it was not."""
+    return index.origin(place) if index.origins.files else None
 
 
 def callers_of(index: Index, place: int) -> tuple[str, ...]:
@@ -311,6 +341,8 @@ def result_of(index: Index, group: Group, root: Root) -> Result:
         example=group.example.numbers,
         witness=witness_of(index, group, root) if group.is_confirmed else None,
         traces=(index.file,) if index.file else (),
+        reproduced=tuple(group.example.reproduced),
+        reproduce=command_for(index.file, group.example.numbers),
     )
 
 
@@ -319,7 +351,8 @@ def witness_of(index: Index, group: Group, root: Root) -> Witness:
     for place, left_out in group.steps:
         event = index.events[place]
         location = root.location(index.where(place)) if event.where else None
-        steps.append(WitnessStep(place, event.thread, description_of(event), left_out, location, callers_of(index, place)))
+        steps.append(WitnessStep(place, event.thread, description_of(event), left_out, location, callers_of(index, place),
+                                 original(index, place)))
     return Witness(group.witness_length, tuple(steps), group.left_out)
 
 

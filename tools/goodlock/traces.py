@@ -1,7 +1,7 @@
 """Reads traces as `goodlockd offline` or `script` reads them, checks each event, and indexes them by thread and dependency."""
 import re
 from array import array
-from bisect import bisect_left
+from bisect import bisect_left, bisect_right
 from collections import defaultdict
 from collections.abc import Iterator
 from dataclasses import dataclass, field
@@ -17,7 +17,9 @@ SPELT = re.compile("([0-9]+)[fjardw]([0-9]+)")
 SCRIPT_LINE = re.compile(rf"(ask|work|answer|status) +{NUMBER}|deliver +{NUMBER} +{NUMBER}")
 NAME = re.compile(rf"# (thread|lock) {NUMBER} is (.*)")
 MARK = re.compile(rf"# mark {NUMBER}")
+ORIGIN = re.compile(r"# (place|line) (0|[1-9][0-9]{0,18})(?: of (.+))?")
 VERBS = {"f": "forks thread", "j": "joins thread", "a": "acquires lock", "r": "releases lock", "d": "reads", "w": "writes"}
+MOST_FILES = 5  # that a note names
 CALLED_BY = " < "  # between a source line and that of its caller
 
 
@@ -30,6 +32,61 @@ class Event(NamedTuple):
     where: Optional[str] = None
 
 
+class Origin(NamedTuple):
+    """Where an event of a reduced or converted trace was: its place in an event file, or a line of another file. `is_only`: all events of
+    the trace are of this file, so texts need not name it."""
+
+    kind: str
+    number: int
+    file: str = ""
+    is_only: bool = True
+
+    @property
+    def label(self) -> str:
+        """The place as a list of events shows it: `17`, `17 of run.2.trace` or `line 17`."""
+        number = f"{self.number} of {self.file}" if self.file and not self.is_only else str(self.number)
+        return number if self.kind == "place" else f"line {number}"
+
+    @property
+    def title(self) -> str:
+        """The same in a sentence: `place 17`, `place 17 of run.2.trace` or `line 17`."""
+        return self.label if self.kind == "line" else f"place {self.label}"
+
+
+class Origins:
+    """The origins of the events of a trace, from its comments `# place N of FILE` and `# line N of FILE`. Each is that of the next event,
+    and those after it follow it."""
+
+    def __init__(self) -> None:
+        self.begins: list[int] = []
+        self.origins: list[Origin] = []
+        self.files: dict[str, str] = {}  # in the order of their appearance
+
+    def add(self, event: int, kind: str, number: int, file: Optional[str]) -> None:
+        """Takes a comment before an event. Without a file it is that of the comment before; the first one has to name a file."""
+        name = file or (self.origins[-1].file if self.origins else "")
+        if name:
+            self.begins.append(event)
+            self.origins.append(Origin(kind, number, self.files.setdefault(name, name)))
+
+    def of(self, event: int, trace: str) -> Origin:
+        """Returns the origin of an event. If it has none it is at its place in the trace."""
+        at = bisect_right(self.begins, event) - 1
+        if at < 0:
+            return Origin("place", event, trace, is_only=not self.begins)
+        kind, number, file, _ = self.origins[at]
+        return Origin(kind, number + event - self.begins[at], file, is_only=len(self.files) == 1)
+
+    @property
+    def note(self) -> str:
+        """What a reader has to know about places; an empty text if they are those of the trace."""
+        if not self.files:
+            return ""
+        kinds = sorted({origin.kind for origin in self.origins}, reverse=True)
+        what = " and ".join(f"{kind}s" for kind in kinds)
+        return f"{what} are those of {', '.join(list(self.files)[:MOST_FILES])}{', ..' if len(self.files) > MOST_FILES else ''}"
+
+
 @dataclass
 class Trace:
     """`names` maps ("thread", 1) and ("lock", 1) to names; `marks` are the locks that mark acquires which do not wait without end. `file`
@@ -39,6 +96,7 @@ class Trace:
     names: dict[tuple[str, int], str] = field(default_factory=dict)
     marks: set[int] = field(default_factory=set)
     file: Optional[str] = None
+    origins: Origins = field(default_factory=Origins)
 
 
 def description_of(event: Event) -> str:
@@ -49,6 +107,11 @@ def description_of(event: Event) -> str:
 def source_of(event: Event) -> str:
     """Returns the event's source line without folders, `bank.c:35`, or an empty text if the trace has none."""
     return event.where.split(" in ")[0].rsplit("/", 1)[-1] if event.where else ""
+
+
+def one_line(text: str) -> str:
+    """Returns a text that fits a comment of a trace, without spaces at its ends."""
+    return " ".join(text.split())
 
 
 def lines_of(name: str) -> Iterator[str]:
@@ -76,8 +139,8 @@ def fault_of_word(word: str) -> str:
 class AdmissionCheck:
     """Decides which events are lawful after the accepted ones. A refused event is not in the trace."""
 
-    def __init__(self, most_threads: int = MOST_THREADS) -> None:
-        self.most_threads, self.accepted = most_threads, 0
+    def __init__(self, most_threads: int = MOST_THREADS, most_held: int = MOST_HELD) -> None:
+        self.most_threads, self.most_held, self.accepted = most_threads, most_held, 0
         self.forked, self.joined = {0}, set[int]()
         self.holder: dict[int, int] = {}
         self.since: dict[int, int] = {}  # of a held lock: the place of its outermost acquire
@@ -105,7 +168,7 @@ class AdmissionCheck:
                 return "TooNested"
             if self.holder.get(target, thread) != thread:
                 return "HeldByOther"
-            return "TooDeep" if target not in mine and len(mine) == MOST_HELD else None
+            return "TooDeep" if target not in mine and len(mine) == self.most_held else None
         return "NotHeld" if letter == "r" and target not in self.depths.get(thread, {}) else None
 
     def accept(self, thread: int, letter: str, target: int) -> None:
@@ -139,7 +202,7 @@ class AdmissionCheck:
             "JoinedTwice": f"thread {target} has been joined already",
             "TooNested": f"thread {thread} has acquired lock {target} {MOST_DEPTH} times, the most",
             "HeldByOther": f"thread {self.holder.get(target)} holds lock {target} since place {self.since.get(target)}",
-            "TooDeep": f"thread {thread} holds {MOST_HELD} locks, the most",
+            "TooDeep": f"thread {thread} holds {self.most_held} locks, the most",
             "NotHeld": f"thread {thread} does not hold lock {target}",
         }
         return reasons[refusal]
@@ -173,6 +236,8 @@ class EventReader:
             self.trace.names[match[1], int(match[2])] = match[3]
         elif match := MARK.fullmatch(line):
             self.trace.marks.add(int(match[1]))
+        elif match := ORIGIN.fullmatch(line):
+            self.trace.origins.add(len(self.trace.events), match[1], int(match[2]), match[3])
 
     def event_of(self, word: str) -> Event:
         if word in self.known:
@@ -275,6 +340,7 @@ class Index:
 
     def __init__(self, trace: Trace) -> None:
         self.events, self.names, self.marks, self.file = trace.events, trace.names, trace.marks, trace.file
+        self.origins = trace.origins
         self.thread_places: dict[int, array[int]] = defaultdict(lambda: array("I"))
         self.held: dict[int, tuple[int, ...]] = {}
         self.since: dict[int, tuple[int, ...]] = {}
@@ -347,6 +413,10 @@ class Index:
     def since_of(self, place: int, lock: int) -> int:
         """Returns the place where the thread of an outermost acquire acquired a lock that it held there."""
         return self.since[place][self.held[place].index(lock)]
+
+    def origin(self, place: int) -> Origin:
+        """Returns where an event was in the files from which the trace was reduced or converted, or else its place."""
+        return self.origins.of(place, self.file or "the trace")
 
     def where(self, place: int) -> str:
         """Returns the source line of an event, without its callers; if the trace has none, its thread and its lock."""

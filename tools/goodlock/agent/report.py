@@ -13,6 +13,7 @@ from goodlock.errors import InputError
 from goodlock.groups import key_of, merge
 from goodlock.happened import HEADING
 from goodlock.limits import FIRST_THREAD, HELPERS, MOST_BOUND, TRY_MARKERS
+from goodlock.reproduce.calls import keep_log
 from goodlock.settings import Settings
 
 DEADLOCK, NO_REPORT, IN_PART = 1, 2, 3  # exit statuses
@@ -217,6 +218,8 @@ def finish(run: Run, count: int, seconds: float, settings: Settings) -> int:
     block = [HEADING, *(f"  {line}" for line in unexamined)] if unexamined else []
     others = [f"window {number}: {os.path.basename(run.window(number, 'report'))}" for number in kept[1:]]
     others += [f"process {number}: {os.path.basename(run.out)}.p{number}.report" for number, is_traced, _ in processes_of(run) if is_traced]
+    if found:
+        keep_log(run, f"{run.out}.calls", bool(summary["python"]))
     for number in kept:
         extra = [*deadlock, *causes, *notes, *block, *others] if number == 1 else []
         write_window(run, number, windows[number], [group for group in found if group.window == number], extra, sites)

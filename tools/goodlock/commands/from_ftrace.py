@@ -5,9 +5,9 @@ from collections.abc import Iterator
 from typing import NamedTuple, Optional
 
 from goodlock.commandline import parser_of, run
+from goodlock.conversion import Conversion, convert_file
 from goodlock.errors import InputError, shown
 from goodlock.traces import lines_of
-from goodlock.windows import Windows, convert_file
 
 HELP = """
 Record and convert, with a kernel that has CONFIG_LOCKDEP and the lock tracepoints:
@@ -18,16 +18,18 @@ Record and convert, with a kernel that has CONFIG_LOCKDEP and the lock tracepoin
     perf record -a -e 'lock:*' -e sched:sched_switch COMMAND
     perf script >FILE
 
-It writes OUT.trace. A trace of more than 1,048,576 events becomes windows: OUT.trace,
-OUT.2.trace and so on. A window begins with acquires of the locks that are held there. An
+It writes OUT.trace without the events that change no cycle and no verdict, as tools/reduce does;
+--whole keeps them. What is still longer than 1,048,576 events becomes windows: OUT.trace,
+OUT.2.trace and so on, and a cycle whose members are in different windows is not found. An
 acquire has the comment `# at class NAME` with the name of the lock's class.
 
 A tried acquire does not wait: tools/summary leaves out a cycle in which a member's acquire was
 tried. Read sections become reads and writes, which order them and the write sections of the
 lock: deadlocks through read locks are lost. FILE is read twice, so it is no pipe.
 
-Exit status: 0 if the traces are written, 1 if a file cannot be read or written, 2 if a line is
-not understood. Then no file is left.
+Exit status: 0 if all is written, 1 if a file cannot be read or written, if there is no report, or
+if the replay of a confirmed cycle has a fault, 2 if a line is not understood. Then no file is
+left, except the traces if there is no report, and a report with a fault.
 """
 KINDS = "lock_acquire|lock_acquired|lock_contended|lock_release|sched_switch"
 EVENT = re.compile(rf"[\s:](?:lock:|sched:)?({KINDS}):")
@@ -167,7 +169,7 @@ class Reader:
 
 
 class Converter:
-    """Offers the events of a file to windows. A thread is a task, or the interrupts of a processor. An acquire that may wait is pending
+    """Offers the events of a file to conversion. A thread is a task, or the interrupts of a processor. An acquire that may wait is pending
     until `lock_acquired`, or until the thread goes on."""
 
     def __init__(self, name: str) -> None:
@@ -178,10 +180,10 @@ class Converter:
         self.sections: dict[tuple[int, Lock], list[bool]] = defaultdict(list)  # for each acquire of a thread whether it is for reading
         self.read_acquires, self.tried, self.unseen = 0, 0, 0
 
-    def convert(self, windows: Windows) -> None:
-        self.windows, self.shared = windows, self.reader.shared_locks()
+    def convert(self, conversion: Conversion) -> None:
+        self.conversion, self.shared = conversion, self.reader.shared_locks()
         for kind, head, text in self.reader.lines():
-            windows.source = self.reader.name, self.reader.number
+            conversion.source = self.reader.name, self.reader.number
             if kind == "sched_switch":
                 self.switch(text)
             else:
@@ -199,11 +201,11 @@ class Converter:
     def thread(self, head: Head) -> int:
         interrupt = INTERRUPTS.get(head.flags[2:3])
         if interrupt:
-            return self.windows.thread((interrupt, head.processor), f"{interrupt} of processor {head.processor}")
+            return self.conversion.thread((interrupt, head.processor), f"{interrupt} of processor {head.processor}")
         if head.task == 0:
-            return self.windows.thread(("idle", head.processor), f"idle task of processor {head.processor}")
+            return self.conversion.thread(("idle", head.processor), f"idle task of processor {head.processor}")
         name = self.names.get(head.task, head.name) if head.name == "<...>" else head.name
-        return self.windows.thread((head.task, self.lives[head.task]), f"{name}-{head.task}")
+        return self.conversion.thread((head.task, self.lives[head.task]), f"{name}-{head.task}")
 
     def take(self, kind: str, thread: int, text: str) -> None:
         if kind == "lock_acquire":
@@ -225,12 +227,12 @@ class Converter:
         """The thread has another event, so it has the locks for which it might have waited, except those that another thread holds: then
         the event is of an interrupt."""
         for lock, is_read in list(self.pending[thread].items()):
-            if is_read or self.windows.check.holder.get(self.number(lock), thread) == thread:
+            if is_read or self.conversion.check.holder.get(self.number(lock), thread) == thread:
                 del self.pending[thread][lock]
                 self.acquire(thread, lock, is_read)
 
     def number(self, lock: Lock) -> int:
-        return self.windows.lock(lock, f"{lock.name} at {lock.address}")
+        return self.conversion.lock(lock, f"{lock.name} at {lock.address}")
 
     def acquire(self, thread: int, lock: Lock, is_read: bool, is_tried: bool = False) -> None:
         where = f"class {lock.name}"
@@ -239,36 +241,36 @@ class Converter:
             self.sections[thread, lock].append(True)
             self.order_after(thread, (lock, "written"), where)
             return
-        number, check = self.number(lock), self.windows.check
+        number, check = self.number(lock), self.conversion.check
         if check.holder.get(number, thread) != thread:
             self.end_unseen(check.holder[number], lock, number)
         mine = check.depths.get(thread, {})
-        if self.acquire_marked(thread, number, where) if is_tried and mine and number not in mine else self.windows.offer(
+        if self.acquire_marked(thread, number, where) if is_tried and mine and number not in mine else self.conversion.offer(
                 thread, "a", number, where):
             self.sections[thread, lock].append(False)
             self.order_after(thread, (lock, "read"), where)
 
     def order_after(self, thread: int, variable: tuple[Lock, str], where: str) -> None:
         """Reads a variable of a lock, if it was written."""
-        if variable in self.windows.variables:
-            self.windows.offer(thread, "d", self.windows.variables.of(variable), where)
+        if variable in self.conversion.variables:
+            self.conversion.offer(thread, "d", self.conversion.variables.of(variable), where)
 
     def acquire_marked(self, thread: int, number: int, where: str) -> bool:
         """Offers a tried acquire inside a section of the thread's mark. Returns whether it is lawful."""
         self.tried += 1
-        mark = self.windows.lock(("mark", thread), "mark of tried acquires", is_mark=True)
-        if not self.windows.offer(thread, "a", mark, where):
+        mark = self.conversion.lock(("mark", thread), "mark of tried acquires", is_mark=True)
+        if not self.conversion.offer(thread, "a", mark, where):
             return False
-        is_lawful = self.windows.offer(thread, "a", number, where)
-        self.windows.offer(thread, "r", mark, where)
+        is_lawful = self.conversion.offer(thread, "a", number, where)
+        self.conversion.offer(thread, "r", mark, where)
         return is_lawful
 
     def end_unseen(self, holder: int, lock: Lock, number: int) -> None:
         """Releases a lock whose holder's release was not seen, since another thread has the lock."""
         self.unseen += 1
         self.sections.pop((holder, lock), None)
-        while number in self.windows.check.depths[holder]:
-            self.windows.offer(holder, "r", number, f"class {lock.name}")
+        while number in self.conversion.check.depths[holder]:
+            self.conversion.offer(holder, "r", number, f"class {lock.name}")
 
     def release(self, thread: int, lock: Lock) -> None:
         where, sections = f"class {lock.name}", self.sections.get((thread, lock), [False])
@@ -276,14 +278,14 @@ class Converter:
         if not sections:
             self.sections.pop((thread, lock), None)
         if lock in self.shared and is_read:
-            variable = self.windows.variables.of((lock, "read"))
-            self.windows.offer(thread, "d", variable, where)
-            self.windows.offer(thread, "w", variable, where)
+            variable = self.conversion.variables.of((lock, "read"))
+            self.conversion.offer(thread, "d", variable, where)
+            self.conversion.offer(thread, "w", variable, where)
         elif not is_read:
             number = self.number(lock)
-            if lock in self.shared and number in self.windows.check.depths.get(thread, ()):
-                self.windows.offer(thread, "w", self.windows.variables.of((lock, "written")), where)
-            self.windows.offer(thread, "r", number, where)
+            if lock in self.shared and number in self.conversion.check.depths.get(thread, ()):
+                self.conversion.offer(thread, "w", self.conversion.variables.of((lock, "written")), where)
+            self.conversion.offer(thread, "r", number, where)
 
     def lines(self) -> Iterator[str]:
         counts = [

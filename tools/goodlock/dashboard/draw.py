@@ -1,6 +1,6 @@
-"""Draws the cycles of a report as a part of a page: `python3 -m goodlock.dashboard.draw REPORT [TRACE]`. With a trace it draws what
-tools/picture draws; without one, the ring of each cycle and its members. It is a process of its own, since a long trace needs much
-memory."""
+"""Draws the cycles of a report as a part of a page: `python3 -m goodlock.dashboard.draw REPORT [TRACE RECORDED]`. With a trace it draws what
+tools/picture draws; without one, the ring of each cycle and its members. RECORDED is the trace file of which TRACE is a copy: the report
+next to it says which cycles were reproduced. It is a process of its own, since a long trace needs much memory."""
 import sys
 from collections.abc import Iterator
 from html import escape
@@ -9,15 +9,20 @@ from goodlock.commandline import plural, print_whole, run
 from goodlock.drawing.page import NO_CYCLES, WITNESS, drawn_reports, faint, lock_name, report_parts, section
 from goodlock.drawing.shapes import colours_of
 from goodlock.reports import AnyEvents, Cycle, Member, read_reports
+from goodlock.reproduce.notes import reproduced_in
 from goodlock.traces import Index, read_trace
 
 MOST_DRAWN, MOST_PLACES = 20, 200
 
 
-def drawn(report: str, trace: str) -> str:
+def drawn(report: str, trace: str, recorded: str = "") -> str:
     """Returns the drawing with the events of the trace."""
     index = Index(read_trace(trace))
+    index.file = recorded or None
+    reproduced = reproduced_in(f"{recorded.removesuffix('.trace')}.report")
     wholes = drawn_reports(index, read_reports(report, index), MOST_DRAWN)
+    for cycle, *_ in (section for whole in wholes for section in whole.sections()):
+        cycle.reproduced = reproduced.get(cycle.numbers, [])
     return "".join(part for whole in wholes for part in report_parts(index, whole, 0))
 
 
@@ -61,7 +66,7 @@ def witness(cycle: Cycle) -> str:
 
 
 def main() -> None:
-    print_whole(drawn(*sys.argv[1:]) if len(sys.argv) == 3 else drawn_alone(sys.argv[1]))
+    print_whole(drawn(*sys.argv[1:]) if len(sys.argv) == 4 else drawn_alone(sys.argv[1]))
 
 
 if __name__ == "__main__":

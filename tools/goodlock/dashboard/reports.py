@@ -33,6 +33,7 @@ class TraceFile:
 
     def __init__(self, name: Optional[str], folder: str) -> None:
         self.name, self.folder = name or "", folder
+        self.report = f"{self.name.removesuffix('.trace')}.report"
 
     def lacks(self) -> str:
         """Returns what to say if there is no copy."""
@@ -44,6 +45,8 @@ class TraceFile:
             found = os.stat(self.name)
         except OSError:
             return ""
+        with contextlib.suppress(OSError):  # says which cycles were reproduced
+            return f"{found.st_ino} {found.st_size if not is_whole else ''} {os.stat(self.report).st_ino}"
         return f"{found.st_ino}" if is_whole else f"{found.st_ino} {found.st_size}"
 
     def copy(self) -> Optional[str]:
@@ -134,7 +137,7 @@ class Reports:
         """Returns the drawing of a report, and a note if it lacks the events of the trace."""
         copy, note = self.trace.copy(), self.trace.lacks()
         if copy:
-            made = self.execute(*DRAW, path, copy)
+            made = self.execute(*DRAW, path, copy, os.path.abspath(self.trace.name))
             if made.returncode == 0:
                 return made.stdout.decode(), ""
             fault = last_line(made)

@@ -12,6 +12,7 @@ from goodlock.drawing.timeline import Link, Marks, TimeLine, rows_of
 from goodlock.groups import TRIED, Groups, instance_of
 from goodlock.reasons import Reason, reasons_of
 from goodlock.reports import Cycle, Member, Report
+from goodlock.reproduce.notes import command_for
 from goodlock.traces import CALLED_BY, Event, Index
 
 SHORT, WHOLE_TRACE = 40, 120
@@ -95,7 +96,8 @@ def report_parts(index: Index, drawn: Drawn, at: int) -> Iterator[str]:
 def section(name: str, cycle: Cycle, colours: dict[int, str], rows: Iterable[str], within: str, others: str = "") -> str:
     """Returns the section of a cycle: its heading, its ring, its table of members, and what is within it."""
     row = cycle.verdict
-    head = f'<div class="head"><h2>Cycle {cycle.name}</h2><span class="badge {row}">{row}</span>{others}</div>'
+    again = '<span class="badge confirmed">reproduced</span>' if cycle.reproduced else ""
+    head = f'<div class="head"><h2>Cycle {cycle.name}</h2><span class="badge {row}">{row}</span>{again}{others}</div>'
     table = f"<table>{''.join(rows)}</table>"
     ring = draw_ring(name, cycle.members, colours)
     return (f'<section>{head}<div class="pair"><div class="ring">{ring}</div><div class="members">{table}</div></div>'
@@ -105,6 +107,7 @@ def section(name: str, cycle: Cycle, colours: dict[int, str], rows: Iterable[str
 def cycle_section(index: Index, cycle: Cycle, reason: Optional[Reason], name: str, others: str) -> str:
     colours = colours_for(index, cycle.members)
     within = potential_part(index, cycle, reason, colours, name) if reason else confirmed_part(index, cycle, colours, name)
+    within += reproduced_part(cycle, command_for(index.file, cycle.numbers))
     return section(name + "ring", cycle, colours, member_rows(index, cycle, colours), within, others)
 
 
@@ -119,7 +122,7 @@ def member_rows(index: Index, cycle: Cycle, colours: dict[int, str]) -> Iterator
     for member, place in zip(cycle.members, instance_of(index, cycle.members)):
         lines = [held_line(index, lock, index.since_of(place, lock), colours) for lock in member.held]
         verb = "waits for" if cycle.is_confirmed else "wants"
-        lines.append(f"{verb} {lock_name(member.lock, colours)} at place {place}{where_of(index.events[place])}")
+        lines.append(f"{verb} {lock_name(member.lock, colours)} at {index.origin(place).title}{where_of(index.events[place])}")
         fork = index.fork_of.get(member.thread)
         begun = where_of(index.events[fork]) if fork is not None else ""
         name = f"<b>thread {member.thread}</b>" + (f"<br>from{begun}" if begun else "")
@@ -127,7 +130,7 @@ def member_rows(index: Index, cycle: Cycle, colours: dict[int, str]) -> Iterator
 
 
 def held_line(index: Index, lock: int, since: int, colours: dict[int, str]) -> str:
-    return f"holds {lock_name(lock, colours)} since place {since}{where_of(index.events[since])}"
+    return f"holds {lock_name(lock, colours)} since {index.origin(since).title}{where_of(index.events[since])}"
 
 
 def lock_name(lock: int, colours: dict[int, str]) -> str:
@@ -172,6 +175,12 @@ def why(reason: Reason) -> str:
     further = f"<p>{reason.further()}</p>" if reason.left_out else ""
     proof = faint(f"<code>{escape(reason.command)}</code> prints this refutation in full{reason.note}.")
     return f'<div class="why">{heading}<ol>{steps}</ol>{further}<p>{reason.advice}</p>{proof}</div>'
+
+
+def reproduced_part(cycle: Cycle, command: str) -> str:
+    """Returns what happened when the deadlock was reproduced, and the command for it."""
+    told = f"<h3>{escape(cycle.reproduced[0].capitalize())}</h3><pre>{escape(chr(10).join(cycle.reproduced[1:]))}</pre>" if cycle.reproduced else ""
+    return told + (faint(f"<code>{escape(command)}</code> reproduces it.") if command else "")
 
 
 def whole_trace(index: Index) -> str:

@@ -9,7 +9,7 @@ from goodlock.reports import Member
 from goodlock.traces import Event, Index, description_of, source_of
 
 GUTTER, HEAD, ROW, TALL_ROW, GAP_ROW, SCREEN = 58, 34, 31, 42, 26, 975
-NARROWEST, WIDEST, BETWEEN = 148, 168, 40
+NARROWEST, WIDEST, BETWEEN, MOST_DIGITS = 148, 168, 40, 7
 
 
 class Shown(NamedTuple):
@@ -177,12 +177,13 @@ class TimeLine:
         if isinstance(row, LeftOut):
             return self.left_out(row.places, top, width)
         event, y = self.index.events[row.place], top + self.row_height / 2
-        number = text(GUTTER - 14, y + 4, row.place, text_anchor="end", fill=FAINT, font_size=11)
-        return number + self.chip(row.place, event, y)
+        number = str(self.index.origin(row.place).number)
+        label = text(GUTTER - 14, y + 4, number, text_anchor="end", fill=FAINT, font_size=11 if len(number) <= MOST_DIGITS else 8)
+        return label + self.chip(row.place, event, y)
 
     def chip(self, place: int, event: Event, y: float) -> str:
         x, height, label = self.x_of(event.thread), self.row_height - 8, description_of(event)
-        tip = shape("title", escape(f"place {place}: thread {event.thread} {label}{tip_of(event)}"))
+        tip = shape("title", escape(f"{self.index.origin(place).title}: thread {event.thread} {label}{tip_of(event)}"))
         box = shape("rect", tip, x=x - self.chip_width / 2, y=y - height / 2, width=self.chip_width, height=height, rx=5,
                     **self.edge(place, event))
         if not self.has_sources:
@@ -208,7 +209,8 @@ class TimeLine:
         y = top + GAP_ROW / 2
         threads = {self.index.events[place].thread for place in places}
         whose = f"of thread {min(threads)}" if len(threads) == 1 else f"of {len(threads)} threads"
-        label = f"⋯ {len(places):,} events {whose}, places {places[0]} to {places[-1]}, left out ⋯"
+        first, last = self.index.origin(places[0]), self.index.origin(places[-1])
+        label = f"⋯ {len(places):,} events {whose}, {'places ' if first.kind == 'place' else ''}{first.label} to {last.label}, left out ⋯"
         band = shape("rect", x=GUTTER - 8, y=top + 3, width=width - GUTTER, height=GAP_ROW - 6, rx=4, fill="#eef2f5")
         return band + text((GUTTER + width - 8) / 2, y + 4, label, fill="#5b6a77", font_size=11)
 
@@ -231,12 +233,12 @@ class TimeLine:
                        for member in self.marks.waiting for slot, taken in enumerate(self.slots[member.thread]) if taken)
 
     def wait_chip(self, member: Member, top: float, height: float) -> str:
-        x, event = self.x_of(member.thread), self.index.events[member.place or 0]
-        tip = shape("title", escape(f"thread {member.thread} is before place {member.place}{tip_of(event)}"))
+        x, event, at = self.x_of(member.thread), self.index.events[member.place or 0], self.index.origin(member.place or 0).title
+        tip = shape("title", escape(f"thread {member.thread} is before {at}{tip_of(event)}"))
         box = shape("rect", tip, x=x - self.chip_width / 2, y=top + 1, width=self.chip_width, height=height - 2, rx=5,
                     fill="#ffffff", stroke=STUCK, stroke_width=2, stroke_dasharray="6 3")
         label = self.large(x, top + 13, f"waits for lock {member.lock}", STUCK, font_weight=600)
-        return box + label + self.small(x, top + 24, f"at place {member.place}") + self.small(x, top + 35, source_of(event))
+        return box + label + self.small(x, top + 24, f"at {at}") + self.small(x, top + 35, source_of(event))
 
     def held_by(self, member: Member, holder: Member, begin: float, deep: float) -> str:
         held = [taken.lock if taken else None for taken in self.slots[holder.thread]]

@@ -3,13 +3,14 @@ from __future__ import annotations
 
 import json
 from collections.abc import Sequence
-from typing import Any
+from typing import Any, Optional
 
 from goodlock.gates import Judgement
 from goodlock.groups import Location
 from goodlock.locations import Root
 from goodlock.results import (KeptApart, LeftOut, Numbers, Question, Result, ResultMember, Run, Spot, State, Verdict, Witness, WitnessStep,
                               kept)
+from goodlock.traces import Origin
 
 VERSION = 1
 Object = dict[str, Any]
@@ -109,6 +110,10 @@ def result_object(result: Result) -> Object:
         apart = result.kept_apart
         found["kept_apart"] = {"heading": apart.heading, "sentences": list(apart.sentences), "steps_left_out": apart.left_out,
                                "command": apart.command}
+    if result.reproduced:
+        found["reproduced"] = list(result.reproduced)
+    if result.reproduce:
+        found["reproduce"] = result.reproduce
     return found
 
 
@@ -134,7 +139,20 @@ def member_object(member: ResultMember) -> Object:
 
 
 def spot_object(spot: Spot) -> Object:
-    return {"lock": spot.lock, "lock_name": spot.name, "place": spot.place, **location_object(spot.location, spot.callers)}
+    return {"lock": spot.lock, "lock_name": spot.name, "place": spot.place, **original_object(spot.origin),
+            **location_object(spot.location, spot.callers)}
+
+
+def original_object(origin: Optional[Origin]) -> Object:
+    """Returns where an event was in the file from which the trace was reduced or converted."""
+    return {"original": {origin.kind: origin.number, "file": origin.file}} if origin else {}
+
+
+def original_from(found: Optional[Object]) -> Optional[Origin]:
+    if not found:
+        return None
+    kind = "line" if "line" in found else "place"
+    return Origin(kind, found[kind], found["file"])
 
 
 def location_object(location: Location, callers: Sequence[str]) -> Object:
@@ -143,7 +161,7 @@ def location_object(location: Location, callers: Sequence[str]) -> Object:
 
 def step_object(step: WitnessStep) -> Object:
     where = location_object(step.location, step.callers) if step.location else {}
-    return {"place": step.place, "left_out_before": step.left_out, "thread": step.thread, "event": step.event, **where}
+    return {"place": step.place, **original_object(step.origin), "left_out_before": step.left_out, "thread": step.thread, "event": step.event, **where}
 
 
 def merged_object(result: Result) -> Object:
@@ -180,6 +198,8 @@ def result_from(found: Object, root: Root) -> Result:
         witness=Witness(witness["events"], tuple(step_from(step, root) for step in witness["steps"]), witness["left_out_at_end"])
         if witness else None,
         kept_apart=KeptApart(apart["heading"], tuple(apart["sentences"]), apart["steps_left_out"], command=apart["command"]) if apart else None,
+        reproduced=tuple(found.get("reproduced", ())),
+        reproduce=found.get("reproduce", ""),
     )
 
 
@@ -189,9 +209,11 @@ def member_from(found: Object, root: Root) -> ResultMember:
 
 
 def spot_from(found: Object, root: Root) -> Spot:
-    return Spot(root.location(found["location"]), found["lock"], found["place"], tuple(found["callers"]), found["lock_name"])
+    return Spot(root.location(found["location"]), found["lock"], found["place"], tuple(found["callers"]), found["lock_name"],
+                origin=original_from(found.get("original")))
 
 
 def step_from(found: Object, root: Root) -> WitnessStep:
     location = root.location(found["location"]) if "location" in found else None
-    return WitnessStep(found["place"], found["thread"], found["event"], found["left_out_before"], location, tuple(found.get("callers", ())))
+    return WitnessStep(found["place"], found["thread"], found["event"], found["left_out_before"], location, tuple(found.get("callers", ())),
+                       original_from(found.get("original")))

@@ -84,5 +84,5 @@ def lines_of(result: Result) -> list[str]:
     for member in result.members:
         lines += [f"thread {member.thread} {member.role}", f"    and waits at {member.wait.location.text}"]
     for step in result.witness.steps if result.witness else ():
-        lines.append(f"{step.place}: thread {step.thread} {step.event}{f' at {step.location.text}' if step.location else ''}")
+        lines.append(f"{step.label}: thread {step.thread} {step.event}{f' at {step.location.text}' if step.location else ''}")
     return lines

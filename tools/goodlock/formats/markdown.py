@@ -58,7 +58,7 @@ def witness_lines(result: Result) -> Iterator[str]:
     for step in result.witness.steps if result.witness else ():
         if step.left_out:
             yield f".. {plural(step.left_out, 'event')}"
-        yield f"{step.place}: thread {step.thread} {step.event}{f'    {step.location.text}' if step.location else ''}"
+        yield f"{step.label}: thread {step.thread} {step.event}{f'    {step.location.text}' if step.location else ''}"
     if result.witness and result.witness.left_out:
         yield f".. {plural(result.witness.left_out, 'event')}"
     for member in result.members:

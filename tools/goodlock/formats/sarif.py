@@ -176,10 +176,10 @@ def thread_flows(result: Result) -> list[Object]:
     flows: dict[int, list[Object]] = {}
     steps = result.witness.steps if result.witness else ()
     for order, step in enumerate(steps, 1):
-        message = f"thread {step.thread} {step.event} at place {step.place}"
+        message = f"thread {step.thread} {step.event} at {step.at}"
         flows.setdefault(step.thread, []).append(flow_step(step.location, message, order))
     for order, member in enumerate(result.members, len(steps) + 1):
-        place = "" if member.wait.place is None else f" at place {member.wait.place}"
+        place = "" if member.wait.place is None else f" at {member.wait.at}"
         message = f"thread {member.thread} waits for {member.wait.target}{place}"
         flows.setdefault(member.thread, []).append(flow_step(member.wait.location, message, order))
     return [{"id": f"thread {thread}", "locations": steps} for thread, steps in flows.items()]

@@ -46,7 +46,7 @@ def left_out_lines(results: Sequence[Result], most: int) -> Iterator[str]:
 
 def head_of(number: int, result: Result, counts: str) -> str:
     """Returns `group 1 confirmed, known: 3 cycles`. A new result is not called so: without a baseline all are new."""
-    head = f"group {number} {result.verdict.value}{', known' if result.state is State.KNOWN else ''}"
+    head = f"group {number} {result.verdict.value}{', reproduced' if result.reproduced else ''}{', known' if result.state is State.KNOWN else ''}"
     return f"{head}: {counts}" if counts else head
 
 
@@ -63,6 +63,7 @@ def result_lines(number: int, result: Result) -> Iterator[str]:
         yield from hold_lines(member)
         yield f"    {verb} {member.wait.target}{f' at {member.wait.source}' if member.wait.source else ''}"
     yield from witness_lines(result) if result.witness else apart_lines(result)
+    yield from reproduced_lines(result)
     yield f"  Look at: {result.advice}"
 
 
@@ -81,13 +82,22 @@ def witness_lines(result: Result) -> Iterator[str]:
     for step in witness.steps:
         if step.left_out:
             yield f"    .. {plural(step.left_out, 'event')}"
-        yield f"    {step.place}: thread {step.thread} {step.event}{f'    {step.source}' if step.source else ''}"
+        yield f"    {step.label}: thread {step.thread} {step.event}{f'    {step.source}' if step.source else ''}"
     if witness.left_out:
         yield f"    .. {plural(witness.left_out, 'event')}"
     for at, member in enumerate(result.members):
         holder = result.members[(at + 1) % len(result.members)].thread
         where = f"    {member.wait.source}" if member.wait.source else ""
-        yield f"    {member.wait.place}: thread {member.thread} waits for lock {member.wait.lock}, which thread {holder} holds{where}"
+        yield f"    {member.wait.label}: thread {member.thread} waits for lock {member.wait.lock}, which thread {holder} holds{where}"
+
+
+def reproduced_lines(result: Result) -> Iterator[str]:
+    """Yields what happened when the deadlock was reproduced, and the command for it."""
+    if result.reproduced:
+        yield f"  It was {result.reproduced[0]}:"
+        yield from (f"    {line}" for line in result.reproduced[1:])
+    if result.reproduce:
+        yield f"  Reproduce: {result.reproduce}"
 
 
 def apart_lines(result: Result) -> Iterator[str]:

@@ -1,0 +1,152 @@
+"""Writes the events of a foreign trace as one event file of any length, and reduces it to a trace for `goodlockd offline`.
+
+Thread 0 of the file is artificial. It forks each thread that nobody else forks, right before the thread's first event, and does nothing
+else: so these forks order nothing. Each event has the line of the foreign trace that it was made of.
+"""
+from __future__ import annotations
+
+import argparse
+import os
+from collections import Counter
+from collections.abc import Callable, Hashable, Iterator
+from typing import IO, Protocol
+
+from goodlock.commandline import Outputs
+from goodlock.limits import LARGEST, MOST_HELD_OF_RUN
+from goodlock.reducer import Source
+from goodlock.reduction import Job, add_options, folder_beside, run_job
+from goodlock.traces import AdmissionCheck, one_line
+
+
+MOST_LETTERS = 10_000  # of a name or a code location
+
+
+class Numbers:
+    """Numbers names by first appearance, from 1."""
+
+    def __init__(self) -> None:
+        self.numbers: dict[Hashable, int] = {}
+
+    def of(self, name: Hashable) -> int:
+        return self.numbers.setdefault(name, len(self.numbers) + 1)
+
+    def __contains__(self, name: Hashable) -> bool:
+        return name in self.numbers
+
+    def __len__(self) -> int:
+        return len(self.numbers)
+
+
+class Conversion:
+    """The events of one run. `source` is the file and the line that are read. `dropped` counts the events that were not lawful, by
+    refusal."""
+
+    def __init__(self, file: IO[str]) -> None:
+        self.file = file
+        self.check = AdmissionCheck(most_threads=LARGEST, most_held=MOST_HELD_OF_RUN)
+        self.threads, self.locks, self.variables = Numbers(), Numbers(), Numbers()
+        self.names: dict[tuple[str, int], str] = {}
+        self.marks: set[int] = set()
+        self.named: set[tuple[str, int]] = set()
+        self.dropped: Counter[str] = Counter()
+        self.source, self.expected, self.where = ("", 0), 0, ""
+
+    def thread(self, key: Hashable, name: str) -> int:
+        """Returns the number of a thread. `name` is for the comments."""
+        number = self.threads.of(key)
+        self.names.setdefault(("thread", number), one_line(name))
+        return number
+
+    def lock(self, key: Hashable, name: str, is_mark: bool = False) -> int:
+        """Returns the number of a lock. A mark is a lock that only one thread acquires, before an acquire that does not wait."""
+        number = self.locks.of(key)
+        self.names.setdefault(("lock", number), one_line(name))
+        if is_mark:
+            self.marks.add(number)
+        return number
+
+    def offer(self, thread: int, letter: str, target: int, where: str = "") -> bool:
+        """Writes an event if it is lawful, else counts it as dropped. Returns whether it is lawful."""
+        is_new = thread not in self.check.forked
+        refusal = self.check.refusal_of(0, "f", thread) if is_new else None
+        if is_new and not refusal:
+            self.check.accept(0, "f", thread)
+        refusal = refusal or self.check.refusal_of(thread, letter, target)
+        if refusal:
+            self.dropped[refusal] += 1
+            if is_new:
+                self.check.forked.discard(thread)
+            return False
+        self.check.accept(thread, letter, target)
+        if is_new:
+            self.write(0, "f", thread, where)
+        self.write(thread, letter, target, where)
+        return True
+
+    def write(self, thread: int, letter: str, target: int, where: str) -> None:
+        self.name("thread", thread)
+        if letter in "fjar":
+            self.name("thread" if letter in "fj" else "lock", target)
+        name, line = self.source
+        if line != self.expected:
+            self.file.write(f"# line {line} of {one_line(name)}\n")
+        self.expected = line + 1
+        if where != self.where:
+            self.file.write(f"# at {shortened(where)}\n" if where else "# at\n")
+            self.where = where
+        self.file.write(f"{thread}{letter}{target}\n")
+
+    def name(self, kind: str, number: int) -> None:
+        """Writes the name of a thread or a lock at its first event."""
+        if (kind, number) not in self.names or (kind, number) in self.named:
+            return
+        self.named.add((kind, number))
+        self.file.write(f"# {kind} {number} is {shortened(self.names[kind, number])}\n")
+        if kind == "lock" and number in self.marks:
+            self.file.write(f"# mark {number}\n")
+
+    def lines(self) -> Iterator[str]:
+        """Yields what was dropped."""
+        if self.dropped:
+            yield f"dropped, not lawful: {', '.join(f'{name} {number:,}' for name, number in self.dropped.most_common())}"
+
+
+def shortened(text: str) -> str:
+    """Returns a text that fits a comment: tools/reduce reads at most 65,534 bytes of one."""
+    return text if len(text) <= MOST_LETTERS else f"{text[:MOST_LETTERS]}.."
+
+
+class Converter(Protocol):
+    """Reads a foreign trace and offers its events. `lines` yields what a user should know of it."""
+
+    def convert(self, conversion: Conversion) -> None: ...
+
+    def lines(self) -> Iterator[str]: ...
+
+
+def converted(path: str, convert: Callable[[Conversion], None]) -> Conversion:
+    """Writes the event file of a run. If `convert`, which offers the events, fails, no file is left."""
+    with Outputs() as outputs:
+        conversion = Conversion(outputs.open(path))
+        convert(conversion)
+    return conversion
+
+
+def convert_file(parser: argparse.ArgumentParser, converter_of: Callable[[str], Converter], is_read_twice: bool = False) -> int:
+    """Converts the file that the command line names. The parser has its first argument, `file`. Returns the exit status."""
+    parser.add_argument("out", help="the name of the traces to write, without .trace")
+    parser.add_argument("--whole", action="store_true", help="keep the events that change no cycle, too")
+    add_options(parser)
+    args = parser.parse_args()
+    if args.whole and args.bound:
+        parser.error("--bound reports on the reduced run: leave out --whole, or call `goodlockd offline` for each trace")
+    if os.path.realpath(args.file) == os.path.realpath(f"{args.out}.trace"):
+        parser.error(f"{args.out}.trace is the file to read: choose another name")
+    if is_read_twice and os.path.exists(args.file) and not os.path.isfile(args.file):
+        parser.error(f"{args.file} is not a file: it is read twice")
+    converter = converter_of(args.file)
+    with folder_beside(args.out) as folder:
+        path = os.path.join(folder, "converted")
+        conversion = converted(path, converter.convert)
+        job = Job(args.out, [Source(path, one_line(args.file))], args.window, args.bound or 0, args.whole, artificial=1)
+        return run_job(job, folder, [*conversion.lines(), *converter.lines()])

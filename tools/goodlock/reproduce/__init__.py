@@ -1,0 +1,1 @@
+"""Runs a program again so that a deadlock which its trace predicts happens."""

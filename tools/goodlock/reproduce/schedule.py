@@ -1,0 +1,240 @@
+"""Makes the schedule of a run that follows a recorded one: agents/pthread/schedule.h describes its bytes.
+
+The order to follow is the recorded order as far as it can come before the deadlock: without the members of the cycle from their acquires on,
+and without what needs anything that is left out. Only the witness is mandatory."""
+from __future__ import annotations
+
+import os
+import struct
+from array import array
+from collections import defaultdict
+from collections.abc import Iterable, Sequence
+from dataclasses import dataclass
+from functools import cached_property
+from typing import Optional
+
+from goodlock.errors import InputError
+from goodlock.groups import instance_of
+from goodlock.reports import Cycle
+from goodlock.reproduce.calls import FORK, JOINED, WHY_CUT, Log, Window
+from goodlock.traces import Event, Index
+
+MAGIC = 0x31646568637321
+HEAD, LANE, CALL, SITE = struct.Struct("<Q14I"), struct.Struct("<7I4x"), struct.Struct("<IIIi"), struct.Struct("<QII")
+FILE, MEMBER = struct.Struct("<64s32sQ"), struct.Struct("<34I")
+FREE, HELD, REACH = 0, -1, -2
+MOST_LANES, MOST_HOLDS, MOST_NAME = 1024, 32, 63
+NO_CALL = 0xFFFFFFFF
+
+
+@dataclass
+class Recorded:
+    """A recorded run: its log, and the trace of one of its windows. `call_of` has the call of each event; NO_CALL: none."""
+
+    log: Log
+    window: Window
+    index: Index
+    call_of: "array[int]"
+    first_places: "array[int]"
+
+    def text_of(self, call: int) -> str:
+        """Returns what a call did, as its events say: `lock 2 at bank.c:35 in transfer`; else only what kind of call it is."""
+        at = call - self.window.first
+        if 0 <= at < len(self.first_places):
+            thread = self.log.threads[call]
+            first = self.first_places[at]
+            for place in range(first, first + self.log.made[call]):
+                event = self.index.events[place]
+                if event.letter in "arfj" and (event.thread == thread or thread == 0):
+                    where = f" at {event.where}" if event.where else ""
+                    return f"{'thread' if event.letter in 'fj' else 'lock'} {event.target}{where}"
+        return ""
+
+    def place_of(self, call: int) -> Optional[int]:
+        """Returns the place of the first event of a call, if it is in the window."""
+        at = call - self.window.first
+        return self.first_places[at] if 0 <= at < len(self.first_places) else None
+
+
+def recorded(log: Log, number: int, index: Index) -> Recorded:
+    """Returns the run with the trace of its window of this number. Raises `InputError` if they do not fit."""
+    if log.cut:
+        raise InputError(log.name, None, WHY_CUT.get(log.cut, "the log of calls is not whole: record the program again"))
+    if number > len(log.windows):
+        raise InputError(log.name, None, f"there is no window {number}: record the program again")
+    window = log.windows[number - 1]
+    firsts = log.first_places(window)
+    call_of = array("I", [NO_CALL]) * len(index)
+    end = window.opening
+    for at, first in enumerate(firsts):
+        end = first + log.made[window.first + at]
+        if end > len(index):
+            break
+        for place in range(first, end):
+            call_of[place] = window.first + at
+    if end + log.before.get(window.end, 0) != len(index):
+        raise InputError(log.name, None, f"the trace has {len(index)} events, and the calls made {end}: it is of another run, or acquires that do "
+                                         "not wait were left out of it; such a run cannot be reproduced")
+    return Recorded(log, window, index, call_of, firsts)
+
+
+def places_before(events: Sequence[Event], reach: Iterable[int], witness: Sequence[int]) -> set[int]:
+    """Returns the places of the recorded order that can come before the deadlock, if those of the witness are among them, else those of the
+    witness."""
+    members = set(reach)
+    stopped: set[int] = set()
+    is_kept_write: dict[int, bool] = {}
+    holder: dict[int, list[int]] = {}  # of a lock: its thread and how often it holds the lock
+    kept: set[int] = set()
+    for place in range(max(members)):
+        thread, letter, target, _ = events[place]
+        is_left_out = (place in members or thread in stopped or letter == "a" and holder.get(target, [thread])[0] != thread
+                       or letter == "j" and target in stopped or letter == "d" and not is_kept_write.get(target, True))
+        if letter == "w":
+            is_kept_write[target] = not is_left_out
+        if is_left_out:
+            stopped.update([thread, target] if letter == "f" else [thread])
+            continue
+        kept.add(place)
+        if letter == "a":
+            holder.setdefault(target, [thread, 0])[1] += 1
+        elif letter == "r" and target in holder:
+            holder[target][1] -= 1
+            if not holder[target][1]:
+                del holder[target]
+    return kept if kept.issuperset(witness) else set(witness)
+
+
+class Schedule:
+    """What a run follows. `lanes` has the calls of each thread, `turns` the call of each turn from 1 on, `needed` how many calls of a lane the
+    witness needs. `pause`: milliseconds; the run does not follow the lanes, but pauses the members before their acquires."""
+
+    def __init__(self, run: Recorded, cycle: Cycle, pause: int = 0, is_early: bool = False) -> None:
+        self.run, self.cycle, self.pause, self.is_early = run, cycle, pause, is_early
+        self.instance = instance_of(run.index, cycle.members)
+        self.parents = self.find_parents()
+        self.lanes: dict[int, list[int]] = defaultdict(list)
+        self.turn_of: dict[int, int] = {}
+        self.reach: set[int] = set()
+        self.hard: set[int] = set()
+        if not pause:
+            self.find_order()
+        self.check()
+
+    def find_parents(self) -> dict[int, tuple[int, int]]:
+        """Returns of each forked thread its parent, and which child of it it is."""
+        log, parents, forks = self.run.log, dict[int, tuple[int, int]](), dict[int, int]()
+        for at, kind in enumerate(log.kinds):
+            if kind == FORK:
+                parent = log.threads[at]
+                parents[log.objects[at]] = parent, forks.get(parent, 0)
+                forks[parent] = forks.get(parent, 0) + 1
+        return parents
+
+    def can_be_followed(self, thread: int) -> bool:
+        """Whether a later run knows which of its threads this is: the first one, or one whose fork was seen."""
+        return thread == 0 or thread in self.parents
+
+    def find_order(self) -> None:
+        run, log, witness = self.run, self.run.log, self.cycle.witness
+        self.reach = {run.call_of[place] for place in self.instance}
+        self.hard = {run.call_of[place] for place in witness} - self.reach - {NO_CALL}
+        places = places_before(run.index.events, self.instance, witness)
+        partly = {run.call_of[place] for place in range(len(run.call_of)) if place not in places}
+        whole = {run.call_of[place] for place in places} - partly
+        order = (self.hard | whole | set(range(run.window.first))) - self.reach - {NO_CALL}
+        followed = [at for at in sorted(order) if at in self.hard or self.can_be_followed(log.threads[at])]
+        self.turn_of = {at: number for number, at in enumerate(followed, 1)}
+        for at, thread in enumerate(log.threads):
+            self.lanes[thread].append(at)
+
+    def check(self) -> None:
+        """Raises `InputError` if no run can follow this schedule."""
+        run, log = self.run, self.run.log
+        if max([*log.threads, *self.parents], default=0) >= MOST_LANES:
+            raise InputError(log.name, None, f"the run has more than {MOST_LANES:,} threads")
+        calls = self.hard | self.reach if not self.pause else {run.call_of[place] for place in self.instance}
+        if NO_CALL in calls:
+            raise InputError(log.name, None, "an acquire of the cycle is of no call: a thread held it when its window began")
+        for call in calls:
+            if not self.can_be_followed(log.threads[call]):
+                raise InputError(log.name, None, f"thread {log.threads[call]} was started in a way that is not seen, so it cannot be followed")
+            if log.sites[call] and log.sites[call] not in log.places:
+                raise InputError(log.name, None, "a call has no code address: it was not made by pthread functions, so it cannot be followed")
+
+    @property
+    def steps(self) -> int:
+        return len(self.turn_of)
+
+    def call_at(self, thread: int, index: int) -> Optional[int]:
+        """Returns a call of a lane, or None if the lane has ended."""
+        lane = self.lanes.get(thread, [])
+        return lane[index] if index < len(lane) else None
+
+    def site_text(self, place: int) -> str:
+        """Returns the code address of an event's call: `bank+0x11a7`."""
+        log, call = self.run.log, self.run.call_of[place]
+        site = log.sites[call] if call != NO_CALL else 0
+        found = log.places.get(site)
+        return log.lines.get(site) or (address_text(log.files[found.file].path, found.offset) if found else "?")
+
+    # ---- the bytes ----
+
+    def data(self) -> bytes:
+        log = self.run.log
+        numbers = {file: at for at, file in enumerate(log.files)}
+        lanes, calls = self.pack_lanes()
+        owners = [0] + [log.threads[at] for at in self.turn_of]
+        owners += [0] * (len(owners) % 2)
+        sites = SITE.pack(0, 0, 0) + b"".join(SITE.pack(place.offset, numbers[place.file], 1) for place in log.places.values())
+        files = b"".join(pack_file(file.path, file.build) for file in log.files.values())
+        members = b"".join(self.pack_member(place) for place in self.instance)
+        counts = [len(lanes) // LANE.size, len(calls) // CALL.size, len(self.turn_of), len(sites) // SITE.size, len(log.files),
+                  len(self.instance), 0 if self.pause else self.most_object(), self.pause, int(self.is_early)]
+        head = HEAD.pack(MAGIC, *counts, *[0] * 5)
+        return head + lanes + calls + struct.pack(f"<{len(owners)}I", *owners) + sites + files + members
+
+    @cached_property
+    def site_numbers(self) -> dict[int, int]:
+        """Returns the numbers of the sites whose code addresses are known. 0 is one that is not known."""
+        return {site: number for number, site in enumerate(self.run.log.places, 1)}
+
+    def site_number(self, place: int) -> int:
+        """Returns the number of the site of an event's call."""
+        call = self.run.call_of[place]
+        return 0 if call == NO_CALL else self.site_numbers.get(self.run.log.sites[call], 0)
+
+    def most_object(self) -> int:
+        log = self.run.log
+        return max((about for kind, about in zip(log.kinds, log.objects) if kind not in (FORK, JOINED)), default=0)
+
+    def pack_lanes(self) -> tuple[bytes, bytes]:
+        log, sites, lanes, calls = self.run.log, self.site_numbers, bytearray(), bytearray()
+        for thread in range(max([*log.threads, *self.parents], default=0) + 1):
+            lane = self.lanes.get(thread, [])
+            parent, child_of = self.parents.get(thread, (0, 0))
+            needed = max((at + 1 for at, call in enumerate(lane) if call in self.hard or call in self.reach), default=0)
+            wanted = max((at + 1 for at, call in enumerate(lane) if call in self.turn_of or call in self.reach), default=0)
+            lanes += LANE.pack(thread in self.parents, parent, child_of, len(calls) // CALL.size, len(lane), needed, wanted)
+            for at, call in enumerate(lane):
+                turn = REACH if call in self.reach else self.turn_of.get(call, FREE if at < wanted else HELD)
+                calls += CALL.pack(log.kinds[call], log.objects[call], sites.get(log.sites[call], 0), turn)
+        return bytes(lanes), bytes(calls)
+
+    def pack_member(self, place: int) -> bytes:
+        holds = [self.site_number(since) for since in self.run.index.since.get(place, ())][:MOST_HOLDS]
+        wait = self.site_number(place)
+        return MEMBER.pack(wait, len(holds), *holds, *[0] * (MOST_HOLDS - len(holds)))
+
+
+def pack_file(path: str, build: str) -> bytes:
+    name = os.fsencode(os.path.basename(path))[:MOST_NAME]
+    identity = b"" if build.startswith("sha256:") else bytes.fromhex(build)
+    return FILE.pack(name, identity, len(identity))
+
+
+def address_text(path: str, offset: int) -> str:
+    """Returns a code address without the version of a library, which has several names."""
+    name = os.path.basename(path)
+    stem, so, _ = name.partition(".so")
+    return f"{stem}{so}+0x{offset:x}"
