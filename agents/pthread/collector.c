@@ -34,6 +34,7 @@ struct ring *ring;
 int is_follower;
 static const char *reporter;
 static pid_t program, follows, deadlock_report, command, checks[MOST_CHECKS];
+static const char *schedule_name;
 static int library_file = -1, is_spoilt, program_status, has_program_ended;
 static int go = -1, unstarted_by = -1; /* pipes: the program may start; why it did not */
 static uint64_t consumed; /* that of the ring is for the recorder */
@@ -142,6 +143,7 @@ static void start_check(void) {
 /* A process for each small window would cost more than the search. */
 void window_closed(uint32_t closed, uint32_t length) {
     close_sites();
+    if (is_following()) return;
     windows_closed = closed, events_waiting += length, last_closed = now();
     if (events_waiting >= MANY_EVENTS || windows_closed - windows_checked >= MANY_WINDOWS) start_check();
 }
@@ -268,14 +270,15 @@ static void collect(void) {
         is_over = !is_running();
         if (signal_to_forward) pass_on(signal_to_forward), signal_to_forward = 0;
         if (!follows) look_for_processes(program);
-        if (drain(is_over) > 0 && !is_over) continue;
+        if (drain(is_over) > 0 && !is_over && !is_following()) continue;
         while (is_over && drain(1) > 0) continue;
         if (options.server) flush_trace(), close_sites(); /* the dashboard reads them while the program runs */
         flush_stream();
         give_up_if_stalled(&stalled);
         if (rounds % LOOK_EVERY == 0 && !options.is_python) look_at_maps();
         if (windows_closed > windows_checked && now() - last_closed > PATIENCE) start_check();
-        if (!is_reported && (is_over || ++rounds % LOOK_EVERY == 0) && look_for_deadlock(is_over))
+        if (is_following()) watch_schedule(deadlocked_process(), is_over);
+        else if (!is_reported && (is_over || ++rounds % LOOK_EVERY == 0) && look_for_deadlock(is_over))
             deadlock_report = start_reporter("deadlock", "0", 0, -1), is_reported = 1;
         if (is_reported && !is_over) act_on_deadlock();
         if (!is_over) nanosleep(&moment, NULL);
@@ -322,6 +325,8 @@ static void __attribute__((noreturn)) execute(char **words, const char *library,
     char text[12];
     for (int number = 1; number < 32; number++) if (number != SIGKILL && number != SIGSTOP) signal(number, SIG_DFL);
     setenv("GOODLOCK_RING", name, 1);
+    if (is_following()) setenv("GOODLOCK_SCHEDULE", schedule_name, 1);
+    else unsetenv("GOODLOCK_SCHEDULE");
     if (options.is_python) {
         snprintf(text, sizeof text, "%d", options.frames);
         setenv("GOODLOCK_STACKS", text, 1);
@@ -438,6 +443,7 @@ int main(int count, char **words) {
     if (!words[0] && !follows) refuse("there is no program to run");
     signal(SIGINT, SIG_IGN), signal(SIGQUIT, SIG_IGN), signal(SIGPIPE, SIG_IGN), signal(SIGXFSZ, SIG_IGN);
     make_ring(name, sizeof name);
+    if (options.schedule) schedule_name = map_schedule(), ring->threads = lanes_of_schedule();
     prctl(PR_SET_CHILD_SUBREAPER, !follows);
     if (options.follows_others && !follows) follow_with(options.program, reporter, all, options_in(count - 4, words));
     if (is_follower) options.server = NULL;
@@ -446,12 +452,13 @@ int main(int count, char **words) {
     prepare_run();
     sigaction(SIGTERM, &action, NULL), sigaction(SIGHUP, &action, NULL);
     if (!start(words)) return WEXITSTATUS(program_status);
-    begin_run();
+    begin_run(words);
     if (follows) {
         printf("%s %d\n", name, options.frames);
         fclose(stdout);
     }
     collect();
+    if (is_following()) return end_following();
     int verdict = verdict_of_all(finish());
     leave_name();
     ring->finished = 2;

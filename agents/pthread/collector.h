@@ -28,6 +28,10 @@ struct options {
     const char *on_deadlock;        /* report, kill, or a command */
     int bound, error_status, frames, is_python, has_no_config, allows_partial, follows_others;
     uint32_t window, seconds;       /* bound: 0 if each is searched up to the largest that can have a cycle */
+    uint64_t most_logged;           /* bytes of the log of calls; 0: there is none */
+    const char *schedule;           /* of the run that is followed; NULL: none. These three are of goodlock --reproduce */
+    uint32_t patience;              /* milliseconds */
+    int leaves_deadlock;            /* to a debugger */
 };
 extern struct options options;
 extern struct ring *ring;
@@ -98,6 +102,7 @@ struct lock {
     struct lock *in_page, **before, *on_stack, **on_stack_before; /* the next ones in its page, and on its thread's stack */
     uint64_t address;
     uint32_t number, holder, depth, helper, site, variables[3]; /* number 0: the next acquire gets a new one; helper: see encode.c */
+    uint32_t identity;                                          /* in the log of calls; 0: the next call gives it a new one */
     uint8_t how, was_read, is_tried;
     struct reader { uint32_t thread, site; } *readers;          /* that hold it, for deadlocks that happen */
     size_t readers_count, readers_room;
@@ -120,8 +125,8 @@ extern unsigned long unseen, unstarted, overflowing, read_locks, lock_events;
 
 /* Takes a copy of a record. Returns 0 if it is not one that the recorder writes. */
 int encode(const struct record *record);
-/* Opens the first window, and removes the files of an earlier run. */
-void begin_run(void);
+/* Opens the first window of a program with this command line, and removes the files of an earlier run. */
+void begin_run(char **words);
 /* Closes the last window. Returns 0 if a trace could not be written. */
 int end_run(void);
 /* Writes the events so far to the file. */
@@ -131,6 +136,20 @@ void next_window(void);
 uint32_t name_in_trace(uint32_t thread);
 /* The number of a lock in the traces. One that nobody has acquired gets one. */
 uint32_t number_of(struct lock *lock);
+
+/* ---- calls.c ---- */
+
+/* Whether there is a log that is whole so far. */
+int has_log(void);
+/* The log of a program with this command line begins, and ends. */
+void begin_calls(char **words);
+void end_calls(void);
+/* It becomes a log that is not whole. `why` is one of calls.h. */
+void cut_calls(uint32_t why);
+/* A call that made this many events; events of no call; a window that begins with this many. */
+void log_call(uint32_t thread, uint32_t kind, uint32_t object, uint32_t site, uint32_t made);
+void log_events(uint32_t made);
+void log_window(uint32_t made);
 
 /* ---- processes.c ---- */
 
@@ -190,11 +209,28 @@ void forget_all(void);
  * written any so far. */
 int look_for_deadlock(int is_over);
 
+/* The waits of threads that wait for each other now, from the least thread on. Returns how many there are. */
+uint32_t waits_of_deadlock(struct wait *to, uint32_t most);
+/* Writes which threads wait for each other now to OUT.tmp/deadlock. Returns whether there are any. */
+int report_deadlock(void);
+
+/* ---- reproduce.c: a run that follows a schedule ---- */
+
+static inline int is_following(void) { return options.schedule != NULL; }
+/* Returns the name of the shared memory. Ends the process if there is no schedule. */
+const char *map_schedule(void);
+uint32_t lanes_of_schedule(void);
+/* Looks at the run, in the process that records, from time to time and when it has ended. */
+void watch_schedule(pid_t process, int has_ended);
+/* The run has ended. Returns the exit status of the collector. */
+int end_following(void);
+
 /* ---- sites.c ---- */
 
 uint32_t site_of(const uint64_t *callers, uint32_t count);
 void close_sites(void);
-/* Reads which files are mapped, from time to time; writes the names of the libraries that were seen to OUT.tmp/libraries. */
+/* Reads which files are mapped, from time to time; writes the names of the libraries that were seen to OUT.tmp/libraries, and the path of the
+ * program to OUT.tmp/program. */
 void look_at_maps(void);
 void write_libraries(void);
 /* Callers in this memory are others from now on. */

@@ -61,7 +61,7 @@ static void write_members(FILE *file, uint32_t count) {
     for (uint32_t at = 0; at < count; at++) {
         const struct thread *thread = known_thread(members[at]), *other = thread_of_handle(waits[at].address);
         uint32_t site = site_of(waits[at].callers, (uint32_t)waits[at].frames);
-        struct lock *lock = waits[at].kind == WAITS_FOR_LOCK ? known_lock(waits[at].address) : NULL;
+        struct lock *lock = waits[at].kind != WAITS_FOR_THREAD ? known_lock(waits[at].address) : NULL;
         fprintf(file, "thread %u waits for ", name_in_trace(members[at]));
         if (lock) fprintf(file, "lock %u at @%u@\n", number_of(lock), site);
         else fprintf(file, "thread %u at @%u@\n", name_in_trace(other ? other->number : NOBODY), site);
@@ -69,10 +69,33 @@ static void write_members(FILE *file, uint32_t count) {
         for (size_t one = 0; thread && one < thread->held_count; one++)
             fprintf(file, "  lock %u since @%u@\n", thread->held[one]->number, thread->held[one]->site);
         struct wait *wanted = &waits[(at ? at : count) - 1];
-        lock = wanted->kind == WAITS_FOR_LOCK ? known_lock(wanted->address) : NULL;
+        lock = wanted->kind != WAITS_FOR_THREAD ? known_lock(wanted->address) : NULL;
         for (size_t one = 0; lock && lock->holder == NOBODY && one < lock->readers_count; one++)
             if (lock->readers[one].thread == members[at]) fprintf(file, "  lock %u since @%u@\n", number_of(lock), lock->readers[one].site);
     }
+}
+
+static int write_deadlock(uint32_t count) {
+    FILE *file = create_in_work("deadlock");
+    if (!file) return 0;
+    write_members(file, count);
+    fclose(file);
+    close_sites();
+    return was_reported = 1;
+}
+
+uint32_t waits_of_deadlock(struct wait *to, uint32_t most) {
+    int is_same;
+    uint32_t count = find(&is_same);
+    if (count > most) return 0;
+    memcpy(to, waits, count * sizeof *waits);
+    return count;
+}
+
+int report_deadlock(void) {
+    int is_same;
+    uint32_t count = find(&is_same);
+    return count && write_deadlock(count);
 }
 
 int look_for_deadlock(int is_over) {
@@ -81,10 +104,5 @@ int look_for_deadlock(int is_over) {
     uint32_t count = find(&is_same);
     if (!is_same) since = now();
     if (!count || (is_over ? count < 2 : now() - since < MILLISECONDS)) return 0;
-    FILE *file = create_in_work("deadlock");
-    if (!file) return 0;
-    write_members(file, count);
-    fclose(file);
-    close_sites();
-    return was_reported = 1;
+    return write_deadlock(count);
 }

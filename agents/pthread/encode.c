@@ -3,6 +3,7 @@
  * In the first window a thread's number is the recorder's, and thread 0 is the first thread. In each later window thread 0 is an
  * artificial root, which forks each thread at its first event there, and the first thread is FIRST_THREAD. Markers are locks that only one
  * thread acquires. A helper is an artificial thread that holds a lock for a thread that holds too many. */
+#include "calls.h"
 #include "collector.h"
 
 enum { MOST_FORKS = MOST_THREADS - 1, SLACK = 400, GROWTH = 7, BUFFER = 1 << 16, LEAST_SEEN = 1 << 10, MOST_READERS = 1 << 10 };
@@ -10,7 +11,7 @@ enum { WRITTEN, READ, HANDED }; /* of a lock's variables: writers' ends; readers
 
 uint32_t events, window;
 unsigned long unseen, unstarted, overflowing, read_locks, lock_events;
-static uint32_t numbered, variables, forks, helpers;
+static uint32_t numbered, variables, forks, helpers, identities;
 static uint32_t tried, tried_forks; /* sections in this window that begin by an acquire which does not wait; what they may need: see search.py */
 static uint64_t *seen; /* pairs of a thread and an initialisation that it has received in this window */
 static size_t seen_size, seen_count;
@@ -160,7 +161,7 @@ static void count_try(struct thread *it, struct lock *lock) {
 static void write_window(void) {
     char name[24];
     snprintf(name, sizeof name, "%u.window", window);
-    FILE *file = create_in_work(name);
+    FILE *file = is_following() ? NULL : create_in_work(name);
     if (file) fprintf(file, "%u %u\n", events, tried);
     for (size_t slot = 0; slot < edges.size && file; slot++)
         for (struct entry *entry = edges.slots[slot]; entry; entry = entry->next)
@@ -344,8 +345,8 @@ static void end_thread(struct thread *it) {
 static void open_trace(void) {
     char path[PATHS];
     window_name(path, window, "trace");
-    trace = create_anew(path);
-    if (!trace && !has_failed) has_failed = 1, say("cannot write %s; the program runs on", path);
+    trace = is_following() ? NULL : create_anew(path);
+    if (!trace && !has_failed && !is_following()) has_failed = 1, say("cannot write %s; the program runs on", path);
     if (trace && (window > 1 || is_follower)) fprintf(trace, "%s\n", mark_of_name());
     events = forks = buffered = last_site = tried = tried_forks = 0;
     free(seen), begin_seen(LEAST_SEEN), seen_count = 0;
@@ -359,13 +360,18 @@ static int close_trace(void) {
     return !has_failed;
 }
 
-void begin_run(void) {
+void begin_run(char **words) {
     window = find_thread(0)->in_window = 1;
     remove_earlier();
     open_trace();
+    begin_calls(words);
+    log_window(0);
 }
 
-int end_run(void) { return close_trace(); }
+int end_run(void) {
+    end_calls();
+    return close_trace();
+}
 
 void flush_trace(void) {
     if (!buffered) return;
@@ -405,6 +411,7 @@ void next_window(void) {
     window_closed(window++, length);
     open_trace();
     repeat_held();
+    log_window(events);
 }
 
 /* Whether the recorder may have written this. */
@@ -415,18 +422,51 @@ static int is_valid(const struct record *record) {
            (!has_number || record->other < MOST_NUMBERS) && has_room_for_threads();
 }
 
+/* The object of a call, as the log names it. Returns 0 if the record is no call of the program, or there is no log. */
+static int object_of_call(const struct record *record, uint32_t *object) {
+    if (!has_log()) return 0;
+    if (record->kind == R_FORK) *object = (uint32_t)record->other;
+    else if (record->kind == R_JOINED) *object = find_thread(record->thread)->joining;
+    else if ((record->kind == R_GIVE || record->kind == R_TAKE) && record->other == BY_FUTEX) return 0;
+    else if (record->kind >= R_LOCK && record->kind <= R_ONCE) {
+        struct lock *lock = find_lock(record->address);
+        if (!lock->identity) lock->identity = ++identities;
+        *object = lock->identity;
+    } else return 0;
+    return 1;
+}
+
+/* Another program has begun in this process. A later run begins with the first one again. */
+static void begin_program(void) {
+    forget_all(), find_thread(0), next_window();
+    if (identities) cut_calls(CUT_BY_EXEC);
+}
+
+static void encode_record(const struct record *record, const uint64_t *callers, uint32_t site);
+
 int encode(const struct record *record) {
     if (!is_valid(record)) return 0;
     uint64_t callers[MOST_FRAMES] = {0};
     for (int at = 0; at < record->frames; at++) memcpy(&callers[at], record->callers[at], 6);
-    uint32_t thread = record->thread, site = site_of(callers, record->kind == R_START ? 0 : record->frames);
-    struct thread *it = find_thread(thread), *other;
-    struct lock *lock;
+    uint32_t thread = record->thread, site = site_of(callers, record->kind == R_START ? 0 : record->frames), object = 0;
+    struct thread *it = find_thread(thread);
     if (events >= options.window || events + GROWTH * tried + tried_forks + SLACK >= MOST_EVENTS || forks + tried_forks + 8 >= MOST_FORKS)
         next_window();
+    uint32_t before = events;
     if (record->kind >= R_LOCK && record->kind < R_GIVE && it->on_stack && record->other >= it->stack_low &&
         record->other < it->stack_high)
         leave_stack(it, record->other);
+    int is_call = object_of_call(record, &object);
+    encode_record(record, callers, site);
+    if (is_call) log_call(thread, record->kind == R_UNLOCK_OWN ? R_UNLOCK : record->kind, object, site, events - before);
+    else if (record->kind != R_EXEC) log_events(events - before);
+    return 1;
+}
+
+static void encode_record(const struct record *record, const uint64_t *callers, uint32_t site) {
+    uint32_t thread = record->thread;
+    struct thread *it = find_thread(thread), *other;
+    struct lock *lock;
     switch ((enum kind)record->kind) {
     case R_FORK: fork_thread(thread, (uint32_t)record->other, site); break;
     case R_NAMED:
@@ -437,7 +477,7 @@ int encode(const struct record *record) {
     case R_END: end_thread(it); break;
     case R_JOINS: it->joining = (other = thread_of_handle(record->address)) ? other->number : NOBODY; break;
     case R_JOINED: join_thread(thread, it->joining, site); break;
-    case R_EXEC: forget_all(), find_thread(0), next_window(); break;
+    case R_EXEC: begin_program(); break;
     case R_LOCK: acquire(thread, record->address, BLOCKS, site); break;
     case R_TRIED: acquire(thread, record->address, TRIES, site); break;
     case R_TIMED: acquire(thread, record->address, TIMES_OUT, site); break;
@@ -475,5 +515,4 @@ int encode(const struct record *record) {
         if (other->has_ended) forget_thread(other);
         break;
     }
-    return 1;
 }

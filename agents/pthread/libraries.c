@@ -27,23 +27,30 @@ CALLS(DECLARE)
 EXPORT void g_mutex_lock(void *lock) {
     TAKE_SITE;
     if (is_inside) { REAL(g_mutex_lock)(lock); return; }
+    const struct call_of_schedule *turn = ENTER(R_LOCK, lock, 0);
     struct wait *wait = will_wait(WAITS_FOR_LOCK, (uint64_t)lock, &site);
     WITHIN_VOID(REAL(g_mutex_lock)(lock));
     has_waited(wait);
     acquired(R_LOCK, lock, &site);
+    LEAVE(turn);
 }
 
 EXPORT int g_mutex_trylock(void *lock) {
     TAKE_SITE;
-    int success = REAL(g_mutex_trylock)(lock);
-    if (success && !is_inside) acquired(R_TRIED, lock, &site);
+    if (is_inside) return REAL(g_mutex_trylock)(lock);
+    const struct call_of_schedule *turn = ENTER(R_TRIED, lock, 1);
+    int success = turn == &failing_call ? 0 : REAL(g_mutex_trylock)(lock);
+    while (!success && turn != &failing_call && may_retry(turn)) success = REAL(g_mutex_trylock)(lock);
+    if (success) { acquired(R_TRIED, lock, &site); LEAVE(turn); }
     return success;
 }
 
 EXPORT void g_mutex_unlock(void *lock) {
     TAKE_SITE;
+    const struct call_of_schedule *turn = is_inside ? NULL : ENTER(R_UNLOCK, lock, 0);
     if (!is_inside) tell(R_UNLOCK, lock, site.stack, &site);
     WITHIN_VOID(REAL(g_mutex_unlock)(lock));
+    LEAVE(turn);
 }
 
 EXPORT void g_mutex_init(void *lock) {
@@ -58,10 +65,34 @@ EXPORT void g_mutex_clear(void *lock) {
     tell_if(!is_inside, R_NEW, lock, &site);
 }
 
+/* As wait_by_turns of recorder.c. */
+static int wait_by_turns(const struct call_of_schedule *turn, void *condition, void *lock, struct site *taken) {
+    struct site site = *taken;
+    WITHIN_VOID(REAL(g_mutex_unlock)(lock));
+    LEAVE(turn);
+    int was_woken = !comes_next(R_LOCK);
+    if (was_woken) {
+        turn = ENTER(R_TAKE, condition, 0);
+        tell(R_TAKE, condition, 0, &site);
+        LEAVE(turn);
+    }
+    turn = ENTER(R_LOCK, lock, 0);
+    struct wait *wait = will_wait(WAITS_FOR_LOCK, (uint64_t)lock, &site);
+    WITHIN_VOID(REAL(g_mutex_lock)(lock));
+    has_waited(wait);
+    acquired(R_LOCK, lock, &site);
+    LEAVE(turn);
+    return was_woken;
+}
+
 EXPORT void g_cond_wait(void *condition, void *lock) {
     TAKE_SITE;
     if (is_inside) { REAL(g_cond_wait)(condition, lock); return; }
+    const struct call_of_schedule *turn = ENTER(R_UNLOCK, lock, 0);
     tell(R_UNLOCK, lock, site.stack, &site);
+    if (turn && has_turn(turn)) { wait_by_turns(turn, condition, lock, &site); return; }
+    if (turn) enter_loop_of_wait(turn);
+    LEAVE(turn);
     WITHIN_VOID(REAL(g_cond_wait)(condition, lock));
     tell(R_TAKE, condition, 0, &site);
     acquired(R_LOCK, lock, &site);
@@ -70,7 +101,11 @@ EXPORT void g_cond_wait(void *condition, void *lock) {
 EXPORT int g_cond_wait_until(void *condition, void *lock, int64_t until) {
     TAKE_SITE;
     if (is_inside) return REAL(g_cond_wait_until)(condition, lock, until);
+    const struct call_of_schedule *turn = ENTER(R_UNLOCK, lock, 0);
     tell(R_UNLOCK, lock, site.stack, &site);
+    if (turn && has_turn(turn)) return wait_by_turns(turn, condition, lock, &site);
+    if (turn) enter_loop_of_wait(turn);
+    LEAVE(turn);
     int was_woken = WITHIN(REAL(g_cond_wait_until)(condition, lock, until));
     tell_if(was_woken, R_TAKE, condition, &site);
     acquired(R_LOCK, lock, &site);
@@ -79,14 +114,18 @@ EXPORT int g_cond_wait_until(void *condition, void *lock, int64_t until) {
 
 EXPORT void g_cond_signal(void *condition) {
     TAKE_SITE;
+    const struct call_of_schedule *turn = is_inside ? NULL : ENTER(R_GIVE, condition, 0);
     tell_if(!is_inside, R_GIVE, condition, &site);
     WITHIN_VOID(REAL(g_cond_signal)(condition));
+    LEAVE(turn);
 }
 
 EXPORT void g_cond_broadcast(void *condition) {
     TAKE_SITE;
+    const struct call_of_schedule *turn = is_inside ? NULL : ENTER(R_GIVE, condition, 0);
     tell_if(!is_inside, R_GIVE, condition, &site);
     WITHIN_VOID(REAL(g_cond_broadcast)(condition));
+    LEAVE(turn);
 }
 
 /* ---- C++: the initialisation of a static variable of a function ---- */
@@ -94,15 +133,22 @@ EXPORT void g_cond_broadcast(void *condition) {
 /* Returns 1 in the thread that initialises it. Others come after its end. */
 EXPORT int __cxa_guard_acquire(void *guard) {
     TAKE_SITE;
+    int waits = schedule && comes_next(R_ONCE);
+    const struct call_of_schedule *turn = waits ? ENTER(R_ONCE, guard, 0) : NULL;
     int initialises = WITHIN(REAL(__cxa_guard_acquire)(guard));
-    tell_if(!initialises, R_ONCE, guard, &site);
+    if (initialises) return initialises;
+    if (!waits) turn = ENTER(R_ONCE, guard, 0);
+    tell(R_ONCE, guard, 0, &site);
+    LEAVE(turn);
     return initialises;
 }
 
 EXPORT void __cxa_guard_release(void *guard) {
     TAKE_SITE;
+    const struct call_of_schedule *turn = ENTER(R_GIVE, guard, 0);
     tell(R_GIVE, guard, 0, &site);
     WITHIN_VOID(REAL(__cxa_guard_release)(guard));
+    LEAVE(turn);
 }
 
 /* ---- futex calls ---- */
@@ -136,9 +182,9 @@ long goodlock_futex(long number, uint32_t *address, long operation, long value, 
     TAKE_SITE;
     if (what == FUTEX_WAIT || what == FUTEX_WAIT_BITSET) __atomic_fetch_add(&to->futexes, 1, __ATOMIC_RELAXED);
     if (what == FUTEX_WAIT) __atomic_store_n(waited_at(address), 1, __ATOMIC_SEQ_CST);
-    if (what == FUTEX_WAKE && __atomic_load_n(waited_at(address), __ATOMIC_SEQ_CST)) tell(R_GIVE, address, 0, &site);
+    if (what == FUTEX_WAKE && __atomic_load_n(waited_at(address), __ATOMIC_SEQ_CST)) tell(R_GIVE, address, BY_FUTEX, &site);
     long result = goodlock_real_syscall(number, address, operation, value, time, second, third);
-    if (what == FUTEX_WAIT && result == 0) tell(R_TAKE, address, 0, &site);
+    if (what == FUTEX_WAIT && result == 0) tell(R_TAKE, address, BY_FUTEX, &site);
     return result;
 }
 #endif

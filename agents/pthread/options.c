@@ -6,7 +6,8 @@
 
 enum { MOST_CONFIGURED = 64, CONFIGURED_BYTES = 1 << 16, FAILED = 3, MOST_SECONDS = 86400 };
 
-static const struct options defaults = {.bound = 4, .error_status = -1, .frames = 1, .window = MOST_EVENTS, .seconds = 60, .on_deadlock = "report"};
+static const struct options defaults = {.bound = 4, .error_status = -1, .frames = 1, .window = MOST_EVENTS, .seconds = 60, .on_deadlock = "report",
+                                        .most_logged = 1 << 30};
 struct options options;
 
 void refuse(const char *what) {
@@ -21,11 +22,24 @@ static uint32_t value_of(const char *word, uint32_t least, uint32_t most, const 
     return (uint32_t)value;
 }
 
+/* A number of bytes, which may end with K, M or G. */
+static uint64_t size_of(const char *word) {
+    static const char units[] = "KMG";
+    char *end;
+    unsigned long long value = strtoull(word, &end, 10);
+    const char *unit = *end ? strchr(units, *end) : NULL;
+    int shift = unit ? (int)(unit - units + 1) * 10 : 0;
+    if (end == word || word[0] == '-' || (*end && !unit) || (unit && end[1]) || value >> 40 || value << shift >> 44)
+        refuse("--keep-log is a number of bytes, with K, M or G if you like");
+    return value << shift;
+}
+
 static char **read_options(int count, char **words) {
     static const struct option known[] = {{"bound", 1, 0, 'b'}, {"out", 1, 0, 'o'}, {"server", 1, 0, 's'}, {"error-exitcode", 1, 0, 'e'},
                                           {"stacks", 1, 0, 't'}, {"window", 1, 0, 'w'}, {"no-config", 0, 0, 'n'}, {"suppress", 1, 0, '0'},
                                           {"baseline", 1, 0, '1'}, {"fail-on", 1, 0, '2'}, {"root", 1, 0, '3'}, {"on-deadlock", 1, 0, 'd'},
-                                          {"seconds", 1, 0, 'l'}, {"allow-partial", 0, 0, 'p'}, {"trace-children", 0, 0, 'c'},
+                                          {"seconds", 1, 0, 'l'}, {"keep-log", 1, 0, 'k'}, {"follow", 1, 0, 'f'}, {"patience-ms", 1, 0, 'm'},
+                                          {"leave-deadlock", 0, 0, 'g'}, {"allow-partial", 0, 0, 'p'}, {"trace-children", 0, 0, 'c'},
                                           {0, 0, 0, 0}};
     char here[PATHS] = "", *out = "goodlock";
     opterr = optind = 0;
@@ -40,6 +54,10 @@ static char **read_options(int count, char **words) {
             if (!*(options.on_deadlock = optarg)) refuse("--on-deadlock is report, kill, or a command");
             break;
         case 'l': options.seconds = value_of(optarg, 1, MOST_SECONDS, "--seconds is 1 to 86400"); break;
+        case 'f': options.schedule = optarg; break;
+        case 'm': options.patience = value_of(optarg, 1, 1000 * MOST_SECONDS, "--patience is a number of seconds"); break;
+        case 'g': options.leaves_deadlock = 1; break;
+        case 'k': options.most_logged = size_of(optarg); break;
         case 'p': options.allows_partial = 1; break;
         case 'c': options.follows_others = 1; break;
         case 'n': options.has_no_config = 1; break;

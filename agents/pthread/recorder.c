@@ -9,8 +9,6 @@
 #include <link.h>
 #include <semaphore.h>
 #include <signal.h>
-#include <spawn.h>
-#include <stdarg.h>
 #include <stdio.h>
 #include <stdlib.h>
 #include <string.h>
@@ -26,12 +24,10 @@
 enum { STARTS = 4096, LINES = 1 << 20, PAGES = 1 << 16, SECONDS_WITHOUT_PROGRESS = 30, MOST_TEXT = 1000, MOST_TRIES = 10000, ANY_LINE = 0x0f };
 enum { TYPE = 3, ROBUST = 16, INHERITS = 32 }; /* parts of a mutex's kind in glibc */
 
-#define NAME "GOODLOCK_RING="
-
 struct start { uint32_t taken, number; void *(*run)(void *); int (*run_c11)(void *); void *argument; uint64_t stack_size; };
 
 struct page page __attribute__((aligned(4096)));
-static struct ring *mapped; /* that of GOODLOCK_RING, also in a process that does not record */
+struct ring *mapped; /* that of GOODLOCK_RING, also in a process that does not record */
 static uint32_t is_claimed;
 static uint64_t default_stack_size;
 static struct start starts[STARTS];
@@ -43,6 +39,7 @@ THREAD_LOCAL uint64_t stack_low, stack_high;
 static THREAD_LOCAL void (*once_routine)(void);
 static THREAD_LOCAL void *once_control;
 static THREAD_LOCAL int is_finding_free;
+static THREAD_LOCAL uint32_t tid;
 THREAD_LOCAL uint64_t stated;
 
 /* ---- the real functions ---- */
@@ -57,8 +54,7 @@ THREAD_LOCAL uint64_t stated;
     X(pthread_rwlock_trywrlock) X(pthread_rwlock_timedwrlock) X(pthread_rwlock_clockwrlock) X(pthread_rwlock_unlock) \
     X(pthread_rwlock_init) X(pthread_rwlock_destroy) X(sem_post) X(sem_wait) X(sem_trywait) X(sem_timedwait) X(sem_clockwait) \
     X(mtx_lock) X(mtx_trylock) X(mtx_timedlock) X(mtx_unlock) X(mtx_init) X(mtx_destroy) X(cnd_wait) X(cnd_timedwait) \
-    X(cnd_signal) X(cnd_broadcast) X(thrd_create) X(thrd_join) X(call_once) X(munmap) X(free) X(realloc) \
-    X(execve) X(execv) X(execvp) X(execvpe) X(fexecve) X(posix_spawn) X(posix_spawnp)
+    X(cnd_signal) X(cnd_broadcast) X(thrd_create) X(thrd_join) X(call_once) X(munmap) X(free) X(realloc)
 #define DECLARE(name) static __typeof__(&name) real_##name;
 REALS(DECLARE)
 static size_t (*real_malloc_usable_size)(void *); /* NULL if it does not belong to the same allocator as `free` */
@@ -150,17 +146,22 @@ static int forget(uint64_t from, uint64_t end) {
     return 1;
 }
 
+int is_recorded(void) {
+    if (page.ring && self == NOBODY) number_self(0);
+    return page.ring && self != NOBODY;
+}
+
 void acquired(enum kind kind, const volatile void *lock, const struct site *site) {
     remember((uint64_t)lock);
+    if (schedule) note_acquired((uint64_t)lock, site->callers[0]);
     tell(kind, lock, site->stack, site);
 }
 
 struct wait *will_wait(uint32_t kind, uint64_t address, const struct site *site) {
-    struct ring *to = page.ring;
-    if (to && self == NOBODY) number_self(0), to = page.ring;
-    if (!to || self == NOBODY) return NULL;
-    struct wait *wait = &to->waits[self % WAITS];
-    wait->thread = self, wait->kind = kind, wait->frames = site->count;
+    if (!is_recorded()) return NULL;
+    if (!tid) tid = (uint32_t)syscall(SYS_gettid);
+    struct wait *wait = &page.ring->waits[self % WAITS];
+    wait->thread = self, wait->kind = kind, wait->frames = site->count, wait->tid = tid;
     for (uint32_t at = 0; at < site->count; at++) wait->callers[at] = site->callers[at];
     __atomic_store_n(&wait->address, address, __ATOMIC_RELEASE);
     return wait;
@@ -235,7 +236,8 @@ static struct start *new_start(uint64_t stack_size) {
         struct start *start = &starts[at % STARTS];
         uint32_t is_free = 0;
         if (!__atomic_compare_exchange_n(&start->taken, &is_free, 1, 0, __ATOMIC_ACQUIRE, __ATOMIC_RELAXED)) continue;
-        start->number = __atomic_fetch_add(&page.ring->threads, 1, __ATOMIC_RELAXED), start->stack_size = stack_size;
+        start->number = schedule ? number_of_child() : NOBODY, start->stack_size = stack_size;
+        if (start->number == NOBODY) start->number = __atomic_fetch_add(&page.ring->threads, 1, __ATOMIC_RELAXED);
         return start;
     }
     return NULL;
@@ -246,8 +248,14 @@ static void give_up_start(struct start *start, uint32_t number, const struct sit
     tell(R_UNSTARTED, NULL, number, site);
 }
 
+static void has_started(uint32_t number, uint64_t handle, const struct site *site) {
+    note_handle(number, handle);
+    tell(R_NAMED, (void *)handle, number, site);
+}
+
 static void tell_end(void *unused) {
     struct site none = {.count = 0};
+    if (schedule) end_lane();
     tell(R_END, unused, 0, &none);
 }
 
@@ -257,6 +265,7 @@ static struct start begin_thread(struct start *shared, void *frame) {
     struct site high = {.count = 1};
     __atomic_store_n(&shared->taken, 0, __ATOMIC_RELEASE);
     self = start.number;
+    if (schedule) begin_lane();
     stack_high = (uint64_t)frame, stack_low = stack_high - (start.stack_size < stack_high ? start.stack_size : 0);
     high.callers[0] = stack_high;
     tell(R_START, (void *)pthread_self(), stack_low, &high);
@@ -289,10 +298,12 @@ EXPORT int pthread_create(pthread_t *handle, const pthread_attr_t *attributes, v
     if (!records_start() || !(start = new_start(stack_size))) return REAL(pthread_create)(handle, attributes, run, argument);
     start->run = run, start->argument = argument;
     uint32_t number = start->number;
+    const struct call_of_schedule *turn = ENTER(R_FORK, number, 0);
     tell(R_FORK, NULL, number, &site);
     int error = REAL(pthread_create)(handle, attributes, begin, start);
     if (error) give_up_start(start, number, &site);
-    else tell(R_NAMED, (void *)*handle, number, &site);
+    else has_started(number, (uint64_t)*handle, &site);
+    LEAVE(turn);
     return error;
 }
 
@@ -302,38 +313,44 @@ EXPORT int thrd_create(thrd_t *handle, thrd_start_t run, void *argument) {
     if (!records_start() || !(start = new_start(default_stack_size))) return REAL(thrd_create)(handle, run, argument);
     start->run_c11 = run, start->argument = argument;
     uint32_t number = start->number;
+    const struct call_of_schedule *turn = ENTER(R_FORK, number, 0);
     tell(R_FORK, NULL, number, &site);
     int error = REAL(thrd_create)(handle, begin_c11, start);
     if (error != thrd_success) give_up_start(start, number, &site);
-    else tell(R_NAMED, (void *)*handle, number, &site);
+    else has_started(number, (uint64_t)*handle, &site);
+    LEAVE(turn);
     return error;
 }
 
 static void clean_wait(void *raw) { has_waited(*(struct wait **)raw); }
 
 /* A join may be cancelled: then the thread does not wait any more, and nothing else is recorded. */
-#define JOIN(is_blocking, success, call) ({ int error; TAKE_SITE; struct wait *wait = NULL; \
+#define JOIN(is_blocking, success, busy, call) ({ int error; TAKE_SITE; struct wait *wait = NULL; \
+    const struct call_of_schedule *turn = ENTER(R_JOINED, number_of_handle((uint64_t)handle), !is_blocking); \
     tell(R_JOINS, (void *)handle, 0, &site); \
     if (is_blocking) wait = will_wait(WAITS_FOR_THREAD, (uint64_t)handle, &site); \
-    pthread_cleanup_push(clean_wait, &wait); error = call; pthread_cleanup_pop(1); \
-    if (error == (success)) tell(R_JOINED, (void *)handle, 0, &site); \
+    pthread_cleanup_push(clean_wait, &wait); error = turn == &failing_call ? busy : call; pthread_cleanup_pop(1); \
+    if (error == (success)) { tell(R_JOINED, (void *)handle, 0, &site); LEAVE(turn); } \
     error; })
 
-EXPORT int pthread_join(pthread_t handle, void **result) { return JOIN(1, 0, REAL(pthread_join)(handle, result)); }
-EXPORT int pthread_tryjoin_np(pthread_t handle, void **result) { return JOIN(0, 0, REAL(pthread_tryjoin_np)(handle, result)); }
+EXPORT int pthread_join(pthread_t handle, void **result) { return JOIN(1, 0, 0, REAL(pthread_join)(handle, result)); }
+EXPORT int pthread_tryjoin_np(pthread_t handle, void **result) { return JOIN(0, 0, EBUSY, REAL(pthread_tryjoin_np)(handle, result)); }
 EXPORT int pthread_timedjoin_np(pthread_t handle, void **result, const struct timespec *until) {
-    return JOIN(0, 0, REAL(pthread_timedjoin_np)(handle, result, until));
+    return JOIN(0, 0, ETIMEDOUT, REAL(pthread_timedjoin_np)(handle, result, until));
 }
 EXPORT int pthread_clockjoin_np(pthread_t handle, void **result, clockid_t clock, const struct timespec *until) {
-    return JOIN(0, 0, REAL(pthread_clockjoin_np)(handle, result, clock, until));
+    return JOIN(0, 0, ETIMEDOUT, REAL(pthread_clockjoin_np)(handle, result, clock, until));
 }
-EXPORT int thrd_join(thrd_t handle, int *result) { return JOIN(1, thrd_success, REAL(thrd_join)(handle, result)); }
+EXPORT int thrd_join(thrd_t handle, int *result) { return JOIN(1, thrd_success, 0, REAL(thrd_join)(handle, result)); }
 
 /* ---- locks ---- */
 
-static int took(int error, int success, enum kind kind, const volatile void *lock, const struct site *site, struct wait *wait) {
+static int took(int error, int success, enum kind kind, const volatile void *lock, const struct site *site, struct wait *wait,
+                const struct call_of_schedule *turn) {
     has_waited(wait);
-    if (error == success || error == EOWNERDEAD) acquired(kind, lock, site);
+    if (error != success && error != EOWNERDEAD) return error;
+    acquired(kind, lock, site);
+    LEAVE(turn);
     return error;
 }
 
@@ -349,19 +366,27 @@ static enum kind unlock_of(const void *lock) {
 }
 
 /* A blocking acquire: the thread shows what it waits for until it has the lock. */
-#define BLOCKING(kind, lock, success, call) ({ TAKE_SITE; struct wait *wait = will_wait(WAITS_FOR_LOCK, (uint64_t)(lock), &site); \
-    took(call, success, kind, lock, &site, wait); })
-#define ATTEMPT(kind, lock, success, call) ({ TAKE_SITE; took(call, success, kind, lock, &site, NULL); })
-#define RELEASE(kind, lock, call) ({ TAKE_SITE; tell(kind, lock, site.stack, &site); call; })
+#define BLOCKING(kind, lock, success, call) BLOCKING_AS(WAITS_FOR_LOCK, kind, lock, success, call)
+#define BLOCKING_AS(how, kind, lock, success, call) ({ TAKE_SITE; const struct call_of_schedule *turn = ENTER(kind, lock, 0); \
+    struct wait *wait = will_wait(how, (uint64_t)(lock), &site); \
+    took(call, success, kind, lock, &site, wait, turn); })
+/* If it is the turn of an attempt, it waits for those that are about to release the lock. */
+#define ATTEMPT(kind, lock, success, busy, call) ({ TAKE_SITE; const struct call_of_schedule *turn = ENTER(kind, lock, 1); \
+    int error = turn == &failing_call ? busy : call; \
+    while (error == (busy) && may_retry(turn)) error = call; \
+    took(error, success, kind, lock, &site, NULL, turn); })
+#define RELEASE(which, lock, call) ({ TAKE_SITE; enum kind how = which; \
+    const struct call_of_schedule *turn = ENTER(how == R_UNLOCK_OWN ? R_UNLOCK : how, lock, 0); \
+    tell(how, lock, site.stack, &site); int error = call; LEAVE(turn); error; })
 #define RENEW(object, call) ({ TAKE_SITE; int error = call; tell_if(!error, R_NEW, object, &site); error; })
 
 EXPORT int pthread_mutex_lock(pthread_mutex_t *lock) { return BLOCKING(R_LOCK, lock, 0, REAL(pthread_mutex_lock)(lock)); }
-EXPORT int pthread_mutex_trylock(pthread_mutex_t *lock) { return ATTEMPT(R_TRIED, lock, 0, REAL(pthread_mutex_trylock)(lock)); }
+EXPORT int pthread_mutex_trylock(pthread_mutex_t *lock) { return ATTEMPT(R_TRIED, lock, 0, EBUSY, REAL(pthread_mutex_trylock)(lock)); }
 EXPORT int pthread_mutex_timedlock(pthread_mutex_t *lock, const struct timespec *until) {
-    return ATTEMPT(R_TIMED, lock, 0, REAL(pthread_mutex_timedlock)(lock, until));
+    return ATTEMPT(R_TIMED, lock, 0, ETIMEDOUT, REAL(pthread_mutex_timedlock)(lock, until));
 }
 EXPORT int pthread_mutex_clocklock(pthread_mutex_t *lock, clockid_t clock, const struct timespec *until) {
-    return ATTEMPT(R_TIMED, lock, 0, REAL(pthread_mutex_clocklock)(lock, clock, until));
+    return ATTEMPT(R_TIMED, lock, 0, ETIMEDOUT, REAL(pthread_mutex_clocklock)(lock, clock, until));
 }
 EXPORT int pthread_mutex_unlock(pthread_mutex_t *lock) { return RELEASE(unlock_of(lock), lock, REAL(pthread_mutex_unlock)(lock)); }
 EXPORT int pthread_mutex_init(pthread_mutex_t *lock, const pthread_mutexattr_t *attributes) {
@@ -369,16 +394,16 @@ EXPORT int pthread_mutex_init(pthread_mutex_t *lock, const pthread_mutexattr_t *
 }
 EXPORT int pthread_mutex_destroy(pthread_mutex_t *lock) { return RENEW(lock, REAL(pthread_mutex_destroy)(lock)); }
 
-EXPORT int pthread_spin_lock(pthread_spinlock_t *lock) { return BLOCKING(R_LOCK, lock, 0, REAL(pthread_spin_lock)(lock)); }
-EXPORT int pthread_spin_trylock(pthread_spinlock_t *lock) { return ATTEMPT(R_TRIED, lock, 0, REAL(pthread_spin_trylock)(lock)); }
+EXPORT int pthread_spin_lock(pthread_spinlock_t *lock) { return BLOCKING_AS(SPINS_FOR_LOCK, R_LOCK, lock, 0, REAL(pthread_spin_lock)(lock)); }
+EXPORT int pthread_spin_trylock(pthread_spinlock_t *lock) { return ATTEMPT(R_TRIED, lock, 0, EBUSY, REAL(pthread_spin_trylock)(lock)); }
 EXPORT int pthread_spin_unlock(pthread_spinlock_t *lock) { return RELEASE(R_UNLOCK, lock, REAL(pthread_spin_unlock)(lock)); }
 EXPORT int pthread_spin_init(pthread_spinlock_t *lock, int shared) { return RENEW(lock, REAL(pthread_spin_init)(lock, shared)); }
 EXPORT int pthread_spin_destroy(pthread_spinlock_t *lock) { return RENEW(lock, REAL(pthread_spin_destroy)(lock)); }
 
 EXPORT int mtx_lock(mtx_t *lock) { return BLOCKING(R_LOCK, lock, thrd_success, REAL(mtx_lock)(lock)); }
-EXPORT int mtx_trylock(mtx_t *lock) { return ATTEMPT(R_TRIED, lock, thrd_success, REAL(mtx_trylock)(lock)); }
+EXPORT int mtx_trylock(mtx_t *lock) { return ATTEMPT(R_TRIED, lock, thrd_success, thrd_busy, REAL(mtx_trylock)(lock)); }
 EXPORT int mtx_timedlock(mtx_t *lock, const struct timespec *until) {
-    return ATTEMPT(R_TIMED, lock, thrd_success, REAL(mtx_timedlock)(lock, until));
+    return ATTEMPT(R_TIMED, lock, thrd_success, thrd_timedout, REAL(mtx_timedlock)(lock, until));
 }
 EXPORT int mtx_unlock(mtx_t *lock) { return RELEASE(unlock_of(lock), lock, REAL(mtx_unlock)(lock)); }
 EXPORT int mtx_init(mtx_t *lock, int type) { return RENEW(lock, REAL(mtx_init)(lock, type)); }
@@ -392,25 +417,25 @@ EXPORT int pthread_rwlock_wrlock(pthread_rwlock_t *lock) {
     return BLOCKING(R_WRITE_LOCK, lock, 0, REAL(pthread_rwlock_wrlock)(lock));
 }
 EXPORT int pthread_rwlock_trywrlock(pthread_rwlock_t *lock) {
-    return ATTEMPT(R_WRITE_TRIED, lock, 0, REAL(pthread_rwlock_trywrlock)(lock));
+    return ATTEMPT(R_WRITE_TRIED, lock, 0, EBUSY, REAL(pthread_rwlock_trywrlock)(lock));
 }
 EXPORT int pthread_rwlock_timedwrlock(pthread_rwlock_t *lock, const struct timespec *until) {
-    return ATTEMPT(R_WRITE_TIMED, lock, 0, REAL(pthread_rwlock_timedwrlock)(lock, until));
+    return ATTEMPT(R_WRITE_TIMED, lock, 0, ETIMEDOUT, REAL(pthread_rwlock_timedwrlock)(lock, until));
 }
 EXPORT int pthread_rwlock_clockwrlock(pthread_rwlock_t *lock, clockid_t clock, const struct timespec *until) {
-    return ATTEMPT(R_WRITE_TIMED, lock, 0, REAL(pthread_rwlock_clockwrlock)(lock, clock, until));
+    return ATTEMPT(R_WRITE_TIMED, lock, 0, ETIMEDOUT, REAL(pthread_rwlock_clockwrlock)(lock, clock, until));
 }
 EXPORT int pthread_rwlock_rdlock(pthread_rwlock_t *lock) {
     return BLOCKING(R_READ_LOCK, lock, 0, REAL(pthread_rwlock_rdlock)(lock));
 }
 EXPORT int pthread_rwlock_tryrdlock(pthread_rwlock_t *lock) {
-    return ATTEMPT(R_READ_LOCK, lock, 0, REAL(pthread_rwlock_tryrdlock)(lock));
+    return ATTEMPT(R_READ_LOCK, lock, 0, EBUSY, REAL(pthread_rwlock_tryrdlock)(lock));
 }
 EXPORT int pthread_rwlock_timedrdlock(pthread_rwlock_t *lock, const struct timespec *until) {
-    return ATTEMPT(R_READ_LOCK, lock, 0, REAL(pthread_rwlock_timedrdlock)(lock, until));
+    return ATTEMPT(R_READ_LOCK, lock, 0, ETIMEDOUT, REAL(pthread_rwlock_timedrdlock)(lock, until));
 }
 EXPORT int pthread_rwlock_clockrdlock(pthread_rwlock_t *lock, clockid_t clock, const struct timespec *until) {
-    return ATTEMPT(R_READ_LOCK, lock, 0, REAL(pthread_rwlock_clockrdlock)(lock, clock, until));
+    return ATTEMPT(R_READ_LOCK, lock, 0, ETIMEDOUT, REAL(pthread_rwlock_clockrdlock)(lock, clock, until));
 }
 EXPORT int pthread_rwlock_unlock(pthread_rwlock_t *lock) {
     return RELEASE(R_UNLOCK_EITHER, lock, REAL(pthread_rwlock_unlock)(lock));
@@ -422,17 +447,22 @@ EXPORT int pthread_rwlock_destroy(pthread_rwlock_t *lock) { return RENEW(lock, R
 
 /* ---- orders ---- */
 
-#define GIVE(object, call) ({ TAKE_SITE; tell(R_GIVE, object, 0, &site); call; })
-#define TAKE(object, call) ({ TAKE_SITE; int error = call; tell_if(!error, R_TAKE, object, &site); error; })
+#define GIVE(object, call) ({ TAKE_SITE; const struct call_of_schedule *turn = ENTER(R_GIVE, object, 0); \
+    tell(R_GIVE, object, 0, &site); int error = call; LEAVE(turn); error; })
+/* `fault`: errno of an attempt that fails, 0 if the call waits. */
+#define TAKE(object, fault, call) ({ TAKE_SITE; const struct call_of_schedule *turn = ENTER(R_TAKE, object, fault); \
+    int error = turn == &failing_call ? (errno = fault, -1) : call; \
+    if (!error) { tell(R_TAKE, object, 0, &site); LEAVE(turn); } \
+    error; })
 
 EXPORT int sem_post(sem_t *semaphore) { return GIVE(semaphore, REAL(sem_post)(semaphore)); }
-EXPORT int sem_wait(sem_t *semaphore) { return TAKE(semaphore, REAL(sem_wait)(semaphore)); }
-EXPORT int sem_trywait(sem_t *semaphore) { return TAKE(semaphore, REAL(sem_trywait)(semaphore)); }
+EXPORT int sem_wait(sem_t *semaphore) { return TAKE(semaphore, 0, REAL(sem_wait)(semaphore)); }
+EXPORT int sem_trywait(sem_t *semaphore) { return TAKE(semaphore, EAGAIN, REAL(sem_trywait)(semaphore)); }
 EXPORT int sem_timedwait(sem_t *semaphore, const struct timespec *until) {
-    return TAKE(semaphore, REAL(sem_timedwait)(semaphore, until));
+    return TAKE(semaphore, ETIMEDOUT, REAL(sem_timedwait)(semaphore, until));
 }
 EXPORT int sem_clockwait(sem_t *semaphore, clockid_t clock, const struct timespec *until) {
-    return TAKE(semaphore, REAL(sem_clockwait)(semaphore, clock, until));
+    return TAKE(semaphore, ETIMEDOUT, REAL(sem_clockwait)(semaphore, clock, until));
 }
 EXPORT int pthread_cond_signal(pthread_cond_t *condition) { return GIVE(condition, REAL(pthread_cond_signal)(condition)); }
 EXPORT int pthread_cond_broadcast(pthread_cond_t *condition) { return GIVE(condition, REAL(pthread_cond_broadcast)(condition)); }
@@ -441,9 +471,14 @@ EXPORT int cnd_broadcast(cnd_t *condition) { return GIVE(condition, REAL(cnd_bro
 
 EXPORT int pthread_barrier_wait(pthread_barrier_t *barrier) {
     TAKE_SITE;
+    const struct call_of_schedule *turn = ENTER(R_GIVE, barrier, 0);
     tell(R_GIVE, barrier, 0, &site);
+    LEAVE(turn);
     int error = REAL(pthread_barrier_wait)(barrier);
-    if (error == 0 || error == PTHREAD_BARRIER_SERIAL_THREAD) tell(R_TAKE, barrier, 0, &site);
+    if (error != 0 && error != PTHREAD_BARRIER_SERIAL_THREAD) return error;
+    turn = ENTER(R_TAKE, barrier, 0);
+    tell(R_TAKE, barrier, 0, &site);
+    LEAVE(turn);
     return error;
 }
 
@@ -458,24 +493,49 @@ static void took_again(void *raw) {
     acquired(R_LOCK, wait->lock, wait->site);
 }
 
-#define WAIT(success, call) ({ TAKE_SITE; struct condition_wait wait = {condition, lock, &site, success, ECANCELED}; \
+/* In a run that follows another one, the thread waits for the turns of what its wait did, and not for the condition: a release, a receive
+ * if it was woken, and an acquire. If the schedule ends meanwhile, it wakes up without a reason. Returns whether it was woken. */
+static int wait_by_turns(const struct call_of_schedule *turn, void *condition, void *lock, struct site *taken) {
+    struct site site = *taken;
+    REAL(pthread_mutex_unlock)(lock);
+    LEAVE(turn);
+    int was_woken = !comes_next(R_LOCK);
+    if (was_woken) {
+        turn = ENTER(R_TAKE, condition, 0);
+        tell(R_TAKE, condition, 0, &site);
+        LEAVE(turn);
+    }
+    turn = ENTER(R_LOCK, lock, 0);
+    struct wait *wait = will_wait(WAITS_FOR_LOCK, (uint64_t)lock, &site);
+    took(REAL(pthread_mutex_lock)(lock), 0, R_LOCK, lock, &site, wait, turn);
+    return was_woken;
+}
+
+#define WAIT(success, timeout, call) ({ TAKE_SITE; struct condition_wait wait = {condition, lock, &site, success, ECANCELED}; \
+    const struct call_of_schedule *turn = ENTER(R_UNLOCK, lock, 0); \
     tell(unlock_of(lock), lock, site.stack, &site); \
-    pthread_cleanup_push(took_again, &wait); wait.error = call; pthread_cleanup_pop(1); wait.error; })
+    if (schedule && has_turn(turn)) wait.error = wait_by_turns(turn, condition, lock, &site) ? success : timeout; \
+    else { \
+        if (turn) enter_loop_of_wait(turn); \
+        LEAVE(turn); \
+        pthread_cleanup_push(took_again, &wait); wait.error = call; pthread_cleanup_pop(1); \
+    } \
+    wait.error; })
 /* With another number of nanoseconds a wait fails before it releases the lock. */
-#define TIMED_WAIT(success, call) (until->tv_nsec < 0 || until->tv_nsec >= 1000000000 ? call : WAIT(success, call))
+#define TIMED_WAIT(success, timeout, call) (until->tv_nsec < 0 || until->tv_nsec >= 1000000000 ? call : WAIT(success, timeout, call))
 
 EXPORT int pthread_cond_wait(pthread_cond_t *condition, pthread_mutex_t *lock) {
-    return WAIT(0, REAL(pthread_cond_wait)(condition, lock));
+    return WAIT(0, 0, REAL(pthread_cond_wait)(condition, lock));
 }
 EXPORT int pthread_cond_timedwait(pthread_cond_t *condition, pthread_mutex_t *lock, const struct timespec *until) {
-    return TIMED_WAIT(0, REAL(pthread_cond_timedwait)(condition, lock, until));
+    return TIMED_WAIT(0, ETIMEDOUT, REAL(pthread_cond_timedwait)(condition, lock, until));
 }
 EXPORT int pthread_cond_clockwait(pthread_cond_t *condition, pthread_mutex_t *lock, clockid_t clock, const struct timespec *until) {
-    return TIMED_WAIT(0, REAL(pthread_cond_clockwait)(condition, lock, clock, until));
+    return TIMED_WAIT(0, ETIMEDOUT, REAL(pthread_cond_clockwait)(condition, lock, clock, until));
 }
-EXPORT int cnd_wait(cnd_t *condition, mtx_t *lock) { return WAIT(thrd_success, REAL(cnd_wait)(condition, lock)); }
+EXPORT int cnd_wait(cnd_t *condition, mtx_t *lock) { return WAIT(thrd_success, thrd_success, REAL(cnd_wait)(condition, lock)); }
 EXPORT int cnd_timedwait(cnd_t *condition, mtx_t *lock, const struct timespec *until) {
-    return TIMED_WAIT(thrd_success, REAL(cnd_timedwait)(condition, lock, until));
+    return TIMED_WAIT(thrd_success, thrd_timedout, REAL(cnd_timedwait)(condition, lock, until));
 }
 
 /* The thread that runs the routine gives at its end; each thread whose call returns receives. */
@@ -483,17 +543,24 @@ static void run_once(void) {
     void *control = once_control;
     struct site none = {.count = 0};
     once_routine();
+    const struct call_of_schedule *turn = schedule ? enter(R_GIVE, (uint64_t)control, &none, 0) : NULL;
     tell(R_GIVE, control, 0, &none);
+    LEAVE(turn);
 }
 
 EXPORT int pthread_once(pthread_once_t *control, void (*routine)(void)) {
     void (*outer)(void) = once_routine, *outer_control = once_control;
     if (!page.ring) return REAL(pthread_once)(control, routine);
     TAKE_SITE;
+    int waits = schedule && comes_next(R_ONCE); /* else this thread runs the routine, whose calls come first */
+    const struct call_of_schedule *turn = waits ? ENTER(R_ONCE, control, 0) : NULL;
     once_routine = routine, once_control = control;
     int error = REAL(pthread_once)(control, run_once);
     once_routine = outer, once_control = outer_control;
-    if (!error) tell(R_ONCE, control, 0, &site);
+    if (error) return error;
+    if (!waits) turn = ENTER(R_ONCE, control, 0);
+    tell(R_ONCE, control, 0, &site);
+    LEAVE(turn);
     return error;
 }
 
@@ -501,10 +568,14 @@ EXPORT void call_once(once_flag *control, void (*routine)(void)) {
     void (*outer)(void) = once_routine, *outer_control = once_control;
     if (!page.ring) { REAL(call_once)(control, routine); return; }
     TAKE_SITE;
+    int waits = schedule && comes_next(R_ONCE);
+    const struct call_of_schedule *turn = waits ? ENTER(R_ONCE, control, 0) : NULL;
     once_routine = routine, once_control = control;
     REAL(call_once)(control, run_once);
     once_routine = outer, once_control = outer_control;
+    if (!waits) turn = ENTER(R_ONCE, control, 0);
     tell(R_ONCE, control, 0, &site);
+    LEAVE(turn);
 }
 
 /* ---- memory: a lock in freed memory ends ---- */
@@ -657,70 +728,9 @@ static int claim(int starts_thread) {
     return 1;
 }
 
-/* A program that is started with another environment is not seen. `change`: 1, or -1 if it did not start. */
-static void count_cleared(char *const environment[], int change) {
-    for (; environment && *environment; environment++) if (!strncmp(*environment, NAME, sizeof NAME - 1)) return;
-    if (mapped) __atomic_fetch_add(&mapped->cleared, (uint32_t)change, __ATOMIC_RELAXED);
-}
-
-/* The next program of the process may come without this library: only if it has it, the process is seen again. */
-static struct ring *before_exec(char *const environment[]) {
-    struct ring *to = page.ring;
-    uint32_t mine = (uint32_t)getpid();
-    count_cleared(environment, 1);
-    if (!to || mine != to->program || (to->owner && to->owner != mine)) return NULL;
-    to->attached = 0;
-    return to;
-}
-
-static int exec_failed(struct ring *to, char *const environment[]) {
-    int before = errno;
-    count_cleared(environment, -1);
-    if (to) to->attached = 1;
-    errno = before;
-    return -1;
-}
-
-#define EXEC(environment, call) ({ struct ring *to = before_exec(environment); (void)call; exec_failed(to, environment); })
-
-EXPORT int execve(const char *path, char *const words[], char *const environment[]) {
-    return EXEC(environment, REAL(execve)(path, words, environment));
-}
-EXPORT int execv(const char *path, char *const words[]) { return EXEC(environ, REAL(execv)(path, words)); }
-EXPORT int execvp(const char *name, char *const words[]) { return EXEC(environ, REAL(execvp)(name, words)); }
-EXPORT int execvpe(const char *name, char *const words[], char *const environment[]) {
-    return EXEC(environment, REAL(execvpe)(name, words, environment));
-}
-EXPORT int fexecve(int file, char *const words[], char *const environment[]) {
-    return EXEC(environment, REAL(fexecve)(file, words, environment));
-}
-
-/* The words of a call with a list of arguments, on the stack as in the C library. `execle` has the environment after its last word. */
-#define EXEC_LIST(has_environment, call) ({ va_list list; size_t count = 1; char **environment = environ; \
-    va_start(list, first); while (va_arg(list, char *)) count++; va_end(list); \
-    char *words[count + 1]; \
-    va_start(list, first); words[0] = (char *)first; \
-    for (size_t at = 1; at <= count; at++) words[at] = va_arg(list, char *); \
-    if (has_environment) environment = va_arg(list, char **); \
-    va_end(list); EXEC(environment, call); })
-
-EXPORT int execl(const char *path, const char *first, ...) { return EXEC_LIST(0, REAL(execv)(path, words)); }
-EXPORT int execlp(const char *name, const char *first, ...) { return EXEC_LIST(0, REAL(execvp)(name, words)); }
-EXPORT int execle(const char *path, const char *first, ...) { return EXEC_LIST(1, REAL(execve)(path, words, environment)); }
-
-#define SPAWN(call) ({ int error = call; if (!error) count_cleared(environment, 1); error; })
-
-EXPORT int posix_spawn(pid_t *process, const char *path, const posix_spawn_file_actions_t *actions, const posix_spawnattr_t *attributes,
-                       char *const words[], char *const environment[]) {
-    return SPAWN(REAL(posix_spawn)(process, path, actions, attributes, words, environment));
-}
-EXPORT int posix_spawnp(pid_t *process, const char *name, const posix_spawn_file_actions_t *actions, const posix_spawnattr_t *attributes,
-                        char *const words[], char *const environment[]) {
-    return SPAWN(REAL(posix_spawnp)(process, name, actions, attributes, words, environment));
-}
-
 /* Another process is not in this trace, except if its parent has recorded nothing. */
 static void in_child(void) {
+    tid = 0;
     page.ring = is_claimed ? NULL : mapped;
 }
 
@@ -749,6 +759,7 @@ __attribute__((constructor)) static void at_start(void) {
     find_libraries();
     if (!path) return;
     find_reals();
+    find_starts();
     struct ring *found = map_ring(path);
     if (!found) return;
     if (pthread_getattr_default_np(&attributes) == 0) {
@@ -764,5 +775,6 @@ __attribute__((constructor)) static void at_start(void) {
     mapped = found;
     if (found->owner && found->owner != (uint32_t)getpid()) return;
     found->attached = 1;
+    begin_schedule(); /* its own calls are not recorded */
     page.ring = found;
 }

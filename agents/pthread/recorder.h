@@ -1,4 +1,5 @@
-/* Shared by the files of the recorder: recorder.c has the events and the calls of the C library, libraries.c those of other libraries. */
+/* Shared by the files of the recorder: recorder.c has the events and the calls of the C library, libraries.c those of other libraries, follow.c
+ * and pause.c what a run needs that follows a recorded one. */
 #define _GNU_SOURCE
 #include "ring.h"
 
@@ -13,6 +14,7 @@ struct site { uint32_t count; uint64_t stack, callers[MOST_FRAMES]; };
 
 /* A child by `fork`, `_Fork` or `clone` finds this page filled with zeros. ring: NULL if nothing is recorded. */
 extern struct page { struct ring *ring; char rest[4096 - sizeof(struct ring *)]; } page;
+extern struct ring *mapped;
 extern THREAD_LOCAL uint32_t self;
 extern THREAD_LOCAL uint64_t stack_low, stack_high;
 extern THREAD_LOCAL uint64_t stated; /* the caller of this thread's next calls, if the program states it */
@@ -42,5 +44,41 @@ void has_waited(struct wait *wait);
 /* A library that the program loads for itself has a function of this name that RTLD_NEXT does not find. Then this library must not come before
  * it: the loader passes over a symbol without a value. */
 void hide_unless_next(const char *name, void *own);
-/* In libraries.c. */
+/* In libraries.c and programs.c. */
 void find_libraries(void);
+void find_starts(void);
+
+/* Whether this thread records. It is numbered from then on. */
+int is_recorded(void);
+
+/* ---- follow.c: nothing of this happens if there is no schedule ---- */
+
+struct schedule;
+struct call_of_schedule;
+extern const struct schedule *schedule;
+extern const struct call_of_schedule failing_call;
+/* Maps the schedule, if there is one. */
+void begin_schedule(void);
+/* Before a call of the program: waits for its turn. Returns what `leave` takes after the call if that has succeeded, or NULL. `may_fail`: a call
+ * that failed in the recorded run has to fail, which is `failing_call`. */
+const struct call_of_schedule *enter(enum kind kind, uint64_t object, struct site *site, int may_fail);
+void leave(const struct call_of_schedule *call);
+/* Whether an attempt that has failed is to be made again: its turn has come. Waits a little. */
+int may_retry(const struct call_of_schedule *call);
+/* Whether a wait on a condition that begins with this call is made by turns. If not, the real wait acquires the lock again. */
+int has_turn(const struct call_of_schedule *call);
+void enter_loop_of_wait(const struct call_of_schedule *call);
+/* Whether the thread's next call in the recorded run was of this kind. */
+int comes_next(enum kind kind);
+/* The number of this thread's next child in the recorded run, or NOBODY; which thread has a handle. */
+uint32_t number_of_child(void);
+void note_handle(uint32_t number, uint64_t handle);
+uint32_t number_of_handle(uint64_t handle);
+/* In a run without a witness: what this thread holds. */
+void note_acquired(uint64_t object, uint64_t caller);
+/* The thread's function begins, and has ended. */
+void begin_lane(void);
+void end_lane(void);
+
+#define ENTER(kind, object, may_fail) (schedule ? enter(kind, (uint64_t)(object), &site, may_fail) : NULL)
+#define LEAVE(call) ((call) ? leave(call) : (void)0)

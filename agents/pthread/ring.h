@@ -21,7 +21,7 @@ enum kind {
     R_UNLOCK,                    /* before a release */
     R_WRITE_LOCK, R_WRITE_TRIED, R_WRITE_TIMED, R_READ_LOCK, R_UNLOCK_EITHER, /* the same for reader-writer locks */
     R_UNLOCK_OWN,                /* before a release that fails if the thread does not hold the lock */
-    /* orders; address: what is handed over */
+    /* orders; address: what is handed over, other: BY_FUTEX, or something else */
     R_GIVE,     /* before the giver's call */
     R_TAKE,     /* after the receiver's call */
     R_ONCE,     /* after a call that returns only when an initialisation has ended */
@@ -33,6 +33,9 @@ enum kind {
     R_UNLOADED,  /* `other` bytes at `address` are no library any more */
 };
 
+/* A later run that follows this one makes such a call when it has to, and not in its turn: it may be within a lock that is not seen. */
+enum { BY_FUTEX = 1 };
+
 /* One event of the program, in one cache line. `ready` is its place plus one, and is written last. */
 struct record {
     uint64_t ready, address, other;
@@ -42,13 +45,14 @@ struct record {
     uint8_t unused[4];
 };
 
-enum { WAITS_FOR_LOCK = 1, WAITS_FOR_THREAD };
+enum { WAITS_FOR_LOCK = 1, WAITS_FOR_THREAD, SPINS_FOR_LOCK }; /* what makes no call to wait */
 
 /* What a thread is about to wait for; address is 0 while it does not wait. */
 struct wait {
     uint64_t address;
     uint32_t thread, kind;
-    uint64_t frames, callers[MOST_FRAMES];
+    uint32_t frames, tid; /* tid: the system's number of the thread, 0 if it is not known */
+    uint64_t callers[MOST_FRAMES];
 };
 
 /* A process with threads other than the owner. If it asks, it waits until the collector has made shared memory for it. */

@@ -174,7 +174,14 @@ static void write_libraries_of(FILE *file, const struct modules *modules) {
     }
 }
 
+/* The recorder names the program's own file first. */
+static void write_program(void) {
+    FILE *file = told.count ? create_in_work("program") : NULL;
+    if (file) fprintf(file, "%s\n", told.all[0].path), fclose(file);
+}
+
 void write_libraries(void) {
+    write_program();
     FILE *file = create_in_work("libraries");
     if (!file) return;
     write_libraries_of(file, &told), write_libraries_of(file, &mapped);

@@ -136,7 +136,13 @@ static struct place *count_in(uint64_t address, int bits, int step) {
     return NULL;
 }
 
-struct lock *known_lock(uint64_t address) { return (struct lock *)find_entry(&locks, address); }
+static struct lock *recent; /* a record looks for its lock several times */
+
+struct lock *known_lock(uint64_t address) {
+    if (recent && recent->address == address) return recent;
+    struct lock *lock = (struct lock *)find_entry(&locks, address);
+    return lock ? recent = lock : NULL;
+}
 
 struct lock *find_lock(uint64_t address) {
     struct lock *lock = known_lock(address);
@@ -152,6 +158,7 @@ struct lock *find_lock(uint64_t address) {
 }
 
 void remove_lock(struct lock *lock) {
+    if (recent == lock) recent = NULL;
     leave_stack_of(lock);
     if ((*lock->before = lock->in_page)) lock->in_page->before = lock->before;
     count_in(lock->address, PAGE, -1);
@@ -199,4 +206,5 @@ void each_lock_in(uint64_t from, uint64_t size, void (*act)(struct lock *)) {
 void forget_all(void) {
     while (oldest_thread) remove_thread(oldest_thread);
     clear_table(&locks), clear_table(&places);
+    recent = NULL;
 }

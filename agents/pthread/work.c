@@ -114,6 +114,8 @@ static int is_further(int where, const char *name) {
 
 void remove_earlier(void) {
     char path[PATHS];
+    window_name(path, 1, "calls");
+    unlink(path);
     window_name(path, 1, "report");
     unlink(path);
     *(strrchr(path, '/') + 1) = 0;

@@ -16,6 +16,7 @@ The collector is the one of the agent for pthreads. It is another process, outli
 is given are recorded before the call, an acquire, a join and what is received after it. No thread waits for the agent.
 """
 import _thread
+import atexit
 import collections
 import contextlib
 import importlib.util
@@ -38,9 +39,10 @@ R_GIVE, R_TAKE, R_NEW, R_FORGOTTEN = 19, 20, 22, 25
 WAITS_FOR_LOCK, WAITS_FOR_THREAD = 1, 2
 # The shared memory; collector.c tests that these are the offsets in ring.h.
 NEXT, MAGIC, CONSUMED, THREADS, OWNER, ATTACHED, OFF, FINISHED, SITES_USED, TEXT = 0, 8, 64, 128, 132, 144, 148, 152, 160, 164
+COLLECTOR_NUMBER = 136
 WAITS, SLOTS, SIZE, MOST_WAITS, MOST_SLOTS, MOST_TEXT = 1_048_768, 2_097_344, 18_891_072, 1 << 14, 1 << 18, 1 << 20
 RECORD, NUMBER, PLACE = struct.Struct("<QQIBB30s"), struct.Struct("I"), struct.Struct("Q")  # native: written in one step
-WAIT = struct.Struct("<IIQ5Q")
+WAIT = struct.Struct("<IIII5Q")
 RING_MAGIC = 0x31676E69726C6467
 SECONDS_WITHOUT_PROGRESS = 30
 
@@ -77,6 +79,7 @@ class Recorder:
         self.here.number = 0
         self.sites, self.known, self.registers = {}, {}, REAL_LOCK()  # numbers by text, and by code and line
         self.is_on, self.process = True, os.getpid()
+        self.texts = {}  # of sites, by number
         NUMBER.pack_into(self.memory, OWNER, self.process)
         NUMBER.pack_into(self.memory, ATTACHED, 1)
 
@@ -95,6 +98,7 @@ class Recorder:
             number = MOST_TEXT - used - len(line)
             if number < 1:
                 return 0
+            self.texts[number] = text
             self.memory[TEXT + number : TEXT + number + len(line)] = line
             NUMBER.pack_into(self.memory, SITES_USED, used + len(line))
             self.sites[text] = number
@@ -141,7 +145,10 @@ class Recorder:
             self.write(number, R_UNSEEN, number + 1, 0, ())
             return number
 
-    def new_number(self):
+    def new_number(self, wanted=None):
+        """Returns the number of a new thread: the wanted one, or one that no thread has."""
+        if wanted is not None:
+            return wanted
         number = next(self.numbers)
         NUMBER.pack_into(self.memory, THREADS, number + 1)
         return number
@@ -184,7 +191,8 @@ class Recorder:
             return
         thread, callers = self.number(), self.callers()
         at = WAITS + thread % MOST_WAITS * 64
-        WAIT.pack_into(self.memory, at + 8, thread, kind, len(callers), *(callers + [0] * (5 - len(callers))))
+        tid = threading.get_native_id() if hasattr(threading, "get_native_id") else 0  # since Python 3.8
+        WAIT.pack_into(self.memory, at + 8, thread, kind, len(callers), tid, *(callers + [0] * (5 - len(callers))))
         PLACE.pack_into(self.memory, at, address)
         try:
             yield
@@ -207,6 +215,25 @@ class Recorder:
 
 
 recorder = None  # the one of this process, from `attach` on
+follower = None  # that of a run that follows a recorded one: goodlock_follow.Follower
+
+
+def enter(kind, about, may_fail=False):
+    """Before a call of a run that follows a recorded one: waits for its turn. Returns what `leave` takes after the call."""
+    if follower is None or not recorder.is_recording():
+        return None
+    site = (recorder.callers() or [0])[0]
+    return follower.enter(kind, about, site, recorder.texts.get(site), may_fail)
+
+
+def leave(call):
+    if call is not None:
+        follower.leave(call)
+
+
+def has_to_fail(call):
+    """Whether the call has failed in the recorded run."""
+    return call is not None and call is follower.failing_call
 
 
 class Number:
@@ -236,8 +263,10 @@ def address_of(thing):
 
 def give(thing):
     """What this thread did is before what a receiver does."""
+    call = enter(R_GIVE, address_of(thing))
     recorder.record(R_GIVE, address_of(thing))
     thing.goodlock_receivers = set()
+    leave(call)
 
 
 def receive(thing):
@@ -248,7 +277,9 @@ def receive(thing):
     number = recorder.number()
     if number not in receivers:
         receivers.add(number)  # first: after the set is replaced, what is recorded comes after what was given
+        call = enter(R_TAKE, address_of(thing))
         recorder.record(R_TAKE, address_of(thing))
+        leave(call)
 
 
 def is_of_the_library(depth=2):
@@ -271,26 +302,55 @@ class TracedLock:
         return lock
 
     def acquire(self, blocking=True, timeout=-1):
-        if blocking == 1 and timeout == -1:
-            if not self.within.acquire(False):
-                with recorder.waiting(WAITS_FOR_LOCK, self.address):
-                    self.within.acquire()
-        elif not self.within.acquire(blocking, timeout):
+        kind = R_TRIED if not blocking else R_TIMED if timeout != -1 else R_LOCK
+        if follower is not None:
+            return self.acquire_in_turn(kind, blocking, timeout)
+        if not self.acquire_within(blocking, timeout):
             return False
-        self.has_acquired(R_TRIED if not blocking else R_TIMED if timeout != -1 else R_LOCK)
+        self.has_acquired(kind)
         return True
 
-    def has_acquired(self, kind):
+    def acquire_within(self, blocking, timeout):
+        if blocking != 1 or timeout != -1:
+            return self.within.acquire(blocking, timeout)
+        if not self.within.acquire(False):
+            with recorder.waiting(WAITS_FOR_LOCK, self.address):
+                self.within.acquire()
+        return True
+
+    def acquire_in_turn(self, kind, blocking, timeout):
+        """In a run that follows a recorded one. If it is the turn of an attempt, it waits for those that are about to release the lock."""
+        self.receive_notice()
+        call = enter(kind, self.address, kind != R_LOCK)
+        if has_to_fail(call):
+            return False
+        while not self.acquire_within(blocking, timeout):
+            if not follower.may_retry(call):
+                return False
+        recorder.record(kind, self.address)
+        leave(call)
+        return True
+
+    def receive_notice(self):
+        """A wait on a condition acquires the lock again: what the notifier gave comes first."""
         condition = getattr(recorder.here, "condition", None)
-        if condition is not None:  # a wait acquires the lock again: what the notifier gave comes first
+        if condition is not None:
             recorder.here.condition = None
             receive(condition)
+
+    def has_acquired(self, kind):
+        self.receive_notice()
         recorder.record(kind, self.address)
 
+    def record_in_turn(self, kind):
+        call = enter(kind, self.address)
+        recorder.record(kind, self.address)
+        return call
+
     def release(self):
-        if self.within.locked():
-            recorder.record(R_UNLOCK, self.address)
+        call = self.record_in_turn(R_UNLOCK) if self.within.locked() else None
         self.within.release()
+        leave(call)
 
     acquire_lock, release_lock = acquire, release
 
@@ -320,9 +380,9 @@ class TracedRLock(TracedLock):
     make, is_used_by_library = staticmethod(REAL_RLOCK), False
 
     def release(self):
-        if self.within._is_owned():
-            recorder.record(R_UNLOCK, self.address)
+        call = self.record_in_turn(R_UNLOCK) if self.within._is_owned() else None
         self.within.release()
+        leave(call)
 
     def __enter__(self):
         return self.acquire()
@@ -333,15 +393,21 @@ class TracedRLock(TracedLock):
     def _release_save(self):
         saved = self.within._release_save()
         self.within._acquire_restore(saved)
-        for _ in range(saved[0]):
-            recorder.record(R_UNLOCK, self.address)
-        return self.within._release_save()
+        calls = [self.record_in_turn(R_UNLOCK) for _ in range(saved[0])]
+        saved = self.within._release_save()
+        for call in calls:
+            leave(call)
+        return saved
 
     def _acquire_restore(self, saved):
+        if follower is not None:
+            self.receive_notice()
+        call = enter(R_LOCK, self.address)
         self.within._acquire_restore(saved)
         self.has_acquired(R_LOCK)
+        leave(call)
         for _ in range(1, saved[0]):
-            recorder.record(R_LOCK, self.address)
+            leave(self.record_in_turn(R_LOCK))
 
 
 class Finder:
@@ -504,12 +570,16 @@ def simple_queue(real):
                 address = self.free.pop()
             except IndexError:
                 address = next(recorder.objects)
+            call = enter(R_GIVE, address)
             recorder.record(R_GIVE, address)
             super().put((address, item), block, timeout)
+            leave(call)
 
         def get(self, block=True, timeout=None):
             address, item = super().get(block, timeout)
+            call = enter(R_TAKE, address)
             recorder.record(R_TAKE, address)
+            leave(call)
             self.free.append(address)
             return item
 
@@ -542,7 +612,7 @@ def starts(real):
     def start(thread):
         if not recorder.is_recording() or thread._started.is_set():
             return real(thread)  # raises if it was started before
-        child, run = recorder.new_number(), thread.run
+        child, run = recorder.new_number(follower.number_of_child() if follower else None), thread.run
 
         def numbered():
             recorder.here.number = child
@@ -550,14 +620,18 @@ def starts(real):
                 run()
             finally:
                 vars(thread).pop("run", None)  # it refers to the thread, which would live until the next collection
+                if follower:
+                    follower.end_lane()
                 if recorder.is_on:
                     recorder.write(child, R_END, 0, 0, ())
 
+        call = enter(R_FORK, child)
         recorder.record(R_FORK, 0, child)
         recorder.record(R_NAMED, child + 1, child)
         thread.goodlock_number, thread.run = Number(R_FORGOTTEN, child), numbered
         with recorder.inside():
-            return real(thread)
+            real(thread)
+        leave(call)
 
     return start
 
@@ -568,6 +642,9 @@ def joins(real):
         if number is None or not recorder.is_recording():
             return real(thread, timeout)
         child = number.value
+        call = enter(R_JOINED, child, timeout is not None)
+        if has_to_fail(call):
+            return
         recorder.record(R_JOINS, child + 1)
         with contextlib.ExitStack() as stack:
             if timeout is None:
@@ -576,6 +653,7 @@ def joins(real):
             real(thread, timeout)
         if not thread.is_alive():
             recorder.record(R_JOINED, child + 1)
+            leave(call)
 
     return join
 
@@ -672,12 +750,26 @@ def tracing(out="goodlock", bound=None, server=None, stacks=None, options=()):
             collector.stdout.close()
 
 
+def follow(schedule):
+    """Follows a schedule from here on."""
+    global follower
+    import goodlock_follow  # other runs do without it
+
+    OWN_FILES.add(goodlock_follow.__file__)
+    follower = goodlock_follow.Follower(schedule, recorder, NUMBER.unpack_from(recorder.memory, COLLECTOR_NUMBER)[0])
+    recorder.numbers = itertools.count(follower.first_number)
+    getattr(threading, "_register_atexit", atexit.register)(follower.hold_exit)  # since Python 3.9: before threads are joined
+
+
 def start():
     """Records the whole program from here on, if a collector has started it."""
     path = os.environ.pop("GOODLOCK_RING", None)  # a program that this one starts is not traced
+    schedule = os.environ.pop("GOODLOCK_SCHEDULE", None)
     if path and not recorder:
         try:
             attach(path, int(os.environ.pop("GOODLOCK_STACKS", "1")))
+            if schedule:
+                follow(schedule)
         except (OSError, ValueError) as error:  # mmap raises both
             say(f"cannot trace: {error}; the program runs on")
 

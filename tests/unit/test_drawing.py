@@ -82,6 +82,20 @@ class OfDashboard(Pages):
         self.check_has(whole, "since place 2")
         self.check_has(drawn_alone(self.write("r", "question 0 length 9 bound 2 cycles 0 confirmed 0\n")), "No cycles")
 
+    def test_reproduced(self) -> None:
+        """The picture and the page of the dashboard show what the report of the recorded run says, and its command."""
+        note = "    reproduced in run 2, 0.53 s, 4 steps\n      thread 1 waits for lock 2 at <b>.c:35\n"
+        self.write("r", OPPOSITE_REPORT)
+        self.write("bank.report", OPPOSITE_REPORT + note)
+        with open("bank.calls", "wb") as file:
+            file.write(b"goodcalls 1\n\x09\0\0\0./bank\0x\0")
+        index = index_of(OPPOSITE)
+        for html in (drawn("r", self.write("t", OPPOSITE), "bank.trace"), page_of(index, OPPOSITE_REPORT + note)):
+            self.check_has(html, '<span class="badge confirmed">reproduced</span>')
+            self.check_has(html, "<h3>Reproduced in run 2, 0.53 s, 4 steps</h3><pre>thread 1 waits for lock 2 at &lt;b&gt;.c:35</pre>")
+            self.check_has(html, "--reproduce bank --cycle 0,1 ./bank x</code> reproduces it.")
+        self.assertNotIn("eproduce", drawn("r", self.write("t", OPPOSITE), "none.trace"))
+
     def test_many(self) -> None:
         rows = OPPOSITE_REPORT.split("\n", 1)[1]
         html = drawn_alone(self.write("r", "question 0 length 10 bound 2 cycles 30 confirmed 30\n" + rows * 30))

@@ -7,11 +7,13 @@ import os
 import random
 import socket
 import threading
-from collections.abc import Callable
+from collections.abc import Callable, Iterator
+from typing import IO
 from unittest.mock import patch
 
-from goodlock.commands import agent_report, from_ftrace, from_std, picture, summary
+from goodlock.commands import agent_report, from_ftrace, from_std, picture, reduce, summary
 from goodlock.protocol import Lost, Refused, Session
+from goodlock.reducer import program
 from test_converters import BANK as STD
 from test_converters import KERNEL, PERF, READERS, TRACE_CMD
 from test_groups import BANK, REPORT
@@ -23,6 +25,8 @@ LETTERS = "0123456789fjardw \n#|():;,-[]{}=<>\"'/.\r\t\0\x1f\ufeff\u0660\u2028\u
 SCRIPT = "0f1 1a1\n0a1\nask 2\nbatch 0f2 1a1\ndeliver 0 1\n# mark 3\n# thread 1 is x\n"
 CONFIG = 'bound = 3\nfail-on = "new"\nsuppressions = "suppressions"\n[summary]\ngroups = 3\n[agent]\nwindow = 100\n'
 BASELINE = '{"fingerprints": {"aa:1": "confirmed", "bb:1": "potential"}}'
+WINDOW = "# mark 3\n# lock 3 is mark\n# line 7 of x.std\n# at x.c:3 in f\n0f1 0f2 1w5\n1a10 1a3 1a20 1r3\n1r20 1r10 2d5 0j1\n"
+SECOND = "# window 2\n# repeated 1\n0f2\n# place 3 of y\n2a20\n# line 9 of x.std\n2a10 2r10 2r20\n# thread 2 is y\n"
 COUNTS = "attached 1\nlock_events 8\nthreads 3\nread_locks 0\nunseen 0\noverflowing 0\noff 0\nframes 1\n"
 SITES = "1\t/bin/true+0x10\n2\tbank.py:3 in transfer\n3\t?\n"
 HAPPENED = "deadlock of 2 threads, which wait for each other\nthread 1 waits for lock 2 at @1@\nthread 1 holds lock 1 since @2@\n"
@@ -48,7 +52,23 @@ def mutated(dice: random.Random, text: str) -> bytes:
     return bytes(content)
 
 
+@contextlib.contextmanager
+def silent(null: IO[str]) -> Iterator[None]:
+    """Standard error of this process and those that it starts is discarded."""
+    kept = os.dup(2)
+    os.dup2(null.fileno(), 2)
+    try:
+        yield
+    finally:
+        os.dup2(kept, 2)
+        os.close(kept)
+
+
 class Fuzz(InFolder):
+    @classmethod
+    def setUpClass(cls) -> None:
+        program()  # is built here, since it takes longer than a run may
+
     def outcome(self, main: Callable[[], int], *args: str) -> object:
         """Returns the status of a tool, or the exception that it lets out."""
         quiet = io.TextIOWrapper(io.BytesIO(), encoding="utf-8", errors="backslashreplace")
@@ -89,6 +109,11 @@ class Fuzz(InFolder):
 
     def test_from_ftrace(self) -> None:
         self.fuzz(from_ftrace.main, {"in": [KERNEL, TRACE_CMD, PERF, READERS]}, "in", "out")
+
+    def test_reduce(self) -> None:
+        """The program in C, with windows and comments of all kinds. It prints its faults itself."""
+        with open(os.devnull, "w") as null, silent(null):
+            self.fuzz(reduce.main, {"in": [WINDOW, OPPOSITE], "in.2": [SECOND]}, "in", "in.2", "out", "--window", "9")
 
     def test_agent_report(self) -> None:
         os.mkdir("run.tmp")

@@ -6,11 +6,11 @@ import unittest
 from goodlock import limits
 from goodlock.program import ROOT
 
-AGENTS = os.path.join(ROOT, "agents")
+AGENTS, TOOLS = os.path.join(ROOT, "agents"), os.path.join(ROOT, "tools")
 
 
-def text_of(*path: str) -> str:
-    with open(os.path.join(AGENTS, *path), encoding="utf-8") as file:
+def text_of(*path: str, folder: str = AGENTS) -> str:
+    with open(os.path.join(folder, *path), encoding="utf-8") as file:
         return file.read()
 
 
@@ -30,6 +30,12 @@ class Compares(unittest.TestCase):
         found = values_in(r"^#define ([A-Z_]+) ([0-9]+)u$", "pthread", "limits.h") | values_in(r"\b(MOST_[A-Z]+) = ([0-9]+)", "pthread", "limits.h")
         self.assertEqual(found, {name: getattr(limits, name) for name in (
             "MOST_EVENTS", "MOST_THREADS", "MOST_HELD", "MOST_DEPTH", "FIRST_THREAD", "HELPERS", "TRY_MARKERS", "TIMED_MARKERS")})
+
+    def test_limits_of_the_reducer(self) -> None:
+        text = text_of("reducer", "reducer.h", folder=TOOLS)
+        found = {name: int(number) << int(shift or 0) for name, number, shift in re.findall(r"\b(MOST_[A-Z_]+) = ([0-9]+)(?: << ([0-9]+))?", text)}
+        of_input = {"MOST_HELD_OF_RUN": limits.MOST_HELD_OF_RUN, "MOST_THREADS_OF_RUN": 1 << 27, "MOST_COMMENT": 1 << 16}
+        self.assertEqual(found, of_input | {name: getattr(limits, name) for name in ("MOST_EVENTS", "MOST_THREADS", "MOST_HELD", "MOST_DEPTH")})
 
     def test_kinds_of_the_crate_for_rust(self) -> None:
         found = values_in(r"^    ([A-Z][A-Za-z]+) = ([0-9]+),$", "rust", "src", "recorder.rs")

@@ -26,7 +26,8 @@ def written(*results: Result, **left_out: int) -> dict[str, Any]:
 
 class Again(unittest.TestCase):
     def test_same(self) -> None:
-        for result in (CONFIRMED, POTENTIAL, NOWHERE):
+        reproduced = replace(CONFIRMED, reproduced=("reproduced in run 1, 0.50 s, 4 steps", "thread 1 waits"), reproduce="goodlock ..")
+        for result in (CONFIRMED, POTENTIAL, NOWHERE, reproduced):
             plain = replace(result, fingerprint="", traces=())
             if plain.kept_apart:
                 plain = replace(plain, kept_apart=replace(plain.kept_apart, further=""))

@@ -1,0 +1,310 @@
+"""Tests what `goodlock --reproduce` makes of a recorded run: the log of calls, the order to follow, builds, and the note in the report."""
+from __future__ import annotations
+
+import os
+import random
+import struct
+import sys
+import unittest
+from typing import Optional
+
+from goodlock.commands.agent_reproduce import numbers, seconds, tries
+from goodlock.errors import InputError
+from goodlock.groups import Pair, key_of
+from goodlock.reports import AnyEvents, Cycle, Member, read_reports
+from goodlock.reproduce.buildid import build_id_of, id_in, is_elf
+from goodlock.reproduce.calls import File, Log, Place, Window, command_of, read_log
+from goodlock.reproduce.notes import command_for, reproduced_in, with_note
+from goodlock.reproduce.outcome import Outcome, Waiter, read_waiters
+from goodlock.reproduce.recorded import check_builds, find_cycle, split_name
+from goodlock.reproduce.schedule import CALL, HEAD, HELD, LANE, NO_CALL, REACH, Schedule, address_text, places_before, recorded
+from goodlock.traces import Event, Index, Trace
+from written import InFolder
+
+FORK, JOINED, LOCK, UNLOCK, TAKE = 1, 7, 9, 12, 20
+WINDOW, CUT, END = 250, 251, 252
+HEADER = b"goodcalls 1\n" + struct.pack("<I", 7) + b"./bank\0"
+BANK = "0f1 0f2 1a1 1a2 1r2 1r1 0j1 2a2 2a1 2r1 2r2 0j2"
+BANK_REPORT = """question 0 length 12 bound 2 cycles 1 confirmed 1
+cycle 0 1 confirmed
+  thread 1 lock 2 holds 1 place 3
+  thread 2 lock 1 holds 2 place 8
+  witness 0 1 2 7
+"""
+BANK_CYCLE = Cycle((0, 1), True, [Member(1, 2, (1,), 3), Member(2, 1, (2,), 8)], [0, 1, 2, 7])
+
+
+def entry(thread: int, kind: int, about: int, site: int = 0, made: int = 0) -> bytes:
+    return struct.pack("<III", thread | kind << 24, about, site | made << 24)
+
+
+# The calls of the bank: each makes one event. The objects of locks 1 and 2 are 1 and 2; the sites are 1 to 12.
+BANK_CALLS = [(0, FORK, 1), (0, FORK, 2), (1, LOCK, 1), (1, LOCK, 2), (1, UNLOCK, 2), (1, UNLOCK, 1), (0, JOINED, 1), (2, LOCK, 2),
+              (2, LOCK, 1), (2, UNLOCK, 1), (2, UNLOCK, 2), (0, JOINED, 2)]
+BANK_TEXT = b"program /nowhere/bank\nfile 1 abcd /nowhere/bank\n" + b"".join(b"site %d 1 %d\n" % (at, 16 * at) for at in range(1, 13))
+BANK_LOG = (HEADER + entry(0, WINDOW, 0) + b"".join(entry(thread, kind, about, at, 1) for at, (thread, kind, about) in enumerate(BANK_CALLS, 1))
+            + entry(0, END, 0) + BANK_TEXT)
+
+
+def events_of(text: str) -> list[Event]:
+    """Returns the events of words whose numbers have one digit."""
+    return [Event(int(word[0]), word[1], int(word[2:])) for word in text.split()]
+
+
+class Logs(InFolder):
+    def log_of(self, content: bytes) -> Log:
+        with open("run.calls", "wb") as file:
+            file.write(content)
+        return read_log("run.calls")
+
+    def test_bank(self) -> None:
+        log = self.log_of(BANK_LOG)
+        self.assertEqual(log.command, ["./bank"])
+        self.assertEqual(command_of("run.calls"), ["./bank"])
+        self.assertEqual(list(zip(log.threads, log.kinds, log.objects)), BANK_CALLS)
+        self.assertEqual(list(log.sites), list(range(1, 13)))
+        self.assertEqual(log.windows, [Window(0, 12, 0)])
+        self.assertEqual(list(log.first_places(log.windows[0])), list(range(12)))
+        self.assertEqual((log.program, log.places[12], log.cut), ("/nowhere/bank", Place(1, 192), 0))
+
+    def test_events_of_no_call_and_of_many(self) -> None:
+        content = HEADER + b"".join([
+            entry(0, WINDOW, 3),                     # the window begins with places 0 to 2
+            entry(1, LOCK, 1, made=1),               # 3
+            entry(0, 0, 2),                          # 4 and 5 are of no call
+            entry(1, UNLOCK, 1, made=255), entry(0, 0, 300),  # 6 to 305
+            entry(2, TAKE, 5, made=0),               # no event
+            entry(2, LOCK, 1, made=254),             # 306 to 559
+            entry(0, WINDOW, 0), entry(2, UNLOCK, 1, made=1), entry(0, 0, 1), entry(0, END, 0)])
+        log = self.log_of(content)
+        self.assertEqual(log.windows, [Window(0, 4, 3), Window(4, 5, 0)])
+        self.assertEqual(list(log.first_places(log.windows[0])), [3, 6, 306, 306])
+        self.assertEqual(list(log.made), [1, 300, 0, 254, 1])
+        self.assertEqual(log.before, {1: 2, 5: 1})
+
+    def test_cut(self) -> None:
+        for why, message in ((1, "the run is too long: .*--keep-log"), (2, "could not be written"), (3, "by exec"), (4, "more threads"),
+                             (9, "not whole")):
+            with self.subTest(message), self.assertRaisesRegex(InputError, message):
+                recorded(self.log_of(HEADER + entry(0, CUT, why)), 1, Index(Trace()))
+
+    def test_faults(self) -> None:
+        cases = [(b"", "not a log of calls"), (b"goodcalls 2\n" + BANK_LOG[12:], "not a log of calls"), (HEADER[:-1], "not a log of calls"),
+                 (HEADER[:12] + struct.pack("<I", 1 << 25), "not a log of calls"), (HEADER, "no end"), (BANK_LOG[:100], "no end"),
+                 (BANK_LOG + b"file x\n", "not understood"), (BANK_LOG + b"site 13 2 1\n", "in no file")]
+        for content, message in cases:
+            with self.subTest(message), self.assertRaisesRegex(InputError, message):
+                self.log_of(content)
+
+    def test_any_bytes(self) -> None:
+        """For any bytes of a log the reader returns or raises `InputError`, and so do those that make a schedule of it."""
+        self.write("bank.trace", BANK.replace(" ", "\n") + "\n")
+        self.write("bank.report", BANK_REPORT)
+        numbers = random.Random(7)
+        for _ in range(200):
+            content = bytearray(BANK_LOG)
+            for _ in range(numbers.randint(1, 4)):
+                content[numbers.randrange(len(content))] = numbers.randrange(256)
+            if numbers.random() < 0.2:
+                del content[numbers.randrange(len(content)):]
+            with open("bank.calls", "wb") as file:
+                file.write(content)
+            try:
+                find_cycle("bank", None).schedule.data()
+            except InputError:
+                pass
+
+    def test_no_log(self) -> None:
+        self.assertIsNone(command_of("none.calls"))
+        self.write("text.calls", "text\n")
+        self.assertIsNone(command_of("text.calls"))
+
+
+class Orders(unittest.TestCase):
+    CASES = [
+        # Thread 1 stops at place 3, so its releases and its join are left out, and what thread 0 does after the join.
+        ("bank", BANK, [3, 8], [0, 1, 2, 7], {0, 1, 2, 7}),
+        # A third thread is no part of the witness. What it does before the deadlock is kept.
+        ("outsider", "0f1 0f2 0f3 3a4 3w5 3r4 1a1 1a2 1r2 1r1 2a4 2d5 2r4 2a2 2a1", [7, 14], [0, 1, 2, 6, 3, 4, 5, 10, 11, 12, 13],
+         {0, 1, 2, 3, 4, 5, 6, 10, 11, 12, 13}),
+        # It acquires lock 1, which stays held: from there on it is left out.
+        ("held", "0f1 0f2 0f3 1a1 1a2 1r2 1r1 3a3 3r3 3a1 3r1 3a3 2a2 2a1", [4, 13], [0, 1, 3, 12], {0, 1, 2, 3, 7, 8, 12}),
+        # It reads what thread 1 wrote after its place: it is left out, and so is the thread that it forks.
+        ("read", "0f1 0f2 0f3 1a1 1a2 1r2 1r1 1w9 3d9 3f4 4a5 2a2 2a1", [4, 12], [0, 1, 3, 11], {0, 1, 2, 3, 11}),
+        # It reads what thread 3 wrote: both are kept.
+        ("own read", "0f1 0f2 0f3 3w9 3d9 1a1 1a2 1r2 1r1 2a2 2a1", [6, 10], [0, 1, 5, 9], {0, 1, 2, 3, 4, 5, 9}),
+        # Place 5, of the witness, needs lock 1, which thread 1 holds in the larger order: the witness alone.
+        ("witness", "0f1 0f2 1a1 1r1 1a1 2a1 2r1 1a2 2a2 2a1", [7, 9], [0, 1, 5, 6, 2, 4, 8], {0, 1, 2, 4, 5, 6, 8}),
+    ]
+
+    def test_cases(self) -> None:
+        for name, text, members, witness, wanted in self.CASES:
+            with self.subTest(name):
+                self.assertEqual(places_before(events_of(text), members, sorted(witness)), wanted)
+
+
+class Schedules(InFolder):
+    def found(self, log: bytes = BANK_LOG, report: str = BANK_REPORT, numbers: Optional[tuple[int, ...]] = None) -> Schedule:
+        with open("bank.calls", "wb") as file:
+            file.write(log)
+        self.write("bank.trace", BANK.replace(" ", "\n") + "\n")
+        self.write("bank.report", report)
+        return find_cycle("bank", numbers).schedule
+
+    def test_bank(self) -> None:
+        schedule = self.found()
+        self.assertEqual((schedule.instance, schedule.steps), ([3, 8], 4))
+        self.assertEqual(schedule.turn_of, {0: 1, 1: 2, 2: 3, 7: 4})
+        self.assertEqual(dict(schedule.lanes), {0: [0, 1, 6, 11], 1: [2, 3, 4, 5], 2: [7, 8, 9, 10]})
+        self.assertEqual(schedule.parents, {1: (0, 0), 2: (0, 1)})
+        self.assertEqual((schedule.site_text(3), schedule.site_text(8)), ("bank+0x40", "bank+0x90"))
+
+    def test_bytes(self) -> None:
+        data = self.found().data()
+        _, lanes, calls, turns, sites, files, members, objects, pause, early, *_ = HEAD.unpack_from(data)
+        self.assertEqual((lanes, calls, turns, sites, files, members, objects, pause, early), (3, 12, 4, 13, 1, 2, 2, 0, 0))
+        first, at = HEAD.size, HEAD.size + lanes * LANE.size
+        self.assertEqual(list(LANE.iter_unpack(data[first:at])), [(0, 0, 0, 0, 4, 2, 2), (1, 0, 0, 4, 4, 2, 2), (1, 0, 1, 8, 4, 2, 2)])
+        self.assertEqual(list(CALL.iter_unpack(data[at:at + calls * CALL.size]))[:6], [
+            (FORK, 1, 1, 1), (FORK, 2, 2, 2), (JOINED, 1, 7, HELD), (JOINED, 2, 12, HELD), (LOCK, 1, 3, 3), (LOCK, 2, 4, REACH)])
+        self.assertEqual(struct.unpack_from("<6I", data, at + calls * CALL.size), (0, 0, 0, 1, 2, 0))
+
+    def test_pause(self) -> None:
+        schedule = Schedule(self.found().run, BANK_CYCLE, 100, is_early=True)
+        data = schedule.data()
+        _, lanes, calls, turns, sites, files, members, _, pause, early, *_ = HEAD.unpack_from(data)
+        self.assertEqual((lanes, calls, turns, members, pause, early), (3, 0, 0, 2, 100, 1))
+        self.assertEqual([struct.unpack_from("<3I", data, len(data) - 2 * 136 + 136 * member) for member in (0, 1)], [(4, 1, 3), (9, 1, 8)])
+
+    def test_which_cycle(self) -> None:
+        self.assertEqual(self.found(numbers=(0, 1)).cycle.numbers, (0, 1))
+        with self.assertRaisesRegex(InputError, "there is no cycle 0 2 in the reports"):
+            self.found(numbers=(0, 2))
+        with self.assertRaisesRegex(InputError, "there is no cycle in the reports"):
+            self.found(report="question 0 length 12 bound 2 cycles 0 confirmed 0\n")
+        potential = self.found(report="question 0 length 12 bound 2 cycles 1 confirmed 0\ncycle 0 1 potential\n"
+                                      "  thread 1 lock 2 holds 1\n  thread 2 lock 1 holds 2\n")
+        self.assertEqual((potential.instance, potential.pause > 0), ([3, 8], True))
+        with self.assertRaisesRegex(InputError, "none.calls: there is no such file"):
+            find_cycle("none", None)
+
+    def test_what_cannot_be_followed(self) -> None:
+        without_site = BANK_LOG.replace(b"site 4 1 64\n", b"")
+        unseen = BANK_LOG.replace(entry(0, FORK, 2, 2, 1), entry(0, 0, 1))
+        far = BANK_LOG.replace(entry(0, JOINED, 2, 12, 1), entry(1024, JOINED, 2, 12, 1))
+        longer = BANK_LOG.replace(entry(0, END, 0), entry(0, LOCK, 1, 1, 1) + entry(0, END, 0))
+        cases = [(without_site, "no code address"), (unseen, "thread 2 was started in a way that is not seen"),
+                 (far, "more than 1,024 threads"), (longer, "the trace has 12 events, and the calls made 13")]
+        for log, message in cases:
+            with self.subTest(message), self.assertRaisesRegex(InputError, message):
+                self.found(log)
+        self.assertEqual(len(self.found(BANK_LOG.replace(entry(0, JOINED, 2, 12, 1), entry(1023, JOINED, 2, 12, 1))).data()) % 8, 0)
+
+    def test_window_names(self) -> None:
+        self.assertEqual(split_name("run.4"), ("run.4", None))
+        self.write("run.calls", "")
+        self.assertEqual(split_name("run.4"), ("run", 4))
+        self.assertEqual(split_name("run"), ("run", None))
+        self.write("run.4.calls", "")
+        self.assertEqual(split_name("run.4"), ("run.4", None))
+
+    def test_events_of_no_call(self) -> None:
+        log = BANK_LOG.replace(entry(0, WINDOW, 0), entry(0, WINDOW, 2)).replace(entry(0, FORK, 1, 1, 1) + entry(0, FORK, 2, 2, 1), b"")
+        run = recorded(self.log_of(log), 1, Index(Trace(events_of(BANK))))
+        self.assertEqual(list(run.call_of), [NO_CALL, NO_CALL, *range(10)])
+
+    def log_of(self, log: bytes) -> Log:
+        with open("other.calls", "wb") as file:
+            file.write(log)
+        return read_log("other.calls")
+
+
+class Outcomes(unittest.TestCase):
+    LINES = ["deadlock of 2 threads, which wait for each other", "thread 1 waits for lock 2 at @5@", "  thread 1 from @3@",
+             "  lock 1 since @4@", "thread 2 waits for lock 1 at @7@", "  lock 2 since @6@", "  lock 9 since @1@"]
+
+    def test_waiters(self) -> None:
+        found = read_waiters(self.LINES)
+        self.assertEqual(found, [Waiter(1, "lock", 2, 5, {1: 4}), Waiter(2, "lock", 1, 7, {2: 6, 9: 1})])
+        outcome = Outcome("deadlock", waiters=found, sites={4: ["/a/bank+0x30"], 5: ["/a/bank+0x40", "/a/bank+0x99"], 6: ["/b/libx.so.1+0x80"],
+                                                            7: ["/b/libx.so.1.2+0x90"]})
+        self.assertEqual(outcome.pairs(), [Pair("bank+0x30", "bank+0x40"), Pair("libx.so+0x80", "libx.so+0x90")])
+        self.assertEqual(key_of(outcome.pairs()), key_of(list(reversed(outcome.pairs()))))
+
+    def test_addresses(self) -> None:
+        self.assertEqual(address_text("/lib/libsqlite3.so.0.8.6", 255), "libsqlite3.so+0xff")
+        self.assertEqual(address_text("lib/bank", 1), "bank+0x1")
+
+
+class Builds(InFolder):
+    def test_notes(self) -> None:
+        note = struct.pack("<III", 4, 4, 3) + b"GNU\0" + bytes.fromhex("00c0ffee")
+        other = struct.pack("<III", 4, 16, 1) + b"GNU\0" + bytes(16)
+        self.assertEqual(id_in(note), "00c0ffee")
+        self.assertEqual(id_in(other + note), "00c0ffee")
+        large, long = struct.pack("<III", 0xFFFFFFFF, 0xFFFFFFFF, 3), struct.pack("<III", 4, 33, 3) + b"GNU\0" + bytes(40)
+        for content in (b"", other, note[:-1], note[:12], large, long):
+            self.assertIsNone(id_in(content))
+
+    def test_files(self) -> None:
+        self.write("text", "a text\n")
+        self.assertTrue(build_id_of("text").startswith("sha256:"))
+        self.assertFalse(is_elf("text"))
+        self.assertTrue(is_elf(sys.executable))
+        for size in (3, 16, 63, 64, 100):  # a file that ends early
+            with open(sys.executable, "rb") as file, open("cut", "wb") as to:
+                to.write(file.read(size))
+            self.assertTrue(build_id_of("cut").startswith("sha256:"))
+
+    def test_check(self) -> None:
+        self.write("program", "one\n")
+        log = Log("run.calls", ["./program"])
+        path = os.path.abspath("program")
+        log.files[1] = File(path, build_id_of(path))
+        check_builds(log, "./program")
+        self.write("program", "two\n")
+        with self.assertRaisesRegex(InputError, "program: rebuilt since the run was recorded: record again"):
+            check_builds(log, "./program")
+
+
+class Notes(InFolder):
+    NOTE = ["    reproduced in run 2, 0.53 s, 4 steps", "      deadlock of 2 threads, which wait for each other"]
+
+    def test_note(self) -> None:
+        lines = BANK_REPORT.splitlines()
+        noted = list(with_note(lines, BANK_CYCLE, self.NOTE))
+        self.assertEqual(noted, [*lines, *self.NOTE])
+        again = ["    reproduced in run 1, 0.10 s, 4 steps", "      another line"]
+        self.assertEqual(list(with_note(noted, BANK_CYCLE, again)), [*lines, *again])
+
+    def test_between_cycles(self) -> None:
+        lines = [*BANK_REPORT.splitlines(), "    and 1 more cycle at these lines, 1 of them confirmed", "cycle 2 3 confirmed"]
+        self.assertEqual(list(with_note(lines, BANK_CYCLE, self.NOTE)), [*lines[:-1], *self.NOTE, lines[-1]])
+        self.assertEqual(list(with_note(lines, Cycle((5, 6), True), self.NOTE)), lines)
+
+    def test_readers(self) -> None:
+        self.write("bank.report", BANK_REPORT + "".join(f"{line}\n" for line in self.NOTE))
+        cycles = [cycle for _, cycle in read_reports("bank.report", AnyEvents()) if cycle]
+        self.assertEqual(cycles[0].reproduced, [line.strip() for line in self.NOTE])
+        self.assertEqual(reproduced_in("bank.report"), {(0, 1): [line.strip() for line in self.NOTE]})
+        self.assertEqual(reproduced_in("none.report"), {})
+
+    def test_command(self) -> None:
+        with open("bank.calls", "wb") as file:
+            file.write(BANK_LOG)
+        for trace in ("bank.trace", "bank.4.trace"):
+            self.assertRegex(command_for(trace, (0, 1)), rf"agents/pthread/goodlock --reproduce {trace[:-6]} --cycle 0,1 ./bank$")
+        self.assertEqual([command_for(trace, (0, 1)) for trace in ("none.trace", "bank", "bank.x.trace", None)], [""] * 4)
+
+
+class Words(unittest.TestCase):
+    def test_numbers(self) -> None:
+        self.assertEqual((numbers("0,1"), tries("1"), tries("1000"), seconds("0.01"), seconds("3600")), ((0, 1), 1, 1000, 0.01, 3600))
+        for read, words in ((numbers, ("", "a", "0,x", "-1")), (tries, ("0", "1001", "x", "")), (seconds, ("0", "3601", "x", "nan", "inf"))):
+            for word in words:
+                with self.subTest(word), self.assertRaises(Exception):
+                    read(word)
+
+
+if __name__ == "__main__":
+    unittest.main()
