@@ -12,6 +12,8 @@ usage: bench/traces.py KIND NUMBER ..
   orders LOCKS         four threads acquire all pairs of LOCKS locks, in both orders
   ring LOCKS           eight threads acquire the pairs of LOCKS locks in a ring that are one to four apart
   couples THREADS WRITES    each two of THREADS threads acquire two locks of their own in opposite orders; then thread 0 writes WRITES times
+  variables EVENTS     ten threads read and write 500 variables, and acquire two of 30 locks that are at most three apart
+  spread SECTIONS      eight threads acquire three of 20,000 locks with numbers of 32 bits, mostly in one order
   small SEED EVENTS    a random lawful trace of four threads and four locks
 
 Each NUMBER is 1 or more, SEED 0 or more. goodlockd accepts at most 1048576 events.
@@ -120,6 +122,32 @@ def couples(threads, writes):
     return words + ["0w1"] * writes
 
 
+def variables(events, seed=1):
+    """Up to 23 accesses are before each section, a quarter of them writes."""
+    chooser = random.Random(seed)
+    words = forks(10)
+    while len(words) + 27 <= events:
+        thread = chooser.randint(1, 10)
+        for _ in range(chooser.randrange(24)):
+            words.append(f"{thread}{chooser.choice('wddd')}{chooser.randrange(500)}")
+        lock = chooser.randrange(30)
+        words += section(thread, [lock, (lock + chooser.randint(1, 3)) % 30])
+    return words
+
+
+def spread(sections, seed=1):
+    """Most sections have dependencies that no other section has. One in 32 acquires its locks in random order."""
+    chooser = random.Random(seed)
+    numbers = [chooser.randrange(1 << 32) for _ in range(20_000)]
+    words = forks(8)
+    for turn in range(sections):
+        locks = sorted(set(chooser.sample(numbers, 3)))
+        if chooser.randrange(32) == 0:
+            chooser.shuffle(locks)
+        words += section(1 + turn % 8, locks)
+    return words
+
+
 def small(seed, events):
     """Random lawful events of four threads, four locks and two variables. Some acquires are inner; thread 3 may be joined."""
     chooser = random.Random(seed)
@@ -165,6 +193,8 @@ KINDS = {
     "orders": orders,
     "ring": ring,
     "couples": couples,
+    "variables": variables,
+    "spread": spread,
     "small": small,
 }
 

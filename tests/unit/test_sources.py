@@ -43,7 +43,8 @@ RESERVED = [
     (r"\bBoardReader::new\(", "board", ("make_readers",)),
     (r"\benter_as::", "board", ("read_entry",)),
     (r"\.add_one\(", "board", ("read_entry",)),
-    (r"\b(?:Steps|Copies)::(?:<\w+>::)?new\(", "", COUNTED),
+    (r"\bSteps::(?:<\w+>::)?new\(", "", COUNTED),
+    (r"\.tick\(", "", ("put_row", "take")),
 ]
 
 

@@ -1,5 +1,6 @@
 """Groups cycles by the code locations where their members hold and wait."""
 import re
+from bisect import bisect_left
 from collections import Counter
 from collections.abc import Iterable, Sequence
 from dataclasses import dataclass, field
@@ -99,12 +100,13 @@ class Group:
         witness = self.example.witness
         self.witness_length = len(witness)
         shown = set(witness) if len(witness) <= SHORT else index.steps_to([side.wait for side in self.sides], near=1)
-        for place in witness:
-            if place in shown:
-                self.steps.append(Step(place, self.left_out))
-                self.left_out = 0
-            else:
-                self.left_out += 1
+        end = 0
+        for place in sorted(shown):
+            at = bisect_left(witness, place)
+            if at < len(witness) and witness[at] == place:
+                self.steps.append(Step(place, at - end))
+                end = at + 1
+        self.left_out = len(witness) - end
 
     def locations(self, index: Index) -> list[Pair]:
         """Returns for each member of the example the locations where it holds and waits."""

@@ -13,6 +13,7 @@ QUESTION = re.compile(rf"question {NUMBER} length {NUMBER} bound {NUMBER} cycles
 CYCLE = re.compile(rf"cycle ({NUMBER}(?: {NUMBER})+) (confirmed|potential)")
 MEMBER = re.compile(rf"  thread {NUMBER} lock {NUMBER} holds((?: {NUMBER})+)(?: place {NUMBER})?")
 WITNESS = "  witness"
+PLACES = re.compile(rf"(?: {NUMBER})*")
 NOTE = re.compile(r"    (?:  )?\S.*")
 MORE = re.compile(rf"    and {NUMBER} more cycles? at these lines, {NUMBER} of them confirmed")
 REPRODUCED, FURTHER = "    reproduced in run ", "      "
@@ -102,13 +103,7 @@ def member_of(line: str) -> Optional[Member]:
 
 def places_in(text: str) -> Optional[list[int]]:
     """Returns the numbers of a text in which a space is before each of them, or None if it is another text."""
-    try:
-        places = list(map(int, text.split()))
-    except ValueError:
-        return None
-    if "".join([f" {place}" for place in places]) != text or places and min(places) < 0:
-        return None
-    return places
+    return list(map(int, text.split())) if PLACES.fullmatch(text) else None
 
 
 class ReportReader:

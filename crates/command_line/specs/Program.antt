@@ -1,8 +1,9 @@
 -- The commands of the program, and what the words of a command line say.
-use Rattle.std.specs.Prelude.{◌≡◌, ℕ, pos, true, List, [], ◌∷◌, Option, Some, Ok, codes, option_map}
+use Rattle.std.specs.Prelude.{◌≡◌, ℕ, pos, Bool, true, false, List, [], ◌∷◌, Option, Some, None, Ok, codes, option_map}
 use Rattle.std.specs.Str.Parse.{ParsesUnsigned}
 use Rattle.std.specs.Borrow.{Bor}
 use Rattle.clap.specs.Words.{App, Row, Rule, Text, app_of, first_of, new_app, new_rule, one_of, subcommand_of, with_rule, with_subcommand}
+use Rattle.clap.specs.declared.builder.action.ArgAction.TheVariants.{SetTrue}
 use Rattle.clap.specs.declared.builder.value_parser.ValueParser.TheVariants as parsers
 use Rattle.clap.specs.declared.builder.command.Command.{Command}
 use Rattle.command_line.specs.declared.Invocation.{Invocation}
@@ -33,16 +34,30 @@ workers_rule = or_else (number_option (codes "workers") 1 16) (codes "1")
 abbrev pub sessions_rule : Rule
 sessions_rule = or_else (number_option (codes "sessions") 0 1_000_000) (codes "0")
 
+abbrev pub idle_rule : Rule
+idle_rule = or_else (number_option (codes "idle") 0 86_400) (codes "0")
+
+-- a flag
+abbrev pub stop_rule : Rule
+stop_rule = record (new_rule (codes "stop-at-eof")) {
+  long = Some (codes "stop-at-eof");
+  action = Some SetTrue;
+}
+
 abbrev pub bound_rule : Rule
 bound_rule = record (number_option (codes "bound") 2 8) { required = true }
 
 abbrev pub cycle_rule : Rule
 cycle_rule = record (new_rule (codes "cycle")) { long = Some (codes "cycle"); value_names = 1 }
 
+-- `serve` with the arguments that say how much it serves
+abbrev pub sized_serve_app : App
+sized_serve_app = with_rule (with_rule (with_rule (with_rule (new_app (codes "serve"))
+    (positional (codes "address"))) workers_rule) sessions_rule) limit_rule
+
 -- the commands, each with its arguments in the order of their words
 abbrev pub serve_app : App
-serve_app = with_rule (with_rule (with_rule (with_rule (new_app (codes "serve"))
-    (positional (codes "address"))) workers_rule) sessions_rule) limit_rule
+serve_app = with_rule (with_rule sized_serve_app idle_rule) stop_rule
 
 abbrev pub script_app : App
 script_app = with_rule (with_rule (new_app (codes "script")) (positional (codes "file"))) limit_rule
@@ -88,9 +103,15 @@ abbrev pub SaysNumber : List Row → Text → ℕ → Type 0
 SaysNumber rows id number = (text : Text) × (one_of id rows ≡ Some text)
     × ParsesUnsigned {E = Unit {0}} 32 10 text (Ok number)
 
+-- the flag is set if it is given, and only then: `clap` gives a flag the text `true` or `false`
+abbrev pub SaysFlag : List Row → Text → Bool → Type 0
+SaysFlag rows id flag = (one_of id rows ≡ Some (codes "true") → flag ≡ true)
+    × (one_of id rows ≡ Some (codes "false") → flag ≡ false)
+    × (one_of id rows ≡ None → flag ≡ false)
+
 -- the name of a command
 abbrev pub command_name : Invocation → Text
-command_name (Serve address workers sessions limit) = codes "serve"
+command_name (Serve address workers sessions limit idle stop) = codes "serve"
 command_name (Script file limit) = codes "script"
 command_name (Offline file bound) = codes "offline"
 command_name (Replay trace witness) = codes "replay"
@@ -99,9 +120,10 @@ command_name (Check trace file) = codes "check"
 
 -- each text and number of the command is that of its argument
 abbrev pub SaysCommand : List Row → Invocation → Type 0
-SaysCommand rows (Serve address workers sessions limit) =
+SaysCommand rows (Serve address workers sessions limit idle stop) =
     SaysText rows (codes "address") address × SaysNumber rows (codes "workers") workers
     × SaysNumber rows (codes "sessions") sessions × SaysNumber rows (codes "limit") limit
+    × SaysNumber rows (codes "idle") idle × SaysFlag rows (codes "stop-at-eof") stop
 SaysCommand rows (Script file limit) =
     SaysText rows (codes "file") file × SaysNumber rows (codes "limit") limit
 SaysCommand rows (Offline file bound) =

@@ -8,10 +8,10 @@ mod words;
 ghost use Rattle.std.specs.Prelude.{◌≡◌, ◌≤◌, false, true, IfOk, IfSome, Ok, codes, map, option_map};
 ghost use Rattle.clap.specs.Words.{app_of, first_of, found_of, rows_of, rule_of, subcommand_rows_of};
 ghost use Rattle.command_line.specs.CommandLine.{IsInClosedRange, HasNumbersInRange};
-ghost use Rattle.command_line.specs.Program.{SaysInvocation, SaysMatches, SaysNamed, SaysNumber, TakesCommand, bound_rule, check_app, cycle_rule, explain_app, goodlockd, limit_rule, bare_app, offline_app, positional, number_option, replay_app, script_app, serve_app, sessions_rule, workers_rule};
+ghost use Rattle.command_line.specs.Program.{SaysFlag, SaysInvocation, SaysMatches, SaysNamed, SaysNumber, TakesCommand, bound_rule, check_app, cycle_rule, explain_app, goodlockd, idle_rule, limit_rule, bare_app, offline_app, positional, number_option, replay_app, script_app, serve_app, sessions_rule, sized_serve_app, stop_rule, workers_rule};
 
 use clap::error::ErrorKind;
-use clap::{Arg, ArgMatches, Command, Error, value_parser};
+use clap::{Arg, ArgAction, ArgMatches, Command, Error, value_parser};
 use std::alloc::{AllocError, Global};
 pub use words::{tell, words_of};
 
@@ -19,12 +19,16 @@ pub use words::{tell, words_of};
 #[derive(Debug, Drop, PartialEq, Eq)]
 pub enum Invocation<'a> {
     /// Serve at an address, with 1 to 16 workers, for `sessions` sessions (0: without end, at most
-    /// 1,000,000), over a book that accepts at most `limit` events (1 to 1,048,576).
+    /// 1,000,000), over a book that accepts at most `limit` events (1 to 1,048,576). A session that
+    /// is idle for `idle` seconds (0: never, at most 86,400) is closed. With `stop_at_eof` the
+    /// server ends when standard input does.
     Serve {
         address: &'a str,
         workers: u32,
         sessions: u32,
         limit: u32,
+        idle: u32,
+        stop_at_eof: bool,
     },
     /// Run a script over a book that accepts at most `limit` events (1 to 1,048,576).
     Script {
@@ -104,6 +108,25 @@ fn sessions<'a>(alloc: Global) -> Arg<'a>
         .default_value("0")
 }
 
+fn idle<'a>(alloc: Global) -> Arg<'a>
+    ensures rule { rule_of result ≡ idle_rule }
+    ensures local { result.global ≡ false }
+{
+    number_option(alloc, "idle", "SECONDS", 0, 86_400)
+        .help("Close a session that is idle for this time, 0 to 86400 seconds; 0 means never")
+        .default_value("0")
+}
+
+fn stop_at_eof<'a>(alloc: Global) -> Arg<'a>
+    ensures rule { rule_of result ≡ stop_rule }
+    ensures local { result.global ≡ false }
+{
+    Arg::new(alloc, "stop-at-eof")
+        .long("stop-at-eof")
+        .action(ArgAction::SetTrue)
+        .help("End when standard input ends; open sessions have 5 seconds")
+}
+
 fn bound<'a>(alloc: Global) -> Arg<'a>
     ensures rule { rule_of result ≡ bound_rule }
     ensures local { result.global ≡ false }
@@ -123,8 +146,9 @@ fn cycle<'a>(alloc: Global) -> Arg<'a>
         .help("Explain only the cycle with these dependency numbers")
 }
 
-fn serve<'a>(alloc: Global) -> Result<Command<'a>, AllocError>
-    ensures { IfOk result (λ command. app_of command ≡ serve_app) }
+/// Returns `serve` with the arguments that say how much it serves.
+fn sized_serve<'a>(alloc: Global) -> Result<Command<'a>, AllocError>
+    ensures app { IfOk result (λ command. app_of command ≡ sized_serve_app) }
 {
     Command::new(alloc, "serve")
         .about("Serves agents and operators over TCP")
@@ -137,6 +161,14 @@ fn serve<'a>(alloc: Global) -> Result<Command<'a>, AllocError>
         .arg(workers(alloc))?
         .arg(sessions(alloc))?
         .arg(limit(alloc))
+}
+
+fn serve<'a>(alloc: Global) -> Result<Command<'a>, AllocError>
+    ensures { IfOk result (λ command. app_of command ≡ serve_app) }
+{
+    sized_serve(alloc)?
+        .arg(idle(alloc))?
+        .arg(stop_at_eof(alloc))
 }
 
 fn script<'a>(alloc: Global) -> Result<Command<'a>, AllocError>
@@ -235,6 +267,13 @@ fn number_argument(matches: &ArgMatches<'_>, id: &str, least: u32, most: u32) ->
     }
 }
 
+/// Returns whether the flag is given.
+fn flag_argument(matches: &ArgMatches<'_>, id: &str) -> bool
+    ensures { SaysFlag (rows_of (found_of matches.now)) id.now result }
+{
+    matches.get_flag(id)
+}
+
 fn chosen_serve<'a>(given: &ArgMatches<'a>) -> Option<Invocation<'a>>
     ensures range { IfSome result HasNumbersInRange }
     ensures said { IfSome result (SaysNamed (codes "serve") (rows_of (found_of given.now))) }
@@ -244,6 +283,8 @@ fn chosen_serve<'a>(given: &ArgMatches<'a>) -> Option<Invocation<'a>>
         workers: number_argument(given, "workers", 1, 16)?,
         sessions: number_argument(given, "sessions", 0, 1_000_000)?,
         limit: number_argument(given, "limit", 1, 1_048_576)?,
+        idle: number_argument(given, "idle", 0, 86_400)?,
+        stop_at_eof: flag_argument(given, "stop-at-eof"),
     })
 }
 

@@ -22,7 +22,7 @@ pub fn arguments(rt: &HostRuntime) -> io::Result<Vec<String>> {
 }
 
 /// Returns the bytes of the file, or `None` if it cannot be read. Standard error then gets
-/// `cannot read FILE`.
+/// `cannot read FILE`, and the system's reason in a second line.
 ///
 /// # Errors
 ///
@@ -31,8 +31,9 @@ pub fn read_file(rt: &HostRuntime, file: &str) -> io::Result<Option<Vec<u8>>> {
     match fs::read(rt, file) {
         Ok(bytes) => Ok(Some(bytes)),
         Err(error) if error.kind() == io::ErrorKind::OutOfMemory => Err(error),
-        Err(_) => {
+        Err(error) => {
             eprintln!(rt; "cannot read {file}")?;
+            eprintln!(rt; "{error}")?;
             Ok(None)
         }
     }

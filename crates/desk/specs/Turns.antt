@@ -1,10 +1,13 @@
 -- What a worker's turn returns (this project's profile).
-use Rattle.std.specs.Prelude.{◌≡◌, ℕ, ◌<◌, Bool, true, List, [], ◌∷◌, ◌++◌, slice_set, Option, Some, None, IfSome}
+use Rattle.std.specs.Prelude.{◌≡◌, ◌≢◌, ℕ, ◌<◌, ◌⊎◌, Bool, true, List, [], ◌∷◌, ◌++◌, slice_get, slice_set, Option, Some, None, IfSome}
 use Rattle.trace_model.specs.declared.limits.TheConstants.{MAX_CYCLES}
 use Rattle.trace_model.specs.declared.messages.step.BoardStep.{BoardStep}
 use Rattle.trace_model.specs.Theory.Dependencies.{dependencies}
 use Rattle.trace_model.specs.Theory.Trace.{Trace}
 use Rattle.trace_model.specs.Protocol.Machine.{State}
+use Rattle.trace_model.specs.declared.refusal.Refusal.{Refusal}
+use Rattle.trace_model.specs.declared.refusal.Refusal.TheVariants.{NoMemory, NoSuchQuestion}
+use Rattle.sequencer.specs.Book.{RefusesSnapshot}
 use Rattle.snapshots.specs.Found.{RowsOfTask}
 use Rattle.cycle_search.specs.CycleSearch.{CycleFrom, MoreThan}
 use Rattle.claims.specs.declared.Draw.{Draw}
@@ -13,6 +16,7 @@ use Rattle.board.specs.declared.summary.Unsettled.{Unsettled}
 use Rattle.board.specs.Unsettled.{IsLeastUnsettled, open_questions}
 use Rattle.desk.specs.Published.{Afterwards, WasTaken}
 use Rattle.desk.specs.Questions.{IsAboutEvents, IsFirstMissing}
+use Rattle.desk.specs.Refused.{RefusesFinding}
 use mathlib.Core.List.{IsPrefix}
 
 -- what contracts see of a worker: the steps that its reader has seen or learned, and for each
@@ -53,12 +57,26 @@ IsIdle limit old new = (found : Option Unsettled)
     × IfSome found (λ one. Afterwards limit new.known
     (λ state. IsFirstMissing state one.number None))
 
+-- the machine has no such question, no snapshot of it, or does not take a finding of it
+abbrev pub RefusesQuestion : ℕ → Refusal → State → Type 0
+RefusesQuestion question refusal state =
+    ((refusal ≡ NoSuchQuestion) × (slice_get state.questions question ≡ None))
+    ⊎ (RefusesSnapshot state question refusal
+    ⊎ ((finding : RowsOfTask) × (finding.question ≡ question)
+    × RefusesFinding state finding refusal))
+
 -- the task of this question has more cycles up to the bound than a search may find
 abbrev pub QuestionHasTooMany : ℕ → List BoardStep → ℕ → ℕ → ℕ → Type 0
 QuestionHasTooMany limit known question bound task =
     (run : List BoardStep) × (events : Trace) × IsPrefix run known
     × Afterwards limit run (λ state. IsAboutEvents state question events)
     × MoreThan (CycleFrom (dependencies events) bound task) MAX_CYCLES
+
+-- The machine refuses the worker's question after some steps: it is not open, or it has no
+-- snapshot, or a finding of it is not taken.
+abbrev pub IsRefusedTurn : ℕ → ℕ → Refusal → Type 0
+IsRefusedTurn limit question refusal = (refusal ≢ NoMemory)
+    × ((run : List BoardStep) × Afterwards limit run (RefusesQuestion question refusal))
 
 -- a task of this question has too many cycles
 abbrev pub IsTooMuch : ℕ → List BoardStep → Unsettled → Type 0

@@ -5,7 +5,7 @@ ghost use mathlib.Core.List.{IsPrefix};
 ghost use Rattle.trace_model.specs.declared.limits.TheConstants.{MAX_QUESTIONS};
 ghost use Rattle.desk.specs.Published.{Afterwards, WasTaken};
 ghost use Rattle.desk.specs.Questions.{IsFirstMissing, IsJobOf};
-ghost use Rattle.desk.specs.Turns.{Chose, LastStepDelivers, GivesUpOn, QuestionHasTooMany, IsDrawn, IsIdle, IsTooMuch};
+ghost use Rattle.desk.specs.Turns.{Chose, LastStepDelivers, GivesUpOn, QuestionHasTooMany, IsDrawn, IsIdle, IsRefusedTurn, IsTooMuch};
 
 use crate::desk::Desk;
 use crate::own::{OwnFinding, OwnJob};
@@ -120,6 +120,8 @@ impl<N: HistoryId, R: Wait + Copy, T: BoardValue<N>> Worker<N, R, T> {
         ensures delivered { result ≡ Turn.Delivered →
             Chose self.old self.new (LastStepDelivers N.limit self.new.known) }
         ensures idle { result ≡ Turn.Idle → IsIdle N.limit self.old self.new }
+        ensures refused { (refusal : Refusal) → result ≡ Turn.Refused refusal →
+            Chose self.old self.new (λ one. IsRefusedTurn N.limit one.number refusal) }
         ensures too_many { result ≡ Turn.Failed TurnFailure.TooManyCycles →
             Chose self.old self.new (IsTooMuch N.limit self.new.known) }
         ensures gives_up { (self.new.given_up ≡ self.old.given_up)
@@ -145,6 +147,8 @@ impl<N: HistoryId, R: Wait + Copy, T: BoardValue<N>> Worker<N, R, T> {
             LastStepDelivers N.limit self.new.known unsettled }
         ensures idle { result ≡ Turn.Idle → Afterwards N.limit self.new.known
             (λ state. IsFirstMissing state unsettled.number None) }
+        ensures refused { (refusal : Refusal) → result ≡ Turn.Refused refusal →
+            IsRefusedTurn N.limit unsettled.number refusal }
         ensures too_many { result ≡ Turn.Failed TurnFailure.TooManyCycles →
             IsTooMuch N.limit self.new.known unsettled }
         ensures gives_up { (self.new.given_up ≡ self.old.given_up)
@@ -249,6 +253,8 @@ fn keep_job<N: HistoryId, R: Wait + Copy, T: BoardValue<N>>(
     ensures kept { OnOk result (IsJobOf question bound kept.new) }
     ensures err { IfErr result (λ turn. (turn ≢ Turn.Delivered) × (turn ≢ Turn.Idle)
         × (turn ≢ Turn.Failed TurnFailure.TooManyCycles)) }
+    ensures refused { (refusal : Refusal) → result ≡ Err (Turn.Refused refusal) →
+        IsRefusedTurn N.limit question refusal }
 {
     if let Some(job) = kept
         && job.is_of(question, bound)
@@ -289,6 +295,8 @@ fn compute<N: HistoryId, R: Wait + Copy, T: BoardValue<N>>(
     ensures computed { IfOk result (λ own. (own.question ≡ question) × (own.bound ≡ bound)
         × (own.task ≡ task)) }
     ensures err { IfErr result (λ turn. (turn ≢ Turn.Delivered) × (turn ≢ Turn.Idle)) }
+    ensures refused { (refusal : Refusal) → result ≡ Err (Turn.Refused refusal) →
+        IsRefusedTurn N.limit question refusal }
     ensures too_many { result ≡ Err (Turn.Failed TurnFailure.TooManyCycles) →
         QuestionHasTooMany N.limit reader.new.known question bound task }
 {
@@ -315,6 +323,8 @@ fn deliver<N: HistoryId, R: Wait + Copy, T: BoardValue<N>>(
     ensures later { IsPrefix reader.old.known reader.new.known }
     ensures delivered { result ≡ Turn.Delivered → WasTaken N.limit own reader.new.known }
     ensures others { (result ≢ Turn.Idle) × (result ≢ Turn.Failed TurnFailure.TooManyCycles) }
+    ensures refused { (refusal : Refusal) → result ≡ Turn.Refused refusal →
+        IsRefusedTurn N.limit own.question refusal }
 {
     let (delivered, receipt) = desk.deliver_own(own);
     reader.catch_up(&desk.rt(), &receipt);
@@ -329,8 +339,10 @@ fn deliver<N: HistoryId, R: Wait + Copy, T: BoardValue<N>>(
 
 /// Returns the outcome of a turn that the desk refused.
 fn refused(refusal: Refusal) -> Turn
-    ensures { (result ≢ Turn.Delivered) × (result ≢ Turn.Idle)
+    ensures others { (result ≢ Turn.Delivered) × (result ≢ Turn.Idle)
         × (result ≢ Turn.Failed TurnFailure.TooManyCycles) }
+    ensures refused { (other : Refusal) → result ≡ Turn.Refused other →
+        (refusal ≡ other) × (other ≢ Refusal.NoMemory) }
 {
     match refusal {
         Refusal::NoMemory => Turn::Failed(TurnFailure::NoMemory),

@@ -9,7 +9,7 @@ ghost use Rattle.fronts.specs.State.{IsNextRange, included_count, included_set, 
 use crate::members::greater;
 use crate::overlay::Overlay;
 use crate::requirements::ThreadPrefix;
-use crate::steps::Steps;
+use segments::Steps;
 use std::alloc::Global;
 use std::marker::Model;
 use std::ops::Range;

@@ -19,7 +19,6 @@ mod overlay;
 mod propagation;
 mod requirements;
 mod slot_table;
-mod steps;
 mod threads;
 
 pub use fronts::{Front, Fronts, gathered};
@@ -27,6 +26,6 @@ pub use members::{Member, greater};
 pub use overlay::Overlay;
 pub use propagation::{Context, Propagation};
 pub use requirements::{Requirements, ThreadPrefix, prefix_before};
+pub use segments::Steps;
 pub use slot_table::SlotTable;
-pub use steps::Steps;
 pub use threads::last_place;

@@ -7,7 +7,7 @@ ghost use Rattle.fronts.specs.Overlays.{front_of, done_of, last_of, Changes, IsE
 use crate::epoch_array::EpochArray;
 use crate::fronts::Front;
 use crate::requirements::{Requirements, Section, ThreadPrefix};
-use crate::steps::Steps;
+use segments::Steps;
 use std::alloc::Global;
 use std::sync::ledger::Ledger;
 use trace_model::{NoMemory, Place};

@@ -11,7 +11,7 @@ ghost use Rattle.fronts.specs.Requirements.{AreRequirements};
 use crate::members::{Member, advance_members};
 use crate::overlay::Overlay;
 use crate::requirements::{Item, Requirement, Requirements, Section, ThreadPrefix};
-use crate::steps::Steps;
+use segments::Steps;
 use std::sync::ledger::Ledger;
 use trace_index::TraceIndex;
 use trace_model::NoMemory;

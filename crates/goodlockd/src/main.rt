@@ -10,15 +10,16 @@ use commands::{
     script_file,
 };
 use findings::RunOn;
-use question_server::{ServerError, Service, run_server};
-use std::alloc::AllocError;
+use question_server::{ServerError, Service, close_at_end, run_server};
+use std::alloc::{AllocError, Global};
 use std::hash::RandomState;
-use std::io;
 use std::net::TcpListener;
 use std::process::ExitCode;
-use std::sync::Wait;
+use std::sync::atomic::AtomicU64;
+use std::sync::{Arc, Wait};
 use std::thread::Threads;
 use std::time::Clock;
+use std::{io, thread};
 
 /// Reports on standard error that the address cannot be listened on.
 fn cannot_listen(rt: &HostRuntime, address: &str) -> io::Result<Status> {
@@ -26,13 +27,15 @@ fn cannot_listen(rt: &HostRuntime, address: &str) -> io::Result<Status> {
     Ok(Status::Error)
 }
 
-/// Returns a listener at the address, or `None` after an error message if there is none.
+/// Returns a listener at the address, or `None` after an error message, with the system's reason,
+/// if there is none.
 fn listen(rt: &HostRuntime, address: &str) -> io::Result<Option<TcpListener>> {
     match TcpListener::bind(rt, address) {
         Ok(listener) => Ok(Some(listener)),
         Err(error) if error.kind() == io::ErrorKind::OutOfMemory => Err(error),
-        Err(_) => {
+        Err(error) => {
             cannot_listen(rt, address)?;
+            eprintln!(rt; "{error}")?;
             Ok(None)
         }
     }
@@ -45,12 +48,21 @@ fn serve<T: Threads + Wait + Clock + Copy + Send + Sync>(
     address: &str,
     listener: &TcpListener,
     service: Service,
+    closing: &AtomicU64,
 ) -> io::Result<Status>
     requires limit { IsLimitNumber service.limit }
     requires workers { IsInClosedRange 1 16 service.workers }
 {
     let state = RandomState::new(rt)?;
-    match run_server(threads, rt.alloc(), state, listener, service, &RunOn) {
+    match run_server(
+        threads,
+        rt.alloc(),
+        state,
+        listener,
+        service,
+        &RunOn,
+        closing,
+    ) {
         Ok(sessions) => {
             println!(rt; "served {sessions}")?;
             Ok(Status::Done)
@@ -60,12 +72,28 @@ fn serve<T: Threads + Wait + Clock + Copy + Send + Sync>(
     }
 }
 
+/// Starts a thread that sets `closing` to 1 when standard input ends. It ends with the process.
+fn watch_input<T: Threads>(
+    rt: &HostRuntime,
+    threads: &T,
+    closing: &Arc<AtomicU64, Global>,
+) -> io::Result<()> {
+    let shared = Arc::try_clone(closing)?;
+    let mut input = rt.stdin();
+    let watch = move || close_at_end(&mut input, &shared);
+    match thread::spawn(threads, watch) {
+        Ok(_) => Ok(()),
+        Err(_) => Err(AllocError.into()),
+    }
+}
+
 /// Listens on the address, prints the local address, and runs the server.
 fn serve_at<T: Threads + Wait + Clock + Copy + Send + Sync>(
     rt: &HostRuntime,
     threads: T,
     address: &str,
     service: Service,
+    stop_at_eof: bool,
 ) -> io::Result<Status>
     requires limit { IsLimitNumber service.limit }
     requires workers { IsInClosedRange 1 16 service.workers }
@@ -75,7 +103,25 @@ fn serve_at<T: Threads + Wait + Clock + Copy + Send + Sync>(
     };
     let local = listener.local_addr()?;
     println!(rt; "listening {local}")?;
-    serve(rt, threads, address, &listener, service)
+    let closing = Arc::new(rt.alloc(), AtomicU64::new(0))?;
+    if stop_at_eof {
+        // Else the server would not look whether the input has ended until the next connection.
+        listener.set_nonblocking(true)?;
+        watch_input(rt, &threads, &closing)?;
+    }
+    serve(rt, threads, address, &listener, service, &closing)
+}
+
+/// Returns the words of the command line, or `None` after an error message if one is not UTF-8.
+fn words(rt: &HostRuntime) -> io::Result<Option<Vec<String>>> {
+    match arguments(rt) {
+        Ok(words) => Ok(Some(words)),
+        Err(error) if error.kind() == io::ErrorKind::InvalidData => {
+            eprintln!(rt; "a word of the command line is not UTF-8")?;
+            Ok(None)
+        }
+        Err(error) => Err(error),
+    }
 }
 
 /// Runs the command line.
@@ -83,7 +129,9 @@ fn run<T: Threads + Wait + Clock + Copy + Send + Sync>(
     rt: &HostRuntime,
     threads: T,
 ) -> io::Result<Status> {
-    let arguments = arguments(rt)?;
+    let Some(arguments) = words(rt)? else {
+        return Ok(Status::NotUnderstood);
+    };
     let words = words_of(rt.alloc(), &arguments)?;
     let invocation = match parse(rt.alloc(), &words) {
         Ok(invocation) => invocation,
@@ -102,13 +150,16 @@ fn run<T: Threads + Wait + Clock + Copy + Send + Sync>(
             workers,
             sessions,
             limit,
+            idle,
+            stop_at_eof,
         } => {
             let service = Service {
                 workers,
                 sessions,
                 limit,
+                idle,
             };
-            serve_at(rt, threads, address, service)
+            serve_at(rt, threads, address, service, stop_at_eof)
         }
         Invocation::Script { file, limit } => script_file(rt, file, limit),
         Invocation::Offline { file, bound } => offline_file(rt, &threads, file, bound),

@@ -5,6 +5,7 @@ use std::alloc::Global;
 use std::io::Read;
 use std::net::{Shutdown, TcpStream};
 use std::sync::Wait;
+use std::time::Duration;
 
 /// The number of bytes dropped per read.
 const PIECE: usize = 4096;
@@ -27,15 +28,29 @@ fn linger(stream: &TcpStream) {
     }
 }
 
-/// Answers the requests of the stream until it ends or has a fault.
+/// Lets each read and each write of the stream fail after this number of seconds without a byte, if
+/// it is not 0.
+fn limit_idleness(stream: &TcpStream, seconds: u32) {
+    if seconds > 0 {
+        let time = Some(Duration::from_secs(u64::from(seconds)));
+        // If one of these fails, the stream may be idle for longer.
+        let _ = stream.set_read_timeout(time);
+        let _ = stream.set_write_timeout(time);
+    }
+}
+
+/// Answers the requests of the stream until it ends, has a fault, or is idle for `idle` seconds (0:
+/// for any time).
 pub fn handle_connection<R: Wait, C: Calls>(
     rt: &R,
     alloc: Global,
     stream: &TcpStream,
+    idle: u32,
     calls: &mut C,
 ) {
     // If this fails replies are delayed, but right.
     let _ = stream.set_nodelay(true);
+    limit_idleness(stream, idle);
     let mut source = ReadSource::new(stream);
     let mut sink = WriteSink::new(stream);
     if let Ok(Ended::Frame(_)) = serve(rt, alloc, &mut source, &mut sink, calls) {

@@ -3,13 +3,17 @@
 //! below. Start reading at [`run_server`].
 #![tactic(auto)]
 
+mod accepting;
 mod backoff;
+mod closing;
 mod connections;
 mod handle_pool;
+mod seats;
 mod server_tasks;
 mod service;
 mod serving;
 
+pub use closing::close_at_end;
 pub use desk::Client;
 pub use offline_report::{offline, offline_with};
 pub use sequencer::Calls;

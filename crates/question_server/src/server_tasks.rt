@@ -17,7 +17,7 @@ pub trait ServerTasks: Sync {
     fn work(&self);
 
     /// Serves a session over the stream.
-    fn run_session(&self, stream: TcpStream);
+    fn run_session(&self, stream: &TcpStream);
 }
 
 /// The work at a desk.
@@ -28,6 +28,8 @@ pub struct DeskTasks<'a, N: HistoryId, R: Wait + Copy, H: Hold> {
     pub desk: &'a Arc<Desk<N, R, BoardState<N>>>,
     pub handle_pool: &'a Mutex<HandlePool<N>>,
     pub hold: &'a H,
+    /// The seconds after which an idle session is closed, or 0.
+    pub idle: u32,
     /// Nonzero once the workers must stop.
     pub stop: &'a AtomicU64,
 }
@@ -64,7 +66,7 @@ impl<
         }
     }
 
-    fn run_session(&self, stream: TcpStream) {
+    fn run_session(&self, stream: &TcpStream) {
         let Ok(desk) = Arc::try_clone(self.desk) else {
             return;
         };
@@ -73,7 +75,7 @@ impl<
             return;
         };
         let mut client = Client::new(desk, reader);
-        handle_connection(&self.rt, self.alloc, &stream, &mut client);
+        handle_connection(&self.rt, self.alloc, stream, self.idle, &mut client);
         self.handle_pool
             .lock(&self.rt)
             .give_back(client.into_reader());

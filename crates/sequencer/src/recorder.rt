@@ -15,7 +15,7 @@ use std::collections::hash_map::RandomState;
 use std::marker::{Brand, Model};
 use std::sync::Arc;
 use std::sync::ledger::{Blank, Ledger};
-use trace_index::{Copies, TraceIndex};
+use trace_index::{Steps, TraceIndex};
 use trace_model::{Event, NoMemory, Place, Refusal};
 use wellformed::AdmissionTables;
 
@@ -51,7 +51,7 @@ fn record_in<L: Ledger>(index: &mut TraceIndex, event: &Event, blank: Blank)
     requires lawful { refusal_of MAX_EVENTS index.old.events event.now ≡ None }
     ensures { index.new.events ≡ index.old.events ++ event.now ∷ [] }
 {
-    let mut copies = Copies::<L>::new(blank);
+    let mut copies = Steps::<L>::new(blank);
     index.record(event, &mut copies);
 }
 
@@ -160,7 +160,7 @@ impl Recorder {
         &self,
         count: u32,
         total: u32,
-        copies: &mut Copies<L>,
+        copies: &mut Steps<L>,
     ) -> Result<Arc<Snapshot, Global>, NoMemory>
         requires within { count ≤ length self.now.events }
         requires total { total ≡ length (dependencies (take count self.now.events)) }

@@ -11,7 +11,7 @@ use std::alloc::Global;
 use std::marker::Brand;
 use std::sync::Arc;
 use std::sync::ledger::{Blank, Ledger};
-use trace_index::Copies;
+use trace_index::Steps;
 use trace_model::Refusal;
 
 impl Book {
@@ -40,7 +40,7 @@ impl Book {
     pub fn snapshot_counted<L: Ledger>(
         &self,
         question: u32,
-        copies: &mut Copies<L>,
+        copies: &mut Steps<L>,
     ) -> Result<Arc<Snapshot, Global>, Refusal>
         ensures ok { IfOk result (λ shared. (q : Question)
             × (slice_get self.now.state.questions question ≡ Some q)
@@ -75,6 +75,6 @@ fn snapshot_of<L: Ledger>(
         × (arc_value shared ≡ take q.length book.now.state.accepted)) }
     ensures refused { IfErr result (RefusesSnapshot book.now.state question) }
 {
-    let mut copies = Copies::<L>::new(blank);
+    let mut copies = Steps::<L>::new(blank);
     book.snapshot_counted(question, &mut copies)
 }

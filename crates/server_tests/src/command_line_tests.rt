@@ -12,6 +12,8 @@ const VALID: [(&[&str], Invocation<'static>); 7] = [
             workers: 1,
             sessions: 0,
             limit: 1_048_576,
+            idle: 0,
+            stop_at_eof: false,
         },
     ),
     (
@@ -25,12 +27,17 @@ const VALID: [(&[&str], Invocation<'static>); 7] = [
             "1000000",
             "--limit",
             "1",
+            "--idle",
+            "86400",
+            "--stop-at-eof",
         ],
         Invocation::Serve {
             address: "[::1]:9",
             workers: 16,
             sessions: 1_000_000,
             limit: 1,
+            idle: 86_400,
+            stop_at_eof: true,
         },
     ),
     (

@@ -26,7 +26,7 @@ use std::sync::Wait;
 use std::sync::ledger::Ledger as Count;
 use std::test::*;
 use std::thread::Threads;
-use trace_index::{Copies, TraceIndex};
+use trace_index::TraceIndex;
 use trace_model::{Bound, Cycle, Event, Instance, NoMemory, Place, Reply, Request};
 use wellformed::Gate;
 use witness::report_text;
@@ -290,7 +290,6 @@ fn book_in_phases(rt: HostRuntime) -> Result<(), Fail> {
 
 /// Names the functions whose contracts count what they copy, for which these tests have no ledger.
 fn counted<L: Count>() {
-    let _ = Copies::<L>::new;
     let _ = TraceIndex::reserve;
     let _ = TraceIndex::record::<L>;
     let _ = Book::snapshot_counted::<L>;

@@ -13,6 +13,7 @@ use std::io::{self, Read, Write};
 use std::net::{Net, SocketAddr, TcpListener, TcpStream};
 use std::process::Abort;
 use std::sync::Wait;
+use std::sync::atomic::AtomicU64;
 use std::test::*;
 use std::thread;
 use std::thread::Threads;
@@ -31,8 +32,10 @@ fn serve_sessions<R: Threads + Wait + Clock + Copy + Send + Sync, H: Hold + Sync
         workers: 2,
         sessions,
         limit: LIMIT,
+        idle: 0,
     };
-    run_server(rt, alloc, state, listener, service, hold).ok()
+    let closing = AtomicU64::new(0);
+    run_server(rt, alloc, state, listener, service, hold, &closing).ok()
 }
 
 /// Reads the body of the next reply.

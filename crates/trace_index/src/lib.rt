@@ -8,7 +8,6 @@
 //! thread, a lock or a variable) are a linked list. Start reading at [`TraceIndex`].
 #![tactic(auto)]
 
-mod copies;
 mod depths;
 mod growing;
 mod key_cache;
@@ -32,7 +31,6 @@ ghost use Rattle.trace_model.specs.Theory.Lookups.{writer, release};
 ghost use Rattle.trace_index.specs.Numbers.{of_thread, number_at, thread_before, acquire_before};
 ghost use Rattle.trace_index.specs.Links.{matches, written_by, begun_at_depth, taken_before};
 
-pub use copies::Copies;
 use depths::Depths;
 use key_list::KeyList;
 pub use key_places::KeyPlaces;
@@ -41,6 +39,7 @@ use number_map::PositionCache;
 use row::{IndexRow, Key, Ready, index_of, place_of};
 use segment_tables::{SegmentTables, last_in_segments, release_in_segments};
 use segments::Segments;
+pub use segments::Steps;
 use std::alloc::Global;
 use std::collections::hash_map::RandomState;
 use std::marker::{Brand, Model};
@@ -91,7 +90,7 @@ fn build_counted<L: Ledger>(
     requires some { 0 < L.parts }
     ensures { IfOk result (λ index. index.events ≡ events.now) }
 {
-    let mut copies = Copies::<L>::new(blank);
+    let mut copies = Steps::<L>::new(blank);
     let mut index = TraceIndex::new(alloc, state);
     for event in events {
         index.reserve(event)?;

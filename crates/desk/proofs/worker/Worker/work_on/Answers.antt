@@ -6,7 +6,7 @@ use Rattle.desk.specs.declared.worker.Turn.{Turn}
 use Rattle.desk.specs.declared.worker.Picked.{Picked}
 use Rattle.desk.specs.Published.{Afterwards}
 use Rattle.desk.specs.Questions.{IsFirstMissing}
-use Rattle.desk.specs.Turns.{QuestionHasTooMany, IsDrawn, WorkerView}
+use Rattle.desk.specs.Turns.{QuestionHasTooMany, IsDrawn, IsRefusedTurn, WorkerView}
 use Rattle.desk.proofs.Turns.{known_since}
 use Rattle.desk.proofs.worker.Worker.work_on.Goals as goal
 
@@ -16,6 +16,14 @@ returns-in-Ok-compute-clause-later g c =
 
 pub returns-in-Err-clause-later : goal.returns-in-Err-clause-later
 returns-in-Err-clause-later g c = known_since _ _ _ _ c.self.view_is c.pick-picked.ensures.later c.compute.ensures.later
+
+pub returns-in-Ok-compute-clause-refused : goal.returns-in-Ok-compute-clause-refused
+returns-in-Ok-compute-clause-refused g c refusal is =
+    subst (λ n. IsRefusedTurn g.N.HistoryId.limit n refusal) (c.in-Ok-compute.ensures.computed.0 ∙ c.from-question.ensures) (c.deliver.ensures.refused refusal is)
+
+pub returns-in-Err-clause-refused : goal.returns-in-Err-clause-refused
+returns-in-Err-clause-refused g c refusal is =
+    subst (λ n. IsRefusedTurn g.N.HistoryId.limit n refusal) c.from-question.ensures (c.compute.ensures.refused refusal (c.in-Err.is ∙ ap (λ (t : Turn). Err t) is))
 
 pub returns-in-Err-clause-too_many : goal.returns-in-Err-clause-too_many
 returns-in-Err-clause-too_many g c =
