@@ -279,7 +279,50 @@ static void *comes_after(void *unused) {
 
 static void once(void) { run_two(initialises, comes_after); }
 
-/* writers: 0f1 0f2 1a1 1a2 1a3 1r3 1r2 1w1 1r1 2a1 2a3 2a2 2r2 2r3 2w1 2r1 0j2 0j1 */
+/* joins_wanting: 0f1 1a2000000001 1a1 1r1 0a1 1r2000000001 0a2000000001 0r2000000001 0j1 0r1 */
+static void *uses_a(void *unused) {
+    pthread_mutex_lock(&a);
+    pthread_mutex_unlock(&a);
+    next();
+    return unused;
+}
+
+static void joins_wanting(void) {
+    pthread_t one;
+    if (pthread_create(&one, NULL, uses_a, NULL)) abort();
+    until(1);
+    pthread_mutex_lock(&a);
+    pthread_join(one, NULL);
+    pthread_mutex_unlock(&a);
+}
+
+/* woken_holding: 0f1 0f2 1a2500000001 1a1 1r1 2a1 2a2 2r2 1a2 1r2500000001 1d1 1w1 1r2 2a2500000001 2r2500000001 2d1 2a2 2r2 2r1 0j2 0j1 */
+static int can_go_on;
+
+static void *uses_a_and_wakes(void *unused) {
+    uses_a(unused);
+    until(2);
+    pthread_mutex_lock(&guard);
+    can_go_on = 1;
+    pthread_cond_signal(&condition);
+    pthread_mutex_unlock(&guard);
+    return unused;
+}
+
+static void *waits_with_a(void *unused) {
+    until(1);
+    pthread_mutex_lock(&a);
+    pthread_mutex_lock(&guard);
+    next();
+    while (!can_go_on) pthread_cond_wait(&condition, &guard);
+    pthread_mutex_unlock(&guard);
+    pthread_mutex_unlock(&a);
+    return unused;
+}
+
+static void woken_holding(void) { run_two(uses_a_and_wakes, waits_with_a); }
+
+/* writers: 0f1 0f2 1a1 1a2 1a3 1a4 1r4 1r3 1w1 1r2 1r1 2a1 2a2 2a4 2a3 2r3 2r4 2w1 2r2 2r1 0j2 0j1 */
 static void *writes_first(void *unused) {
     pthread_rwlock_wrlock(&gate);
     both(&a, &b);
@@ -298,7 +341,7 @@ static void *writes_second(void *unused) {
 
 static void writers(void) { run_two(writes_first, writes_second); }
 
-/* reader_then_writer: 0f1 0f2 1a1 1a2 1r2 1r1 1d1 1w1 2a3 2d1 2a2 2a1 2r1 2r2 2w2 2r3 0j2 0j1 */
+/* reader_then_writer: 0f1 0f2 1a2 1a3 1a4 1r4 1r3 1r2 2a1 2a5 2a2 2a4 2a3 2r3 2r4 2w1 2r5 2r2 2r1 0j2 0j1 */
 static void *reads_first(void *unused) {
     pthread_rwlock_rdlock(&gate);
     both(&a, &b);
@@ -309,7 +352,7 @@ static void *reads_first(void *unused) {
 
 static void reader_then_writer(void) { run_two(reads_first, writes_second); }
 
-/* writer_then_reader: 0f1 0f2 1a1 1a2 1a3 1r3 1r2 1w1 1r1 2d1 2a3 2a2 2r2 2r3 2d2 2w2 0j2 0j1 */
+/* writer_then_reader: 0f1 0f2 1a1 1a2 1a3 1a4 1r4 1r3 1w1 1r2 1r1 2a2 2a4 2a3 2r3 2r4 2r2 0j2 0j1 */
 static void *reads_second(void *unused) {
     until(1);
     pthread_rwlock_rdlock(&gate);
@@ -885,7 +928,7 @@ static void becomes_daemon(void) {
     X(writers) X(reader_then_writer) X(writer_then_reader) X(spins) X(c11) X(recursive) X(handed) \
     X(kept) X(kept_recursive) X(kept_robust) X(kept_c11) X(abandoned) X(ended) X(cancelled) X(processes) \
     X(renewed) X(freed) X(unmapped) X(left) X(many_held) X(many_tried) X(many_threads) X(many_events) X(windows) X(stopped) \
-    X(in_handler) X(deadlocks) X(waits_for_itself) X(joins_holding) X(reads_and_waits) X(in_destructors) \
+    X(joins_wanting) X(woken_holding) X(in_handler) X(deadlocks) X(waits_for_itself) X(joins_holding) X(reads_and_waits) X(in_destructors) \
     X(ends_by_exit) X(ends_at_once) X(ends_quickly) X(ends_by_abort) \
     X(ends_by_kill) X(ends_by_fault) X(ends_thread) X(closes_all) X(clears_environment) X(changes_folder) X(changes_user) \
     X(starts_another) X(becomes_daemon)

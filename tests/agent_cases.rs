@@ -172,12 +172,12 @@ fn writes_second() {
     both(&B, &A);
 }
 
-// writers: 0f1 0f2 1a1 1a2 1a3 1r3 1r2 1w1 1r1 2a1 2a3 2a2 2r2 2r3 2w1 2r1 0j2 0j1
+// writers: 0f1 0f2 1a1 1a2 1a3 1a4 1a5 1r5 1r4 1w1 1r2 1r3 1r1 2a1 2a3 2a2 2a5 2a4 2r4 2r5 2w1 2r2 2r3 2r1 0j2 0j1
 fn writers() {
     run_two(writes_first, writes_second);
 }
 
-// reader_then_writer: 0f1 0f2 1a1 1a2 1r2 1r1 1d1 1w1 2a3 2d1 2a2 2a1 2r1 2r2 2w2 2r3 0j2 0j1
+// reader_then_writer: 0f1 0f2 1a2 1a3 1a4 1r4 1r3 1r2 2a1 2a5 2a6 2a2 2a4 2a3 2r3 2r4 2w1 2r5 2r6 2r2 2r1 0j2 0j1
 fn reader_then_writer() {
     run_two(
         || {
@@ -190,7 +190,7 @@ fn reader_then_writer() {
     );
 }
 
-// writer_then_reader: 0f1 0f2 1a1 1a2 1a3 1r3 1r2 1w1 1r1 2d1 2a3 2a2 2r2 2r3 2d2 2w2 0j2 0j1
+// writer_then_reader: 0f1 0f2 1a1 1a2 1a3 1a4 1a5 1r5 1r4 1w1 1r2 1r3 1r1 2a3 2a5 2a4 2r4 2r5 2r3 0j2 0j1
 fn writer_then_reader() {
     run_two(writes_first, || {
         let _gate = GATE.try_read().unwrap();

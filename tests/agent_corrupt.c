@@ -40,6 +40,36 @@ static void callers(uint64_t caller) {
     record(bad);
 }
 
+/* A call by the stack of this number, which has so many callers. The first one is 7 in the record, and another one in the stack. */
+static void stacks(uint32_t number, uint32_t count, uint64_t caller) {
+    struct record bad = {.kind = R_LOCK, .address = 64, .frames = BY_STACK};
+    uint64_t of_record = 7, of_stack = number;
+    memcpy(bad.callers[0], &of_record, sizeof bad.callers[0]), memcpy(bad.callers[1], &of_stack, sizeof bad.callers[1]);
+    if (number < STACKS) ring->stacks[number].callers[0] = caller, ring->stacks[number].count = count;
+    record(bad);
+}
+
+/* Names of this thread, of one by a handle that nobody has, and by texts at the end of the text and of another kind. */
+static void titles(void) {
+    uint64_t callers[] = {0, 1ull << 40, TEXT - 1, 1};
+    memset(ring->text, '\n', TEXT);
+    for (size_t at = 0; at < sizeof callers / sizeof *callers; at++) {
+        struct record bad = {.kind = R_TITLE, .frames = 1, .address = 0x0a0a0a0a41414141, .other = UINT64_MAX};
+        memcpy(bad.callers[0], &callers[at], sizeof bad.callers[0]);
+        record(bad);
+    }
+}
+
+/* Calls of a reader-writer lock in each order, also those that no lock permits. */
+static void readers(void) {
+    static const uint8_t kinds[] = {R_READ_LOCK, R_WRITE_LOCK, R_UNLOCK_EITHER, R_LOCK, R_UNLOCK, R_WRITE_TRIED, R_UNLOCK_OWN, R_NEW, R_FREE, R_END};
+    for (uint32_t call = 0; call < 20000; call++) {
+        uint32_t draw = call * 2654435761u >> 8;
+        record((struct record){.thread = draw % 11, .kind = kinds[draw / 11 % sizeof kinds], .address = 64 + 64 * (draw / 1000 % 2),
+                               .other = kinds[draw / 11 % sizeof kinds] == R_FREE ? 64 : draw / 300 % 8});
+    }
+}
+
 static int is_cut(const char *path) {
     int file = open(path, O_RDWR);
     return file < 0 || ftruncate(file, 0) == 0 || ftruncate(file, 1 << 30) == 0;
@@ -55,9 +85,15 @@ int main(int count, char **words) {
 #define CASE(text) else if (!strcmp(name, text))
     if (!*name) return 2;
     CASE("frames") record((struct record){.kind = R_LOCK, .frames = 255});
-    CASE("frames_6") record((struct record){.kind = R_LOCK, .frames = MOST_FRAMES + 1});
+    CASE("frames_7") record((struct record){.kind = R_LOCK, .frames = BY_STACK + 1});
     CASE("kind_0") record((struct record){.kind = 0});
-    CASE("kind_27") record((struct record){.kind = R_UNLOADED + 1});
+    CASE("kind_28") record((struct record){.kind = R_TITLE + 1});
+    CASE("stack_beyond") stacks(STACKS, 1, 7);
+    CASE("stack_empty") stacks(STACKS - 1, 0, 7);
+    CASE("stack_long") stacks(STACKS - 1, MOST_STACK + 1, 7);
+    CASE("stack_other") stacks(STACKS - 1, MOST_STACK, 8);
+    CASE("titles") titles();
+    CASE("readers") readers();
     CASE("thread") record((struct record){.kind = R_LOCK, .thread = 500000000});
     CASE("nobody") record((struct record){.kind = R_LOCK, .thread = NOBODY});
     CASE("fork") record((struct record){.kind = R_FORK, .other = 500000000});

@@ -62,6 +62,36 @@ static int loads(void) {
     return 0;
 }
 
+/* while_loading: threads use locks in functions of different depths while another one loads and closes a library */
+static pthread_mutex_t deep = PTHREAD_MUTEX_INITIALIZER;
+static int is_loading = 1;
+
+__attribute__((noinline)) static int locks_below(int depth) {
+    char room[64];
+    memset(room, depth, sizeof room);
+    if (depth) return locks_below(depth - 1) + room[depth % 64];
+    pthread_mutex_lock(&deep);
+    return pthread_mutex_unlock(&deep);
+}
+
+static void *locks_on(void *unused) {
+    for (int round = 0; round < 20000 && __atomic_load_n(&is_loading, __ATOMIC_RELAXED); round++) locks_below(round % 40);
+    return unused;
+}
+
+static int while_loading(void) {
+    pthread_t two[2];
+    for (int at = 0; at < 2; at++) pthread_create(&two[at], NULL, locks_on, NULL);
+    for (int round = 0; round < 50; round++) {
+        void *library = dlopen("./library.so", RTLD_NOW | RTLD_LOCAL);
+        int (*run)(void) = library ? (int (*)(void))dlsym(library, "run") : NULL;
+        if (!run || run() || dlclose(library)) return 1;
+    }
+    __atomic_store_n(&is_loading, 0, __ATOMIC_RELAXED);
+    for (int at = 0; at < 2; at++) pthread_join(two[at], NULL);
+    return 0;
+}
+
 /* reloads: a library is closed and loaded again, to the same place. Its locks are others then. */
 static int (*run_of_library)(int);
 static void *runs_in(void *order) { return run_of_library(order != NULL) ? order : NULL; }
@@ -125,7 +155,8 @@ static int generated(void) {
 
 static const struct { const char *name; int (*run)(void); } cases[] = {{"no_threads", no_threads}, {"threads", threads}, {"readers", readers},
                                                                {"unstarted", unstarted}, {"loads", loads}, {"generated", generated},
-                                                               {"reloads", reloads}, {"calls", calls}};
+                                                               {"reloads", reloads}, {"while_loading", while_loading},
+                                                               {"calls", calls}};
 
 int main(int count, char **words) {
     for (size_t at = 0; count > 1 && at < sizeof cases / sizeof *cases; at++)

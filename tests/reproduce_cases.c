@@ -149,6 +149,19 @@ BODY(writes_within) {
 }
 static void writers(void) { RUN(reads, writes, writes_within); }
 
+/* A reader or a writer is stuck within the lock, and another thread outside. */
+static void around(int (*acquire)(pthread_rwlock_t *)) { acquire(&shared), use(&a), pthread_rwlock_unlock(&shared); }
+static void under(int (*acquire)(pthread_rwlock_t *)) {
+    lock(&a), acquire(&shared);
+    pthread_rwlock_unlock(&shared), unlock(&a);
+}
+BODY(reads_around) { around(pthread_rwlock_rdlock), next(); return NULL; }
+BODY(writes_around) { around(pthread_rwlock_wrlock), next(); return NULL; }
+BODY(reads_under) { until(1), under(pthread_rwlock_rdlock); return NULL; }
+BODY(writes_under) { until(1), under(pthread_rwlock_wrlock); return NULL; }
+static void reader_within(void) { RUN(reads_around, writes_under); }
+static void reader_outside(void) { RUN(writes_around, reads_under); }
+
 /* The second member is started by a thread that joins another one before. */
 static pthread_t second_member;
 BODY(prepares) { use(&c); return NULL; }
@@ -170,6 +183,14 @@ static void c11(void) {
     mtx_init(&outer, mtx_plain), mtx_init(&inner, mtx_plain);
     if (thrd_create(&one, c11_forward, NULL) || thrd_create(&two, c11_backward, NULL)) abort();
     thrd_join(one, NULL), thrd_join(two, NULL);
+}
+
+/* A holder of a lock joins a thread that wants the lock. */
+BODY(takes_a) { use(&a), next(); return NULL; }
+static void joined(void) {
+    pthread_t handle = start(takes_a, NULL);
+    until(1), lock(&a);
+    pthread_join(handle, NULL), unlock(&a);
 }
 
 /* ---- attempts ---- */
@@ -367,8 +388,8 @@ BODY(deadlocks_instead) {
 static void another(void) { RUN(deadlocks_after, deadlocks_instead); }
 
 #define CASES(X) \
-    X(condition_within) X(conditions) X(semaphores) X(barrier) X(once) X(writers) X(forks) X(c11) X(fails) X(attempts) X(rounds) X(pool) \
-    X(outsider_value) X(outsider_flag) X(heap) X(late) X(no_join) X(told) X(designed) X(false_value) X(false_flag) X(another)
+    X(condition_within) X(conditions) X(semaphores) X(barrier) X(once) X(writers) X(reader_within) X(reader_outside) X(forks) X(c11) X(fails) \
+    X(attempts) X(rounds) X(pool) X(joined) X(outsider_value) X(outsider_flag) X(heap) X(late) X(no_join) X(told) X(designed) X(false_value) X(false_flag) X(another)
 
 int main(int count, char **words) {
     const char *name = count > 1 ? words[1] : "";

@@ -22,11 +22,11 @@ enum { MOST_CHECKS = 4, MANY_WINDOWS = 16, MANY_EVENTS = 1 << 18, PATIENCE = 500
 enum { MICROSECONDS = 500, STALLED_ROUNDS = 4000, GRACE_ROUNDS = 2000, AHEAD = 1000, LOOK_EVERY = 200, COMMAND_SECONDS = 60 };
 
 /* The agent for Python uses these offsets, and it and the crate for Rust these numbers of kinds. */
-_Static_assert(R_UNLOCK == 12 && R_UNLOCK_EITHER == 17 && R_GIVE == 19 && R_NEW == 22, "goodlock_agent.py, recorder.rs");
+_Static_assert(R_UNLOCK == 12 && R_UNLOCK_EITHER == 17 && R_GIVE == 19 && R_NEW == 22 && R_TITLE == 27, "goodlock_agent.py, recorder.rs");
 _Static_assert(offsetof(struct ring, consumed) == 64 && offsetof(struct ring, threads) == 128 && offsetof(struct ring, owner) == 132 &&
                offsetof(struct ring, attached) == 144 && offsetof(struct ring, sites_used) == 160 && offsetof(struct ring, text) == 164 &&
                offsetof(struct ring, waits) == 1048768 && offsetof(struct ring, slots) == 2097344 &&
-               offsetof(struct ring, others) == 18874560 && sizeof(struct ring) == 18891072 && sizeof(struct record) == 64 &&
+               offsetof(struct ring, others) == 18874560 && sizeof(struct ring) == 24396096 && sizeof(struct record) == 64 &&
                sizeof(struct wait) == 64, "goodlock_agent.py");
 
 static const char *const gate_names[GATE_OPTIONS] = {"--suppress", "--baseline", "--fail-on", "--root"};
@@ -375,6 +375,7 @@ static void write_summary(int is_whole) {
             write_processes(), ring->cleared, (unsigned long)ring->futexes);
     fprintf(file, "frames %d\npython %d\nfollower %d\nfollows %d\n", options.frames, options.is_python, is_follower,
             options.follows_others);
+    fprintf(file, "crowded_locks %lu\n", crowded_locks);
     fclose(file);
 }
 

@@ -1,6 +1,6 @@
 /* Shared by the files of the collector: collector.c runs the program and reads its records, encode.c turns records into the events
- * of traces, deadlock.c finds threads that wait for each other, tables.c keeps threads and locks, sites.c names callers, server.c streams
- * to a server. */
+ * of traces, readers.c those of reader-writer locks, names.c keeps names, deadlock.c finds threads that wait for each other, tables.c keeps
+ * threads and locks, sites.c names callers, server.c streams to a server. */
 #define _GNU_SOURCE
 #include "limits.h"
 #include "ring.h"
@@ -103,10 +103,12 @@ struct lock {
     uint64_t address;
     uint32_t number, holder, depth, helper, site, variables[3]; /* number 0: the next acquire gets a new one; helper: see encode.c */
     uint32_t identity;                                          /* in the log of calls; 0: the next call gives it a new one */
-    uint8_t how, was_read, is_tried;
-    struct reader { uint32_t thread, site; } *readers;          /* that hold it, for deadlocks that happen */
-    size_t readers_count, readers_room;
+    uint8_t how, is_tried, is_nested;                           /* is_nested: its holder has acquired another one */
+    struct sharing *sharing;                                    /* its readers: see readers.c. NULL: it is no reader-writer lock */
+    struct lock *whole;                                         /* of a part; its other members: */
+    uint32_t reader, earlier;                                   /* who reads by it; how many sections of writers had no such part */
 };
+struct reader { uint32_t thread, site; };
 struct thread {
     struct entry entry, by_handle;                              /* by number */
     struct thread *older, *newer;
@@ -115,13 +117,13 @@ struct thread {
     uint32_t in_window;                                         /* the window in which it was forked last */
     uint32_t tries, tries_in_window;                            /* locks that it holds by an acquire which does not wait; the most of the window */
     uint32_t looked;                                            /* the look for a deadlock that has passed it last */
-    uint8_t has_ended, is_forgotten;                            /* is_forgotten: nobody joins it */
+    uint8_t has_ended, is_forgotten, waits_for_end, last_kind;  /* is_forgotten: nobody joins it; waits_for_end: in its join; of a record */
     struct lock **held, *on_stack;
     uint32_t *helpers;
     size_t held_count, held_room, helpers_count, helpers_room;
 };
 extern uint32_t events, window;
-extern unsigned long unseen, unstarted, overflowing, read_locks, lock_events;
+extern unsigned long unseen, unstarted, overflowing, lock_events;
 
 /* Takes a copy of a record. Returns 0 if it is not one that the recorder writes. */
 int encode(const struct record *record);
@@ -136,6 +138,38 @@ void next_window(void);
 uint32_t name_in_trace(uint32_t thread);
 /* The number of a lock in the traces. One that nobody has acquired gets one. */
 uint32_t number_of(struct lock *lock);
+
+/* For readers.c. The lock at this address, which has a number from now on. */
+struct lock *find_used_lock(uint32_t thread, uint64_t address);
+void acquire(uint32_t thread, struct lock *lock, enum how how, uint32_t site);
+/* One release, by `releaser`; NOBODY: by the holder. */
+void release(struct lock *lock, uint32_t releaser, uint32_t site);
+void release_fully(struct lock *lock, uint32_t site);
+/* The thread reads and then writes one of the lock's variables; it writes it; it reads it, if it was written. */
+void give_by(uint32_t thread, struct lock *lock, int which, uint32_t site);
+void write_by(uint32_t thread, struct lock *lock, int which, uint32_t site);
+void take_by(uint32_t thread, const struct lock *lock, int which, uint32_t site);
+
+/* ---- readers.c ---- */
+
+extern unsigned long read_locks, crowded_locks; /* crowded: with more readers than parts */
+void read_lock(uint32_t thread, uint64_t address, enum how how, int prefers_writers, uint32_t site);
+void write_lock(uint32_t thread, uint64_t address, enum how how, int prefers_writers, uint32_t site);
+void unlock_either(uint32_t thread, uint64_t address, uint32_t site);
+/* The whole lock is about to be released; it has been, and is removed. */
+void release_parts(struct lock *lock, uint32_t site);
+void forget_sharing(struct lock *lock);
+/* Those that hold the lock. */
+const struct reader *readers_of(const struct lock *lock, size_t *count);
+
+/* ---- names.c ---- */
+
+/* Adds a line to OUT.tmp/names: a comment for the traces. Numbers of threads are the recorder's. */
+void note_name(const char *format, ...) __attribute__((format(printf, 1, 2)));
+/* A thread has a name; a lock has a number: the report finds its name by its address, if it is in a file's memory. */
+void name_thread(const struct record *record, uint64_t handle_or_text);
+void name_lock(uint32_t number, uint64_t address);
+void close_names(void);
 
 /* ---- calls.c ---- */
 
@@ -228,6 +262,11 @@ int end_following(void);
 /* ---- sites.c ---- */
 
 uint32_t site_of(const uint64_t *callers, uint32_t count);
+/* The file that the recorder has named for this address, and the address in it; NULL: none. */
+const char *file_at(uint64_t address, uint64_t *offset);
+/* Copies a text of the shared memory, as far as it has that many bytes and is one line. */
+enum { MOST_TEXT = 1000 };
+void copy_text(char to[MOST_TEXT + 1], uint64_t from);
 void close_sites(void);
 /* Reads which files are mapped, from time to time; writes the names of the libraries that were seen to OUT.tmp/libraries, and the path of the
  * program to OUT.tmp/program. */

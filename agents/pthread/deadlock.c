@@ -15,7 +15,7 @@ static struct wait wait_of(uint32_t thread) {
     struct wait wait;
     copy_shared(&wait, &ring->waits[thread % WAITS], sizeof wait);
     if (wait.thread != thread || !__atomic_load_n(&ring->waits[thread % WAITS].address, __ATOMIC_ACQUIRE)) wait.address = 0;
-    if (wait.frames > MOST_FRAMES) wait.frames = 0;
+    if (wait.frames > BY_STACK) wait.frames = 0;
     return wait;
 }
 
@@ -31,10 +31,9 @@ static uint32_t follow(uint32_t thread, uint32_t first, uint32_t place) {
     if (wait.kind == WAITS_FOR_THREAD) return (joined = thread_of_handle(wait.address)) ? follow(joined->number, first, place + 1) : 0;
     const struct lock *lock = known_lock(wait.address);
     if (!lock || lock->holder != NOBODY) return lock ? follow(lock->holder, first, place + 1) : 0;
-    for (size_t at = 0; at < lock->readers_count; at++) {
-        uint32_t count = follow(lock->readers[at].thread, first, place + 1);
-        if (count) return count;
-    }
+    size_t count;
+    const struct reader *readers = readers_of(lock, &count);
+    for (uint32_t members; count > 0; count--, readers++) if ((members = follow(readers->thread, first, place + 1))) return members;
     return 0;
 }
 
@@ -56,6 +55,19 @@ static uint32_t find(int *is_same) {
     return count;
 }
 
+/* The locks that a thread holds; those that it reads are below. */
+static void write_held(FILE *file, const struct thread *thread) {
+    for (size_t one = 0; one < thread->held_count; one++)
+        if (!thread->held[one]->whole) fprintf(file, "  lock %u since @%u@\n", thread->held[one]->number, thread->held[one]->site);
+}
+
+static void write_read(FILE *file, uint32_t thread, struct lock *lock) {
+    size_t count;
+    const struct reader *readers = readers_of(lock, &count);
+    for (; count > 0; count--, readers++)
+        if (readers->thread == thread) fprintf(file, "  lock %u since @%u@\n", number_of(lock), readers->site);
+}
+
 static void write_members(FILE *file, uint32_t count) {
     fprintf(file, "deadlock of %u %s\n", count, count == 1 ? "thread, which waits for itself" : "threads, which wait for each other");
     for (uint32_t at = 0; at < count; at++) {
@@ -66,12 +78,10 @@ static void write_members(FILE *file, uint32_t count) {
         if (lock) fprintf(file, "lock %u at @%u@\n", number_of(lock), site);
         else fprintf(file, "thread %u at @%u@\n", name_in_trace(other ? other->number : NOBODY), site);
         if (thread && thread->begun) fprintf(file, "  thread %u from @%u@\n", name_in_trace(members[at]), thread->begun);
-        for (size_t one = 0; thread && one < thread->held_count; one++)
-            fprintf(file, "  lock %u since @%u@\n", thread->held[one]->number, thread->held[one]->site);
+        if (thread) write_held(file, thread);
         struct wait *wanted = &waits[(at ? at : count) - 1];
         lock = wanted->kind != WAITS_FOR_THREAD ? known_lock(wanted->address) : NULL;
-        for (size_t one = 0; lock && lock->holder == NOBODY && one < lock->readers_count; one++)
-            if (lock->readers[one].thread == members[at]) fprintf(file, "  lock %u since @%u@\n", number_of(lock), lock->readers[one].site);
+        if (lock && lock->holder == NOBODY) write_read(file, members[at], lock);
     }
 }
 

@@ -6,11 +6,11 @@
 #include "calls.h"
 #include "collector.h"
 
-enum { MOST_FORKS = MOST_THREADS - 1, SLACK = 400, GROWTH = 7, BUFFER = 1 << 16, LEAST_SEEN = 1 << 10, MOST_READERS = 1 << 10 };
-enum { WRITTEN, READ, HANDED }; /* of a lock's variables: writers' ends; readers' ends; orders and releases by other threads */
+enum { MOST_FORKS = MOST_THREADS - 1, SLACK = 1000, FORKS = 32, GROWTH = 7, BUFFER = 1 << 16, LEAST_SEEN = 1 << 10 };
+enum { HANDED = 2 }; /* of a lock's variables: orders and releases by other threads. readers.c has the others */
 
 uint32_t events, window;
-unsigned long unseen, unstarted, overflowing, read_locks, lock_events;
+unsigned long unseen, unstarted, overflowing, lock_events;
 static uint32_t numbered, variables, forks, helpers, identities;
 static uint32_t tried, tried_forks; /* sections in this window that begin by an acquire which does not wait; what they may need: see search.py */
 static uint64_t *seen; /* pairs of a thread and an initialisation that it has received in this window */
@@ -18,7 +18,7 @@ static size_t seen_size, seen_count;
 static char buffer[BUFFER];
 static size_t buffered;
 static uint32_t last_site;
-static FILE *trace;
+static FILE *trace, *waits;
 static int has_failed;
 
 /* ---- the trace file ---- */
@@ -86,6 +86,12 @@ static void give(uint32_t thread, uint32_t to, uint32_t site) {
 }
 
 static void take(uint32_t thread, uint32_t from, uint32_t site) { event(thread, 'd', from, site); }
+
+void give_by(uint32_t thread, struct lock *lock, int which, uint32_t site) { give(name(thread), variable(lock, which), site); }
+void write_by(uint32_t thread, struct lock *lock, int which, uint32_t site) { event(name(thread), 'w', variable(lock, which), site); }
+void take_by(uint32_t thread, const struct lock *lock, int which, uint32_t site) {
+    if (lock->variables[which]) take(name(thread), lock->variables[which], site);
+}
 
 /* The second thread goes on after what the first one has done. */
 static void follow(uint32_t first, uint32_t second, uint32_t by, uint32_t site) {
@@ -189,6 +195,7 @@ static void begin_section(uint32_t thread, struct lock *lock, uint32_t site) {
         it->depth++;
     }
     for (size_t at = 0; at < it->held_count && lock->how != TRIES; at++) add_edge(it->held[at]->number, lock->number, thread);
+    for (size_t at = 0; at < it->held_count; at++) it->held[at]->is_nested = 1;
     it->held = grow(it->held, it->held_count, &it->held_room, sizeof *it->held);
     it->held[it->held_count++] = lock;
 }
@@ -210,21 +217,23 @@ static void end_section(uint32_t thread, struct lock *lock, uint32_t site) {
 }
 
 /* One release, by `releaser`. If another thread has acquired the lock, its release comes after what the releaser has done. */
-static void release(struct lock *lock, uint32_t releaser, uint32_t site) {
+void release(struct lock *lock, uint32_t releaser, uint32_t site) {
     if (releaser != NOBODY && releaser != lock->holder) follow(name(releaser), name(lock->holder), variable(lock, HANDED), site);
+    if (lock->sharing && lock->depth == 1) release_parts(lock, site);
     if (--lock->depth == 0) {
         end_section(lock->holder, lock, site);
         lock->holder = NOBODY;
     } else if (!lock->helper && lock->depth < MOST_DEPTH) event(name(lock->holder), 'r', lock->number, site);
 }
 
-static void release_fully(struct lock *lock, uint32_t site) {
+void release_fully(struct lock *lock, uint32_t site) {
     while (lock->holder != NOBODY) release(lock, NOBODY, site);
 }
 
 /* The object at this address is another one from now on. */
 static void renew(struct lock *lock) {
     release_fully(lock, 0);
+    forget_sharing(lock);
     remove_lock(lock);
 }
 
@@ -247,50 +256,21 @@ static void leave_stack(struct thread *thread, uint64_t pointer) {
 
 uint32_t number_of(struct lock *lock) { return lock->number ? lock->number : (lock->number = ++numbered); }
 
-static struct lock *acquire(uint32_t thread, uint64_t address, enum how how, uint32_t site) {
+struct lock *find_used_lock(uint32_t thread, uint64_t address) {
     struct lock *lock = find_lock(address);
     name(thread); /* before a release that was not seen: the order of forks is that of first events */
+    if (!lock->number) find_stack(find_thread(thread), lock), name_lock(number_of(lock), lock->address);
+    return lock;
+}
+
+void acquire(uint32_t thread, struct lock *lock, enum how how, uint32_t site) {
     if (lock->holder != thread) release_fully(lock, site);
-    if (!lock->number) find_stack(find_thread(thread), lock), number_of(lock);
+    number_of(lock);
     lock_events++;
     if (lock->depth++ == 0) {
         lock->holder = thread, lock->how = (uint8_t)how, lock->site = site;
         begin_section(thread, lock, site);
     } else if (!lock->helper && lock->depth <= MOST_DEPTH) event(name(thread), 'a', lock->number, site);
-    return lock;
-}
-
-static void write_lock(uint32_t thread, uint64_t address, enum how how, uint32_t site) {
-    struct lock *lock = acquire(thread, address, how, site);
-    lock->readers_count = 0;
-    if (lock->variables[READ]) take(name(thread), lock->variables[READ], site);
-}
-
-static void read_lock(uint32_t thread, uint64_t address, uint32_t site) {
-    struct lock *lock = find_lock(address);
-    release_fully(lock, site);
-    read_locks += !lock->was_read;
-    lock->was_read = 1;
-    if (lock->readers_count < MOST_READERS) {
-        lock->readers = grow(lock->readers, lock->readers_count, &lock->readers_room, sizeof *lock->readers);
-        lock->readers[lock->readers_count++] = (struct reader){thread, site};
-    }
-    if (lock->variables[WRITTEN]) take(name(thread), lock->variables[WRITTEN], site);
-}
-
-/* The last read section of the thread ends; or that of another one, if its own was not seen. */
-static void leave_readers(struct lock *lock, uint32_t thread) {
-    size_t at = lock->readers_count;
-    while (at > 0 && lock->readers[at - 1].thread != thread) at--;
-    if (lock->readers_count) lock->readers[at ? at - 1 : 0] = lock->readers[lock->readers_count - 1], lock->readers_count--;
-}
-
-static void unlock_either(uint32_t thread, uint64_t address, uint32_t site) {
-    struct lock *lock = find_lock(address);
-    if (lock->holder != NOBODY) {
-        event(name(thread), 'w', variable(lock, WRITTEN), site);
-        release(lock, thread, site);
-    } else if (lock->was_read) leave_readers(lock, thread), give(name(thread), variable(lock, READ), site);
 }
 
 /* ---- threads ---- */
@@ -318,9 +298,29 @@ static void forget_thread(struct thread *it) {
     remove_thread(it);
 }
 
+/* Writes to OUT.tmp/N.waits which threads are joined without a timeout by holders of locks, and whether such a thread was woken in a wait on a
+ * condition. The search of the window makes these waits for locks. */
+static FILE *waits_file(void) {
+    char name[24];
+    snprintf(name, sizeof name, "%u.waits", window);
+    return waits || is_following() ? waits : (waits = create_in_work(name));
+}
+
+static void note_join(const struct thread *by, const struct thread *child) {
+    if (by->held_count && by->waits_for_end && child->in_window == window && waits_file()) fprintf(waits, "%u\n", name_in_trace(child->number));
+}
+
+/* A wait on a condition is a release and a receive. */
+static void note_woken(const struct thread *thread) {
+    static uint32_t noted;
+    int is_wait = thread->last_kind == R_UNLOCK || thread->last_kind == R_UNLOCK_OWN;
+    if (noted != window && is_wait && thread->held_count && waits_file()) noted = window, fputs("woken\n", waits);
+}
+
 static void join_thread(uint32_t thread, uint32_t child, uint32_t site) {
     struct thread *it = known_thread(child);
     if (!it || child == thread) return;
+    note_join(find_thread(thread), it);
     if (it->in_window == window && name_in_trace(child)) event(name(thread), 'j', name_in_trace(child), site);
     forget_thread(it);
 }
@@ -355,6 +355,7 @@ static void open_trace(void) {
 static int close_trace(void) {
     write_out();
     write_window();
+    if (waits) fclose(waits), waits = NULL;
     if (trace && fclose(trace) && !has_failed) has_failed = 1, say("the trace cannot be written; the program runs on");
     trace = NULL;
     return !has_failed;
@@ -418,7 +419,7 @@ void next_window(void) {
 static int is_valid(const struct record *record) {
     int has_number = record->kind == R_FORK || record->kind == R_NAMED || record->kind == R_UNSTARTED ||
                      record->kind == R_FORGOTTEN;
-    return record->kind >= R_FORK && record->kind <= R_UNLOADED && record->frames <= MOST_FRAMES && record->thread < MOST_NUMBERS &&
+    return record->kind >= R_FORK && record->kind <= R_TITLE && record->frames <= BY_STACK && record->thread < MOST_NUMBERS &&
            (!has_number || record->other < MOST_NUMBERS) && has_room_for_threads();
 }
 
@@ -447,17 +448,18 @@ static void encode_record(const struct record *record, const uint64_t *callers, 
 int encode(const struct record *record) {
     if (!is_valid(record)) return 0;
     uint64_t callers[MOST_FRAMES] = {0};
-    for (int at = 0; at < record->frames; at++) memcpy(&callers[at], record->callers[at], 6);
-    uint32_t thread = record->thread, site = site_of(callers, record->kind == R_START ? 0 : record->frames), object = 0;
+    for (int at = 0; at < record->frames && at < MOST_FRAMES; at++) memcpy(&callers[at], record->callers[at], 6);
+    uint32_t thread = record->thread, site = site_of(callers, record->kind == R_START || record->kind == R_TITLE ? 0 : record->frames), object = 0;
     struct thread *it = find_thread(thread);
-    if (events >= options.window || events + GROWTH * tried + tried_forks + SLACK >= MOST_EVENTS || forks + tried_forks + 8 >= MOST_FORKS)
+    if (events >= options.window || events + GROWTH * tried + tried_forks + SLACK >= MOST_EVENTS || forks + tried_forks + FORKS >= MOST_FORKS)
         next_window();
     uint32_t before = events;
     if (record->kind >= R_LOCK && record->kind < R_GIVE && it->on_stack && record->other >= it->stack_low &&
         record->other < it->stack_high)
-        leave_stack(it, record->other);
+        leave_stack(it, record->other & ~(uint64_t)LOCK_FLAGS);
     int is_call = object_of_call(record, &object);
     encode_record(record, callers, site);
+    if ((it = known_thread(thread))) it->last_kind = record->kind;
     if (is_call) log_call(thread, record->kind == R_UNLOCK_OWN ? R_UNLOCK : record->kind, object, site, events - before);
     else if (record->kind != R_EXEC) log_events(events - before);
     return 1;
@@ -467,6 +469,7 @@ static void encode_record(const struct record *record, const uint64_t *callers, 
     uint32_t thread = record->thread;
     struct thread *it = find_thread(thread), *other;
     struct lock *lock;
+    enum how how;
     switch ((enum kind)record->kind) {
     case R_FORK: fork_thread(thread, (uint32_t)record->other, site); break;
     case R_NAMED:
@@ -475,25 +478,32 @@ static void encode_record(const struct record *record, const uint64_t *callers, 
     case R_START: take_handle(it, record->address), set_stack(it, record->other, callers[0]); break;
     case R_UNSEEN: take_handle(it, record->address), unseen++; break;
     case R_END: end_thread(it); break;
-    case R_JOINS: it->joining = (other = thread_of_handle(record->address)) ? other->number : NOBODY; break;
+    case R_JOINS:
+        it->joining = (other = thread_of_handle(record->address)) ? other->number : NOBODY;
+        it->waits_for_end = record->other == WITHOUT_END;
+        break;
     case R_JOINED: join_thread(thread, it->joining, site); break;
     case R_EXEC: begin_program(); break;
-    case R_LOCK: acquire(thread, record->address, BLOCKS, site); break;
-    case R_TRIED: acquire(thread, record->address, TRIES, site); break;
-    case R_TIMED: acquire(thread, record->address, TIMES_OUT, site); break;
+    case R_LOCK: acquire(thread, find_used_lock(thread, record->address), BLOCKS, site); break;
+    case R_TRIED: acquire(thread, find_used_lock(thread, record->address), TRIES, site); break;
+    case R_TIMED: acquire(thread, find_used_lock(thread, record->address), TIMES_OUT, site); break;
     case R_UNLOCK:
         if ((lock = known_lock(record->address)) && lock->holder != NOBODY) release(lock, thread, site);
         break;
     case R_UNLOCK_OWN:
         if ((lock = known_lock(record->address)) && lock->holder == thread) release(lock, thread, site);
         break;
-    case R_WRITE_LOCK: write_lock(thread, record->address, BLOCKS, site); break;
-    case R_WRITE_TRIED: write_lock(thread, record->address, TRIES, site); break;
-    case R_WRITE_TIMED: write_lock(thread, record->address, TIMES_OUT, site); break;
-    case R_READ_LOCK: read_lock(thread, record->address, site); break;
+    case R_WRITE_LOCK: write_lock(thread, record->address, BLOCKS, record->other & PREFERS_WRITERS, site); break;
+    case R_WRITE_TRIED: write_lock(thread, record->address, TRIES, record->other & PREFERS_WRITERS, site); break;
+    case R_WRITE_TIMED: write_lock(thread, record->address, TIMES_OUT, record->other & PREFERS_WRITERS, site); break;
+    case R_READ_LOCK:
+        how = record->other & READS_TRIED ? TRIES : record->other & READS_TIMED ? TIMES_OUT : BLOCKS;
+        read_lock(thread, record->address, how, record->other & PREFERS_WRITERS, site);
+        break;
     case R_UNLOCK_EITHER: unlock_either(thread, record->address, site); break;
     case R_GIVE: give(name(thread), variable(find_lock(record->address), HANDED), site); break;
     case R_TAKE:
+        note_woken(it);
         if ((lock = known_lock(record->address)) && lock->variables[HANDED]) take(name(thread), lock->variables[HANDED], site);
         break;
     case R_ONCE:
@@ -505,6 +515,7 @@ static void encode_record(const struct record *record, const uint64_t *callers, 
         break;
     case R_UNLOADED: forget_sites(record->address, record->other); /* fall through */
     case R_FREE: each_lock_in(record->address, record->other, renew); break;
+    case R_TITLE: name_thread(record, callers[0]); break;
     case R_UNSTARTED:
         unstarted++;
         if ((other = known_thread((uint32_t)record->other))) forget_thread(other);

@@ -8,7 +8,6 @@
  * Nothing here takes a lock of the C library or the loader: a thread that is held may have it. */
 #include "follow.h"
 
-#include <execinfo.h>
 #include <fcntl.h>
 #include <link.h>
 #include <linux/futex.h>
@@ -21,7 +20,7 @@
 #include <time.h>
 #include <unistd.h>
 
-enum { NAP_NS = 10000000, RETRY_NS = 1000000, AHEAD = 200, FRAMES = 40, MOST_NOTES = 4096, NT_BUILD_ID = 3 };
+enum { NAP_NS = 10000000, RETRY_NS = 1000000, AHEAD = 200, MOST_NOTES = 4096, NT_BUILD_ID = 3 };
 
 const struct schedule *schedule;
 struct parts parts;
@@ -39,7 +38,6 @@ static uint32_t state_word;                                         /* 0 free, 1
 static THREAD_LOCAL int is_inside, has_lane;
 static int has_exit_handler;
 
-__attribute__((weak)) int _dl_find_object(void *, struct dl_find_object *);
 
 /* ---- waiting ---- */
 
@@ -131,17 +129,6 @@ int is_at(uint32_t site, uint64_t caller) {
     if (!module || caller - 1 - module->l_addr != wanted->offset) return 0;
     if (file_of[wanted->file] != module && is_file(&parts.files[wanted->file], &found)) file_of[wanted->file] = module;
     return file_of[wanted->file] == module;
-}
-
-void take_stack(struct site *site) {
-    void *frames[FRAMES];
-    int before = errno, from = 0;
-    is_inside++;
-    int count = backtrace(frames, FRAMES);
-    is_inside--, errno = before;
-    while (from < count && (uint64_t)frames[from] != site->callers[0]) from++;
-    if (from == count) return;
-    for (site->count = 0; from < count && site->count < MOST_FRAMES; from++) site->callers[site->count++] = (uint64_t)frames[from];
 }
 
 /* ---- lanes ---- */
@@ -242,12 +229,9 @@ void nap(void) {
     if (command() == LOOSEN) next_turn();
 }
 
-static void wait_for_turn(int32_t of, struct site *site) {
+static void wait_for_turn(int32_t of) {
     note_place(of == REACH ? ARRIVED : of > 0 ? WAITS_FOR_TURN : HELD_BACK);
-    if (of == REACH) {
-        take_stack(site);
-        status->arrived = ++arrived, next_turn();
-    }
+    if (of == REACH) status->arrived = ++arrived, next_turn();
     while (!is_over() && (of == REACH || (of > 0 && (uint32_t)of > turn && !is_free(self)) || (of == HELD && command() != LOOSEN))) nap();
     note_place(IN_CALL);
 }
@@ -278,7 +262,7 @@ const struct call_of_schedule *enter(enum kind kind, uint64_t object, struct sit
     if (schedule->pause) { pause_before(kind, object, site), is_inside--; return NULL; }
     enter_state();
     const struct call_of_schedule *call = is_over() ? NULL : find_call(kind, object, caller, may_fail);
-    if (kind != R_END && call != &extra_call && call != &failing_call && !is_over()) wait_for_turn(call ? call->turn : HELD, site);
+    if (kind != R_END && call != &extra_call && call != &failing_call && !is_over()) wait_for_turn(call ? call->turn : HELD);
     leave_state(), is_inside--;
     if (call == &failing_call || (call && call->turn == REACH)) return call;
     return is_over() ? NULL : call ? call : &extra_call;
@@ -377,10 +361,8 @@ static int map_schedule(int file, uint64_t size) {
 void begin_schedule(void) {
     const char *path = getenv("GOODLOCK_SCHEDULE");
     struct stat it;
-    void *frame[1];
     int file = path ? open(path, O_RDWR | O_CLOEXEC | O_NONBLOCK | O_NOCTTY) : -1;
     if (file < 0) return;
-    backtrace(frame, 1); /* loads what it needs now, and not in a thread that is held */
     if (fstat(file, &it) == 0 && it.st_size > (off_t)sizeof(struct status) && fcntl(file, F_GET_SEALS) == RING_SEALS)
         map_schedule(file, (uint64_t)it.st_size);
     close(file);

@@ -14,8 +14,6 @@ void nap(void);
 int is_over(void);
 /* Whether a call is at this place of the schedule. */
 int is_at(uint32_t site, uint64_t caller);
-/* Replaces the callers by those that the unwinder finds: these do not depend on frame pointers. */
-void take_stack(struct site *site);
 /* The lane of this thread, or NOBODY if it has none. */
 uint32_t own_lane(void);
 extern struct status *status;

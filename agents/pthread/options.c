@@ -48,7 +48,7 @@ static char **read_options(int count, char **words) {
         case 'o': out = optarg; break;
         case 's': options.server = optarg; break;
         case 'e': options.error_status = (int)value_of(optarg, 0, 255, "--error-exitcode is 0 to 255"); break;
-        case 't': options.frames = (int)value_of(optarg, 1, MOST_FRAMES, "--stacks is 1 to 5"); break;
+        case 't': options.frames = (int)value_of(optarg, 1, MOST_STACK, "--stacks is 1 to 20"); break;
         case 'w': options.window = value_of(optarg, 100, MOST_EVENTS, "--window is 100 to 1048576"); break;
         case 'd':
             if (!*(options.on_deadlock = optarg)) refuse("--on-deadlock is report, kill, or a command");

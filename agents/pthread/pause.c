@@ -47,10 +47,9 @@ static uint32_t draw(uint32_t below) {
 
 void pause_before(enum kind kind, uint64_t object, struct site *site) {
     if (kind == R_UNLOCK || kind == R_UNLOCK_EITHER) forget_held(object);
-    if ((kind != R_LOCK && kind != R_WRITE_LOCK) || is_over()) return;
+    if ((kind != R_LOCK && kind != R_WRITE_LOCK && kind != R_READ_LOCK) || is_over()) return;
     uint32_t role = role_at(site->callers[0]);
     if (!role) return;
-    take_stack(site);
     uint32_t pauses = ++status->lanes[self].pauses, sure = SURE_MS / schedule->pause;
     if (draw(role * (pauses > sure ? pauses - sure + 1 : 1))) return;
     enter_state();

@@ -100,7 +100,7 @@ static void write_record(struct ring *to, uint32_t thread, enum kind kind, uint6
     if (place - __atomic_load_n(&to->consumed, __ATOMIC_ACQUIRE) >= SLOTS && !wait_for_slot(to, place)) return;
     record->address = address, record->other = other, record->thread = thread, record->kind = (uint8_t)kind;
     record->frames = (uint8_t)site->count;
-    for (uint32_t at = 0; at < site->count; at++) memcpy(record->callers[at], &site->callers[at], 6);
+    for (uint32_t at = 0; at < (site->count == BY_STACK ? 2 : site->count); at++) memcpy(record->callers[at], &site->callers[at], 6);
     __atomic_store_n(&record->ready, place + 1, __ATOMIC_RELEASE);
 }
 
@@ -162,7 +162,7 @@ struct wait *will_wait(uint32_t kind, uint64_t address, const struct site *site)
     if (!tid) tid = (uint32_t)syscall(SYS_gettid);
     struct wait *wait = &page.ring->waits[self % WAITS];
     wait->thread = self, wait->kind = kind, wait->frames = site->count, wait->tid = tid;
-    for (uint32_t at = 0; at < site->count; at++) wait->callers[at] = site->callers[at];
+    for (uint32_t at = 0; at < (site->count == BY_STACK ? 2 : site->count); at++) wait->callers[at] = site->callers[at];
     __atomic_store_n(&wait->address, address, __ATOMIC_RELEASE);
     return wait;
 }
@@ -204,6 +204,7 @@ static void ask_for_ring(struct other *other) {
     struct ring *own = map_ring(other->path);
     if (!own) return;
     self = NOBODY, is_claimed = 0, own->attached = 1;
+    forget_stacks();
     page.ring = own;
 }
 
@@ -293,9 +294,10 @@ static int begin_c11(void *raw) {
 EXPORT int pthread_create(pthread_t *handle, const pthread_attr_t *attributes, void *(*run)(void *), void *argument) {
     size_t stack_size = default_stack_size;
     struct start *start;
+    int is_start_recorded = records_start();
     TAKE_SITE;
     if (attributes && page.ring) pthread_attr_getstacksize(attributes, &stack_size);
-    if (!records_start() || !(start = new_start(stack_size))) return REAL(pthread_create)(handle, attributes, run, argument);
+    if (!is_start_recorded || !(start = new_start(stack_size))) return REAL(pthread_create)(handle, attributes, run, argument);
     start->run = run, start->argument = argument;
     uint32_t number = start->number;
     const struct call_of_schedule *turn = ENTER(R_FORK, number, 0);
@@ -309,8 +311,9 @@ EXPORT int pthread_create(pthread_t *handle, const pthread_attr_t *attributes, v
 
 EXPORT int thrd_create(thrd_t *handle, thrd_start_t run, void *argument) {
     struct start *start;
+    int is_start_recorded = records_start();
     TAKE_SITE;
-    if (!records_start() || !(start = new_start(default_stack_size))) return REAL(thrd_create)(handle, run, argument);
+    if (!is_start_recorded || !(start = new_start(default_stack_size))) return REAL(thrd_create)(handle, run, argument);
     start->run_c11 = run, start->argument = argument;
     uint32_t number = start->number;
     const struct call_of_schedule *turn = ENTER(R_FORK, number, 0);
@@ -327,7 +330,7 @@ static void clean_wait(void *raw) { has_waited(*(struct wait **)raw); }
 /* A join may be cancelled: then the thread does not wait any more, and nothing else is recorded. */
 #define JOIN(is_blocking, success, busy, call) ({ int error; TAKE_SITE; struct wait *wait = NULL; \
     const struct call_of_schedule *turn = ENTER(R_JOINED, number_of_handle((uint64_t)handle), !is_blocking); \
-    tell(R_JOINS, (void *)handle, 0, &site); \
+    tell(R_JOINS, (void *)handle, is_blocking ? WITHOUT_END : 0, &site); \
     if (is_blocking) wait = will_wait(WAITS_FOR_THREAD, (uint64_t)handle, &site); \
     pthread_cleanup_push(clean_wait, &wait); error = turn == &failing_call ? busy : call; pthread_cleanup_pop(1); \
     if (error == (success)) { tell(R_JOINED, (void *)handle, 0, &site); LEAVE(turn); } \
@@ -367,11 +370,15 @@ static enum kind unlock_of(const void *lock) {
 
 /* A blocking acquire: the thread shows what it waits for until it has the lock. */
 #define BLOCKING(kind, lock, success, call) BLOCKING_AS(WAITS_FOR_LOCK, kind, lock, success, call)
-#define BLOCKING_AS(how, kind, lock, success, call) ({ TAKE_SITE; const struct call_of_schedule *turn = ENTER(kind, lock, 0); \
+#define BLOCKING_AS(how, kind, lock, success, call) BLOCKING_WITH(0, how, kind, lock, success, call)
+#define BLOCKING_WITH(flags, how, kind, lock, success, call) ({ TAKE_SITE; const struct call_of_schedule *turn = ENTER(kind, lock, 0); \
+    site.stack |= (flags); \
     struct wait *wait = will_wait(how, (uint64_t)(lock), &site); \
     took(call, success, kind, lock, &site, wait, turn); })
 /* If it is the turn of an attempt, it waits for those that are about to release the lock. */
-#define ATTEMPT(kind, lock, success, busy, call) ({ TAKE_SITE; const struct call_of_schedule *turn = ENTER(kind, lock, 1); \
+#define ATTEMPT(kind, lock, success, busy, call) ATTEMPT_AS(0, kind, lock, success, busy, call)
+#define ATTEMPT_AS(flags, kind, lock, success, busy, call) ({ TAKE_SITE; const struct call_of_schedule *turn = ENTER(kind, lock, 1); \
+    site.stack |= (flags); \
     int error = turn == &failing_call ? busy : call; \
     while (error == (busy) && may_retry(turn)) error = call; \
     took(error, success, kind, lock, &site, NULL, turn); })
@@ -413,29 +420,34 @@ EXPORT void mtx_destroy(mtx_t *lock) {
     tell(R_NEW, lock, 0, &site);
 }
 
+/* What a reader-writer lock does: in glibc only this kind keeps readers out while a writer waits. */
+static uint64_t flags_of(const pthread_rwlock_t *lock) {
+    return lock->__data.__flags == PTHREAD_RWLOCK_PREFER_WRITER_NONRECURSIVE_NP ? PREFERS_WRITERS : 0;
+}
+
 EXPORT int pthread_rwlock_wrlock(pthread_rwlock_t *lock) {
-    return BLOCKING(R_WRITE_LOCK, lock, 0, REAL(pthread_rwlock_wrlock)(lock));
+    return BLOCKING_WITH(flags_of(lock), WAITS_FOR_LOCK, R_WRITE_LOCK, lock, 0, REAL(pthread_rwlock_wrlock)(lock));
 }
 EXPORT int pthread_rwlock_trywrlock(pthread_rwlock_t *lock) {
-    return ATTEMPT(R_WRITE_TRIED, lock, 0, EBUSY, REAL(pthread_rwlock_trywrlock)(lock));
+    return ATTEMPT_AS(flags_of(lock), R_WRITE_TRIED, lock, 0, EBUSY, REAL(pthread_rwlock_trywrlock)(lock));
 }
 EXPORT int pthread_rwlock_timedwrlock(pthread_rwlock_t *lock, const struct timespec *until) {
-    return ATTEMPT(R_WRITE_TIMED, lock, 0, ETIMEDOUT, REAL(pthread_rwlock_timedwrlock)(lock, until));
+    return ATTEMPT_AS(flags_of(lock), R_WRITE_TIMED, lock, 0, ETIMEDOUT, REAL(pthread_rwlock_timedwrlock)(lock, until));
 }
 EXPORT int pthread_rwlock_clockwrlock(pthread_rwlock_t *lock, clockid_t clock, const struct timespec *until) {
-    return ATTEMPT(R_WRITE_TIMED, lock, 0, ETIMEDOUT, REAL(pthread_rwlock_clockwrlock)(lock, clock, until));
+    return ATTEMPT_AS(flags_of(lock), R_WRITE_TIMED, lock, 0, ETIMEDOUT, REAL(pthread_rwlock_clockwrlock)(lock, clock, until));
 }
 EXPORT int pthread_rwlock_rdlock(pthread_rwlock_t *lock) {
-    return BLOCKING(R_READ_LOCK, lock, 0, REAL(pthread_rwlock_rdlock)(lock));
+    return BLOCKING_WITH(flags_of(lock), WAITS_FOR_LOCK, R_READ_LOCK, lock, 0, REAL(pthread_rwlock_rdlock)(lock));
 }
 EXPORT int pthread_rwlock_tryrdlock(pthread_rwlock_t *lock) {
-    return ATTEMPT(R_READ_LOCK, lock, 0, EBUSY, REAL(pthread_rwlock_tryrdlock)(lock));
+    return ATTEMPT_AS(flags_of(lock) | READS_TRIED, R_READ_LOCK, lock, 0, EBUSY, REAL(pthread_rwlock_tryrdlock)(lock));
 }
 EXPORT int pthread_rwlock_timedrdlock(pthread_rwlock_t *lock, const struct timespec *until) {
-    return ATTEMPT(R_READ_LOCK, lock, 0, ETIMEDOUT, REAL(pthread_rwlock_timedrdlock)(lock, until));
+    return ATTEMPT_AS(flags_of(lock) | READS_TIMED, R_READ_LOCK, lock, 0, ETIMEDOUT, REAL(pthread_rwlock_timedrdlock)(lock, until));
 }
 EXPORT int pthread_rwlock_clockrdlock(pthread_rwlock_t *lock, clockid_t clock, const struct timespec *until) {
-    return ATTEMPT(R_READ_LOCK, lock, 0, ETIMEDOUT, REAL(pthread_rwlock_clockrdlock)(lock, clock, until));
+    return ATTEMPT_AS(flags_of(lock) | READS_TIMED, R_READ_LOCK, lock, 0, ETIMEDOUT, REAL(pthread_rwlock_clockrdlock)(lock, clock, until));
 }
 EXPORT int pthread_rwlock_unlock(pthread_rwlock_t *lock) {
     return RELEASE(R_UNLOCK_EITHER, lock, REAL(pthread_rwlock_unlock)(lock));
@@ -677,9 +689,10 @@ EXPORT uint64_t goodlock_site(const char *text, uint32_t length) {
 /* The next calls of this thread are by this caller; 0: by their return addresses. */
 EXPORT void goodlock_state(uint64_t caller) { stated = caller; }
 
+/* The flags of a reader-writer lock are 256 times as large. */
 EXPORT void goodlock_record(uint32_t kind, uint64_t object, uint64_t caller) {
     struct site site = {.count = 1, .stack = (uint64_t)__builtin_frame_address(0), .callers = {caller}};
-    tell((enum kind)kind, (void *)object, site.stack, &site);
+    tell((enum kind)(kind % 256), (void *)object, site.stack | kind / 256 % (LOCK_FLAGS + 1), &site);
 }
 
 /* Before a blocking acquire, and with object 0 after it. */
@@ -760,6 +773,7 @@ __attribute__((constructor)) static void at_start(void) {
     if (!path) return;
     find_reals();
     find_starts();
+    begin_stacks();
     struct ring *found = map_ring(path);
     if (!found) return;
     if (pthread_getattr_default_np(&attributes) == 0) {

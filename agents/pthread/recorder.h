@@ -1,5 +1,5 @@
-/* Shared by the files of the recorder: recorder.c has the events and the calls of the C library, libraries.c those of other libraries, follow.c
- * and pause.c what a run needs that follows a recorded one. */
+/* Shared by the files of the recorder: recorder.c has the events and the calls of the C library, libraries.c those of other libraries, stacks.c
+ * finds callers, titles.c has the names of threads, follow.c and pause.c what a run needs that follows a recorded one. */
 #define _GNU_SOURCE
 #include "ring.h"
 
@@ -7,9 +7,12 @@
 #include <errno.h>
 #include <pthread.h>
 
+__attribute__((weak)) int _dl_find_object(void *, struct dl_find_object *); /* NULL before glibc 2.35 */
+
 #define THREAD_LOCAL __thread __attribute__((tls_model("initial-exec")))
 #define EXPORT __attribute__((visibility("default")))
 
+/* count: of the callers, or BY_STACK. */
 struct site { uint32_t count; uint64_t stack, callers[MOST_FRAMES]; };
 
 /* A child by `fork`, `_Fork` or `clone` finds this page filled with zeros. ring: NULL if nothing is recorded. */
@@ -19,17 +22,17 @@ extern THREAD_LOCAL uint32_t self;
 extern THREAD_LOCAL uint64_t stack_low, stack_high;
 extern THREAD_LOCAL uint64_t stated; /* the caller of this thread's next calls, if the program states it */
 
-/* The return address of the program's call, and those of the frames above it while the frame pointers stay in this thread's stack. */
+/* stacks.c: finds the callers of the caller, from the frame of the recorder's function. They are on this thread's stack. */
+void find_stack(struct site *site, const uint64_t *frame);
+/* The library has been loaded; the process has another ring from now on. */
+void begin_stacks(void);
+void forget_stacks(void);
+
+/* The return address of the program's call, and those above it if the thread is on its own stack. */
 static inline __attribute__((always_inline)) void take_site(struct site *site, void *frame, void *caller) {
-    uint64_t at = (uint64_t)frame, *up;
+    uint64_t at = (uint64_t)frame;
     site->stack = at, site->callers[0] = stated ? stated : (uint64_t)caller, site->count = 1;
-    if (stated || at < stack_low || at >= stack_high) return;
-    while (site->count < MOST_FRAMES) {
-        up = (uint64_t *)at;
-        if (up[0] <= at || up[0] >= stack_high - 16 || up[0] % 8) break;
-        at = up[0];
-        site->callers[site->count++] = ((uint64_t *)at)[1];
-    }
+    if (!stated && page.ring && at >= stack_low && at < stack_high) find_stack(site, frame);
 }
 #define TAKE_SITE struct site site; take_site(&site, __builtin_frame_address(0), __builtin_return_address(0))
 

@@ -1,7 +1,8 @@
 /* The memory that a recorder in the traced program shares with the collector, which is another process. */
 #include <stdint.h>
 
-enum { SLOTS = 1 << 18, MOST_FRAMES = 5, WAITS = 1 << 14, TEXT = 1 << 20, OTHERS = 256 };
+enum { SLOTS = 1 << 18, MOST_FRAMES = 5, WAITS = 1 << 14, TEXT = 1 << 20, OTHERS = 256, STACKS = 1 << 15, MOST_STACK = 20 };
+enum { BY_STACK = MOST_FRAMES + 1 }; /* instead of a number of callers: callers[1] is the number of a stack */
 #define NOBODY UINT32_MAX
 #define RING_MAGIC 0x31676E69726C6467u /* another file is none, also if GOODLOCK_RING is of a run that has ended */
 #define RING_SEALS (F_SEAL_SHRINK | F_SEAL_GROW | F_SEAL_SEAL)
@@ -13,10 +14,10 @@ enum kind {
     R_START,    /* a new thread's first record; address: its handle, other: the low end of its stack, callers[0]: the high end */
     R_UNSEEN,   /* the first record of a thread whose start was not seen; address: its handle */
     R_END,      /* a thread's function has ended */
-    R_JOINS,    /* before a join of the handle `address` */
+    R_JOINS,    /* before a join of the handle `address`; other: WITHOUT_END, or 0 if it does not wait, or not without end */
     R_JOINED,   /* after it */
     R_EXEC,     /* another program begins in this process */
-    /* locks; address: the lock, other: the thread's stack pointer */
+    /* locks; address: the lock, other: the thread's stack pointer, with the flags below */
     R_LOCK, R_TRIED, R_TIMED,    /* after a blocking, a non-blocking and a timed acquire */
     R_UNLOCK,                    /* before a release */
     R_WRITE_LOCK, R_WRITE_TRIED, R_WRITE_TIMED, R_READ_LOCK, R_UNLOCK_EITHER, /* the same for reader-writer locks */
@@ -31,10 +32,17 @@ enum kind {
     R_UNSTARTED, /* a thread: `other` was forked, but the system has not started it */
     R_FORGOTTEN, /* a thread: nobody can join `other` any more */
     R_UNLOADED,  /* `other` bytes at `address` are no library any more */
+    /* names */
+    R_TITLE,     /* a thread is called so: the bytes of `address` and `other`; callers[0]: its handle, 0 for this one. If callers[0] is the
+                  * number of a text, that is the name of this one */
 };
+
+/* In the lowest bits of a stack pointer: how a reader acquires the lock, if it does not wait without end; what the lock does. */
+enum { READS_TRIED = 1, READS_TIMED = 2, PREFERS_WRITERS = 4, LOCK_FLAGS = 15 };
 
 /* A later run that follows this one makes such a call when it has to, and not in its turn: it may be within a lock that is not seen. */
 enum { BY_FUTEX = 1 };
+enum { WITHOUT_END = 1 };
 
 /* One event of the program, in one cache line. `ready` is its place plus one, and is written last. */
 struct record {
@@ -76,6 +84,8 @@ struct ring {
     struct other others[OTHERS];                           /* hashed by process */
     uint32_t follows_others, cleared;                      /* cleared: programs that were started without GOODLOCK_RING */
     _Alignas(64) uint64_t futexes;                         /* calls of futex that are not those of a lock which is recorded */
+    uint32_t stacks_used;
+    struct callers { uint64_t callers[MOST_STACK]; uint32_t count, unused; } stacks[STACKS]; /* written before the first record with its number */
 };
 
 /* The text has lines, each ends with a line feed. From the front: `module BASE LOW HIGH PATH`, in hexadecimal, for a file that is mapped

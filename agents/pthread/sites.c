@@ -2,12 +2,12 @@
  * PATH+0xOFFSET, or the text of a site that is not an address. The report finds the source lines later. */
 #include "collector.h"
 
-enum { MOST_TEXT = 1000, PATH = 2000, PAUSE = 100, LONG_PAUSE = 3000 };
-struct site { struct entry entry; uint64_t callers[MOST_FRAMES]; uint32_t count, number; }; /* by a hash of its callers */
+enum { PATH = 2000, PAUSE = 100, LONG_PAUSE = 3000 };
+struct site { struct entry entry; uint64_t callers[MOST_STACK]; uint32_t count, number; }; /* by a hash of its callers */
 struct module { uint64_t base, low, high; char *path; };
 
 static struct table sites;
-static uint32_t sites_count;
+static uint32_t sites_count, site_of_stack[STACKS]; /* 0: not known */
 static struct modules { struct module *all; size_t count, room; } told, mapped; /* by the recorder; by the system: sorted */
 static uint32_t text_read;
 static unsigned long size_when_read;
@@ -104,13 +104,25 @@ static const struct module *module_of(uint64_t address) {
     return found && found->path ? found : NULL;
 }
 
+void copy_text(char to[MOST_TEXT + 1], uint64_t from) {
+    size_t size = TEXT - from < MOST_TEXT ? TEXT - from : MOST_TEXT;
+    copy_shared(to, ring->text + from, size);
+    to[size] = 0;
+    to[strcspn(to, "\t\n")] = 0;
+}
+
 static void write_text(uint64_t from) {
     char text[MOST_TEXT + 1];
-    size_t size = TEXT - from < MOST_TEXT ? TEXT - from : MOST_TEXT;
-    copy_shared(text, ring->text + from, size);
-    text[size] = 0;
-    text[strcspn(text, "\t\n")] = 0;
+    copy_text(text, from);
     fprintf(file, "\t%s", from ? text : "?");
+}
+
+const char *file_at(uint64_t address, uint64_t *offset) {
+    read_text();
+    const struct module *module = told_module(address);
+    if (!module) return NULL;
+    *offset = address - module->base;
+    return module->path;
 }
 
 /* Frame pointers may lead to words that are no return addresses, so a frame outside every mapped file ends the list. */
@@ -130,9 +142,8 @@ static void write_site(const struct site *site) {
     fputc('\n', file);
 }
 
-uint32_t site_of(const uint64_t *callers, uint32_t count) {
+static uint32_t site_by_callers(const uint64_t *callers, uint32_t count) {
     uint64_t hash = count;
-    if (count == 0) return 0;
     for (uint32_t at = 0; at < count; at++) hash = (hash ^ callers[at]) * 0x9E3779B97F4A7C15u;
     struct site *site = (struct site *)find_entry(&sites, hash);
     while (site && (site->entry.key != hash || site->count != count || memcmp(site->callers, callers, count * sizeof *callers)))
@@ -146,7 +157,20 @@ uint32_t site_of(const uint64_t *callers, uint32_t count) {
     return site->number;
 }
 
+uint32_t site_of(const uint64_t *callers, uint32_t count) {
+    if (count == 0) return 0;
+    if (count != BY_STACK) return site_by_callers(callers, count);
+    uint64_t number = callers[1];
+    struct callers stack;
+    if (number >= STACKS) return site_by_callers(callers, 1);
+    if (site_of_stack[number]) return site_of_stack[number];
+    copy_shared(&stack, &ring->stacks[number], sizeof stack);
+    if (!stack.count || stack.count > MOST_STACK || stack.callers[0] != callers[0]) return site_by_callers(callers, 1);
+    return site_of_stack[number] = site_by_callers(stack.callers, stack.count);
+}
+
 void forget_sites(uint64_t from, uint64_t size) {
+    memset(site_of_stack, 0, sizeof site_of_stack);
     for (size_t slot = 0; slot < sites.size; slot++)
         for (struct entry *entry = sites.slots[slot], *next; entry; entry = next) {
             const struct site *site = (struct site *)entry;
@@ -190,4 +214,5 @@ void write_libraries(void) {
 
 void close_sites(void) {
     if (file) fflush(file);
+    close_names();
 }

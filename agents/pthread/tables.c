@@ -164,7 +164,7 @@ void remove_lock(struct lock *lock) {
     count_in(lock->address, PAGE, -1);
     count_in(lock->address, REGION, -1);
     remove_entry(&locks, &lock->entry);
-    free(lock->readers), free(lock);
+    free(lock);
 }
 
 void leave_stack_of(struct lock *lock) {

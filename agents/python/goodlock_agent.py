@@ -35,14 +35,14 @@ import time
 
 R_FORK, R_NAMED, R_START, R_UNSEEN, R_END, R_JOINS, R_JOINED, R_EXEC = range(1, 9)
 R_LOCK, R_TRIED, R_TIMED, R_UNLOCK = range(9, 13)
-R_GIVE, R_TAKE, R_NEW, R_FORGOTTEN = 19, 20, 22, 25
+R_GIVE, R_TAKE, R_NEW, R_FORGOTTEN, R_TITLE = 19, 20, 22, 25, 27
 WAITS_FOR_LOCK, WAITS_FOR_THREAD = 1, 2
 # The shared memory; collector.c tests that these are the offsets in ring.h.
 NEXT, MAGIC, CONSUMED, THREADS, OWNER, ATTACHED, OFF, FINISHED, SITES_USED, TEXT = 0, 8, 64, 128, 132, 144, 148, 152, 160, 164
 COLLECTOR_NUMBER = 136
-WAITS, SLOTS, SIZE, MOST_WAITS, MOST_SLOTS, MOST_TEXT = 1_048_768, 2_097_344, 18_891_072, 1 << 14, 1 << 18, 1 << 20
+WAITS, SLOTS, SIZE, MOST_WAITS, MOST_SLOTS, MOST_TEXT = 1_048_768, 2_097_344, 24_396_096, 1 << 14, 1 << 18, 1 << 20
 RECORD, NUMBER, PLACE = struct.Struct("<QQIBB30s"), struct.Struct("I"), struct.Struct("Q")  # native: written in one step
-WAIT = struct.Struct("<IIII5Q")
+WAIT, NAME = struct.Struct("<IIII5Q"), struct.Struct("<QQ")
 RING_MAGIC = 0x31676E69726C6467
 SECONDS_WITHOUT_PROGRESS = 30
 
@@ -53,7 +53,7 @@ REAL_LOCK, REAL_RLOCK = _thread.allocate_lock, threading.RLock
 OWN_FILES = {__file__, threading.__file__, contextlib.__file__, runpy.__file__}
 LIBRARY = tuple(os.path.join(path, "") for path in {sysconfig.get_path("stdlib"), os.path.dirname(os.__file__)})
 PACKAGES = tuple(os.path.join(path, name, "") for path in LIBRARY for name in ("site-packages", "dist-packages"))
-MOST_CALLERS = 100
+MOST_CALLERS, MOST_FRAMES = 100, 5  # that it looks at; in a record
 
 
 def say(text):
@@ -73,7 +73,7 @@ class Recorder:
             self.memory = mmap.mmap(file.fileno(), SIZE)
         if PLACE.unpack_from(self.memory, MAGIC)[0] != RING_MAGIC or NUMBER.unpack_from(self.memory, ATTACHED)[0]:
             raise OSError(f"{path} is of another run")
-        self.frames = frames
+        self.frames = min(frames, MOST_FRAMES)
         self.places, self.numbers = itertools.count(), itertools.count(1)
         self.here = threading.local()
         self.here.number = 0
@@ -135,6 +135,16 @@ class Recorder:
         return found if found or innermost is None else [self.number_of_line(innermost)]
 
     # ---- records ----
+
+    def name_thread(self, number, name):
+        """Records the name of a thread: in the record, or as a text if it is long. The texts of names leave room for those of lines."""
+        name = " ".join(name.split())
+        content, text = name.encode("utf-8", "replace"), 0
+        if len(content) >= NAME.size:
+            has_room = NUMBER.unpack_from(self.memory, SITES_USED)[0] < MOST_TEXT // 2
+            text = self.sites.get(name) or (self.register(name) if has_room else 0)
+            content = content[: NAME.size - 3] + b".."
+        self.write(number, R_TITLE, *NAME.unpack(content.ljust(NAME.size, b"\0")), (text,) if text else ())
 
     def number(self):
         """Returns this thread's number. A thread whose start was not seen gets one now."""
@@ -628,6 +638,7 @@ def starts(real):
         call = enter(R_FORK, child)
         recorder.record(R_FORK, 0, child)
         recorder.record(R_NAMED, child + 1, child)
+        recorder.name_thread(child, thread.name)
         thread.goodlock_number, thread.run = Number(R_FORGOTTEN, child), numbered
         with recorder.inside():
             real(thread)
@@ -645,7 +656,7 @@ def joins(real):
         call = enter(R_JOINED, child, timeout is not None)
         if has_to_fail(call):
             return
-        recorder.record(R_JOINS, child + 1)
+        recorder.record(R_JOINS, child + 1, int(timeout is None))
         with contextlib.ExitStack() as stack:
             if timeout is None:
                 stack.enter_context(recorder.waiting(WAITS_FOR_THREAD, child + 1))

@@ -11,6 +11,7 @@ from goodlock.agent.report import finish
 from goodlock.agent.run import Run, shortly
 from goodlock.agent.search import (HELPERS_OF_TRIES, LONG, NOT_SEARCHED, SIGNAL, TIME, Limit, Stopped, Window, check, drop_part_of_line, grouped,
                                    kind_of, results, search, without_tries)
+from goodlock.agent import names
 from goodlock.agent.sites import Sites, Source, name_lines_of, source_of
 from goodlock.errors import InputError
 from goodlock.limits import FIRST_THREAD, HELPERS, TIMED_MARKERS, TRY_MARKERS
@@ -20,7 +21,7 @@ from written import OPPOSITE_REPORT, InFolder
 
 SITES = "1\tmain.py:9 in main\n2\tbank.py:34 in transfer\tmain.py:7 in run\n3\tbank.py:35 in transfer\n4\t/usr/lib/threading.py:3 in run\tx.py:1 in f\n"
 TRACE = "# at 1\n0f1\n0f2\n# at 2\n1a10\n# at 3\n1a20\n1r20\n1r10\n# at 2\n2a20\n# at 3\n2a10\n2r10\n2r20\n"
-SUMMARY = "attached 1\nlock_events 8\nthreads 3\nread_locks 0\nunseen 0\noverflowing 0\noff 0\ntruncated 0\nclash 0\nprocesses 0\n" \
+SUMMARY = "attached 1\nlock_events 8\nthreads 3\nread_locks 0\ncrowded_locks 0\nunseen 0\noverflowing 0\noff 0\ntruncated 0\nclash 0\nprocesses 0\n" \
           "cleared 0\nfutexes 0\nframes 1\npython 0\nfollower 0\nfollows 0\n"
 WRITTEN = """question 0 length 10 bound 2 cycles 1 confirmed 1
 cycle 0 1 confirmed
@@ -88,7 +89,7 @@ class Finishes(OfRun):
     def test_what_was_not_examined(self) -> None:
         self.write("run.tmp/processes", "7 0 httpd\n8 0 httpd\n9 1 logger\n")
         for old, new, note in [
-            ("read_locks 0", "read_locks 1", "1 reader-writer lock had readers: their sections were recorded as ordering only"),
+            ("crowded_locks 0", "crowded_locks 1", "1 reader-writer lock with more than 8 readers: what the further ones hold and wait for is no part of a cycle"),
             ("unseen 0", "unseen 2", "2 threads started in a way that is not seen: what came before the start is not ordered"),
             ("off 0", "off 1", "what came after the recording stopped, before the program ended"),
             ("truncated 0", "truncated 1", "what came after the trace ends, before the program did: it could not be written"),
@@ -174,6 +175,33 @@ class Searches(OfRun):
             self.assertIn(f"# mark {marker + 1}\n1a{marker + 1}\n", self.read("run.trace"))
         self.assertIn("    timed: thread 1 holds lock 10 since bank.py:34 in transfer\n", self.read("run.report"))
         self.assertNotIn(f"holds lock {TIMED_MARKERS + 1}", self.read("run.report"))
+
+    def test_waiting_writer(self) -> None:
+        """Thread 1 reads by part 21 and wants 9. Thread 2 holds 9 and wants to read by part 22. Thread 3 writes: it holds part 22, wants 21."""
+        known = ("# lock 21 is a part of lock 20\n# thread 3 is auditor\n# lock 21 is a part of lock 20 for thread 1\n"
+                 "# lock 22 is a part of lock 20 for thread 2\n")
+        trace = "0f1\n0f2\n0f3\n1a21\n1a9\n1r9\n1r21\n2a9\n2a22\n2r22\n2r9\n3a20\n3a22\n3a21\n3r21\n3r22\n3r20\n"
+        report = ("question 0 length 17 bound 3 cycles 1 confirmed 1\ncycle 0 1 3 confirmed\n  thread 1 lock 9 holds 21 place 4\n"
+                  "  thread 2 lock 22 holds 9 place 8\n  thread 3 lock 21 holds 20 22 place 13\n  witness 0 1 2 3 7 11 12\n")
+        for comment, cycles, confirmed, text in [("", 0, 0, "    1 cycle left out: a reader would wait for a writer that waits itself"),
+                                                 ("# lock 20 prefers writers\n", 1, 1, "    if writers go first: a reader waits for")]:
+            self.setUp()
+            self.write("run.tmp/names", known + comment)
+            self.window(trace, report)
+            self.assertEqual(self.search(1, 3).writers_wait, 1 - cycles)
+            self.assertEqual(self.finish()[0], 1 if cycles else 0)
+            self.assertIn(f" cycles {cycles} confirmed {confirmed}\n", self.read("run.report"))
+            self.assertIn(text, self.read("run.report"))
+            self.assertIn("\n# lock 21 is a part of lock 20 for thread 1\n" + comment + "1a21\n", self.read("run.trace"))
+        self.assertIn("\n    thread 3 is auditor\n    lock 21 is lock 20, read by thread 1\n", self.read("run.report"))
+
+    def test_first_thread(self) -> None:
+        """In a later window it has another number."""
+        self.write("run.tmp/names", "# thread 0 is main\n# thread 10 is other\n# lock 21 is a part of lock 20 for thread 0\n# lock 0 is zero\n")
+        for window, number in ((1, 0), (2, 1_000_000_000)):
+            found = names.Names(self.run_, window)
+            self.assertEqual((found.name_of("thread", number), found.name_of("thread", 10), found.name_of("lock", 0), found.name_of("lock", 21)),
+                             ("main", "other", "zero", "lock 20, read by main"))
 
     def test_kinds(self) -> None:
         for held, kind in [((10,), "confirmed"), ((10, TRY_MARKERS + 2), "tried"), ((10, TIMED_MARKERS + 2), "timed"),
@@ -307,7 +335,7 @@ class Names(OfRun):
             self.assertEqual(source_of(line), source, line)
 
     def test_trace_that_cannot_be_written(self) -> None:
-        name_lines_of("missing.trace", Sites(self.run_, 1))
+        name_lines_of("missing.trace", Sites(self.run_, 1), names.Names(self.run_, 1))
         self.assertFalse(os.path.exists("missing.trace.new"))
 
     def test_no_sites(self) -> None:

@@ -95,7 +95,7 @@ port = 0
             read_config("goodlock.toml")
 
     def test_limits(self) -> None:
-        for line, table, key, least, most in [("", "", "bound", 2, 8), ("[agent]\n", "agent", "stacks", 1, 5),
+        for line, table, key, least, most in [("", "", "bound", 2, 8), ("[agent]\n", "agent", "stacks", 1, 20),
                                               ("[agent]\n", "agent", "window", 100, 1_048_576), ("[agent]\n", "agent", "seconds", 1, 86_400),
                                               ("[agent]\n", "agent", "error-exitcode", 0, 255),
                                               ("[dashboard]\n", "dashboard", "port", 0, 65_535)]:

@@ -36,7 +36,7 @@ def with_text(result: Result, text: str) -> Result:
 
 class Json(unittest.TestCase):
     def setUp(self) -> None:
-        self.question = Question(Report(0, 12, 2, 5, 3), (CONFIRMED, POTENTIAL, KNOWN, SUPPRESSED), LeftOut(4, 5, 6), ("a note",))
+        self.question = Question(Report(0, 12, 2, 5, 3), (CONFIRMED, POTENTIAL, KNOWN, SUPPRESSED), LeftOut(4, 5, 6, 7), ("a note",))
         self.run_ = replace(EVERYTHING, most=2)
 
     def summary(self) -> Object:
@@ -50,7 +50,8 @@ class Json(unittest.TestCase):
         self.assertEqual(found["unused_suppressions"], [7])
         self.assertEqual(found["gate"], {"fail_on": "new", "failing": 3, "status": 3})
         self.assertEqual(found["numbers"], {"events": 12, "threads": 3, "locks": 2, "dependencies": 2,
-                                            "cycles": {"confirmed": 2, "potential": 1, "tried": 0}, "happened": 0, "seconds": 0.25})
+                                            "cycles": {"confirmed": 2, "potential": 1, "tried": 0, "writers_wait": 0}, "happened": 0,
+                                            "seconds": 0.25})
         self.assertEqual(found["fingerprints"], {"cc:2": "happened", "aa:1": "confirmed", "dd:1": "confirmed", "bb:1": "potential",
                                                  "ee:1": "confirmed", "ff:1": "confirmed"})
 
@@ -60,7 +61,7 @@ class Json(unittest.TestCase):
         self.assertEqual(question, {
             "question": 0, "length": 12, "bound": 2, "cycles": 5, "confirmed": 3, "groups": 4, "not_shown": 1,
             "suppressed": {"groups": 1, "cycles": 3}, "known": {"groups": 1, "cycles": 3},
-            "left_out": {"tried": 4, "further": 5, "further_confirmed": 6}, "notes": ["a note"],
+            "left_out": {"tried": 4, "further": 5, "further_confirmed": 6, "writers_wait": 7}, "notes": ["a note"],
         })
         self.assertEqual([group["verdict"] for group in shown], ["confirmed", "potential"])
 
@@ -185,8 +186,8 @@ class Sarif(unittest.TestCase):
     def test_related(self) -> None:
         related = self.result(CONFIRMED)["relatedLocations"]
         self.assertEqual([(one["id"], one["message"]["text"]) for one in related], [
-            (1, "thread 2 waits here for lock 1"), (2, "thread 1 holds the lock that it acquired here"),
-            (3, "thread 2 holds the lock that it acquired here")])
+            (1, "thread 2 waits here for lock 1"), (2, "thread 1 (teller) holds lock 1, which it acquired here"),
+            (3, "thread 2 holds lock 2, which it acquired here")])
 
     STATES: list[tuple[str, Result, str]] = [
         ("new", CONFIRMED, "new"),
@@ -222,7 +223,7 @@ class Sarif(unittest.TestCase):
         steps = [(step["executionOrder"], step["location"]["message"]["text"]) for flow in flows for step in flow["locations"]]
         self.assertEqual(sorted(steps), [
             (1, "thread 0 forks thread 1 at place 0"), (2, "thread 1 acquires lock 1 at place 2"), (3, "thread 2 acquires lock 2 at place 6"),
-            (4, "thread 1 waits for lock 2 at place 3"), (5, "thread 2 waits for lock 1 at place 7")])
+            (4, "thread 1 (teller) waits for lock 2 at place 3"), (5, "thread 2 waits for lock 1 at place 7")])
         self.assertNotIn("codeFlows", self.result(POTENTIAL))
 
     def test_invocation(self) -> None:

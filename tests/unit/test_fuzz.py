@@ -27,7 +27,7 @@ CONFIG = 'bound = 3\nfail-on = "new"\nsuppressions = "suppressions"\n[summary]\n
 BASELINE = '{"fingerprints": {"aa:1": "confirmed", "bb:1": "potential"}}'
 WINDOW = "# mark 3\n# lock 3 is mark\n# line 7 of x.std\n# at x.c:3 in f\n0f1 0f2 1w5\n1a10 1a3 1a20 1r3\n1r20 1r10 2d5 0j1\n"
 SECOND = "# window 2\n# repeated 1\n0f2\n# place 3 of y\n2a20\n# line 9 of x.std\n2a10 2r10 2r20\n# thread 2 is y\n"
-COUNTS = "attached 1\nlock_events 8\nthreads 3\nread_locks 0\nunseen 0\noverflowing 0\noff 0\nframes 1\n"
+COUNTS = "attached 1\nlock_events 8\nthreads 3\nread_locks 0\ncrowded_locks 0\nunseen 0\noverflowing 0\noff 0\nframes 1\n"
 SITES = "1\t/bin/true+0x10\n2\tbank.py:3 in transfer\n3\t?\n"
 HAPPENED = "deadlock of 2 threads, which wait for each other\nthread 1 waits for lock 2 at @1@\nthread 1 holds lock 1 since @2@\n"
 RECORDED = "# at 1\n" + OPPOSITE

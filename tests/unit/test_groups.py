@@ -2,6 +2,7 @@
 import unittest
 
 from goodlock.groups import Group, Groups, Location, Pair, advice_for, key_of, location_of, merge, sides_of
+from goodlock.parts import Basis
 from goodlock.reports import Cycle
 from written import cycles_of, ends, index_of
 
@@ -48,7 +49,7 @@ class ByLocation(unittest.TestCase):
         groups, _ = grouped(BANK, REPORT)
         found = [(group.cycles, group.confirmed, group.locations(groups.index)) for group in groups.ordered()]
         self.assertEqual(found, [(2, 2, [TRANSFER, TRANSFER]), (1, 0, [AUDIT, REVIEW])])
-        self.assertEqual(groups.by_key.keys(), {(TRANSFER, TRANSFER), (AUDIT, REVIEW)})
+        self.assertEqual(groups.by_key.keys(), {(Basis.EVENTS, (TRANSFER, TRANSFER)), (Basis.EVENTS, (AUDIT, REVIEW))})
 
     def test_example_is_the_first_confirmed_one(self) -> None:
         mixed = REPORT.replace("0 1 confirmed", "0 1 potential").replace(" place 5", "").replace(" place 9", "").replace("  witness 0 1 4 8\n", "")

@@ -38,10 +38,16 @@ class Compares(unittest.TestCase):
         self.assertEqual(found, of_input | {name: getattr(limits, name) for name in ("MOST_EVENTS", "MOST_THREADS", "MOST_HELD", "MOST_DEPTH")})
 
     def test_kinds_of_the_crate_for_rust(self) -> None:
-        found = values_in(r"^    ([A-Z][A-Za-z]+) = ([0-9]+),$", "rust", "src", "recorder.rs")
+        found = values_in(r"^    ([A-Z][A-Za-z]+) = ([0-9]+)(?: \| [A-Z_]+)*,$", "rust", "src", "recorder.rs")
         ring = {name[2:].replace("_", "").lower(): number for name, number in kinds_of_the_ring().items()}
+        ring["readtried"] = ring["readlock"]  # with a flag
         self.assertEqual(found, {name: ring[name.lower()] for name in found})
         self.assertGreater(len(found), 5)
+
+    def test_flags_of_the_crate_for_rust(self) -> None:
+        flags = values_in(r"\b(READS_TRIED|PREFERS_WRITERS) = ([0-9]+)", "pthread", "ring.h")
+        self.assertEqual(values_in(r"^const ([A-Z_]+): u32 = ([0-9]+) << 8;$", "rust", "src", "recorder.rs"),
+                         {"TRIED": flags["READS_TRIED"], "WRITERS_FIRST": flags["PREFERS_WRITERS"]})
 
     def test_kinds_of_the_recorder_for_python(self) -> None:
         namespace: dict[str, int] = {}

@@ -58,7 +58,7 @@ TABLES: dict[str, dict[str, Key]] = {
         "keep-log": TEXT,
         "on-deadlock": TEXT,
         "seconds": number(1, 86_400),
-        "stacks": number(1, 5),
+        "stacks": number(1, 20),
         "trace-children": SWITCH,
         "window": number(100, MOST_EVENTS),
     },

@@ -6,6 +6,7 @@ from collections.abc import Iterable, Sequence
 from dataclasses import dataclass, field
 from typing import NamedTuple, Optional, Protocol, TypeVar
 
+from goodlock.parts import Basis
 from goodlock.reports import Cycle, Member, Report
 from goodlock.traces import Index
 
@@ -81,13 +82,15 @@ def merge(groups: dict[Key, Kept], key: Key, group: Kept) -> Kept:
 
 @dataclass
 class Group:
-    """Cycles with the same locations. `example` is the first confirmed one, or the first one if none is confirmed; `sides` has a side for
-    each of its members. `steps` are the events of its witness that a short list shows; `left_out` counts those after the last step."""
+    """Cycles with the same locations and the same basis. `example` is the first confirmed one, or the first one if none is confirmed; `sides`
+    has a side for each of its members. `steps` are the events of its witness that a short list shows; `left_out` counts those after the last
+    step."""
 
     example: Cycle
     sides: list[Side]
     cycles: int
     confirmed: int
+    basis: Basis = Basis.EVENTS
     steps: list[Step] = field(default_factory=list)
     left_out: int = 0
     witness_length: int = 0
@@ -131,23 +134,28 @@ def pairs_of(index: Index, sides: list[Side]) -> list[Pair]:
 class Groups:
     """The groups of one report, in the order of the report. The first `whole` confirmed groups keep the witness of their example. At most
     `most` groups begin with a confirmed cycle, and that many with a potential one: `further` and `further_confirmed` count the cycles
-    that would begin others. `tried` counts the cycles in which a member holds a mark."""
+    that would begin others. `tried` counts the cycles in which a member holds a mark, `writers_wait` those that only waiting writers make,
+    of locks which do not let these go first."""
 
     def __init__(self, index: Index, report: Report, whole: int = 0, most: int = MOST_GROUPS) -> None:
         self.index, self.report, self.whole, self.most = index, report, whole, most
-        self.by_key: dict[tuple[Pair, ...], Group] = {}
+        self.by_key: dict[tuple[Basis, tuple[Pair, ...]], Group] = {}
         self.begun: Counter[bool] = Counter()
         self.confirmed_groups: list[Group] = []
-        self.tried, self.further, self.further_confirmed = 0, 0, 0
+        self.tried, self.writers_wait, self.further, self.further_confirmed = 0, 0, 0, 0
 
     def add(self, cycle: Cycle) -> bool:
         """Adds a cycle to its group, and returns whether it is in one."""
         if self.is_tried(cycle):
             self.tried += 1 + cycle.more
             return False
+        basis = self.index.parts.basis_of(cycle.members)
+        if basis is Basis.IMPOSSIBLE:
+            self.writers_wait += 1 + cycle.more
+            return False
         sides = sides_of(self.index, cycle.members)
-        key = key_of(pairs_of(self.index, sides))
-        group = Group(cycle, sides, 1 + cycle.more, cycle.is_confirmed + cycle.more_confirmed)
+        key = basis, key_of(pairs_of(self.index, sides))
+        group = Group(cycle, sides, 1 + cycle.more, cycle.is_confirmed + cycle.more_confirmed, basis)
         if key not in self.by_key:
             if self.begun[cycle.is_confirmed] == self.most:
                 self.further += group.cycles

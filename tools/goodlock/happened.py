@@ -111,5 +111,5 @@ def with_happened(results: Sequence[Result], happened: Optional[Result]) -> list
         return list(results)
     key = key_of(happened.pairs)
     same = [result for result in results if key_of(result.pairs) == key]
-    merged = replace(same[0], verdict=Verdict.HAPPENED, advice=happened.advice, kept_apart=None) if same else happened
+    merged = replace(same[0], verdict=Verdict.HAPPENED, advice=happened.advice, kept_apart=None, condition="") if same else happened
     return [merged] + [result for result in results if result not in same]

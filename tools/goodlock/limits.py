@@ -2,6 +2,7 @@
 agents/pthread/limits.h with it."""
 
 LARGEST = 4_294_967_295  # number of a thread, a lock or a variable
+NUMBER = r"(0|[1-9][0-9]{0,9})"  # as text; it may be larger
 MOST_EVENTS = 1_048_576
 MOST_THREADS = 1_024
 MOST_HELD = 32
@@ -12,3 +13,5 @@ LEAST_BOUND, MOST_BOUND = 2, 8
 # In a window after the first one the program's first thread is FIRST_THREAD. Helpers are artificial threads. Markers are locks that mark
 # an acquire: one that does not wait from TRY_MARKERS on, one with a timeout from TIMED_MARKERS on.
 FIRST_THREAD, HELPERS, TRY_MARKERS, TIMED_MARKERS = 1_000_000_000, 2_000_000_000, 3_000_000_000, 3_500_000_000
+WAKE_UPS = 2_500_000_000  # locks from here on are for threads that wake others
+ENDS_OF_THREADS = 2_000_000_000  # thread N holds lock ENDS_OF_THREADS + N until it ends, if a holder of locks joins it

@@ -20,11 +20,11 @@ Object = dict[str, Any]
 
 @dataclass
 class Merged:
-    """The results of all traces by the locations of their members. `no_result` is the fault of a trace whose job did not end."""
+    """The results of all traces by what they rest on and the locations of their members. `no_result` is the fault of a trace whose job did not end."""
 
     root: Root
     no_result: str = "there is no result"
-    by_key: dict[tuple[Pair, ...], Result] = field(default_factory=dict)
+    by_key: dict[tuple[str, tuple[Pair, ...]], Result] = field(default_factory=dict)
     faults: list[tuple[str, str]] = field(default_factory=list)
     notes: Counter[str] = field(default_factory=Counter)
     numbers: Numbers = Numbers()
@@ -47,7 +47,7 @@ class Merged:
             self.add_result(replace(one, traces=(trace,)))
 
     def add_result(self, result: Result) -> None:
-        key = key_of(result.pairs)
+        key = result.condition, key_of(result.pairs)
         self.by_key[key] = merged(self.by_key[key], result) if key in self.by_key else result
 
     def results(self, judge: Judge) -> list[Result]:

@@ -7,7 +7,8 @@ from operator import lt
 from typing import NamedTuple, Optional, Protocol
 
 from goodlock.errors import InputError, fault_of_text, shown
-from goodlock.traces import NUMBER, Dependency, lines_of
+from goodlock.limits import NUMBER
+from goodlock.traces import Dependency, lines_of
 
 QUESTION = re.compile(rf"question {NUMBER} length {NUMBER} bound {NUMBER} cycles {NUMBER} confirmed {NUMBER}")
 CYCLE = re.compile(rf"cycle ({NUMBER}(?: {NUMBER})+) (confirmed|potential)")

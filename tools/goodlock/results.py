@@ -11,6 +11,7 @@ from typing import NamedTuple, Optional
 from goodlock.commandline import plural
 from goodlock.groups import Group, Groups, Location, Pair, advice_for
 from goodlock.locations import Root
+from goodlock.parts import condition_of
 from goodlock.reports import Report
 from goodlock.reproduce.notes import command_for
 from goodlock.traces import CALLED_BY, Index, Origin, description_of
@@ -165,7 +166,8 @@ class KeptApart:
 class Result:
     """A group of cycles with the same code locations, or a deadlock that happened. `example` has the numbers of the cycle that the members
     are of. `before` is the verdict in the baseline, `suppressed_by` the line of the suppressions. `traces` are the first traces with it,
-    of `trace_count`. `reproduced` has the lines about a run in which the deadlock happened again, `reproduce` the command for one."""
+    of `trace_count`. `reproduced` has the lines about a run in which the deadlock happened again, `reproduce` the command for one.
+    `condition` is what the verdict rests on besides the events, or empty."""
 
     verdict: Verdict
     members: tuple[ResultMember, ...]
@@ -183,6 +185,7 @@ class Result:
     trace_count: int = 1
     reproduced: tuple[str, ...] = ()
     reproduce: str = ""
+    condition: str = ""
 
     @property
     def rule(self) -> str:
@@ -190,7 +193,7 @@ class Result:
 
     @property
     def title(self) -> str:
-        return TITLES[self.verdict]
+        return f"{TITLES[self.verdict]}, {self.condition}" if self.condition else TITLES[self.verdict]
 
     @property
     def pairs(self) -> list[Pair]:
@@ -226,7 +229,8 @@ class Result:
 
 @dataclass(frozen=True)
 class Numbers:
-    """The size of a run, and its cycles. `tried` ones have a member that does not wait without end."""
+    """The size of a run, and its cycles. `tried` ones have a member that does not wait without end, and `writers_wait` counts those that
+    only waiting writers make, of locks which do not let these go first."""
 
     events: int = 0
     threads: int = 0
@@ -237,14 +241,20 @@ class Numbers:
     tried: int = 0
     happened: int = 0
     seconds: float = 0.0
+    writers_wait: int = 0
+
+    @property
+    def cycles(self) -> int:
+        return self.confirmed + self.potential + self.tried + self.writers_wait
 
 
 class LeftOut(NamedTuple):
-    """Cycles that are in no group: a member does not wait without end, or there are too many groups."""
+    """Cycles that are in no group: a member does not wait without end, only waiting writers make them, or there are too many groups."""
 
     tried: int = 0
     further: int = 0
     further_confirmed: int = 0
+    writers_wait: int = 0
 
 
 @dataclass(frozen=True)
@@ -343,6 +353,7 @@ def result_of(index: Index, group: Group, root: Root) -> Result:
         traces=(index.file,) if index.file else (),
         reproduced=tuple(group.example.reproduced),
         reproduce=command_for(index.file, group.example.numbers),
+        condition=condition_of(group.basis),
     )
 
 
@@ -370,6 +381,7 @@ def numbers_of(index: Index, groups: Groups, happened: int, seconds: float) -> N
         tried=groups.tried,
         happened=happened,
         seconds=seconds,
+        writers_wait=groups.writers_wait,
     )
 
 

@@ -9,9 +9,9 @@ from functools import cached_property
 from typing import NamedTuple, Optional
 
 from goodlock.errors import InputError, fault_of_text, shown
-from goodlock.limits import LARGEST, MOST_DEPTH, MOST_EVENTS, MOST_HELD, MOST_THREADS
+from goodlock.limits import LARGEST, MOST_DEPTH, MOST_EVENTS, MOST_HELD, MOST_THREADS, NUMBER
+from goodlock.parts import Parts
 
-NUMBER = r"(0|[1-9][0-9]{0,9})"
 EVENT = re.compile(NUMBER + "([fjardw])" + NUMBER)
 SPELT = re.compile("([0-9]+)[fjardw]([0-9]+)")
 SCRIPT_LINE = re.compile(rf"(ask|work|answer|status) +{NUMBER}|deliver +{NUMBER} +{NUMBER}")
@@ -89,12 +89,13 @@ class Origins:
 
 @dataclass
 class Trace:
-    """`names` maps ("thread", 1) and ("lock", 1) to names; `marks` are the locks that mark acquires which do not wait without end. `file`
-    is the name of the file, or None if it is a script, which has other lines too."""
+    """`names` maps ("thread", 1) and ("lock", 1) to names; `marks` are the locks that mark acquires which do not wait without end; `parts`
+    says which locks are parts of others. `file` is the name of the file, or None if it is a script, which has other lines too."""
 
     events: list[Event] = field(default_factory=list)
     names: dict[tuple[str, int], str] = field(default_factory=dict)
     marks: set[int] = field(default_factory=set)
+    parts: Parts = field(default_factory=Parts)
     file: Optional[str] = None
     origins: Origins = field(default_factory=Origins)
 
@@ -232,6 +233,8 @@ class EventReader:
         if words[:2] == ["#", "at"]:
             self.where = " ".join(words[2:])
             self.known = self.known_at.setdefault(self.where, {})
+        elif self.trace.parts.take(line):
+            return
         elif match := NAME.fullmatch(line):
             self.trace.names[match[1], int(match[2])] = match[3]
         elif match := MARK.fullmatch(line):
@@ -339,8 +342,8 @@ class Index:
     places where the thread acquired them. Inner acquires are in neither."""
 
     def __init__(self, trace: Trace) -> None:
-        self.events, self.names, self.marks, self.file = trace.events, trace.names, trace.marks, trace.file
-        self.origins = trace.origins
+        self.events, self.marks, self.parts, self.file = trace.events, trace.marks, trace.parts, trace.file
+        self.names, self.origins = trace.parts.names_with(trace.names), trace.origins
         self.thread_places: dict[int, array[int]] = defaultdict(lambda: array("I"))
         self.held: dict[int, tuple[int, ...]] = {}
         self.since: dict[int, tuple[int, ...]] = {}

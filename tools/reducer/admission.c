@@ -28,7 +28,7 @@ static uint32_t lock_of(const struct reader *reader, uint32_t number) {
     if (lock_numbers.count == before) return at;
     if (before == SEVERAL - 1) refuse(reader, "lock %u: there are %zu locks, the most", number, before);
     locks = grow(locks, before, &locks_room, sizeof *locks);
-    locks[at] = (struct lock){.holder = NONE, .user = NONE, .name = NONE};
+    locks[at] = (struct lock){.holder = NONE, .user = NONE, .name = NONE, .whole = NONE, .reader = NONE};
     return at;
 }
 

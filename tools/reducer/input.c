@@ -160,13 +160,26 @@ static void take_window(struct reader *reader, uint32_t number) {
     reader->has_window = true;
 }
 
+/* The lock is a part: of a lock, and perhaps for a thread. Returns whether the text says so. */
+static bool take_part(struct reader *reader, uint32_t part, const char *text) {
+    uint32_t whole, thread = NONE;
+    const char *rest = after(text, "a part of lock ", &whole, "");
+    if (rest && *rest) rest = after(rest, " for thread ", &thread, "");
+    if (!rest || *rest) return false;
+    find_lock(reader, whole), find_lock(reader, part)->whole = whole;
+    find_lock(reader, part)->reader = thread;
+    return true;
+}
+
 /* Takes a comment, of which the text is complete. Other comments have no meaning for the run. */
 static void take_comment(struct reader *reader, const char *text) {
     uint32_t number;
     const char *rest;
     if (!strncmp(text, "# at", 4) && (text[4] == ' ' || !text[4])) take_where(reader, text + 4);
     else if ((rest = after(text, "# thread ", &number, " is "))) find_thread(reader, number)->name = text_number(rest);
-    else if ((rest = after(text, "# lock ", &number, " is "))) find_lock(reader, number)->name = text_number(rest);
+    else if ((rest = after(text, "# lock ", &number, " is "))) {
+        if (!take_part(reader, number, rest)) find_lock(reader, number)->name = text_number(rest);
+    } else if ((rest = after(text, "# lock ", &number, " prefers writers")) && !*rest) find_lock(reader, number)->prefers_writers = true;
     else if ((rest = after(text, "# mark ", &number, "")) && !*rest) find_lock(reader, number)->is_mark = true;
     else if ((rest = after(text, "# line ", &number, " of ")) && number) take_origin(reader, number, rest);
     else if ((rest = after(text, "# window ", &number, "")) && !*rest) take_window(reader, number);

@@ -95,7 +95,8 @@ struct thread { bool is_forked, is_joined; uint32_t name; struct held_list held;
 struct lock {
     uint32_t depth, holder, user, name; /* user: the only thread that acquires it, NONE or SEVERAL */
     uint64_t since;
-    bool is_mark;
+    bool is_mark, prefers_writers;
+    uint32_t whole, reader;             /* of a part: numbers of its lock and of the thread that reads by it; NONE */
 };
 struct variable { uint32_t user; bool is_written; size_t last; }; /* last: 1 more than the index of its last write, or 0 */
 extern struct numbers thread_numbers, lock_numbers, variable_numbers;

@@ -110,14 +110,29 @@ static void name_thread(uint32_t thread) {
     if (threads[thread].name != NONE) write_text("# thread ", thread_numbers.numbers[thread], " is ", threads[thread].name);
 }
 
+/* Writes the comments about a lock, and about that of which it is a part: the window may have no event of the whole lock. */
+static void write_comments(uint32_t lock) {
+    for (bool is_part = true; is_part && lock_part_of(lock)->named_in != written.windows;) {
+        const struct lock *it = &locks[lock];
+        uint32_t number = lock_numbers.numbers[lock];
+        lock_part_of(lock)->named_in = written.windows;
+        if (it->name != NONE) write_text("# lock ", number, " is ", it->name);
+        if (it->is_mark) fprintf(file, "# mark %u\n", number);
+        if (it->prefers_writers) fprintf(file, "# lock %u prefers writers\n", number);
+        if ((is_part = it->whole != NONE)) {
+            fprintf(file, "# lock %u is a part of lock %u", number, it->whole);
+            if (it->reader != NONE) fprintf(file, " for thread %u", it->reader);
+            fputc('\n', file);
+            lock = position_of(&lock_numbers, it->whole);
+        }
+    }
+}
+
 static void name_lock(uint32_t lock) {
     struct lock_part *part = lock_part_of(lock);
-    if (part->named_in == written.windows) return;
-    part->named_in = written.windows;
     written.locks += !part->is_used && !locks[lock].is_mark;
     part->is_used = true;
-    if (locks[lock].name != NONE) write_text("# lock ", lock_numbers.numbers[lock], " is ", locks[lock].name);
-    if (locks[lock].is_mark) fprintf(file, "# mark %u\n", lock_numbers.numbers[lock]);
+    write_comments(lock);
 }
 
 /* Writes where the event was in the files given, if the events before it do not show it. */

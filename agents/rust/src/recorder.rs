@@ -6,6 +6,10 @@ use std::panic::Location;
 use std::sync::atomic::{AtomicU64, AtomicUsize, Ordering};
 use std::sync::OnceLock;
 
+/// Flags of `agents/pthread/ring.h`, as `goodlock_record` takes them: a reader does not wait; waiting writers keep readers out, as in std.
+const TRIED: u32 = 1 << 8;
+const WRITERS_FIRST: u32 = 4 << 8;
+
 /// What is recorded: the kinds of `agents/pthread/ring.h`.
 #[derive(Clone, Copy)]
 #[repr(u32)]
@@ -13,9 +17,10 @@ pub enum Kind {
     Lock = 9,
     Tried = 10,
     Unlock = 12,
-    WriteLock = 13,
-    WriteTried = 14,
-    ReadLock = 16,
+    WriteLock = 13 | WRITERS_FIRST,
+    WriteTried = 14 | WRITERS_FIRST,
+    ReadLock = 16 | WRITERS_FIRST,
+    ReadTried = 16 | WRITERS_FIRST | TRIED,
     UnlockEither = 17,
     Give = 19,
     Take = 20,

@@ -145,7 +145,7 @@ impl<T: ?Sized> Mutex<T> {
     }
 }
 
-/// A reader-writer lock as in std, recorded. Readers' sections are recorded as orders.
+/// A reader-writer lock as in std, recorded.
 pub struct RwLock<T: ?Sized> {
     object: Object,
     inner: std::sync::RwLock<T>,
@@ -173,7 +173,7 @@ impl<T: ?Sized> RwLock<T> {
     #[track_caller]
     pub fn try_read(&self) -> TryLockResult<RwLockReadGuard<'_, T>> {
         let at = Site::here();
-        with_tried_guard(self.inner.try_read(), |inner| RwLockReadGuard { section: self.begins(Kind::ReadLock, at), inner })
+        with_tried_guard(self.inner.try_read(), |inner| RwLockReadGuard { section: self.begins(Kind::ReadTried, at), inner })
     }
 
     /// As in std.

@@ -60,4 +60,5 @@ def result_of(found: Found, sites: Sites, root: Root) -> Result:
         hold = sites.name(member.since[member.held.index(wanted)])
         members.append(ResultMember(member.thread, spot_of(hold, wanted, root), spot_of(sites.name(member.site), member.lock, root),
                                     tuple(member.held)))
-    return Result(Verdict.CONFIRMED if found.is_confirmed else Verdict.POTENTIAL, tuple(members), "", found.cycles, found.confirmed)
+    return Result(Verdict.CONFIRMED if found.is_confirmed else Verdict.POTENTIAL, tuple(members), "", found.cycles, found.confirmed,
+                  condition=found.condition)

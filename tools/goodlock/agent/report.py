@@ -6,18 +6,21 @@ from collections import Counter
 from collections.abc import Iterable, Iterator
 
 from goodlock.agent.gate import judge
+from goodlock.agent.names import Names
 from goodlock.agent.run import Run, say, shortly
-from goodlock.agent.search import NOT_SEARCHED, TIMED, Found, FoundMember, Limit, NoReport, Window, results
+from goodlock.agent.search import NOT_SEARCHED, TIMED, Found, Limit, NoReport, Window, results
 from goodlock.agent.sites import Sites, name_lines_of
 from goodlock.errors import InputError
 from goodlock.groups import key_of, merge
 from goodlock.happened import HEADING
 from goodlock.limits import FIRST_THREAD, HELPERS, MOST_BOUND, TRY_MARKERS
+from goodlock.parts import REASONS, WRITERS_WAIT
 from goodlock.reproduce.calls import keep_log
 from goodlock.settings import Settings
 
 DEADLOCK, NO_REPORT, IN_PART = 1, 2, 3  # exit statuses
 MOST_NAMES = 5
+MOST_PARTS = 8  # readers of a lock that can be members of cycles: agents/pthread/readers.c has the same
 # Libraries with locks that are made of atomics and futex calls, also in code which the agent does not see.
 OWN_LOCKS = re.compile("(lib(?:glib-2.0|gomp|i?omp5?|Qt[56]Core|tbb|jvm|go))\\.so.*")
 
@@ -34,31 +37,43 @@ def thread_note(thread: int, fork: int, sites: Sites) -> str:
     return f"thread {thread} from {sites.name(fork)}"
 
 
-def held_in(member: FoundMember, sites: Sites) -> list[tuple[int, str]]:
-    """Returns the locks that a member holds, each with the lines of its acquire."""
-    return [(lock, sites.name(site)) for lock, site in zip(member.held, member.since)]
+def held_in(found: Found, at: int, sites: Sites, names: Names) -> Iterator[tuple[int, str]]:
+    """Yields the locks that a member holds, each with the lines of its acquire: of parts only that for which the member before it waits."""
+    member, wanted = found.members[at], found.members[at - 1].lock
+    for lock, site in zip(member.held, member.since):
+        if lock == wanted or lock not in names.parts.whole:
+            yield lock, sites.name(site)
 
 
-def cycle_lines(found: Found, sites: Sites) -> Iterator[str]:
+def name_lines(found: Found, names: Names) -> Iterator[str]:
+    """Yields the names of the threads of a cycle, and of the locks for which they wait."""
+    for kind, number in dict.fromkeys(one for member in found.members for one in (("thread", member.thread), ("lock", member.lock))):
+        if name := names.name_of(kind, number):
+            yield f"    {kind} {number} is {name}"
+
+
+def cycle_lines(found: Found, sites: Sites, names: Names) -> Iterator[str]:
     yield f"cycle {' '.join(map(str, found.numbers))} {found.kind}"
-    for member in found.members:
+    for at, member in enumerate(found.members):
         place = "" if member.place is None else f" place {member.place}"
         yield f"  thread {member.thread} lock {member.lock} holds {' '.join(map(str, member.held))}{place}"
         if member.fork is not None:
             yield f"    {thread_note(member.thread, member.fork, sites)}"
         yield f"    lock {member.lock} at {sites.name(member.site)}"
-        yield from (f"    lock {lock} since {line}" for lock, line in held_in(member, sites))
+        yield from (f"    lock {lock} since {line}" for lock, line in held_in(found, at, sites, names))
     if found.witness is not None:
         yield f"  witness {found.witness}".rstrip()
+    yield from (f"    {condition}: {reason}" for condition, reason in REASONS.items() if condition in found.condition)
+    yield from name_lines(found, names)
     if found.cycles > 1:
         yield f"    and {plural(found.cycles - 1, 'more cycle')} at these lines, {found.confirmed - found.is_confirmed} of them confirmed"
 
 
-def timed_lines(found: Found, sites: Sites) -> Iterator[str]:
+def timed_lines(found: Found, sites: Sites, names: Names) -> Iterator[str]:
     yield "    timed: this cycle ends when a timeout does"
-    for member in found.members:
+    for at, member in enumerate(found.members):
         yield f"    timed: thread {member.thread} waits for lock {member.lock} at {sites.name(member.site)}"
-        for lock, line in held_in(member, sites):
+        for lock, line in held_in(found, at, sites, names):
             if lock < TRY_MARKERS:
                 yield f"    timed: thread {member.thread} holds lock {lock} since {line}"
 
@@ -127,8 +142,9 @@ def limits_of(run: Run, summary: dict[str, int], windows: dict[int, Window]) -> 
                f"{'; --bound auto searches it' if run.bound < MOST_BOUND else ''}")
     if len(windows) > 1:
         yield f"cycles whose members are in different ones of the {len(windows)} windows"
-    if summary["read_locks"]:
-        yield f"{plural(summary['read_locks'], 'reader-writer lock')} had readers: their sections were recorded as ordering only"
+    if summary["crowded_locks"]:
+        yield (f"{plural(summary['crowded_locks'], 'reader-writer lock')} with more than {MOST_PARTS} readers: what the further ones hold and wait "
+               "for is no part of a cycle")
     if summary["unseen"]:
         yield f"{plural(summary['unseen'], 'thread')} started in a way that is not seen: what came before the start is not ordered"
     if summary["cleared"]:
@@ -148,6 +164,8 @@ def notes_of(summary: dict[str, int], windows: dict[int, Window]) -> Iterator[st
         yield f"{plural(summary['overflowing'], 'acquire')} beyond 31 held locks were recorded for an artificial thread"
     if tried:
         yield f"{plural(tried, 'cycle')} left out: a member does not wait, since it tries to acquire the lock"
+    if writers_wait := sum(window.writers_wait for window in windows.values()):
+        yield f"{plural(writers_wait, 'cycle')} {WRITERS_WAIT}"
     yield from dict.fromkeys(note for window in windows.values() for note in window.notes)
 
 
@@ -160,15 +178,16 @@ def write_window(run: Run, number: int, window: Window, found: list[Found], extr
     """Writes the report of a window, and the source lines into its trace."""
     shown = [group for group in found if group.kind != TIMED]
     confirmed = sum(group.is_confirmed for group in shown)
+    names = Names(run, number)
     with open(run.window(number, "report"), "w", encoding="utf-8") as file:
         print(f"question 0 length {window.length} bound {window.bound} cycles {len(shown)} confirmed {confirmed}", file=file)
         file.writelines(f"    {line}\n" for line in extra)
         for group in shown:
-            file.writelines(f"{line}\n" for line in cycle_lines(group, sites))
+            file.writelines(f"{line}\n" for line in cycle_lines(group, sites, names))
         for group in found:
             if group.kind == TIMED:
-                file.writelines(f"{line}\n" for line in timed_lines(group, sites))
-    name_lines_of(run.window(number, "trace"), sites)
+                file.writelines(f"{line}\n" for line in timed_lines(group, sites, names))
+    name_lines_of(run.window(number, "trace"), sites, names)
 
 
 def merged(windows: dict[int, Window], sites: Sites) -> list[Found]:
@@ -177,13 +196,13 @@ def merged(windows: dict[int, Window], sites: Sites) -> list[Found]:
     for number, window in windows.items():
         for found in window.found:
             found.window = number
-            merge(groups, (found.kind == TIMED, key_of(found.pairs(sites.name))), found)
+            merge(groups, (found.kind == TIMED, found.condition, key_of(found.pairs(sites.name))), found)
     return list(groups.values())
 
 
 def without_report(run: Run, count: int, fault: Exception, deadlock: list[str], sites: Sites, settings: Settings) -> int:
     for number in range(1, count + 1):
-        name_lines_of(run.window(number, "trace"), sites)
+        name_lines_of(run.window(number, "trace"), sites, Names(run, number))
     say(f"there is no report: {fault}; the trace is kept: {shortly(run.window(1, 'trace'))}")
     return DEADLOCK if judge([], [], deadlock, sites, settings).status else NO_REPORT
 

@@ -2,8 +2,11 @@
 another one. A cycle of K members needs a ring of K locks whose edges are of K threads, so without a longer ring no larger bound finds more."""
 from __future__ import annotations
 
+import os
 from collections import defaultdict
+from collections.abc import Iterable
 from dataclasses import dataclass
+from typing import NamedTuple
 
 from goodlock.limits import MOST_BOUND
 
@@ -13,12 +16,30 @@ END = "end\n"
 Graph = dict[int, dict[int, set[int]]]  # of a held lock: the locks acquired while it is held, by which threads
 
 
+class Edge(NamedTuple):
+    """A thread acquires a lock while it holds another one."""
+
+    held: int
+    lock: int
+    thread: int
+
+
 @dataclass
 class WindowGraph:
     """What the collector knows of a window: how many acquires in it do not wait, and the longest ring of its lock graph."""
 
     tries: int = 1
     longest: int = MOST_RING
+
+
+def add_edges(path: str, edges: Iterable[Edge]) -> None:
+    """Adds edges to a graph that was written whole."""
+    with open(path, encoding="ascii") as file:
+        text = file.read()
+    if text.endswith(END):
+        with open(f"{path}.new", "w", encoding="ascii") as file:
+            file.write(text[:-len(END)] + "".join(f"{edge.held} {edge.lock} {edge.thread}\n" for edge in edges) + END)
+        os.replace(f"{path}.new", path)
 
 
 def read_graph(path: str) -> WindowGraph:

@@ -14,16 +14,21 @@ from dataclasses import asdict, dataclass, field
 from types import FrameType
 from typing import Any, Optional
 
-from goodlock.agent.rings import read_graph
+from goodlock.agent.names import Names
+from goodlock.agent.joins import joins_in, with_ends
+from goodlock.agent.rings import add_edges, read_graph
 from goodlock.agent.run import Run
+from goodlock.agent.wakes import wakes_in, with_wakes
 from goodlock.commandline import plural
 from goodlock.errors import InputError
 from goodlock.groups import Group, Groups, Pair
 from goodlock.limits import HELPERS, LEAST_BOUND, TIMED_MARKERS, TRY_MARKERS
+from goodlock.parts import condition_of
 from goodlock.reports import Cycle, Report, read_reports
 from goodlock.traces import EVENT, Index, lines_of, read_trace
 
 MOST_GROUPS = 1000
+WOKEN = "woken"  # a word of N.waits: threads that hold locks were woken in waits on conditions
 CONFIRMED, POTENTIAL, TIMED, TRIED = "confirmed", "potential", "timed", "tried"
 TOO_LONG = re.compile("refused 23 .*")
 HELPERS_OF_TRIES = HELPERS + 500_000_000
@@ -99,7 +104,8 @@ class FoundMember:
 
 @dataclass
 class Found:
-    """A group of cycles at the same sites: its example and how many it has. The kind is confirmed, potential, or timed."""
+    """A group of cycles at the same sites: its example and how many it has. The kind is confirmed, potential, or timed. `condition` is what
+    it rests on besides the events, or empty."""
 
     kind: str
     numbers: list[int]
@@ -107,6 +113,7 @@ class Found:
     witness: Optional[str]
     cycles: int
     confirmed: int
+    condition: str = ""
     window: int = 0
 
     @property
@@ -121,7 +128,8 @@ class Found:
 
 @dataclass
 class Window:
-    """The results of the search in a window. `tried` cycles have a member that does not wait, `further` ones are in too many groups;
+    """The results of the search in a window. `tried` cycles have a member that does not wait, `writers_wait` ones are only made by waiting
+    writers, of locks that do not prefer these, `further` ones are in too many groups;
     `notes` say what else is left out. `why` says why `bound`, for which the results are complete, is less than wanted; if `is_partial`, they
     are a part of those for this bound. `longest` is the longest ring of the lock graph."""
 
@@ -132,6 +140,7 @@ class Window:
     longest: int = 0
     found: list[Found] = field(default_factory=list)
     tried: int = 0
+    writers_wait: int = 0
     further: int = 0
     further_confirmed: int = 0
     notes: list[str] = field(default_factory=list)
@@ -154,7 +163,8 @@ def found_of(index: Index, group: Group, is_timed: bool) -> Found:
                                    None if fork is None else site_of(index, fork)))
     witness = " ".join(map(str, cycle.witness)) if cycle.is_confirmed else None
     confirmed = 0 if is_timed else group.confirmed
-    return Found(TIMED if is_timed else cycle.verdict, list(cycle.numbers), members, witness, group.cycles, confirmed)
+    return Found(TIMED if is_timed else cycle.verdict, list(cycle.numbers), members, witness, group.cycles, confirmed,
+                 condition_of(group.basis))
 
 
 def site_of(index: Index, place: int) -> int:
@@ -246,7 +256,11 @@ def search(run: Run, number: int, path: str, bound: int) -> Window:
     if not first.startswith("question "):
         read_trace(path)  # says which event is refused
         raise NoReport(first or "goodlockd prints no report")
-    index = Index(read_trace(path))
+    trace = read_trace(path)
+    parts = Names(run, number).parts
+    parts.wakes |= trace.parts.wakes
+    trace.parts = parts
+    index = Index(trace)
     return grouped(index, read_reports(path, index, (line for part in ([first], lines) for line in part)), bound)
 
 
@@ -267,6 +281,7 @@ def grouped(index: Index, reports: Iterable[tuple[Report, Optional[Cycle]]], bou
         window.why, window.is_partial = str(fault), True
     for is_timed, some in groups.items():
         window.found += [found_of(index, group, is_timed) for group in some.by_key.values()]
+        window.writers_wait += some.writers_wait
         if some.further:
             window.further += some.further
             window.further_confirmed += 0 if is_timed else some.further_confirmed
@@ -290,15 +305,40 @@ def not_searched(run: Run, number: int, why: str) -> Window:
     return Window(0, NOT_SEARCHED, why)
 
 
+def add_waits(run: Run, number: int) -> None:
+    """Adds to a window's trace and to its lock graph what makes joins and waits on conditions by holders of locks waits for locks. A report of
+    a server is about the events without them."""
+    path, new, wanted = run.window(number, "trace"), run.work(f"{number}.trace"), run.work(f"{number}.waits")
+    if not os.path.exists(wanted) or os.path.exists(run.work(f"{number}.answer")):
+        return
+    with open(wanted, encoding="ascii") as file:
+        words = file.read().split()
+    with open(path, encoding="ascii") as file:
+        joins = joins_in(file, [int(word) for word in words if word != WOKEN])
+    add_edges(run.work(f"{number}.window"), joins.edges)
+    if joins.threads:
+        rewrite(path, new, lambda lines: with_ends(lines, joins.threads))
+        os.replace(new, path)
+    if WOKEN in words:
+        with open(path, encoding="ascii") as file:
+            wakes = wakes_in(file)
+        add_edges(run.work(f"{number}.window"), wakes.edges)
+        rewrite(path, new, lambda lines: with_wakes(lines, wakes))
+        os.replace(new, path)
+    os.remove(wanted)
+
+
 def search_up(run: Run, number: int, limit: Limit) -> Window:
     """Searches with bound 2, then 3, up to the wanted one, or up to the longest ring of the lock graph, as long as the time permits. If that
     takes too long, or the report would, the acquires that do not wait are left out of the search."""
+    path = run.window(number, "trace")
     try:
         with limit.search():
+            add_waits(run, number)
             graph = read_graph(run.work(f"{number}.window"))
     except Stopped as fault:
         return not_searched(run, number, str(fault))
-    window, path = not_searched(run, number, ""), run.window(number, "trace")
+    window = not_searched(run, number, "")
     notes: list[str] = []
     for bound in bounds_of(run, number, graph.longest):
         ways = [False] if notes or not graph.tries else [True] if graph.tries > MANY_TRIES else [False, True]
@@ -352,7 +392,7 @@ def check_all(run: Run, first: int, last: int, seconds: float) -> None:
 
 def adds_group(run: Run, window: Window) -> bool:
     """Notes the groups of a window, and returns whether one of them is new."""
-    keys = {f"{found.kind} {found.pairs(str)}\n" for found in window.found}
+    keys = {f"{found.kind} {found.condition} {found.pairs(str)}\n" for found in window.found}
     with open(run.work("known"), "a+", encoding="ascii") as file:
         fcntl.flock(file, fcntl.LOCK_EX)
         file.seek(0)

@@ -9,6 +9,7 @@ from dataclasses import dataclass
 from typing import Optional
 
 from goodlock.agent.run import Run
+from goodlock.agent.names import Names
 from goodlock.agent.sites import Sites, name_lines_of
 from goodlock.dashboard.watch import Refusal, Watch
 from goodlock.locations import top_of
@@ -63,7 +64,7 @@ class TraceFile:
             file.write(text[:text.rfind(b"\n") + 1] if is_growing else text)
         if is_growing and SITE.search(text):
             with contextlib.suppress(ValueError):  # the file is not an agent's
-                name_lines_of(path, Sites(run, frames_of(run)))
+                name_lines_of(path, Sites(run, frames_of(run)), Names(run, 1))
         return name
 
 

@@ -10,6 +10,7 @@ from goodlock.drawing.ring import draw_ring
 from goodlock.drawing.shapes import PALETTE, colours_of
 from goodlock.drawing.timeline import Link, Marks, TimeLine, rows_of
 from goodlock.groups import TRIED, Groups, instance_of
+from goodlock.parts import WRITERS_WAIT, condition_of
 from goodlock.reasons import Reason, reasons_of
 from goodlock.reports import Cycle, Member, Report
 from goodlock.reproduce.notes import command_for
@@ -78,8 +79,9 @@ def report_parts(index: Index, drawn: Drawn, at: int) -> Iterator[str]:
                 f"confirmed {report.confirmed:,}.")
     if not report.cycles:
         yield NO_CYCLES.format(" Threads, locks and branches that the run did not use are not in it.")
-    if groups.tried:
-        yield faint(f'{plural(groups.tried, "cycle")} {TRIED}.')
+    for count, why in ((groups.tried, TRIED), (groups.writers_wait, WRITERS_WAIT)):
+        if count:
+            yield faint(f'{plural(count, "cycle")} {why}.')
     if drawn.is_grouped:
         number = len(groups.by_key)
         which = "each group" if number <= drawn.most else "the first group" if drawn.most == 1 else f"each of the first {drawn.most} groups"
@@ -89,7 +91,9 @@ def report_parts(index: Index, drawn: Drawn, at: int) -> Iterator[str]:
     sections = drawn.sections()
     reasons = reasons_of(index, report, [cycle for cycle, *_ in sections if not cycle.is_confirmed])
     for number, (cycle, cycles, confirmed) in enumerate(sections):
-        others = f'<span class="faint">one of {cycles:,} cycles at these locations, {confirmed:,} confirmed</span>' if cycles > 1 else ""
+        condition = condition_of(index.parts.basis_of(cycle.members))
+        others = f'<span class="badge">{condition}</span>' if condition else ""
+        others += f'<span class="faint">one of {cycles:,} cycles at these locations, {confirmed:,} confirmed</span>' if cycles > 1 else ""
         yield cycle_section(index, cycle, reasons.get(cycle.numbers), f"r{at}c{number}", others)
 
 
@@ -122,20 +126,25 @@ def member_rows(index: Index, cycle: Cycle, colours: dict[int, str]) -> Iterator
     for member, place in zip(cycle.members, instance_of(index, cycle.members)):
         lines = [held_line(index, lock, index.since_of(place, lock), colours) for lock in member.held]
         verb = "waits for" if cycle.is_confirmed else "wants"
-        lines.append(f"{verb} {lock_name(member.lock, colours)} at {index.origin(place).title}{where_of(index.events[place])}")
+        lines.append(f"{verb} {lock_name(member.lock, colours, index.names.get(('lock', member.lock)))} at {index.origin(place).title}{where_of(index.events[place])}")
         fork = index.fork_of.get(member.thread)
         begun = where_of(index.events[fork]) if fork is not None else ""
-        name = f"<b>thread {member.thread}</b>" + (f"<br>from{begun}" if begun else "")
-        yield f"<tr><td>{name}</td><td>{'<br>'.join(lines)}</td></tr>"
+        name = f"<b>thread {member.thread}</b>{called(index.names.get(('thread', member.thread)))}"
+        yield f"<tr><td>{name}{f'<br>from{begun}' if begun else ''}</td><td>{'<br>'.join(lines)}</td></tr>"
 
 
 def held_line(index: Index, lock: int, since: int, colours: dict[int, str]) -> str:
-    return f"holds {lock_name(lock, colours)} since {index.origin(since).title}{where_of(index.events[since])}"
+    return f"holds {lock_name(lock, colours, index.names.get(('lock', lock)))} since {index.origin(since).title}{where_of(index.events[since])}"
 
 
-def lock_name(lock: int, colours: dict[int, str]) -> str:
+def called(name: Optional[str]) -> str:
+    """Returns what follows a number: ` (accounts)`, or nothing without a name."""
+    return f" ({escape(name)})" if name else ""
+
+
+def lock_name(lock: int, colours: dict[int, str], name: Optional[str] = None) -> str:
     dot = f'<span class="dot" style="background:{colours[lock]}"></span>' if lock in colours else ""
-    return f"{dot}<b>lock {lock}</b>"
+    return f"{dot}<b>lock {lock}</b>{called(name)}"
 
 
 def where_of(event: Event) -> str:

@@ -39,9 +39,10 @@ def many_text(run: Run, traces: int, judgement: Judgement) -> str:
         "version": VERSION,
         "traces": traces,
         "events": numbers.events,
-        "cycles": numbers.confirmed + numbers.potential + numbers.tried,
+        "cycles": numbers.cycles,
         "confirmed": numbers.confirmed,
         "tried": numbers.tried,
+        "writers_wait": numbers.writers_wait,
         "groups": [merged_object(result) for result in run.results],
         "faults": dict(run.faults),
         "unused_suppressions": list(run.unused),
@@ -64,7 +65,8 @@ def numbers_object(numbers: Numbers) -> Object:
         "threads": numbers.threads,
         "locks": numbers.locks,
         "dependencies": numbers.dependencies,
-        "cycles": {"confirmed": numbers.confirmed, "potential": numbers.potential, "tried": numbers.tried},
+        "cycles": {"confirmed": numbers.confirmed, "potential": numbers.potential, "tried": numbers.tried,
+                   "writers_wait": numbers.writers_wait},
         "happened": numbers.happened,
         "seconds": round(numbers.seconds, 3),
     }
@@ -94,7 +96,8 @@ def counts_object(results: Sequence[Result], state: State) -> Object:
 
 
 def left_out_object(left_out: LeftOut) -> Object:
-    return {"tried": left_out.tried, "further": left_out.further, "further_confirmed": left_out.further_confirmed}
+    return {"tried": left_out.tried, "further": left_out.further, "further_confirmed": left_out.further_confirmed,
+            "writers_wait": left_out.writers_wait}
 
 
 def result_object(result: Result) -> Object:
@@ -125,6 +128,7 @@ def head_object(result: Result) -> Object:
         "cycles": result.cycles,
         "confirmed": result.confirmed,
         "example": list(result.example),
+        **({"condition": result.condition} if result.condition else {}),
     }
 
 
@@ -182,7 +186,7 @@ def merged_object(result: Result) -> Object:
 def numbers_from(found: Object) -> Numbers:
     cycles = found["cycles"]
     return Numbers(found["events"], found["threads"], found["locks"], found["dependencies"], cycles["confirmed"], cycles["potential"],
-                   cycles["tried"], found["happened"], found["seconds"])
+                   cycles["tried"], found["happened"], found["seconds"], cycles["writers_wait"])
 
 
 def result_from(found: Object, root: Root) -> Result:
@@ -200,6 +204,7 @@ def result_from(found: Object, root: Root) -> Result:
         kept_apart=KeptApart(apart["heading"], tuple(apart["sentences"]), apart["steps_left_out"], command=apart["command"]) if apart else None,
         reproduced=tuple(found.get("reproduced", ())),
         reproduce=found.get("reproduce", ""),
+        condition=found.get("condition", ""),
     )
 
 

@@ -28,7 +28,8 @@ def text_of(run: Run, judgement: Judgement) -> str:
 
 def row(result: Result) -> str:
     sides = "<br>".join(side(member) for member in result.members)
-    return f"| {result.state.value} | {result.verdict.value} | {sides} | {result.counts} |"
+    verdict = f"{result.verdict.value}, {result.condition}" if result.condition else result.verdict.value
+    return f"| {result.state.value} | {verdict} | {sides} | {result.counts} |"
 
 
 def side(member: ResultMember) -> str:

@@ -146,13 +146,13 @@ def suppressions_of(file: str, result: Result) -> list[Object]:
 
 
 def wait_message(member: ResultMember) -> str:
-    return f"thread {member.thread} waits here for {member.wait.target}"
+    return f"{member.title} waits here for {member.wait.target}"
 
 
 def hold_message(member: ResultMember) -> str:
     if member.hold.lock is None:
-        return f"thread {member.thread} was started here"
-    return f"thread {member.thread} holds the lock that it acquired here"
+        return f"{member.title} was started here"
+    return f"{member.title} holds {member.hold.target}, which it acquired here"
 
 
 def location_object(location: Optional[Location], message: str) -> Object:
@@ -180,7 +180,7 @@ def thread_flows(result: Result) -> list[Object]:
         flows.setdefault(step.thread, []).append(flow_step(step.location, message, order))
     for order, member in enumerate(result.members, len(steps) + 1):
         place = "" if member.wait.place is None else f" at {member.wait.at}"
-        message = f"thread {member.thread} waits for {member.wait.target}{place}"
+        message = f"{member.title} waits for {member.wait.target}{place}"
         flows.setdefault(member.thread, []).append(flow_step(member.wait.location, message, order))
     return [{"id": f"thread {thread}", "locations": steps} for thread, steps in flows.items()]
 

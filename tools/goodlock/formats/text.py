@@ -5,6 +5,7 @@ from collections.abc import Iterator, Sequence
 
 from goodlock.commandline import plural
 from goodlock.groups import TRIED
+from goodlock.parts import WRITERS_WAIT
 from goodlock.results import Question, Result, ResultMember, Run, State, Verdict, kept
 
 
@@ -25,8 +26,7 @@ def question_lines(question: Question, most: int) -> Iterator[str]:
     yield from (f"  {note}" for note in question.notes)
     if not report.cycles and not question.results:
         yield "  Within the bound this run predicts no deadlock of this shape."
-    if left_out.tried:
-        yield f"  {plural(left_out.tried, 'cycle')} {TRIED}"
+    yield from reason_lines(left_out.tried, left_out.writers_wait)
     if left_out.further:
         yield (f"  {plural(left_out.further, 'cycle')} left out, {left_out.further_confirmed:,} confirmed: these are in too many further "
                "groups")
@@ -34,6 +34,11 @@ def question_lines(question: Question, most: int) -> Iterator[str]:
         yield ""
         yield from result_lines(number, result)
     yield from left_out_lines(question.results, most)
+
+
+def reason_lines(tried: int, writers_wait: int) -> Iterator[str]:
+    """Yields why cycles are in no group."""
+    yield from (f"  {plural(count, 'cycle')} {why}" for count, why in ((tried, TRIED), (writers_wait, WRITERS_WAIT)) if count)
 
 
 def left_out_lines(results: Sequence[Result], most: int) -> Iterator[str]:
@@ -46,7 +51,8 @@ def left_out_lines(results: Sequence[Result], most: int) -> Iterator[str]:
 
 def head_of(number: int, result: Result, counts: str) -> str:
     """Returns `group 1 confirmed, known: 3 cycles`. A new result is not called so: without a baseline all are new."""
-    head = f"group {number} {result.verdict.value}{', reproduced' if result.reproduced else ''}{', known' if result.state is State.KNOWN else ''}"
+    words = [result.verdict.value, result.condition, "reproduced" if result.reproduced else "", "known" if result.state is State.KNOWN else ""]
+    head = f"group {number} {', '.join(word for word in words if word)}"
     return f"{head}: {counts}" if counts else head
 
 
@@ -121,11 +127,9 @@ def many_text(run: Run, traces: int) -> str:
 
 def many_lines(run: Run, traces: int) -> Iterator[str]:
     numbers = run.numbers
-    cycles = numbers.confirmed + numbers.potential + numbers.tried
     yield (f"{plural(traces, 'trace')}, {len(run.faults):,} without a report; {plural(numbers.events, 'event')}; "
-           f"{plural(cycles, 'cycle')}, {numbers.confirmed:,} confirmed, in {plural(len(run.results), 'group')}")
-    if numbers.tried:
-        yield f"  {plural(numbers.tried, 'cycle')} {TRIED}"
+           f"{plural(numbers.cycles, 'cycle')}, {numbers.confirmed:,} confirmed, in {plural(len(run.results), 'group')}")
+    yield from reason_lines(numbers.tried, numbers.writers_wait)
     yield from (f"  {note}" for note in run.notes)
     for number, result in enumerate(run.shown, 1):
         yield ""

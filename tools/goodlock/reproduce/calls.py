@@ -11,7 +11,7 @@ from dataclasses import dataclass, field
 from typing import BinaryIO, NamedTuple, Optional
 
 from goodlock.agent.run import Run
-from goodlock.agent.sites import read_sites
+from goodlock.agent.sites import program_of, read_sites
 from goodlock.errors import InputError
 from goodlock.reproduce.buildid import build_id_of
 
@@ -192,11 +192,6 @@ def keep_log(run: Run, name: str, is_python: bool) -> None:
     except OSError:
         with contextlib.suppress(OSError):
             os.remove(path)
-
-
-def program_of(run: Run) -> str:
-    with open(run.work("program"), encoding="utf-8", errors="surrogateescape") as file:
-        return file.read().rstrip("\n")
 
 
 def text_of(program: str, sites: dict[int, "re.Match[str]"], is_python: bool) -> Iterator[str]:

@@ -15,6 +15,7 @@ from typing import Optional
 
 from goodlock.errors import InputError
 from goodlock.groups import instance_of
+from goodlock.limits import ENDS_OF_THREADS, TRY_MARKERS, WAKE_UPS
 from goodlock.reports import Cycle
 from goodlock.reproduce.calls import FORK, JOINED, WHY_CUT, Log, Window
 from goodlock.traces import Event, Index
@@ -63,19 +64,29 @@ def recorded(log: Log, number: int, index: Index) -> Recorded:
     if number > len(log.windows):
         raise InputError(log.name, None, f"there is no window {number}: record the program again")
     window = log.windows[number - 1]
+    made = [place for place, event in enumerate(index.events) if not is_of_end(event)]  # by calls, or when the window began
     firsts = log.first_places(window)
     call_of = array("I", [NO_CALL]) * len(index)
     end = window.opening
     for at, first in enumerate(firsts):
         end = first + log.made[window.first + at]
-        if end > len(index):
+        if end > len(made):
             break
-        for place in range(first, end):
+        for place in made[first:end]:
             call_of[place] = window.first + at
-    if end + log.before.get(window.end, 0) != len(index):
-        raise InputError(log.name, None, f"the trace has {len(index)} events, and the calls made {end}: it is of another run, or acquires that do "
+    if end + log.before.get(window.end, 0) != len(made):
+        raise InputError(log.name, None, f"the trace has {len(made)} events, and the calls made {end}: it is of another run, or acquires that do "
                                          "not wait were left out of it; such a run cannot be reproduced")
-    return Recorded(log, window, index, call_of, firsts)
+    for place in range(len(index) - 2, -1, -1):  # the events of a thread that waits for an end are right before its join
+        event = index.events[place]
+        if is_of_end(event) and event.target - ENDS_OF_THREADS != event.thread:
+            call_of[place] = call_of[place + 1]
+    return Recorded(log, window, index, call_of, array("Q", [made[first] if first < len(made) else len(index) for first in firsts]))
+
+
+def is_of_end(event: Event) -> bool:
+    """Whether an event is of a lock that a thread holds until its end: no call made it."""
+    return event.letter in "ar" and ENDS_OF_THREADS <= event.target < TRY_MARKERS
 
 
 def places_before(events: Sequence[Event], reach: Iterable[int], witness: Sequence[int]) -> set[int]:
@@ -151,6 +162,8 @@ class Schedule:
     def check(self) -> None:
         """Raises `InputError` if no run can follow this schedule."""
         run, log = self.run, self.run.log
+        if any(WAKE_UPS <= run.index.events[place].target < TRY_MARKERS for place in self.instance):
+            raise InputError(log.name, None, "a member waits on a condition, and is not in a lock: such a deadlock cannot be reproduced")
         if max([*log.threads, *self.parents], default=0) >= MOST_LANES:
             raise InputError(log.name, None, f"the run has more than {MOST_LANES:,} threads")
         calls = self.hard | self.reach if not self.pause else {run.call_of[place] for place in self.instance}
