@@ -12,11 +12,12 @@ from typing import IO
 from unittest.mock import patch
 
 from goodlock.commands import agent_report, from_ftrace, from_std, picture, reduce, summary
+from goodlock.kernel.program import program as kernel_program
 from goodlock.protocol import Lost, Refused, Session
 from goodlock.reducer import program
 from test_converters import BANK as STD
-from test_converters import KERNEL, PERF, READERS, TRACE_CMD
 from test_groups import BANK, REPORT
+from test_kernel import LATENCY, PERF, TRACE_CMD, TRACEFS, text_of_lines
 from written import OPPOSITE, OPPOSITE_REPORT, InFolder, ends, environment
 
 RUNS = 2000  # of each tool
@@ -28,6 +29,9 @@ BASELINE = '{"fingerprints": {"aa:1": "confirmed", "bb:1": "potential"}}'
 WINDOW = "# mark 3\n# lock 3 is mark\n# line 7 of x.std\n# at x.c:3 in f\n0f1 0f2 1w5\n1a10 1a3 1a20 1r3\n1r20 1r10 2d5 0j1\n"
 SECOND = "# window 2\n# repeated 1\n0f2\n# place 3 of y\n2a20\n# line 9 of x.std\n2a10 2r10 2r20\n# thread 2 is y\n"
 COUNTS = "attached 1\nlock_events 8\nthreads 3\nread_locks 0\ncrowded_locks 0\nunseen 0\noverflowing 0\noff 0\nframes 1\n"
+ORDERS = text_of_lines("k-9 acquire (work_completion)(&w)", "k-9 workqueue_execute_start work struct 0xd1: function f", "k-9 take read A",
+                       "p-1/..s. take &x->wait", "k-9 sched_waking comm=p pid=1 prio=1", "k-9 sched_process_fork comm=k pid=9 child_comm=c child_pid=3",
+                       "k-9 release (work_completion)(&w)", "c-3 take A", "c-3 release B", "p-1 workqueue_queue_work work struct=0xd1 function=f")
 SITES = "1\t/bin/true+0x10\n2\tbank.py:3 in transfer\n3\t?\n"
 HAPPENED = "deadlock of 2 threads, which wait for each other\nthread 1 waits for lock 2 at @1@\nthread 1 holds lock 1 since @2@\n"
 RECORDED = "# at 1\n" + OPPOSITE
@@ -67,7 +71,7 @@ def silent(null: IO[str]) -> Iterator[None]:
 class Fuzz(InFolder):
     @classmethod
     def setUpClass(cls) -> None:
-        program()  # is built here, since it takes longer than a run may
+        program(), kernel_program()  # are built here, since that takes longer than a run may
 
     def outcome(self, main: Callable[[], int], *args: str) -> object:
         """Returns the status of a tool, or the exception that it lets out."""
@@ -108,7 +112,9 @@ class Fuzz(InFolder):
         self.fuzz(from_std.main, {"in": [STD]}, "in", "out")
 
     def test_from_ftrace(self) -> None:
-        self.fuzz(from_ftrace.main, {"in": [KERNEL, TRACE_CMD, PERF, READERS]}, "in", "out")
+        """The program in C prints its faults itself."""
+        with open(os.devnull, "w") as null, silent(null):
+            self.fuzz(from_ftrace.main, {"in": [TRACEFS, TRACE_CMD, LATENCY, PERF, ORDERS]}, "in", "out", "--json", "json")
 
     def test_reduce(self) -> None:
         """The program in C, with windows and comments of all kinds. It prints its faults itself."""

@@ -46,7 +46,6 @@ class Conversion:
         self.check = AdmissionCheck(most_threads=LARGEST, most_held=MOST_HELD_OF_RUN)
         self.threads, self.locks, self.variables = Numbers(), Numbers(), Numbers()
         self.names: dict[tuple[str, int], str] = {}
-        self.marks: set[int] = set()
         self.named: set[tuple[str, int]] = set()
         self.dropped: Counter[str] = Counter()
         self.source, self.expected, self.where = ("", 0), 0, ""
@@ -57,12 +56,10 @@ class Conversion:
         self.names.setdefault(("thread", number), one_line(name))
         return number
 
-    def lock(self, key: Hashable, name: str, is_mark: bool = False) -> int:
-        """Returns the number of a lock. A mark is a lock that only one thread acquires, before an acquire that does not wait."""
+    def lock(self, key: Hashable, name: str) -> int:
+        """Returns the number of a lock."""
         number = self.locks.of(key)
         self.names.setdefault(("lock", number), one_line(name))
-        if is_mark:
-            self.marks.add(number)
         return number
 
     def offer(self, thread: int, letter: str, target: int, where: str = "") -> bool:
@@ -102,8 +99,6 @@ class Conversion:
             return
         self.named.add((kind, number))
         self.file.write(f"# {kind} {number} is {shortened(self.names[kind, number])}\n")
-        if kind == "lock" and number in self.marks:
-            self.file.write(f"# mark {number}\n")
 
     def lines(self) -> Iterator[str]:
         """Yields what was dropped."""
@@ -132,8 +127,8 @@ def converted(path: str, convert: Callable[[Conversion], None]) -> Conversion:
     return conversion
 
 
-def convert_file(parser: argparse.ArgumentParser, converter_of: Callable[[str], Converter], is_read_twice: bool = False) -> int:
-    """Converts the file that the command line names. The parser has its first argument, `file`. Returns the exit status."""
+def arguments_of(parser: argparse.ArgumentParser) -> argparse.Namespace:
+    """Reads the command line of a converter. The parser has its first argument, `file`, and its own options."""
     parser.add_argument("out", help="the name of the traces to write, without .trace")
     parser.add_argument("--whole", action="store_true", help="keep the events that change no cycle, too")
     add_options(parser)
@@ -142,8 +137,12 @@ def convert_file(parser: argparse.ArgumentParser, converter_of: Callable[[str], 
         parser.error("--bound reports on the reduced run: leave out --whole, or call `goodlockd offline` for each trace")
     if os.path.realpath(args.file) == os.path.realpath(f"{args.out}.trace"):
         parser.error(f"{args.out}.trace is the file to read: choose another name")
-    if is_read_twice and os.path.exists(args.file) and not os.path.isfile(args.file):
-        parser.error(f"{args.file} is not a file: it is read twice")
+    return args
+
+
+def convert_file(parser: argparse.ArgumentParser, converter_of: Callable[[str], Converter]) -> int:
+    """Converts the file that the command line names. Returns the exit status."""
+    args = arguments_of(parser)
     converter = converter_of(args.file)
     with folder_beside(args.out) as folder:
         path = os.path.join(folder, "converted")

@@ -1,0 +1,1 @@
+"""Recordings of the lock events of a Linux kernel."""
