@@ -1,11 +1,12 @@
 /* A test of tests/agents_alone: the collector's encoder gets the records of many threads one after another, each with locks of its own on its
- * stack and in allocated memory. Its memory must not grow with threads and locks that have ended, and nobody's name may change. */
+ * stack and in allocated memory. Its memory must not grow with threads and locks that have ended, and nobody's name may change. The
+ * dependencies of the whole run have a limit, which the early threads reach. */
 #include "../agents/pthread/collector.h"
 
 #include <malloc.h>
 #include <stdarg.h>
 
-enum { EARLY = 2000, ALL = 100000, STACK = 1 << 16, HEAP = 1 << 20 };
+enum { EARLY = 110000, ALL = 220000, STACK = 1 << 16, HEAP = 1 << 20 };
 struct options options = {.bound = 4, .window = MOST_EVENTS};
 static struct ring memory;
 struct ring *ring = &memory;

@@ -119,10 +119,13 @@ static void *tries_often(void *unused) {
     return unused;
 }
 
-/* tries: a thread makes 100,000 attempts while it holds a lock. They are 600,000 events, and 1,300,000 if artificial threads make them. */
+/* tries: a thread makes 100,000 attempts while it holds a lock. They are 600,000 events, and 1,300,000 if artificial threads make them. Before
+ * and after that the two locks are acquired in both orders, by threads of which one has ended when the other one begins. */
 static int tries(void) {
     pthread_t thread;
-    pthread_create(&thread, NULL, tries_often, NULL);
+    pthread_create(&thread, NULL, first, NULL), pthread_join(thread, NULL);
+    pthread_create(&thread, NULL, tries_often, NULL), pthread_join(thread, NULL);
+    pthread_create(&thread, NULL, second, NULL);
     return pthread_join(thread, NULL);
 }
 

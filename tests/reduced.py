@@ -194,8 +194,9 @@ def fault_of(words: list[str], whole: dict[Key, Row], short: dict[Key, Row], kep
 def fault_of_replay(folder: str, words: list[str], found: Reduced) -> str:
     """Returns what the replay of a completed witness finds, or an empty text."""
     trace, report = os.path.join(folder, "whole.trace"), f"{found.traces[0]}.report"
-    cycles = [cycle for _, cycle in read_reports(report, Index(read_trace(found.traces[0]))) if cycle and cycle.is_confirmed]
-    verdicts = list(verdicts_of(found, [Source(trace)], report, folder))
+    index = Index(read_trace(found.traces[0]))
+    cycles = [cycle for _, cycle in read_reports(report, index) if cycle and cycle.is_confirmed]
+    verdicts = list(verdicts_of(found, [Source(trace)], index, ((cycle.members, cycle.witness) for cycle in cycles), folder))
     for cycle, verdict in zip(cycles, verdicts):
         if verdict.fault:
             return f"cycle {cycle.name}: {note_of(verdict, [Source(trace)])}"

@@ -317,6 +317,11 @@ BODY(late_backward) {
 }
 static void late(void) { RUN(late_forward, late_backward); }
 
+/* The members are in different windows with --window 200: a third thread, which is none, has 600 events between them. */
+BODY(between) { until(1); for (int at = 0; at < 300; at++) use(&c); next(); return NULL; }
+BODY(backward_after) { until(2); both(&b, &a); return NULL; }
+static void apart(void) { RUN(forward, between, backward_after); }
+
 /* The main thread joins nobody and ends the program. */
 BODY(backward_last) { backward(NULL), next(); return NULL; }
 static void no_join(void) { start(forward, NULL), start(backward_last, NULL), until(2); }
@@ -389,7 +394,7 @@ static void another(void) { RUN(deadlocks_after, deadlocks_instead); }
 
 #define CASES(X) \
     X(condition_within) X(conditions) X(semaphores) X(barrier) X(once) X(writers) X(reader_within) X(reader_outside) X(forks) X(c11) X(fails) \
-    X(attempts) X(rounds) X(pool) X(joined) X(outsider_value) X(outsider_flag) X(heap) X(late) X(no_join) X(told) X(designed) X(false_value) X(false_flag) X(another)
+    X(attempts) X(rounds) X(pool) X(joined) X(outsider_value) X(outsider_flag) X(heap) X(late) X(apart) X(no_join) X(told) X(designed) X(false_value) X(false_flag) X(another)
 
 int main(int count, char **words) {
     const char *name = count > 1 ? words[1] : "";

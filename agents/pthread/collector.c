@@ -115,13 +115,14 @@ int wait_for(pid_t child) {
     return child > 0 ? status_of(status) : WRONG;
 }
 
-/* Waits for a reporter. From this time on, or after a signal, it is asked to end its search: it may not be ready to be asked. */
+/* Waits for a reporter. From this time on, or after a signal, it is asked to end its search: it may not be ready to be asked. With 0 it is
+ * asked at once to end all its searches. */
 static int wait_until(pid_t child, uint64_t end) {
     struct timespec moment = {0, 4 * MICROSECONDS * 1000};
     int status = 0;
     pid_t ended = -1;
     for (uint64_t rounds = 0; child > 0 && (ended = waitpid(child, &status, WNOHANG)) == 0; rounds++) {
-        if (rounds % 50 == 49 && (signal_to_forward || now() > end)) kill(child, signal_to_forward ? SIGUSR1 : SIGALRM);
+        if (rounds % 50 == 49 && (signal_to_forward || now() > end)) kill(child, signal_to_forward || !end ? SIGUSR1 : SIGALRM);
         nanosleep(&moment, NULL);
     }
     return ended > 0 ? status_of(status) : WRONG;
@@ -364,7 +365,7 @@ static int release_program(void) {
     return fault;
 }
 
-static void write_summary(int is_whole) {
+static void write_summary(int is_whole, unsigned long left_out) {
     FILE *file = create_in_work("summary");
     if (!file) return;
     fprintf(file,
@@ -373,9 +374,10 @@ static void write_summary(int is_whole) {
             events, window, ring->attached, ring->owner, ring->threads - (uint32_t)unstarted, lock_events, unseen, overflowing, read_locks,
             ring->off || is_spoilt, !is_whole, is_shared_server,
             write_processes(), ring->cleared, (unsigned long)ring->futexes);
-    fprintf(file, "frames %d\npython %d\nfollower %d\nfollows %d\n", options.frames, options.is_python, is_follower,
-            options.follows_others);
+    fprintf(file, "frames %d\npython %d\nfollower %d\nfollows %d\nserver %d\n", options.frames, options.is_python, is_follower,
+            options.follows_others, options.server != NULL);
     fprintf(file, "crowded_locks %lu\n", crowded_locks);
+    fprintf(file, "no_log %u\nlogged %lu\nleft_out %lu\n", why_no_log(), logged, left_out);
     fclose(file);
 }
 
@@ -387,13 +389,15 @@ static int finish(void) {
     signal_to_forward = 0;
     if (!follows) signal(SIGINT, forward);
     int is_whole = end_run();
+    unsigned long left_out = window > 1 ? write_dependencies() : 0;
     if (options.server && window == 1 && is_whole && !ask_server(events, "1.answer")) unlink(in_work(path, "1.answer"));
     close_sites();
     write_libraries();
-    write_summary(is_whole);
+    write_summary(is_whole, left_out);
     if (deadlock_report > 0) wait_for(deadlock_report);
     while (command > 0) act_on_deadlock(), reap(), nanosleep(&moment, NULL);
-    for (int slot = 0; slot < MOST_CHECKS; slot++) if (checks[slot]) wait_until(checks[slot], end);
+    for (int slot = 0; slot < MOST_CHECKS; slot++) /* the log has what they search */
+        if (checks[slot]) wait_until(checks[slot], why_no_log() || options.server ? end : 0);
     snprintf(number, sizeof number, "%u", window);
     at = now();
     return wait_until(start_reporter("finish", number, at < end ? end - at : 0, -1), end);

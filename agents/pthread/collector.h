@@ -28,7 +28,7 @@ struct options {
     const char *on_deadlock;        /* report, kill, or a command */
     int bound, error_status, frames, is_python, has_no_config, allows_partial, follows_others;
     uint32_t window, seconds;       /* bound: 0 if each is searched up to the largest that can have a cycle */
-    uint64_t most_logged;           /* bytes of the log of calls; 0: there is none */
+    uint64_t most_logged;           /* bytes of the log; 0: there is none */
     const char *schedule;           /* of the run that is followed; NULL: none. These three are of goodlock --reproduce */
     uint32_t patience;              /* milliseconds */
     int leaves_deadlock;            /* to a debugger */
@@ -118,8 +118,9 @@ struct thread {
     uint32_t tries, tries_in_window;                            /* locks that it holds by an acquire which does not wait; the most of the window */
     uint32_t looked;                                            /* the look for a deadlock that has passed it last */
     uint8_t has_ended, is_forgotten, waits_for_end, last_kind;  /* is_forgotten: nobody joins it; waits_for_end: in its join; of a record */
+    uint8_t is_forked;                                          /* in the log */
     struct lock **held, *on_stack;
-    uint32_t *helpers;
+    struct helper { uint32_t number, window; } *helpers;        /* artificial threads that hold nothing, and the last window that has them */
     size_t held_count, held_room, helpers_count, helpers_room;
 };
 extern uint32_t events, window;
@@ -173,17 +174,28 @@ void close_names(void);
 
 /* ---- calls.c ---- */
 
-/* Whether there is a log that is whole so far. */
-int has_log(void);
+/* 0 if there is a log that is whole so far, else why there is none: see calls.h. */
+uint32_t why_no_log(void);
 /* The log of a program with this command line begins, and ends. */
 void begin_calls(char **words);
 void end_calls(void);
-/* It becomes a log that is not whole. `why` is one of calls.h. */
-void cut_calls(uint32_t why);
-/* A call that made this many events; events of no call; a window that begins with this many. */
-void log_call(uint32_t thread, uint32_t kind, uint32_t object, uint32_t site, uint32_t made);
-void log_events(uint32_t made);
-void log_window(uint32_t made);
+/* A call, to which the next events belong; or they belong to no call. */
+void log_call(uint32_t thread, uint32_t kind, uint32_t object, uint32_t site);
+void log_no_call(void);
+/* An event of the run, without windows; how many there were. */
+extern unsigned long logged;
+void log_event(char letter, uint32_t thread, uint32_t object, uint32_t site);
+/* Another program has begun in the process. */
+void log_exec(void);
+
+/* ---- across.c ---- */
+
+/* A thread that holds these locks has acquired another one. `marker`: the lock that marks the acquire, or 0. */
+void note_dependency(const struct thread *thread, const struct lock *lock, uint32_t marker);
+/* A fork or a join, by their letters. */
+void note_life(char letter, uint32_t thread, uint32_t object, uint32_t site);
+/* Writes the dependencies of the run to OUT.tmp/all, as an event file. Returns how many were left out. */
+unsigned long write_dependencies(void);
 
 /* ---- processes.c ---- */
 

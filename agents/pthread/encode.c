@@ -3,7 +3,6 @@
  * In the first window a thread's number is the recorder's, and thread 0 is the first thread. In each later window thread 0 is an
  * artificial root, which forks each thread at its first event there, and the first thread is FIRST_THREAD. Markers are locks that only one
  * thread acquires. A helper is an artificial thread that holds a lock for a thread that holds too many. */
-#include "calls.h"
 #include "collector.h"
 
 enum { MOST_FORKS = MOST_THREADS - 1, SLACK = 1000, FORKS = 32, GROWTH = 7, BUFFER = 1 << 16, LEAST_SEEN = 1 << 10 };
@@ -20,6 +19,7 @@ static size_t buffered;
 static uint32_t last_site;
 static FILE *trace, *waits;
 static int has_failed;
+static int is_repeating; /* the events repeat what is before the window */
 
 /* ---- the trace file ---- */
 
@@ -39,7 +39,8 @@ static char *put_number(char *to, uint32_t number) {
     return to;
 }
 
-static void event(uint32_t thread, char letter, uint32_t object, uint32_t site) {
+/* An event that only the trace of the window has. */
+static void event_of_window(uint32_t thread, char letter, uint32_t object, uint32_t site) {
     static const char kinds[] = "fjardw";
     if (buffered > BUFFER - 64) write_out();
     char *to = buffer + buffered;
@@ -58,16 +59,31 @@ static void event(uint32_t thread, char letter, uint32_t object, uint32_t site) 
     if (window == 1 && options.server) stream((uint8_t)(strchr(kinds, letter) - kinds + 1), thread, object);
 }
 
+/* The number of a thread in the log. */
+static uint32_t name_in_log(uint32_t in_trace) { return in_trace == FIRST_THREAD ? 0 : in_trace; }
+
+static void event(uint32_t thread, char letter, uint32_t object, uint32_t site) {
+    event_of_window(thread, letter, object, site);
+    if (!is_repeating) log_event(letter, name_in_log(thread), letter == 'f' ? name_in_log(object) : object, site);
+}
+
 /* ---- names ---- */
 
 uint32_t name_in_trace(uint32_t thread) { return thread == 0 && window > 1 ? FIRST_THREAD : thread; }
+
+/* In the log thread 0 forks a thread that nobody has forked. */
+static void name_for_log(struct thread *it) {
+    if (!it->is_forked && it->number) log_event('f', 0, it->number, it->begun), note_life('f', 0, it->number, it->begun);
+    it->is_forked = 1;
+}
 
 /* The thread's number in this window. The root forks it, if nobody has. */
 static uint32_t name(uint32_t thread) {
     struct thread *it = find_thread(thread);
     if (it->in_window != window) {
-        it->in_window = window, it->helpers_count = 0, it->tries_in_window = 0;
-        if (name_in_trace(thread)) event(0, 'f', name_in_trace(thread), it->begun);
+        it->in_window = window, it->tries_in_window = 0;
+        if (name_in_trace(thread)) event_of_window(0, 'f', name_in_trace(thread), it->begun);
+        name_for_log(it);
     }
     return name_in_trace(thread);
 }
@@ -139,9 +155,13 @@ static void remove_held(struct thread *thread, const struct lock *lock) {
 static uint32_t find_helper(uint32_t thread, uint32_t site) {
     struct thread *it = find_thread(thread);
     overflowing++;
-    if (it->helpers_count) return it->helpers[--it->helpers_count];
-    event(name(thread), 'f', HELPERS + ++helpers, site);
-    return HELPERS + helpers;
+    if (!it->helpers_count) {
+        event(name(thread), 'f', HELPERS + ++helpers, site);
+        return HELPERS + helpers;
+    }
+    struct helper helper = it->helpers[--it->helpers_count];
+    if (helper.window != window) event_of_window(name(thread), 'f', helper.number, site);
+    return helper.number;
 }
 
 /* The lock graph of this window: which thread has acquired a lock while it held another one. */
@@ -176,26 +196,39 @@ static void write_window(void) {
     clear_table(&edges);
 }
 
-/* The thread has acquired a lock that it did not hold. */
-static void begin_section(uint32_t thread, struct lock *lock, uint32_t site) {
-    struct thread *it = find_thread(thread);
-    uint32_t marker = (lock->how == TRIES ? TRY_MARKERS : TIMED_MARKERS) + thread, in_trace = name(thread);
-    int is_marked = lock->how != BLOCKS && it->held_count > 0;
-    lock->helper = lock->is_tried = 0;
-    if (it->depth + (is_marked ? 1 : 0) >= MOST_HELD) {
-        lock->helper = find_helper(thread, site);
+/* Writes that the thread acquires a lock that it does not hold. `is_repeating`: again, as in an earlier window. */
+static void write_section(struct thread *it, struct lock *lock, uint32_t marker, uint32_t site) {
+    uint32_t in_trace = name(it->number);
+    lock->is_tried = 0;
+    if (lock->helper) {
         follow(in_trace, lock->helper, variable(lock, HANDED), site);
         event(lock->helper, 'a', lock->number, site);
         follow(lock->helper, in_trace, variable(lock, HANDED), site);
-    } else {
-        if (is_marked) event(in_trace, 'a', marker, site);
-        event(in_trace, 'a', lock->number, site);
-        if (is_marked) event(in_trace, 'r', marker, site);
-        if (is_marked && lock->how == TRIES) count_try(it, lock);
-        it->depth++;
+        return;
     }
+    if (marker) event(in_trace, 'a', marker, site);
+    event(in_trace, 'a', lock->number, site);
+    if (marker) event(in_trace, 'r', marker, site);
+    if (marker && lock->how == TRIES) count_try(it, lock);
+    it->depth++;
+}
+
+/* The lock that marks the acquire of a lock which the thread does not hold, or 0. */
+static uint32_t marker_of(const struct thread *it, const struct lock *lock) {
+    if (lock->how == BLOCKS || !it->held_count) return 0;
+    return (lock->how == TRIES ? TRY_MARKERS : TIMED_MARKERS) + it->number;
+}
+
+/* The thread has acquired a lock that it did not hold. */
+static void begin_section(uint32_t thread, struct lock *lock, uint32_t site) {
+    struct thread *it = find_thread(thread);
+    uint32_t marker = marker_of(it, lock);
+    name(thread);
+    lock->helper = it->depth + (marker != 0) >= MOST_HELD ? find_helper(thread, site) : 0;
+    write_section(it, lock, marker, site);
     for (size_t at = 0; at < it->held_count && lock->how != TRIES; at++) add_edge(it->held[at]->number, lock->number, thread);
     for (size_t at = 0; at < it->held_count; at++) it->held[at]->is_nested = 1;
+    if (it->held_count && !lock->helper && lock->how != TRIES) note_dependency(it, lock, marker);
     it->held = grow(it->held, it->held_count, &it->held_room, sizeof *it->held);
     it->held[it->held_count++] = lock;
 }
@@ -208,7 +241,7 @@ static void end_section(uint32_t thread, struct lock *lock, uint32_t site) {
         follow(name(thread), lock->helper, variable(lock, HANDED), site);
         event(lock->helper, 'r', lock->number, site);
         it->helpers = grow(it->helpers, it->helpers_count, &it->helpers_room, sizeof *it->helpers);
-        it->helpers[it->helpers_count++] = lock->helper;
+        it->helpers[it->helpers_count++] = (struct helper){lock->helper, window};
         lock->helper = 0;
     } else {
         event(name(thread), 'r', lock->number, site);
@@ -278,8 +311,9 @@ void acquire(uint32_t thread, struct lock *lock, enum how how, uint32_t site) {
 static void fork_thread(uint32_t parent, uint32_t child, uint32_t site) {
     uint32_t in_trace = name(parent);
     struct thread *it = find_thread(child);
-    it->in_window = window, it->begun = site;
+    it->in_window = window, it->begun = site, it->is_forked = 1;
     event(in_trace, 'f', name_in_trace(child), site);
+    note_life('f', parent, child, site);
 }
 
 /* In the trace they stay held. The next acquire of one gets a new number. */
@@ -321,7 +355,9 @@ static void join_thread(uint32_t thread, uint32_t child, uint32_t site) {
     struct thread *it = known_thread(child);
     if (!it || child == thread) return;
     note_join(find_thread(thread), it);
-    if (it->in_window == window && name_in_trace(child)) event(name(thread), 'j', name_in_trace(child), site);
+    if (it->in_window == window && name_in_trace(child)) event_of_window(name(thread), 'j', name_in_trace(child), site);
+    name_for_log(find_thread(thread));
+    if (it->is_forked && child) log_event('j', thread, child, site), note_life('j', thread, child, site);
     forget_thread(it);
 }
 
@@ -366,7 +402,6 @@ void begin_run(char **words) {
     remove_earlier();
     open_trace();
     begin_calls(words);
-    log_window(0);
 }
 
 int end_run(void) {
@@ -380,30 +415,41 @@ void flush_trace(void) {
     if (trace) fflush(trace);
 }
 
+/* A thread acquires again what it holds, with the artificial threads that hold locks for it. */
+static void repeat_held_of(struct thread *it) {
+    size_t count = it->held_count;
+    it->depth = it->tries = 0, it->held_count = 0;
+    for (size_t one = 0; one < count; one++) {
+        struct lock *lock = it->held[one]; /* it stays at its place */
+        if (lock->helper) event(name(it->number), 'f', lock->helper, lock->site);
+        write_section(it, lock, marker_of(it, lock), lock->site);
+        for (uint32_t depth = 1; depth < lock->depth && depth < MOST_DEPTH && !lock->helper; depth++)
+            event(name(it->number), 'a', lock->number, lock->site);
+        for (size_t at = 0; at < it->held_count && lock->how != TRIES; at++) add_edge(it->held[at]->number, lock->number, it->number);
+        it->held_count++;
+    }
+}
+
 /* One thread after another acquires again what it holds. Then each of them, and the root, goes on after all of these. */
 static void repeat_held(void) {
-    uint32_t chain = ++variables, end = ++variables;
+    const uint32_t chain = UINT32_MAX - 1, end = UINT32_MAX; /* variables that no lock has */
     int is_first_one = 1;
+    is_repeating = 1;
     for (struct thread *it = oldest_thread; it; it = it->newer) {
-        size_t count = it->held_count;
-        if (forks + MOST_HELD > MOST_FORKS) leave_held(it);
-        it->depth = it->tries = 0, it->held_count = 0;
-        if (!count || forks + MOST_HELD > MOST_FORKS) continue;
+        if (!it->held_count) continue;
+        if (forks + it->held_count + MOST_HELD > MOST_FORKS) { leave_held(it), it->depth = it->tries = 0; continue; }
         uint32_t in_trace = name(it->number);
         if (!is_first_one) take(in_trace, chain, it->begun);
-        for (size_t one = 0; one < count; one++) {
-            struct lock *lock = it->held[one]; /* begin_section writes it to the same place again */
-            begin_section(it->number, lock, lock->site);
-            for (uint32_t depth = 1; depth < lock->depth && depth < MOST_DEPTH && !lock->helper; depth++)
-                event(in_trace, 'a', lock->number, lock->site);
-        }
+        repeat_held_of(it);
         event(in_trace, 'w', chain, 0);
         is_first_one = 0;
     }
-    if (is_first_one) return;
-    take(0, chain, 0);
-    event(0, 'w', end, 0);
-    for (struct thread *it = oldest_thread; it; it = it->newer) if (it->in_window == window) take(name(it->number), end, 0);
+    if (!is_first_one) {
+        take(0, chain, 0);
+        event(0, 'w', end, 0);
+        for (struct thread *it = oldest_thread; it; it = it->newer) if (it->in_window == window) take(name(it->number), end, 0);
+    }
+    is_repeating = 0;
 }
 
 void next_window(void) {
@@ -412,7 +458,6 @@ void next_window(void) {
     window_closed(window++, length);
     open_trace();
     repeat_held();
-    log_window(events);
 }
 
 /* Whether the recorder may have written this. */
@@ -425,7 +470,7 @@ static int is_valid(const struct record *record) {
 
 /* The object of a call, as the log names it. Returns 0 if the record is no call of the program, or there is no log. */
 static int object_of_call(const struct record *record, uint32_t *object) {
-    if (!has_log()) return 0;
+    if (why_no_log()) return 0;
     if (record->kind == R_FORK) *object = (uint32_t)record->other;
     else if (record->kind == R_JOINED) *object = find_thread(record->thread)->joining;
     else if ((record->kind == R_GIVE || record->kind == R_TAKE) && record->other == BY_FUTEX) return 0;
@@ -440,7 +485,7 @@ static int object_of_call(const struct record *record, uint32_t *object) {
 /* Another program has begun in this process. A later run begins with the first one again. */
 static void begin_program(void) {
     forget_all(), find_thread(0), next_window();
-    if (identities) cut_calls(CUT_BY_EXEC);
+    if (identities) log_exec();
 }
 
 static void encode_record(const struct record *record, const uint64_t *callers, uint32_t site);
@@ -453,15 +498,13 @@ int encode(const struct record *record) {
     struct thread *it = find_thread(thread);
     if (events >= options.window || events + GROWTH * tried + tried_forks + SLACK >= MOST_EVENTS || forks + tried_forks + FORKS >= MOST_FORKS)
         next_window();
-    uint32_t before = events;
+    log_no_call();
     if (record->kind >= R_LOCK && record->kind < R_GIVE && it->on_stack && record->other >= it->stack_low &&
         record->other < it->stack_high)
         leave_stack(it, record->other & ~(uint64_t)LOCK_FLAGS);
-    int is_call = object_of_call(record, &object);
+    if (object_of_call(record, &object)) log_call(thread, record->kind == R_UNLOCK_OWN ? R_UNLOCK : record->kind, object, site);
     encode_record(record, callers, site);
     if ((it = known_thread(thread))) it->last_kind = record->kind;
-    if (is_call) log_call(thread, record->kind == R_UNLOCK_OWN ? R_UNLOCK : record->kind, object, site, events - before);
-    else if (record->kind != R_EXEC) log_events(events - before);
     return 1;
 }
 

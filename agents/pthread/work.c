@@ -96,13 +96,14 @@ const char *mark_of_name(void) {
     return mark;
 }
 
-/* Whether a file is OUT.NUMBER.trace or OUT.pNUMBER.trace, and begins with the mark. */
+/* Whether a file is OUT.NUMBER.trace, OUT.pNUMBER.trace or OUT.all.trace, and begins with the mark. */
 static int is_further(int where, const char *name) {
     const char *base = strrchr(options.out, '/') + 1;
     size_t length = strlen(base), digits;
     char line[PATHS] = "";
     if (strncmp(name, base, length) || name[length] != '.') return 0;
     digits = strspn(name + length + 1, "0123456789p.");
+    if (!strncmp(name + length + 1 + digits, "all.", 4)) digits += 4;
     if (!digits || strcmp(name + length + digits, ".trace")) return 0;
     int file = openat(where, name, O_RDONLY | O_NOFOLLOW | O_CLOEXEC | O_NONBLOCK);
     FILE *trace = file < 0 ? NULL : fdopen(file, "r");

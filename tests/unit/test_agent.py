@@ -22,7 +22,7 @@ from written import OPPOSITE_REPORT, InFolder
 SITES = "1\tmain.py:9 in main\n2\tbank.py:34 in transfer\tmain.py:7 in run\n3\tbank.py:35 in transfer\n4\t/usr/lib/threading.py:3 in run\tx.py:1 in f\n"
 TRACE = "# at 1\n0f1\n0f2\n# at 2\n1a10\n# at 3\n1a20\n1r20\n1r10\n# at 2\n2a20\n# at 3\n2a10\n2r10\n2r20\n"
 SUMMARY = "attached 1\nlock_events 8\nthreads 3\nread_locks 0\ncrowded_locks 0\nunseen 0\noverflowing 0\noff 0\ntruncated 0\nclash 0\nprocesses 0\n" \
-          "cleared 0\nfutexes 0\nframes 1\npython 0\nfollower 0\nfollows 0\n"
+          "cleared 0\nfutexes 0\nframes 1\npython 0\nfollower 0\nfollows 0\nserver 0\nno_log 3\nlogged 2000\nleft_out 0\n"
 WRITTEN = """question 0 length 10 bound 2 cycles 1 confirmed 1
 cycle 0 1 confirmed
   thread 1 lock 20 holds 10 place 3
@@ -132,15 +132,88 @@ class Finishes(OfRun):
             "    deadlock of 2 threads, which wait for each other", "    thread 1 waits for lock 20 at bank.py:35 in transfer",
             "    lock 10 since bank.py:34 in transfer"])
 
+    def across(self, dependencies: str, answer: str) -> None:
+        """The dependencies of all windows, and the report on what tools/reduce makes of them."""
+        self.write("run.tmp/all", dependencies)
+        self.write("run.tmp/0.answer", answer)
+
     def test_windows(self) -> None:
-        """A window without a new cycle is removed; a cycle at the same lines counts for the first one."""
+        """A window without a new cycle is removed; a cycle at the same lines counts for the first one. The dependencies show no other cycle."""
         self.window(TRACE, OPPOSITE_REPORT, 2)
         self.window(TRACE.replace("# at 3\n2a10", "# at 1\n2a10"), OPPOSITE_REPORT, 3)
-        self.assertEqual(self.finish(3), (1, "goodlock: not examined: cycles whose members are in different ones of the 3 windows\n"
+        self.across(TRACE, OPPOSITE_REPORT.replace("length 10", "length 8"))
+        note = "the order of events in different ones of the 3 windows, so that cycles across windows are potential: --keep-log is 0"
+        self.assertEqual(self.finish(3), (1, f"goodlock: not examined: {note}\n"
                                              "goodlock: 30 events, 2 cycles, 2 confirmed: run.report, run.trace, run.3.report, run.3.trace\n"))
         self.assertIn("    window 3: run.3.report\n", self.read("run.report"))
         self.assertIn("    and 1 more cycle at these lines, 1 of them confirmed\n", self.read("run.report"))
-        self.assertFalse(os.path.exists("run.2.trace"))
+        self.assertFalse(os.path.exists("run.2.trace") or os.path.exists("run.all.trace"))
+
+    def test_across_windows(self) -> None:
+        """A cycle that no window has is potential, at its lines. One that the orders of whole threads exclude is none."""
+        for verdict, places, cycles in (("confirmed", (" place 3", " place 7"), 1), ("potential", ("", ""), 0)):
+            self.setUp()
+            for number in (1, 2):
+                self.window("# at 2\n0a10\n", "question 0 length 1 bound 2 cycles 0 confirmed 0\n", number)
+            report = OPPOSITE_REPORT.replace("length 10", "length 8")
+            if verdict == "potential":
+                report = report.replace("confirmed", "potential", 2).replace("potential 1", "confirmed 0", 1)
+                report = report.replace(" place 3", "").replace(" place 7", "").replace("  witness 0 1 2 6\n", "")
+            self.across(TRACE, report)
+            self.assertEqual(self.finish(2)[0], 0)
+            self.assertEqual(os.path.exists("run.all.report"), bool(cycles), places)
+            self.assertEqual("    across windows: run.all.report\n" in self.read("run.report"), bool(cycles))
+        self.setUp()
+        self.window("# at 2\n0a10\n", "question 0 length 1 bound 2 cycles 0 confirmed 0\n")
+        self.window("# at 2\n0a10\n", "question 0 length 1 bound 2 cycles 0 confirmed 0\n", 2)
+        self.across(TRACE, OPPOSITE_REPORT.replace("length 10", "length 8"))
+        self.write("run.tmp/summary", SUMMARY.replace("no_log 3", "no_log 1").replace("left_out 0", "left_out 7"))
+        said = self.finish(2)[1]
+        self.assertIn("different ones of the 2 windows, so that cycles across windows are potential: its log takes more than --keep-log\n", said)
+        self.assertIn("not examined: 7 acquires under held locks in cycles across windows: the run has too many different ones\n", said)
+        self.assertIn("goodlock: 2 events, 1 cycle, 0 confirmed: run.report, run.trace, run.all.report, run.all.trace\n", said)
+        self.assertEqual(self.read("run.all.report").splitlines()[0], "question 0 length 8 bound 2 cycles 1 confirmed 0")
+        self.assertIn("cycle 0 1 potential\n  thread 1 lock 20 holds 10\n", self.read("run.all.report"))
+        self.assertIn("    potential: across windows: its members are in different windows", self.read("run.all.report"))
+        self.assertEqual(self.read("run.all.trace").splitlines()[:3], ["# a further trace of run", "# at main.py:9 in main", "0f1"])
+
+    def test_no_ring(self) -> None:
+        """If the lock graph of all windows has no ring, no window and no log is read."""
+        self.window("broken", "broken\n", 2)
+        for number, edges in ((1, "10 20 1\n"), (2, "20 30 2\n")):
+            self.write(f"run.tmp/{number}.window", f"10 0\n{edges}end\n")
+        self.assertEqual(self.finish(2), (0, "goodlock: reduced from 2,000 events of the whole run: its lock graph has no cycle\n"
+                                             "goodlock: 2000 events, 0 cycles, 0 confirmed: run.report, run.trace\n"))
+        self.assertEqual(self.read("run.report").splitlines()[0], "question 0 length 0 bound 2 cycles 0 confirmed 0")
+        self.assertEqual((self.read("run.trace"), os.path.exists("run.2.trace")), ("", False))
+
+    def test_ring_across_windows(self) -> None:
+        """The ring has an edge in each window; the first window has no ring."""
+        for number, edges in ((1, "10 20 1\n"), (2, "20 10 2\n")):
+            self.window("0a10\n", "question 0 length 1 bound 2 cycles 0 confirmed 0\n", number)
+            self.write(f"run.tmp/{number}.window", f"1 0\n{edges}end\n")
+        self.across(TRACE, OPPOSITE_REPORT.replace("length 10", "length 8"))
+        self.assertIn(" 1 cycle, 0 confirmed: ", self.finish(2)[1])
+        os.remove("run.tmp/2.window")  # the disk was full
+        self.assertIn("goodlock: ", self.finish(2)[1])
+
+    def test_waits_across_windows(self) -> None:
+        """What the log lacks: the locks of joins and wake-ups. The windows that have them are searched, and reported if that shows a cycle."""
+        for answer, said, is_whole in (
+                ("question 0 length 1 bound 2 cycles 0 confirmed 0\n", "goodlock: 2000 events, 0 cycles, 0 confirmed: ", True),
+                (OPPOSITE_REPORT.replace("20", "2499999999"), " 1 confirmed: run.report, run.trace, run.2.report, run.2.trace\n", False),
+                (OPPOSITE_REPORT.replace("20", "2999999999"), " 1 confirmed: run.report, run.trace, run.2.report, run.2.trace\n", False),
+                ("no\n", "goodlock: not examined: all cycles in 1 of 2 windows: no\n", False)):
+            self.setUp()
+            self.window("0a10\n", "question 0 length 1 bound 2 cycles 0 confirmed 0\n")
+            self.window(TRACE.replace("20", answer.partition("lock ")[2].split(" ")[0] or "20"), answer, 2)
+            for number in (1, 2):
+                self.write(f"run.tmp/{number}.window", "10 0\nend\n")
+            self.write("run.tmp/2.waited", "2\n")
+            self.across(TRACE, "question 0 length 8 bound 2 cycles 0 confirmed 0\n")
+            self.assertIn(said, text := self.finish(2)[1])
+            self.assertEqual(" whole run: its lock graph has no cycle\n" in text, is_whole, answer)
+            self.assertIn("not examined: cycles through joins and wake-ups whose members are in different windows\n", text)
 
     def test_no_report(self) -> None:
         for answer, reason in [("no\n", "no"), ("", "goodlockd prints no report"), (OPPOSITE_REPORT.replace("place 3", "place 9"), "run.trace:3: .*")]:

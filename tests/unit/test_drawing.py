@@ -88,7 +88,7 @@ class OfDashboard(Pages):
         self.write("r", OPPOSITE_REPORT)
         self.write("bank.report", OPPOSITE_REPORT + note)
         with open("bank.calls", "wb") as file:
-            file.write(b"goodcalls 1\n\x09\0\0\0./bank\0x\0")
+            file.write(b"goodcalls 2\n\x09\0\0\0./bank\0x\0")
         index = index_of(OPPOSITE)
         for html in (drawn("r", self.write("t", OPPOSITE), "bank.trace"), page_of(index, OPPOSITE_REPORT + note)):
             self.check_has(html, '<span class="badge confirmed">reproduced</span>')

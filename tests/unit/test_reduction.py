@@ -14,7 +14,7 @@ JOINED = "0f1\n# place 3 of run.trace\n0f2 1a10\n# line 9 of run.std\n1a20\n# pl
 
 
 def found(windows: int, **counts: int) -> Reduced:
-    numbers = {"events": 5_000, "threads": 4, "locks": 3, "kept": 20, "kept_threads": 2, "kept_locks": 1, "left_out": 0, **counts}
+    numbers = {"events": 5_000, "threads": 4, "locks": 3, "kept": 20, "kept_threads": 2, "kept_locks": 1, "beyond": 0, **counts}
     return Reduced(traces=tuple(f"{number}.trace" for number in range(windows)), places=array("Q"), cuts={}, **numbers)
 
 
@@ -81,8 +81,8 @@ class Lines(InFolder):
         self.assertEqual(list(lines_about(whole, found(1))), ["out.trace: 20 events, 3 threads, 3 locks"])
         self.assertEqual(list(lines_about(job, found(1, kept=0)))[1:], ["the lock graph of the run has no cycle, so no bound has one"])
         self.assertEqual(list(lines_about(job, found(1, kept=0, events=0)))[1:], [])
-        self.assertEqual([line.partition(":")[0] for line in lines_about(job, found(3, left_out=1))],
-                         ["out.trace to out.3.trace", "too long for one trace, so cut into 3 windows", "left out"])
+        self.assertEqual([line.partition(":")[0] for line in lines_about(job, found(3, beyond=1))],
+                         ["out.trace to out.3.trace", "too long for one trace, so cut into 3 windows", "1 acquire by threads that hold 32 locks"])
 
     def test_folder(self) -> None:
         """The folder is beside the output, and is removed in any case."""

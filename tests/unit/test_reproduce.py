@@ -11,19 +11,21 @@ from typing import Optional
 from goodlock.commands.agent_reproduce import numbers, seconds, tries
 from goodlock.errors import InputError
 from goodlock.groups import Pair, key_of
+from goodlock.reducer import ReducerError, Source, reduced
 from goodlock.reports import AnyEvents, Cycle, Member, read_reports
 from goodlock.reproduce.buildid import build_id_of, id_in, is_elf
-from goodlock.reproduce.calls import File, Log, Place, Window, command_of, read_log
+from goodlock.reproduce.calls import NO_CALL, File, Log, Place, command_of, read_log
 from goodlock.reproduce.notes import command_for, reproduced_in, with_note
 from goodlock.reproduce.outcome import Outcome, Waiter, read_waiters
-from goodlock.reproduce.recorded import check_builds, find_cycle, split_name
-from goodlock.reproduce.schedule import CALL, HEAD, HELD, LANE, NO_CALL, REACH, Schedule, address_text, places_before, recorded
-from goodlock.traces import Event, Index, Trace
-from written import InFolder
+from goodlock.reproduce.recorded import check_builds, find_cycle
+from goodlock.reproduce.schedule import CALL, HEAD, HELD, LANE, REACH, Schedule, address_text, places_before, recorded
+from goodlock.traces import Index, Trace
+from written import InFolder, index_of
 
 FORK, JOINED, LOCK, UNLOCK, TAKE = 1, 7, 9, 12, 20
-WINDOW, CUT, END = 250, 251, 252
-HEADER = b"goodcalls 1\n" + struct.pack("<I", 7) + b"./bank\0"
+EVENT, OTHER, EXEC, CUT, END = 22, 28, 29, 30, 31
+SAME_THREAD, SAME_OBJECT, SAME_SITE = 32, 64, 128
+HEADER = b"goodcalls 2\n" + struct.pack("<I", 7) + b"./bank\0"
 BANK = "0f1 0f2 1a1 1a2 1r2 1r1 0j1 2a2 2a1 2r1 2r2 0j2"
 BANK_REPORT = """question 0 length 12 bound 2 cycles 1 confirmed 1
 cycle 0 1 confirmed
@@ -34,21 +36,33 @@ cycle 0 1 confirmed
 BANK_CYCLE = Cycle((0, 1), True, [Member(1, 2, (1,), 3), Member(2, 1, (2,), 8)], [0, 1, 2, 7])
 
 
-def entry(thread: int, kind: int, about: int, site: int = 0, made: int = 0) -> bytes:
-    return struct.pack("<III", thread | kind << 24, about, site | made << 24)
+def number(value: int) -> bytes:
+    parts = [value >> shift & 127 for shift in range(0, max(1, value.bit_length()), 7)]
+    return bytes([part | 128 for part in parts[:-1]] + parts[-1:])
+
+
+def entry(kind: int, thread: int = 0, about: int = 0, site: int = 0) -> bytes:
+    return bytes([kind]) + number(thread) + number(about) + number(site)
+
+
+def event(word: str, site: int = 0) -> bytes:
+    """Returns the entry of an event whose numbers have one digit."""
+    return entry(EVENT + "fjardw".index(word[1]), int(word[0]), int(word[2:]), site)
 
 
 # The calls of the bank: each makes one event. The objects of locks 1 and 2 are 1 and 2; the sites are 1 to 12.
 BANK_CALLS = [(0, FORK, 1), (0, FORK, 2), (1, LOCK, 1), (1, LOCK, 2), (1, UNLOCK, 2), (1, UNLOCK, 1), (0, JOINED, 1), (2, LOCK, 2),
               (2, LOCK, 1), (2, UNLOCK, 1), (2, UNLOCK, 2), (0, JOINED, 2)]
-BANK_TEXT = b"program /nowhere/bank\nfile 1 abcd /nowhere/bank\n" + b"".join(b"site %d 1 %d\n" % (at, 16 * at) for at in range(1, 13))
-BANK_LOG = (HEADER + entry(0, WINDOW, 0) + b"".join(entry(thread, kind, about, at, 1) for at, (thread, kind, about) in enumerate(BANK_CALLS, 1))
-            + entry(0, END, 0) + BANK_TEXT)
+BANK_TEXT = b"program /nowhere/bank\nfile 1 abcd /nowhere/bank\n" + b"".join(
+    b"site %d 1 %d\nname %d bank.c:%d in bank\n" % (at, 16 * at, at, at) for at in range(1, 13))
+BANK_ENTRIES = [entry(kind, thread, about, at) + event(word, at)
+                for at, ((thread, kind, about), word) in enumerate(zip(BANK_CALLS, BANK.split()), 1)]
+BANK_LOG = HEADER + b"".join(BANK_ENTRIES) + entry(END) + BANK_TEXT
 
 
-def events_of(text: str) -> list[Event]:
+def events_of(text: str) -> list[tuple[int, str, int]]:
     """Returns the events of words whose numbers have one digit."""
-    return [Event(int(word[0]), word[1], int(word[2:])) for word in text.split()]
+    return [(int(word[0]), word[1], int(word[2:])) for word in text.split()]
 
 
 class Logs(InFolder):
@@ -63,35 +77,39 @@ class Logs(InFolder):
         self.assertEqual(command_of("run.calls"), ["./bank"])
         self.assertEqual(list(zip(log.threads, log.kinds, log.objects)), BANK_CALLS)
         self.assertEqual(list(log.sites), list(range(1, 13)))
-        self.assertEqual(log.windows, [Window(0, 12, 0)])
-        self.assertEqual(list(log.first_places(log.windows[0])), list(range(12)))
+        self.assertEqual((list(log.firsts), list(log.events.calls)), (list(range(12)), list(range(12))))
+        self.assertEqual((list(log.events), log.events.at(11)), (events_of(BANK), (0, "j", 2)))
+        self.assertEqual((log.program, log.names[3], log.places[12], log.cut), ("/nowhere/bank", "bank.c:3 in bank", Place(1, 192), 0))
         self.assertEqual((log.program, log.places[12], log.cut), ("/nowhere/bank", Place(1, 192), 0))
 
-    def test_events_of_no_call_and_of_many(self) -> None:
-        content = HEADER + b"".join([
-            entry(0, WINDOW, 3),                     # the window begins with places 0 to 2
-            entry(1, LOCK, 1, made=1),               # 3
-            entry(0, 0, 2),                          # 4 and 5 are of no call
-            entry(1, UNLOCK, 1, made=255), entry(0, 0, 300),  # 6 to 305
-            entry(2, TAKE, 5, made=0),               # no event
-            entry(2, LOCK, 1, made=254),             # 306 to 559
-            entry(0, WINDOW, 0), entry(2, UNLOCK, 1, made=1), entry(0, 0, 1), entry(0, END, 0)])
-        log = self.log_of(content)
-        self.assertEqual(log.windows, [Window(0, 4, 3), Window(4, 5, 0)])
-        self.assertEqual(list(log.first_places(log.windows[0])), [3, 6, 306, 306])
-        self.assertEqual(list(log.made), [1, 300, 0, 254, 1])
-        self.assertEqual(log.before, {1: 2, 5: 1})
+    def test_entries(self) -> None:
+        """Numbers of all lengths, events of no call, and what an entry has from the one before it."""
+        log = self.log_of(HEADER + b"".join([
+            event("0f1"), entry(FORK, 300, 1 << 21, 4_294_967_295), event("1a7"), bytes([EVENT + 3 | SAME_THREAD | SAME_OBJECT | SAME_SITE]),
+            entry(TAKE, 2, 2), bytes([OTHER | SAME_THREAD | SAME_OBJECT | SAME_SITE]), event("2r7", 9),
+            bytes([UNLOCK | SAME_THREAD | SAME_OBJECT | SAME_SITE]), entry(END)]))
+        self.assertEqual(list(zip(log.threads, log.kinds, log.objects, log.sites, log.firsts)),
+                         [(300, FORK, 1 << 21, 4_294_967_295, 1), (2, TAKE, 2, 0, 3), (2, UNLOCK, 2, 9, 4)])
+        self.assertEqual(list(log.events), events_of("0f1 1a7 1r7 2r7"))
+        self.assertEqual((list(log.events.calls), list(log.events.sites)), ([NO_CALL, 0, 0, NO_CALL], [0, 0, 0, 9]))
+
+    def test_more_than_a_part(self) -> None:
+        """An entry may begin in one part of the file that is read, and end in the next one."""
+        for size in range(16):
+            log = self.log_of(HEADER + entry(LOCK, 1, 1, 128) * ((1 << 20) // 5) + entry(LOCK, 1, 1, 1) * (size + 1) + entry(END))
+            self.assertEqual((len(log), log.sites[-1], log.sites[(1 << 20) // 5 - 1]), ((1 << 20) // 5 + size + 1, 1, 128))
 
     def test_cut(self) -> None:
-        for why, message in ((1, "the run is too long: .*--keep-log"), (2, "could not be written"), (3, "by exec"), (4, "more threads"),
-                             (9, "not whole")):
+        for content, message in ((entry(CUT, 0, 1), "the run is too long: .*--keep-log"), (entry(CUT, 0, 2), "could not be written"),
+                                 (entry(EXEC) + entry(END), "by exec"), (entry(CUT, 0, 9), "not whole|by exec")):
             with self.subTest(message), self.assertRaisesRegex(InputError, message):
-                recorded(self.log_of(HEADER + entry(0, CUT, why)), 1, Index(Trace()))
+                recorded(self.log_of(HEADER + content), Index(Trace()))
 
     def test_faults(self) -> None:
-        cases = [(b"", "not a log of calls"), (b"goodcalls 2\n" + BANK_LOG[12:], "not a log of calls"), (HEADER[:-1], "not a log of calls"),
+        cases = [(b"", "not a log of calls"), (b"goodcalls 1\n" + BANK_LOG[12:], "not a log of calls"), (HEADER[:-1], "not a log of calls"),
                  (HEADER[:12] + struct.pack("<I", 1 << 25), "not a log of calls"), (HEADER, "no end"), (BANK_LOG[:100], "no end"),
-                 (BANK_LOG + b"file x\n", "not understood"), (BANK_LOG + b"site 13 2 1\n", "in no file")]
+                 (BANK_LOG + b"file x\n", "not understood"), (BANK_LOG + b"site 13 2 1\n", "in no file"),
+                 (HEADER + bytes([LOCK, 255, 255, 255, 255, 31]) + entry(END), "a number that no agent writes")]
         for content, message in cases:
             with self.subTest(message), self.assertRaisesRegex(InputError, message):
                 self.log_of(content)
@@ -118,6 +136,52 @@ class Logs(InFolder):
         self.assertIsNone(command_of("none.calls"))
         self.write("text.calls", "text\n")
         self.assertIsNone(command_of("text.calls"))
+
+
+class Reduced(InFolder):
+    """The program of tools/reduce reads logs, too."""
+
+    def reduced(self, content: bytes) -> str:
+        """Returns the events that are left of a log, or why there are none."""
+        with open("run.calls", "wb") as file:
+            file.write(content)
+        try:
+            found = reduced([Source("run.calls")], ".")
+        except ReducerError as fault:
+            return str(fault)
+        return " ".join(line for line in self.read(found.traces[0]).splitlines() if not line.startswith("#"))
+
+    def test_bank(self) -> None:
+        self.assertEqual(self.reduced(BANK_LOG), "0f1 0f2 1a1 1a2 1r2 1r1 2a2 2a1")
+        self.assertEqual(self.read("1.trace").splitlines()[:3], ["# place 0 of run.calls", "# at 1", "0f1"])
+        self.assertIn("# place 7\n# at 8\n2a2\n", self.read("1.trace"))
+
+    def test_marks(self) -> None:
+        """A marker that only one thread acquires stays."""
+        marker = 3_000_000_001
+        tried = [entry(EVENT + 2, 1, marker, 4), BANK_ENTRIES[3], entry(EVENT + 3, 1, marker, 4)]
+        log = HEADER + b"".join([*BANK_ENTRIES[:3], *tried, *BANK_ENTRIES[4:], entry(END)])
+        self.assertEqual(self.reduced(log), f"0f1 0f2 1a1 1a{marker} 1a2 1r{marker} 1r2 1r1 2a2 2a1")
+        self.assertIn(f"# mark {marker}\n", self.read("1.trace"))
+
+    def test_faults(self) -> None:
+        cases = [(BANK_LOG[:60], "run.calls: place [0-9]*: the log ends early"), (HEADER + entry(CUT, 0, 1), "the log is not whole"),
+                 (HEADER, "the log ends early"), (HEADER[:12] + struct.pack("<I", 8) + HEADER[16:], "the log ends early"),
+                 (HEADER + event("0r1") + entry(END), "0r1: thread 0 does not hold lock 1"), (b"goodcalls 2\n", "not an event|not text"),
+                 (HEADER + bytes([EVENT]) + b"\xff" * 4 + b"\x1f", "a number that no agent writes")]
+        for content, message in cases:
+            with self.subTest(message):
+                self.assertRegex(self.reduced(content), message)
+
+    def test_any_bytes(self) -> None:
+        numbers = random.Random(8)
+        for _ in range(60):
+            content = bytearray(BANK_LOG)
+            for _ in range(numbers.randint(1, 4)):
+                content[numbers.randrange(len(content))] = numbers.randrange(256)
+            if numbers.random() < 0.3:
+                del content[numbers.randrange(len(content)):]
+            self.assertNotRegex(self.reduced(bytes(content)), "has ended with status -")
 
 
 class Orders(unittest.TestCase):
@@ -190,28 +254,41 @@ class Schedules(InFolder):
 
     def test_what_cannot_be_followed(self) -> None:
         without_site = BANK_LOG.replace(b"site 4 1 64\n", b"")
-        unseen = BANK_LOG.replace(entry(0, FORK, 2, 2, 1), entry(0, 0, 1))
-        far = BANK_LOG.replace(entry(0, JOINED, 2, 12, 1), entry(1024, JOINED, 2, 12, 1))
-        longer = BANK_LOG.replace(entry(0, END, 0), entry(0, LOCK, 1, 1, 1) + entry(0, END, 0))
+        unseen = BANK_LOG.replace(BANK_ENTRIES[1], bytes([OTHER]) + number(0) * 3 + event("0f2", 2))
+        far = BANK_LOG.replace(BANK_ENTRIES[11], entry(JOINED, 1024, 2, 12) + event("0j2", 12))
+        another = BANK_LOG.replace(event("2a2", 8), event("2a3", 8))
+        shorter = BANK_LOG.replace(BANK_ENTRIES[11], b"")
         cases = [(without_site, "no code address"), (unseen, "thread 2 was started in a way that is not seen"),
-                 (far, "more than 1,024 threads"), (longer, "the trace has 12 events, and the calls made 13")]
+                 (far, "more than 1,024 threads"), (another, "place 7 is another event in the trace"),
+                 (shorter, "place 11 is another event in the trace")]
         for log, message in cases:
             with self.subTest(message), self.assertRaisesRegex(InputError, message):
                 self.found(log)
-        self.assertEqual(len(self.found(BANK_LOG.replace(entry(0, JOINED, 2, 12, 1), entry(1023, JOINED, 2, 12, 1))).data()) % 8, 0)
+        last = BANK_LOG.replace(BANK_ENTRIES[11], entry(JOINED, 1023, 2, 12) + event("0j2", 12))
+        self.assertEqual(len(self.found(last).data()) % 8, 0)
 
-    def test_window_names(self) -> None:
-        self.assertEqual(split_name("run.4"), ("run.4", None))
-        self.write("run.calls", "")
-        self.assertEqual(split_name("run.4"), ("run", 4))
-        self.assertEqual(split_name("run"), ("run", None))
-        self.write("run.4.calls", "")
-        self.assertEqual(split_name("run.4"), ("run.4", None))
+    def test_reduced_trace(self) -> None:
+        """The log has events that the trace does not have: its places are those of the log."""
+        between = entry(LOCK, 0, 3, 2) + event("0a3", 2) + entry(UNLOCK, 0, 3, 2) + event("0r3", 2)
+        log = BANK_LOG.replace(BANK_ENTRIES[1], BANK_ENTRIES[1] + between)
+        trace = "# place 0 of the whole run\n0f1 0f2\n# place 4\n1a1 1a2 1r2 1r1\n# place 9\n2a2 2a1\n"
+        report = BANK_REPORT.replace("length 12", "length 8").replace("place 8", "place 7").replace("0 1 2 7", "0 1 2 6")
+        with open("short.calls", "wb") as file:
+            file.write(log)
+        for name in ("short", "short.all"):
+            self.write(f"{name}.trace", trace)
+            self.write(f"{name}.report", report)
+            schedule = find_cycle(name, None).schedule
+            self.assertEqual((schedule.in_trace, schedule.instance, schedule.witness), ([3, 7], [5, 10], [0, 1, 4, 9]), name)
+            self.assertEqual(schedule.turn_of, {0: 1, 1: 2, 2: 3, 3: 4, 4: 5, 9: 6})
+            self.assertEqual((schedule.site_text(5), schedule.run.text_of(5), schedule.run.text_of(2)),
+                             ("bank+0x40", "lock 2 at bank.c:4 in bank", "lock 3 at bank.c:2 in bank"))
+            os.remove(f"{name}.trace")
 
     def test_events_of_no_call(self) -> None:
-        log = BANK_LOG.replace(entry(0, WINDOW, 0), entry(0, WINDOW, 2)).replace(entry(0, FORK, 1, 1, 1) + entry(0, FORK, 2, 2, 1), b"")
-        run = recorded(self.log_of(log), 1, Index(Trace(events_of(BANK))))
-        self.assertEqual(list(run.call_of), [NO_CALL, NO_CALL, *range(10)])
+        log = self.log_of(HEADER + event("0f1") + event("0f2") + b"".join(BANK_ENTRIES[2:]) + entry(END) + BANK_TEXT)
+        run = recorded(log, index_of(BANK.replace(" ", "\n") + "\n"))
+        self.assertEqual([run.call_of(place) for place in range(12)], [NO_CALL, NO_CALL, *range(10)])
 
     def log_of(self, log: bytes) -> Log:
         with open("other.calls", "wb") as file:
@@ -292,9 +369,9 @@ class Notes(InFolder):
     def test_command(self) -> None:
         with open("bank.calls", "wb") as file:
             file.write(BANK_LOG)
-        for trace in ("bank.trace", "bank.4.trace"):
+        for trace in ("bank.trace", "bank.all.trace"):
             self.assertRegex(command_for(trace, (0, 1)), rf"agents/pthread/goodlock --reproduce {trace[:-6]} --cycle 0,1 ./bank$")
-        self.assertEqual([command_for(trace, (0, 1)) for trace in ("none.trace", "bank", "bank.x.trace", None)], [""] * 4)
+        self.assertEqual([command_for(trace, (0, 1)) for trace in ("none.trace", "bank", "bank.4.trace", None)], [""] * 4)
 
 
 class Words(unittest.TestCase):

@@ -46,3 +46,11 @@ class Files(InFolder):
         for text in ("", "12\n", "12 3\n1 2 7\n", "12 3\n1 2\nend\n", "12 3\nx\nend\n"):
             self.assertEqual(read_graph(self.write("x", text)), WindowGraph(1, MOST_RING))
         self.assertEqual(read_graph("missing"), WindowGraph(1, MOST_RING))
+
+    def test_several_windows(self) -> None:
+        """A ring may have its edges in different windows. Without one of the files there may be any ring."""
+        one, two, three = (self.write(name, f"10 {tries}\n{edge}\nend\n")
+                           for name, tries, edge in (("1", 1, "1 2 7"), ("2", 2, "2 3 8"), ("3", 3, "3 1 9")))
+        self.assertEqual(read_graph(one, two, three), WindowGraph(6, 3))
+        self.assertEqual(read_graph(one, two), WindowGraph(3, 0))
+        self.assertEqual(read_graph(one, two, "missing"), WindowGraph(1, MOST_RING))

@@ -3,13 +3,13 @@ from __future__ import annotations
 
 import os
 from bisect import bisect_left
-from collections.abc import Iterator, Sequence
-from typing import IO
+from collections.abc import Iterable, Iterator, Sequence
+from typing import IO, Optional, Protocol
 
 from goodlock.commandline import Outputs, plural
 from goodlock.reducer import Reduced, Source, Spot, Verdict, replayed
-from goodlock.reports import Cycle, read_reports
-from goodlock.traces import Index, read_trace
+from goodlock.reports import read_reports
+from goodlock.traces import Index
 
 MOST_SHOWN = 20  # threads of a witness
 
@@ -38,26 +38,47 @@ def front(mine: Sequence[int], witness: Sequence[int]) -> int:
     return low
 
 
-def write_witness(file: IO[str], index: Index, places: Sequence[int], cycle: Cycle) -> None:
+class Waits(Protocol):
+    """A member of a cycle: its thread waits for a lock, at a place of the reduced trace."""
+
+    @property
+    def thread(self) -> int: ...
+
+    @property
+    def lock(self) -> int: ...
+
+    @property
+    def place(self) -> Optional[int]: ...
+
+
+Confirmed = tuple[Sequence[Waits], Sequence[int]]  # the members of a cycle, and its witness
+
+
+def write_witness(file: IO[str], index: Index, places: Sequence[int], members: Sequence[Waits], witness: Sequence[int]) -> None:
     file.write("witness\n")
-    for at, member in enumerate(cycle.members):
-        place = places[member.place or 0]
-        file.write(f"member {member.thread} {member.lock} {cycle.members[at - 1].lock} {place}\n")
-    file.writelines(f"end {thread} {place}\n" for thread, place in ends_of(index, places, cycle.witness))
+    for at, member in enumerate(members):
+        file.write(f"member {member.thread} {member.lock} {members[at - 1].lock} {places[member.place or 0]}\n")
+    file.writelines(f"end {thread} {place}\n" for thread, place in ends_of(index, places, witness))
 
 
-def verdicts_of(found: Reduced, sources: list[Source], report: str, folder: str) -> Iterator[Verdict]:
-    """Yields a verdict for each confirmed cycle of the report on a reduced trace."""
-    index, witnesses, count = Index(read_trace(found.traces[0])), os.path.join(folder, "witnesses"), 0
+def verdicts_of(found: Reduced, sources: list[Source], index: Index, cycles: Iterable[Confirmed], folder: str) -> Iterator[Verdict]:
+    """Yields a verdict for each of these confirmed cycles of a reduced trace."""
+    witnesses, count = os.path.join(folder, "witnesses"), 0
     with Outputs() as outputs:
         file = outputs.open(witnesses)
         file.writelines(f"cut {thread} {place}\n" for thread, place in found.cuts.items())
-        for _, cycle in read_reports(report, index):
-            if cycle and cycle.is_confirmed:
-                write_witness(file, index, found.places, cycle)
-                count += 1
+        for members, witness in cycles:
+            write_witness(file, index, found.places, members, witness)
+            count += 1
     if count:
         yield from replayed(sources, witnesses)
+
+
+def confirmed_in(report: str, index: Index) -> Iterator[Confirmed]:
+    """Yields the confirmed cycles of a report."""
+    for _, cycle in read_reports(report, index):
+        if cycle and cycle.is_confirmed:
+            yield cycle.members, cycle.witness
 
 
 def spot_text(spot: Spot, sources: list[Source]) -> str:

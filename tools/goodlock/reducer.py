@@ -14,11 +14,11 @@ from goodlock.program import ROOT, TOOLS
 
 
 class ReducerError(Exception):
-    """The program has ended with this status. It has printed why."""
+    """The program has ended with this status. The text says why."""
 
-    def __init__(self, status: int) -> None:
-        super().__init__(f"status {status}")
-        self.status = status
+    def __init__(self, status: int, text: str) -> None:
+        super().__init__(text.strip() or f"the program of tools/reduce has ended with status {status}")
+        self.status = status if status in (1, 2) else 1
 
 
 @dataclass(frozen=True)
@@ -36,7 +36,8 @@ class Source:
 @dataclass(frozen=True)
 class Reduced:
     """What the program has written: traces, one or windows. `events`, `threads` and `locks` are those of the run, without marks;
-    `kept`, `kept_threads` and `kept_locks` those of the traces. `left_out` counts acquires of threads that hold too many locks. `places` has
+    `kept`, `kept_threads` and `kept_locks` those of the traces. `beyond` counts acquires that artificial threads make for
+    threads that hold too many locks; these threads are not in `kept_threads`. `places` has
     the place in the run of each event of the only trace, `cuts` the first place of each thread that no witness may contain."""
 
     traces: tuple[str, ...]
@@ -46,7 +47,7 @@ class Reduced:
     kept: int
     kept_threads: int
     kept_locks: int
-    left_out: int
+    beyond: int
     places: array[int]
     cuts: dict[int, int]
 
@@ -54,17 +55,18 @@ class Reduced:
 @cache
 def program() -> str:
     """Returns the path of the program, which is built once."""
-    build = subprocess.run([os.path.join(TOOLS, "reducer", "build")], stdin=subprocess.DEVNULL)
+    build = subprocess.run([os.path.join(TOOLS, "reducer", "build")], stdin=subprocess.DEVNULL, stderr=subprocess.PIPE, text=True, errors="replace")
     if build.returncode:
-        raise ReducerError(1)
+        raise ReducerError(1, build.stderr)
     return os.path.join(ROOT, "out", "reducer", "reducer")
 
 
 def run_program(words: list[str]) -> str:
     """Runs the program, and returns what it prints."""
-    done = subprocess.run([program(), *words], stdin=subprocess.DEVNULL, stdout=subprocess.PIPE, encoding="ascii", errors="replace")
+    done = subprocess.run([program(), *words], stdin=subprocess.DEVNULL, stdout=subprocess.PIPE, stderr=subprocess.PIPE, encoding="utf-8",
+                          errors="replace")
     if done.returncode:
-        raise ReducerError(done.returncode if done.returncode in (1, 2) else 1)
+        raise ReducerError(done.returncode, done.stderr)
     return done.stdout
 
 

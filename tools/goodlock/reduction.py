@@ -15,13 +15,13 @@ from types import FrameType
 from typing import Optional
 
 from goodlock.commandline import BOUNDS, Outputs, plural, print_whole, whole_number
-from goodlock.completion import note_of, verdicts_of
+from goodlock.completion import confirmed_in, note_of, verdicts_of
 from goodlock.errors import OutputError
 from goodlock.limits import MOST_EVENTS
 from goodlock.program import launcher
 from goodlock.reducer import Reduced, ReducerError, Source, Verdict, reduced
 from goodlock.reports import WITNESS
-from goodlock.traces import lines_of
+from goodlock.traces import Index, lines_of, read_trace
 
 ACROSS = "a cycle whose members are in different windows is not found"
 
@@ -103,6 +103,7 @@ def run_job(job: Job, folder: str, more: Iterable[str] = ()) -> int:
             lines += report.lines
             names.update({report.path: f"{job.out}.report"} if report.is_written else {})
     except ReducerError as fault:
+        print(fault, file=sys.stderr)
         return fault.status
     for path, name in names.items():
         replace(path, name)
@@ -135,9 +136,19 @@ def lines_about(job: Job, found: Reduced) -> Iterator[str]:
         yield "the lock graph of the run has no cycle, so no bound has one"
     if len(names) > 1:
         yield f"too long for one trace, so cut into {len(names)} windows: {ACROSS}"
-    if found.left_out:
-        yield (f"left out: {plural(found.left_out, 'acquire')} by threads that hold 32 locks: a cycle with such an acquire is not found, and "
-               "one that such a lock prevents may be listed")
+    if found.beyond:
+        yield (f"{plural(found.beyond, 'acquire')} by threads that hold 32 locks: artificial threads hold these locks for them, so a cycle with "
+               "such an acquire is not found")
+
+
+def reduced_from(events: int, name: str) -> str:
+    """Returns what the verdicts of a reduced trace rest on."""
+    return (f"reduced from {plural(events, 'event')} of {name}: a confirmed cycle was replayed over all of them, a potential one was searched in "
+            "the reduced trace")
+
+
+def fault_in(replays: int) -> str:
+    return f"the replay of {plural(replays, 'confirmed cycle')} has a fault: do not trust this report"
 
 
 class Report:
@@ -160,7 +171,8 @@ class Report:
         if done.returncode:
             self.lines.append(f"no {self.job.out}.report: goodlockd has failed: {''.join(list(lines_of(plain))[:1]) or 'it prints why'}")
             return 1
-        verdicts = list(verdicts_of(self.found, self.job.sources, plain, self.folder))
+        index = Index(read_trace(self.found.traces[0]))
+        verdicts = list(verdicts_of(self.found, self.job.sources, index, confirmed_in(plain, index), self.folder))
         self.write_with(plain, verdicts)
         self.is_written = True
         faults = sum(bool(verdict.fault) for verdict in verdicts)
@@ -183,15 +195,14 @@ class Report:
         """Yields what the verdicts rest on, and whether they are wrong. Tools show these lines."""
         names = [source.words[1] for source in self.job.sources]
         name = names[0] if len(names) == 1 else f"{names[0]} to {names[-1]}"
-        yield (f"reduced from {plural(self.found.events, 'event')} of {name}: a confirmed cycle was replayed over all of them, a potential "
-               "one was searched in the reduced trace")
+        yield reduced_from(self.found.events, name)
         if faults:
-            yield f"the replay of {plural(faults, 'confirmed cycle')} has a fault: do not trust this report"
+            yield fault_in(faults)
 
     def lines_about(self, confirmed: int, faults: int) -> Iterator[str]:
         name = f"{self.job.out}.report"
         replayed = f", replayed over {plural(self.found.events, 'event')}" if confirmed else ""
         yield f"{name}: bound {self.job.bound}, {plural(confirmed, 'confirmed cycle')}{replayed}"
         if faults:
-            advice = "acquires that were left out may be the reason" if self.found.left_out else "do not trust this report, and report the fault"
-            yield f"{name}: the replay of {plural(faults, 'confirmed cycle')} has a fault, which the report shows: {advice}"
+            yield (f"{name}: the replay of {plural(faults, 'confirmed cycle')} has a fault, which the report shows: do not trust this report, and "
+                   "report the fault")

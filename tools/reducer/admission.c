@@ -41,6 +41,28 @@ static uint32_t variable_of(uint32_t number) {
     return at;
 }
 
+static uint32_t new_position(struct numbers *table) {
+    static uint32_t number = LARGEST;
+    size_t before = table->count;
+    uint32_t at;
+    do at = position_of(table, number--);
+    while (table->count == before);
+    return at;
+}
+
+uint32_t new_thread(void) {
+    uint32_t at = new_position(&thread_numbers);
+    threads = grow(threads, at, &threads_room, sizeof *threads);
+    threads[at] = (struct thread){.is_forked = true, .name = NONE};
+    return at;
+}
+
+uint32_t new_variable(void) {
+    uint32_t at = new_position(&variable_numbers);
+    variables = grow(variables, at, &variables_room, sizeof *variables);
+    return at;
+}
+
 struct thread *find_thread(const struct reader *reader, uint32_t number) {
     uint32_t at = thread_of(reader, number);
     return &threads[at];

@@ -1,4 +1,4 @@
-/* A first slice, before events are kept: the first pass writes the events to a file of records, which is read here from its end. What an
+/* A first slice, before events are kept: a pass writes the events to a file of records, which is read here from its end. What an
  * event needs is before it, except the release of an acquire. So each release is taken as needed if a needed acquire of its lock comes
  * later: the result may have more events than the least slice, which slice.c makes of it. */
 #include "reducer.h"

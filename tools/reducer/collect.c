@@ -1,7 +1,7 @@
-/* Reads the files of a run twice. The first pass notes who uses which lock and variable, and the lock graph. From that follows a first
- * slice: up to which event each thread is needed. The second pass keeps these events, without those of locks and variables that one thread
- * uses. While they come, the rules that look only back shorten the list, so the memory depends on the kept events and not on the length of
- * the input. */
+/* Reads the files of a run. The first pass notes who uses which lock and variable, and the lock graph. If this has a cycle, a second one
+ * gives the first slice: up to which event each thread is needed. The last pass keeps these events, without those of locks and variables
+ * that one thread uses. While they come, the rules that look only back shorten the list, so the memory depends on the kept events and not
+ * on the length of the input. */
 #include "reducer.h"
 
 enum { LEAST_SHORTENED = 1 << 22 }; /* that many events are kept before they are shortened for the first time */
@@ -28,12 +28,26 @@ static void scan_event(struct graph *graph, const struct event *event) {
 static void scan(struct source *sources, size_t count, struct graph *graph) {
     struct event event;
     open_run(&reader, sources, count);
-    while (read_event(&reader, &event)) scan_event(graph, &event), record(&event);
+    while (read_event(&reader, &event)) scan_event(graph, &event);
 }
 
-/* ---- the second pass ---- */
+/* The first slice reads the events from the last one back. If no lock is in a cycle of the lock graph it needs none. */
+static uint64_t *first_slice(const char *folder, struct source *sources, size_t count, const uint32_t *components) {
+    struct event event;
+    size_t lock = 0;
+    while (lock < lock_numbers.count && components[lock] == NONE) lock++;
+    if (lock == lock_numbers.count) return allocate(thread_numbers.count, sizeof(uint64_t));
+    begin_records(folder);
+    begin_run();
+    open_run(&reader, sources, count);
+    while (read_event(&reader, &event)) apply_event(&event), record(&event);
+    return limits_of(components);
+}
+
+/* ---- the last pass ---- */
 
 static void locate(struct event *event) {
+    take_site(&reader);
     if (reader.where_number == NONE && reader.where_length) reader.where_number = add_text(&texts, reader.where, reader.where_length);
     event->where = reader.where_length ? reader.where_number : NONE;
 }
@@ -88,11 +102,10 @@ static size_t forked_threads(void) {
 
 struct counts collect(const char *folder, struct source *sources, size_t count) {
     struct graph graph = {0};
-    begin_records(folder);
     scan(sources, count, &graph);
     struct counts counts = {.events = reader.place, .threads = forked_threads(), .locks = used_locks()};
     uint32_t *components = components_of(&graph);
-    uint64_t *limits = limits_of(components);
+    uint64_t *limits = first_slice(folder, sources, count, components);
     clear_pairs(&graph.edges);
     free(components);
     cuts = allocate(thread_numbers.count, sizeof *cuts);
@@ -110,7 +123,7 @@ struct counts copy_whole(struct source *sources, size_t count) {
         apply_event(&event);
         if (event.operation == ACQUIRE) note_user(&locks[event.object].user, event.thread);
         locate(&event);
-        add_to_window(&event);
+        pass_on(&event);
     }
     return (struct counts){.events = reader.place, .threads = forked_threads(), .locks = used_locks()};
 }

@@ -14,7 +14,8 @@ static const char letters[] = "fjardw";
 void refuse(const struct reader *reader, const char *format, ...) {
     va_list arguments;
     fflush(stdout);
-    fprintf(stderr, "%s:%llu: ", reader->sources[reader->at].name, (unsigned long long)reader->line);
+    fprintf(stderr, reader->is_log ? "%s: place %llu: " : "%s:%llu: ", reader->sources[reader->at].name,
+            (unsigned long long)(reader->is_log ? reader->place : reader->line));
     va_start(arguments, format);
     vfprintf(stderr, format, arguments);
     va_end(arguments);
@@ -76,26 +77,7 @@ static void refuse_word(const struct reader *reader, const char *word) {
 
 /* ---- files ---- */
 
-static void open_source(struct reader *reader) {
-    struct source *source = &reader->sources[reader->at];
-    reader->file = open(source->path, O_RDONLY | O_CLOEXEC);
-    if (reader->file < 0) end_unread(source->name, strerror(errno));
-    source->first = reader->place;
-    reader->begin = reader->end = 0;
-    reader->is_at_end = reader->is_in_line = reader->has_window = false;
-    reader->line = 1, reader->origin = 0;
-    reader->where_length = 0, reader->where_number = NONE;
-}
-
-void open_run(struct reader *reader, struct source *sources, size_t count) {
-    char *buffer = reader->buffer ? reader->buffer : allocate(BUFFER + 1, 1);
-    memset(reader, 0, sizeof *reader);
-    reader->sources = sources, reader->count = count, reader->buffer = buffer;
-    open_source(reader);
-}
-
-/* Reads until the buffer is full or the file ends. A line feed follows the last byte. */
-static void fill(struct reader *reader) {
+void fill_buffer(struct reader *reader) {
     memmove(reader->buffer, reader->buffer + reader->begin, reader->end - reader->begin);
     reader->end -= reader->begin, reader->begin = 0;
     while (reader->end < BUFFER && !reader->is_at_end) {
@@ -105,6 +87,25 @@ static void fill(struct reader *reader) {
         if (got > 0) reader->end += (size_t)got;
     }
     reader->buffer[reader->end] = '\n';
+}
+
+static void open_source(struct reader *reader) {
+    struct source *source = &reader->sources[reader->at];
+    reader->file = open(source->path, O_RDONLY | O_CLOEXEC);
+    if (reader->file < 0) end_unread(source->name, strerror(errno));
+    source->first = reader->place;
+    reader->begin = reader->end = 0;
+    reader->is_at_end = reader->is_in_line = reader->has_window = false;
+    reader->line = 1, reader->origin = 0;
+    reader->where_length = 0, reader->where_number = NONE;
+    begin_log(reader);
+}
+
+void open_run(struct reader *reader, struct source *sources, size_t count) {
+    char *buffer = reader->buffer ? reader->buffer : allocate(BUFFER + 1, 1);
+    memset(reader, 0, sizeof *reader);
+    reader->sources = sources, reader->count = count, reader->buffer = buffer;
+    open_source(reader);
 }
 
 static bool next_source(struct reader *reader) {
@@ -207,7 +208,7 @@ static void read_comment(struct reader *reader) {
         length += copied;
         reader->begin += part;
         if (reader->begin < reader->end || reader->is_at_end) break;
-        fill(reader);
+        fill_buffer(reader);
     }
     text[length] = 0;
     if (length < MOST_COMMENT - 1) take_comment(reader, text);
@@ -229,7 +230,8 @@ static void read_word(struct reader *reader, struct word *word) {
 
 bool next_event(struct reader *reader, struct word *word) {
     for (;;) {
-        if (reader->end - reader->begin <= MOST_COMMENT && !reader->is_at_end) fill(reader);
+        if (reader->end - reader->begin <= MOST_COMMENT && !reader->is_at_end) fill_buffer(reader);
+        if (reader->is_log && next_logged(reader, word)) return true;
         if (reader->begin == reader->end) {
             if (!next_source(reader)) return false;
             continue;

@@ -8,6 +8,8 @@
  * if a file has a fault. */
 #include "reducer.h"
 
+#include <signal.h>
+
 static struct source *sources_of(char **words, int count) {
     struct source *sources = allocate((size_t)count / 2, sizeof *sources);
     for (int at = 0; at + 1 < count; at += 2)
@@ -21,33 +23,44 @@ static void *open_in(const char *folder, const char *name) {
     return open_output(path);
 }
 
-/* Writes what the check needs: the place of each kept event, and where each thread is cut. */
-static void write_places(const char *folder) {
-    FILE *places = open_in(folder, "places"), *file = open_in(folder, "cuts");
-    for (size_t at = 0; at < kept.count; at++) fwrite(&(uint64_t){kept.events[at].place}, sizeof(uint64_t), 1, places);
+/* What the check needs: the place of each event, and where each thread is cut. */
+static FILE *places;
+
+static void take_reduced(const struct event *event) {
+    fwrite(&(uint64_t){event->place}, sizeof(uint64_t), 1, places);
+    add_to_window(event);
+}
+
+static void write_cuts(const char *folder) {
+    FILE *file = open_in(folder, "cuts");
     for (size_t at = 0; at < thread_numbers.count; at++)
         fprintf(file, "%u %llu\n", thread_numbers.numbers[at], (unsigned long long)cuts[at]);
-    if (ferror(places) || fclose(places) || ferror(file) || fclose(file)) end_unwritten(folder);
+    if (ferror(file) || fclose(file)) end_unwritten(folder);
 }
 
 static void print_counts(struct counts counts, struct written written) {
+    struct beyond beyond = counts_beyond();
     printf("events %llu\nthreads %zu\nlocks %zu\n", (unsigned long long)counts.events, counts.threads, counts.locks);
-    printf("kept %llu\nkept_threads %zu\nkept_locks %zu\n", (unsigned long long)written.events, written.threads, written.locks);
-    printf("windows %u\nleft_out %llu\n", written.windows, (unsigned long long)written.left_out);
+    printf("kept %llu\nkept_threads %zu\n", (unsigned long long)written.events, written.threads - beyond.threads);
+    printf("kept_locks %zu\n", written.locks);
+    printf("windows %u\nbeyond %llu\n", written.windows, (unsigned long long)beyond.acquires);
 }
 
 static void reduce_files(const char *folder, size_t most, struct source *sources, size_t count) {
     struct counts counts = collect(folder, sources, count);
     reduce();
+    write_cuts(folder);
+    places = open_in(folder, "places");
     begin_windows((struct output){folder, most, sources, count});
-    for (size_t at = 0; at < kept.count; at++) add_to_window(&kept.events[at]);
-    struct written written = end_windows();
-    write_places(folder);
-    print_counts(counts, written);
+    begin_holders(take_reduced);
+    for (size_t at = 0; at < kept.count; at++) pass_on(&kept.events[at]);
+    print_counts(counts, end_windows());
+    if (ferror(places) || fclose(places)) end_unwritten(folder);
 }
 
 static void copy_files(const char *folder, size_t most, struct source *sources, size_t count) {
     begin_windows((struct output){folder, most, sources, count});
+    begin_holders(add_to_window);
     struct counts counts = copy_whole(sources, count);
     print_counts(counts, end_windows());
 }
@@ -66,6 +79,7 @@ int main(int count, char **words) {
     struct source *sources = sources_of(words + first, count - first);
     if (!is_check && (most < 2 || most > MOST_EVENTS)) return refuse_words();
     seed_hashes();
+    signal(SIGXFSZ, SIG_IGN); /* a file that would be too long is an error as a full disk is */
     if (is_check) check_witnesses(words[2], sources, source_count);
     else if (is_whole) copy_files(words[2], most, sources, source_count);
     else reduce_files(words[2], most, sources, source_count);

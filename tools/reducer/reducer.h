@@ -1,6 +1,7 @@
-/* Shared by the files of the reducer, the program of tools/reduce: input.c reads event files, admission.c refuses unlawful events,
- * collect.c reads a run and keeps what the rules need, backward.c, rules.c and slice.c leave out events, windows.c writes traces, check.c
- * replays witnesses over the whole run, tables.c has the hash tables. docs/algorithm.md has the rules with their reasons. */
+/* Shared by the files of the reducer, the program of tools/reduce: input.c reads event files, log.c the logs of agents, admission.c refuses
+ * unlawful events, collect.c reads a run and keeps what the rules need, backward.c, rules.c and slice.c leave out events, holders.c hands
+ * locks to artificial threads, windows.c writes traces, check.c replays witnesses over the whole run, tables.c has the hash tables.
+ * docs/algorithm.md has the rules with their reasons. */
 #define _GNU_SOURCE
 #include <stdbool.h>
 #include <stddef.h>
@@ -60,12 +61,15 @@ const char *text_of(const struct texts *table, uint32_t number, size_t *length);
 struct source { const char *path, *name; uint64_t first; uint32_t line_name; }; /* first: the place of its first event, once it is open */
 struct word { uint32_t thread, object, line; enum operation operation; bool is_repeated; }; /* line: of another file, or 0 */
 
+struct last_entry { uint32_t thread, site, objects[2]; }; /* of a log: what the next entry may have, too */
+
 /* Reads the events of the files of a run, one after another. */
 struct reader {
     struct source *sources;
     size_t count, at;           /* of the sources; at: the present one */
     int file;
-    bool is_in_line, is_at_end, has_window;
+    bool is_in_line, is_at_end, has_window, is_log;
+    struct last_entry last;
     char *buffer;
     size_t begin, end;
     uint64_t line, place;       /* line: the present one; place: of the next event */
@@ -78,12 +82,23 @@ struct reader {
 void open_run(struct reader *reader, struct source *sources, size_t count);
 /* Reads the next event. Returns false at the end of the last file. */
 bool next_event(struct reader *reader, struct word *word);
-/* Ends the program with a line about the present line of the present file. */
+/* Reads until the buffer is full or the file ends. A line feed follows the last byte. */
+void fill_buffer(struct reader *reader);
+/* Ends the program with a line about the present line of the present file, or about the present place of a log. */
 void refuse(const struct reader *reader, const char *format, ...) __attribute__((format(printf, 2, 3), noreturn));
 /* Ends the program with a line about a file. */
 void end_unread(const char *name, const char *reason) __attribute__((noreturn));
 void end_unwritten(const char *name) __attribute__((noreturn));
 void *open_output(const char *name);
+
+/* ---- log.c ---- */
+
+/* Notes whether the file is a log, and skips what is before its entries. */
+void begin_log(struct reader *reader);
+/* Reads the next event. Returns false at the end. */
+bool next_logged(struct reader *reader, struct word *word);
+/* Writes the site of the event as its code location: a number, which the agent replaces. */
+void take_site(struct reader *reader);
 
 /* ---- admission.c: the state of the run after the events that were read ---- */
 
@@ -108,6 +123,9 @@ extern struct texts texts; /* names of threads and locks, code locations, names 
 /* Return the thread and the lock with a number, which are added if they are new. The pointers are valid until the next call. */
 struct thread *find_thread(const struct reader *reader, uint32_t number);
 struct lock *find_lock(const struct reader *reader, uint32_t number);
+/* Return the position of an artificial thread, which is forked, and of a variable. Nothing in the run has their numbers. */
+uint32_t new_thread(void);
+uint32_t new_variable(void);
 /* Forgets the events that were read, and keeps the tables. */
 void begin_run(void);
 /* Reads the next event that no earlier window has, without its code location. Ends the program if it is not lawful. The caller applies what
@@ -124,9 +142,9 @@ void release_all(void);
 struct kept { struct event *events; size_t count, room; };
 extern struct kept kept;
 struct counts { uint64_t events; size_t threads, locks; };
-/* Reads the files twice, and keeps the events that can matter to a cycle. The folder is for a temporary file. */
+/* Reads the files, and keeps the events that can matter to a cycle. The folder is for a temporary file. */
 struct counts collect(const char *folder, struct source *sources, size_t count);
-/* Reads the files, and passes each event that is not repeated to the windows. */
+/* Reads the files, and passes each event on that is not repeated. */
 struct counts copy_whole(struct source *sources, size_t count);
 
 /* ---- backward.c ---- */
@@ -162,9 +180,18 @@ uint32_t *components_of(const struct graph *graph);
 bool is_possible_member(const uint32_t *components, const struct event *acquire);
 /* Leaves out what no possible member of a cycle needs. */
 void slice(void);
-/* Of each thread the first place that a witness may not contain: a slice left out an event there, which is no release, or the second pass
+/* Of each thread the first place that a witness may not contain: a slice left out an event there, which is no release, or the last pass
  * ended there. */
 extern uint64_t *cuts;
+
+/* ---- holders.c ---- */
+
+/* The events that are passed on go to `next`, with artificial ones between them. */
+void begin_holders(void (*next)(const struct event *event));
+void pass_on(const struct event *event);
+/* How many acquires artificial threads make, and how many of these threads there are. */
+struct beyond { uint64_t acquires; size_t threads; };
+struct beyond counts_beyond(void);
 
 /* ---- windows.c ---- */
 
@@ -172,7 +199,7 @@ extern uint64_t *cuts;
 struct output { const char *folder; size_t most; const struct source *sources; size_t source_count; };
 void begin_windows(struct output output);
 void add_to_window(const struct event *event);
-struct written { uint64_t events, left_out; uint32_t windows; size_t threads, locks; }; /* left_out: acquires beyond MOST_HELD */
+struct written { uint64_t events; uint32_t windows; size_t threads, locks; };
 struct written end_windows(void);
 
 /* ---- check.c ---- */

@@ -5,7 +5,7 @@
 
 /* Of a thread: the last windows in which it is, is forked and is named. */
 struct part { struct held_list held; uint32_t window, forked_in, named_in; bool is_forked; };
-struct lock_part { uint32_t depth, skipped, named_in; bool is_used; }; /* skipped: depth of a section that is left out */
+struct lock_part { uint32_t depth, named_in; bool is_used; };
 struct repeated { struct event acquire; uint32_t depth; };             /* a lock that is held where the window begins */
 
 static struct output output;
@@ -197,17 +197,6 @@ static void end_too_small(const struct event *event) {
     exit(2);
 }
 
-/* Leaves out sections beyond MOST_HELD. Returns whether the event is left out. */
-static bool skip(const struct event *event) {
-    if (event->operation != ACQUIRE && event->operation != RELEASE) return false;
-    struct lock_part *lock = lock_part_of(event->object);
-    bool is_beyond = event->operation == ACQUIRE && !lock->depth && part_of(event->thread)->held.count == MOST_HELD;
-    if (!lock->skipped && !is_beyond) return false;
-    written.left_out += event->operation == ACQUIRE;
-    lock->skipped += event->operation == ACQUIRE ? 1 : -1u;
-    return true;
-}
-
 static void follow_locks(const struct event *event) {
     struct lock_part *lock = lock_part_of(event->object);
     if (event->operation == ACQUIRE && !lock->depth++) hold(&part_of(event->thread)->held, event);
@@ -229,7 +218,6 @@ static void put(const struct event *event, struct need need) {
 }
 
 void add_to_window(const struct event *event) {
-    if (skip(event)) return;
     struct need need = need_of(event);
     if (!is_room_for(need)) {
         write_window();

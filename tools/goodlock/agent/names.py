@@ -9,7 +9,7 @@ from typing import Optional
 
 from goodlock.agent.run import Run
 from goodlock.agent.symbols import name_at, without_arguments_of_templates
-from goodlock.limits import FIRST_THREAD, NUMBER
+from goodlock.limits import NUMBER
 from goodlock.parts import Parts
 from goodlock.traces import NAME
 
@@ -18,10 +18,10 @@ ADDRESS = re.compile(rf"lock {NUMBER} at (/.*)\+0x([0-9a-f]{{1,16}})")
 
 
 class Names:
-    """The names and parts of the trace of one window. In a window after the first one the program's first thread has another number."""
+    """The names and parts of the trace of one window, or of all: the number of the program's first thread depends on the trace."""
 
     def __init__(self, run: Run, window: int) -> None:
-        self.first = 0 if window == 1 else FIRST_THREAD
+        self.first = run.first_thread(window)
         self.parts = Parts()
         self.names: dict[tuple[str, int], str] = {}
         self.addresses: dict[int, tuple[str, int]] = {}

@@ -7,9 +7,10 @@ from collections.abc import Iterable, Iterator
 
 from goodlock.agent.gate import judge
 from goodlock.agent.names import Names
-from goodlock.agent.run import Run, say, shortly
+from goodlock.agent.run import ALL, Run, say, shortly
 from goodlock.agent.search import NOT_SEARCHED, TIMED, Found, Limit, NoReport, Window, results
 from goodlock.agent.sites import Sites, name_lines_of
+from goodlock.agent.whole import Whole, adopt, drop, search_whole
 from goodlock.errors import InputError
 from goodlock.groups import key_of, merge
 from goodlock.happened import HEADING
@@ -63,6 +64,8 @@ def cycle_lines(found: Found, sites: Sites, names: Names) -> Iterator[str]:
         yield from (f"    lock {lock} since {line}" for lock, line in held_in(found, at, sites, names))
     if found.witness is not None:
         yield f"  witness {found.witness}".rstrip()
+    if found.note:
+        yield f"    {found.note}"
     yield from (f"    {condition}: {reason}" for condition, reason in REASONS.items() if condition in found.condition)
     yield from name_lines(found, names)
     if found.cycles > 1:
@@ -94,8 +97,9 @@ def why_not_analysed(summary: dict[str, int]) -> Iterator[str]:
                "its own futex locks, which the agent does not see")
 
 
-def gaps_of(run: Run, summary: dict[str, int], windows: dict[int, Window]) -> Iterator[str]:
+def gaps_of(run: Run, summary: dict[str, int], windows: dict[int, Window], whole: Whole) -> Iterator[str]:
     """Yields which part of the run was not analysed, although it was to be."""
+    yield from whole.gaps
     if summary["off"]:
         yield "what came after the recording stopped, before the program ended"
     if summary["truncated"]:
@@ -133,7 +137,7 @@ def names_of_processes(run: Run) -> str:
     return ", ".join(f"{name} ({count})" if count > 1 else name for name, count in names.most_common(MOST_NAMES))
 
 
-def limits_of(run: Run, summary: dict[str, int], windows: dict[int, Window]) -> Iterator[str]:
+def limits_of(run: Run, summary: dict[str, int], windows: dict[int, Window], whole: Whole) -> Iterator[str]:
     """Yields what an agent cannot examine, if it was there."""
     longest = max(window.longest for window in windows.values())
     if longest > run.bound and not any(window.why for window in windows.values()):
@@ -141,7 +145,9 @@ def limits_of(run: Run, summary: dict[str, int], windows: dict[int, Window]) -> 
         yield (f"cycles of more than {run.bound} members: the lock graph {ring}"
                f"{'; --bound auto searches it' if run.bound < MOST_BOUND else ''}")
     if len(windows) > 1:
-        yield f"cycles whose members are in different ones of the {len(windows)} windows"
+        yield from limits_across(run, summary, len(windows), whole)
+    if whole.has_waits and whole.window:
+        yield "cycles through joins and wake-ups whose members are in different windows"
     if summary["crowded_locks"]:
         yield (f"{plural(summary['crowded_locks'], 'reader-writer lock')} with more than {MOST_PARTS} readers: what the further ones hold and wait "
                "for is no part of a cycle")
@@ -153,6 +159,20 @@ def limits_of(run: Run, summary: dict[str, int], windows: dict[int, Window]) -> 
         yield f"the locks inside of {', '.join(libraries)}"
     if summary["futexes"]:
         yield f"{plural(summary['futexes'], 'wait')} by futex calls: of locks that are made of atomics, or for values"
+
+
+def limits_across(run: Run, summary: dict[str, int], count: int, whole: Whole) -> Iterator[str]:
+    """Yields what was not examined of the windows together, and why."""
+    window = whole.window
+    if not window or window.bound == NOT_SEARCHED:
+        yield f"cycles whose members are in different ones of the {count} windows: {whole.why or (window and window.why)}"
+        return
+    if window.why:
+        yield f"cycles of more than {window.bound} members in different ones of the {count} windows: {window.why}"
+    if not run.is_by_log:
+        yield f"the order of events in different ones of the {count} windows, so that cycles across windows are potential: {whole.why}"
+        if summary["left_out"]:
+            yield f"{plural(summary['left_out'], 'acquire')} under held locks in cycles across windows: the run has too many different ones"
 
 
 def notes_of(summary: dict[str, int], windows: dict[int, Window]) -> Iterator[str]:
@@ -187,20 +207,25 @@ def write_window(run: Run, number: int, window: Window, found: list[Found], extr
         for group in found:
             if group.kind == TIMED:
                 file.writelines(f"{line}\n" for line in timed_lines(group, sites, names))
-    name_lines_of(run.window(number, "trace"), sites, names)
+    name_lines_of(run.window(number, "trace"), sites, names, run.mark if number == ALL else "")
 
 
 def merged(windows: dict[int, Window], sites: Sites) -> list[Found]:
-    """Returns the groups of all windows by their lines."""
+    """Returns the groups of all windows by their lines. Those of all windows together count only if no window has them as well confirmed."""
     groups: dict[object, Found] = {}
-    for number, window in windows.items():
+    for number, window in sorted(windows.items(), key=lambda item: item[0] == ALL):
         for found in window.found:
             found.window = number
-            merge(groups, (found.kind == TIMED, found.condition, key_of(found.pairs(sites.name))), found)
+            key = found.kind == TIMED, found.condition, key_of(found.pairs(sites.name))
+            if number != ALL or key not in groups:
+                merge(groups, key, found)
+            elif found.is_confirmed and not groups[key].is_confirmed:
+                groups[key] = found
     return list(groups.values())
 
 
 def without_report(run: Run, count: int, fault: Exception, deadlock: list[str], sites: Sites, settings: Settings) -> int:
+    drop(run)
     for number in range(1, count + 1):
         name_lines_of(run.window(number, "trace"), sites, Names(run, number))
     say(f"there is no report: {fault}; the trace is kept: {shortly(run.window(1, 'trace'))}")
@@ -209,7 +234,8 @@ def without_report(run: Run, count: int, fault: Exception, deadlock: list[str], 
 
 def kept_of(run: Run, windows: dict[int, Window], sites: Sites) -> tuple[list[Found], list[int]]:
     """Returns the groups of all windows, and the windows that are kept: the first one, those with a group of their own, and those that were not
-    searched. Removes the traces of the others, as far as they are still there."""
+    searched. Removes the traces of the others, as far as they are still there. What all windows have together comes last: it is kept for
+    the groups that no window has."""
     traces = [number for number in windows if number == 1 or os.path.exists(run.window(number, "trace"))]
     found = merged({number: windows[number] for number in [*traces, *sorted(windows.keys() - traces)]}, sites)
     owners = {1, *(group.window for group in found), *(number for number in traces if windows[number].bound == NOT_SEARCHED or windows[number].is_partial)}
@@ -218,12 +244,21 @@ def kept_of(run: Run, windows: dict[int, Window], sites: Sites) -> tuple[list[Fo
     return found, sorted(owners)
 
 
+def search_all(run: Run, count: int, summary: dict[str, int], limit: Limit) -> tuple[dict[int, Window], Whole]:
+    """Returns the results of the run: those of all windows together, or else also those of each window."""
+    whole = search_whole(run, count, summary, limit) if count > 1 else Whole()
+    if whole.is_complete and whole.window:
+        adopt(run, count)
+        return {1: whole.window}, whole
+    return dict(results(run, count, limit)), whole
+
+
 def finish(run: Run, count: int, seconds: float, settings: Settings) -> int:
-    """Searches the windows that were not searched yet, writes the reports of windows 1 to `count`, and returns the exit status."""
+    """Searches what was not searched yet, writes the reports of windows 1 to `count`, and returns the exit status."""
     summary, limit, fault = run.summary(), Limit(seconds, signal.SIGINT, signal.SIGTERM), None
-    windows: dict[int, Window] = {}
+    windows, whole = dict[int, Window](), Whole()
     try:
-        windows.update(results(run, count, limit))
+        windows, whole = search_all(run, count, summary, limit)
     except (OSError, ValueError, InputError, NoReport) as error:
         fault = error
     limit.close()
@@ -231,29 +266,40 @@ def finish(run: Run, count: int, seconds: float, settings: Settings) -> int:
     deadlock = [line.strip() for line in read_deadlock(run, sites)]
     if fault:
         return without_report(run, count, fault, deadlock, sites, settings)
+    causes, gaps = list(why_not_analysed(summary)), list(gaps_of(run, summary, windows, whole))
+    unexamined = [*gaps, *limits_of(run, summary, windows, whole)]
+    if whole.window and not whole.is_complete:
+        windows[ALL] = whole.window
     found, kept = kept_of(run, windows, sites)
-    causes, gaps, notes = list(why_not_analysed(summary)), list(gaps_of(run, summary, windows)), list(notes_of(summary, windows))
-    unexamined = [*gaps, *limits_of(run, summary, windows)]
-    block = [HEADING, *(f"  {line}" for line in unexamined)] if unexamined else []
-    others = [f"window {number}: {os.path.basename(run.window(number, 'report'))}" for number in kept[1:]]
-    others += [f"process {number}: {os.path.basename(run.out)}.p{number}.report" for number, is_traced, _ in processes_of(run) if is_traced]
+    notes = list(notes_of(summary, windows))
     if found:
-        keep_log(run, f"{run.out}.calls", bool(summary["python"]))
+        keep_log(run, f"{run.out}.calls", bool(summary["python"]), sites)
+    block = [HEADING, *(f"  {line}" for line in unexamined)] if unexamined else []
     for number in kept:
-        extra = [*deadlock, *causes, *notes, *block, *others] if number == 1 else []
+        extra = [*deadlock, *causes, *notes, *block, *names_of_others(run, kept)] if number == 1 else []
         write_window(run, number, windows[number], [group for group in found if group.window == number], extra, sites)
     for note in [*causes, *notes, *(f"not examined: {line}" for line in unexamined)]:
         say(note)
-    conclude(run, windows, kept, found)
+    conclude(run, whole.events or sum(window.length for number, window in windows.items() if number != ALL), kept, found)
     if judge(windows.values(), found, deadlock, sites, settings).status:
         return DEADLOCK
     return NO_REPORT if causes else IN_PART if gaps else 0
 
 
-def conclude(run: Run, windows: dict[int, Window], kept: list[int], found: list[Found]) -> None:
+def names_of_others(run: Run, kept: list[int]) -> Iterator[str]:
+    """Yields the names of the further reports."""
+    for number in kept:
+        if number != 1:
+            what = "across windows" if number == ALL else f"window {number}"
+            yield f"{what}: {os.path.basename(run.window(number, 'report'))}"
+    for number, is_traced, _ in processes_of(run):
+        if is_traced:
+            yield f"process {number}: {os.path.basename(run.out)}.p{number}.report"
+
+
+def conclude(run: Run, length: int, kept: list[int], found: list[Found]) -> None:
     """Prints what was found."""
     confirmed = sum(group.is_confirmed for group in found)
     shown = sum(group.kind != TIMED for group in found)
-    length = sum(window.length for window in windows.values())
-    names = [shortly(run.window(number, kind)) for number in kept for kind in ("report", "trace")]
+    names = [shortly(run.window(number, kind)) for number in sorted(kept, key=lambda number: (number == ALL, number)) for kind in ("report", "trace")]
     say(f"{plural(length, 'event')}, {plural(shown, 'cycle')}, {confirmed} confirmed: {', '.join(names)}")

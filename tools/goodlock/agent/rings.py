@@ -1,4 +1,4 @@
-"""Reads the lock graph of a window, and finds how many members its cycles may have. An edge is a thread that has acquired a lock while it held
+"""Reads the lock graph of windows, and finds how many members its cycles may have. An edge is a thread that has acquired a lock while it held
 another one. A cycle of K members needs a ring of K locks whose edges are of K threads, so without a longer ring no larger bound finds more."""
 from __future__ import annotations
 
@@ -42,20 +42,26 @@ def add_edges(path: str, edges: Iterable[Edge]) -> None:
         os.replace(f"{path}.new", path)
 
 
-def read_graph(path: str) -> WindowGraph:
-    """Returns a graph that may have any ring if the file is missing or was not written whole."""
+def read_graph(*paths: str) -> WindowGraph:
+    """Returns the graph of one window, or of several together. It may have any ring if a file is missing or was not written whole."""
     graph: Graph = defaultdict(lambda: defaultdict(set))
     try:
-        with open(path, encoding="ascii") as file:
-            _, tries = map(int, file.readline().split())  # the first one counts the events
-            for line in file:
-                if line == END:
-                    return WindowGraph(tries, longest_ring(graph))
-                held, lock, thread = map(int, line.split())
-                graph[held][lock].add(thread)
+        tries = sum(read_edges(path, graph) for path in paths)
     except (OSError, ValueError):
-        pass
-    return WindowGraph()
+        return WindowGraph()
+    return WindowGraph(tries, longest_ring(graph))
+
+
+def read_edges(path: str, graph: Graph) -> int:
+    """Adds the edges of a window to a graph. Returns how many of its acquires do not wait."""
+    with open(path, encoding="ascii") as file:
+        _, tries = map(int, file.readline().split())  # the first one counts the events
+        for line in file:
+            if line == END:
+                return tries
+            held, lock, thread = map(int, line.split())
+            graph[held][lock].add(thread)
+    raise ValueError
 
 
 def on_rings(edges: Graph) -> Graph:

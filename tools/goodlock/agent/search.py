@@ -14,9 +14,9 @@ from dataclasses import asdict, dataclass, field
 from types import FrameType
 from typing import Any, Optional
 
-from goodlock.agent.names import Names
 from goodlock.agent.joins import joins_in, with_ends
-from goodlock.agent.rings import add_edges, read_graph
+from goodlock.agent.names import Names
+from goodlock.agent.rings import WindowGraph, add_edges, read_graph
 from goodlock.agent.run import Run
 from goodlock.agent.wakes import wakes_in, with_wakes
 from goodlock.commandline import plural
@@ -52,10 +52,11 @@ class Stopped(NoReport):
 
 
 class Limit:
-    """The time that the searches of this process may take. A signal ends the search that runs, and all later ones."""
+    """The time that the searches of this process may take. A signal ends the search that runs, and all later ones. `is_background`: the
+    program still runs."""
 
     def __init__(self, seconds: float, *signals: signal.Signals) -> None:
-        self.end, self.is_over, self.is_searching = time.monotonic() + seconds, False, False
+        self.end, self.is_over, self.is_searching, self.is_background = time.monotonic() + seconds, False, False, False
         self.signals = (signal.SIGALRM, signal.SIGUSR1, *signals)
         for number in self.signals:
             signal.signal(number, self.stop)
@@ -105,7 +106,7 @@ class FoundMember:
 @dataclass
 class Found:
     """A group of cycles at the same sites: its example and how many it has. The kind is confirmed, potential, or timed. `condition` is what
-    it rests on besides the events, or empty."""
+    it rests on besides the events, or empty. `note` says more of the verdict of the example."""
 
     kind: str
     numbers: list[int]
@@ -115,6 +116,7 @@ class Found:
     confirmed: int
     condition: str = ""
     window: int = 0
+    note: str = ""
 
     @property
     def is_confirmed(self) -> bool:
@@ -325,20 +327,29 @@ def add_waits(run: Run, number: int) -> None:
         add_edges(run.work(f"{number}.window"), wakes.edges)
         rewrite(path, new, lambda lines: with_wakes(lines, wakes))
         os.replace(new, path)
-    os.remove(wanted)
+    os.rename(wanted, run.work(f"{number}.waited"))
 
 
-def search_up(run: Run, number: int, limit: Limit) -> Window:
-    """Searches with bound 2, then 3, up to the wanted one, or up to the longest ring of the lock graph, as long as the time permits. If that
-    takes too long, or the report would, the acquires that do not wait are left out of the search."""
-    path = run.window(number, "trace")
+def has_waits(run: Run, number: int) -> bool:
+    """Whether locks were added to a window's trace for joins and waits on conditions, or are to be."""
+    return any(os.path.exists(run.work(f"{number}.{kind}")) for kind in ("waits", "waited"))
+
+
+def search_window(run: Run, number: int, limit: Limit) -> Window:
+    """Searches a window, which has a lock graph of its own."""
     try:
         with limit.search():
             add_waits(run, number)
             graph = read_graph(run.work(f"{number}.window"))
     except Stopped as fault:
         return not_searched(run, number, str(fault))
-    window = not_searched(run, number, "")
+    return search_up(run, number, limit, graph)
+
+
+def search_up(run: Run, number: int, limit: Limit, graph: WindowGraph) -> Window:
+    """Searches with bound 2, then 3, up to the wanted one, or up to the longest ring of the lock graph, as long as the time permits. If that
+    takes too long, or the report would, the acquires that do not wait are left out of the search."""
+    window, path = not_searched(run, number, ""), run.window(number, "trace")
     notes: list[str] = []
     for bound in bounds_of(run, number, graph.longest):
         ways = [False] if notes or not graph.tries else [True] if graph.tries > MANY_TRIES else [False, True]
@@ -371,7 +382,9 @@ def search_up(run: Run, number: int, limit: Limit) -> Window:
 def check(run: Run, number: int, limit: Limit) -> None:
     """Writes N.rows, the results of the search. Removes the trace of a further window that adds no group to those before."""
     drop_part_of_line(run.window(number, "trace"))
-    window = search_up(run, number, limit)
+    window = search_window(run, number, limit)
+    if limit.is_over and limit.is_background:
+        return
     rows = run.work(f"{number}.rows")
     with open(f"{rows}.new", "w", encoding="ascii") as file:
         json.dump(asdict(window), file)
@@ -381,8 +394,9 @@ def check(run: Run, number: int, limit: Limit) -> None:
 
 
 def check_all(run: Run, first: int, last: int, seconds: float) -> None:
-    """Checks these windows. One without a result is checked again at the end of the run."""
+    """Checks these windows. One without a result is checked again at the end of the run: the search here ends when the run does."""
     limit = Limit(seconds)
+    limit.is_background = True
     for number in range(first, last + 1):
         limit.end = time.monotonic() + seconds
         with contextlib.suppress(OSError, ValueError, InputError, NoReport):
@@ -407,15 +421,20 @@ def window_of(content: Any) -> Window:
     return Window(found=found, **content)
 
 
+def result(run: Run, number: int, limit: Limit) -> Window:
+    """Returns the results of a window's search, which may have been before."""
+    if not os.path.exists(run.work(f"{number}.rows")):
+        check(run, number, limit)
+    with open(run.work(f"{number}.rows"), encoding="ascii") as file:
+        return window_of(json.load(file))
+
+
 def results(run: Run, windows: int, limit: Limit) -> Iterator[tuple[int, Window]]:
     """Yields the results of each window's search. One window without a result does not keep the others from having theirs."""
     faults = []
     for number in range(1, windows + 1):
         try:
-            if not os.path.exists(run.work(f"{number}.rows")):
-                check(run, number, limit)
-            with open(run.work(f"{number}.rows"), encoding="ascii") as file:
-                yield number, window_of(json.load(file))
+            yield number, result(run, number, limit)
         except (OSError, ValueError, InputError, NoReport) as fault:
             faults.append(fault)
             if len(faults) == windows:

@@ -179,12 +179,13 @@ def comments_for(event: "re.Match[str]", names: Names, seen: set[tuple[str, int]
             yield from names.comments_on(kind, whole)
 
 
-def name_lines_of(path: str, sites: Sites, names: Names) -> None:
+def name_lines_of(path: str, sites: Sites, names: Names, first: str = "") -> None:
     """Replaces the numbers of sites in a trace by their source lines, and adds the comments about its threads and locks: names, parts, and
-    the markers of acquires that do not wait or have a timeout (`# mark N`). If they cannot be written, the trace is unchanged."""
+    the markers of acquires that do not wait or have a timeout (`# mark N`). The trace gets this first line. If they cannot be written, the trace is unchanged."""
     known, seen = set[str](), set[tuple[str, int]]()
     try:
         with open(path, encoding="ascii") as old, open(f"{path}.new", "w", encoding="utf-8") as new:
+            new.write(f"{first}\n" if first else "")
             for line in old:
                 if line not in known and (match := EVENT.fullmatch(line)):
                     known.add(line)

@@ -1,33 +1,33 @@
-"""The log of the calls of a run, NAME.calls. agents/pthread/calls.h describes its first part, which the collector writes. After it come
-lines of text: `program PATH`, `file N BUILD-ID PATH`, and for each site `site N FILE OFFSET`, or for Python `line N FILE TEXT`."""
+"""The log of a run, NAME.calls. agents/pthread/calls.h describes its first part, which the collector writes. After it come lines of text:
+`program PATH`, `file N BUILD-ID PATH`, for each site `site N FILE OFFSET`, or for Python `line N FILE TEXT`, and `name N TEXT`."""
 import contextlib
 import hashlib
 import os
 import re
-import struct
 from array import array
 from collections.abc import Iterator
 from dataclasses import dataclass, field
 from typing import BinaryIO, NamedTuple, Optional
 
 from goodlock.agent.run import Run
-from goodlock.agent.sites import program_of, read_sites
+from goodlock.agent.sites import Sites, program_of
 from goodlock.errors import InputError
 from goodlock.reproduce.buildid import build_id_of
 
-MAGIC = b"goodcalls 1\n"
-ENTRY, MANY_ENTRIES = struct.Struct("<III"), 1 << 16
-EVENTS, WINDOW, CUT, END = 0, 250, 251, 252  # kinds of entries that are no calls
-MANY_MADE = 255
-WHY_CUT = {1: "the run is too long: its calls take more than --keep-log; record it with a larger --keep-log",
-           2: "the calls of the run could not be written: record it again on a disk with more room",
-           3: "the process ran calls of one program and then another one by exec: record that one alone",
-           4: "the run has more threads or code addresses than a log can have"}
+MAGIC = b"goodcalls 2\n"
+EVENT, OTHER, EXEC, CUT, END = 22, 28, 29, 30, 31  # kinds of entries that are no calls; EVENT and 5 more: events
+SAME_THREAD, SAME_OBJECT, SAME_SITE, KINDS = 32, 64, 128, 32
+LETTERS, MOST_NUMBER, LONGEST_ENTRY, CHUNK = "fjardw", 5, 16, 1 << 20
+LONG, UNWRITTEN, NO_LOG, BY_EXEC = 1, 2, 3, 9
+WHY_CUT = {LONG: "the run is too long: its log takes more than --keep-log; record it with a larger --keep-log",
+           UNWRITTEN: "the log of the run could not be written: record it again on a disk with more room",
+           BY_EXEC: "the process ran calls of one program and then another one by exec: record that one alone"}
 FORK, JOINED = 1, 7  # kinds of calls
 LONGEST_COMMAND, MOST_TEXT = 1 << 24, 1 << 28
 BUILD = re.compile(r"sha256:[0-9a-f]{64}|(?:[0-9a-f]{2}){1,32}")
 LINE = re.compile(r"(/.*?):[0-9]+ in .*")
 CALLER = re.compile(r"(/.*)\+0x([0-9a-f]{1,16})")
+NO_CALL = 0xFFFFFFFF
 
 
 class Place(NamedTuple):
@@ -42,46 +42,52 @@ class File(NamedTuple):
     build: str
 
 
-@dataclass
-class Window:
-    """The calls of a window: from `first` to the one before `end`. `opening` events come before those of its first call."""
-
-    first: int
-    end: int
-    opening: int
+def numbers() -> "array[int]":
+    return array("I")
 
 
 @dataclass
-class Log:
-    """The calls of a run in their order, one column for each of their parts. `made` has the number of events of each call, `before` that of
-    events of no call right before it."""
+class Events:
+    """The events of the whole run, one column for each of their parts. `calls`: the call of each event, or NO_CALL."""
 
-    name: str
-    command: list[str]
-    threads: "array[int]" = field(default_factory=lambda: array("I"))
-    kinds: "array[int]" = field(default_factory=lambda: array("B"))
-    objects: "array[int]" = field(default_factory=lambda: array("I"))
-    sites: "array[int]" = field(default_factory=lambda: array("I"))
-    made: "array[int]" = field(default_factory=lambda: array("I"))
-    before: dict[int, int] = field(default_factory=dict)
-    windows: list[Window] = field(default_factory=list)
-    program: str = ""
-    files: dict[int, File] = field(default_factory=dict)
-    places: dict[int, Place] = field(default_factory=dict)
-    lines: dict[int, str] = field(default_factory=dict)  # of a program in Python
-    cut: int = 0  # why the log is not whole
+    threads: "array[int]" = field(default_factory=numbers)
+    letters: bytearray = field(default_factory=bytearray)
+    targets: "array[int]" = field(default_factory=numbers)
+    sites: "array[int]" = field(default_factory=numbers)
+    calls: "array[int]" = field(default_factory=numbers)
 
     def __len__(self) -> int:
         return len(self.threads)
 
-    def first_places(self, window: Window) -> "array[int]":
-        """Returns for each call of a window the place of its first event in the trace of the window."""
-        places, place = array("Q"), window.opening
-        for at in range(window.first, window.end):
-            place += self.before.get(at, 0)
-            places.append(place)
-            place += self.made[at]
-        return places
+    def __iter__(self) -> Iterator[tuple[int, str, int]]:
+        return zip(self.threads, self.letters.decode("ascii"), self.targets)
+
+    def at(self, place: int) -> tuple[int, str, int]:
+        return self.threads[place], chr(self.letters[place]), self.targets[place]
+
+
+@dataclass
+class Log:
+    """The calls of a run in their order, one column for each of their parts. `firsts` has the place of the first event of each call, or of
+    the next event if it made none."""
+
+    name: str
+    command: list[str]
+    threads: "array[int]" = field(default_factory=numbers)
+    kinds: "array[int]" = field(default_factory=lambda: array("B"))
+    objects: "array[int]" = field(default_factory=numbers)
+    sites: "array[int]" = field(default_factory=numbers)
+    firsts: "array[int]" = field(default_factory=numbers)
+    events: Events = field(default_factory=Events)
+    program: str = ""
+    files: dict[int, File] = field(default_factory=dict)
+    places: dict[int, Place] = field(default_factory=dict)
+    lines: dict[int, str] = field(default_factory=dict)  # of a program in Python
+    names: dict[int, str] = field(default_factory=dict)  # source lines
+    cut: int = 0  # why the run cannot be followed, although it has a log
+
+    def __len__(self) -> int:
+        return len(self.threads)
 
 
 def command_of(name: str) -> Optional[list[str]]:
@@ -113,41 +119,76 @@ def read_log(name: str) -> Log:
     return log
 
 
+class Entries:
+    """Reads the entries of a log one after another."""
+
+    def __init__(self, name: str, file: BinaryIO) -> None:
+        self.name, self.file, self.data, self.at = name, file, b"", 0
+        self.thread, self.site, self.call_object, self.event_object = 0, 0, 0, 0
+
+    def number(self) -> int:
+        value = 0
+        for part in range(MOST_NUMBER):
+            byte = self.data[self.at]
+            self.at += 1
+            value |= (byte & 127) << 7 * part
+            if byte < 128:
+                break
+        if value > NO_CALL:
+            raise InputError(self.name, None, "the log has a number that no agent writes: record the program again")
+        return value
+
+    def next_kind(self) -> int:
+        """Reads an entry. Returns its kind."""
+        if len(self.data) - self.at < LONGEST_ENTRY:
+            self.data, self.at = self.data[self.at:] + self.file.read(CHUNK), 0
+        try:
+            byte = self.data[self.at]
+            self.at += 1
+            kind = byte % KINDS
+            if not byte & SAME_THREAD:
+                self.thread = self.number()
+            if not byte & SAME_OBJECT:
+                if kind < EVENT:
+                    self.call_object = self.number()
+                else:
+                    self.event_object = self.number()
+            if not byte & SAME_SITE:
+                self.site = self.number()
+        except IndexError:
+            raise InputError(self.name, None, "the log has no end: record the program again") from None
+        return kind
+
+
 def read_entries(log: Log, file: BinaryIO) -> bytes:
     """Reads the entries up to the last one. Returns what was read of the text after them."""
-    is_pending = False
-    while chunk := file.read(ENTRY.size * MANY_ENTRIES):
-        whole = len(chunk) - len(chunk) % ENTRY.size
-        for number, (first, about, last) in enumerate(ENTRY.iter_unpack(chunk[:whole]), 1):
-            kind = first >> 24
-            if kind in (CUT, END):
-                log.cut = about if kind == CUT else 0
-                end_window(log)
-                return chunk[number * ENTRY.size:]
-            if kind == WINDOW:
-                end_window(log)
-                log.windows.append(Window(len(log), len(log), about))
-            elif kind == EVENTS and is_pending:
-                log.made[-1] = about
-            elif kind == EVENTS:
-                log.before[len(log)] = log.before.get(len(log), 0) + about
-            else:
-                log.threads.append(first & 0xFFFFFF)
-                log.kinds.append(kind)
-                log.objects.append(about)
-                log.sites.append(last & 0xFFFFFF)
-                log.made.append(last >> 24)
-            is_pending = kind not in (EVENTS, WINDOW) and last >> 24 == MANY_MADE
-    raise InputError(log.name, None, "the log of calls has no end: record the program again")
-
-
-def end_window(log: Log) -> None:
-    if log.windows:
-        log.windows[-1].end = len(log)
+    entries, events, call = Entries(log.name, file), log.events, NO_CALL
+    while True:
+        kind = entries.next_kind()
+        if kind < EVENT:
+            call = len(log.threads)
+            log.threads.append(entries.thread)
+            log.kinds.append(kind)
+            log.objects.append(entries.call_object)
+            log.sites.append(entries.site)
+            log.firsts.append(len(events))
+        elif kind < OTHER:
+            events.threads.append(entries.thread)
+            events.letters.append(ord(LETTERS[kind - EVENT]))
+            events.targets.append(entries.event_object)
+            events.sites.append(entries.site)
+            events.calls.append(call)
+        elif kind == OTHER:
+            call = NO_CALL
+        elif kind == EXEC:
+            log.cut = BY_EXEC
+        else:
+            log.cut = entries.event_object if kind == CUT else log.cut
+            return entries.data[entries.at:]
 
 
 def take_text(log: Log, text: str) -> None:
-    for line in text.splitlines():
+    for line in filter(None, text.split("\n")):
         kind, _, rest = line.partition(" ")
         words = rest.split(" ", 2)
         if kind == "program":
@@ -159,6 +200,8 @@ def take_text(log: Log, text: str) -> None:
         elif kind == "line" and len(words) == 3 and words[0].isdecimal() and words[1].isdecimal():
             log.places[int(words[0])] = Place(int(words[1]), hash_of(words[2]))
             log.lines[int(words[0])] = words[2]
+        elif kind == "name" and len(words) > 1 and words[0].isdecimal():
+            log.names[int(words[0])] = rest.partition(" ")[2]
         else:
             raise InputError(log.name, None, "a line after the calls is not understood: record the program again")
 
@@ -175,18 +218,19 @@ def check_numbers(log: Log) -> None:
         raise InputError(log.name, None, "an object has a number that no call gave it: record the program again")
 
 
-def keep_log(run: Run, name: str, is_python: bool) -> None:
+def keep_log(run: Run, name: str, is_python: bool, sites: Sites) -> None:
     """Adds what is known of files and code addresses to the log of a run that has ended, and gives it this name. A log that cannot be
-    written is not kept, and none whose calls have no code addresses."""
+    written is not kept, nor one of a run whose command is not known, or whose calls have no code addresses."""
     path, pattern = run.work("calls"), LINE if is_python else CALLER
-    sites = {site: match for site, callers in read_sites(run.work("sites")).items() if callers and (match := pattern.fullmatch(callers[0]))}
-    if not sites:
+    found = {site: match for site, callers in sites.callers.items() if callers and (match := pattern.fullmatch(callers[0]))}
+    if not found or not command_of(path):
         return
     try:
         program = "" if is_python else program_of(run)
         with open(path, "r+b") as log:
             log.seek(0, os.SEEK_END)
-            log.writelines(f"{line}\n".encode("utf-8", "surrogateescape") for line in text_of(program, sites, is_python))
+            log.writelines(f"{line}\n".encode("utf-8", "surrogateescape") for line in text_of(program, found, is_python))
+            log.writelines(f"name {site} {sites.name(site)}\n".encode("utf-8", "surrogateescape") for site in sites.callers)
         os.chmod(path, os.stat(run.window(1, "trace")).st_mode & 0o777)
         os.replace(path, name)
     except OSError:

@@ -7,7 +7,7 @@ import shlex
 from collections.abc import Iterable, Iterator, Sequence
 from typing import Optional
 
-from goodlock.agent.run import say
+from goodlock.agent.run import ACROSS, say
 from goodlock.commandline import write_whole
 from goodlock.errors import InputError, OutputError
 from goodlock.program import ROOT
@@ -53,8 +53,7 @@ def reproduced_in(report: str) -> dict[tuple[int, ...], list[str]]:
 def command_for(trace: Optional[str], numbers: Sequence[int]) -> str:
     """Returns the command that reproduces a cycle of a trace; an empty text if the agent kept no log of the run."""
     name = trace.removesuffix(".trace") if trace and trace.endswith(".trace") else ""
-    base, _, window = name.rpartition(".")
-    words = command_of(f"{name}.calls") or (command_of(f"{base}.calls") if window.isdecimal() else None) if name else None
+    words = command_of(f"{name.removesuffix(ACROSS)}.calls") if name else None
     if words is None:
         return ""
     agent = "pthread"

@@ -70,9 +70,9 @@ class Outcome:
 
 def predicted_pairs(schedule: Schedule) -> list[Pair]:
     """Returns the code addresses where each member of the cycle holds what the one before it wants, and where it waits."""
-    index, members = schedule.run.index, schedule.cycle.members
-    return [Pair(schedule.site_text(index.since_of(place, members[at - 1].lock)), schedule.site_text(place))
-            for at, place in enumerate(schedule.instance)]
+    index, places, members = schedule.run.index, schedule.run.places, schedule.cycle.members
+    return [Pair(schedule.site_text(places[index.since_of(place, members[at - 1].lock)]), schedule.site_text(places[place]))
+            for at, place in enumerate(schedule.in_trace)]
 
 
 def read_outcome(run: Run) -> Optional[Outcome]:

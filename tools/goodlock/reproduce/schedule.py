@@ -11,13 +11,14 @@ from collections import defaultdict
 from collections.abc import Iterable, Sequence
 from dataclasses import dataclass
 from functools import cached_property
+from itertools import islice
 from typing import Optional
 
 from goodlock.errors import InputError
 from goodlock.groups import instance_of
 from goodlock.limits import ENDS_OF_THREADS, TRY_MARKERS, WAKE_UPS
 from goodlock.reports import Cycle
-from goodlock.reproduce.calls import FORK, JOINED, WHY_CUT, Log, Window
+from goodlock.reproduce.calls import FORK, JOINED, NO_CALL, WHY_CUT, Log
 from goodlock.traces import Event, Index
 
 MAGIC = 0x31646568637321
@@ -25,63 +26,59 @@ HEAD, LANE, CALL, SITE = struct.Struct("<Q14I"), struct.Struct("<7I4x"), struct.
 FILE, MEMBER = struct.Struct("<64s32sQ"), struct.Struct("<34I")
 FREE, HELD, REACH = 0, -1, -2
 MOST_LANES, MOST_HOLDS, MOST_NAME = 1024, 32, 63
-NO_CALL = 0xFFFFFFFF
+NO_PLACE = -1
 
 
 @dataclass
 class Recorded:
-    """A recorded run: its log, and the trace of one of its windows. `call_of` has the call of each event; NO_CALL: none."""
+    """A recorded run: its log, and a trace of events that the log has. `places` has the place in the run of each event of the trace, and
+    NO_PLACE for one that no call made."""
 
     log: Log
-    window: Window
     index: Index
-    call_of: "array[int]"
-    first_places: "array[int]"
+    places: Sequence[int]
+
+    def call_of(self, place: int) -> int:
+        """Returns the call of an event of the run, or NO_CALL; also for NO_PLACE."""
+        return NO_CALL if place == NO_PLACE else self.log.events.calls[place]
 
     def text_of(self, call: int) -> str:
-        """Returns what a call did, as its events say: `lock 2 at bank.c:35 in transfer`; else only what kind of call it is."""
-        at = call - self.window.first
-        if 0 <= at < len(self.first_places):
-            thread = self.log.threads[call]
-            first = self.first_places[at]
-            for place in range(first, first + self.log.made[call]):
-                event = self.index.events[place]
-                if event.letter in "arfj" and (event.thread == thread or thread == 0):
-                    where = f" at {event.where}" if event.where else ""
-                    return f"{'thread' if event.letter in 'fj' else 'lock'} {event.target}{where}"
+        """Returns what a call did, as its events say: `lock 2 at bank.c:35 in transfer`; else an empty text."""
+        log, events = self.log, self.log.events
+        for place in range(log.firsts[call], len(events)):
+            thread, letter, target = events.at(place)
+            if events.calls[place] != call:
+                break
+            if letter in "arfj" and thread == log.threads[call]:
+                where = log.names.get(events.sites[place])
+                return f"{'thread' if letter in 'fj' else 'lock'} {target}{f' at {where}' if where else ''}"
         return ""
 
-    def place_of(self, call: int) -> Optional[int]:
-        """Returns the place of the first event of a call, if it is in the window."""
-        at = call - self.window.first
-        return self.first_places[at] if 0 <= at < len(self.first_places) else None
+    def place_of(self, call: int) -> int:
+        """Returns the place of the first event of a call, or of the next one if it has none."""
+        return self.log.firsts[call]
 
 
-def recorded(log: Log, number: int, index: Index) -> Recorded:
-    """Returns the run with the trace of its window of this number. Raises `InputError` if they do not fit."""
+def recorded(log: Log, index: Index) -> Recorded:
+    """Returns the run with a trace of it. Raises `InputError` if they do not fit."""
     if log.cut:
-        raise InputError(log.name, None, WHY_CUT.get(log.cut, "the log of calls is not whole: record the program again"))
-    if number > len(log.windows):
-        raise InputError(log.name, None, f"there is no window {number}: record the program again")
-    window = log.windows[number - 1]
-    made = [place for place, event in enumerate(index.events) if not is_of_end(event)]  # by calls, or when the window began
-    firsts = log.first_places(window)
-    call_of = array("I", [NO_CALL]) * len(index)
-    end = window.opening
-    for at, first in enumerate(firsts):
-        end = first + log.made[window.first + at]
-        if end > len(made):
-            break
-        for place in made[first:end]:
-            call_of[place] = window.first + at
-    if end + log.before.get(window.end, 0) != len(made):
-        raise InputError(log.name, None, f"the trace has {len(made)} events, and the calls made {end}: it is of another run, or acquires that do "
-                                         "not wait were left out of it; such a run cannot be reproduced")
-    for place in range(len(index) - 2, -1, -1):  # the events of a thread that waits for an end are right before its join
-        event = index.events[place]
+        raise InputError(log.name, None, WHY_CUT.get(log.cut, "the log is not whole: record the program again"))
+    places = array("q", [NO_PLACE]) * len(index)
+    made = 0
+    for at, event in enumerate(index.events):
+        if is_of_end(event):
+            continue
+        place = index.origin(at).number if index.origins.begins else made
+        made += 1
+        if place >= len(log.events) or log.events.at(place) != event[:3]:
+            raise InputError(log.name, None, f"place {place} is another event in the trace: it is of another run, of a window that is not the "
+                                             "first one, or acquires that do not wait were left out of it; such a run cannot be reproduced")
+        places[at] = place
+    for at in range(len(index) - 2, -1, -1):  # the events of a thread that waits for an end are right before its join
+        event = index.events[at]
         if is_of_end(event) and event.target - ENDS_OF_THREADS != event.thread:
-            call_of[place] = call_of[place + 1]
-    return Recorded(log, window, index, call_of, array("Q", [made[first] if first < len(made) else len(index) for first in firsts]))
+            places[at] = places[at + 1]
+    return Recorded(log, index, places)
 
 
 def is_of_end(event: Event) -> bool:
@@ -89,7 +86,7 @@ def is_of_end(event: Event) -> bool:
     return event.letter in "ar" and ENDS_OF_THREADS <= event.target < TRY_MARKERS
 
 
-def places_before(events: Sequence[Event], reach: Iterable[int], witness: Sequence[int]) -> set[int]:
+def places_before(events: Iterable[tuple[int, str, int]], reach: Iterable[int], witness: Sequence[int]) -> set[int]:
     """Returns the places of the recorded order that can come before the deadlock, if those of the witness are among them, else those of the
     witness."""
     members = set(reach)
@@ -97,8 +94,7 @@ def places_before(events: Sequence[Event], reach: Iterable[int], witness: Sequen
     is_kept_write: dict[int, bool] = {}
     holder: dict[int, list[int]] = {}  # of a lock: its thread and how often it holds the lock
     kept: set[int] = set()
-    for place in range(max(members)):
-        thread, letter, target, _ = events[place]
+    for place, (thread, letter, target) in enumerate(islice(events, max(members))):
         is_left_out = (place in members or thread in stopped or letter == "a" and holder.get(target, [thread])[0] != thread
                        or letter == "j" and target in stopped or letter == "d" and not is_kept_write.get(target, True))
         if letter == "w":
@@ -122,7 +118,9 @@ class Schedule:
 
     def __init__(self, run: Recorded, cycle: Cycle, pause: int = 0, is_early: bool = False) -> None:
         self.run, self.cycle, self.pause, self.is_early = run, cycle, pause, is_early
-        self.instance = instance_of(run.index, cycle.members)
+        self.in_trace = instance_of(run.index, cycle.members)
+        self.instance = [run.places[place] for place in self.in_trace]
+        self.witness = [run.places[place] for place in cycle.witness if run.places[place] != NO_PLACE]
         self.parents = self.find_parents()
         self.lanes: dict[int, list[int]] = defaultdict(list)
         self.turn_of: dict[int, int] = {}
@@ -147,13 +145,13 @@ class Schedule:
         return thread == 0 or thread in self.parents
 
     def find_order(self) -> None:
-        run, log, witness = self.run, self.run.log, self.cycle.witness
-        self.reach = {run.call_of[place] for place in self.instance}
-        self.hard = {run.call_of[place] for place in witness} - self.reach - {NO_CALL}
-        places = places_before(run.index.events, self.instance, witness)
-        partly = {run.call_of[place] for place in range(len(run.call_of)) if place not in places}
-        whole = {run.call_of[place] for place in places} - partly
-        order = (self.hard | whole | set(range(run.window.first))) - self.reach - {NO_CALL}
+        log, calls = self.run.log, self.run.log.events.calls
+        self.reach = {calls[place] for place in self.instance}
+        self.hard = {calls[place] for place in self.witness} - self.reach - {NO_CALL}
+        places = places_before(log.events, self.instance, self.witness)
+        partly = {call for place, call in enumerate(calls) if place not in places}
+        whole = {calls[place] for place in places} - partly
+        order = (self.hard | whole) - self.reach - {NO_CALL}
         followed = [at for at in sorted(order) if at in self.hard or self.can_be_followed(log.threads[at])]
         self.turn_of = {at: number for number, at in enumerate(followed, 1)}
         for at, thread in enumerate(log.threads):
@@ -162,13 +160,13 @@ class Schedule:
     def check(self) -> None:
         """Raises `InputError` if no run can follow this schedule."""
         run, log = self.run, self.run.log
-        if any(WAKE_UPS <= run.index.events[place].target < TRY_MARKERS for place in self.instance):
+        if any(WAKE_UPS <= run.index.events[place].target < TRY_MARKERS for place in self.in_trace):
             raise InputError(log.name, None, "a member waits on a condition, and is not in a lock: such a deadlock cannot be reproduced")
         if max([*log.threads, *self.parents], default=0) >= MOST_LANES:
             raise InputError(log.name, None, f"the run has more than {MOST_LANES:,} threads")
-        calls = self.hard | self.reach if not self.pause else {run.call_of[place] for place in self.instance}
+        calls = self.hard | self.reach if not self.pause else {run.call_of(place) for place in self.instance}
         if NO_CALL in calls:
-            raise InputError(log.name, None, "an acquire of the cycle is of no call: a thread held it when its window began")
+            raise InputError(log.name, None, "an acquire of the cycle is of no call: such a run cannot be reproduced")
         for call in calls:
             if not self.can_be_followed(log.threads[call]):
                 raise InputError(log.name, None, f"thread {log.threads[call]} was started in a way that is not seen, so it cannot be followed")
@@ -186,7 +184,7 @@ class Schedule:
 
     def site_text(self, place: int) -> str:
         """Returns the code address of an event's call: `bank+0x11a7`."""
-        log, call = self.run.log, self.run.call_of[place]
+        log, call = self.run.log, self.run.call_of(place)
         site = log.sites[call] if call != NO_CALL else 0
         found = log.places.get(site)
         return log.lines.get(site) or (address_text(log.files[found.file].path, found.offset) if found else "?")
@@ -201,7 +199,7 @@ class Schedule:
         owners += [0] * (len(owners) % 2)
         sites = SITE.pack(0, 0, 0) + b"".join(SITE.pack(place.offset, numbers[place.file], 1) for place in log.places.values())
         files = b"".join(pack_file(file.path, file.build) for file in log.files.values())
-        members = b"".join(self.pack_member(place) for place in self.instance)
+        members = b"".join(self.pack_member(place) for place in self.in_trace)
         counts = [len(lanes) // LANE.size, len(calls) // CALL.size, len(self.turn_of), len(sites) // SITE.size, len(log.files),
                   len(self.instance), 0 if self.pause else self.most_object(), self.pause, int(self.is_early)]
         head = HEAD.pack(MAGIC, *counts, *[0] * 5)
@@ -214,7 +212,7 @@ class Schedule:
 
     def site_number(self, place: int) -> int:
         """Returns the number of the site of an event's call."""
-        call = self.run.call_of[place]
+        call = self.run.call_of(place)
         return 0 if call == NO_CALL else self.site_numbers.get(self.run.log.sites[call], 0)
 
     def most_object(self) -> int:
@@ -235,9 +233,10 @@ class Schedule:
         return bytes(lanes), bytes(calls)
 
     def pack_member(self, place: int) -> bytes:
-        holds = [self.site_number(since) for since in self.run.index.since.get(place, ())][:MOST_HOLDS]
-        wait = self.site_number(place)
-        return MEMBER.pack(wait, len(holds), *holds, *[0] * (MOST_HOLDS - len(holds)))
+        """Returns the sites of a member whose acquire is at a place of the trace."""
+        places = self.run.places
+        holds = [self.site_number(places[since]) for since in self.run.index.since.get(place, ())][:MOST_HOLDS]
+        return MEMBER.pack(self.site_number(places[place]), len(holds), *holds, *[0] * (MOST_HOLDS - len(holds)))
 
 
 def pack_file(path: str, build: str) -> bytes:
