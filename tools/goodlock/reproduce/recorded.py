@@ -14,7 +14,6 @@ from goodlock.reproduce.schedule import Schedule, recorded
 from goodlock.traces import Index, read_trace
 
 
-
 class FoundCycle(NamedTuple):
     """The schedule of a cycle, and the report that has it."""
 
