@@ -8,3 +8,4 @@ pub mod Remaining
 pub mod DistanceLemmas
 pub mod Collecting
 pub mod Keeping
+pub mod ThreadKeys

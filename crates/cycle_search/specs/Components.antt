@@ -5,10 +5,11 @@ use Rattle.trace_model.specs.Theory.Dependencies.{Dependency}
 use Rattle.cycle_search.specs.declared.components.Components.{Components}
 use Rattle.cycle_search.specs.LockNumbers.{AreLockNumbers}
 use Rattle.cycle_search.specs.Acquirers.{AreAcquirers}
+use Rattle.cycle_search.specs.ComponentThreads.{AreComponentThreads}
 
 -- A component number for each dependency, which does not decrease from a dependency to one that
--- holds its lock, and is less unless that one is cyclic; and for each lock the dependencies that
--- acquire it.
+-- holds its lock, and is less unless that one is cyclic; the threads of each component; and for
+-- each lock the dependencies that acquire it.
 pub record AreComponents (ds : List Dependency) (components : Components) : Type 0 where
   pub each : length components.numbers.items ≡ length ds
   pub ascend : (m n : ℕ) (a b : Dependency) → slice_get ds m ≡ Some a → slice_get ds n ≡ Some b →
@@ -21,3 +22,4 @@ pub record AreComponents (ds : List Dependency) (components : Components) : Type
       slice_get components.cyclic.items n ≡ Some true
   pub numbered : AreLockNumbers ds components.locks.positions.items
   pub acquirers : AreAcquirers ds components.acquirers
+  pub threads : AreComponentThreads ds components.numbers.items components.threads

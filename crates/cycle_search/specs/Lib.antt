@@ -1,6 +1,7 @@
 pub mod CycleSearch
 pub mod LockNumbers
 pub mod Edges
+pub mod ComponentThreads
 pub mod Components
 pub mod SearchInput
 pub mod Acquirers

@@ -76,7 +76,7 @@ impl Acquirers {
 }
 
 /// Returns the key of a lock and a number.
-fn key(lock: u32, number: u32) -> u64
+pub(crate) fn key(lock: u32, number: u32) -> u64
     ensures { result ≡ key_of lock number }
 {
     u64::from(lock) * 4_294_967_296 + u64::from(number)

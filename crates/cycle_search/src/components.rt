@@ -1,16 +1,19 @@
 //! The component of each dependency, by which a search is pruned.
 
-ghost use Rattle.std.specs.Prelude.{◌≡◌, ◌<◌, ℕ, List, length, nat_eq, slice_get, slice_index, Some, false, IfOk, IsTrue};
-ghost use Rattle.std.specs.List.{All};
+ghost use Rattle.std.specs.Prelude.{◌≡◌, ◌<◌, ◌≤◌, ℕ, List, length, nat_eq, slice_get, slice_index, Some, false, IfOk, IsTrue};
+ghost use Rattle.std.specs.List.{All, Contains};
+ghost use Rattle.std.specs.List.Sorted.{IsNonDecreasing};
 ghost use Rattle.dependencies.specs.Tables.{table_dependencies};
 ghost use Rattle.lock_graph.specs.Graph.{HasGraphOf};
 ghost use Rattle.trace_model.specs.Theory.Cycles.{IsCycle};
 ghost use Rattle.trace_model.specs.Theory.Dependencies.{Dependency};
+ghost use Rattle.cycle_search.specs.ComponentThreads.{AreDistinct, HasComponentThread};
 ghost use Rattle.cycle_search.specs.Components.{AreComponents};
 ghost use Rattle.cycle_search.specs.Edges.{FallAtMost};
 ghost use Rattle.cycle_search.specs.LockNumbers.{AreLockNumbers};
 
 use crate::acquirers::Acquirers;
+use crate::component_threads::ComponentThreads;
 use crate::edges::{fall_at_most, same_along_edge};
 use crate::lock_numbers::LockNumbers;
 use crate::tarjan::lock_components;
@@ -25,12 +28,14 @@ use trace_model::NoMemory;
 /// Each dependency has the number of its lock's component. The number never decreases from a
 /// dependency to one that holds its lock, so all members of a cycle have the same number. The
 /// search skips dependencies of other components. It looks up the last member of a cycle in the
-/// index.
+/// index. The members of a cycle have different threads, so it has at most as many members as its
+/// component has threads.
 ///
 /// A dependency is cyclic if it holds a lock of its own component. Each member of a cycle is.
 pub struct Components {
     numbers: Vec<u32>,
     cyclic: Vec<bool>,
+    threads: ComponentThreads,
     acquirers: Acquirers,
     locks: LockNumbers,
 }
@@ -40,6 +45,7 @@ impl Drop for Components {
         let Components {
             numbers: _,
             cyclic: _,
+            threads: _,
             acquirers: _,
             locks: _,
         } = self;
@@ -49,8 +55,8 @@ impl Drop for Components {
 impl Components {
     /// Computes the components of the dependencies of `table`. `graph` must contain their edges; it
     /// may contain edges of later dependencies, which are ignored. Takes time in proportion to the
-    /// number of locks that the dependencies hold, and to sort the dependencies. Keeps 21 bytes for
-    /// each dependency. Hashes the lock of each dependency once.
+    /// number of locks that the dependencies hold, and to sort the dependencies. Keeps at most 29
+    /// bytes for each dependency. Hashes the lock of each dependency once.
     ///
     /// # Errors
     /// `NoMemory` if an allocation fails.
@@ -63,10 +69,12 @@ impl Components {
         let found = component_numbers(alloc, table, graph, &locks)?;
         let numbers = topological_or_one(alloc, table, graph, &locks, found)?;
         let cyclic = same_along_edge(alloc, table, graph, &locks, &numbers)?;
+        let threads = ComponentThreads::new(alloc, table, &numbers)?;
         let acquirers = Acquirers::new(alloc, table)?;
         Ok(Components {
             numbers,
             cyclic,
+            threads,
             acquirers,
             locks,
         })
@@ -104,6 +112,19 @@ impl Components {
             (slice_index self.now.numbers.items second) }
     {
         self.numbers[first as usize] == self.numbers[second as usize]
+    }
+
+    /// Returns the number of threads of the component of the dependency `number`. A cycle has at
+    /// most one member of each. Does not allocate.
+    pub(crate) fn thread_count(&self, number: u32) -> usize
+        requires number { number < length self.now.numbers.items }
+        requires ascends { IsNonDecreasing self.now.threads.keys.items }
+        ensures { (threads : List ℕ) → AreDistinct threads →
+            ((thread : ℕ) → Contains threads thread →
+            HasComponentThread self.now.threads (slice_index self.now.numbers.items number) thread) →
+            length threads ≤ result }
+    {
+        self.threads.count(self.numbers[number as usize])
     }
 
     /// Returns the index from locks to the dependencies that acquire them.

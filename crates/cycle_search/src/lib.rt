@@ -12,6 +12,7 @@
 mod acquirers;
 mod ascending;
 mod collector;
+mod component_threads;
 mod components;
 mod costs;
 mod distances;

@@ -4,7 +4,7 @@
 //! acquires. A path grows by one successor at a time. It is a cycle if its first member holds the
 //! lock that its last member acquires.
 
-ghost use Rattle.std.specs.Prelude.{◌≡◌, ◌<◌, ◌≤◌, ◌↔◌, ◌+◌, ◌++◌, ◌∷◌, [], slice_index, length, IsTrue, IfOk, OnOk, Err};
+ghost use Rattle.std.specs.Prelude.{◌≡◌, ◌<◌, ◌≤◌, ◌↔◌, ◌+◌, ◌++◌, ◌∷◌, [], ℕ, List, slice_index, length, IsTrue, IfOk, OnOk, Err};
 ghost use Rattle.trace_model.specs.declared.limits.TheConstants.{MAX_CYCLES};
 ghost use Rattle.trace_model.specs.Theory.Cycles.{AreCyclesFrom};
 ghost use Rattle.guards.specs.Compatible.{IsCompatible};
@@ -112,16 +112,33 @@ pub fn collect_cycles<C: Collector<Cycle>>(
     if !search_input.components.is_cyclic(root) {
         return Ok(Ok(()));
     }
+    let members = most_members(search_input, root, bound);
+    if members < 2 {
+        return Ok(Ok(()));
+    }
     let mut path = Path::new();
     path.push(root);
-    let distances = distances_of(alloc, search_input, &path, bound)?;
+    let distances = distances_of(alloc, search_input, &path, members)?;
     let search = CycleSearch {
         search_input,
         distances: &distances,
-        members: bound.get() as usize,
+        members,
         successors: closing_visits(search_input, root),
     };
     Ok(extend(&search, &mut path, collector))
+}
+
+/// Returns the most members that a cycle of `root` up to the bound can have: no more than its
+/// component has threads.
+fn most_members(search_input: &SearchInput<'_>, root: u32, bound: Bound) -> usize
+    requires { root < length search_input.now }
+    ensures within { result ≤ bound }
+    ensures eight { result ≤ 8 }
+    ensures all { (numbers : List ℕ) → CycleFrom search_input.now bound root numbers →
+        length numbers ≤ result }
+{
+    let threads = search_input.components.thread_count(root);
+    threads.min(bound.get() as usize)
 }
 
 /// Returns the distances to the path's one member if a search from it is long, else an empty list.
@@ -129,17 +146,22 @@ fn distances_of(
     alloc: Global,
     search_input: &SearchInput<'_>,
     path: &Path,
-    bound: Bound,
+    members: usize,
 ) -> Result<Vec<u32>, NoMemory>
-    requires { IsPath search_input.now path.now.items }
+    requires path { IsPath search_input.now path.now.items }
+    requires members { members ≤ 8 }
     ensures { IfOk result (λ distances. AreDistances search_input.now (slice_index path.now.items 0)
         distances.items) }
 {
-    if !is_long(search_input, path, bound.get() as usize) {
+    if !is_long(search_input, path, members) {
         return Ok(Vec::new(alloc));
     }
-    let most = u32::from(bound.get()).saturating_sub(1);
-    distances_to(alloc, search_input, path[0], most)
+    distances_to(
+        alloc,
+        search_input,
+        path[0],
+        members.saturating_sub(1) as u32,
+    )
 }
 
 /// Gives to the collector all cycles that begin with the path and have more members.
