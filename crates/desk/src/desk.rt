@@ -235,7 +235,8 @@ impl<N: HistoryId, R: Wait + Copy, T: BoardValue<N>> Desk<N, R, T> {
         self.locked.lock(&self.rt).deliver_all(findings)
     }
 
-    /// Returns the report of a question if all its tasks are delivered, else how many are.
+    /// Returns the report of a question if all its tasks are delivered, else how many are. The
+    /// lock is held until the rows are shared; the report is printed after it.
     ///
     /// # Errors
     ///
@@ -252,7 +253,11 @@ impl<N: HistoryId, R: Wait + Copy, T: BoardValue<N>> Desk<N, R, T> {
             (Refused (answer_refusal refused)))) }
         ensures legal { IsLegal result.1 }
     {
-        self.locked.lock(&self.rt).answer(question)
+        let (shared, receipt) = self.locked.lock(&self.rt).share_answer(question);
+        match shared {
+            Ok(shared) => (shared.print(self.alloc, question), receipt),
+            Err(refused) => (Err(refused), receipt),
+        }
     }
 
     /// Returns a snapshot of exactly the events that the question covers.

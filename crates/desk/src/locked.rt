@@ -4,13 +4,13 @@ ghost use Rattle.std.specs.Prelude.{◌≡◌, ◌<◌, [], ◌∷◌, ◌++◌,
 ghost use Rattle.std.specs.Arc.{arc_value};
 ghost use Rattle.std.specs.Result.{result_err};
 ghost use Rattle.trace_model.specs.Protocol.Batches.{IsBatch};
-ghost use Rattle.trace_model.specs.Protocol.Machine.{opening, step};
+ghost use Rattle.trace_model.specs.Protocol.Machine.{answer, opening, step};
 ghost use Rattle.trace_model.specs.Protocol.Runs.{IsLegal};
 ghost use Rattle.trace_model.specs.declared.messages.step.BoardStep.TheVariants as steps;
 ghost use Rattle.trace_model.specs.declared.messages.session.Request.TheVariants as requests;
 ghost use Rattle.trace_model.specs.declared.messages.session.Reply.TheVariants.{Placed, Refused};
 ghost use Rattle.sequencer.specs.Batched.{IsBatched};
-ghost use Rattle.sequencer.specs.Book.{IsBookLimit, Refuses, RefusesSnapshot, answer_refusal, answer_reply, ask_refusal, finding_refused, opened_reply};
+ghost use Rattle.sequencer.specs.Book.{IsBookLimit, Refuses, RefusesAnswer, RefusesSnapshot, answer_refusal, answer_reply, ask_refusal, finding_refused, opened_reply, shared_reply};
 ghost use Rattle.sequencer.specs.Printing.{report_printer};
 ghost use Rattle.board.specs.Totals.{Shows};
 ghost use Rattle.desk.specs.Batches.{accept_steps};
@@ -28,6 +28,7 @@ use findings::{Finding, Snapshot};
 use reports::confirmed_in;
 use sequencer::{
     Answer, AnswerRefused, AskRefused, Batched, Book, Delivered, NoSuchQuestion, Opened,
+    SharedAnswer,
 };
 use std::alloc::Global;
 use std::hash::RandomState;
@@ -316,7 +317,7 @@ impl<N: HistoryId, R: Wait + Copy, T: BoardValue<N>> Locked<N, R, T> {
     }
 
     /// Returns the report of a question if all its tasks are delivered, else how many are. Nothing
-    /// changes.
+    /// changes. Part of the public API; the program calls `share_answer`.
     ///
     /// # Errors
     ///
@@ -334,6 +335,28 @@ impl<N: HistoryId, R: Wait + Copy, T: BoardValue<N>> Locked<N, R, T> {
         ensures legal { IsLegal self.new.published }
     {
         (self.book.answer(question), self.board.receipt())
+    }
+
+    /// Returns what the answer to a question is made of, without printing its report. Nothing
+    /// changes.
+    ///
+    /// # Errors
+    ///
+    /// The machine's refusal, or `NoMemory` if the machine answers but an allocation fails.
+    pub fn share_answer(
+        &mut self,
+        question: u32,
+    ) -> (Result<SharedAnswer, AnswerRefused>, Receipt<N>)
+        ensures before { After N.limit self.old.published self.old.state }
+        ensures shared { IfOk result.0
+            (λ shared. answer report_printer self.old.state question ≡
+            shared_reply question shared) }
+        ensures refused { IfErr result.0 (RefusesAnswer self.old.state question) }
+        ensures same { self.new ≡ self.old }
+        ensures receipt { result.1 ≡ self.new.published }
+        ensures legal { IsLegal self.new.published }
+    {
+        (self.book.share_answer(question), self.board.receipt())
     }
 
     /// Returns a receipt for all published steps.

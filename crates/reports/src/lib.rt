@@ -18,5 +18,5 @@ mod write;
 
 pub use buffer::TextBuffer;
 pub use measure::confirmed_in;
-pub use report::{TextRefused, head_text, report_text};
+pub use report::{TextRefused, head_text, is_too_long, report_text};
 pub use row::{Found, Row};

@@ -1,6 +1,6 @@
 //! The text of a report.
 
-ghost use Rattle.std.specs.Prelude.{◌≡◌, ℕ, ◌<◌, ◌≤◌, ◌+◌, ◌↔◌, ◌++◌, ◌^◌, length, flat_map, IfOk, IsErrOf, MatchResult};
+ghost use Rattle.std.specs.Prelude.{◌≡◌, ℕ, ◌<◌, ◌≤◌, ◌+◌, ◌↔◌, ◌++◌, ◌^◌, length, flat_map, IfOk, IsErrOf, IsTrue, MatchResult};
 ghost use Rattle.trace_model.specs.declared.limits.TheConstants.{MAX_REPORT};
 ghost use Rattle.reports.specs.Text.{report, about, counts, row_text, IsPlan};
 
@@ -75,6 +75,14 @@ fn plan_of(question: u32, events: u32, bound: u8, tasks: &[Vec<Row>]) -> Result<
         cycles,
         confirmed,
     })
+}
+
+/// Returns whether the report has more than `MAX_REPORT` bytes. Does not allocate.
+pub fn is_too_long(question: u32, events: u32, bound: Bound, tasks: &[Vec<Row>]) -> bool
+    ensures { IsTrue result ↔ (MAX_REPORT < length (report question events bound
+        (flat_map (λ task. task.items) tasks.now))) }
+{
+    plan_of(question, events, bound.get(), tasks).is_err()
 }
 
 /// Returns the text of the report for question `question` with this bound on the first `events`

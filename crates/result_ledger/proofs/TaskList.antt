@@ -1,8 +1,8 @@
 -- The tasks by their marks.
-use Rattle.std.proofs.Common.{◌≡◌, ℕ, zero, suc, ◌+◌, ◌^◌, inl, inr, replicate, ◌<◌, ◌≤◌, Bool, true, false, List, [], ◌∷◌, ◌++◌, length, get_or, map, nat_lt, slice_get, slice_set, Option, Some, None, is_some, count_by, refl, sym, ap, ◌∙◌, subst, cond, arith, add-one}
+use Rattle.std.proofs.Common.{◌≡◌, ℕ, zero, suc, ◌+◌, ◌^◌, inl, inr, replicate, ◌<◌, ◌≤◌, Bool, true, false, List, [], ◌∷◌, ◌++◌, length, get_or, map, nat_lt, slice_get, slice_set, Option, Some, None, is_some, IsSome, Result, Ok, Err, OnErr, count_by, refl, sym, ap, ◌∙◌, subst, cond, arith, add-one}
 use Rattle.std.proofs.lemmas.List.Sums.{sum_by-cons}
 use Rattle.std.proofs.lemmas.List.Folds.{sum_by-replicate}
-use Rattle.std.proofs.lemmas.Bool.{cases_lt}
+use Rattle.std.proofs.lemmas.Bool.{cases_lt, false≢true}
 use Rattle.std.proofs.lemmas.Bool.Decides.{nat_tests}
 use Rattle.std.proofs.lemmas.Option.{slice_get-get_or, slice_get_past, slice_get_read, slice_get_within}
 use Rattle.std.specs.Prelude.{option_copied}
@@ -12,7 +12,10 @@ use Rattle.std.proofs.lemmas.List.{length-map, length-replicate}
 use Rattle.std.proofs.Math.ListN.{length-set}
 use Rattle.std.proofs.Math.Nat.{mul-zero}
 use Rattle.reports.specs.Printed.{PrintedRow}
-use Rattle.result_ledger.specs.Inside.{task_of, tasks_of, IsInOrder}
+use Rattle.std.specs.Prelude.{Vec}
+use Rattle.std.specs.declared.alloc.Global.{Global}
+use Rattle.std.specs.declared.sync.Arc.{Arc}
+use Rattle.result_ledger.specs.Inside.{task_of, tasks_of, row_lists, current_rows, IsInOrder, IsLedger}
 use Rattle.result_ledger.specs.Tasks.{IsMissing, IsLeastMissing}
 
 pub task_of_mark : (ms : List Bool) (rs : List (List PrintedRow)) (k : ℕ) (m : Bool) → length ms ≡ length rs → slice_get ms k ≡ Some m →
@@ -162,3 +165,54 @@ copied_of ms k None h = sym (slice_get_past ms k (not_below k (length ms) h.0))
     not_below : (a b : ℕ) → false ≡ nat_lt a b → b ≤ a
     not_below a b e = grind (arith, nat_tests)
 copied_of ms k (Some mark) h = sym (slice_get_read ms (length ms) k mark.now refl h.3.0 h.1)
+
+-- The tasks once all are delivered.
+pub settled_tasks : (ms : List Bool) (rows : List (Vec PrintedRow Global)) (n m : ℕ) → IsInOrder ms (row_lists rows) n m → length ms ≤ m →
+    tasks_of ms (row_lists rows) ≡ map (λ task. Some task.items) rows
+settled_tasks ms rows n m order l =
+    all_delivered (λ task. task.items) ms rows (order.long ∙ length-map rows (λ task. task.items)) (λ k inside. order.before k (omega arith))
+
+-- While a task is missing, no rows are shared.
+pub not_shared : {S : Type 0} (ms : List Bool) (rs : List (List PrintedRow)) (n m task : ℕ) (shared : Option S) → IsInOrder ms rs n m → (IsSome shared → m ≡ length ms) →
+    slice_get ms task ≡ Some false → shared ≡ None
+not_shared ms rs n m task None order whole off = refl
+not_shared ms rs n m task (Some s) order whole off =
+    absurd (clash (slice_get ms task) (order.before task (omega (arith, whole refl, slice_get_within ms task false off))) off)
+
+-- So then the rows are the ledger's own, and the task has no mark.
+pub own_rows : (ms : List Bool) (own : List (Vec PrintedRow Global)) (shared : Option (Arc (Vec (Vec PrintedRow Global) Global) Global)) (n m task : ℕ) → IsLedger ms own shared n m →
+    IsMissing (tasks_of ms (current_rows own shared)) task → (current_rows own shared ≡ row_lists own) × IsInOrder ms (row_lists own) n m × (slice_get ms task ≡ Some false)
+own_rows ms own shared n m task are missing =
+    let off = unmarked ms (current_rows own shared) task are.order.long missing in
+    let same = ap (current_rows own) (not_shared ms (current_rows own shared) n m task shared are.order are.whole off) in
+    (same, subst (λ rs. IsInOrder ms rs n m) same are.order, off)
+
+-- One more task is delivered.
+pub marked_ledger : (ms : List Bool) (own : List (Vec PrintedRow Global)) (shared : Option (Arc (Vec (Vec PrintedRow Global) Global) Global)) (n m i last : ℕ) (r : Vec PrintedRow Global)
+    (now : List Bool) → IsLedger ms own shared n m → IsMissing (tasks_of ms (current_rows own shared)) i →
+    now ≡ slice_set ms i true → (m ≤ last) × (last ≤ length now) → ((k : ℕ) → m ≤ k → k < last → slice_get now k ≡ Some true) →
+    (last < length now → slice_get now last ≡ Some false) → IsLedger (slice_set ms i true) (slice_set own i r) shared (n + 1) last
+marked_ledger ms own shared n m i last r now are missing e within before first =
+    let rows = own_rows ms own shared n m i are missing in
+    let none = not_shared ms (current_rows own shared) n m i shared are.order are.whole rows.2 in
+    let order = marked_at (λ task. task.items) ms own n m i last r now rows.1 rows.2 e within before first in
+    record {
+      order = subst (λ s. IsInOrder (slice_set ms i true) (current_rows (slice_set own i r) s) (n + 1) last) (sym none) order;
+      whole = λ some. absurd (false≢true (ap is_some (sym none) ∙ some));
+    }
+
+-- The tasks with these rows.
+pub ledger_with : (ms : List Bool) (own : List (Vec PrintedRow Global)) (shared : Option (Arc (Vec (Vec PrintedRow Global) Global) Global)) (n m i : ℕ) (r : Vec PrintedRow Global) →
+    IsLedger ms own shared n m → IsMissing (tasks_of ms (current_rows own shared)) i →
+    tasks_of (slice_set ms i true) (current_rows (slice_set own i r) shared) ≡ slice_set (tasks_of ms (current_rows own shared)) i (Some r.items)
+ledger_with ms own shared n m i r are missing =
+    let rows = own_rows ms own shared n m i are missing in
+    let none = not_shared ms (current_rows own shared) n m i shared are.order are.whole rows.2 in
+    ap (λ s. tasks_of (slice_set ms i true) (current_rows (slice_set own i r) s)) none
+    ∙ (tasks_more (λ task. task.items) ms own i r (rows.1.long ∙ length-map own (λ task. task.items))
+    ∙ ap (λ rs. slice_set (tasks_of ms rs) i (Some r.items)) (sym rows.0))
+
+-- A fact holds of a refusal too.
+pub if_refused : {X Y : Type 0} {P : Type 0} (result : Result X Y) → P → OnErr result P
+if_refused (Ok x) fact = tt
+if_refused (Err y) fact = fact

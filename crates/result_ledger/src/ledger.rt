@@ -1,10 +1,12 @@
 //! A ledger of delivered tasks.
 
-ghost use Rattle.std.specs.Prelude.{◌≡◌, ℕ, ◌<◌, ◌≤◌, ◌^◌, Some, None, replicate, length, map, slice_get, slice_set, is_some, count_by, true, false, IfOk, MatchResult, MatchOption};
+ghost use Rattle.std.specs.Prelude.{◌≡◌, ℕ, ◌<◌, ◌≤◌, ◌^◌, Some, None, replicate, length, map, slice_get, slice_set, is_some, count_by, true, false, IfOk, OnErr, MatchResult, MatchOption};
 
 use reports::Row;
-use std::alloc::Global;
+use std::alloc::{AllocError, Global};
 use std::marker::Model;
+use std::mem;
+use std::sync::Arc;
 use thiserror::Error;
 use trace_model::NoMemory;
 
@@ -19,11 +21,16 @@ pub enum LedgerRefused {
     Double,
 }
 
+/// The rows of all tasks of a question, in the order of the tasks, which others may share.
+pub type SharedTasks = Arc<Vec<Vec<Row>>, Global>;
+
 /// The tasks of a question, numbered from 0, with the rows of those that are delivered. Only `open`
-/// allocates.
+/// and `share` allocate.
 pub struct Ledger {
-    /// The rows of each task; empty if it is not delivered.
+    /// The rows of each task; empty if it is not delivered. Not used once the rows are shared.
     rows: Vec<Vec<Row>>,
+    /// The rows of each task, once they are shared. Then all tasks are delivered.
+    shared: Option<SharedTasks>,
     /// Whether each task is delivered.
     marks: Vec<bool>,
     /// The number of delivered tasks.
@@ -36,6 +43,7 @@ impl Drop for Ledger {
     fn drop(self) {
         let Ledger {
             rows: _,
+            shared: _,
             marks: _,
             delivered: _,
             missing: _,
@@ -44,20 +52,19 @@ impl Drop for Ledger {
 }
 
 impl Model for Ledger {
-    ghost use Rattle.std.specs.Prelude.{List, Option, map};
+    ghost use Rattle.std.specs.Prelude.{List, Option};
     ghost use Rattle.reports.specs.Printed.{PrintedRow};
-    ghost use Rattle.result_ledger.specs.Inside.{IsInOrder, tasks_of};
+    ghost use Rattle.result_ledger.specs.Inside.{IsLedger, current_rows, tasks_of};
 
     ghost Value = { List (Option (List PrintedRow)) };
 
-    ghost view = { λ l. tasks_of l.marks.items (map (λ rows. rows.items) l.rows.items) };
+    ghost view = { λ l. tasks_of l.marks.items (current_rows l.rows.items l.shared) };
 
-    ghost invariant = { λ l. IsInOrder l.marks.items
-        (map (λ rows. rows.items) l.rows.items) l.delivered l.missing };
+    ghost invariant = { λ l. IsLedger l.marks.items l.rows.items l.shared l.delivered l.missing };
 }
 
 impl Ledger {
-    ghost use Rattle.result_ledger.specs.Tasks.{IsMissing, IsLeastMissing, IsLedgerRefusal};
+    ghost use Rattle.result_ledger.specs.Tasks.{AreShared, IsMissing, IsLeastMissing, IsLedgerRefusal};
 
     /// Returns a ledger of `total` tasks, none of them delivered.
     ///
@@ -74,6 +81,7 @@ impl Ledger {
         }
         Ok(Ledger {
             rows,
+            shared: None,
             marks,
             delivered: 0,
             missing: 0,
@@ -122,10 +130,43 @@ impl Ledger {
         ensures { MatchOption result ((task : ℕ) × IsMissing self.now task)
             (λ rows. self.now ≡ map (λ task. Some task.items) rows.now) }
     {
-        if self.missing as usize == self.rows.len() {
-            Some(self.rows.as_slice())
-        } else {
-            None
+        if self.missing as usize != self.marks.len() {
+            return None;
+        }
+        match &self.shared {
+            Some(shared) => Some(shared.as_slice()),
+            None => Some(self.rows.as_slice()),
+        }
+    }
+
+    /// Returns the rows of each task like `settled`, shared: the result keeps them without the
+    /// ledger. The first such call moves them to shared memory. No row is copied.
+    ///
+    /// # Errors
+    /// `NoMemory` if an allocation fails; never while a task is missing. Nothing changes.
+    pub fn share(&mut self) -> Result<Option<SharedTasks>, NoMemory>
+        ensures same { self.new ≡ self.old }
+        ensures shared { IfOk result (AreShared self.old) }
+        ensures refused { OnErr result ((task : ℕ) → IsMissing self.old task → ⊥) }
+    {
+        if (self.missing as usize) < self.marks.len() {
+            return Ok(None);
+        }
+        if let Some(shared) = &self.shared {
+            return Ok(Some(Arc::try_clone(shared)?));
+        }
+        let alloc = *self.rows.allocator();
+        let rows = mem::replace(&mut self.rows, Vec::new(alloc));
+        match Arc::new(alloc, rows) {
+            Ok(shared) => {
+                let copy = Arc::try_clone(&shared);
+                self.shared = Some(shared);
+                Ok(Some(copy?))
+            }
+            Err(refused) => {
+                self.rows = refused.value;
+                Err(NoMemory::from(AllocError))
+            }
         }
     }
 

@@ -7,4 +7,4 @@
 
 mod ledger;
 
-pub use ledger::{Ledger, LedgerRefused};
+pub use ledger::{Ledger, LedgerRefused, SharedTasks};

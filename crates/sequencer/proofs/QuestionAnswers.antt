@@ -1,5 +1,5 @@
 -- Answers about questions, and snapshots of exactly their events.
-use Rattle.std.proofs.Common.{◌≡◌, ℕ, zero, suc, nat_le, if◌then◌else◌, ◌≤◌, ◌<◌, inl, inr, Bool, true, false, not, ◌==◌, ◌&&◌, Result, Ok, Err, List, [], ◌∷◌, ◌++◌, length, map, take, slice_get, is_some, option_map, MatchOption, Option, Some, None, refl, sym, ap, subst, ◌∙◌, arith}
+use Rattle.std.proofs.Common.{◌≡◌, ℕ, zero, suc, nat_le, if◌then◌else◌, ◌≤◌, ◌<◌, inl, inr, Bool, true, false, not, ◌==◌, ◌&&◌, Result, Ok, Err, List, [], ◌∷◌, ◌++◌, length, map, take, slice_get, is_some, option_map, MatchOption, Option, Some, None, Vec, refl, sym, ap, subst, ◌∙◌, arith}
 use Rattle.std.proofs.lemmas.Bool.{and_parts, cases_lt, false≢true, le-leb, lt-leb}
 use Rattle.std.proofs.lemmas.List.{length-map, map-append}
 use Rattle.std.proofs.lemmas.List.Concat.{flat_map-cons}
@@ -8,6 +8,7 @@ use Rattle.std.proofs.lemmas.Option.{none-some, same_Some, get_or_from_slice_get
 use Rattle.trace_model.proofs.Lists.{at_index}
 use Rattle.std.proofs.Math.Seq.{take-suc}
 use Rattle.std.specs.Option.{option_eq}
+use Rattle.std.specs.declared.alloc.Global.{Global}
 use Rattle.std.specs.List.{flat_map, list_all, All}
 use Rattle.trace_model.specs.declared.traces.event.Event.{Event}
 use Rattle.trace_model.specs.declared.limits.TheConstants.{MAX_REPORT}
@@ -34,7 +35,7 @@ use Rattle.sequencer.specs.declared.answering.Answer.TheVariants.{Pending as Ans
 use Rattle.sequencer.specs.declared.answering.AnswerRefused.{AnswerRefused}
 use Rattle.sequencer.specs.declared.answering.AnswerRefused.TheVariants as NoAnswer
 use Rattle.sequencer.specs.declared.asking.AskRefused.{AskRefused}
-use Rattle.sequencer.specs.Book.{AreEventsIfOpen, IsAccepted, IsLeastMissingTask, IsRefusal, Refuses, RefusesAnswer, RefusesAsk, RefusesOffer, TakesMemory, answer_refusal, answer_reply, ask_refusal, finding_refused}
+use Rattle.sequencer.specs.Book.{AreEventsIfOpen, IsAccepted, IsAnswered, text_reply, IsLeastMissingTask, IsRefusal, Refuses, RefusesAnswer, RefusesAsk, RefusesOffer, TakesMemory, answer_refusal, answer_reply, ask_refusal, finding_refused}
 use Rattle.sequencer.specs.Printing.{report_printer}
 use Rattle.sequencer.proofs.Counted.{missing_row, row_missing}
 
@@ -210,6 +211,13 @@ reported g s number question_view tasks at all named =
     ap (answer_of report_printer s number) at
     ∙ ap (λ (b : Bool). if b then (if nat_le (length (report_printer front number q)) MAX_REPORT then Report number (report_printer front number q) else Refused ReportTooLong) else Pending number (delivered_count q) (length q.tasks)) settled
     ∙ ap (λ (t : List ℕ). if nat_le (length t) MAX_REPORT then Report number t else Refused ReportTooLong) text
+
+-- the same of a question whose rows are shared
+pub shared_report : (asked : QuestionView) (number : ℕ) (tasks : List (Vec PrintedRow Global)) (size bound : ℕ) → asked.tasks ≡ map (λ t. Some t.items) tasks → size ≡ asked.length → bound ≡ asked.bound →
+    IsAnswered asked number (λ reply. reply ≡ text_reply number (report number size bound (flat_map (λ t. t.items) tasks)))
+shared_report asked number tasks size bound all of_size of_bound = λ s at named.
+    reported (λ t. t.items) s number asked tasks at all named
+    ∙ (λ i. text_reply number (report number (sym of_size i) (sym of_bound i) (flat_map (λ t. t.items) tasks)))
 
 pub short_report : (number : ℕ) (text : List ℕ) (reply : Reply) → length text ≤ MAX_REPORT → reply ≡ (if nat_le (length text) MAX_REPORT then Report number text else Refused ReportTooLong) → reply ≡ Report number text
 short_report number text reply le is = is ∙ ap (λ (b : Bool). if b then Report number text else Refused ReportTooLong) (le-leb (length text) MAX_REPORT le)

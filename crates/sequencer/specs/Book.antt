@@ -1,7 +1,9 @@
 -- The view of a book, and how it refuses requests (this project's profile).
-use Rattle.std.specs.Prelude.{◌≡◌, ℕ, ◌<◌, ◌≤◌, ◌⊎◌, List, length, map, replicate, slice_get, take, Option, Some, None, Result, Ok, Err}
+use Rattle.std.specs.Prelude.{◌≡◌, ℕ, ◌<◌, ◌≤◌, ◌⊎◌, nat_le, if◌then◌else◌, List, length, map, replicate, slice_get, take, Option, Some, None, Result, Ok, Err}
+use Rattle.std.specs.List.{flat_map}
+use Rattle.std.specs.Arc.{arc_value}
 use Rattle.trace_model.specs.declared.traces.event.Event.{Event}
-use Rattle.trace_model.specs.declared.limits.TheConstants.{MAX_EVENTS}
+use Rattle.trace_model.specs.declared.limits.TheConstants.{MAX_EVENTS, MAX_REPORT}
 use Rattle.trace_model.specs.declared.refusal.Refusal.{Refusal}
 use Rattle.trace_model.specs.declared.refusal.Refusal.TheVariants.{NoMemory, BadBound, TooManyQuestions, NoSuchQuestion, ReportTooLong}
 use Rattle.trace_model.specs.declared.messages.session.Request.{Request}
@@ -14,11 +16,14 @@ use Rattle.trace_model.specs.Theory.Dependencies.{dependencies}
 use Rattle.trace_model.specs.Theory.Rows.{Row, AreRows}
 use Rattle.trace_model.specs.Protocol.Machine.{Question, State, ask_refused, answer, deliver_refused, step}
 use Rattle.trace_model.specs.Protocol.Bounds.{StateFits}
+use Rattle.reports.specs.Text.{report}
 use Rattle.snapshots.specs.Found.{RowsOfTask}
 use Rattle.sequencer.specs.QuestionState.{QuestionView, question_of, plain_rows, HasNamedRows}
 use Rattle.sequencer.specs.Printing.{report_printer}
 use Rattle.sequencer.specs.declared.answering.Answer.{Answer}
 use Rattle.sequencer.specs.declared.answering.Answer.TheVariants.{Pending, Settled}
+use Rattle.sequencer.specs.declared.answering.SharedAnswer.{SharedAnswer}
+use Rattle.sequencer.specs.declared.answering.SharedAnswer.TheVariants as shared
 use Rattle.sequencer.specs.declared.answering.AnswerRefused.{AnswerRefused}
 use Rattle.sequencer.specs.declared.answering.AnswerRefused.TheVariants as NoAnswer
 use Rattle.sequencer.specs.declared.asking.AskRefused.{AskRefused}
@@ -117,11 +122,14 @@ abbrev pub RefusesAsk : State → ℕ → AskRefused → Type 0
 RefusesAsk s bound r = (ask_refused s bound ≡ Some (ask_refusal r))
     ⊎ ((r ≡ NoOpening.NoMemory) × (ask_refused s bound ≡ None))
 
+-- the refusal instead of an answer: the answer itself; or `NoMemory` if the answer is a report
+abbrev pub RefusesReply : Reply → AnswerRefused → Type 0
+RefusesReply reply r =
+    (reply ≡ Refused (answer_refusal r)) ⊎ ((r ≡ NoAnswer.NoMemory) × TakesMemory reply)
+
 -- the refusal of an answer: the machine's; or `NoMemory` if the machine prints a report
 abbrev pub RefusesAnswer : State → ℕ → AnswerRefused → Type 0
-RefusesAnswer s number r =
-    (answer report_printer s number ≡ Refused (answer_refusal r))
-    ⊎ ((r ≡ NoAnswer.NoMemory) × TakesMemory (answer report_printer s number))
+RefusesAnswer s number = RefusesReply (answer report_printer s number)
 
 -- the reply is the machine's refusal; or it is `NoMemory` and the machine's reply needs an
 -- allocation
@@ -166,6 +174,23 @@ opened_reply o = OpenedReply o.question o.length o.total
 abbrev pub answer_reply : ℕ → Answer → Reply
 answer_reply question (Pending delivered total) = PendingReply question delivered total
 answer_reply question (Settled text) = Report question text
+
+-- the reply with this text, if it is not too long
+abbrev pub text_reply : ℕ → List ℕ → Reply
+text_reply question text =
+    if nat_le (length text) MAX_REPORT then Report question text else Refused ReportTooLong
+
+-- the reply of a shared answer about the question
+abbrev pub shared_reply : ℕ → SharedAnswer → Reply
+shared_reply question (shared.Pending delivered total) = PendingReply question delivered total
+shared_reply question (shared.Settled settled) =
+    text_reply question (report question settled.length settled.bound
+    (flat_map (λ task. task.items) (arc_value settled.tasks).items))
+
+-- the property holds of the machine's answer about the question with this number, if it is this one
+abbrev pub IsAnswered : QuestionView → ℕ → (Reply → Type 0) → Type 0
+IsAnswered asked number so = (s : State) → slice_get s.questions number ≡ Some (question_of asked) →
+    HasNamedRows (take asked.length s.accepted) asked → so (answer report_printer s number)
 
 -- the refusal of an outcome, if any
 abbrev pub outcome : Result Unit (Refusal × RowsOfTask) → Option Refusal

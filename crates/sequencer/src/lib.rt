@@ -19,7 +19,7 @@ mod replies;
 mod sharing;
 mod step;
 
-pub use answering::{Answer, AnswerRefused};
+pub use answering::{Answer, AnswerRefused, SettledQuestion, SharedAnswer};
 pub use asking::{AskRefused, Opened};
 pub use batching::Batched;
 pub use book::{Book, BookRefused, NoSuchQuestion};

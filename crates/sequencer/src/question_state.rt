@@ -1,14 +1,14 @@
 //! The state of a question: its tasks and their rows.
 
-ghost use Rattle.std.specs.Prelude.{◌≡◌, ℕ, ◌+◌, ◌<◌, ◌≤◌, ◌^◌, length, map, replicate, slice_get, slice_set, None, Some, IfOk, MatchOption};
+ghost use Rattle.std.specs.Prelude.{◌≡◌, ℕ, ◌+◌, ◌<◌, ◌≤◌, ◌^◌, length, map, replicate, slice_get, slice_set, None, Some, IfOk, OnErr, MatchOption};
 ghost use Rattle.std.specs.Result.{result_err};
 ghost use Rattle.trace_model.specs.declared.limits.TheConstants.{MIN_BOUND, MAX_BOUND};
 ghost use Rattle.trace_model.specs.Protocol.Machine.{cycles_of, confirmed_of, task_refused};
-ghost use Rattle.result_ledger.specs.Tasks.{IsMissing, IsLeastMissing};
+ghost use Rattle.result_ledger.specs.Tasks.{AreShared, IsMissing, IsLeastMissing};
 ghost use Rattle.sequencer.specs.QuestionState.{question_of};
 
 use reports::{Row, confirmed_in};
-use result_ledger::{Ledger, LedgerRefused};
+use result_ledger::{Ledger, LedgerRefused, SharedTasks};
 use std::alloc::Global;
 use std::marker::Model;
 use trace_model::{Bound, NoMemory, Refusal};
@@ -128,6 +128,19 @@ impl QuestionState {
             (IsLeastMissing self.now.tasks) }
     {
         self.ledger.missing()
+    }
+
+    /// Returns the rows of each task, shared, or `None` if a task is missing.
+    ///
+    /// # Errors
+    ///
+    /// `NoMemory` if an allocation fails; never while a task is missing. Nothing changes.
+    pub(crate) fn share(&mut self) -> Result<Option<SharedTasks>, NoMemory>
+        ensures same { self.new ≡ self.old }
+        ensures shared { IfOk result (AreShared self.old.tasks) }
+        ensures refused { OnErr result ((task : ℕ) → IsMissing self.old.tasks task → ⊥) }
+    {
+        self.ledger.share()
     }
 
     /// Returns the rows of each task, or `None` if a task is missing.

@@ -106,12 +106,13 @@ impl Book {
         }
     }
 
-    fn prepare_answer(&self, question: u32) -> Result<Step, Reply>
+    fn prepare_answer(&mut self, question: u32) -> Result<Step, Reply>
+        ensures shown { self.new.state ≡ self.old.state }
         ensures ok { IfOk result (λ planned. (change_request planned.change
             ≡ requests.Answer question)
-            × IsPrepared self.now planned) }
-        ensures refused { IfErr result (Refuses self.now.state (requests.Answer question)) }
-        ensures refusal { IfErr result (IsRefusal self.now.state (requests.Answer question)) }
+            × IsPrepared self.new planned) }
+        ensures refused { IfErr result (Refuses self.old.state (requests.Answer question)) }
+        ensures refusal { IfErr result (IsRefusal self.old.state (requests.Answer question)) }
     {
         match self.answer(question) {
             Ok(answer) => Ok(Step {

@@ -2,12 +2,16 @@ use Rattle.std.proofs.Common.{◌≡◌, None, false, [], ◌∷◌, map, replic
 use Rattle.std.proofs.lemmas.List.{length-replicate, length-map}
 use Rattle.std.proofs.lemmas.Result.{IfOk-from_err}
 use Rattle.result_ledger.proofs.TaskList.{opened, none_delivered, marks_more}
-use Rattle.result_ledger.specs.Inside.{tasks_of}
+use Rattle.std.proofs.lemmas.Bool.{false≢true}
+use Rattle.result_ledger.specs.Inside.{row_lists, tasks_of}
 use Rattle.result_ledger.proofs.ledger.Ledger.open.Goals as goal
 
 pub invariant_of-result : goal.invariant_of-result
-invariant_of-result c = opened c.loop-task._task c.loop-task.marks.items (map (λ rows. rows.items) c.loop-task.rows.items) c.loop-task.invariant.marks
-    (length-map c.loop-task.rows.items (λ rows. rows.items) ∙ c.loop-task.invariant.rows) (omega arith)
+invariant_of-result c = record {
+  order = opened c.loop-task._task c.loop-task.marks.items (row_lists c.loop-task.rows.items) c.loop-task.invariant.marks
+      (length-map c.loop-task.rows.items (λ rows. rows.items) ∙ c.loop-task.invariant.rows) (omega arith);
+  whole = λ none. absurd (false≢true none);
+}
 
 pub returns : goal.returns
 returns c =

@@ -9,9 +9,7 @@ pub returns-in-Ask : goal.returns-in-Ask
 returns-in-Ask c = rw c.in-Ask.is c.prepare_ask.ensures
 
 pub returns-in-Answer : goal.returns-in-Answer
-returns-in-Answer c =
-    let fact = c.prepare_answer.ensures in
-    rw c.in-Answer.is (record { shown = refl; ok = fact.ok; refused = fact.refused; refusal = fact.refusal })
+returns-in-Answer c = rw c.in-Answer.is c.prepare_answer.ensures
 
 pub returns-in-Status : goal.returns-in-Status
 returns-in-Status c =
