@@ -9,8 +9,11 @@ usage: tests/reduced.py [TRACES] [FIRST]
 The threads of a trace repeat sections, acquire locks again that they hold, release locks in another order than they acquired them, hand over
 by variables, try to acquire locks, and may be joined. A trace may end in the middle of sections, or in a deadlock. Locks that are in no
 event of the reduced trace are left out of the held locks before the cycles are compared. The replay of each confirmed cycle over the whole
-trace must not have a fault, and `goodlockd replay` must accept the first completed witness of each trace. GOODLOCKD_PROGRAM names another
-program than ./goodlockd.
+trace must not have a fault, and `goodlockd replay` must accept the first completed witness of each trace.
+
+Each second trace has variables that stand for values. It is compared with all events, and again without the accesses of plain values. Then the
+cycles that are confirmed if no value decides must be those that the tools find, with their instances and replays. GOODLOCKD_PROGRAM names
+another program than ./goodlockd.
 """
 from __future__ import annotations
 
@@ -27,12 +30,14 @@ ROOT = os.path.dirname(os.path.dirname(os.path.abspath(__file__)))
 sys.path.insert(0, os.path.join(ROOT, "tools"))
 
 from goodlock.completion import note_of, verdicts_of
+from goodlock.grades import graded
 from goodlock.program import launcher
 from goodlock.reducer import Reduced, Source, reduced
-from goodlock.reports import Cycle, read_reports
+from goodlock.reports import Cycle, Verdict, read_reports
 from goodlock.traces import Index, read_trace
 
 BOUND, MARK = 4, 100
+ATOMIC, PLAIN = 1000, 2000  # variables from here on stand for values
 Place = int
 Key = tuple[tuple[int, int, tuple[int, ...]], ...]
 
@@ -119,8 +124,12 @@ def small(seed: int) -> list[str]:
     programs[0] = [(kind, 99 if target == MARK else target) for kind, target in programs[0]]
     if chooser.random() < 0.5:
         programs[chooser.choice(range(count))].append(("j", count))
+    return interleaved(chooser, programs, chooser.choice([30, 80, 160]))
+
+
+def interleaved(chooser: random.Random, programs: dict[int, list[tuple[str, int]]], most: int) -> list[str]:
+    """Returns about this many words of threads that run in a random order."""
     run, words = Run(chooser, programs), list[str]()
-    most = chooser.choice([30, 80, 160])
     while len(words) < most:
         ready = [thread for thread in programs if run.can_step(thread)]
         if not ready:
@@ -130,6 +139,32 @@ def small(seed: int) -> list[str]:
             if run.can_step(thread):
                 words.append(run.step(thread))
     return words
+
+
+def accesses(chooser: random.Random, variables: list[int]) -> list[tuple[str, int]]:
+    """Returns accesses that are all writes or all reads."""
+    letter = chooser.choice("dw")
+    return [(letter, variable) for variable in chooser.sample(variables, chooser.randint(0, len(variables)))]
+
+
+def valued(seed: int) -> list[str]:
+    """Returns the words of a random trace in which threads acquire two of three locks. Before, between and after that they hand over by
+    variables. Some of these stand for atomic and some for plain values: several of them may imply each other."""
+    chooser, programs = random.Random(seed), dict[int, list[tuple[str, int]]]()
+    variables = [number + chooser.choice([0, ATOMIC, PLAIN, PLAIN]) for number in range(1, chooser.randint(3, 4))]
+    count = chooser.randint(2, 3)
+    for thread in range(1, count + 1):
+        programs[thread] = accesses(chooser, variables)
+        for _ in range(chooser.randint(1, 2)):
+            one, other = chooser.sample([1, 2, 3], 2)
+            programs[thread] += [("a", one), ("a", other), ("r", other), ("r", one), *accesses(chooser, variables)]
+    programs[0] = [("f", thread) for thread in range(1, count + 1)]
+    return interleaved(chooser, programs, 80)
+
+
+def is_plain(word: str) -> bool:
+    match = re.fullmatch("[0-9]+[dw]([0-9]+)", word)
+    return match is not None and int(match[1]) >= PLAIN
 
 
 def marks_of(words: list[str]) -> list[int]:
@@ -159,7 +194,7 @@ def rows_of(trace: str, report: str, locks: set[int], places: list[Place]) -> di
     for _, cycle in read_reports(report, Index(read_trace(trace))):
         if cycle:
             row = rows.setdefault(key_of(cycle, locks), Row())
-            if cycle.is_confirmed:
+            if cycle.verdict is Verdict.CONFIRMED:
                 instance = {member.thread: places[member.place] for member in cycle.members if member.place is not None}
                 row.add(instance, [places[place] for place in cycle.witness])
     return rows
@@ -191,42 +226,94 @@ def fault_of(words: list[str], whole: dict[Key, Row], short: dict[Key, Row], kep
     return ""
 
 
-def fault_of_replay(folder: str, words: list[str], found: Reduced) -> str:
-    """Returns what the replay of a completed witness finds, or an empty text."""
-    trace, report = os.path.join(folder, "whole.trace"), f"{found.traces[0]}.report"
-    index = Index(read_trace(found.traces[0]))
-    cycles = [cycle for _, cycle in read_reports(report, index) if cycle and cycle.is_confirmed]
-    verdicts = list(verdicts_of(found, [Source(trace)], index, ((cycle.members, cycle.witness) for cycle in cycles), folder))
-    for cycle, verdict in zip(cycles, verdicts):
-        if verdict.fault:
-            return f"cycle {cycle.name}: {note_of(verdict, [Source(trace)])}"
+def fault_of_replay(trace: str, words: list[str], found: Reduced, index: Index, cycles: list[Cycle]) -> str:
+    """Returns what the replays of these cycles with their witnesses over the whole trace find, or an empty text. They have one verdict."""
+    folder, is_whole = os.path.dirname(trace), not cycles or cycles[0].verdict is Verdict.CONFIRMED
+    with_verdicts = ((cycle.members, cycle.witness, cycle.verdict) for cycle in cycles)
+    replays = list(verdicts_of(found, [Source(trace)], index, with_verdicts, folder))
+    for cycle, replay in zip(cycles, replays):
+        if replay.fault:
+            return f"cycle {cycle.name}: {note_of(replay, [Source(trace)])}"
     if not cycles:
         return ""
-    lasts = {thread: spot.place for thread, spot in verdicts[0].ends.items()}
-    order = [place for place, word in enumerate(words) if place <= lasts.get(int(re.split("[a-z]", word)[0]), -1)]
+    places = [place for place, word in enumerate(words) if is_whole or not is_plain(word)]
+    lasts = {thread: spot.place for thread, spot in replays[0].ends.items()}
+    order = [at for at, place in enumerate(places) if place <= lasts.get(int(re.split("[a-z]", words[place])[0]), -1)]
+    path = write(f"{trace}.replayed", [words[place] for place in places])
     with open(f"{trace}.witness", "w", encoding="ascii") as file:
-        file.write(f"reach {' '.join(str(found.places[member.place or 0]) for member in cycles[0].members)}\n")
+        file.write(f"reach {' '.join(str(places.index(found.places[member.place or 0])) for member in cycles[0].members)}\n")
         file.write(f"order {' '.join(map(str, order))}\n")
-    done = subprocess.run([launcher(), "replay", trace, f"{trace}.witness"], stdout=subprocess.PIPE, encoding="ascii")
+    done = subprocess.run([launcher(), "replay", path, f"{trace}.witness"], stdout=subprocess.PIPE, encoding="ascii")
     return "" if done.stdout == "reaches\n" else f"cycle {cycles[0].name}: goodlockd replay prints {done.stdout}"
 
 
-def compare(folder: str, seed: int) -> tuple[Reduced, dict[Key, Row]]:
-    words = small(seed)
-    trace = os.path.join(folder, "whole.trace")
-    with open(trace, "w", encoding="ascii") as file:
-        file.write("".join(f"# mark {mark}\n" for mark in marks_of(words)) + " ".join(words) + "\n")
-    found = reduced([Source(trace)], folder)
-    short_trace = found.traces[0]
-    offline(trace, f"{trace}.report")
-    offline(short_trace, f"{short_trace}.report")
-    locks = {event.target for event in read_trace(short_trace).events if event.letter == "a"}
-    whole = rows_of(trace, f"{trace}.report", locks, list(range(len(words))))
-    short = rows_of(short_trace, f"{short_trace}.report", locks, list(found.places))
-    fault = fault_of(words, whole, short, set(found.places)) or fault_of_replay(folder, words, found)
-    if fault:
-        sys.exit(f"seed {seed}: {fault}\n{' '.join(words)}\nkept: {' '.join(words[place] for place in found.places)}")
-    return found, whole
+def write(path: str, words: list[str], comments: str = "") -> str:
+    with open(path, "w", encoding="ascii") as file:
+        file.write(f"{comments}{' '.join(words)}\n")
+    return path
+
+
+@dataclass
+class Compared:
+    """A trace and its reduction."""
+
+    trace: str
+    words: list[str]
+    found: Reduced
+    whole: dict[Key, Row] = field(default_factory=dict)
+    without: dict[Key, Row] = field(default_factory=dict)
+
+    def __post_init__(self) -> None:
+        self.index = Index(read_trace(self.found.traces[0]))
+        self.locks = {event.target for event in self.index.events if event.letter == "a"}
+
+    def rows(self, kept: list[Place], name: str) -> dict[Key, Row]:
+        """Returns the rows of the report on the events at these places."""
+        path = write(f"{self.trace}.{name}", [self.words[place] for place in kept])
+        offline(path, f"{path}.report")
+        return rows_of(path, f"{path}.report", self.locks, kept)
+
+    def fault(self) -> str:
+        """Returns how the reduced trace differs, or an empty text."""
+        places = list(self.found.places)
+        if [f"{event.thread}{event.letter}{event.target}" for event in self.index.events] != [self.words[place] for place in places]:
+            return "the reduced trace has other events than its places"
+        self.whole, short = self.rows(list(range(len(self.words))), "all"), self.rows(places, "short")
+        fault = fault_of(self.words, self.whole, short, set(places))
+        if fault or not self.whole:
+            return fault  # accesses change no cycle
+        if self.index.values is None:
+            return fault_of_replay(self.trace, self.words, self.found, self.index, self.cycles_of(Verdict.CONFIRMED))
+        kept = [place for place in places if not is_plain(self.words[place])]
+        every = [place for place, word in enumerate(self.words) if not is_plain(word)]
+        self.without, without_short = self.rows(every, "all_without"), self.rows(kept, "short_without")
+        return (fault_of(self.words, self.without, without_short, set(kept)) or self.fault_of_verdicts()
+                or fault_of_replay(self.trace, self.words, self.found, self.index, self.cycles_of(Verdict.CONFIRMED))
+                or fault_of_replay(self.trace, self.words, self.found, self.index, self.cycles_of(Verdict.NO_VALUE)))
+
+    def cycles_of(self, verdict: Verdict) -> list[Cycle]:
+        """Returns the cycles of the reduced trace that have a verdict."""
+        rows = graded(self.index, read_reports(f"{self.trace}.short.report", self.index), folder=os.path.dirname(self.trace))
+        return [cycle for _, cycle in rows if cycle and cycle.verdict is verdict]
+
+    def fault_of_verdicts(self) -> str:
+        """Returns how the verdicts that the tools give the cycles of the reduced trace differ from those of the reports on the whole one."""
+        wanted = {key: row.instance for key, row in self.without.items() if row.is_confirmed and not self.whole[key].is_confirmed}
+        rows = dict[Key, Row]()
+        for cycle in self.cycles_of(Verdict.NO_VALUE):
+            instance = {member.thread: self.found.places[member.place or 0] for member in cycle.members}
+            rows.setdefault(key_of(cycle, self.locks), Row()).add(instance, [])
+        found = {key: row.instance for key, row in rows.items() if not self.whole[key].is_confirmed}
+        return "" if found == wanted else f"if no value decides: {found} and {wanted}"
+
+
+def compare(folder: str, seed: int) -> Compared:
+    words, comments = (valued(seed), f"# values atomic {ATOMIC} plain {PLAIN}\n") if seed % 2 else (small(seed), "")
+    trace = write(os.path.join(folder, "whole.trace"), words, comments + "".join(f"# mark {mark}\n" for mark in marks_of(words)))
+    compared = Compared(trace, words, reduced([Source(trace)], folder))
+    if fault := compared.fault():
+        sys.exit(f"seed {seed}: {fault}\n{' '.join(words)}\nkept: {' '.join(words[place] for place in compared.found.places)}")
+    return compared
 
 
 def main(arguments: list[str]) -> None:
@@ -239,12 +326,14 @@ def main(arguments: list[str]) -> None:
     total: Counter[str] = Counter()
     with tempfile.TemporaryDirectory() as folder:
         for seed in range(first, first + count):
-            found, rows = compare(folder, seed)
-            total["events"] += found.events
-            total["kept"] += len(found.places)
-            total["cycles"] += len(rows)
-            total["confirmed"] += sum(row.is_confirmed for row in rows.values())
-    print(f"{count} traces agree: {total['events']} events, {total['kept']} kept; {total['cycles']} cycles, {total['confirmed']} confirmed")
+            compared = compare(folder, seed)
+            total["events"] += compared.found.events
+            total["kept"] += len(compared.found.places)
+            total["cycles"] += len(compared.whole)
+            total["confirmed"] += sum(row.is_confirmed for row in compared.whole.values())
+            total["no value"] += sum(row.is_confirmed and not compared.whole[key].is_confirmed for key, row in compared.without.items())
+    print(f"{count} traces agree: {total['events']} events, {total['kept']} kept; {total['cycles']} cycles, {total['confirmed']} confirmed, "
+          f"{total['no value']} if no value decides")
 
 
 if __name__ == "__main__":

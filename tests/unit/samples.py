@@ -4,7 +4,8 @@ from __future__ import annotations
 from dataclasses import replace
 
 from goodlock.groups import location_of
-from goodlock.results import KeptApart, Numbers, Result, ResultMember, Run, Spot, State, Verdict, Witness, WitnessStep
+from goodlock.reports import Verdict
+from goodlock.results import KeptApart, Numbers, Result, ResultMember, Run, Spot, State, Witness, WitnessStep
 
 HOLD, WAIT = "src/bank.c:34 in transfer", "src/bank.c:35 in transfer"
 
@@ -36,6 +37,15 @@ POTENTIAL = Result(
                          "goodlockd explain bank.trace --bound 2 --cycle 4,5"),
     fingerprint="bb:1",
     traces=("bank.trace",),
+)
+NO_VALUE = replace(
+    CONFIRMED,
+    verdict=Verdict.NO_VALUE,
+    cycles=4,
+    confirmed=0,
+    no_value=3,
+    kept_apart=KeptApart("Kept apart only by what these reads see", ("bank.c:4 in is_open reads memory that a thread wrote after bank.c:3 in open",)),
+    fingerprint="gg:1",
 )
 HAPPENED = replace(CONFIRMED, verdict=Verdict.HAPPENED, fingerprint="cc:2", witness=None, cycles=0, confirmed=0, example=())
 NOWHERE = Result(

@@ -15,14 +15,14 @@ from goodlock.agent import names
 from goodlock.agent.sites import Sites, Source, name_lines_of, source_of
 from goodlock.errors import InputError
 from goodlock.limits import FIRST_THREAD, HELPERS, TIMED_MARKERS, TRY_MARKERS
-from goodlock.reports import Cycle, Member, Report, read_reports
+from goodlock.reports import Cycle, Member, Report, Verdict, read_reports
 from goodlock.traces import Index, read_trace
-from written import OPPOSITE_REPORT, InFolder
+from written import END, HEADER, OPPOSITE_REPORT, InFolder, entry, event
 
 SITES = "1\tmain.py:9 in main\n2\tbank.py:34 in transfer\tmain.py:7 in run\n3\tbank.py:35 in transfer\n4\t/usr/lib/threading.py:3 in run\tx.py:1 in f\n"
 TRACE = "# at 1\n0f1\n0f2\n# at 2\n1a10\n# at 3\n1a20\n1r20\n1r10\n# at 2\n2a20\n# at 3\n2a10\n2r10\n2r20\n"
 SUMMARY = "attached 1\nlock_events 8\nthreads 3\nread_locks 0\ncrowded_locks 0\nunseen 0\noverflowing 0\noff 0\ntruncated 0\nclash 0\nprocesses 0\n" \
-          "cleared 0\nfutexes 0\nframes 1\npython 0\nfollower 0\nfollows 0\nserver 0\nno_log 3\nlogged 2000\nleft_out 0\n"
+          "cleared 0\nfutexes 0\nvalues 15\nframes 1\npython 0\nfollower 0\nfollows 0\nserver 0\njava 0\nno_log 3\nlogged 2000\nleft_out 0\n"
 WRITTEN = """question 0 length 10 bound 2 cycles 1 confirmed 1
 cycle 0 1 confirmed
   thread 1 lock 20 holds 10 place 3
@@ -86,6 +86,13 @@ class Finishes(OfRun):
             self.assertRegex(self.finish()[1], f"^goodlock: {note}\ngoodlock: 10 events")
             self.assertRegex(self.read("run.report"), f"^question .*\n    {note}\ncycle")
 
+    def test_values_of_java(self) -> None:
+        plain = "values of plain fields"
+        for values, notes in [("2", ["values of volatile fields and atomics: --memory atomics records them", plain]), ("3", [plain])]:
+            self.window(TRACE, OPPOSITE_REPORT)
+            self.write("run.tmp/summary", SUMMARY.replace("values 15", f"values {values}").replace("java 0", "java 1"))
+            self.assertEqual(self.finish()[1].splitlines()[:-1], [f"goodlock: not examined: {note}" for note in notes])
+
     def test_what_was_not_examined(self) -> None:
         self.write("run.tmp/processes", "7 0 httpd\n8 0 httpd\n9 1 logger\n")
         for old, new, note in [
@@ -96,8 +103,12 @@ class Finishes(OfRun):
             ("clash 0", "clash 1", "another agent streams to the same server, which takes one run: .*"),
             ("cleared 0", "cleared 1", "1 program started with an environment that lacks the agent's variables"),
             ("futexes 0", "futexes 3", "3 waits by futex calls: of locks that are made of atomics, or for values"),
-            ("processes 0\ncleared 0\nfutexes 0\nframes 1\npython 0\nfollower 0\nfollows 0", "processes 2\ncleared 0\nfutexes 0\nframes 1\npython 0\n"
-             "follower 0\nfollows 1", r"further processes with threads, 2: httpd \(2\)"),
+            ("values 15", "values 3", "values in memory are not seen: compile the program with the options that goodlock --flags gcc .*"),
+            ("values 15", "values 13", "values of plain memory: --memory is atomics"),
+            ("values 15", "values 0", "values in memory: --memory is none"),
+            ("values 15", "values 31", "some values in memory: there was no memory to follow them, or the run has more than 65,000 threads"),
+            ("processes 0\ncleared 0\nfutexes 0\nvalues 15\nframes 1\npython 0\nfollower 0\nfollows 0", "processes 2\ncleared 0\nfutexes 0\n"
+             "values 15\nframes 1\npython 0\nfollower 0\nfollows 1", r"further processes with threads, 2: httpd \(2\)"),
             ("processes 0", "processes 2", r"further processes with threads, 2: httpd \(2\); --trace-children makes a report of each"),
         ]:
             self.window(TRACE, OPPOSITE_REPORT)
@@ -109,6 +120,27 @@ class Finishes(OfRun):
         self.write("run.tmp/libraries", "libc.so.6\nlibgomp.so.1\nlibQt5Core.so.5\nlibgomp.so.1\nlibgomps.so\n")
         self.finish()
         self.assertIn("\n    not examined:\n      the locks inside of libQt5Core, libgomp\n", self.read("run.report"))
+
+    def test_java(self) -> None:
+        """The agent for pthreads has seen a virtual machine; the agent for Java could not see all locks, or was not loaded."""
+        monitors = "the monitors and locks of a program in Java, which are not seen here: agents/java records them"
+        self.write("run.tmp/libraries", "libjvm.so\nlibgomp.so.1\n")
+        self.finish()
+        self.assertIn(f"\n    not examined:\n      {monitors}\n      the locks inside of libgomp\n", self.read("run.report"))
+        self.setUp()
+        self.write("run.tmp/unseen", "".join(f"the locks of C{at}\n" for at in range(6)))
+        self.finish()
+        self.assertRegex(self.read("run.report"), "\n    not examined:\n(?:      the locks of C[0-4]\n){5}      and 1 more of these\ncycle")
+        self.setUp()
+        self.write("run.tmp/summary", SUMMARY.replace("attached 1", "attached 0").replace("java 0", "java 1"))
+        self.assertEqual(self.finish()[0], 1)
+        self.assertIn("\n    no events: the virtual machine has not loaded the agent; a line above may say why\n", self.read("run.report"))
+
+    def test_values_in_python(self) -> None:
+        """The options of a compiler for C are no advice for a program in Python."""
+        self.write("run.tmp/summary", SUMMARY.replace("values 15", "values 3").replace("python 0", "python 1"))
+        self.finish()
+        self.assertEqual(self.read("run.report"), WRITTEN)
 
     def test_runs_that_were_not_analysed(self) -> None:
         """A deadlock comes first, then the fact that the run was not analysed, or only in part."""
@@ -279,7 +311,7 @@ class Searches(OfRun):
     def test_kinds(self) -> None:
         for held, kind in [((10,), "confirmed"), ((10, TRY_MARKERS + 2), "tried"), ((10, TIMED_MARKERS + 2), "timed"),
                            ((TRY_MARKERS + 2, TIMED_MARKERS + 2), "tried"), ((TRY_MARKERS - 1,), "confirmed")]:
-            self.assertEqual(kind_of(Cycle((0, 1), True, [Member(1, 20, held, 3), Member(2, 10, (20,), 7)])), kind)
+            self.assertEqual(kind_of(Cycle((0, 1), Verdict.CONFIRMED, [Member(1, 20, held, 3), Member(2, 10, (20,), 7)])), kind)
 
     def test_too_many_groups(self) -> None:
         report = OPPOSITE_REPORT.replace("cycles 1 confirmed 1", "cycles 2 confirmed 2")
@@ -335,10 +367,10 @@ class Searches(OfRun):
             raise Stopped(TIME)
 
         for number, groups in [(1, 0), (2, 1)]:
-            window = grouped(index, stops(number), 2)
+            window = grouped(self.run_, index, stops(number), 2)
             self.assertEqual((window.length, window.is_partial, window.why, len(window.found)), (10, True, TIME, groups))
         with self.assertRaises(Stopped):
-            grouped(index, stops(0), 2)
+            grouped(self.run_, index, stops(0), 2)
         for results_of, bound, is_partial in [([Window(10, 2), Window(10, 3, TIME, True)], 2, False), ([Window(10, 2, TIME, True)], 2, True)]:
             self.setUp()
             with patch("goodlock.agent.search.search", side_effect=results_of):
@@ -391,6 +423,114 @@ class Searches(OfRun):
         for text, whole in [("0f1\n1a", "0f1\n"), ("0f1\n", "0f1\n"), ("", ""), ("0f", "")]:
             drop_part_of_line(self.write("x", text))
             self.assertEqual(self.read("x"), whole)
+
+
+VALUED = ("# values atomic 1000000000 plain 2000000000\n# at 1\n0f1\n0f2\n# at 2\n1a10\n# at 3\n1a20\n1r20\n1r10\n1w2000000001\n"
+          "# at 4\n2d2000000001\n# at 2\n2a20\n# at 3\n2a10\n2r10\n2r20\n")
+POTENTIAL = "question 0 length 12 bound 2 cycles 1 confirmed 0\ncycle 0 1 potential\n  thread 1 lock 20 holds 10\n  thread 2 lock 10 holds 20\n"
+EXPLAINED = POTENTIAL + ("  before place 9 its thread runs place 7\n  place 7 reads what place 6 wrote\n  place 6 needs place 3: earlier in its thread\n"
+                         "  so place 3 must run: thread 1 cannot stop before it\n")
+NOTED = """question 0 length 12 bound 2 cycles 1 confirmed 0
+    confirmed if no value decides: 1 cycle
+cycle 0 1 potential
+  thread 1 lock 20 holds 10
+    thread 1 from main.py:9 in main
+    lock 20 at bank.py:35 in transfer
+    lock 10 since bank.py:34 in transfer
+  thread 2 lock 10 holds 20
+    thread 2 from main.py:9 in main
+    lock 10 at bank.py:35 in transfer
+    lock 20 since bank.py:34 in transfer
+    confirmed if no value decides: places 3 9
+      witness 0 1 2 8
+      place 7 reads what place 6 wrote: x.py:1 in f reads memory that a thread wrote after bank.py:35 in transfer
+"""
+
+
+class Weighs(OfRun):
+    """In each window thread 2 reads a value that thread 1 writes after its sections. Only that keeps them apart."""
+
+    def valued(self, without: str = "exec cat without", explain: str = "exec cat explained") -> None:
+        """The report of a window is that of a server. A script of the shell takes the place of goodlockd: `without` values, and `explain`."""
+        self.window(VALUED, POTENTIAL)
+        self.write("without", OPPOSITE_REPORT)
+        self.write("explained", EXPLAINED)
+        self.write("program", f'#!/bin/sh\ncase "$1" in offline) {without};; explain) {explain};; esac\n')
+        os.chmod("program", 0o755)
+        self.run_ = Run("run", os.path.abspath("program"), 2)
+
+    def test_report(self) -> None:
+        self.valued()
+        self.assertEqual(self.finish(), (1, "goodlock: 12 events, 1 cycle, 0 confirmed, 1 if no value decides: run.report, run.trace\n"))
+        self.assertEqual(self.read("run.report"), NOTED)
+        self.assertEqual(self.read("run.trace").split("\n")[:2], ["# values atomic 1000000000 plain 2000000000", "# at main.py:9 in main"])
+        index = Index(read_trace("run.trace"))
+        cycle = [cycle for _, cycle in read_reports("run.report", index) if cycle][0]
+        self.assertEqual((cycle.verdict, cycle.is_graded, len(cycle.reads)), (Verdict.NO_VALUE, True, 1))
+
+    def test_gates(self) -> None:
+        for words, status in [([], 1), (["--fail-on=confirmed"], 1), (["--fail-on=certain"], 0), (["--fail-on=new"], 1), (["--fail-on=new-certain"], 0)]:
+            self.setUp()
+            self.valued()
+            with contextlib.redirect_stderr(io.StringIO()):
+                self.assertEqual(finish(self.run_, 1, 60, settings_from(words)), status, words)
+
+    def test_potential_without_values(self) -> None:
+        self.valued()
+        self.write("without", POTENTIAL.replace("length 12", "length 10"))
+        self.assertEqual(self.finish()[0], 0)
+        self.assertEqual(self.read("run.report").splitlines()[1:3], ["    confirmed if no value decides: 0 cycles", "cycle 0 1 potential"])
+
+    def test_windows(self) -> None:
+        """The strongest evidence of all windows counts. A later window with the same verdict at the same lines is removed."""
+        for second, kept, verdicts in [(VALUED, ["run"], "0 confirmed, 1 if no value decides"), (TRACE, ["run", "run.2"], "1 confirmed")]:
+            self.setUp()
+            self.valued()
+            self.window(second, POTENTIAL if second == VALUED else OPPOSITE_REPORT, 2)
+            self.write("run.tmp/all", "")
+            said = self.finish(2)[1]
+            self.assertIn(f" 1 cycle, {verdicts}: {', '.join(f'{name}.report, {name}.trace' for name in kept)}\n", said)
+            report = self.read(f"{kept[-1]}.report")
+            more = "0 of them confirmed, 1 if no value decides"
+            self.assertIn(f"    and 1 more cycle at these lines, {more}\n", report)
+
+    def test_whole_run(self) -> None:
+        """The log of two windows: the witness is replayed over all events without those of values."""
+        self.valued("case $2 in *values-*) exec cat without;; *) exec cat full;; esac")
+        self.window(VALUED, POTENTIAL, 2)
+        self.write("full", POTENTIAL.replace("length 12", "length 10"))
+        self.write("without", OPPOSITE_REPORT.replace("length 10", "length 8"))
+        self.write("explained", EXPLAINED.replace("length 12", "length 10"))
+        self.write("run.tmp/summary", SUMMARY.replace("no_log 3\nlogged 2000", "no_log 0\nlogged 12"))
+        words = [(1, "0f1 0f2"), (2, "1a10"), (3, "1a20 1r20 1r10 1w2000000001"), (4, "2d2000000001"), (2, "2a20"), (3, "2a10 2r10 2r20")]
+        with open("run.tmp/calls", "wb") as log:
+            log.write(HEADER + b"".join(event(word, site) for site, text in words for word in text.split()) + entry(END))
+        status, said = self.finish(2)
+        self.assertEqual((status, said.splitlines()[-1]), (1, "goodlock: 12 events, 1 cycle, 0 confirmed, 1 if no value decides: run.report, run.trace"))
+        head, note = NOTED.replace("length 12", "length 10").split("cycle 0 1 potential\n")
+        self.assertEqual(self.read("run.report"), f"{head}    reduced from 12 events of the whole run: a confirmed cycle was replayed over all of them, a "
+                         f"potential one was searched in the reduced trace\ncycle 0 1 potential\n{note}"
+                         "    in the whole run thread 0 runs to place 1, thread 1 runs to place 2, thread 2 runs to place 8\n")
+        self.assertEqual(self.read("run.trace").splitlines()[0], "# values atomic 1000000000 plain 2000000000")
+
+    def test_time(self) -> None:
+        """If the analysis without values does not end, nothing is said of the cycle; if the explanation does not, its reads are not named."""
+        ends = "kill -USR1 $PPID; exec sleep 60"
+        self.valued(without=ends)
+        self.assertEqual(self.finish()[0], 3)
+        self.assertIn(f"a part of the cycles of 2 members, and larger ones: {SIGNAL}\n", self.read("run.report"))
+        self.assertNotIn("cycle 0 1", self.read("run.report"))
+        self.setUp()
+        self.valued(explain=ends)
+        self.finish()
+        self.assertEqual(self.read("run.report"), NOTED.rpartition("      place")[0] + f"      the reads that decide are not named: {SIGNAL}\n")
+
+    def test_no_answer_without_values(self) -> None:
+        for without, why in [("echo refused 23 ReportTooLong; exit 1", LONG), ("echo broken >&2; exit 1", "broken")]:
+            self.setUp()
+            self.valued(without)
+            status, said = self.finish()
+            self.assertEqual((status, why in said), (3 if why == LONG else 2, True))
 
 
 class Names(OfRun):

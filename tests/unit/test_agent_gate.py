@@ -108,7 +108,7 @@ class Options(InFolder):
                                 "`tools/many FOLDER --json` print one"),
             ("--suppress missing", "goodlock: cannot read missing: No such file or directory"),
             ("--baseline missing", "goodlock: cannot read missing: No such file or directory"),
-            ("--fail-on all", "goodlock: error: argument --fail-on: invalid choice: 'all' (choose from 'confirmed', 'potential', 'new')"),
+            ("--fail-on all", "goodlock: error: argument --fail-on: invalid choice: 'all' (choose from 'confirmed', 'certain', 'potential', 'new', 'new-certain')"),
         ]:
             with self.subTest(words):
                 status, out, err = self.run_task("options", *words.split())

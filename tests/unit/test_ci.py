@@ -77,7 +77,7 @@ class Formats(InFolder):
         (("--json", "--sarif"), "--json and --sarif print on standard output: write one to a file, such as --json=FILE"),
         (("--sarif=",), "--sarif= has no name of a file"),
         (("--junit",), "argument --junit: expected one argument"),
-        (("--fail-on", "all"), "argument --fail-on: invalid choice: 'all' (choose from 'confirmed', 'potential', 'new')"),
+        (("--fail-on", "all"), "argument --fail-on: invalid choice: 'all' (choose from 'confirmed', 'certain', 'potential', 'new', 'new-certain')"),
     ]
 
     def test_wrong(self) -> None:

@@ -111,9 +111,9 @@ port = 0
     FAULTS = [
         ("unknown key", "bond = 3\n", "goodlock.toml: bond: unknown; the keys here are bound, fail-on, suppressions, baseline, root"),
         ("unknown key of a table", "[agent]\nout = 'x'\n", "goodlock.toml: agent.out: unknown; the keys here are allow-partial, bound, error-exitcode, "
-         "keep-log, on-deadlock, seconds, stacks, trace-children, window"),
+         "keep-log, memory, on-deadlock, seconds, stacks, trace-children, window"),
         ("unknown table", "[agents]\n", "goodlock.toml: [agents]: unknown; the tables are [agent], [summary], [many], [dashboard]"),
-        ("another word", 'fail-on = "none"\n', 'goodlock.toml: fail-on: not one of "confirmed", "potential", "new"'),
+        ("another word", 'fail-on = "none"\n', 'goodlock.toml: fail-on: not one of "confirmed", "certain", "potential", "new", "new-certain"'),
         ("a table for a key", "[bound]\n", "goodlock.toml: bound: not a whole number, 2 to 8"),
         ("a key for a table", "agent = 3\n", "goodlock.toml: agent: unknown; the keys here are bound, fail-on, suppressions, baseline, root"),
         ("a truth value for a number", "[summary]\ngroups = true\n", "goodlock.toml: summary.groups: not a whole number, 0 or more"),

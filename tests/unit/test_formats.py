@@ -13,10 +13,11 @@ from goodlock.formats import github, gitlab, junit, markdown, sarif
 from goodlock.formats import json as json_format
 from goodlock.gates import Gate, Judgement
 from goodlock.groups import location_of
+from goodlock.locations import Root
 from goodlock.program import version
-from goodlock.reports import Report
-from goodlock.results import LeftOut, Question, Result, ResultMember, Run, Spot, Verdict
-from samples import CONFIRMED, HAPPENED, HOLD, KNOWN, NOWHERE, POTENTIAL, SUPPRESSED, WAIT, run_of
+from goodlock.reports import Report, Verdict
+from goodlock.results import LeftOut, Question, Result, ResultMember, Run, Spot
+from samples import CONFIRMED, HAPPENED, HOLD, KNOWN, NO_VALUE, NOWHERE, POTENTIAL, SUPPRESSED, WAIT, run_of
 
 attr: Any = importlib.import_module("attr") if importlib.util.find_spec("sarif_om") else None
 Object = dict[str, Any]
@@ -36,7 +37,7 @@ def with_text(result: Result, text: str) -> Result:
 
 class Json(unittest.TestCase):
     def setUp(self) -> None:
-        self.question = Question(Report(0, 12, 2, 5, 3), (CONFIRMED, POTENTIAL, KNOWN, SUPPRESSED), LeftOut(4, 5, 6, 7), ("a note",))
+        self.question = Question(Report(0, 12, 2, 5, 3), (CONFIRMED, POTENTIAL, KNOWN, SUPPRESSED), LeftOut(4, 5, 6, 7, 2), ("a note",))
         self.run_ = replace(EVERYTHING, most=2)
 
     def summary(self) -> Object:
@@ -50,7 +51,7 @@ class Json(unittest.TestCase):
         self.assertEqual(found["unused_suppressions"], [7])
         self.assertEqual(found["gate"], {"fail_on": "new", "failing": 3, "status": 3})
         self.assertEqual(found["numbers"], {"events": 12, "threads": 3, "locks": 2, "dependencies": 2,
-                                            "cycles": {"confirmed": 2, "potential": 1, "tried": 0, "writers_wait": 0}, "happened": 0,
+                                            "cycles": {"confirmed": 2, "no_value": 0, "potential": 1, "tried": 0, "writers_wait": 0}, "happened": 0,
                                             "seconds": 0.25})
         self.assertEqual(found["fingerprints"], {"cc:2": "happened", "aa:1": "confirmed", "dd:1": "confirmed", "bb:1": "potential",
                                                  "ee:1": "confirmed", "ff:1": "confirmed"})
@@ -59,17 +60,17 @@ class Json(unittest.TestCase):
         question = self.summary()["questions"][0]
         shown = question.pop("shown")
         self.assertEqual(question, {
-            "question": 0, "length": 12, "bound": 2, "cycles": 5, "confirmed": 3, "groups": 4, "not_shown": 1,
+            "question": 0, "length": 12, "bound": 2, "cycles": 5, "confirmed": 3, "no_value": 2, "groups": 4, "not_shown": 1,
             "suppressed": {"groups": 1, "cycles": 3}, "known": {"groups": 1, "cycles": 3},
-            "left_out": {"tried": 4, "further": 5, "further_confirmed": 6, "writers_wait": 7}, "notes": ["a note"],
+            "left_out": {"tried": 4, "further": 5, "further_confirmed": 6, "further_no_value": 2, "writers_wait": 7}, "notes": ["a note"],
         })
         self.assertEqual([group["verdict"] for group in shown], ["confirmed", "potential"])
 
     def test_group(self) -> None:
         group = self.summary()["questions"][0]["shown"][0]
         members, witness = group.pop("members"), group.pop("witness")
-        self.assertEqual(group, {"verdict": "confirmed", "state": "new", "fingerprint": "aa:1", "cycles": 3, "confirmed": 2, "example": [0, 1],
-                                 "look_at": "Choose one order."})
+        self.assertEqual(group, {"verdict": "confirmed", "state": "new", "fingerprint": "aa:1", "cycles": 3, "confirmed": 2, "no_value": 0,
+                                 "example": [0, 1], "look_at": "Choose one order."})
         self.assertEqual(members[0], {
             "thread": 1, "thread_name": "teller", "held": [1],
             "holds": {"lock": 1, "lock_name": None, "place": 2, "location": HOLD, "file": "src/bank.c", "line": 34, "function": "transfer", "callers": []},
@@ -85,6 +86,22 @@ class Json(unittest.TestCase):
         self.assertEqual(group["kept_apart"], {"heading": "Kept apart by a join", "sentences": ["Thread 0 joins thread 5."],
                                                "steps_left_out": 2, "command": "goodlockd explain bank.trace --bound 2 --cycle 4,5"})
 
+    def test_no_value(self) -> None:
+        """A verdict of its own, with a witness and the reads that decide. It is the same after it was read again."""
+        run = run_of(NO_VALUE)
+        found = json.loads(json_format.summary_text("bank.trace", "bank.report", [Question(Report(0, 12, 2, 4, 0), (NO_VALUE,))], run, judged(run)))
+        group = found["questions"][0]["shown"][0]
+        self.assertEqual((group["verdict"], group["confirmed"], group["no_value"]), ("confirmed if no value decides", 0, 3))
+        self.assertEqual(group["kept_apart"]["sentences"], ["bank.c:4 in is_open reads memory that a thread wrote after bank.c:3 in open"])
+        self.assertEqual((found["questions"][0]["no_value"], found["fingerprints"]), (3, {"gg:1": "confirmed if no value decides"}))
+        again = json_format.result_from(group, Root())
+        self.assertEqual((again.verdict, again.no_value, again.why, again.witness and again.witness.events), (Verdict.NO_VALUE, 3, NO_VALUE.why, 4))
+        del group["no_value"], found["numbers"]["cycles"]["no_value"]  # an earlier version wrote it
+        self.assertEqual((json_format.result_from(group, Root()).no_value, json_format.numbers_from(found["numbers"]).no_value), (0, 0))
+        merged = json.loads(json_format.many_text(run, 1, judged(run)))["groups"][0]
+        self.assertEqual(merged["why"], "Kept apart only by what these reads see: bank.c:4 in is_open reads memory that a thread wrote after "
+                                        "bank.c:3 in open")
+
     def test_many(self) -> None:
         run = replace(self.run_, results=(replace(POTENTIAL, trace_count=2, traces=("a.trace", "b.trace")),))
         found = json.loads(json_format.many_text(run, 4, judged(run)))
@@ -92,7 +109,7 @@ class Json(unittest.TestCase):
                          (1, 4, 12, 3, 2, 0))
         self.assertEqual(found["faults"], {"b.trace": "b.trace:1: 1b2: not an event"})
         self.assertEqual(found["groups"], [{
-            "verdict": "potential", "state": "new", "fingerprint": "bb:1", "cycles": 1, "confirmed": 0, "example": [4, 5],
+            "verdict": "potential", "state": "new", "fingerprint": "bb:1", "cycles": 1, "confirmed": 0, "no_value": 0, "example": [4, 5],
             "members": [["src/audit.c:80 in audit", "src/audit.c:81 in audit"], ["src/audit.c:90 in review", "src/audit.c:91 in review"]],
             "look_at": "It is harmless.", "why": "Kept apart by a join", "traces": 2, "first_traces": ["a.trace", "b.trace"],
         }])
@@ -159,8 +176,9 @@ class Sarif(unittest.TestCase):
         driver = self.run_object()["tool"]["driver"]
         self.assertEqual((driver["name"], driver["version"]), ("goodlockd", version()))
         self.assertRegex(driver["version"], r"^[0-9]+\.[0-9]+\.[0-9]+$")
-        self.assertEqual([rule["id"] for rule in driver["rules"]], ["confirmed-deadlock", "potential-deadlock", "happened-deadlock"])
-        self.assertEqual([rule["defaultConfiguration"]["level"] for rule in driver["rules"]], ["error", "warning", "error"])
+        self.assertEqual([rule["id"] for rule in driver["rules"]], ["confirmed-deadlock", "potential-deadlock", "happened-deadlock",
+                                                                     "confirmed-if-no-value-decides-deadlock"])
+        self.assertEqual([rule["defaultConfiguration"]["level"] for rule in driver["rules"]], ["error", "warning", "error", "error"])
         for rule in driver["rules"]:
             self.assertTrue(rule["help"]["text"] and rule["fullDescription"]["text"] and rule["shortDescription"]["text"])
 
@@ -194,6 +212,9 @@ class Sarif(unittest.TestCase):
         ("known", KNOWN, "unchanged"),
         ("known, weaker now", replace(KNOWN, verdict=Verdict.POTENTIAL), "updated"),
         ("confirmed now", replace(CONFIRMED, before=Verdict.POTENTIAL), "new"),
+        ("confirmed now if no value decides", replace(NO_VALUE, before=Verdict.POTENTIAL), "new"),
+        ("confirmed if no value decides", replace(NO_VALUE, before=Verdict.NO_VALUE), "unchanged"),
+        ("confirmed with all values", replace(CONFIRMED, before=Verdict.NO_VALUE), "updated"),
         ("known, happened now", replace(KNOWN, verdict=Verdict.HAPPENED), "updated"),
         ("suppressed and known", replace(SUPPRESSED, before=Verdict.CONFIRMED), "unchanged"),
         ("suppressed", SUPPRESSED, "new"),
@@ -225,6 +246,13 @@ class Sarif(unittest.TestCase):
             (1, "thread 0 forks thread 1 at place 0"), (2, "thread 1 acquires lock 1 at place 2"), (3, "thread 2 acquires lock 2 at place 6"),
             (4, "thread 1 (teller) waits for lock 2 at place 3"), (5, "thread 2 waits for lock 1 at place 7")])
         self.assertNotIn("codeFlows", self.result(POTENTIAL))
+
+    def test_no_value(self) -> None:
+        found = self.result(NO_VALUE)
+        self.assertEqual((found["ruleId"], found["level"], "codeFlows" in found), ("confirmed-if-no-value-decides-deadlock", "error", True))
+        self.assertEqual(found["message"]["text"], NO_VALUE.message)
+        self.assertRegex(NO_VALUE.message, r"^Deadlock, if no value decides: .* \(4 cycles, 0 confirmed, 3 if no value decides\)\. Kept apart only by what "
+                                           r"these reads see: bank\.c:4 in is_open reads memory that a thread wrote after bank\.c:3 in open\. ")
 
     def test_invocation(self) -> None:
         for name, run, fail_on, successful, code in [
@@ -278,18 +306,19 @@ class JUnit(unittest.TestCase):
     def outcomes(self, run: Run, fail_on: str | None = None) -> list[str]:
         return ["+".join(child.tag for child in case) or "passes" for case in self.suites(run, fail_on).iter("testcase")]
 
-    # results, and their outcomes with no word, confirmed, potential, new; the first case is the trace
+    # results, and their outcomes with no word, confirmed, certain, potential, new, new-certain; the first case is the trace
     CASES: list[tuple[str, Result, str]] = [
-        ("confirmed", CONFIRMED, "failure failure failure failure"),
-        ("happened", HAPPENED, "failure failure failure failure"),
-        ("potential", POTENTIAL, "system-out system-out failure system-out"),
-        ("known", KNOWN, "skipped failure failure skipped"),
-        ("suppressed", SUPPRESSED, "skipped skipped skipped skipped"),
+        ("confirmed", CONFIRMED, "failure failure failure failure failure failure"),
+        ("confirmed if no value decides", NO_VALUE, "failure failure system-out failure failure system-out"),
+        ("happened", HAPPENED, "failure failure failure failure failure failure"),
+        ("potential", POTENTIAL, "system-out system-out system-out failure system-out system-out"),
+        ("known", KNOWN, "skipped failure failure failure skipped skipped"),
+        ("suppressed", SUPPRESSED, "skipped skipped skipped skipped skipped skipped"),
     ]
 
     def test_outcomes(self) -> None:
         for name, result, outcomes in self.CASES:
-            for fail_on, outcome in zip((None, "confirmed", "potential", "new"), outcomes.split()):
+            for fail_on, outcome in zip((None, "confirmed", "certain", "potential", "new", "new-certain"), outcomes.split()):
                 with self.subTest(f"{name}, {fail_on}"):
                     self.assertEqual(self.outcomes(run_of(result), fail_on), ["passes", outcome])
 
@@ -340,6 +369,7 @@ class GitHub(unittest.TestCase):
     CASES: list[tuple[str, Result, str]] = [
         ("confirmed", CONFIRMED, f"::error file=src/bank.c,line=35,title=Deadlock::{CONFIRMED.message}"),
         ("happened", HAPPENED, f"::error file=src/bank.c,line=35,title=Deadlock that happened::{HAPPENED.message}"),
+        ("if no value decides", NO_VALUE, f"::error file=src/bank.c,line=35,title=Deadlock%2C if no value decides::{NO_VALUE.message}"),
         ("potential", POTENTIAL, f"::warning file=src/audit.c,line=81,title=Potential deadlock::{POTENTIAL.message}"),
         ("known", KNOWN, f"::notice file=src/bank.c,line=35,title=Deadlock::{KNOWN.message}"),
         ("no source lines", NOWHERE, f"::error title=Deadlock::{NOWHERE.message}"),
@@ -408,6 +438,8 @@ class GitLab(unittest.TestCase):
             ("happened-deadlock", "blocker"), ("confirmed-deadlock", "critical"), ("confirmed-deadlock", "critical"),
             ("potential-deadlock", "minor"), ("confirmed-deadlock", "critical"), ("no-report", "major")])
         self.assertEqual(self.issues(run_of()), [])
+        self.assertEqual([(issue["check_name"], issue["severity"]) for issue in self.issues(run_of(NO_VALUE))],
+                         [("confirmed-if-no-value-decides-deadlock", "major")])
 
     def test_no_source_lines(self) -> None:
         self.assertEqual(self.issues(run_of(NOWHERE))[0]["location"], {"path": "bank.trace", "lines": {"begin": 1}})
@@ -440,6 +472,14 @@ class Markdown(unittest.TestCase):
         self.assertFalse([line for line in lines if line.startswith("| suppressed")])
         self.assertIn("- `2 threads started in a way that is not seen`", lines)
         self.assertEqual(lines[-1], "12 events, 3 threads, 2 locks, 2 dependencies; 2 confirmed cycles, 1 potential cycle, in 6 groups; 0.2 s")
+
+    def test_no_value(self) -> None:
+        text = self.text(replace(run_of(NO_VALUE), numbers=replace(run_of().numbers, no_value=3)))
+        self.assertIn("| 4 cycles, 0 confirmed, 3 if no value decides |\n", text)
+        self.assertIn("| new | confirmed if no value decides | ", text)
+        self.assertIn("\n\n    Kept apart only by what these reads see:\n    bank.c:4 in is_open reads memory that a thread wrote after bank.c:3 in open\n"
+                      "    0: thread 0 forks thread 1\n", text)
+        self.assertIn("; 2 confirmed cycles, 3 if no value decides, 1 potential cycle, in 1 group; ", text)
 
     def test_witness(self) -> None:
         text = self.text(run_of(CONFIRMED, KNOWN))

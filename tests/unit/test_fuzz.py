@@ -28,7 +28,7 @@ CONFIG = 'bound = 3\nfail-on = "new"\nsuppressions = "suppressions"\n[summary]\n
 BASELINE = '{"fingerprints": {"aa:1": "confirmed", "bb:1": "potential"}}'
 WINDOW = "# mark 3\n# lock 3 is mark\n# line 7 of x.std\n# at x.c:3 in f\n0f1 0f2 1w5\n1a10 1a3 1a20 1r3\n1r20 1r10 2d5 0j1\n"
 SECOND = "# window 2\n# repeated 1\n0f2\n# place 3 of y\n2a20\n# line 9 of x.std\n2a10 2r10 2r20\n# thread 2 is y\n"
-COUNTS = "attached 1\nlock_events 8\nthreads 3\nread_locks 0\ncrowded_locks 0\nunseen 0\noverflowing 0\noff 0\nframes 1\n"
+COUNTS = "attached 1\nlock_events 8\nthreads 3\nread_locks 0\ncrowded_locks 0\nunseen 0\noverflowing 0\noff 0\nvalues 15\nframes 1\n"
 ORDERS = text_of_lines("k-9 acquire (work_completion)(&w)", "k-9 workqueue_execute_start work struct 0xd1: function f", "k-9 take read A",
                        "p-1/..s. take &x->wait", "k-9 sched_waking comm=p pid=1 prio=1", "k-9 sched_process_fork comm=k pid=9 child_comm=c child_pid=3",
                        "k-9 release (work_completion)(&w)", "c-3 take A", "c-3 release B", "p-1 workqueue_queue_work work struct=0xd1 function=f")

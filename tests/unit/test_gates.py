@@ -8,7 +8,7 @@ from goodlock.gates import Gate, Judge, Level, Suppressions, level_of, read_base
 from goodlock.groups import Pair
 from goodlock.locations import Root
 from goodlock.results import LeftOut, Result, State, Verdict
-from samples import CONFIRMED, HAPPENED, KNOWN, NOWHERE, POTENTIAL, SUPPRESSED
+from samples import CONFIRMED, HAPPENED, KNOWN, NO_VALUE, NOWHERE, POTENTIAL, SUPPRESSED
 from written import InFolder
 
 NO_SUPPRESSIONS = Suppressions(None, Root("/top"))
@@ -103,6 +103,11 @@ class Baseline(InFolder):
         ("happened now, potential before", Verdict.HAPPENED, Verdict.POTENTIAL, State.NEW),
         ("happened now, confirmed before", Verdict.HAPPENED, Verdict.CONFIRMED, State.KNOWN),
         ("happened before", Verdict.CONFIRMED, Verdict.HAPPENED, State.KNOWN),
+        ("if no value decides", Verdict.NO_VALUE, None, State.NEW),
+        ("if no value decides, as before", Verdict.NO_VALUE, Verdict.NO_VALUE, State.KNOWN),
+        ("if no value decides, potential before", Verdict.NO_VALUE, Verdict.POTENTIAL, State.NEW),
+        ("potential, if no value decides before", Verdict.POTENTIAL, Verdict.NO_VALUE, State.KNOWN),
+        ("confirmed, if no value decides before", Verdict.CONFIRMED, Verdict.NO_VALUE, State.KNOWN),
     ]
 
     def test_state(self) -> None:
@@ -125,21 +130,26 @@ class Baseline(InFolder):
 class Failing(unittest.TestCase):
     KNOWN_POTENTIAL = replace(POTENTIAL, state=State.KNOWN)
     SUPPRESSED_HAPPENED = replace(HAPPENED, state=State.SUPPRESSED)
-    # a result, and whether the command fails: with no word, confirmed, potential, new
-    CASES: list[tuple[str, Result, tuple[bool, bool, bool, bool]]] = [
-        ("confirmed", CONFIRMED, (False, True, True, True)),
-        ("happened", HAPPENED, (False, True, True, True)),
-        ("potential", POTENTIAL, (False, False, True, False)),
-        ("known and confirmed", KNOWN, (False, True, True, False)),
-        ("known and happened", replace(HAPPENED, state=State.KNOWN), (False, True, True, False)),
-        ("known and potential", KNOWN_POTENTIAL, (False, False, True, False)),
-        ("suppressed", SUPPRESSED, (False, False, False, False)),
-        ("suppressed and happened", SUPPRESSED_HAPPENED, (False, False, False, False)),
+    WORDS = ("confirmed", "certain", "potential", "new", "new-certain")
+    # a result, and the words with which the command fails
+    CASES: list[tuple[str, Result, str]] = [
+        ("confirmed", CONFIRMED, "confirmed certain potential new new-certain"),
+        ("happened", HAPPENED, "confirmed certain potential new new-certain"),
+        ("if no value decides", NO_VALUE, "confirmed potential new"),
+        ("potential", POTENTIAL, "potential"),
+        ("known and confirmed", KNOWN, "confirmed certain potential"),
+        ("known and happened", replace(HAPPENED, state=State.KNOWN, before=Verdict.CONFIRMED), "confirmed certain potential"),
+        ("known if no value decides", replace(NO_VALUE, state=State.KNOWN, before=Verdict.CONFIRMED), "confirmed potential"),
+        ("known if no value decides, confirmed now", replace(KNOWN, before=Verdict.NO_VALUE), "confirmed certain potential new-certain"),
+        ("known and potential", KNOWN_POTENTIAL, "potential"),
+        ("suppressed", SUPPRESSED, ""),
+        ("suppressed and happened", SUPPRESSED_HAPPENED, ""),
     ]
 
     def test_fails(self) -> None:
         for name, result, wanted in self.CASES:
-            for fail_on, fails in zip((None, "confirmed", "potential", "new"), wanted):
+            for fail_on in (None, *self.WORDS):
+                fails = fail_on in wanted.split()
                 with self.subTest(f"{name}, {fail_on}"):
                     self.assertEqual(Gate(fail_on).fails_on(result), fails)
                     self.assertEqual(Gate(fail_on).judgement([POTENTIAL, result] if fail_on != "potential" else [result]).status,
@@ -152,6 +162,10 @@ class Failing(unittest.TestCase):
             (LeftOut(further=5, further_confirmed=2), "confirmed", 2),
             (LeftOut(further=5, further_confirmed=2), "new", 2),
             (LeftOut(further=5, further_confirmed=2), None, 0),
+            (LeftOut(further=5, further_confirmed=2, further_no_value=1), "confirmed", 3),
+            (LeftOut(further=5, further_confirmed=2, further_no_value=1), "new", 3),
+            (LeftOut(further=5, further_confirmed=2, further_no_value=1), "certain", 2),
+            (LeftOut(further=5, further_confirmed=2, further_no_value=1), "new-certain", 2),
             (LeftOut(tried=5), "potential", 0),
         ]:
             with self.subTest(f"{left_out} {fail_on}"):
@@ -159,8 +173,8 @@ class Failing(unittest.TestCase):
                 self.assertEqual((judgement.unjudged, judgement.status), (unjudged, 3 if unjudged else 0))
 
     def test_sentence(self) -> None:
-        self.assertEqual(Gate("potential").judgement([CONFIRMED, NOWHERE, POTENTIAL, HAPPENED], LeftOut(further=7)).sentence,
-                         "--fail-on potential: 1 happened, 2 confirmed, 1 potential, 7 cycles in no group")
+        self.assertEqual(Gate("potential").judgement([CONFIRMED, NOWHERE, POTENTIAL, NO_VALUE, HAPPENED], LeftOut(further=7)).sentence,
+                         "--fail-on potential: 1 happened, 2 confirmed, 1 confirmed if no value decides, 1 potential, 7 cycles in no group")
         self.assertEqual(Gate("new").judgement([CONFIRMED, KNOWN]).sentence, "--fail-on new: 1 confirmed")
         self.assertEqual(Gate("new").judgement([KNOWN, POTENTIAL, SUPPRESSED]).sentence, "")
 

@@ -3,7 +3,7 @@ import unittest
 
 from goodlock.groups import Group, Groups, Location, Pair, advice_for, key_of, location_of, merge, sides_of
 from goodlock.parts import Basis
-from goodlock.reports import Cycle
+from goodlock.reports import Cycle, Verdict
 from written import cycles_of, ends, index_of
 
 
@@ -83,6 +83,26 @@ class ByLocation(unittest.TestCase):
             groups, _ = grouped(BANK, REPORT, whole=whole)
             self.assertEqual(len(groups.ordered()[0].example.witness), length)
 
+    def test_verdicts_with_values(self) -> None:
+        """The strongest evidence is first, and gives a group its verdict and its witness. Each verdict has its own limits."""
+        trace = "0f1 0f2\n" + "".join(f"# at a.c:{line}\n1a{lock} 1a{lock + 1} 1r{lock + 1} 1r{lock} 2a{lock + 1} 2a{lock} 2r{lock} 2r{lock + 1}\n"
+                                      for line, lock in ((1, 10), (2, 20), (3, 30), (2, 40), (4, 50)))
+        rows = ["potential", "no value", "confirmed", "potential", "no value"]
+        report = "question 0 length 42 bound 2 cycles 5 confirmed 1\n"
+        for at, row in enumerate(rows):
+            lock, first, last = 10 * at + 10, 8 * at + 3, 8 * at + 7
+            places = (f" place {first}", f" place {last}") if row == "confirmed" else ("", "")
+            report += (f"cycle {2 * at} {2 * at + 1} {'confirmed' if row == 'confirmed' else 'potential'}\n  thread 1 lock {lock + 1} holds {lock}{places[0]}\n"
+                       f"  thread 2 lock {lock} holds {lock + 1}{places[1]}\n")
+            report += "  witness 0\n" if row == "confirmed" else ""
+            report += f"    confirmed if no value decides: places {first} {last}\n      witness 0 1\n" if row == "no value" else ""
+        groups, kept = grouped(trace, report, whole=1)
+        self.assertEqual([(group.verdict, group.cycles, group.confirmed, group.no_value, group.example.witness) for group in groups.ordered()], [
+            (Verdict.CONFIRMED, 1, 1, 0, [0]), (Verdict.NO_VALUE, 2, 0, 1, [0, 1]), (Verdict.NO_VALUE, 1, 0, 1, []), (Verdict.POTENTIAL, 1, 0, 0, [])])
+        groups, kept = grouped(trace, report, most=1)
+        self.assertEqual((kept, groups.further, groups.further_confirmed, groups.further_no_value), ([True, True, True, True, False], 1, 0, 1))
+        self.assertEqual(groups.no_value, 2)
+
     def test_steps_of_a_long_witness(self) -> None:
         """Of 15 events the list shows the forks, the acquires of held locks, and the events before the last ones."""
         trace = "0f1 0f2\n" + "1w1 " * 10 + "1a10 1w2 1a20 1r20 1r10\n2a20 2a10 2r10 2r20\n"
@@ -106,14 +126,17 @@ class Keys(unittest.TestCase):
         self.assertEqual([tuple(side) for side in sides_of(index, cycles[2].members)], [(21, 22), (27, 28)])
 
     def test_merge(self) -> None:
-        """The first confirmed group is kept, or the first one, with the counts of all."""
-        for confirmed, kept in [([0, 0], 0), ([0, 1, 2], 1), ([1, 0], 0), ([1, 1], 0)]:
+        """The first group with the strongest evidence is kept, with the counts of all."""
+        certain, no_value, potential = Verdict.CONFIRMED, Verdict.NO_VALUE, Verdict.POTENTIAL
+        for verdicts, kept in [([potential, potential], 0), ([potential, certain, certain], 1), ([certain, potential], 0), ([certain, certain], 0),
+                               ([potential, no_value, potential], 1), ([no_value, no_value], 0), ([no_value, certain], 1), ([certain, no_value], 0)]:
             groups: dict[str, Group] = {}
-            made = [Group(Cycle((at,), bool(number)), [], 2, number) for at, number in enumerate(confirmed)]
+            made = [Group(Cycle((at,), verdict), [], 2, 2 * (verdict is certain), no_value=verdict is no_value) for at, verdict in enumerate(verdicts)]
             for group in made:
                 merge(groups, "key", group)
             self.assertIs(groups["key"], made[kept])
-            self.assertEqual((groups["key"].cycles, groups["key"].confirmed), (2 * len(made), sum(confirmed)))
+            self.assertEqual((groups["key"].cycles, groups["key"].confirmed, groups["key"].no_value),
+                             (2 * len(made), 2 * verdicts.count(certain), verdicts.count(no_value)))
 
     def test_location(self) -> None:
         for text, file, line, function in [

@@ -29,25 +29,37 @@ class Compares(unittest.TestCase):
     def test_limits_of_the_agent_for_pthreads(self) -> None:
         found = values_in(r"^#define ([A-Z_]+) ([0-9]+)u$", "pthread", "limits.h") | values_in(r"\b(MOST_[A-Z]+) = ([0-9]+)", "pthread", "limits.h")
         self.assertEqual(found, {name: getattr(limits, name) for name in (
-            "MOST_EVENTS", "MOST_THREADS", "MOST_HELD", "MOST_DEPTH", "FIRST_THREAD", "HELPERS", "TRY_MARKERS", "TIMED_MARKERS")})
+            "MOST_EVENTS", "MOST_THREADS", "MOST_HELD", "MOST_DEPTH", "FIRST_THREAD", "HELPERS", "TRY_MARKERS", "TIMED_MARKERS",
+            "ATOMIC_VALUES", "PLAIN_VALUES")})
 
     def test_limits_of_the_reducer(self) -> None:
         text = text_of("reducer", "reducer.h", folder=TOOLS)
         found = {name: int(number) << int(shift or 0) for name, number, shift in re.findall(r"\b(MOST_[A-Z_]+) = ([0-9]+)(?: << ([0-9]+))?", text)}
-        of_input = {"MOST_HELD_OF_RUN": limits.MOST_HELD_OF_RUN, "MOST_THREADS_OF_RUN": 1 << 27, "MOST_COMMENT": 1 << 16}
-        self.assertEqual(found, of_input | {name: getattr(limits, name) for name in ("MOST_EVENTS", "MOST_THREADS", "MOST_HELD", "MOST_DEPTH")})
+        self.assertEqual(found, {"MOST_HELD_OF_RUN": limits.MOST_HELD_OF_RUN, "MOST_THREADS_OF_RUN": 1 << 27, "MOST_COMMENT": 1 << 16,
+                                 "MOST_VALUES": limits.MOST_VALUES})
 
     def test_kinds_of_the_crate_for_rust(self) -> None:
         found = values_in(r"^    ([A-Z][A-Za-z]+) = ([0-9]+)(?: \| [A-Z_]+)*,$", "rust", "src", "recorder.rs")
         ring = {name[2:].replace("_", "").lower(): number for name, number in kinds_of_the_ring().items()}
-        ring["readtried"] = ring["readlock"]  # with a flag
+        ring |= {"readtried": ring["readlock"], "notify": ring["give"]}  # with flags
         self.assertEqual(found, {name: ring[name.lower()] for name in found})
         self.assertGreater(len(found), 5)
 
     def test_flags_of_the_crate_for_rust(self) -> None:
-        flags = values_in(r"\b(READS_TRIED|PREFERS_WRITERS) = ([0-9]+)", "pthread", "ring.h")
+        flags = values_in(r"\b(READS_TRIED|PREFERS_WRITERS|BY_CONDITION) = ([0-9]+)", "pthread", "ring.h")
         self.assertEqual(values_in(r"^const ([A-Z_]+): u32 = ([0-9]+) << 8;$", "rust", "src", "recorder.rs"),
-                         {"TRIED": flags["READS_TRIED"], "WRITERS_FIRST": flags["PREFERS_WRITERS"]})
+                         {"TRIED": flags["READS_TRIED"], "WRITERS_FIRST": flags["PREFERS_WRITERS"], "BY_CONDITION": flags["BY_CONDITION"]})
+
+    def test_kinds_of_the_agent_for_java(self) -> None:
+        kinds = values_in(r"^    public static final int ([A-Z_]+) = ([0-9]+);$", "java", "src", "goodlock", "recorder", "Kind.java")
+        flags = values_in(r"\b(WAITS_FOR_[A-Z]+|WITHOUT_END|BY_CONDITION|BY_VALUE) = ([0-9]+)", "pthread", "ring.h") | {"WAITS_FOR_THREAD": 2}
+        ring = {name[2:]: number for name, number in kinds_of_the_ring().items()} | flags
+        self.assertEqual(kinds, {name: ring[name] for name in kinds})
+        self.assertGreater(len(kinds), 20)
+
+    def test_flags_of_the_agent_for_java(self) -> None:
+        flags = values_in(r"\b(READS_TRIED|READS_TIMED|PREFERS_WRITERS) = ([0-9]+)", "pthread", "ring.h")
+        self.assertEqual(values_in(r"^    public static final int ([A-Z_]+) = ([0-9]+) << 8;$", "java", "src", "goodlock", "recorder", "Kind.java"), flags)
 
     def test_kinds_of_the_recorder_for_python(self) -> None:
         namespace: dict[str, int] = {}

@@ -9,7 +9,7 @@ from goodlock.gates import Judge, Suppressions
 from goodlock.locations import Root
 from goodlock.merging import Merged, merged
 from goodlock.results import LeftOut, Numbers, Result, State, Verdict
-from samples import CONFIRMED, NOWHERE, NUMBERS, POTENTIAL
+from samples import CONFIRMED, NO_VALUE, NOWHERE, NUMBERS, POTENTIAL
 from written import InFolder
 
 ROOT = Root("/top")
@@ -27,7 +27,7 @@ def written(*results: Result, **left_out: int) -> dict[str, Any]:
 class Again(unittest.TestCase):
     def test_same(self) -> None:
         reproduced = replace(CONFIRMED, reproduced=("reproduced in run 1, 0.50 s, 4 steps", "thread 1 waits"), reproduce="goodlock ..")
-        for result in (CONFIRMED, POTENTIAL, NOWHERE, reproduced):
+        for result in (CONFIRMED, POTENTIAL, NOWHERE, NO_VALUE, reproduced):
             plain = replace(result, fingerprint="", traces=())
             if plain.kept_apart:
                 plain = replace(plain, kept_apart=replace(plain.kept_apart, further=""))
@@ -35,7 +35,7 @@ class Again(unittest.TestCase):
                 self.assertEqual(result_from(json.loads(json.dumps(result_object(result))), ROOT), plain)
 
     def test_numbers(self) -> None:
-        numbers = Numbers(1, 2, 3, 4, 5, 6, 7, 8, 9.5)
+        numbers = Numbers(1, 2, 3, 4, 5, 6, 7, 8, 9.5, 10, 11)
         self.assertEqual(numbers_from(numbers_object(numbers)), numbers)
 
     def test_relative_to_another_root(self) -> None:
@@ -52,6 +52,13 @@ class TwoResults(unittest.TestCase):
     def test_counts(self) -> None:
         both = merged(self.FIRST, self.SECOND)
         self.assertEqual((both.cycles, both.confirmed, both.trace_count, both.traces, both.example), (13, 12, 2, ("a", "b"), (0, 1)))
+
+    def test_values(self) -> None:
+        """What is confirmed if no value decides is stronger than a potential result, and weaker than a confirmed one."""
+        for other, verdict, confirmed in ((self.WEAK, Verdict.NO_VALUE, 0), (self.FIRST, Verdict.CONFIRMED, 2)):
+            for first, second in ((NO_VALUE, other), (other, NO_VALUE)):
+                both = merged(first, second)
+                self.assertEqual((both.verdict, both.cycles, both.confirmed, both.no_value), (verdict, 4 + other.cycles, confirmed, 3))
 
     def test_stronger(self) -> None:
         for first, second in ((self.FIRST, self.WEAK), (self.WEAK, self.FIRST)):

@@ -5,7 +5,7 @@ from unittest.mock import patch
 
 from goodlock import refutations
 from goodlock.reasons import Reason, reasons_of
-from goodlock.reports import Cycle, Report
+from goodlock.reports import Cycle, Report, Verdict
 from written import InFolder, cycles_of, environment, index_of
 
 # A fork and a join keep threads 1 and 2 apart: 1 ends before 2 begins.
@@ -109,7 +109,7 @@ class Words(unittest.TestCase):
         refutation = refutations.Refutation()
         refutation.add(refutations.RefutationStep(entries, 1, 3, 6))
         refutation.add(refutations.RefutationStep(entries, 1, 6, None))
-        reason = Reason(index, Report(0, 8, 2, 1, 0), Cycle((0, 1), False), refutation, "")
+        reason = Reason(index, Report(0, 8, 2, 1, 0), Cycle((0, 1), Verdict.POTENTIAL), refutation, "")
         self.assertEqual(reason.heading, "Kept apart by a read and the order of critical sections")
         self.assertEqual(reason.sentences[:3], [
             "At place 6 thread 2 acquires lock 10; thread 1 acquired it before, at place 2, so it must have released it, at place 3.",

@@ -4,7 +4,7 @@ import unittest
 from array import array
 
 from goodlock.completion import MOST_SHOWN, ends_of, front, note_of
-from goodlock.reducer import Reduced, Source, Spot, Verdict
+from goodlock.reducer import Reduced, Replay, Source, Spot
 from goodlock.reduction import Job, copy_to, folder_beside, lines_about
 from goodlock.traces import Origin
 from written import InFolder, index_of, trace_of
@@ -57,20 +57,20 @@ class Completion(unittest.TestCase):
     def test_ends(self) -> None:
         """Thread 1 goes on through its releases, and ends before its next acquire. Thread 0 has no further event."""
         index, places = index_of("0f1 0f2\n1a1 1r1 1a3\n2a2 2a1\n"), [10, 11, 20, 25, 30, 40, 50]
-        self.assertEqual(list(ends_of(index, places, [0, 1, 2, 5])), [(1, 30), (2, 50)])
-        self.assertEqual(list(ends_of(index, places, [0])), [(0, 11), (1, 20), (2, 40)])
-        self.assertEqual(list(ends_of(index, places, range(7))), [])
+        self.assertEqual(list(ends_of(index, index.thread_places, places, [0, 1, 2, 5])), [(1, 30), (2, 50)])
+        self.assertEqual(list(ends_of(index, index.thread_places, places, [0])), [(0, 11), (1, 20), (2, 40)])
+        self.assertEqual(list(ends_of(index, index.thread_places, places, range(7))), [])
 
     def test_notes(self) -> None:
         one, two = [Source("/copy", "run.trace")], [Source("run.trace"), Source("run.2.trace")]
         ends = {2: Spot(1, 5, 0), 0: Spot(0, 17, 0)}
-        self.assertEqual(note_of(Verdict("", None, ends), two),
+        self.assertEqual(note_of(Replay("", None, ends), two),
                          "in the whole run thread 0 runs to place 17 of run.trace, thread 2 runs to place 5 of run.2.trace")
-        self.assertEqual(note_of(Verdict("", None, {1: Spot(0, 5, 44)}), one), "in the whole run thread 1 runs to line 44")
-        self.assertEqual(note_of(Verdict("", None, {}), one), "in the whole run nothing has to run before")
-        self.assertEqual(note_of(Verdict("Overlap", Spot(0, 5, 0), {}), one), "not confirmed in the whole run: its replay has the fault Overlap at place 5")
+        self.assertEqual(note_of(Replay("", None, {1: Spot(0, 5, 44)}), one), "in the whole run thread 1 runs to line 44")
+        self.assertEqual(note_of(Replay("", None, {}), one), "in the whole run nothing has to run before")
+        self.assertEqual(note_of(Replay("Overlap", Spot(0, 5, 0), {}), one), "not confirmed in the whole run: its replay has the fault Overlap at place 5")
         for count, more in [(MOST_SHOWN, ""), (MOST_SHOWN + 1, ", and 1 more thread"), (MOST_SHOWN + 2, ", and 2 more threads")]:
-            note = note_of(Verdict("", None, {thread: Spot(0, thread, 0) for thread in range(count)}), one)
+            note = note_of(Replay("", None, {thread: Spot(0, thread, 0) for thread in range(count)}), one)
             self.assertTrue(note.endswith(f"thread {MOST_SHOWN - 1} runs to place {MOST_SHOWN - 1}{more}"), note)
 
 

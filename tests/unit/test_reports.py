@@ -2,7 +2,7 @@
 import unittest
 
 from goodlock.errors import InputError
-from goodlock.reports import AnyEvents, Cycle, Member, Report, member_of, places_in, read_reports
+from goodlock.reports import AnyEvents, Cycle, Member, Report, ValueRead, Verdict, member_of, places_in, read_reports
 from written import OPPOSITE, OPPOSITE_REPORT, cycles_of, index_of
 
 POTENTIAL = """question 3 length 10 bound 4 cycles 1 confirmed 0
@@ -19,13 +19,42 @@ class Reads(unittest.TestCase):
     def test_confirmed(self) -> None:
         report, cycles = cycles_of(index_of(OPPOSITE), OPPOSITE_REPORT)
         self.assertEqual(report, Report(0, 10, 2, 1, 1))
-        self.assertEqual(cycles, [Cycle((0, 1), True, MEMBERS, [0, 1, 2, 6])])
-        self.assertEqual((cycles[0].name, cycles[0].verdict), ("0 1", "confirmed"))
+        self.assertEqual(cycles, [Cycle((0, 1), Verdict.CONFIRMED, MEMBERS, [0, 1, 2, 6])])
+        self.assertEqual((cycles[0].name, cycles[0].verdict), ("0 1", Verdict.CONFIRMED))
 
     def test_potential_of_an_agent(self) -> None:
         _, cycles = cycles_of(index_of(OPPOSITE), POTENTIAL)
         members = [member._replace(place=None) for member in MEMBERS]
-        self.assertEqual(cycles, [Cycle((0, 1), False, members, [], 3, 2)])
+        self.assertEqual(cycles, [Cycle((0, 1), Verdict.POTENTIAL, members, [], 3, 2)])
+
+    def test_verdict_with_values(self) -> None:
+        """A potential cycle may be confirmed if no value decides. The head of the report says that values were weighed."""
+        note = "    confirmed if no value decides: places 3 7\n      witness 0 1 2 6\n      place 5 reads what place 4 wrote: a.c:4 reads\n"
+        more = POTENTIAL.replace("2 of them confirmed", "1 of them confirmed, 2 if no value decides").replace("    and", f"{note}    and")
+        _, cycles = cycles_of(index_of(OPPOSITE), more)
+        self.assertEqual(cycles, [Cycle((0, 1), Verdict.NO_VALUE, MEMBERS, [0, 1, 2, 6], 3, 1, 2, reads=[ValueRead(5, 4, "a.c:4 reads")])])
+        self.assertEqual((cycles[0].row, cycles[0].count(Verdict.CONFIRMED), cycles[0].count(Verdict.NO_VALUE)), ("cycle 0 1 potential", 1, 3))
+        for head, is_graded in (("    confirmed if no value decides: 0 cycles\n", True), ("    confirmed if no value decides: 1,000 cycles\n", True), ("", False)):
+            _, cycles = cycles_of(index_of(OPPOSITE), POTENTIAL.replace("confirmed 0\n", f"confirmed 0\n{head}"))
+            self.assertEqual((cycles[0].verdict, cycles[0].is_graded), (Verdict.POTENTIAL, is_graded))
+
+    def test_wrong_notes_about_values(self) -> None:
+        places, witness = "    confirmed if no value decides: places 3 7", "      witness 0 1 2 6"
+        for report, notes, message in [
+            (POTENTIAL, ["    confirmed if no value decides: places 3"], "confirmed if no value decides: places 3: does not fit the trace, which has no such acquires"),
+            (POTENTIAL, ["    confirmed if no value decides: places 3 6"], ".*: does not fit the trace, which has no such acquires"),
+            (POTENTIAL, ["    confirmed if no value decides: places 3 99"], ".*: does not fit the trace, which has no such acquires"),
+            (POTENTIAL, [places], "the report ends within its cycles: the first line has 1"),
+            (POTENTIAL, [places, "      witness 0 2 1"], "witness 0 2 1: does not fit the trace: these are not ascending places of the trace"),
+            (POTENTIAL, [places, "      witness 0 99"], "witness 0 99: does not fit the trace: .*"),
+            (POTENTIAL, [witness], "witness 0 1 2 6: no witness of places is here"),
+            (POTENTIAL, [places, witness, places], ".*: no potential cycle is before it"),
+            (OPPOSITE_REPORT, [places], ".*: no potential cycle is before it"),
+            (POTENTIAL, [places, witness, "      place 4 reads what place 5 wrote: x"], "place 4 .*: does not fit the trace"),
+            (POTENTIAL, [places, witness, "      place 10 reads what place 5 wrote: x"], "place 10 .*: does not fit the trace"),
+        ]:
+            with self.subTest(notes=notes), self.assertRaisesRegex(InputError, f"^bank.report:[0-9]+: {message}$"):
+                cycles_of(index_of(OPPOSITE), report + "\n".join(notes))
 
     def test_output_of_a_script(self) -> None:
         text = "placed 0\nrefused 2 Unforked\nopened 0 length 10 total 2\nworked 2\n" + OPPOSITE_REPORT + "status 0 accepted 10\n" + POTENTIAL

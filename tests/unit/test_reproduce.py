@@ -11,21 +11,22 @@ from typing import Optional
 from goodlock.commands.agent_reproduce import numbers, seconds, tries
 from goodlock.errors import InputError
 from goodlock.groups import Pair, key_of
+from goodlock.limits import ATOMIC_VALUES, MOST_VALUES, PLAIN_VALUES
 from goodlock.reducer import ReducerError, Source, reduced
-from goodlock.reports import AnyEvents, Cycle, Member, read_reports
+from goodlock.reports import AnyEvents, Cycle, Member, Verdict, read_reports
 from goodlock.reproduce.buildid import build_id_of, id_in, is_elf
 from goodlock.reproduce.calls import NO_CALL, File, Log, Place, command_of, read_log
+from goodlock.reproduce.drive import schedules
 from goodlock.reproduce.notes import command_for, reproduced_in, with_note
 from goodlock.reproduce.outcome import Outcome, Waiter, read_waiters
 from goodlock.reproduce.recorded import check_builds, find_cycle
 from goodlock.reproduce.schedule import CALL, HEAD, HELD, LANE, REACH, Schedule, address_text, places_before, recorded
 from goodlock.traces import Index, Trace
-from written import InFolder, index_of
+from written import END, EVENT, HEADER, InFolder, entry, event, index_of, number
 
 FORK, JOINED, LOCK, UNLOCK, TAKE = 1, 7, 9, 12, 20
-EVENT, OTHER, EXEC, CUT, END = 22, 28, 29, 30, 31
+OTHER, EXEC, CUT = 28, 29, 30
 SAME_THREAD, SAME_OBJECT, SAME_SITE = 32, 64, 128
-HEADER = b"goodcalls 2\n" + struct.pack("<I", 7) + b"./bank\0"
 BANK = "0f1 0f2 1a1 1a2 1r2 1r1 0j1 2a2 2a1 2r1 2r2 0j2"
 BANK_REPORT = """question 0 length 12 bound 2 cycles 1 confirmed 1
 cycle 0 1 confirmed
@@ -33,21 +34,7 @@ cycle 0 1 confirmed
   thread 2 lock 1 holds 2 place 8
   witness 0 1 2 7
 """
-BANK_CYCLE = Cycle((0, 1), True, [Member(1, 2, (1,), 3), Member(2, 1, (2,), 8)], [0, 1, 2, 7])
-
-
-def number(value: int) -> bytes:
-    parts = [value >> shift & 127 for shift in range(0, max(1, value.bit_length()), 7)]
-    return bytes([part | 128 for part in parts[:-1]] + parts[-1:])
-
-
-def entry(kind: int, thread: int = 0, about: int = 0, site: int = 0) -> bytes:
-    return bytes([kind]) + number(thread) + number(about) + number(site)
-
-
-def event(word: str, site: int = 0) -> bytes:
-    """Returns the entry of an event whose numbers have one digit."""
-    return entry(EVENT + "fjardw".index(word[1]), int(word[0]), int(word[2:]), site)
+BANK_CYCLE = Cycle((0, 1), Verdict.CONFIRMED, [Member(1, 2, (1,), 3), Member(2, 1, (2,), 8)], [0, 1, 2, 7])
 
 
 # The calls of the bank: each makes one event. The objects of locks 1 and 2 are 1 and 2; the sites are 1 to 12.
@@ -206,6 +193,14 @@ class Orders(unittest.TestCase):
             with self.subTest(name):
                 self.assertEqual(places_before(events_of(text), members, sorted(witness)), wanted)
 
+    def test_without_values(self) -> None:
+        """A read of a plain value may see another write. A thread that reads another variable or an atomic value is left out from there on."""
+        text = "0f1 0f2 1a1 1a2 1r2 1r1 1w{0} 2d{0} 2a2 2a1"
+        for variable, wanted in [(PLAIN_VALUES, {0, 1, 2, 7, 8}), (PLAIN_VALUES + MOST_VALUES - 1, {0, 1, 2, 7, 8}), (PLAIN_VALUES - 1, {0, 1, 2, 8}),
+                                 (PLAIN_VALUES + MOST_VALUES, {0, 1, 2, 8}), (7, {0, 1, 2, 8})]:
+            self.assertEqual(places_before(events_of(text.format(variable)), [3, 9], [0, 1, 2, 8], has_values=False), wanted, variable)
+        self.assertEqual(places_before(events_of(text.format(PLAIN_VALUES)), [3, 9], [0, 1, 2, 8]), {0, 1, 2, 8})
+
 
 class Schedules(InFolder):
     def found(self, log: bytes = BANK_LOG, report: str = BANK_REPORT, numbers: Optional[tuple[int, ...]] = None) -> Schedule:
@@ -285,10 +280,33 @@ class Schedules(InFolder):
                              ("bank+0x40", "lock 2 at bank.c:4 in bank", "lock 3 at bank.c:2 in bank"))
             os.remove(f"{name}.trace")
 
+    def test_if_no_value_decides(self) -> None:
+        """The run follows the witness, which leaves out what threads read and write of values: no call does that."""
+        write, read = event(f"1w{PLAIN_VALUES + 1}", 6), event(f"2d{PLAIN_VALUES + 1}", 8)
+        log = HEADER + b"".join([*BANK_ENTRIES[:6], write, BANK_ENTRIES[6], read, *BANK_ENTRIES[7:]]) + entry(END) + BANK_TEXT
+        with open("bank.calls", "wb") as file:
+            file.write(log)
+        words = BANK.split()
+        words[6:7] = [f"1w{PLAIN_VALUES + 1}", "0j1", f"2d{PLAIN_VALUES + 1}"]
+        self.write("bank.trace", f"# values atomic {ATOMIC_VALUES} plain {PLAIN_VALUES}\n" + "\n".join(words) + "\n")
+        self.write("bank.report", "question 0 length 14 bound 2 cycles 1 confirmed 0\n    confirmed if no value decides: 1 cycle\n"
+                                  "cycle 0 1 potential\n  thread 1 lock 2 holds 1\n  thread 2 lock 1 holds 2\n"
+                                  "    confirmed if no value decides: places 3 10\n      witness 0 1 2 9\n")
+        schedule = find_cycle("bank", None).schedule
+        self.assertEqual((schedule.instance, schedule.pause, schedule.turn_of), ([3, 10], 0, {0: 1, 1: 2, 2: 3, 7: 4}))
+        self.assertEqual([schedule.run.call_of(place) for place in (5, 6, 7, 8, 9)], [5, NO_CALL, 6, NO_CALL, 7])
+        self.assertEqual([len([one for one in schedules(schedule, 3) if one.pause == pause]) for pause in (0, 100)], [3, 2])
+
     def test_events_of_no_call(self) -> None:
         log = self.log_of(HEADER + event("0f1") + event("0f2") + b"".join(BANK_ENTRIES[2:]) + entry(END) + BANK_TEXT)
         run = recorded(log, index_of(BANK.replace(" ", "\n") + "\n"))
         self.assertEqual([run.call_of(place) for place in range(12)], [NO_CALL, NO_CALL, *range(10)])
+
+    def test_values_of_a_later_window(self) -> None:
+        write = entry(OTHER) + entry(EVENT + 5, 1, 1_000_000_001)  # in the log alone
+        run = recorded(self.log_of(HEADER + b"".join([*BANK_ENTRIES[:3], write, *BANK_ENTRIES[3:]]) + entry(END) + BANK_TEXT),
+                       index_of(BANK.replace(" ", "\n") + "\n"))
+        self.assertEqual([run.call_of(run.places[at]) for at in range(12)], list(range(12)))
 
     def log_of(self, log: bytes) -> Log:
         with open("other.calls", "wb") as file:
@@ -357,7 +375,7 @@ class Notes(InFolder):
     def test_between_cycles(self) -> None:
         lines = [*BANK_REPORT.splitlines(), "    and 1 more cycle at these lines, 1 of them confirmed", "cycle 2 3 confirmed"]
         self.assertEqual(list(with_note(lines, BANK_CYCLE, self.NOTE)), [*lines[:-1], *self.NOTE, lines[-1]])
-        self.assertEqual(list(with_note(lines, Cycle((5, 6), True), self.NOTE)), lines)
+        self.assertEqual(list(with_note(lines, Cycle((5, 6), Verdict.CONFIRMED), self.NOTE)), lines)
 
     def test_readers(self) -> None:
         self.write("bank.report", BANK_REPORT + "".join(f"{line}\n" for line in self.NOTE))

@@ -34,6 +34,7 @@ MADE = {
     "question_server/run_threads": (1, "a thread could not be started"),
     "sequencer/lacks_memory": (1, "a pattern"),
     "sequencer/drain": (1, "the reply of the book reports it"),
+    "sequencer/unshared": (1, "the rows were not shared, and their report is not too long"),
 }
 # The functions that make a count of their own, since their callers ask for none. `close`, `least_instance` and `snapshot_counted` add to
 # the count that they are given.

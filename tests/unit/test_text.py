@@ -6,7 +6,7 @@ from goodlock.formats.text import head_of, many_text, result_lines, summary_text
 from goodlock.groups import location_of
 from goodlock.reports import Report
 from goodlock.results import LeftOut, Numbers, Question, Result, ResultMember, Run, Spot, State, Verdict
-from samples import CONFIRMED, HAPPENED, HOLD, KNOWN, NOWHERE, POTENTIAL, SUPPRESSED, WAIT, run_of
+from samples import CONFIRMED, HAPPENED, HOLD, KNOWN, NO_VALUE, NOWHERE, POTENTIAL, SUPPRESSED, WAIT, run_of
 
 REPORT = Report(0, 12, 2, 5, 3)
 
@@ -161,6 +161,21 @@ class Many(unittest.TestCase):
             "",
             "without a report",
             "  d.trace: line 1 not understood",
+        ])
+
+    def test_values(self) -> None:
+        run = Run("traces", (replace(NO_VALUE, traces=("a.trace",)),), Numbers(40, confirmed=0, potential=1, no_value=3))
+        self.assertEqual(many_text(run, 1).splitlines(), [
+            "1 trace, 0 without a report; 40 events; 4 cycles, 0 confirmed, 3 if no value decides, in 1 group",
+            "",
+            "group 1 confirmed if no value decides: 4 cycles in 1 trace, 0 confirmed, 3 if no value decides",
+            f"  a thread holds the lock acquired at {HOLD}",
+            f"    and waits at {WAIT}",
+            f"  a thread holds the lock acquired at {HOLD}",
+            f"    and waits at {WAIT}",
+            "  Kept apart only by what these reads see: bank.c:4 in is_open reads memory that a thread wrote after bank.c:3 in open",
+            "  In a.trace as cycle 0 1",
+            "  Look at: Choose one order.",
         ])
 
 

@@ -1,4 +1,5 @@
 """Tests the reader of traces, the admission check, and the index."""
+import math
 import unittest
 from unittest.mock import patch
 
@@ -56,6 +57,20 @@ class ReadsWords(InFolder):
         self.assertEqual(trace.names, {("thread", 1): "a b", ("lock", 2): "m"})
         self.assertEqual(trace.marks, {3})
         self.assertEqual([event.where for event in trace.events], ["a.c:1 in f", "", "a.c:1 in f"])
+
+    def test_values(self) -> None:
+        """The comment is before the first event, and its second number at most 2,000,000,000."""
+        for comment, values in [("# values atomic 100 plain 200", (100, 200)), ("# values atomic 0 plain 1", (0, 1)),
+                                ("# values atomic 1000000000 plain 2000000000", (1_000_000_000, 2_000_000_000)),
+                                ("# values atomic 100", None), ("# values plain 200 atomic 100", None), ("# values atomic 100 plain 0200", None)]:
+            self.assertEqual(trace_of(f"# x\n{comment}\n0f1\n").values, values, comment)
+            self.assertEqual(trace_of(f"0f1\n{comment}\n").values, None)
+        for comment in ("# values atomic 200 plain 200", "# values atomic 100 plain 2000000001"):
+            with self.assertRaisesRegex(InputError, "^x:1: the plain values do not begin after the atomic ones, at most at 2000000000$"):
+                trace_of(f"{comment}\n", "x")
+        index = index_of("# values atomic 100 plain 200\n0f1 0w100 0d199 0a200 0w200 1d200\n")
+        self.assertEqual((index.first_plain, {thread: list(places) for thread, places in index.places_without_values.items()}), (4, {0: [0, 1, 2, 3], 1: []}))
+        self.assertEqual(index_of("0f1 0w200\n").first_plain, math.inf)
 
     def test_file_or_script(self) -> None:
         self.assertEqual(read_trace(self.write("x", "0f1\n")).file, "x")

@@ -33,6 +33,14 @@ class WakesTest(unittest.TestCase):
         found = written(BEFORE, "1a30 1r30", BEFORE, WAIT, GIVE, "2d7 2a20 2r20 2r10", BEFORE)
         self.assertTrue(found.startswith(f"{BEFORE} 1a30 1r30 1a{WAKE} {BEFORE} {WAIT} "), found)
 
+    def test_values(self) -> None:
+        """What threads read and write of values between the events of a wait changes nothing."""
+        for value in (1_000_000_000, 2_999_999_999):
+            lines = lines_of(BEFORE, "2a10 2a20", f"2r20 2w{value}", f"1a20 1d{value} 1d7", f"1d{value} 1w7 1r20", f"2d{value} 2d7 2d{value} 2a20 2r20 2r10")
+            self.assertEqual("".join(with_wakes(lines, wakes_in(lines))).count(f"a{WAKE}\n"), 2)
+        lines = lines_of(BEFORE, "2a10 2a20 2r20 2w999999999", "1a20 1d7 1w7 1r20", END)
+        self.assertEqual(wakes_in(lines).edges, [])
+
     def test_again(self) -> None:
         first = written(BEFORE, WAIT, GIVE, END)
         self.assertEqual(written(first), first)

@@ -4,6 +4,7 @@ from __future__ import annotations
 import contextlib
 import os
 import signal
+import struct
 import tempfile
 import unittest
 from collections.abc import Iterator
@@ -20,6 +21,23 @@ cycle 0 1 confirmed
   thread 2 lock 10 holds 20 place 7
   witness 0 1 2 6
 """
+
+HEADER = b"goodcalls 2\n" + struct.pack("<I", 7) + b"./bank\0"  # of the log of a run
+EVENT, END = 22, 31  # kinds of its entries
+
+
+def number(value: int) -> bytes:
+    parts = [value >> shift & 127 for shift in range(0, max(1, value.bit_length()), 7)]
+    return bytes([part | 128 for part in parts[:-1]] + parts[-1:])
+
+
+def entry(kind: int, thread: int = 0, about: int = 0, site: int = 0) -> bytes:
+    return bytes([kind]) + number(thread) + number(about) + number(site)
+
+
+def event(word: str, site: int = 0) -> bytes:
+    """Returns the entry of an event whose thread has one digit."""
+    return entry(EVENT + "fjardw".index(word[1]), int(word[0]), int(word[2:]), site)
 
 
 def trace_of(text: str, name: str = "bank.trace") -> Trace:

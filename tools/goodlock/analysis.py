@@ -5,19 +5,20 @@ from collections.abc import Iterable, Sequence
 from dataclasses import replace
 
 from goodlock.gates import Judge
+from goodlock.grades import graded
 from goodlock.groups import Groups, groups_of
 from goodlock.happened import NoteReader, deadlock_of, with_happened
 from goodlock.locations import Root
 from goodlock.reasons import Reason, reasons_of
-from goodlock.reports import read_reports
-from goodlock.results import KeptApart, LeftOut, Question, Result, State, Verdict, kept, numbered, ordered, result_of
+from goodlock.reports import Verdict, read_reports
+from goodlock.results import KeptApart, LeftOut, Question, Result, State, kept, numbered, ordered, result_of
 from goodlock.traces import Index, lines_of
 
 
 def questions_of(index: Index, report: str, root: Root, judge: Judge, most: int) -> list[tuple[Groups, Question]]:
     """Returns the groups and the results of each report in a file."""
     reader = NoteReader(lines_of(report))
-    found = groups_of(index, read_reports(report, index, reader))
+    found = groups_of(index, graded(index, read_reports(report, index, reader)))
     return [(groups, question_of(index, groups, notes, root, judge, most)) for groups, notes in zip(found, reader.notes)]
 
 
@@ -25,14 +26,14 @@ def question_of(index: Index, groups: Groups, notes: Sequence[str], root: Root, 
     happened, others = deadlock_of(notes, root)
     results = with_happened([result_of(index, group, root) for group in groups.ordered()], happened)
     judged = judge.judged(numbered(results, root))
-    left_out = LeftOut(groups.tried, groups.further, groups.further_confirmed, groups.writers_wait)
+    left_out = LeftOut(groups.tried, groups.further, groups.further_confirmed, groups.writers_wait, groups.further_no_value)
     notes = [*others, f"the trace is reduced: {index.origins.note}"] if index.origins.note else others
     return Question(groups.report, tuple(explained(index, groups, judged, most)), left_out, tuple(notes))
 
 
 def explained(index: Index, groups: Groups, results: Sequence[Result], most: int) -> list[Result]:
-    """Returns the results with the reasons of the potential ones that are shown: the first `most` that are not suppressed."""
-    shown = {result.example for result in kept(results)[:most] if result.verdict is Verdict.POTENTIAL}
+    """Returns the results with what keeps the threads of those apart that are shown: of the first `most` that are not suppressed."""
+    shown = {result.example for result in kept(results)[:most] if result.verdict in (Verdict.POTENTIAL, Verdict.NO_VALUE)}
     cycles = [group.example for group in groups.by_key.values() if group.example.numbers in shown]
     reasons = reasons_of(index, groups.report, cycles)
     return [replace(result, kept_apart=kept_apart_of(reasons[result.example]), advice=reasons[result.example].advice)

@@ -13,7 +13,7 @@ from goodlock.errors import InputError, shown
 from goodlock.limits import LEAST_BOUND, MOST_BOUND, MOST_EVENTS
 
 NAME = "goodlock.toml"
-FAIL_ON = ("confirmed", "potential", "new")
+FAIL_ON = ("confirmed", "certain", "potential", "new", "new-certain")
 LINE = re.compile(r"(.*) \(at line ([0-9]+), column ([0-9]+)\)")
 Value = Union[int, str]
 
@@ -56,6 +56,7 @@ TABLES: dict[str, dict[str, Key]] = {
         "bound": Key(f'{BOUND.allowed}, or "auto"', lambda found: found == "auto" or BOUND.allows(found)),
         "error-exitcode": number(0, 255),
         "keep-log": TEXT,
+        "memory": one_of(("all", "atomics", "none")),
         "on-deadlock": TEXT,
         "seconds": number(1, 86_400),
         "stacks": number(1, 20),

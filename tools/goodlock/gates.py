@@ -13,7 +13,8 @@ from typing import Optional
 from goodlock.errors import InputError
 from goodlock.groups import Pair
 from goodlock.locations import Root
-from goodlock.results import LeftOut, Result, State, Verdict, ordered
+from goodlock.reports import Verdict
+from goodlock.results import LeftOut, Result, State, ordered
 from goodlock.traces import lines_of
 
 FAILED = 3  # exit status
@@ -76,7 +77,7 @@ def read_baseline(name: str) -> dict[str, Verdict]:
 @dataclass
 class Judge:
     """Gives each result its state. A result is known if the baseline has its fingerprint, unless the baseline has it as potential and now
-    it is confirmed or happened: that is new evidence."""
+    it is confirmed, also if no value decides, or happened: that is new evidence."""
 
     suppressions: Suppressions
     baseline: Optional[dict[str, Verdict]] = None
@@ -88,7 +89,7 @@ class Judge:
     def with_state(self, result: Result) -> Result:
         before = (self.baseline or {}).get(result.fingerprint)
         line = self.suppressions.line_for(result)
-        is_known = before is not None and (before.is_certain or not result.verdict.is_certain)
+        is_known = before is not None and (before.is_confirmed or not result.verdict.is_confirmed)
         state = State.SUPPRESSED if line is not None else State.KNOWN if is_known else State.NEW
         return replace(result, state=state, before=before, suppressed_by=line)
 
@@ -98,8 +99,9 @@ class Judge:
 
 @dataclass(frozen=True)
 class Gate:
-    """Which results make a command fail. `confirmed`: those that are confirmed or happened, known ones too. `potential`: all. `new`: those
-    that are confirmed or happened and not in the baseline. A suppressed result never does. None: nothing does."""
+    """Which results make a command fail. `confirmed`: those that are confirmed, also if no value decides, or happened, known ones too.
+    `certain`: these without those that a value may decide. `potential`: all. `new`: those of `confirmed` that the baseline does not have,
+    `new-certain`: those of `certain` that it does not have as such. A suppressed result never does. None: nothing does."""
 
     fail_on: Optional[str] = None
 
@@ -108,13 +110,23 @@ class Gate:
             return False
         if self.fail_on == "potential":
             return True
-        return result.verdict.is_certain and (self.fail_on == "confirmed" or result.state is State.NEW)
+        if self.is_certain:
+            is_known = result.before is not None and result.before.is_certain
+            return result.verdict.is_certain and not (self.fail_on == "new-certain" and is_known)
+        return result.verdict.is_confirmed and (self.fail_on == "confirmed" or result.state is State.NEW)
+
+    @property
+    def is_certain(self) -> bool:
+        """Whether a deadlock that a value may decide does not count as confirmed."""
+        return self.fail_on in ("certain", "new-certain")
 
     def unjudged(self, left_out: LeftOut) -> int:
         """Returns how many cycles in no group may be ones to fail on."""
         if self.fail_on is None:
             return 0
-        return left_out.further if self.fail_on == "potential" else left_out.further_confirmed
+        if self.fail_on == "potential":
+            return left_out.further
+        return left_out.further_confirmed + (0 if self.is_certain else left_out.further_no_value)
 
     def judgement(self, results: Sequence[Result], left_out: LeftOut = LeftOut()) -> Judgement:
         return Judgement(self, [result for result in results if self.fails_on(result)], self.unjudged(left_out))
@@ -136,7 +148,7 @@ class Judgement:
     def sentence(self) -> str:
         """Says why the command fails; an empty text if it does not."""
         parts = []
-        for verdict in (Verdict.HAPPENED, Verdict.CONFIRMED, Verdict.POTENTIAL):
+        for verdict in reversed(Verdict):
             count = sum(result.verdict is verdict for result in self.failing)
             if count:
                 parts.append(f"{count:,} {verdict.value}")

@@ -7,7 +7,7 @@ from dataclasses import dataclass, field
 from typing import NamedTuple, Optional, Protocol, TypeVar
 
 from goodlock.parts import Basis
-from goodlock.reports import Cycle, Member, Report
+from goodlock.reports import Cycle, Member, Report, Verdict
 from goodlock.traces import Index
 
 LOCATION = re.compile(r"(.+?):([1-9][0-9]{0,8})(?::[0-9]+)?(?: in (.*))?")
@@ -56,13 +56,14 @@ def key_of(pairs: Sequence[Pair]) -> tuple[Pair, ...]:
 
 
 class Counted(Protocol):
-    """Cycles with the same locations, and a verdict."""
+    """Cycles with the same locations, and how strong the evidence for them is."""
 
     cycles: int
     confirmed: int
+    no_value: int
 
     @property
-    def is_confirmed(self) -> bool: ...
+    def rank(self) -> int: ...
 
 
 Key = TypeVar("Key")
@@ -70,21 +71,22 @@ Kept = TypeVar("Kept", bound=Counted)
 
 
 def merge(groups: dict[Key, Kept], key: Key, group: Kept) -> Kept:
-    """Counts a group with those of its key. The first confirmed one of a key is kept, or the first one if none is. Returns the kept one."""
+    """Counts a group with those of its key. The first one with the strongest evidence is kept. Returns it."""
     kept = groups.setdefault(key, group)
     if kept is not group:
-        kept, other = (group, kept) if group.is_confirmed and not kept.is_confirmed else (kept, group)
+        kept, other = (group, kept) if group.rank > kept.rank else (kept, group)
         kept.cycles += other.cycles
         kept.confirmed += other.confirmed
+        kept.no_value += other.no_value
         groups[key] = kept
     return kept
 
 
 @dataclass
 class Group:
-    """Cycles with the same locations and the same basis. `example` is the first confirmed one, or the first one if none is confirmed; `sides`
-    has a side for each of its members. `steps` are the events of its witness that a short list shows; `left_out` counts those after the last
-    step."""
+    """Cycles with the same locations and the same basis. `example` is the first one with the strongest evidence; `sides` has a side for each of
+    its members. `confirmed` of the cycles are confirmed, `no_value` are if no value decides. `steps` are the events of its witness that a
+    short list shows; `left_out` counts those after the last step."""
 
     example: Cycle
     sides: list[Side]
@@ -94,10 +96,15 @@ class Group:
     steps: list[Step] = field(default_factory=list)
     left_out: int = 0
     witness_length: int = 0
+    no_value: int = 0
 
     @property
-    def is_confirmed(self) -> bool:
-        return self.example.is_confirmed
+    def verdict(self) -> Verdict:
+        return self.example.verdict
+
+    @property
+    def rank(self) -> int:
+        return self.verdict.rank
 
     def take_steps(self, index: Index) -> None:
         witness = self.example.witness
@@ -132,17 +139,18 @@ def pairs_of(index: Index, sides: list[Side]) -> list[Pair]:
 
 
 class Groups:
-    """The groups of one report, in the order of the report. The first `whole` confirmed groups keep the witness of their example. At most
-    `most` groups begin with a confirmed cycle, and that many with a potential one: `further` and `further_confirmed` count the cycles
-    that would begin others. `tried` counts the cycles in which a member holds a mark, `writers_wait` those that only waiting writers make,
+    """The groups of one report, in the order of the report. The first `whole` groups of each verdict keep the witness of their example. At most
+    `most` groups begin with a cycle of each verdict: `further` counts the cycles that would begin others, `further_confirmed` and
+    `further_no_value` those of these verdicts. `tried` counts the cycles in which a member holds a mark, `writers_wait` those that only waiting writers make,
     of locks which do not let these go first."""
 
     def __init__(self, index: Index, report: Report, whole: int = 0, most: int = MOST_GROUPS) -> None:
         self.index, self.report, self.whole, self.most = index, report, whole, most
         self.by_key: dict[tuple[Basis, tuple[Pair, ...]], Group] = {}
-        self.begun: Counter[bool] = Counter()
-        self.confirmed_groups: list[Group] = []
-        self.tried, self.writers_wait, self.further, self.further_confirmed = 0, 0, 0, 0
+        self.begun: Counter[Verdict] = Counter()
+        self.with_witness: list[Group] = []
+        self.witnesses: Counter[Verdict] = Counter()
+        self.tried, self.writers_wait, self.further, self.further_confirmed, self.further_no_value = 0, 0, 0, 0, 0
 
     def add(self, cycle: Cycle) -> bool:
         """Adds a cycle to its group, and returns whether it is in one."""
@@ -155,17 +163,19 @@ class Groups:
             return False
         sides = sides_of(self.index, cycle.members)
         key = basis, key_of(pairs_of(self.index, sides))
-        group = Group(cycle, sides, 1 + cycle.more, cycle.is_confirmed + cycle.more_confirmed, basis)
+        group = Group(cycle, sides, 1 + cycle.more, cycle.count(Verdict.CONFIRMED), basis, no_value=cycle.count(Verdict.NO_VALUE))
         if key not in self.by_key:
-            if self.begun[cycle.is_confirmed] == self.most:
+            if self.begun[cycle.verdict] == self.most:
                 self.further += group.cycles
                 self.further_confirmed += group.confirmed
+                self.further_no_value += group.no_value
                 return False
-            self.begun[cycle.is_confirmed] += 1
-        if merge(self.by_key, key, group) is group and group.is_confirmed:
+            self.begun[cycle.verdict] += 1
+        if merge(self.by_key, key, group) is group and group.verdict.is_confirmed:
             group.take_steps(self.index)
-            self.confirmed_groups.append(group)
-            if len(self.confirmed_groups) > self.whole:
+            self.with_witness.append(group)
+            self.witnesses[group.verdict] += 1
+            if self.witnesses[group.verdict] > self.whole:
                 cycle.witness = []
         return True
 
@@ -173,9 +183,16 @@ class Groups:
         marks = self.index.marks
         return bool(marks) and any(lock in marks for member in cycle.members for lock in member.held)
 
+    @property
+    def no_value(self) -> int:
+        """How many cycles are confirmed if no value decides."""
+        return sum(group.no_value for group in self.by_key.values()) + self.further_no_value
+
     def ordered(self) -> list[Group]:
-        """Returns the groups, confirmed ones first."""
-        return self.confirmed_groups + [group for group in self.by_key.values() if not group.is_confirmed]
+        """Returns the groups, those with the strongest evidence first."""
+        kept = {id(group) for group in self.by_key.values()}
+        found = [group for group in self.with_witness if id(group) in kept]
+        return sorted(found + [group for group in self.by_key.values() if not group.verdict.is_confirmed], key=lambda group: -group.rank)
 
 
 def groups_of(index: Index, reports: Iterable[tuple[Report, Optional[Cycle]]]) -> list[Groups]:
@@ -190,7 +207,7 @@ def groups_of(index: Index, reports: Iterable[tuple[Report, Optional[Cycle]]]) -
 
 
 def advice_for(pairs: Iterable[Pair]) -> str:
-    """Returns what to do about a confirmed group with these locations."""
+    """Returns what to do about a group with these locations that is confirmed."""
     distinct = set(pairs)
     if any(location_of(text).file is None for pair in distinct for text in pair):
         return "Acquire these locks in one order, or hold one lock around all of these acquires."

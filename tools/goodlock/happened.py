@@ -8,8 +8,8 @@ from typing import Optional
 
 from goodlock.groups import advice_for, key_of
 from goodlock.locations import Root
-from goodlock.reports import QUESTION
-from goodlock.results import Result, ResultMember, Spot, Verdict
+from goodlock.reports import HEAD_NO_VALUE, QUESTION, Verdict
+from goodlock.results import Result, ResultMember, Spot
 from goodlock.traces import CALLED_BY, lines_of
 
 INDENT = "    "
@@ -35,7 +35,7 @@ class NoteReader:
                 self.notes.append([])
                 is_before = True
             elif is_before and line.startswith(INDENT) and not line.strip().startswith(TIMED):
-                self.notes[-1] += [line.strip()] if line.strip() != HEADING else []
+                self.notes[-1] += [line.strip()] if line.strip() != HEADING and not HEAD_NO_VALUE.fullmatch(line) else []
             else:
                 is_before = False
             yield line

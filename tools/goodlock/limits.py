@@ -15,3 +15,9 @@ LEAST_BOUND, MOST_BOUND = 2, 8
 FIRST_THREAD, HELPERS, TRY_MARKERS, TIMED_MARKERS = 1_000_000_000, 2_000_000_000, 3_000_000_000, 3_500_000_000
 WAKE_UPS = 2_500_000_000  # locks from here on are for threads that wake others
 ENDS_OF_THREADS = 2_000_000_000  # thread N holds lock ENDS_OF_THREADS + N until it ends, if a holder of locks joins it
+
+# Variables that stand for values which threads read: those of atomics, then those of plain memory and of predicates of conditions. There are at
+# most MOST_VALUES of each kind. A trace says by a comment that it has such variables: Values in traces.py.
+ATOMIC_VALUES, PLAIN_VALUES = 1_000_000_000, 2_000_000_000
+MOST_VALUES = 1_000_000_000
+END_OF_VALUES = PLAIN_VALUES + MOST_VALUES

@@ -38,7 +38,7 @@ class Merged:
         else:
             self.numbers = added(self.numbers, numbers_from(result["numbers"]))
             left_out = result["left_out"]
-            self.left_out = LeftOut(*(mine + left_out[name] for name, mine in self.left_out._asdict().items()))
+            self.left_out = LeftOut(*(mine + left_out.get(name, 0) for name, mine in self.left_out._asdict().items()))
             found = [result_from(group, self.root) for group in result["groups"]]
         happened, notes = deadlock_of(head_notes(f"{trace.removesuffix('.trace')}.report"), self.root)
         self.notes.update(note for note in notes if not OTHER_WINDOW.match(note))
@@ -70,5 +70,5 @@ def merged(first: Result, second: Result) -> Result:
     traces = strongest.traces
     if other.verdict is strongest.verdict:
         traces = tuple(dict.fromkeys(strongest.traces + other.traces))[:SHOWN_TRACES]
-    return replace(strongest, cycles=first.cycles + second.cycles, confirmed=first.confirmed + second.confirmed, traces=traces,
-                   trace_count=first.trace_count + second.trace_count)
+    return replace(strongest, cycles=first.cycles + second.cycles, confirmed=first.confirmed + second.confirmed,
+                   no_value=first.no_value + second.no_value, traces=traces, trace_count=first.trace_count + second.trace_count)

@@ -1,10 +1,24 @@
-"""Finds the program that the tools run: GOODLOCKD_PROGRAM names it, or else it is next to the tools."""
+"""Finds and runs the program: GOODLOCKD_PROGRAM names it, or else it is next to the tools."""
 import os
 import re
 import shutil
+import subprocess
+import tempfile
+import threading
+import time
+from collections.abc import Generator
+from math import inf
 
 ROOT = os.path.dirname(os.path.dirname(os.path.dirname(os.path.realpath(__file__))))
 TOOLS = os.path.join(ROOT, "tools")
+
+
+class NoAnswer(Exception):
+    """The program has failed, or was stopped. The text says why; `reason` is what the program has said."""
+
+    def __init__(self, text: str, reason: str = "") -> None:
+        super().__init__(text)
+        self.reason = reason or text
 
 
 def launcher() -> str:
@@ -28,3 +42,34 @@ def version() -> str:
     except OSError:
         return ""
     return found[1] if found else ""
+
+
+def lines_from(command: list[str], end: float = inf, late: str = "") -> Generator[str, None, None]:
+    """Yields the lines that a command prints. Stops it at a time, with the text `late` as the reason, or when no more of them are asked for.
+    Ctrl-C in the terminal does not end it: that is for this process."""
+    is_late = threading.Event()
+    with tempfile.TemporaryFile() as errors:
+        with subprocess.Popen(command, stdin=subprocess.DEVNULL, stdout=subprocess.PIPE, stderr=errors, encoding="ascii",
+                              errors="replace", start_new_session=True) as process:
+
+            def stop() -> None:
+                is_late.set()
+                process.kill()
+
+            timer, last = threading.Timer(max(0.0, end - time.monotonic()), stop), ""
+            if end < inf:
+                timer.start()
+            try:
+                for line in process.stdout or ():
+                    last = line.removesuffix("\n")
+                    yield last
+                process.wait()
+            finally:
+                timer.cancel()
+                process.kill()
+        if is_late.is_set():
+            raise NoAnswer(late)
+        if process.returncode:
+            errors.seek(0)
+            reason = (errors.read().decode(errors="replace").strip().splitlines() or [last or f"status {process.returncode}"])[-1][:200]
+            raise NoAnswer(f"{command[0]} failed: {reason}", reason)

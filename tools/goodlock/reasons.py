@@ -1,21 +1,27 @@
-"""Says why a potential cycle is not confirmed: the refutation that `goodlockd explain` prints, with the events of the trace."""
+"""Says why a cycle is not confirmed, or only if no value decides: the refutation that `goodlockd explain` prints, with the events of the trace."""
 from __future__ import annotations
 
 import shlex
 from typing import Optional
 
-from goodlock.groups import instance_of
+from goodlock.grades import reads_in
+from goodlock.groups import advice_for as advice_for_locations
+from goodlock.groups import instance_of, pairs_of, sides_of
 from goodlock.refutations import MOST_SENTENCES, Entry, Numbers, Refutation, RefutationStep, refutations_of
-from goodlock.reports import Cycle, Report
-from goodlock.traces import Event, Index, description_of, source_of
+from goodlock.reports import Cycle, Report, Verdict
+from goodlock.traces import VERBS, Event, Index, description_of, source_of
 
 BY = {"fork": "a fork", "join": "a join", "read": "a read", "section": "the order of critical sections"}
 LAST_SENTENCES = 4  # of a step with more than MOST_SENTENCES
+BY_VALUES = "Kept apart only by what these reads see"
 
 
 def reasons_of(index: Index, report: Report, cycles: list[Cycle]) -> dict[Numbers, Reason]:
-    """Returns a Reason for each of these potential cycles of a report, by the cycle's numbers."""
-    found, fault = refutations_of(index, report, cycles)
+    """Returns a Reason for each of these cycles of a report, by the cycle's numbers. None of them is confirmed with all values."""
+    found, fault = refutations_of(index, report, [cycle for cycle in cycles if not cycle.reads])
+    for cycle in cycles:
+        if cycle.verdict is Verdict.NO_VALUE and cycle.numbers in found:
+            cycle.reads = reads_in(index, found[cycle.numbers])
     return {cycle.numbers: Reason(index, report, cycle, found.get(cycle.numbers), fault) for cycle in cycles}
 
 
@@ -34,8 +40,20 @@ class Reason:
         self.command = f"goodlockd explain {file} --bound {report.bound} --cycle {','.join(map(str, cycle.numbers))}"
         self.heading = f"The reason is not shown, since {fault}; `{self.command}` prints it{self.note}."
         self.advice = "Acquire the locks in one order."
-        if refutation:
+        if cycle.verdict is Verdict.NO_VALUE:
+            self.take_reads(cycle)
+        elif refutation:
             self.take(refutation)
+
+    def take_reads(self, cycle: Cycle) -> None:
+        """Names the reads of values that keep the members apart."""
+        locations = advice_for_locations(pairs_of(self.index, sides_of(self.index, cycle.members)))
+        self.advice = f"If a thread that sees another value there does not come to its acquire, the cycle is harmless. Otherwise: {locations}"
+        if cycle.reads:
+            self.heading = BY_VALUES
+            self.sentences = [read.text for read in cycle.reads[:MOST_SENTENCES]]
+            if len(cycle.reads) > MOST_SENTENCES:
+                self.sentences.append(f".. {len(cycle.reads) - MOST_SENTENCES:,} more reads")
 
     def take(self, refutation: Refutation) -> None:
         self.heading = f"Kept apart by {' and '.join(text for kind, text in BY.items() if kind in refutation.kinds)}"
@@ -73,16 +91,16 @@ def sentence(index: Index, entry: Entry) -> str:
     kind, needed, cause = entry.kind, index.events[entry.place], index.events[entry.named[0]]
     here, there = spot(index, entry.place), spot(index, entry.named[0])
     if kind == "before":
-        return f"Before {there}, where it would wait for lock {cause.target}, thread {cause.thread} {deed(needed)} at {here}."
+        return f"Before {there}, where it would wait for lock {cause.target}, thread {cause.thread} {deed(index, needed)} at {here}."
     if kind == "order":
-        return f"Before {there} thread {needed.thread} {deed(needed)} at {here}."
+        return f"Before {there} thread {needed.thread} {deed(index, needed)} at {here}."
     if kind == "fork":
         return f"Thread {cause.thread} gets to {there} only after thread {needed.thread} forks it at {here}."
     if kind == "join":
-        return (f"At {there} thread {cause.thread} joins thread {cause.target}, so before that thread {needed.thread} {deed(needed)} at "
+        return (f"At {there} thread {cause.thread} joins thread {cause.target}, so before that thread {needed.thread} {deed(index, needed)} at "
                 f"{here}.")
     if kind == "read":
-        return (f"At {there} thread {cause.thread} reads variable {cause.target}, and sees the value that thread {needed.thread} wrote at "
+        return (f"At {there} thread {cause.thread} {deed(index, cause)}, and sees the value that thread {needed.thread} wrote at "
                 f"{here}.")
     first, last = sorted(entry.named)
     return (f"At {spot(index, last)} thread {index.events[last].thread} acquires lock {needed.target}; thread {needed.thread} acquired it "
@@ -105,9 +123,12 @@ def spot(index: Index, place: int) -> str:
     return f"{title} ({source})" if source else title
 
 
-def deed(event: Event) -> str:
-    """Returns what an event does, in a sentence."""
-    return description_of(event).replace("s ", "s variable ") if event.letter in "dw" else description_of(event)
+def deed(index: Index, event: Event) -> str:
+    """Returns what an event does, in a sentence: `reads variable 7`, `writes an atomic value`, `acquires lock 1`."""
+    if event.letter not in "dw":
+        return description_of(event)
+    kind = index.values.kind_of(event.target) if index.values else ""
+    return f"{VERBS[event.letter]} {kind or f'variable {event.target}'}"
 
 
 def advice_for(refutation: Refutation) -> str:

@@ -94,7 +94,7 @@ class Spot(NamedTuple):
     line: int
 
 
-class Verdict(NamedTuple):
+class Replay(NamedTuple):
     """What the replay of a witness over the whole run shows: a fault with its place, or an empty text and the last event of each thread."""
 
     fault: str
@@ -102,12 +102,12 @@ class Verdict(NamedTuple):
     ends: dict[int, Spot]
 
 
-def replayed(sources: list[Source], witnesses: str) -> Iterator[Verdict]:
+def replayed(sources: list[Source], witnesses: str) -> Iterator[Replay]:
     """Yields the verdict of each witness in a file, which `completion` has written."""
     for line in run_program(["check", witnesses, *(word for source in sources for word in source.words)]).splitlines():
         word, *rest = line.split()
         numbers = list(map(int, rest))
         if word == "reaches":
-            yield Verdict("", None, {numbers[at]: Spot(*numbers[at + 1:at + 4]) for at in range(0, len(numbers), 4)})
+            yield Replay("", None, {numbers[at]: Spot(*numbers[at + 1:at + 4]) for at in range(0, len(numbers), 4)})
         else:
-            yield Verdict(word, Spot(*numbers), {})
+            yield Replay(word, Spot(*numbers), {})

@@ -17,10 +17,11 @@ from typing import Optional
 from goodlock.commandline import BOUNDS, Outputs, plural, print_whole, whole_number
 from goodlock.completion import confirmed_in, note_of, verdicts_of
 from goodlock.errors import OutputError
+from goodlock.grades import cycle_lines, graded, head_line
 from goodlock.limits import MOST_EVENTS
 from goodlock.program import launcher
-from goodlock.reducer import Reduced, ReducerError, Source, Verdict, reduced
-from goodlock.reports import WITNESS
+from goodlock.reducer import Reduced, ReducerError, Replay, Source, reduced
+from goodlock.reports import WITNESS, WITNESS_NO_VALUE, Verdict, read_reports
 from goodlock.traces import Index, lines_of, read_trace
 
 ACROSS = "a cycle whose members are in different windows is not found"
@@ -157,6 +158,7 @@ class Report:
     def __init__(self, job: Job, found: Reduced, folder: str) -> None:
         self.job, self.found, self.folder = job, found, folder
         self.path, self.is_written = os.path.join(folder, "report"), False
+        self.no_value: Optional[int] = None  # cycles that are confirmed if no value decides, if values were weighed
         self.lines: list[str] = []
 
     def write(self) -> int:
@@ -172,37 +174,52 @@ class Report:
             self.lines.append(f"no {self.job.out}.report: goodlockd has failed: {''.join(list(lines_of(plain))[:1]) or 'it prints why'}")
             return 1
         index = Index(read_trace(self.found.traces[0]))
-        verdicts = list(verdicts_of(self.found, self.job.sources, index, confirmed_in(plain, index), self.folder))
-        self.write_with(plain, verdicts)
+        if index.first_plain < len(index):
+            plain = self.weighed(plain, index)
+        replays = list(verdicts_of(self.found, self.job.sources, index, confirmed_in(plain, index), self.folder))
+        self.write_with(plain, replays)
         self.is_written = True
-        faults = sum(bool(verdict.fault) for verdict in verdicts)
-        self.lines += self.lines_about(len(verdicts), faults)
+        faults = sum(bool(replay.fault) for replay in replays)
+        self.lines += self.lines_about(len(replays), faults)
         return 1 if faults else 0
 
-    def write_with(self, plain: str, verdicts: list[Verdict]) -> None:
+    def weighed(self, plain: str, index: Index) -> str:
+        """Writes a report in which values are weighed, without the line that says so. Returns its path."""
+        path, self.no_value = f"{plain}.weighed", 0
+        with open(path, "x", encoding="ascii") as file:
+            file.write(f"{next(lines_of(plain))}\n")
+            for _, cycle in graded(index, read_reports(plain, index), folder=self.folder):
+                file.writelines(f"{line}\n" for line in (cycle_lines(cycle) if cycle else ()))
+                self.no_value += bool(cycle and cycle.verdict is Verdict.NO_VALUE)
+        return path
+
+    def write_with(self, plain: str, replays: list[Replay]) -> None:
         """Writes the lines of a report, and after each witness how far the threads run in the whole run."""
-        rest = iter(verdicts)
+        rest = iter(replays)
         with Outputs() as outputs:
             file = outputs.open(self.path)
             for at, line in enumerate(lines_of(plain)):
                 file.write(f"{line}\n")
                 if at == 0:
-                    file.writelines(f"    {note}\n" for note in self.notes(sum(bool(verdict.fault) for verdict in verdicts)))
-                if line.startswith(WITNESS):
+                    file.writelines(f"{note}\n" for note in self.notes(sum(bool(replay.fault) for replay in replays)))
+                if line.startswith((WITNESS, WITNESS_NO_VALUE)):
                     file.write(f"    {note_of(next(rest), self.job.sources)}\n")
 
     def notes(self, faults: int) -> Iterator[str]:
         """Yields what the verdicts rest on, and whether they are wrong. Tools show these lines."""
+        if self.no_value is not None:
+            yield head_line(self.no_value)
         names = [source.words[1] for source in self.job.sources]
         name = names[0] if len(names) == 1 else f"{names[0]} to {names[-1]}"
-        yield reduced_from(self.found.events, name)
+        yield f"    {reduced_from(self.found.events, name)}"
         if faults:
-            yield fault_in(faults)
+            yield f"    {fault_in(faults)}"
 
     def lines_about(self, confirmed: int, faults: int) -> Iterator[str]:
         name = f"{self.job.out}.report"
         replayed = f", replayed over {plural(self.found.events, 'event')}" if confirmed else ""
-        yield f"{name}: bound {self.job.bound}, {plural(confirmed, 'confirmed cycle')}{replayed}"
+        some = f", {self.no_value:,} of them if no value decides" if self.no_value else ""
+        yield f"{name}: bound {self.job.bound}, {plural(confirmed, 'confirmed cycle')}{some}{replayed}"
         if faults:
             yield (f"{name}: the replay of {plural(faults, 'confirmed cycle')} has a fault, which the report shows: do not trust this report, and "
                    "report the fault")

@@ -5,20 +5,17 @@ import contextlib
 import os
 import re
 import shutil
-import subprocess
 import tempfile
-import threading
 import time
 from bisect import bisect_left
-from collections.abc import Generator
 from dataclasses import dataclass, field
 from typing import NamedTuple, Optional
 
-from goodlock.program import built_program
-from goodlock.reports import Cycle, Member, Report, member_of
+from goodlock.program import NoAnswer, built_program, lines_from
+from goodlock.reports import Cycle, Member, Report, Verdict, member_of
 from goodlock.traces import Index
 
-MOST_SECONDS, MOST_SENTENCES = 60.0, 12
+MOST_SECONDS, MOST_SENTENCES, MOST_READS = 60.0, 12, 1000
 PLACE = "([0-9]{1,10})"
 KINDS = {
     "before": re.compile(f"  before place {PLACE} its thread runs place {PLACE}"),
@@ -29,6 +26,10 @@ KINDS = {
 }
 END = re.compile(f"  so place {PLACE} must run: thread {PLACE} cannot stop before it")
 Numbers = tuple[int, ...]
+
+
+def late() -> str:
+    return f"it was not explained in {MOST_SECONDS:g} seconds"
 
 
 class Entry(NamedTuple):
@@ -52,9 +53,10 @@ class RefutationStep(NamedTuple):
 @dataclass
 class Refutation:
     """The kinds of entries in a refutation, its number of steps, and the first of them: those that have at most MOST_SENTENCES entries and
-    conclusions, and at least one."""
+    conclusions, and at least one. `reads` are the first reads of plain values in it, each with the write that it saw."""
 
     kinds: set[str] = field(default_factory=set)
+    reads: set[tuple[int, int]] = field(default_factory=set)
     count: int = 0
     steps: list[RefutationStep] = field(default_factory=list)
     sentences: int = 0
@@ -67,28 +69,23 @@ class Refutation:
             self.steps.append(step)
 
 
-class Unexplained(Exception):
-    """Refutations are missing. The text says why."""
-
-
-def refutations_of(index: Index, report: Report, cycles: list[Cycle]) -> tuple[dict[Numbers, Refutation], str]:
-    """Returns the refutations of potential cycles of a report, by the cycles' numbers, and why others are missing."""
+def refutations_of(index: Index, report: Report, cycles: list[Cycle], program: str = "") -> tuple[dict[Numbers, Refutation], str]:
+    """Returns the refutations of cycles of a report that are potential with all values, by the cycles' numbers, and why others are missing."""
     reader = Reader(index, report, cycles)
     try:
         if reader.wanted:
-            read_explained(index, report, reader)
-    except Unexplained as fault:
+            read_explained(index, report, reader, program or built_program())
+    except NoAnswer as fault:
         return reader.found, str(fault)
     except OSError as fault:
         return reader.found, f"the program cannot run: {fault.strerror}"
     return reader.found, "the program does not explain this cycle"
 
 
-def read_explained(index: Index, report: Report, reader: Reader) -> None:
+def read_explained(index: Index, report: Report, reader: Reader, program: str) -> None:
     """Gives the events that the report covers to `explain`, and reads what it prints until no cycle is wanted."""
-    program = built_program()
     if not shutil.which(program):
-        raise Unexplained(f"there is no program {program} (make builds it, GOODLOCKD_PROGRAM names another)")
+        raise NoAnswer(f"there is no program {program} (make builds it, GOODLOCKD_PROGRAM names another)")
     with tempfile.TemporaryDirectory(prefix="explain-") as folder:
         trace = os.path.join(folder, "trace")
         with open(trace, "w", encoding="ascii") as file:
@@ -103,7 +100,7 @@ def explain_all(command: list[str], reader: Reader, end: float) -> bool:
     """Lets the program explain all cycles. Returns False if by now it would have explained the wanted ones, each alone: the time until its
     first line is that for one."""
     began, alone = time.monotonic(), 0.0
-    with contextlib.closing(lines_of(command, end)) as lines:
+    with contextlib.closing(lines_from(command, end, late())) as lines:
         for line in lines:
             reader.take(line)
             taken = time.monotonic() - began
@@ -116,35 +113,8 @@ def explain_all(command: list[str], reader: Reader, end: float) -> bool:
 
 
 def explain_one(command: list[str], reader: Reader, end: float, cycle: Cycle) -> None:
-    for line in lines_of([*command, "--cycle", ",".join(map(str, cycle.numbers))], end):
+    for line in lines_from([*command, "--cycle", ",".join(map(str, cycle.numbers))], end, late()):
         reader.take(line)
-
-
-def lines_of(command: list[str], end: float) -> Generator[str, None, None]:
-    """Yields the lines that a command prints. Stops it at a time, or when no more of them are asked for."""
-    is_late = threading.Event()
-    with tempfile.TemporaryFile() as errors:
-        with subprocess.Popen(command, stdin=subprocess.DEVNULL, stdout=subprocess.PIPE, stderr=errors, encoding="ascii",
-                              errors="replace") as process:
-
-            def stop() -> None:
-                is_late.set()
-                process.kill()
-
-            timer = threading.Timer(max(0.0, end - time.monotonic()), stop)
-            timer.start()
-            try:
-                yield from (line.removesuffix("\n") for line in process.stdout or ())
-                process.wait()
-            finally:
-                timer.cancel()
-                process.kill()
-        if is_late.is_set():
-            raise Unexplained(f"it was not explained in {MOST_SECONDS:g} seconds")
-        if process.returncode:
-            errors.seek(0)
-            fault = errors.read().decode(errors="replace").strip().splitlines() or [f"status {process.returncode}"]
-            raise Unexplained(f"{command[0]} failed: {fault[-1][:200]}")
 
 
 class Reader:
@@ -154,9 +124,9 @@ class Reader:
 
     def __init__(self, index: Index, report: Report, cycles: list[Cycle]) -> None:
         self.index, self.length = index, report.length
-        self.wanted = {f"cycle {cycle.name} potential": cycle for cycle in cycles}
+        self.wanted = {cycle.row: cycle for cycle in cycles}
         self.found: dict[Numbers, Refutation] = {}
-        self.line, self.cycle, self.refutation = "", Cycle((), False), Refutation()
+        self.line, self.cycle, self.refutation = "", Cycle((), Verdict.POTENTIAL), Refutation()
         self.left: dict[int, list[int]] = {}
         self.entries: list[Entry] = []
         self.is_reading = False
@@ -198,6 +168,8 @@ class Reader:
             needed, thread = self.index.events[place], self.index.events[named[0]].thread
             kind = "fork" if (needed.letter, needed.target) == ("f", thread) else "join"
         self.entries.append(Entry(kind, place, named))
+        if kind == "read" and self.index.values and self.index.values.is_plain(self.index.events[place]) and len(self.refutation.reads) < MOST_READS:
+            self.refutation.reads.add((named[0], place))
         return True
 
     def end_step(self, place: int, thread: int) -> bool:

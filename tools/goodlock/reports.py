@@ -1,6 +1,7 @@
 """Reads reports as goodlockd or an agent writes them, and tests each line against the trace."""
+import enum
 import re
-from collections.abc import Iterable, Iterator
+from collections.abc import Iterable, Iterator, Sequence
 from dataclasses import dataclass, field
 from itertools import islice
 from operator import lt
@@ -16,15 +17,54 @@ MEMBER = re.compile(rf"  thread {NUMBER} lock {NUMBER} holds((?: {NUMBER})+)(?: 
 WITNESS = "  witness"
 PLACES = re.compile(rf"(?: {NUMBER})*")
 NOTE = re.compile(r"    (?:  )?\S.*")
-MORE = re.compile(rf"    and {NUMBER} more cycles? at these lines, {NUMBER} of them confirmed")
+NO_VALUE = "    confirmed if no value decides: "  # before the first cycle: how many; under a cycle: the places of its members
+HEAD_NO_VALUE = re.compile(rf"{NO_VALUE}[0-9,]+ cycles?")
+PLACES_NO_VALUE = re.compile(rf"{NO_VALUE}places((?: {NUMBER})+)")
+WITNESS_NO_VALUE = "      witness"
+VALUE_READ = re.compile(rf"      place {NUMBER} reads what place {NUMBER} wrote: (.*)")
+MORE = re.compile(rf"    and {NUMBER} more cycles? at these lines, {NUMBER} of them confirmed(?:, {NUMBER} if no value decides)?")
 REPRODUCED, FURTHER = "    reproduced in run ", "      "
 REFUSED = re.compile(r"refused [0-9]+ \w+(?: at [0-9]+)?")
 OTHER_LINE = re.compile(r"(placed|batch|refused|opened|pending|worked|delivered|status) .*")
 FEWER_EVENTS = "the trace has fewer events"
 
 
+class Verdict(enum.Enum):
+    """What a cycle or a group of cycles rests on, the strongest evidence last: no order of the events leads to the deadlock; one does that
+    leaves out what threads read of plain values; one does in which each read sees the write that it saw; it happened."""
+
+    POTENTIAL = "potential"
+    NO_VALUE = "confirmed if no value decides"
+    CONFIRMED = "confirmed"
+    HAPPENED = "happened"
+
+    @property
+    def is_confirmed(self) -> bool:
+        """Whether an order leads to the deadlock, also one that leaves out values, or it happened."""
+        return self is not Verdict.POTENTIAL
+
+    @property
+    def is_certain(self) -> bool:
+        """Whether the run can deadlock so, or did, and no value can prevent it."""
+        return self in (Verdict.CONFIRMED, Verdict.HAPPENED)
+
+    @property
+    def rank(self) -> int:
+        return list(Verdict).index(self)
+
+
+def no_value_text(count: int) -> str:
+    """Returns what follows the number of confirmed cycles: `, 1 if no value decides`, or nothing."""
+    return f", {count:,} if no value decides" if count else ""
+
+
+def confirmed_text(confirmed: int, no_value: int, word: str = "confirmed") -> str:
+    """Returns `2 confirmed`, or `2 confirmed, 1 if no value decides`."""
+    return f"{confirmed:,} {word}{no_value_text(no_value)}"
+
+
 class Member(NamedTuple):
-    """A thread that wants a lock while it holds others. `place` is the acquire at which it waits, if the cycle is confirmed."""
+    """A thread that wants a lock while it holds others. `place` is the acquire at which it waits, if the cycle has a witness."""
 
     thread: int
     lock: int
@@ -47,19 +87,37 @@ class Report:
     confirmed: int
 
 
+class ValueRead(NamedTuple):
+    """A read of a plain value that keeps the members of a cycle apart, the write that it saw, and the sentence about them."""
+
+    read: int
+    write: int
+    text: str
+
+
 @dataclass
 class Cycle:
-    """A cycle of a report. `numbers` are those of its dependencies; `witness` has the places of its witness, if it is confirmed. An agent
-    may print one cycle for several: `more` counts the others, `more_confirmed` those confirmed. `reproduced` has the lines about a run in
-    which the deadlock happened: `reproduced in run 1, 0.50 s, 4 steps`, and who waited where."""
+    """A cycle of a report. `numbers` are those of its dependencies; `witness` has the places of its witness, unless it is potential. That of a
+    cycle that is confirmed if no value decides leaves out the accesses of plain values, and `reads` are those that decide, if they are known.
+    An agent may print one cycle for several: `more` counts the others, `more_confirmed` and `more_no_value` those of these verdicts.
+    `reproduced` has the lines about a run in which the deadlock happened: `reproduced in run 1, 0.50 s, 4 steps`, and who waited where.
+    `is_graded`: the report weighs values."""
 
     numbers: tuple[int, ...]
-    is_confirmed: bool
+    verdict: Verdict
     members: list[Member] = field(default_factory=list)
     witness: list[int] = field(default_factory=list)
     more: int = 0
     more_confirmed: int = 0
+    more_no_value: int = 0
     reproduced: list[str] = field(default_factory=list)
+    reads: list[ValueRead] = field(default_factory=list)
+    is_graded: bool = False
+
+    def confirm(self, places: Sequence[int], witness: list[int]) -> None:
+        """Takes the instance and the witness of a potential cycle that is confirmed if no value decides."""
+        self.verdict, self.witness = Verdict.NO_VALUE, witness
+        self.members = [member._replace(place=place) for member, place in zip(self.members, places)]
 
     @property
     def name(self) -> str:
@@ -67,8 +125,14 @@ class Cycle:
         return " ".join(map(str, self.numbers))
 
     @property
-    def verdict(self) -> str:
-        return "confirmed" if self.is_confirmed else "potential"
+    def row(self) -> str:
+        """Its first line in a report."""
+        return f"cycle {self.name} {'confirmed' if self.verdict is Verdict.CONFIRMED else 'potential'}"
+
+    def count(self, verdict: Verdict) -> int:
+        """Returns for how many cycles of this verdict it is printed."""
+        more = {Verdict.CONFIRMED: self.more_confirmed, Verdict.NO_VALUE: self.more_no_value}[verdict]
+        return more + (self.verdict is verdict)
 
 
 class Events(Protocol):
@@ -114,20 +178,20 @@ class ReportReader:
         self.name, self.events, self.number = name, events, 0
         self.report: Optional[Report] = None
         self.cycle: Optional[Cycle] = None
-        self.rows_left, self.members_left, self.wants_witness = 0, 0, False
+        self.rows_left, self.members_left, self.wants_witness, self.is_graded = 0, 0, False, False
         self.last_refusal = ""
 
     def read(self, lines: Iterable[str]) -> Iterator[tuple[Report, Optional[Cycle]]]:
         """Yields a report and None for each first line of a report, and then the report and a cycle for each of its cycles."""
         for line in lines:
             self.number += 1
-            if line.startswith(WITNESS):
+            if line.startswith((WITNESS, WITNESS_NO_VALUE)):
                 self.take_witness(line)
             elif member := member_of(line):
                 self.take_member(line, member)
             elif match := CYCLE.fullmatch(line):
                 yield from self.end_cycle()
-                self.take_cycle(tuple(map(int, match[1].split())), line.endswith(" confirmed"))
+                self.take_cycle(tuple(map(int, match[1].split())), Verdict(line.rpartition(" ")[2]))
             elif match := QUESTION.fullmatch(line):
                 yield from self.end_cycle()
                 yield self.take_question(line, Report(*map(int, match.groups()))), None
@@ -163,31 +227,33 @@ class ReportReader:
             raise self.refuse(f"{shown(line)}: the report before it has further cycles")
         if report.length > len(self.events):
             raise self.refuse(f"length {report.length}: does not fit the trace: {FEWER_EVENTS}")
-        self.report, self.rows_left = report, report.cycles
+        self.report, self.rows_left, self.is_graded = report, report.cycles, False
         return report
 
-    def take_cycle(self, numbers: tuple[int, ...], is_confirmed: bool) -> None:
-        self.cycle, cycle = Cycle(numbers, is_confirmed), self.cycle
+    def take_cycle(self, numbers: tuple[int, ...], verdict: Verdict) -> None:
+        self.cycle, cycle = Cycle(numbers, verdict, is_graded=self.is_graded), self.cycle
         if self.is_in_members():
             raise self.refuse(f"cycle {self.cycle.name}: cycle {cycle.name if cycle else ''} before it lacks a line")
         if self.rows_left == 0:
             raise self.refuse(f"cycle {self.cycle.name}: the first line of the report has fewer cycles")
         self.rows_left -= 1
-        self.members_left, self.wants_witness = len(numbers), is_confirmed
+        self.members_left, self.wants_witness = len(numbers), verdict is Verdict.CONFIRMED
 
     def take_member(self, line: str, member: Member) -> None:
         cycle, report = self.cycle, self.report
         if not cycle or not report or self.members_left == 0:
             raise self.refuse(f"{shown(line.strip())}: no cycle has a member here")
-        if cycle.is_confirmed != (member.place is not None):
+        if (cycle.verdict is Verdict.CONFIRMED) != (member.place is not None):
             raise self.refuse(f"{shown(line.strip())}: the members of a confirmed cycle have places, those of a potential one have none")
         places = self.events.places_of(member.dependency)
-        is_reached = member.place is None or member.place < report.length and self.events.is_acquire_of(member.dependency, member.place)
-        if not places or places[0] >= report.length or not is_reached:
+        if not places or places[0] >= report.length or not (member.place is None or self.is_acquire(member, member.place)):
             raise self.refuse(f"{shown(line.strip())}: does not fit the trace, which has no such acquire")
         cycle.members.append(member)
         self.members_left -= 1
         self.test_ring(line, cycle.members)
+
+    def is_acquire(self, member: Member, place: int) -> bool:
+        return self.report is not None and place < self.report.length and self.events.is_acquire_of(member.dependency, place)
 
     def test_ring(self, line: str, members: list[Member]) -> None:
         last = members[-1]
@@ -195,7 +261,7 @@ class ReportReader:
             raise self.refuse(f"{shown(line.strip())}: does not fit the cycle, whose members each hold the lock that the one before wants")
 
     def take_witness(self, line: str) -> None:
-        cycle, report, places = self.cycle, self.report, places_in(line[len(WITNESS):])
+        cycle, report, places = self.cycle, self.report, places_in(line.partition("witness")[2])
         if not cycle or not report or self.members_left or not self.wants_witness or places is None:
             raise self.refuse(f"{shown(line.strip())}: no witness of places is here")
         if places and (places[-1] >= report.length or not all(map(lt, places, islice(places, 1, None)))):
@@ -203,11 +269,38 @@ class ReportReader:
         cycle.witness = places
         self.wants_witness = False
 
+    def take_no_value(self, line: str, places: list[int]) -> None:
+        """Takes the places of a potential cycle that is confirmed if no value decides. Its witness follows."""
+        cycle = self.cycle
+        if not cycle or self.is_in_members() or cycle.verdict is not Verdict.POTENTIAL:
+            raise self.refuse(f"{shown(line.strip())}: no potential cycle is before it")
+        if len(places) != len(cycle.members) or not all(map(self.is_acquire, cycle.members, places)):
+            raise self.refuse(f"{shown(line.strip())}: does not fit the trace, which has no such acquires")
+        cycle.confirm(places, [])
+        self.wants_witness = True
+
+    def take_note(self, line: str) -> bool:
+        """Takes a note about values. Returns whether the line is one."""
+        if match := PLACES_NO_VALUE.fullmatch(line):
+            self.take_no_value(line, list(map(int, match[1].split())))
+        elif HEAD_NO_VALUE.fullmatch(line) and not self.cycle:
+            self.is_graded = True
+        elif (match := VALUE_READ.fullmatch(line)) and self.cycle and self.cycle.verdict is Verdict.NO_VALUE and self.report:
+            read, write = int(match[1]), int(match[2])
+            if not write < read < self.report.length:
+                raise self.refuse(f"{shown(line.strip())}: does not fit the trace")
+            self.cycle.reads.append(ValueRead(read, write, match[3]))
+        else:
+            return False
+        return True
+
     def take_other(self, line: str) -> None:
         if match := MORE.fullmatch(line):
             if not self.cycle or self.is_in_members():
                 raise self.refuse(f"{shown(line.strip())}: no cycle is before it")
-            self.cycle.more, self.cycle.more_confirmed = int(match[1]), int(match[2])
+            self.cycle.more, self.cycle.more_confirmed, self.cycle.more_no_value = int(match[1]), int(match[2]), int(match[3] or 0)
+        elif self.take_note(line):
+            pass
         elif self.cycle and not self.is_in_members() and line.startswith(FURTHER if self.cycle.reproduced else REPRODUCED):
             self.cycle.reproduced.append(line.strip())
         elif OTHER_LINE.fullmatch(line) and self.is_between():

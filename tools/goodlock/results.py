@@ -12,26 +12,9 @@ from goodlock.commandline import plural
 from goodlock.groups import Group, Groups, Location, Pair, advice_for
 from goodlock.locations import Root
 from goodlock.parts import condition_of
-from goodlock.reports import Report
+from goodlock.reports import Report, Verdict, confirmed_text
 from goodlock.reproduce.notes import command_for
 from goodlock.traces import CALLED_BY, Index, Origin, description_of
-
-
-class Verdict(enum.Enum):
-    """What a result rests on. A deadlock that happened is the strongest evidence."""
-
-    POTENTIAL = "potential"
-    CONFIRMED = "confirmed"
-    HAPPENED = "happened"
-
-    @property
-    def is_certain(self) -> bool:
-        """Whether the run can deadlock so, or did."""
-        return self is not Verdict.POTENTIAL
-
-    @property
-    def rank(self) -> int:
-        return list(Verdict).index(self)
 
 
 class State(enum.Enum):
@@ -42,8 +25,14 @@ class State(enum.Enum):
     SUPPRESSED = "suppressed"
 
 
+def rule_of(verdict: Verdict) -> str:
+    """Returns the name of a kind of results in formats: `confirmed-deadlock`."""
+    return f"{verdict.value.replace(' ', '-')}-deadlock"
+
+
 TITLES = {
     Verdict.POTENTIAL: "Potential deadlock",
+    Verdict.NO_VALUE: "Deadlock, if no value decides",
     Verdict.CONFIRMED: "Deadlock",
     Verdict.HAPPENED: "Deadlock that happened",
 }
@@ -58,8 +47,25 @@ def named(kind: str, number: int, name: Optional[str]) -> str:
     return f"{kind} {number} ({name})" if name else f"{kind} {number}"
 
 
+class InTrace:
+    """What has a place in a trace, and an origin if that was reduced from files."""
+
+    place: Optional[int]
+    origin: Optional[Origin]
+
+    @property
+    def at(self) -> str:
+        """The place in a sentence, as in the file from which the trace was reduced: `place 17`."""
+        return self.origin.title if self.origin else f"place {self.place}"
+
+    @property
+    def label(self) -> str:
+        """The place as a list shows it."""
+        return self.origin.label if self.origin else str(self.place)
+
+
 @dataclass(frozen=True)
-class Spot:
+class Spot(InTrace):
     """Where a thread acquired a lock or wants one. There is no place if the acquire never returned, and no lock if the thread waits for
     the end of another one. `name` is that of the lock. `has_source`: the trace has the source line; else the location is made of the
     thread and the lock."""
@@ -71,16 +77,6 @@ class Spot:
     name: Optional[str] = None
     has_source: bool = True
     origin: Optional[Origin] = None
-
-    @property
-    def at(self) -> str:
-        """The place in a sentence, as in the file from which the trace was reduced: `place 17`."""
-        return self.origin.title if self.origin else f"place {self.place}"
-
-    @property
-    def label(self) -> str:
-        """The place as a list shows it."""
-        return self.origin.label if self.origin else str(self.place)
 
     @property
     def target(self) -> str:
@@ -114,7 +110,7 @@ class ResultMember:
 
 
 @dataclass(frozen=True)
-class WitnessStep:
+class WitnessStep(InTrace):
     """An event of a witness, and how many before it a short list leaves out. There is no location if the trace has none."""
 
     place: int
@@ -124,16 +120,6 @@ class WitnessStep:
     location: Optional[Location] = None
     callers: tuple[str, ...] = ()
     origin: Optional[Origin] = None
-
-    @property
-    def at(self) -> str:
-        """The place in a sentence, as in the file from which the trace was reduced: `place 17`."""
-        return self.origin.title if self.origin else f"place {self.place}"
-
-    @property
-    def label(self) -> str:
-        """The place as a list shows it."""
-        return self.origin.label if self.origin else str(self.place)
 
     @property
     def source(self) -> str:
@@ -152,7 +138,8 @@ class Witness:
 
 @dataclass(frozen=True)
 class KeptApart:
-    """Why no order of the events leads to a potential deadlock: in a few words, step by step, and the command that prints it in full."""
+    """Why no order of the events leads to a potential deadlock: in a few words, step by step, and the command that prints it in full. Of a
+    deadlock that is confirmed if no value decides, the sentences are about the reads that keep its threads apart."""
 
     heading: str
     sentences: tuple[str, ...] = ()
@@ -167,7 +154,8 @@ class Result:
     """A group of cycles with the same code locations, or a deadlock that happened. `example` has the numbers of the cycle that the members
     are of. `before` is the verdict in the baseline, `suppressed_by` the line of the suppressions. `traces` are the first traces with it,
     of `trace_count`. `reproduced` has the lines about a run in which the deadlock happened again, `reproduce` the command for one.
-    `condition` is what the verdict rests on besides the events, or empty."""
+    `condition` is what the verdict rests on besides the events, or empty. `confirmed` of the cycles are confirmed, `no_value` are if no value
+    decides."""
 
     verdict: Verdict
     members: tuple[ResultMember, ...]
@@ -186,10 +174,11 @@ class Result:
     reproduced: tuple[str, ...] = ()
     reproduce: str = ""
     condition: str = ""
+    no_value: int = 0
 
     @property
     def rule(self) -> str:
-        return f"{self.verdict.value}-deadlock"
+        return rule_of(self.verdict)
 
     @property
     def title(self) -> str:
@@ -212,7 +201,7 @@ class Result:
         traces = f"in {self.trace_count:,} traces" if self.trace_count > 1 else ""
         if not self.cycles:
             return traces
-        return f"{plural(self.cycles, 'cycle')}{traces and ' '}{traces}, {self.confirmed:,} confirmed"
+        return f"{plural(self.cycles, 'cycle')}{traces and ' '}{traces}, {confirmed_text(self.confirmed, self.no_value)}"
 
     @property
     def sides(self) -> str:
@@ -220,16 +209,23 @@ class Result:
         return "; ".join(f"a thread that {member.role} waits at {member.wait.location.text}" for member in self.members)
 
     @property
+    def why(self) -> str:
+        """What keeps the threads apart, in a few words, with the reads of values that do; an empty text if nothing is known."""
+        apart = self.kept_apart
+        reads = f": {'; '.join(apart.sentences)}" if apart and self.verdict is Verdict.NO_VALUE and apart.sentences else ""
+        return f"{apart.heading}{reads}" if apart else ""
+
+    @property
     def message(self) -> str:
         """The result as one paragraph."""
         counts = f" ({self.counts})" if self.counts else ""
-        reason = f" {self.kept_apart.heading.rstrip('.')}." if self.kept_apart else ""
+        reason = f" {self.why.rstrip('.')}." if self.why else ""
         return f"{self.title}: {self.sides}{counts}.{reason} {self.advice}"
 
 
 @dataclass(frozen=True)
 class Numbers:
-    """The size of a run, and its cycles. `tried` ones have a member that does not wait without end, and `writers_wait` counts those that
+    """The size of a run, and its cycles: `no_value` are confirmed if no value decides. `tried` ones have a member that does not wait without end, and `writers_wait` counts those that
     only waiting writers make, of locks which do not let these go first."""
 
     events: int = 0
@@ -242,10 +238,11 @@ class Numbers:
     happened: int = 0
     seconds: float = 0.0
     writers_wait: int = 0
+    no_value: int = 0
 
     @property
     def cycles(self) -> int:
-        return self.confirmed + self.potential + self.tried + self.writers_wait
+        return self.confirmed + self.no_value + self.potential + self.tried + self.writers_wait
 
 
 class LeftOut(NamedTuple):
@@ -255,6 +252,12 @@ class LeftOut(NamedTuple):
     further: int = 0
     further_confirmed: int = 0
     writers_wait: int = 0
+    further_no_value: int = 0
+
+    @property
+    def further_text(self) -> str:
+        """Says of the cycles in further groups how many are confirmed."""
+        return confirmed_text(self.further_confirmed, self.further_no_value)
 
 
 @dataclass(frozen=True)
@@ -265,6 +268,11 @@ class Question:
     results: tuple[Result, ...] = ()
     left_out: LeftOut = LeftOut()
     notes: tuple[str, ...] = ()
+
+    @property
+    def no_value(self) -> int:
+        """How many cycles are confirmed if no value decides."""
+        return sum(result.no_value for result in self.results) + self.left_out.further_no_value
 
 
 @dataclass(frozen=True)
@@ -296,7 +304,7 @@ class Run:
         """What a reader must know beside the results: what was not examined, and which suppressions are not used."""
         found = [*self.notes, *(f"{trace}: {fault}" for trace, fault in self.faults)]
         if self.left_out.further:
-            found.append(f"{plural(self.left_out.further, 'cycle')} in too many further groups, {self.left_out.further_confirmed:,} confirmed")
+            found.append(f"{plural(self.left_out.further, 'cycle')} in too many further groups, {self.left_out.further_text}")
         if len(kept(self.results)) > self.most:
             found.append(f"{plural(len(kept(self.results)) - self.most, 'group')} not shown")
         return found + [f"{self.suppressions} line {number} suppresses nothing" for number in self.unused]
@@ -337,23 +345,24 @@ def callers_of(index: Index, place: int) -> tuple[str, ...]:
 
 
 def result_of(index: Index, group: Group, root: Root) -> Result:
-    """Returns the result of a group. One that is not confirmed gets its reason by `explained`."""
+    """Returns the result of a group. `explained` adds what keeps the members of its example apart."""
     members = group.example.members
     return Result(
-        verdict=Verdict.CONFIRMED if group.is_confirmed else Verdict.POTENTIAL,
+        verdict=group.verdict,
         members=tuple(
             ResultMember(member.thread, spot_of(index, side.hold, members[at - 1].lock, root), spot_of(index, side.wait, member.lock, root),
                          member.held, index.names.get(("thread", member.thread)))
             for at, (member, side) in enumerate(zip(members, group.sides))),
-        advice=advice_for(group.locations(index)) if group.is_confirmed else "Acquire the locks in one order.",
+        advice=advice_for(group.locations(index)) if group.verdict.is_confirmed else "Acquire the locks in one order.",
         cycles=group.cycles,
         confirmed=group.confirmed,
         example=group.example.numbers,
-        witness=witness_of(index, group, root) if group.is_confirmed else None,
+        witness=witness_of(index, group, root) if group.verdict.is_confirmed else None,
         traces=(index.file,) if index.file else (),
         reproduced=tuple(group.example.reproduced),
         reproduce=command_for(index.file, group.example.numbers),
         condition=condition_of(group.basis),
+        no_value=group.no_value,
     )
 
 
@@ -377,11 +386,12 @@ def numbers_of(index: Index, groups: Groups, happened: int, seconds: float) -> N
         locks=len(locks - index.marks),
         dependencies=len(index.dependencies),
         confirmed=confirmed,
-        potential=sum(group.cycles for group in groups.by_key.values()) + groups.further - confirmed,
+        potential=sum(group.cycles for group in groups.by_key.values()) + groups.further - confirmed - groups.no_value,
         tried=groups.tried,
         happened=happened,
         seconds=seconds,
         writers_wait=groups.writers_wait,
+        no_value=groups.no_value,
     )
 
 

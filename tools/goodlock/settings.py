@@ -14,7 +14,8 @@ from goodlock.locations import Root
 def add_gate_options(parser: argparse.ArgumentParser) -> None:
     gate = parser.add_argument_group("gates")
     gate.add_argument("--fail-on", choices=FAIL_ON, metavar="WORD",
-                      help="end with status 3 if a group is confirmed; if any group is there (potential); if a confirmed group is new")
+                      help="end with status 3 if a group is confirmed, also if no value decides; only if no value can decide (certain); if any "
+                      "group is there (potential); if a confirmed group is new; if a certain one is (new-certain)")
     gate.add_argument("--baseline", metavar="FILE", help="list the groups that this file has as known; --json prints such a file")
     gate.add_argument("--suppress", metavar="FILE", help="leave out the groups that this file of suppressions matches")
     gate.add_argument("--root", metavar="DIR",

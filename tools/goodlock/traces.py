@@ -6,10 +6,11 @@ from collections import defaultdict
 from collections.abc import Iterator
 from dataclasses import dataclass, field
 from functools import cached_property
+from math import inf
 from typing import NamedTuple, Optional
 
 from goodlock.errors import InputError, fault_of_text, shown
-from goodlock.limits import LARGEST, MOST_DEPTH, MOST_EVENTS, MOST_HELD, MOST_THREADS, NUMBER
+from goodlock.limits import LARGEST, MOST_DEPTH, MOST_EVENTS, MOST_HELD, MOST_THREADS, MOST_VALUES, NUMBER, PLAIN_VALUES
 from goodlock.parts import Parts
 
 EVENT = re.compile(NUMBER + "([fjardw])" + NUMBER)
@@ -17,6 +18,7 @@ SPELT = re.compile("([0-9]+)[fjardw]([0-9]+)")
 SCRIPT_LINE = re.compile(rf"(ask|work|answer|status) +{NUMBER}|deliver +{NUMBER} +{NUMBER}")
 NAME = re.compile(rf"# (thread|lock) {NUMBER} is (.*)")
 MARK = re.compile(rf"# mark {NUMBER}")
+VALUES = re.compile(rf"# values atomic {NUMBER} plain {NUMBER}")
 ORIGIN = re.compile(r"# (place|line) (0|[1-9][0-9]{0,18})(?: of (.+))?")
 VERBS = {"f": "forks thread", "j": "joins thread", "a": "acquires lock", "r": "releases lock", "d": "reads", "w": "writes"}
 MOST_FILES = 5  # that a note names
@@ -30,6 +32,22 @@ class Event(NamedTuple):
     letter: str
     target: int
     where: Optional[str] = None
+
+
+class Values(NamedTuple):
+    """Which variables of a trace stand for values that threads read: those of atomics are from `atomic` on, those of plain memory and of
+    predicates of conditions from `plain` on, at most MOST_VALUES."""
+
+    atomic: int
+    plain: int
+
+    def is_plain(self, event: Event) -> bool:
+        """Whether an event reads or writes a plain value."""
+        return event.letter in "dw" and self.plain <= event.target < self.plain + MOST_VALUES
+
+    def kind_of(self, variable: int) -> str:
+        """Returns what a variable stands for; an empty text if for no value."""
+        return "" if not self.atomic <= variable < self.plain + MOST_VALUES else "an atomic value" if variable < self.plain else "memory"
 
 
 class Origin(NamedTuple):
@@ -90,7 +108,8 @@ class Origins:
 @dataclass
 class Trace:
     """`names` maps ("thread", 1) and ("lock", 1) to names; `marks` are the locks that mark acquires which do not wait without end; `parts`
-    says which locks are parts of others. `file` is the name of the file, or None if it is a script, which has other lines too."""
+    says which locks are parts of others. `file` is the name of the file, or None if it is a script, which has other lines too. `values` are those
+    of the comment `# values` before the first event, or None."""
 
     events: list[Event] = field(default_factory=list)
     names: dict[tuple[str, int], str] = field(default_factory=dict)
@@ -98,6 +117,7 @@ class Trace:
     parts: Parts = field(default_factory=Parts)
     file: Optional[str] = None
     origins: Origins = field(default_factory=Origins)
+    values: Optional[Values] = None
 
 
 def description_of(event: Event) -> str:
@@ -241,6 +261,13 @@ class EventReader:
             self.trace.marks.add(int(match[1]))
         elif match := ORIGIN.fullmatch(line):
             self.trace.origins.add(len(self.trace.events), match[1], int(match[2]), match[3])
+        elif (match := VALUES.fullmatch(line)) and not self.trace.events:
+            self.trace.values = self.values_of(int(match[1]), int(match[2]))
+
+    def values_of(self, atomic: int, plain: int) -> Values:
+        if not atomic < plain <= PLAIN_VALUES:
+            raise InputError(self.name, self.number, f"the plain values do not begin after the atomic ones, at most at {PLAIN_VALUES}")
+        return Values(atomic, plain)
 
     def event_of(self, word: str) -> Event:
         if word in self.known:
@@ -343,7 +370,7 @@ class Index:
 
     def __init__(self, trace: Trace) -> None:
         self.events, self.marks, self.parts, self.file = trace.events, trace.marks, trace.parts, trace.file
-        self.names, self.origins = trace.parts.names_with(trace.names), trace.origins
+        self.names, self.origins, self.values = trace.parts.names_with(trace.names), trace.origins, trace.values
         self.thread_places: dict[int, array[int]] = defaultdict(lambda: array("I"))
         self.held: dict[int, tuple[int, ...]] = {}
         self.since: dict[int, tuple[int, ...]] = {}
@@ -403,6 +430,19 @@ class Index:
 
     def __len__(self) -> int:
         return len(self.events)
+
+    @cached_property
+    def first_plain(self) -> float:
+        """The place of the first access of a plain value; infinity if there is none."""
+        values = self.values
+        return next((place for place, event in enumerate(self.events) if values.is_plain(event)), inf) if values else inf
+
+    @cached_property
+    def places_without_values(self) -> "dict[int, array[int]]":
+        """The places of each thread without its accesses of plain values."""
+        events, values = self.events, self.values
+        return {thread: array("I", (place for place in mine if not (values and values.is_plain(events[place]))))
+                for thread, mine in self.thread_places.items()}
 
     def places_of(self, dependency: Dependency) -> list[int]:
         """Returns the places of the acquires with this dependency."""

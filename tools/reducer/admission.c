@@ -9,6 +9,7 @@ struct thread *threads;
 struct lock *locks;
 struct variable *variables;
 struct texts texts;
+struct values values;
 static size_t threads_room, locks_room, variables_room;
 enum { MOST_REASON = 4500 }; /* bytes, with the name of a file */
 
@@ -39,6 +40,11 @@ static uint32_t variable_of(uint32_t number) {
     variables = grow(variables, before, &variables_room, sizeof *variables);
     variables[at] = (struct variable){.user = NONE};
     return at;
+}
+
+bool is_plain(uint32_t variable) {
+    uint32_t number = variable_numbers.numbers[variable];
+    return values.are_there && number >= values.plain && number - values.plain < MOST_VALUES;
 }
 
 static uint32_t new_position(struct numbers *table) {

@@ -15,7 +15,7 @@ static const char *const names[] = {"reaches", "JoinOrder", "WrongWriter", "Over
 struct member { uint32_t witness, thread, lock, holds; uint64_t place; bool is_seen; };
 struct end { uint32_t witness, thread; uint64_t place; };
 struct last { uint32_t thread, line; uint64_t place; };
-struct witness { enum fault fault; uint64_t place; struct last *lasts; size_t count, room; };
+struct witness { enum fault fault; uint64_t place; struct last *lasts; size_t count, room; bool is_without; }; /* without plain values */
 
 /* Of a thread: the witnesses that contain its next event, its last event, its items in `ends`. */
 struct progress { set in; uint64_t last, cut; uint32_t line; size_t next, end; bool has_events; };
@@ -29,6 +29,7 @@ static struct progress *progress;
 static struct section *sections;
 static set *writers;                        /* of a variable: in which witnesses its last write is, or all */
 static size_t progress_count, progress_room, sections_count, sections_room, writers_count, writers_room;
+static set without_values;                  /* the witnesses in which reads of plain values may see any write */
 static uint64_t *cut_of;
 static size_t cuts_count, cuts_room;
 static struct reader reader;
@@ -72,9 +73,10 @@ static uint32_t lock_at(uint32_t number) { return (uint32_t)(find_lock(&reader, 
 static bool take_line(const char *line) {
     uint32_t thread, lock, holds;
     unsigned long long place;
-    if (!strcmp(line, "witness\n")) {
+    bool is_without = !strcmp(line, "without values\n");
+    if (is_without || !strcmp(line, "witness\n")) {
         witnesses = grow(witnesses, witness_count, &witnesses_room, sizeof *witnesses);
-        witnesses[witness_count++] = (struct witness){.fault = REACHES};
+        witnesses[witness_count++] = (struct witness){.fault = REACHES, .is_without = is_without};
     } else if (sscanf(line, "cut %u %llu", &thread, &place) == 2) {
         take_cut(thread_at(thread), place);
     } else if (sscanf(line, "member %u %u %u %llu", &thread, &lock, &holds, &place) == 4 && witness_count) {
@@ -205,7 +207,11 @@ static void replay_event(const struct event *event) {
     it->last = event->place, it->line = event->line, it->has_events = true;
     if (event->operation == FORK) progress_of(event->object)->in = in;
     if (event->operation == JOIN) failing = without(&in, &progress_of(event->object)->in), fail_all(&failing, JOIN_ORDER, event->place);
-    if (event->operation == READ) failing = without(&in, writer_of(event->object)), fail_all(&failing, WRONG_WRITER, event->place);
+    if (event->operation == READ) {
+        failing = without(&in, writer_of(event->object));
+        if (is_plain(event->object)) failing = without(&failing, &without_values);
+        fail_all(&failing, WRONG_WRITER, event->place);
+    }
     if (event->operation == WRITE) *writer_of(event->object) = in;
     if (event->operation == ACQUIRE || event->operation == RELEASE) replay_lock(event, &in);
 }
@@ -221,7 +227,11 @@ static void begin_batch(uint32_t first, size_t count) {
         for (next = at + 1; next < end_count && !by_thread(&ends[at], &ends[next]); next++) {}
         if (ends[at].witness / BATCH == first / BATCH) progress[ends[at].thread].next = at, progress[ends[at].thread].end = next;
     }
-    for (uint32_t bit = 0; bit < count; bit++) add(&progress_of(thread_at(0))->in, bit);
+    memset(&without_values, 0, sizeof without_values);
+    for (uint32_t bit = 0; bit < count; bit++) {
+        add(&progress_of(thread_at(0))->in, bit);
+        if (witnesses[first + bit].is_without) add(&without_values, bit);
+    }
 }
 
 /* Returns whether the member of a witness of this batch waits at an event. */

@@ -172,6 +172,17 @@ static bool take_part(struct reader *reader, uint32_t part, const char *text) {
     return true;
 }
 
+/* The comment is before the first event of each file of the run. */
+static void take_values(struct reader *reader, const char *text, uint32_t atomic) {
+    uint32_t plain;
+    const char *rest = after(text, " plain ", &plain, "");
+    if (!rest || *rest || reader->place != reader->sources[reader->at].first) return;
+    if (atomic >= plain || plain > PLAIN_VALUES)
+        refuse(reader, "the plain values do not begin after the atomic ones, at most at %u", PLAIN_VALUES);
+    if (values.are_there && (values.atomic != atomic || values.plain != plain)) refuse(reader, "an earlier window has other values");
+    values = (struct values){atomic, plain, true};
+}
+
 /* Takes a comment, of which the text is complete. Other comments have no meaning for the run. */
 static void take_comment(struct reader *reader, const char *text) {
     uint32_t number;
@@ -182,6 +193,7 @@ static void take_comment(struct reader *reader, const char *text) {
         if (!take_part(reader, number, rest)) find_lock(reader, number)->name = text_number(rest);
     } else if ((rest = after(text, "# lock ", &number, " prefers writers")) && !*rest) find_lock(reader, number)->prefers_writers = true;
     else if ((rest = after(text, "# mark ", &number, "")) && !*rest) find_lock(reader, number)->is_mark = true;
+    else if ((rest = after(text, "# values atomic ", &number, ""))) take_values(reader, rest, number);
     else if ((rest = after(text, "# line ", &number, " of ")) && number) take_origin(reader, number, rest);
     else if ((rest = after(text, "# window ", &number, "")) && !*rest) take_window(reader, number);
     else if ((rest = after(text, "# repeated ", &number, "")) && !*rest && reader->count > 1) {

@@ -69,6 +69,8 @@ bool next_logged(struct reader *reader, struct word *word) {
     }
     *word = (struct word){.thread = reader->last.thread, .object = reader->last.objects[1]};
     word->operation = (enum operation)(kind - LOG_EVENT);
+    if (word->operation >= READ && word->object >= ATOMIC_VALUES && word->object < PLAIN_VALUES + MOST_VALUES)
+        values = (struct values){ATOMIC_VALUES, PLAIN_VALUES, true};
     if (word->operation == ACQUIRE && word->object >= FIRST_MARKER) find_lock(reader, word->object)->is_mark = true;
     reader->place++;
     return true;

@@ -10,7 +10,8 @@
 #include <stdlib.h>
 #include <string.h>
 
-enum { MOST_EVENTS = 1 << 20, MOST_THREADS = 1024, MOST_HELD = 32, MOST_DEPTH = 255 }; /* of a trace: docs/formats.md */
+#include "../../agents/pthread/limits.h"
+
 /* Of the input. Each acquire adds an edge to the lock graph for each held lock, so their number is bounded. */
 enum { MOST_HELD_OF_RUN = 1024, MOST_THREADS_OF_RUN = 1 << 27, MOST_COMMENT = 1 << 16 };
 #define LARGEST UINT32_MAX
@@ -114,10 +115,17 @@ struct lock {
     uint32_t whole, reader;             /* of a part: numbers of its lock and of the thread that reads by it; NONE */
 };
 struct variable { uint32_t user; bool is_written; size_t last; }; /* last: 1 more than the index of its last write, or 0 */
+/* The variables that stand for values which threads read: those of atomics are from `atomic` on, plain values from `plain` on. A comment of an
+ * event file says which these are; in a log they are those that agents choose. */
+enum { MOST_VALUES = 1000000000 }; /* of a kind */
+struct values { uint32_t atomic, plain; bool are_there; };
+extern struct values values;
 extern struct numbers thread_numbers, lock_numbers, variable_numbers;
 extern struct thread *threads;
 extern struct lock *locks;
 extern struct variable *variables;
+/* Returns whether a variable stands for a plain value. */
+bool is_plain(uint32_t variable);
 extern struct texts texts; /* names of threads and locks, code locations, names of files */
 
 /* Return the thread and the lock with a number, which are added if they are new. The pointers are valid until the next call. */

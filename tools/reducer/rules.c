@@ -38,11 +38,20 @@ void count_users(void) {
 
 /* ---- accesses ---- */
 
+/* Notes that a thread sees what another one wrote up to an event. Returns whether it is new. */
+static bool see(struct pairs *seen, uint32_t thread, uint32_t writer, size_t write) {
+    uint64_t *latest = add_pair(seen, pair_of(thread, writer), 0);
+    bool is_new = *latest < write;
+    if (is_new) *latest = write;
+    return is_new;
+}
+
 /* A read needs its writer. If that is a write of its own thread, or at or before one that its thread has seen from the same thread, then
  * thread order contains this. A write that no kept read sees is needed by nothing. More events may follow if the trace is not complete: so
- * the last write of each variable stays. */
+ * the last write of each variable stays. A cycle is judged with all accesses and without those of plain values. So a read of another
+ * variable stays if only a read of a plain value implies it. */
 static void leave_out_accesses(bool is_complete) {
-    struct pairs seen = {0};
+    struct pairs seen = {0}, seen_without = {0}; /* by all reads, and by those of other variables than plain values */
     for (size_t at = 0; at < variable_numbers.count; at++) variables[at].last = 0;
     for (size_t at = 0; at < kept.count; at++) {
         struct event *event = &kept.events[at];
@@ -51,17 +60,17 @@ static void leave_out_accesses(bool is_complete) {
         event->is_needed = false;
         if (event->operation == WRITE) *last = at + 1;
         if (event->operation == WRITE || !*last || kept.events[*last - 1].thread == event->thread) continue;
-        uint64_t *latest = add_pair(&seen, pair_of(event->thread, kept.events[*last - 1].thread), 0);
-        if (*latest >= *last) continue;
-        *latest = *last;
-        event->is_needed = kept.events[*last - 1].is_needed = true;
+        uint32_t writer = kept.events[*last - 1].thread;
+        bool is_new = see(&seen, event->thread, writer, *last);
+        if (!is_plain(event->object)) is_new = see(&seen_without, event->thread, writer, *last);
+        if (is_new) event->is_needed = kept.events[*last - 1].is_needed = true;
     }
     for (size_t at = 0; at < kept.count; at++) {
         struct event *event = &kept.events[at];
         bool is_last = event->operation == WRITE && variables[event->object].last == at + 1;
         event->is_left_out = event->operation >= READ && !event->is_needed && (is_complete || !is_last);
     }
-    clear_pairs(&seen);
+    clear_pairs(&seen), clear_pairs(&seen_without);
     remove_left_out();
 }
 

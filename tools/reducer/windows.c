@@ -166,6 +166,7 @@ static void write_event(const struct event *event) {
 static void write_start(void) {
     if (written.windows > 1) fprintf(file, "# window %u\n", written.windows);
     if (repeated_forks + repeated_acquires) fprintf(file, "# repeated %zu\n", repeated_forks + repeated_acquires);
+    if (values.are_there) fprintf(file, "# values atomic %u plain %u\n", values.atomic, values.plain);
     for (uint32_t thread = 0; thread < parts_count; thread++) {
         const struct part *part = &parts[thread];
         if (part->window != written.windows || is_root(thread) || !part->is_forked || part->forked_in == written.windows) continue;

@@ -12,7 +12,7 @@ from goodlock.config import find_config, read_config
 from goodlock.gates import Gate, Judgement
 from goodlock.happened import deadlock_of, spot_of, with_happened
 from goodlock.locations import Root
-from goodlock.results import LeftOut, Result, ResultMember, Verdict, headline, numbered
+from goodlock.results import LeftOut, Result, ResultMember, headline, numbered
 from goodlock.settings import Settings, add_gate_options, settings_of
 
 DEFAULT, NO_CONFIG = Gate("confirmed"), "--no-config"
@@ -50,7 +50,8 @@ def judge(windows: Iterable[Window], groups: Iterable[Found], deadlock: Sequence
 
 def left_out_of(windows: Iterable[Window]) -> LeftOut:
     found = list(windows)
-    return LeftOut(further=sum(window.further for window in found), further_confirmed=sum(window.further_confirmed for window in found))
+    return LeftOut(further=sum(window.further for window in found), further_confirmed=sum(window.further_confirmed for window in found),
+                   further_no_value=sum(window.further_no_value for window in found))
 
 
 def result_of(found: Found, sites: Sites, root: Root) -> Result:
@@ -60,5 +61,4 @@ def result_of(found: Found, sites: Sites, root: Root) -> Result:
         hold = sites.name(member.since[member.held.index(wanted)])
         members.append(ResultMember(member.thread, spot_of(hold, wanted, root), spot_of(sites.name(member.site), member.lock, root),
                                     tuple(member.held)))
-    return Result(Verdict.CONFIRMED if found.is_confirmed else Verdict.POTENTIAL, tuple(members), "", found.cycles, found.confirmed,
-                  condition=found.condition)
+    return Result(found.verdict, tuple(members), "", found.cycles, found.confirmed, condition=found.condition, no_value=found.no_value)

@@ -8,22 +8,28 @@ from collections.abc import Iterable, Iterator
 from goodlock.agent.gate import judge
 from goodlock.agent.names import Names
 from goodlock.agent.run import ALL, Run, say, shortly
-from goodlock.agent.search import NOT_SEARCHED, TIMED, Found, Limit, NoReport, Window, results
+from goodlock.agent.search import CONFIRMED, NO_VALUE, NOT_SEARCHED, TIMED, Found, Limit, NoReport, Window, results
 from goodlock.agent.sites import Sites, name_lines_of
 from goodlock.agent.whole import Whole, adopt, drop, search_whole
 from goodlock.errors import InputError
+from goodlock.grades import head_line, sentence, value_lines
 from goodlock.groups import key_of, merge
 from goodlock.happened import HEADING
 from goodlock.limits import FIRST_THREAD, HELPERS, MOST_BOUND, TRY_MARKERS
 from goodlock.parts import REASONS, WRITERS_WAIT
+from goodlock.reports import ValueRead, confirmed_text
 from goodlock.reproduce.calls import keep_log
 from goodlock.settings import Settings
+from goodlock.traces import CALLED_BY
 
 DEADLOCK, NO_REPORT, IN_PART = 1, 2, 3  # exit statuses
 MOST_NAMES = 5
+VALUES_OF_ATOMICS, VALUES_OF_MEMORY, VALUES_HOOKED, VALUES_LOST = 1, 2, 8, 16  # agents/pthread/ring.h has the same, and this number:
+MOST_WRITERS = 65_000
 MOST_PARTS = 8  # readers of a lock that can be members of cycles: agents/pthread/readers.c has the same
 # Libraries with locks that are made of atomics and futex calls, also in code which the agent does not see.
 OWN_LOCKS = re.compile("(lib(?:glib-2.0|gomp|i?omp5?|Qt[56]Core|tbb|jvm|go))\\.so.*")
+JAVA = "libjvm"
 
 
 def plural(number: int, one: str) -> str:
@@ -54,22 +60,34 @@ def name_lines(found: Found, names: Names) -> Iterator[str]:
 
 
 def cycle_lines(found: Found, sites: Sites, names: Names) -> Iterator[str]:
-    yield f"cycle {' '.join(map(str, found.numbers))} {found.kind}"
+    is_certain = found.kind == CONFIRMED
+    yield f"cycle {' '.join(map(str, found.numbers))} {'confirmed' if is_certain else 'potential'}"
     for at, member in enumerate(found.members):
-        place = "" if member.place is None else f" place {member.place}"
+        place = f" place {member.place}" if is_certain else ""
         yield f"  thread {member.thread} lock {member.lock} holds {' '.join(map(str, member.held))}{place}"
         if member.fork is not None:
             yield f"    {thread_note(member.thread, member.fork, sites)}"
         yield f"    lock {member.lock} at {sites.name(member.site)}"
         yield from (f"    lock {lock} since {line}" for lock, line in held_in(found, at, sites, names))
-    if found.witness is not None:
+    if is_certain:
         yield f"  witness {found.witness}".rstrip()
+    elif found.kind == NO_VALUE:
+        yield from no_value_lines(found, sites)
     if found.note:
         yield f"    {found.note}"
     yield from (f"    {condition}: {reason}" for condition, reason in REASONS.items() if condition in found.condition)
     yield from name_lines(found, names)
     if found.cycles > 1:
-        yield f"    and {plural(found.cycles - 1, 'more cycle')} at these lines, {found.confirmed - found.is_confirmed} of them confirmed"
+        more = confirmed_text(found.confirmed - is_certain, found.no_value - (found.kind == NO_VALUE), "of them confirmed")
+        yield f"    and {plural(found.cycles - 1, 'more cycle')} at these lines, {more}"
+
+
+def no_value_lines(found: Found, sites: Sites) -> Iterator[str]:
+    """Yields the lines about a group that is confirmed if no value decides. One read of each text is enough."""
+    reads = {text: ValueRead(read.read, read.write, text) for read in reversed(found.reads)
+             for text in [sentence(sites.name(read.read_site).split(CALLED_BY)[0], sites.name(read.write_site).split(CALLED_BY)[0])]}
+    places = (member.place or 0 for member in found.members)
+    yield from value_lines(places, map(int, (found.witness or "").split()), reversed(reads.values()), found.not_named)
 
 
 def timed_lines(found: Found, sites: Sites, names: Names) -> Iterator[str]:
@@ -89,6 +107,8 @@ def why_not_analysed(summary: dict[str, int]) -> Iterator[str]:
     """Yields why the run was not analysed."""
     if not summary["attached"] and summary["follower"]:
         yield "no events: the process could not open the shared memory of its collector; it may be in a sandbox"
+    elif not summary["attached"] and summary["java"]:
+        yield "no events: the virtual machine has not loaded the agent; a line above may say why"
     elif not summary["attached"]:
         yield ("no events: the agent was not loaded; the program is statically linked, has other rights, or clears its environment: link it "
                "dynamically, and start it with the rights of this user and with this environment")
@@ -155,10 +175,45 @@ def limits_of(run: Run, summary: dict[str, int], windows: dict[int, Window], who
         yield f"{plural(summary['unseen'], 'thread')} started in a way that is not seen: what came before the start is not ordered"
     if summary["cleared"]:
         yield f"{plural(summary['cleared'], 'program')} started with an environment that lacks the agent's variables"
-    if libraries := sorted({match[1] for name in lines_in(run, "libraries") if (match := OWN_LOCKS.fullmatch(name))}):
+    libraries = sorted({match[1] for name in lines_in(run, "libraries") if (match := OWN_LOCKS.fullmatch(name))})
+    if JAVA in libraries:
+        libraries.remove(JAVA)
+        yield "the monitors and locks of a program in Java, which are not seen here: agents/java records them"
+    if libraries:
         yield f"the locks inside of {', '.join(libraries)}"
+    yield from unseen_by(run)
+    if any(window.found for window in windows.values()):
+        yield from unseen_values(summary)
     if summary["futexes"]:
         yield f"{plural(summary['futexes'], 'wait')} by futex calls: of locks that are made of atomics, or for values"
+
+
+def unseen_by(run: Run) -> Iterator[str]:
+    """Yields what the recorder says it could not see: the first lines, and the number of the others."""
+    lines = lines_in(run, "unseen")
+    yield from lines[:MOST_NAMES]
+    if len(lines) > MOST_NAMES:
+        yield f"and {len(lines) - MOST_NAMES} more of these"
+
+
+def unseen_values(summary: dict[str, int]) -> Iterator[str]:
+    """Yields which values in memory were not seen, if there is a cycle: they may keep its threads apart."""
+    values = summary["values"]
+    if summary["java"]:
+        if not values & VALUES_OF_ATOMICS:
+            yield "values of volatile fields and atomics: --memory atomics records them"
+        yield "values of plain fields"
+        return
+    if summary["python"]:
+        return
+    if not values & VALUES_OF_ATOMICS:
+        yield "values in memory: --memory is none"
+    elif not values & VALUES_HOOKED:
+        yield "values in memory are not seen: compile the program with the options that goodlock --flags gcc (or clang) prints to see them"
+    elif not values & VALUES_OF_MEMORY:
+        yield "values of plain memory: --memory is atomics"
+    if values & VALUES_LOST:
+        yield f"some values in memory: there was no memory to follow them, or the run has more than {MOST_WRITERS:,} threads"
 
 
 def limits_across(run: Run, summary: dict[str, int], count: int, whole: Whole) -> Iterator[str]:
@@ -197,10 +252,12 @@ def read_deadlock(run: Run, sites: Sites) -> list[str]:
 def write_window(run: Run, number: int, window: Window, found: list[Found], extra: Iterable[str], sites: Sites) -> None:
     """Writes the report of a window, and the source lines into its trace."""
     shown = [group for group in found if group.kind != TIMED]
-    confirmed = sum(group.is_confirmed for group in shown)
+    confirmed = sum(group.kind == CONFIRMED for group in shown)
     names = Names(run, number)
     with open(run.window(number, "report"), "w", encoding="utf-8") as file:
         print(f"question 0 length {window.length} bound {window.bound} cycles {len(shown)} confirmed {confirmed}", file=file)
+        if window.is_weighed:
+            print(head_line(sum(group.kind == NO_VALUE for group in shown)), file=file)
         file.writelines(f"    {line}\n" for line in extra)
         for group in shown:
             file.writelines(f"{line}\n" for line in cycle_lines(group, sites, names))
@@ -211,7 +268,7 @@ def write_window(run: Run, number: int, window: Window, found: list[Found], extr
 
 
 def merged(windows: dict[int, Window], sites: Sites) -> list[Found]:
-    """Returns the groups of all windows by their lines. Those of all windows together count only if no window has them as well confirmed."""
+    """Returns the groups of all windows by their lines. Those of all windows together count only if no window has them with evidence as strong."""
     groups: dict[object, Found] = {}
     for number, window in sorted(windows.items(), key=lambda item: item[0] == ALL):
         for found in window.found:
@@ -219,7 +276,7 @@ def merged(windows: dict[int, Window], sites: Sites) -> list[Found]:
             key = found.kind == TIMED, found.condition, key_of(found.pairs(sites.name))
             if number != ALL or key not in groups:
                 merge(groups, key, found)
-            elif found.is_confirmed and not groups[key].is_confirmed:
+            elif found.rank > groups[key].rank:
                 groups[key] = found
     return list(groups.values())
 
@@ -272,7 +329,7 @@ def finish(run: Run, count: int, seconds: float, settings: Settings) -> int:
         windows[ALL] = whole.window
     found, kept = kept_of(run, windows, sites)
     notes = list(notes_of(summary, windows))
-    if found:
+    if found and not summary["java"]:  # --reproduce does not run programs in Java
         keep_log(run, f"{run.out}.calls", bool(summary["python"]), sites)
     block = [HEADING, *(f"  {line}" for line in unexamined)] if unexamined else []
     for number in kept:
@@ -299,7 +356,7 @@ def names_of_others(run: Run, kept: list[int]) -> Iterator[str]:
 
 def conclude(run: Run, length: int, kept: list[int], found: list[Found]) -> None:
     """Prints what was found."""
-    confirmed = sum(group.is_confirmed for group in found)
+    confirmed = confirmed_text(sum(group.kind == CONFIRMED for group in found), sum(group.kind == NO_VALUE for group in found))
     shown = sum(group.kind != TIMED for group in found)
     names = [shortly(run.window(number, kind)) for number in sorted(kept, key=lambda number: (number == ALL, number)) for kind in ("report", "trace")]
-    say(f"{plural(length, 'event')}, {plural(shown, 'cycle')}, {confirmed} confirmed: {', '.join(names)}")
+    say(f"{plural(length, 'event')}, {plural(shown, 'cycle')}, {confirmed}: {', '.join(names)}")

@@ -6,11 +6,11 @@ import json
 import os
 import re
 import signal
-import subprocess
 import time
 from collections import defaultdict, deque
 from collections.abc import Callable, Iterable, Iterator
 from dataclasses import asdict, dataclass, field
+from functools import partial
 from types import FrameType
 from typing import Any, Optional
 
@@ -21,15 +21,20 @@ from goodlock.agent.run import Run
 from goodlock.agent.wakes import wakes_in, with_wakes
 from goodlock.commandline import plural
 from goodlock.errors import InputError
+from goodlock.grades import graded, reads_in
 from goodlock.groups import Group, Groups, Pair
 from goodlock.limits import HELPERS, LEAST_BOUND, TIMED_MARKERS, TRY_MARKERS
 from goodlock.parts import condition_of
-from goodlock.reports import Cycle, Report, read_reports
+from goodlock.program import NoAnswer, lines_from
+from goodlock.refutations import refutations_of
+from goodlock.reports import Cycle, Report, Verdict, confirmed_text, read_reports
 from goodlock.traces import EVENT, Index, lines_of, read_trace
 
 MOST_GROUPS = 1000
 WOKEN = "woken"  # a word of N.waits: threads that hold locks were woken in waits on conditions
-CONFIRMED, POTENTIAL, TIMED, TRIED = "confirmed", "potential", "timed", "tried"
+CONFIRMED, NO_VALUE, POTENTIAL = Verdict.CONFIRMED.value, Verdict.NO_VALUE.value, Verdict.POTENTIAL.value
+TIMED, TRIED = "timed", "tried"
+MOST_READS = 10  # of values, that a report names under a cycle
 TOO_LONG = re.compile("refused 23 .*")
 HELPERS_OF_TRIES = HELPERS + 500_000_000
 TIME, SIGNAL, LONG = "the time of --seconds is over", "a signal ended the search", "the report would be too long"
@@ -104,9 +109,20 @@ class FoundMember:
 
 
 @dataclass
+class FoundRead:
+    """A read of a plain value that decides, the write that it saw, and their sites."""
+
+    read: int
+    write: int
+    read_site: int
+    write_site: int
+
+
+@dataclass
 class Found:
-    """A group of cycles at the same sites: its example and how many it has. The kind is confirmed, potential, or timed. `condition` is what
-    it rests on besides the events, or empty. `note` says more of the verdict of the example."""
+    """A group of cycles at the same sites: its example and how many it has. The kind is the verdict of the example, or timed. `condition` is what
+    it rests on besides the events, or empty. `note` says more of the verdict of the example. `reads` decide whether it can happen;
+    `not_named` says why there are none, though the verdict depends on them."""
 
     kind: str
     numbers: list[int]
@@ -117,10 +133,17 @@ class Found:
     condition: str = ""
     window: int = 0
     note: str = ""
+    no_value: int = 0
+    reads: list[FoundRead] = field(default_factory=list)
+    not_named: str = ""
 
     @property
-    def is_confirmed(self) -> bool:
-        return self.kind == CONFIRMED
+    def verdict(self) -> Verdict:
+        return Verdict.POTENTIAL if self.kind == TIMED else Verdict(self.kind)
+
+    @property
+    def rank(self) -> int:
+        return self.verdict.rank
 
     def pairs(self, name: Callable[[int], str]) -> list[Pair]:
         """Returns the lines where each member holds the lock that the one before it wants, and where it waits."""
@@ -132,8 +155,9 @@ class Found:
 class Window:
     """The results of the search in a window. `tried` cycles have a member that does not wait, `writers_wait` ones are only made by waiting
     writers, of locks that do not prefer these, `further` ones are in too many groups;
-    `notes` say what else is left out. `why` says why `bound`, for which the results are complete, is less than wanted; if `is_partial`, they
-    are a part of those for this bound. `longest` is the longest ring of the lock graph."""
+    `notes` say what else is left out. `is_weighed`: the trace has plain values, and the verdicts weigh them. `why` says why `bound`, for which
+    the results are complete, is less than wanted; if `is_partial`, they are a part of those for this bound. `longest` is the longest ring of
+    the lock graph."""
 
     length: int
     bound: int
@@ -145,6 +169,8 @@ class Window:
     writers_wait: int = 0
     further: int = 0
     further_confirmed: int = 0
+    further_no_value: int = 0
+    is_weighed: bool = False
     notes: list[str] = field(default_factory=list)
 
 
@@ -153,20 +179,25 @@ def kind_of(cycle: Cycle) -> str:
     markers = [lock for member in cycle.members for lock in member.held if lock >= TRY_MARKERS]
     if any(lock < TIMED_MARKERS for lock in markers):
         return TRIED
-    return TIMED if markers else cycle.verdict
+    return TIMED if markers else cycle.verdict.value
 
 
-def found_of(index: Index, group: Group, is_timed: bool) -> Found:
+def found_of(index: Index, group: Group, is_timed: bool, not_named: str = "") -> Found:
     cycle, members = group.example, []
     for member, side in zip(cycle.members, group.sides):
         fork = index.fork_of.get(member.thread)
         since = [site_of(index, index.since_of(side.wait, lock)) for lock in member.held]
         members.append(FoundMember(member.thread, member.lock, list(member.held), member.place, site_of(index, side.wait), since,
                                    None if fork is None else site_of(index, fork)))
-    witness = " ".join(map(str, cycle.witness)) if cycle.is_confirmed else None
-    confirmed = 0 if is_timed else group.confirmed
-    return Found(TIMED if is_timed else cycle.verdict, list(cycle.numbers), members, witness, group.cycles, confirmed,
-                 condition_of(group.basis))
+    witness = " ".join(map(str, cycle.witness)) if cycle.verdict.is_confirmed else None
+    found = Found(cycle.verdict.value, list(cycle.numbers), members, witness, group.cycles, group.confirmed, condition_of(group.basis),
+                  no_value=group.no_value)
+    if is_timed:
+        found.kind, found.confirmed = TIMED, 0
+    elif cycle.verdict is Verdict.NO_VALUE:
+        found.reads = [FoundRead(read.read, read.write, site_of(index, read.read), site_of(index, read.write)) for read in cycle.reads]
+        found.not_named = "" if found.reads else not_named
+    return found
 
 
 def site_of(index: Index, place: int) -> int:
@@ -178,21 +209,19 @@ def report_lines(run: Run, number: int, path: str, bound: int) -> Iterator[str]:
     """Yields the lines of the report on a window: those of the server, or of `goodlockd offline` on its trace."""
     if os.path.exists(run.work(f"{number}.answer")):
         yield from lines_of(run.work(f"{number}.answer"))
-        return
-    command = [run.program, "offline", path, "--bound", str(bound)]
-    # A session of its own: Ctrl-C in the terminal is for this process, which ends the search.
-    with subprocess.Popen(command, stdout=subprocess.PIPE, stderr=subprocess.PIPE, text=True, errors="replace", start_new_session=True) as offline:
-        try:
-            for line in offline.stdout or ():
-                if TOO_LONG.match(line):
-                    raise TooLong(LONG)
-                yield line.rstrip("\n")
-            error = (offline.stderr.read() if offline.stderr else "").strip()
-        except BaseException:
-            offline.kill()
-            raise
-    if offline.returncode:
-        raise NoReport(error or f"goodlockd ended with status {offline.returncode}")
+    else:
+        yield from offline(run, path, bound)
+
+
+def offline(run: Run, path: str, bound: int) -> Iterator[str]:
+    """Yields the lines of the report of `goodlockd offline` on a trace."""
+    try:
+        for line in lines_from([run.program, "offline", path, "--bound", str(bound)]):
+            if TOO_LONG.match(line):
+                raise TooLong(LONG)
+            yield line
+    except NoAnswer as fault:
+        raise NoReport(fault.reason) from None
 
 
 def drop_part_of_line(path: str) -> None:
@@ -263,15 +292,17 @@ def search(run: Run, number: int, path: str, bound: int) -> Window:
     parts.wakes |= trace.parts.wakes
     trace.parts = parts
     index = Index(trace)
-    return grouped(index, read_reports(path, index, (line for part in ([first], lines) for line in part)), bound)
+    return grouped(run, index, read_reports(path, index, (line for part in ([first], lines) for line in part)), bound)
 
 
-def grouped(index: Index, reports: Iterable[tuple[Report, Optional[Cycle]]], bound: int) -> Window:
+def grouped(run: Run, index: Index, reports: Iterable[tuple[Report, Optional[Cycle]]], bound: int) -> Window:
+    """Groups the cycles of a report. Those that have an end of their own by a marker are not weighed."""
     window, groups = Window(0, bound), dict[bool, Groups]()
+    weighed = graded(index, reports, partial(offline, run), run.work(""), lambda cycle: kind_of(cycle) not in (TIMED, TRIED))
     try:
-        for report, cycle in reports:
+        for report, cycle in weighed:
             if cycle is None:
-                window.length = report.length
+                window.length, window.is_weighed = report.length, index.first_plain < report.length
                 groups = {is_timed: Groups(index, report, MOST_GROUPS, MOST_GROUPS) for is_timed in (False, True)}
             elif kind_of(cycle) == TRIED:
                 window.tried += 1
@@ -281,15 +312,30 @@ def grouped(index: Index, reports: Iterable[tuple[Report, Optional[Cycle]]], bou
         if not groups:
             raise
         window.why, window.is_partial = str(fault), True
+    not_named = name_reads(run, index, groups[False]) if groups else ""
     for is_timed, some in groups.items():
-        window.found += [found_of(index, group, is_timed) for group in some.by_key.values()]
+        window.found += [found_of(index, group, is_timed, not_named) for group in some.by_key.values()]
         window.writers_wait += some.writers_wait
         if some.further:
             window.further += some.further
             window.further_confirmed += 0 if is_timed else some.further_confirmed
-            window.notes.append(f"{plural(some.further, 'cycle')} left out, {some.further_confirmed} confirmed: these are in too many "
-                                "further groups")
+            window.further_no_value += some.further_no_value
+            window.notes.append(f"{plural(some.further, 'cycle')} left out, {confirmed_text(some.further_confirmed, some.further_no_value)}: these "
+                                "are in too many further groups")
     return window
+
+
+def name_reads(run: Run, index: Index, groups: Groups) -> str:
+    """Finds the reads that decide in the examples of groups that are confirmed if no value decides. Returns why some are missing."""
+    cycles = [group.example for group in groups.by_key.values() if group.verdict is Verdict.NO_VALUE]
+    try:
+        found, fault = refutations_of(index, groups.report, cycles, run.program)
+    except Stopped as stopped:
+        return str(stopped)
+    for cycle in cycles:
+        if cycle.numbers in found:
+            cycle.reads = reads_in(index, found[cycle.numbers])[:MOST_READS]
+    return fault
 
 
 def bounds_of(run: Run, number: int, longest: int) -> Iterable[int]:
@@ -417,7 +463,8 @@ def adds_group(run: Run, window: Window) -> bool:
 
 def window_of(content: Any) -> Window:
     """Returns the results that a file has."""
-    found = [Found(members=[FoundMember(**member) for member in group.pop("members")], **group) for group in content.pop("found")]
+    found = [Found(members=[FoundMember(**member) for member in group.pop("members")], reads=[FoundRead(**read) for read in group.pop("reads")],
+                   **group) for group in content.pop("found")]
     return Window(found=found, **content)
 
 

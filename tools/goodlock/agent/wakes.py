@@ -9,7 +9,7 @@ from dataclasses import dataclass, field
 from typing import NamedTuple
 
 from goodlock.agent.rings import Edge
-from goodlock.limits import MOST_EVENTS, MOST_HELD, WAKE_UPS
+from goodlock.limits import ATOMIC_VALUES, END_OF_VALUES, MOST_EVENTS, MOST_HELD, WAKE_UPS
 from goodlock.traces import EVENT
 
 MOST_OF_THREAD = 4  # wake-ups of one thread: it may hold that many more locks
@@ -56,6 +56,8 @@ class Reader:
     def take(self, thread: int, letter: str, target: int) -> None:
         place, held, last = self.events, self.held[thread], self.last.get(thread)
         self.events += 1
+        if letter in "dw" and ATOMIC_VALUES <= target < END_OF_VALUES:
+            return  # a value that the program reads or writes is no part of a wait
         wait = self.pending.pop(thread, None)
         if wait and (letter, target) == ("a", wait.released.target):
             self.end_wait(wait)

@@ -137,8 +137,8 @@ def search_log(run: Run, graph: WindowGraph, limit: Limit, whole: Whole) -> None
 
 
 def replay(run: Run, found: Reduced, window: Window, limit: Limit) -> Iterator[str]:
-    """Replays the confirmed cycles of the report, and notes at each what comes out. Yields what is wrong."""
-    groups = [group for group in window.found if group.is_confirmed]
+    """Replays the cycles of the report that have a witness, and notes at each what comes out. Yields what is wrong."""
+    groups = [group for group in window.found if group.verdict.is_confirmed]
     sources = [Source(run.work("calls"), LOG_OF_RUN)]
     if not groups:
         return
@@ -147,7 +147,7 @@ def replay(run: Run, found: Reduced, window: Window, limit: Limit) -> Iterator[s
             raise NoReport("acquires that do not wait were left out of the trace")
         with limit.search():
             index = Index(read_trace(run.window(ALL, "trace")))
-            cycles = ((group.members, list(map(int, (group.witness or "").split()))) for group in groups)
+            cycles = ((group.members, list(map(int, (group.witness or "").split())), group.verdict) for group in groups)
             verdicts = list(verdicts_of(found, sources, index, cycles, run.work("")))
     except (NoReport, ReducerError, OutputError, OSError) as fault:
         yield f"confirmed cycles were not replayed over the whole run: {fault}"
@@ -170,7 +170,7 @@ def search_dependencies(run: Run, graph: WindowGraph, limit: Limit, whole: Whole
     except (NoReport, InputError, OSError, ValueError) as fault:
         whole.why = f"{whole.why}; {fault}"
         return
-    window.found = [as_potential(group) for group in window.found if group.is_confirmed or group.kind == TIMED]
+    window.found = [as_potential(group) for group in window.found if group.verdict.is_certain or group.kind == TIMED]
     whole.window = window
 
 

@@ -10,7 +10,8 @@ from goodlock.commandline import count, parser_of, plural, print_whole, run
 from goodlock.formats.json import summary_text as json_text
 from goodlock.formats.text import summary_text
 from goodlock.gates import Judgement, suppression_of
-from goodlock.results import LeftOut, Question, Run, Verdict, kept, numbers_of
+from goodlock.reports import Verdict
+from goodlock.results import LeftOut, Question, Run, kept, numbers_of
 from goodlock.settings import Settings, settings_of
 from goodlock.traces import Index, read_trace
 

@@ -6,9 +6,9 @@ from collections.abc import Iterator
 from html import escape
 
 from goodlock.commandline import plural, print_whole, run
-from goodlock.drawing.page import NO_CYCLES, WITNESS, drawn_reports, faint, lock_name, report_parts, section
+from goodlock.drawing.page import NO_CYCLES, drawn_reports, faint, lock_name, report_parts, section, witness_head
 from goodlock.drawing.shapes import colours_of
-from goodlock.reports import AnyEvents, Cycle, Member, read_reports
+from goodlock.reports import AnyEvents, Cycle, Member, Verdict, read_reports
 from goodlock.reproduce.notes import reproduced_in
 from goodlock.traces import Index, read_trace
 
@@ -27,12 +27,12 @@ def drawn(report: str, trace: str, recorded: str = "") -> str:
 
 
 def drawn_alone(name: str) -> str:
-    """Returns the drawing that needs no trace: the first cycles, confirmed ones first."""
-    kept: dict[bool, list[Cycle]] = {True: [], False: []}
+    """Returns the drawing that needs no trace: the first cycles, the strongest evidence first. Without the trace nobody can weigh values."""
+    kept: dict[Verdict, list[Cycle]] = {verdict: [] for verdict in reversed(Verdict)}
     for report, cycle in read_reports(name, AnyEvents()):
-        if cycle and len(kept[cycle.is_confirmed]) < MOST_DRAWN:
-            kept[cycle.is_confirmed].append(cycle)
-    shown = (kept[True] + kept[False])[:MOST_DRAWN]
+        if cycle and len(kept[cycle.verdict]) < MOST_DRAWN:
+            kept[cycle.verdict].append(cycle)
+    shown = [cycle for cycles in kept.values() for cycle in cycles][:MOST_DRAWN]
     head = faint(f'Question {report.question}: {plural(report.length, "event")}; cycles of at most {report.bound} members: '
                  f"{report.cycles:,}, confirmed {report.confirmed:,}.")
     if not report.cycles:
@@ -44,7 +44,7 @@ def drawn_alone(name: str) -> str:
 
 def section_of(name: str, cycle: Cycle) -> str:
     colours = colours_of(member.lock for member in cycle.members)
-    return section(name, cycle, colours, rows_of(cycle, colours), witness(cycle) if cycle.is_confirmed else "")
+    return section(name, cycle, colours, rows_of(cycle, colours), witness(cycle) if cycle.verdict.is_confirmed else "")
 
 
 def rows_of(cycle: Cycle, colours: dict[int, str]) -> Iterator[str]:
@@ -62,7 +62,7 @@ def member_lines(member: Member, colours: dict[int, str]) -> str:
 def witness(cycle: Cycle) -> str:
     places, count = cycle.witness, len(cycle.witness)
     shown = " ".join(map(str, places[:MOST_PLACES])) + (" …" if count > MOST_PLACES else "")
-    return WITNESS.format(plural(count, "event")) + f'<p class="places">{escape(shown)}</p>'
+    return witness_head(cycle) + f'<p class="places">{escape(shown)}</p>'
 
 
 def main() -> None:

@@ -60,6 +60,7 @@ function fillReport(drawing) {
   shown.version = drawing.version;
   byId("drawing").innerHTML = drawing.html; // every text of the trace in it is escaped
   byId("legend").hidden = !document.querySelector("#drawing .badge");
+  byId("legend-values").hidden = !document.querySelector("#drawing .badge.no-value");
   for (const wide of document.querySelectorAll("#drawing .scroll")) {
     wide.tabIndex = 0;
     wide.setAttribute("role", "group");

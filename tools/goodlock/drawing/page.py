@@ -9,18 +9,20 @@ from goodlock.commandline import plural
 from goodlock.drawing.ring import draw_ring
 from goodlock.drawing.shapes import PALETTE, colours_of
 from goodlock.drawing.timeline import Link, Marks, TimeLine, rows_of
+from goodlock.grades import graded
 from goodlock.groups import TRIED, Groups, instance_of
 from goodlock.parts import WRITERS_WAIT, condition_of
 from goodlock.reasons import Reason, reasons_of
-from goodlock.reports import Cycle, Member, Report
+from goodlock.reports import Cycle, Member, Report, Verdict, confirmed_text, no_value_text
 from goodlock.reproduce.notes import command_for
 from goodlock.traces import CALLED_BY, Event, Index
 
 SHORT, WHOLE_TRACE = 40, 120
 STYLE = os.path.join(os.path.dirname(os.path.abspath(__file__)), "page.css")
 NO_CYCLES = "<section><h2>No cycles</h2><p>Within the bound this run predicts no deadlock of this shape.{}</p></section>"
-WITNESS = ("<h3>How it happens</h3><p>Run {} of the trace in this order and nothing else. Then each of these threads waits for a lock that "
+WITNESS = ("<h3>How it happens</h3><p>Run {} of the trace in this order and nothing else{}. Then each of these threads waits for a lock that "
            "the next one holds.</p>")
+VALUES = ", except that threads read and write values between them"
 
 
 class Drawn:
@@ -35,18 +37,20 @@ class Drawn:
         if self.groups.add(cycle) and not self.is_grouped:
             self.cycles.append(cycle)
 
-    def sections(self) -> list[tuple[Cycle, int, int]]:
-        """Returns each cycle to draw, confirmed ones first, with the number of cycles and of confirmed ones for which it is drawn."""
+    def sections(self) -> list[tuple[Cycle, int, str]]:
+        """Returns each cycle to draw, the strongest evidence first, with the number of cycles for which it is drawn, and how many of them are
+        confirmed."""
         if self.is_grouped:
-            return [(group.example, group.cycles, group.confirmed) for group in self.groups.ordered()[:self.most]]
-        ordered = sorted(self.cycles, key=lambda cycle: not cycle.is_confirmed)
-        return [(cycle, 1 + cycle.more, cycle.is_confirmed + cycle.more_confirmed) for cycle in ordered]
+            groups = self.groups.ordered()[:self.most]
+            return [(group.example, group.cycles, confirmed_text(group.confirmed, group.no_value)) for group in groups]
+        ordered = sorted(self.cycles, key=lambda cycle: -cycle.verdict.rank)
+        return [(cycle, 1 + cycle.more, confirmed_text(cycle.count(Verdict.CONFIRMED), cycle.count(Verdict.NO_VALUE))) for cycle in ordered]
 
 
 def drawn_reports(index: Index, reports: Iterable[tuple[Report, Optional[Cycle]]], most: int) -> list[Drawn]:
     """Returns what the page draws of each report. `reports` yields reports and cycles, as `read_reports` does."""
     drawn: list[Drawn] = []
-    for report, cycle in reports:
+    for report, cycle in graded(index, reports):
         if cycle is None:
             drawn.append(Drawn(index, report, most))
         else:
@@ -76,7 +80,7 @@ def report_parts(index: Index, drawn: Drawn, at: int) -> Iterator[str]:
     locks = {event.target for event in events if event.letter in "ar"}
     yield faint(f'Question {report.question}: {plural(report.length, "event")}, {plural(len(threads), "thread")}, '
                 f'{plural(len(locks), "lock")}; cycles of at most {report.bound} members: {report.cycles:,}, '
-                f"confirmed {report.confirmed:,}.")
+                f"confirmed {report.confirmed:,}{no_value_text(groups.no_value)}.")
     if not report.cycles:
         yield NO_CYCLES.format(" Threads, locks and branches that the run did not use are not in it.")
     for count, why in ((groups.tried, TRIED), (groups.writers_wait, WRITERS_WAIT)):
@@ -89,19 +93,19 @@ def report_parts(index: Index, drawn: Drawn, at: int) -> Iterator[str]:
                     f"{'is' if number == 1 else 'are'} {plural(number, 'group')}; the page draws one cycle of {which}, confirmed ones "
                     "first.")
     sections = drawn.sections()
-    reasons = reasons_of(index, report, [cycle for cycle, *_ in sections if not cycle.is_confirmed])
+    reasons = reasons_of(index, report, [cycle for cycle, *_ in sections if not cycle.verdict.is_certain])
     for number, (cycle, cycles, confirmed) in enumerate(sections):
         condition = condition_of(index.parts.basis_of(cycle.members))
         others = f'<span class="badge">{condition}</span>' if condition else ""
-        others += f'<span class="faint">one of {cycles:,} cycles at these locations, {confirmed:,} confirmed</span>' if cycles > 1 else ""
+        others += f'<span class="faint">one of {cycles:,} cycles at these locations, {confirmed}</span>' if cycles > 1 else ""
         yield cycle_section(index, cycle, reasons.get(cycle.numbers), f"r{at}c{number}", others)
 
 
 def section(name: str, cycle: Cycle, colours: dict[int, str], rows: Iterable[str], within: str, others: str = "") -> str:
     """Returns the section of a cycle: its heading, its ring, its table of members, and what is within it."""
-    row = cycle.verdict
+    word, kind = cycle.verdict.value, cycle.verdict.name.lower().replace("_", "-")
     again = '<span class="badge confirmed">reproduced</span>' if cycle.reproduced else ""
-    head = f'<div class="head"><h2>Cycle {cycle.name}</h2><span class="badge {row}">{row}</span>{again}{others}</div>'
+    head = f'<div class="head"><h2>Cycle {cycle.name}</h2><span class="badge {kind}">{word}</span>{again}{others}</div>'
     table = f"<table>{''.join(rows)}</table>"
     ring = draw_ring(name, cycle.members, colours)
     return (f'<section>{head}<div class="pair"><div class="ring">{ring}</div><div class="members">{table}</div></div>'
@@ -110,7 +114,10 @@ def section(name: str, cycle: Cycle, colours: dict[int, str], rows: Iterable[str
 
 def cycle_section(index: Index, cycle: Cycle, reason: Optional[Reason], name: str, others: str) -> str:
     colours = colours_for(index, cycle.members)
-    within = potential_part(index, cycle, reason, colours, name) if reason else confirmed_part(index, cycle, colours, name)
+    if reason and cycle.verdict is Verdict.POTENTIAL:
+        within = potential_part(index, cycle, reason, colours, name)
+    else:
+        within = (why(reason) if reason else "") + confirmed_part(index, cycle, colours, name)
     within += reproduced_part(cycle, command_for(index.file, cycle.numbers))
     return section(name + "ring", cycle, colours, member_rows(index, cycle, colours), within, others)
 
@@ -125,7 +132,7 @@ def member_rows(index: Index, cycle: Cycle, colours: dict[int, str]) -> Iterator
     """Yields a row for each member: where it acquired the held locks, and where it waits."""
     for member, place in zip(cycle.members, instance_of(index, cycle.members)):
         lines = [held_line(index, lock, index.since_of(place, lock), colours) for lock in member.held]
-        verb = "waits for" if cycle.is_confirmed else "wants"
+        verb = "waits for" if cycle.verdict.is_confirmed else "wants"
         lines.append(f"{verb} {lock_name(member.lock, colours, index.names.get(('lock', member.lock)))} at {index.origin(place).title}{where_of(index.events[place])}")
         fork = index.fork_of.get(member.thread)
         begun = where_of(index.events[fork]) if fork is not None else ""
@@ -154,10 +161,14 @@ def where_of(event: Event) -> str:
     return f' <span class="where" title="{escape(event.where)}">{escape(event.where.split(CALLED_BY)[0].rsplit("/", 1)[-1])}</span>'
 
 
+def witness_head(cycle: Cycle) -> str:
+    return WITNESS.format(plural(len(cycle.witness), "event"), VALUES if cycle.verdict is Verdict.NO_VALUE else "")
+
+
 def confirmed_part(index: Index, cycle: Cycle, colours: dict[int, str], name: str) -> str:
     rows = rows_of(cycle.witness, index.steps_to(instance_of(index, cycle.members)), inf if len(cycle.witness) <= SHORT else 3)
     line = TimeLine(name + "line", index, rows, colours, Marks(waiting=cycle.members))
-    return (WITNESS.format(plural(len(cycle.witness), "event"))
+    return (witness_head(cycle)
             + scroll(line.draw(f"The witness of cycle {cycle.name}, and its members waiting")))
 
 

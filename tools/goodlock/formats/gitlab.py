@@ -4,9 +4,10 @@ from __future__ import annotations
 import hashlib
 import json
 
-from goodlock.results import Result, Run, Verdict
+from goodlock.reports import Verdict
+from goodlock.results import Result, Run
 
-SEVERITIES = {Verdict.HAPPENED: "blocker", Verdict.CONFIRMED: "critical", Verdict.POTENTIAL: "minor"}
+SEVERITIES = {Verdict.HAPPENED: "blocker", Verdict.CONFIRMED: "critical", Verdict.NO_VALUE: "major", Verdict.POTENTIAL: "minor"}
 
 
 def text_of(run: Run) -> str:

@@ -8,8 +8,8 @@ from typing import Any, Optional
 from goodlock.gates import Judgement
 from goodlock.groups import Location
 from goodlock.locations import Root
-from goodlock.results import (KeptApart, LeftOut, Numbers, Question, Result, ResultMember, Run, Spot, State, Verdict, Witness, WitnessStep,
-                              kept)
+from goodlock.reports import Verdict
+from goodlock.results import KeptApart, LeftOut, Numbers, Question, Result, ResultMember, Run, Spot, State, Witness, WitnessStep, kept
 from goodlock.traces import Origin
 
 VERSION = 1
@@ -41,6 +41,7 @@ def many_text(run: Run, traces: int, judgement: Judgement) -> str:
         "events": numbers.events,
         "cycles": numbers.cycles,
         "confirmed": numbers.confirmed,
+        "no_value": numbers.no_value,
         "tried": numbers.tried,
         "writers_wait": numbers.writers_wait,
         "groups": [merged_object(result) for result in run.results],
@@ -65,7 +66,7 @@ def numbers_object(numbers: Numbers) -> Object:
         "threads": numbers.threads,
         "locks": numbers.locks,
         "dependencies": numbers.dependencies,
-        "cycles": {"confirmed": numbers.confirmed, "potential": numbers.potential, "tried": numbers.tried,
+        "cycles": {"confirmed": numbers.confirmed, "no_value": numbers.no_value, "potential": numbers.potential, "tried": numbers.tried,
                    "writers_wait": numbers.writers_wait},
         "happened": numbers.happened,
         "seconds": round(numbers.seconds, 3),
@@ -80,6 +81,7 @@ def question_object(question: Question, most: int) -> Object:
         "bound": report.bound,
         "cycles": report.cycles,
         "confirmed": report.confirmed,
+        "no_value": question.no_value,
         "groups": len(question.results),
         "not_shown": max(0, len(shown) - most),
         "suppressed": counts_object(question.results, State.SUPPRESSED),
@@ -97,7 +99,7 @@ def counts_object(results: Sequence[Result], state: State) -> Object:
 
 def left_out_object(left_out: LeftOut) -> Object:
     return {"tried": left_out.tried, "further": left_out.further, "further_confirmed": left_out.further_confirmed,
-            "writers_wait": left_out.writers_wait}
+            "further_no_value": left_out.further_no_value, "writers_wait": left_out.writers_wait}
 
 
 def result_object(result: Result) -> Object:
@@ -127,6 +129,7 @@ def head_object(result: Result) -> Object:
         "fingerprint": result.fingerprint,
         "cycles": result.cycles,
         "confirmed": result.confirmed,
+        "no_value": result.no_value,
         "example": list(result.example),
         **({"condition": result.condition} if result.condition else {}),
     }
@@ -174,7 +177,7 @@ def merged_object(result: Result) -> Object:
         **head_object(result),
         "members": [list(pair) for pair in result.pairs],
         "look_at": result.advice,
-        "why": result.kept_apart.heading if result.kept_apart else "",
+        "why": result.why,
         "traces": result.trace_count,
         "first_traces": list(result.traces),
     }
@@ -186,7 +189,7 @@ def merged_object(result: Result) -> Object:
 def numbers_from(found: Object) -> Numbers:
     cycles = found["cycles"]
     return Numbers(found["events"], found["threads"], found["locks"], found["dependencies"], cycles["confirmed"], cycles["potential"],
-                   cycles["tried"], found["happened"], found["seconds"], cycles["writers_wait"])
+                   cycles["tried"], found["happened"], found["seconds"], cycles["writers_wait"], cycles.get("no_value", 0))
 
 
 def result_from(found: Object, root: Root) -> Result:
@@ -205,6 +208,7 @@ def result_from(found: Object, root: Root) -> Result:
         reproduced=tuple(found.get("reproduced", ())),
         reproduce=found.get("reproduce", ""),
         condition=found.get("condition", ""),
+        no_value=found.get("no_value", 0),
     )
 
 

@@ -6,6 +6,7 @@ from collections.abc import Iterator
 
 from goodlock.commandline import plural
 from goodlock.gates import Judgement
+from goodlock.reports import no_value_text
 from goodlock.results import Result, ResultMember, Run, State, headline
 
 MOST_WITNESSES = 20
@@ -50,8 +51,9 @@ def cell(text: str) -> str:
 
 
 def details(result: Result) -> str:
-    """Returns the witness of a result, folded."""
-    block = "\n".join(f"    {line}" for line in witness_lines(result))
+    """Returns the witness of a result, folded, after the reads that decide whether it happens so."""
+    reads = [f"{result.kept_apart.heading}:", *result.kept_apart.sentences] if result.kept_apart and result.kept_apart.sentences else []
+    block = "\n".join(f"    {line}" for line in [*reads, *witness_lines(result)])
     return f"<details><summary>How it happens</summary>\n\n{block}\n\n</details>"
 
 
@@ -70,5 +72,5 @@ def numbers(run: Run) -> str:
     found = run.numbers
     sizes = [plural(found.events, "event"), plural(found.threads, "thread"), plural(found.locks, "lock"),
              f"{found.dependencies:,} {'dependency' if found.dependencies == 1 else 'dependencies'}"]
-    cycles = f"{plural(found.confirmed, 'confirmed cycle')}, {plural(found.potential, 'potential cycle')}"
+    cycles = f"{plural(found.confirmed, 'confirmed cycle')}{no_value_text(found.no_value)}, {plural(found.potential, 'potential cycle')}"
     return f"{', '.join(sizes)}; {cycles}, in {plural(len(run.results), 'group')}; {found.seconds:.1f} s"

@@ -9,7 +9,8 @@ from urllib.parse import quote
 from goodlock.gates import Judgement
 from goodlock.groups import Location
 from goodlock.program import version
-from goodlock.results import Result, ResultMember, Run, State, Verdict
+from goodlock.reports import Verdict
+from goodlock.results import Result, ResultMember, Run, State, rule_of
 
 SCHEMA = "https://json.schemastore.org/sarif-2.1.0.json"
 BASE = "%SRCROOT%"  # the name that consumers know for the top of the checkout
@@ -27,7 +28,7 @@ class Rule(NamedTuple):
 
     @property
     def id(self) -> str:
-        return f"{self.verdict.value}-deadlock"
+        return rule_of(self.verdict)
 
 
 RULES = [
@@ -53,6 +54,14 @@ RULES = [
         "While the program ran, threads waited for each other and could not go on.",
         "Each thread waits for what the next one holds. Acquire the locks in one order everywhere, or hold one lock around each of the "
         "acquires.",
+    ),
+    Rule(
+        Verdict.NO_VALUE, "DeadlockIfNoValueDecides", "error",
+        "Some order of the observed events leads to a deadlock if no value that a thread reads decides otherwise.",
+        "Threads acquire locks in a ring. An order of the events of this run, the witness, leads to a state in which each of them waits "
+        "for a lock that the next one holds. In this order some reads of plain memory, which the message names, see another value than in the run.",
+        "If a thread that sees another value there does not come to its acquire, the ring is harmless: suppress it. Otherwise acquire the "
+        "locks in one order everywhere, or hold one lock around each of the acquires.",
     ),
 ]
 
@@ -132,7 +141,7 @@ def result_object(run: Run, result: Result) -> Object:
 
 
 def baseline_state(result: Result) -> str:
-    if result.before is None or result.verdict.is_certain and not result.before.is_certain:
+    if result.before is None or result.verdict.is_confirmed and not result.before.is_confirmed:
         return "new"
     return "unchanged" if result.before is result.verdict else "updated"
 

@@ -6,7 +6,8 @@ from collections.abc import Iterator, Sequence
 from goodlock.commandline import plural
 from goodlock.groups import TRIED
 from goodlock.parts import WRITERS_WAIT
-from goodlock.results import Question, Result, ResultMember, Run, State, Verdict, kept
+from goodlock.reports import Verdict, confirmed_text, no_value_text
+from goodlock.results import Question, Result, ResultMember, Run, State, kept
 
 
 def summary_text(questions: Sequence[Question], run: Run) -> str:
@@ -22,14 +23,13 @@ def unused_lines(run: Run) -> list[str]:
 def question_lines(question: Question, most: int) -> Iterator[str]:
     report, shown, left_out = question.report, kept(question.results), question.left_out
     yield (f"question {report.question}: {plural(report.length, 'event')}; cycles of at most {report.bound} members: {report.cycles:,}, "
-           f"confirmed {report.confirmed:,}, in {plural(len(question.results), 'group')}")
+           f"confirmed {report.confirmed:,}{no_value_text(question.no_value)}, in {plural(len(question.results), 'group')}")
     yield from (f"  {note}" for note in question.notes)
     if not report.cycles and not question.results:
         yield "  Within the bound this run predicts no deadlock of this shape."
     yield from reason_lines(left_out.tried, left_out.writers_wait)
     if left_out.further:
-        yield (f"  {plural(left_out.further, 'cycle')} left out, {left_out.further_confirmed:,} confirmed: these are in too many further "
-               "groups")
+        yield f"  {plural(left_out.further, 'cycle')} left out, {left_out.further_text}: these are in too many further groups"
     for number, result in enumerate(shown[:most], 1):
         yield ""
         yield from result_lines(number, result)
@@ -58,17 +58,20 @@ def head_of(number: int, result: Result, counts: str) -> str:
 
 def counts_of(result: Result) -> str:
     counts = plural(result.cycles, "cycle") if result.cycles else ""
-    return f"{counts}, {result.confirmed:,} confirmed" if result.confirmed else counts
+    confirmed = confirmed_text(result.confirmed, result.no_value).removeprefix("0 confirmed, ")
+    return f"{counts}, {confirmed}" if result.confirmed or result.no_value else counts
 
 
 def result_lines(number: int, result: Result) -> Iterator[str]:
     yield head_of(number, result, counts_of(result))
-    verb = "waits for" if result.verdict.is_certain else "wants"
+    verb = "waits for" if result.verdict.is_confirmed else "wants"
     for member in result.members:
         yield f"  {member.title}"
         yield from hold_lines(member)
         yield f"    {verb} {member.wait.target}{f' at {member.wait.source}' if member.wait.source else ''}"
-    yield from witness_lines(result) if result.witness else apart_lines(result)
+    yield from apart_lines(result)
+    if result.witness:
+        yield from witness_lines(result)
     yield from reproduced_lines(result)
     yield f"  Look at: {result.advice}"
 
@@ -128,7 +131,7 @@ def many_text(run: Run, traces: int) -> str:
 def many_lines(run: Run, traces: int) -> Iterator[str]:
     numbers = run.numbers
     yield (f"{plural(traces, 'trace')}, {len(run.faults):,} without a report; {plural(numbers.events, 'event')}; "
-           f"{plural(numbers.cycles, 'cycle')}, {numbers.confirmed:,} confirmed, in {plural(len(run.results), 'group')}")
+           f"{plural(numbers.cycles, 'cycle')}, {confirmed_text(numbers.confirmed, numbers.no_value)}, in {plural(len(run.results), 'group')}")
     yield from reason_lines(numbers.tried, numbers.writers_wait)
     yield from (f"  {note}" for note in run.notes)
     for number, result in enumerate(run.shown, 1):
@@ -145,12 +148,13 @@ def many_lines(run: Run, traces: int) -> Iterator[str]:
 
 def merged_lines(number: int, result: Result) -> Iterator[str]:
     traces = f"in {plural(result.trace_count, 'trace')}"
-    yield head_of(number, result, f"{plural(result.cycles, 'cycle')} {traces}, {result.confirmed:,} confirmed" if result.cycles else traces)
+    counts = f"{plural(result.cycles, 'cycle')} {traces}, {confirmed_text(result.confirmed, result.no_value)}"
+    yield head_of(number, result, counts if result.cycles else traces)
     for member in result.members:
         yield f"  a thread {member.role}"
-        yield f"    and {'waits' if result.verdict.is_certain else 'wants another'} at {member.wait.location.text}"
-    if result.kept_apart and result.kept_apart.heading:
-        yield f"  {result.kept_apart.heading}"
+        yield f"    and {'waits' if result.verdict.is_confirmed else 'wants another'} at {member.wait.location.text}"
+    if result.why:
+        yield f"  {result.why}"
     example = f" as cycle {' '.join(map(str, result.example))}" if result.example else ""
     first, *others = result.traces
     yield f"  In {first}{example}{''.join(f', in {other}' for other in others)}"

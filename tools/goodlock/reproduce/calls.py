@@ -12,6 +12,7 @@ from typing import BinaryIO, NamedTuple, Optional
 from goodlock.agent.run import Run
 from goodlock.agent.sites import Sites, program_of
 from goodlock.errors import InputError
+from goodlock.limits import ATOMIC_VALUES, END_OF_VALUES
 from goodlock.reproduce.buildid import build_id_of
 
 MAGIC = b"goodcalls 2\n"
@@ -173,11 +174,13 @@ def read_entries(log: Log, file: BinaryIO) -> bytes:
             log.sites.append(entries.site)
             log.firsts.append(len(events))
         elif kind < OTHER:
+            letter, target = LETTERS[kind - EVENT], entries.event_object
             events.threads.append(entries.thread)
-            events.letters.append(ord(LETTERS[kind - EVENT]))
-            events.targets.append(entries.event_object)
+            events.letters.append(ord(letter))
+            events.targets.append(target)
             events.sites.append(entries.site)
-            events.calls.append(call)
+            is_of_value = letter in "dw" and ATOMIC_VALUES <= target < END_OF_VALUES  # the program reads or writes it between its calls
+            events.calls.append(NO_CALL if is_of_value else call)
         elif kind == OTHER:
             call = NO_CALL
         elif kind == EXEC:

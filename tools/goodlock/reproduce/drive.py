@@ -86,7 +86,7 @@ def schedules(recorded_schedule: Schedule, tries: int) -> Iterator[Schedule]:
     """Yields the schedules of the runs: those that follow the recorded one, if the cycle is confirmed, then those that pause its members. Each
     second one of these also pauses before the locks that the members hold."""
     run, cycle = recorded_schedule.run, recorded_schedule.cycle
-    if cycle.is_confirmed:
+    if cycle.verdict.is_confirmed:
         for _ in range(tries):
             yield recorded_schedule
     for number in range(tries):

@@ -29,7 +29,6 @@ def note_reproduced(report: str, cycle: Cycle, proof: Sequence[str]) -> None:
 
 def with_note(lines: Iterable[str], cycle: Cycle, note: Sequence[str]) -> Iterator[str]:
     """Yields a report with a note at the end of a cycle, which replaces an earlier one."""
-    head = f"cycle {cycle.name} {cycle.verdict}"
     is_in_cycle = is_in_note = False
     for line in lines:
         if not line.startswith(" ") and is_in_cycle:
@@ -38,7 +37,7 @@ def with_note(lines: Iterable[str], cycle: Cycle, note: Sequence[str]) -> Iterat
         is_in_note = is_in_cycle and (line.startswith(REPRODUCED) or is_in_note and line.startswith(FURTHER))
         if not is_in_note:
             yield line
-        is_in_cycle |= line == head
+        is_in_cycle |= line == cycle.row
     if is_in_cycle:
         yield from note
 

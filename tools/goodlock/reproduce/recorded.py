@@ -7,6 +7,7 @@ from typing import NamedTuple, Optional
 
 from goodlock.agent.run import ACROSS
 from goodlock.errors import InputError
+from goodlock.grades import graded
 from goodlock.reports import Cycle, read_reports
 from goodlock.reproduce.buildid import build_id_of, is_elf
 from goodlock.reproduce.calls import Log, read_log
@@ -22,7 +23,7 @@ class FoundCycle(NamedTuple):
 
 
 def find_cycle(name: str, numbers: Optional[tuple[int, ...]]) -> FoundCycle:
-    """Returns the cycle with these numbers, or else the first confirmed one, or else the first one. Raises `InputError` if there is none."""
+    """Returns the cycle with these numbers, or else the first one with the strongest evidence. Raises `InputError` if there is none."""
     base = name.removesuffix(ACROSS)
     if not os.path.exists(f"{base}.calls"):
         raise InputError(f"{base}.calls", None, "there is no such file: a run keeps it if its report has a cycle, and --keep-log is not 0; "
@@ -31,18 +32,18 @@ def find_cycle(name: str, numbers: Optional[tuple[int, ...]]) -> FoundCycle:
     best: Optional[tuple[Index, Cycle, str]] = None
     for report in dict.fromkeys([f"{name}.report", f"{base}{ACROSS}.report"]):
         trace = f"{report.removesuffix('.report')}.trace"
-        if best and best[1].is_confirmed or not (os.path.exists(report) and os.path.exists(trace)):
+        if best and best[1].verdict.is_certain or not (os.path.exists(report) and os.path.exists(trace)):
             continue
         index = Index(read_trace(trace))
-        for _, cycle in read_reports(report, index):
-            if cycle and numbers in (None, cycle.numbers) and (best is None or cycle.is_confirmed and not best[1].is_confirmed):
+        for _, cycle in graded(index, read_reports(report, index)):
+            if cycle and numbers in (None, cycle.numbers) and (best is None or cycle.verdict.rank > best[1].verdict.rank):
                 best = index, cycle, report
     if best is None:
         what = f"cycle {' '.join(map(str, numbers))}" if numbers else "cycle"
         raise InputError(f"{name}.report", None, f"there is no {what} in the reports of this run")
     index, cycle, report = best
     run = recorded(log, index)
-    return FoundCycle(Schedule(run, cycle, 0 if cycle.is_confirmed else 1), report)
+    return FoundCycle(Schedule(run, cycle, 0 if cycle.verdict.is_confirmed else 1), report)
 
 
 def check_builds(log: Log, program: str) -> None:

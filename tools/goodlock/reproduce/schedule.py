@@ -14,10 +14,11 @@ from functools import cached_property
 from itertools import islice
 from typing import Optional
 
+from goodlock import limits
 from goodlock.errors import InputError
 from goodlock.groups import instance_of
-from goodlock.limits import ENDS_OF_THREADS, TRY_MARKERS, WAKE_UPS
-from goodlock.reports import Cycle
+from goodlock.limits import END_OF_VALUES, ENDS_OF_THREADS, PLAIN_VALUES, TRY_MARKERS, WAKE_UPS
+from goodlock.reports import Cycle, Verdict
 from goodlock.reproduce.calls import FORK, JOINED, NO_CALL, WHY_CUT, Log
 from goodlock.traces import Event, Index
 
@@ -68,6 +69,8 @@ def recorded(log: Log, index: Index) -> Recorded:
     for at, event in enumerate(index.events):
         if is_of_end(event):
             continue
+        while not index.origins.begins and is_read_later(log, made, event):
+            made += 1
         place = index.origin(at).number if index.origins.begins else made
         made += 1
         if place >= len(log.events) or log.events.at(place) != event[:3]:
@@ -81,14 +84,23 @@ def recorded(log: Log, index: Index) -> Recorded:
     return Recorded(log, index, places)
 
 
+def is_read_later(log: Log, place: int, event: Event) -> bool:
+    """Whether an event of the run, which is not this one of the first window, writes a value that only a later window reads: it is in the log
+    alone."""
+    if place >= len(log.events):
+        return False
+    found = log.events.at(place)
+    return found[1] == "w" and limits.ATOMIC_VALUES <= found[2] < limits.TRY_MARKERS and found != event[:3]
+
+
 def is_of_end(event: Event) -> bool:
     """Whether an event is of a lock that a thread holds until its end: no call made it."""
     return event.letter in "ar" and ENDS_OF_THREADS <= event.target < TRY_MARKERS
 
 
-def places_before(events: Iterable[tuple[int, str, int]], reach: Iterable[int], witness: Sequence[int]) -> set[int]:
+def places_before(events: Iterable[tuple[int, str, int]], reach: Iterable[int], witness: Sequence[int], has_values: bool = True) -> set[int]:
     """Returns the places of the recorded order that can come before the deadlock, if those of the witness are among them, else those of the
-    witness."""
+    witness. Unless it `has_values`, a read of a plain value may see another write."""
     members = set(reach)
     stopped: set[int] = set()
     is_kept_write: dict[int, bool] = {}
@@ -96,7 +108,8 @@ def places_before(events: Iterable[tuple[int, str, int]], reach: Iterable[int], 
     kept: set[int] = set()
     for place, (thread, letter, target) in enumerate(islice(events, max(members))):
         is_left_out = (place in members or thread in stopped or letter == "a" and holder.get(target, [thread])[0] != thread
-                       or letter == "j" and target in stopped or letter == "d" and not is_kept_write.get(target, True))
+                       or letter == "j" and target in stopped or letter == "d" and not is_kept_write.get(target, True)
+                       and (has_values or not PLAIN_VALUES <= target < END_OF_VALUES))
         if letter == "w":
             is_kept_write[target] = not is_left_out
         if is_left_out:
@@ -148,7 +161,7 @@ class Schedule:
         log, calls = self.run.log, self.run.log.events.calls
         self.reach = {calls[place] for place in self.instance}
         self.hard = {calls[place] for place in self.witness} - self.reach - {NO_CALL}
-        places = places_before(log.events, self.instance, self.witness)
+        places = places_before(log.events, self.instance, self.witness, self.cycle.verdict is not Verdict.NO_VALUE)
         partly = {call for place, call in enumerate(calls) if place not in places}
         whole = {calls[place] for place in places} - partly
         order = (self.hard | whole) - self.reach - {NO_CALL}
