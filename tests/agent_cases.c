@@ -26,8 +26,16 @@ static pthread_cond_t condition = PTHREAD_COND_INITIALIZER;
 static pthread_rwlock_t gate = PTHREAD_RWLOCK_INITIALIZER;
 static atomic_int step;
 
-static void until(int number) { while (atomic_load(&step) < number) sched_yield(); }
-static void next(void) { atomic_fetch_add(&step, 1); }
+/* The steps of the cases are not those of a program: with hooks they would keep its threads apart. */
+#if defined(HOOKS) && defined(__clang__)
+#define HIDDEN __attribute__((disable_sanitizer_instrumentation, noinline))
+#elif defined(HOOKS)
+#define HIDDEN __attribute__((no_sanitize("thread"), noinline))
+#else
+#define HIDDEN
+#endif
+HIDDEN static void until(int number) { while (atomic_load(&step) < number) sched_yield(); }
+HIDDEN static void next(void) { atomic_fetch_add(&step, 1); }
 
 static void both(pthread_mutex_t *first, pthread_mutex_t *second) {
     pthread_mutex_lock(first);
@@ -40,19 +48,19 @@ static void both(pthread_mutex_t *first, pthread_mutex_t *second) {
 static void *(*bodies[2])(void *);
 static atomic_int can_begin;
 
-static void *begins(void *raw) {
+HIDDEN static void *begins(void *raw) {
     while (!atomic_load(&can_begin)) sched_yield();
     return bodies[(long)raw](NULL);
 }
 
-static void create_two(pthread_t handles[2], void *(*first)(void *), void *(*second)(void *)) {
+HIDDEN static void create_two(pthread_t handles[2], void *(*first)(void *), void *(*second)(void *)) {
     bodies[0] = first, bodies[1] = second;
     atomic_store(&can_begin, 0);
     for (long at = 0; at < 2; at++) if (pthread_create(&handles[at], NULL, begins, (void *)at)) abort();
     atomic_store(&can_begin, 1);
 }
 
-static void run_two(void *(*first)(void *), void *(*second)(void *)) {
+HIDDEN static void run_two(void *(*first)(void *), void *(*second)(void *)) {
     pthread_t handles[2];
     create_two(handles, first, second);
     pthread_join(handles[1], NULL); /* the second one ends last, so the order of the joins is always the same */

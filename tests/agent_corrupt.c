@@ -70,6 +70,17 @@ static void readers(void) {
     }
 }
 
+/* Threads that have read what others wrote: those that have recorded, one that has not, and one beyond the last. Counts of records that there
+ * are, and too large ones. */
+static void sees(void) {
+    for (uint32_t call = 0; call < 20000; call++) {
+        uint32_t draw = call * 2654435761u >> 8, thread = draw % 11, what = draw / 11 % 4;
+        uint64_t writer = draw / 50 % 13 < 12 ? draw / 50 % 13 : 0xffff, count = draw / 700 % 5 ? draw / 700 % 500 : WRITER_COUNT;
+        if (what < 2) record((struct record){.thread = thread, .kind = what ? R_UNLOCK : R_LOCK, .address = 64 + 64 * thread});
+        else record((struct record){.thread = thread, .kind = R_SEES, .address = writer << WRITER | (what == 2 ? READ_BY_ATOMIC : 0) | count});
+    }
+}
+
 static int is_cut(const char *path) {
     int file = open(path, O_RDWR);
     return file < 0 || ftruncate(file, 0) == 0 || ftruncate(file, 1 << 30) == 0;
@@ -80,6 +91,7 @@ int main(int count, char **words) {
     int file = path ? open(path, O_RDWR) : -1;
     ring = file < 0 ? MAP_FAILED : mmap(NULL, sizeof *ring, PROT_READ | PROT_WRITE, MAP_SHARED, file, 0);
     if (ring == MAP_FAILED) return 3;
+    if (!strcmp(name, "sees")) ring->values |= VALUES_RECORDER; /* before the first record */
     pthread_mutex_lock(&lock);
     pthread_mutex_unlock(&lock);
 #define CASE(text) else if (!strcmp(name, text))
@@ -87,13 +99,15 @@ int main(int count, char **words) {
     CASE("frames") record((struct record){.kind = R_LOCK, .frames = 255});
     CASE("frames_7") record((struct record){.kind = R_LOCK, .frames = BY_STACK + 1});
     CASE("kind_0") record((struct record){.kind = 0});
-    CASE("kind_28") record((struct record){.kind = R_TITLE + 1});
+    CASE("kind_28") record((struct record){.kind = R_SEES});
+    CASE("kind_29") record((struct record){.kind = R_SEES + 1});
     CASE("stack_beyond") stacks(STACKS, 1, 7);
     CASE("stack_empty") stacks(STACKS - 1, 0, 7);
     CASE("stack_long") stacks(STACKS - 1, MOST_STACK + 1, 7);
     CASE("stack_other") stacks(STACKS - 1, MOST_STACK, 8);
     CASE("titles") titles();
     CASE("readers") readers();
+    CASE("sees") sees();
     CASE("thread") record((struct record){.kind = R_LOCK, .thread = 500000000});
     CASE("nobody") record((struct record){.kind = R_LOCK, .thread = NOBODY});
     CASE("fork") record((struct record){.kind = R_FORK, .other = 500000000});

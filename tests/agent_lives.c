@@ -34,6 +34,7 @@ FILE *create_anew(const char *path) { return (void)path, fopen("/dev/null", "w")
 void remove_earlier(void) {}
 const char *mark_of_name(void) { return "#"; }
 void stream(uint8_t kind, uint32_t thread, uint32_t object) { (void)kind, (void)thread, (void)object; }
+void stream_trace(const char *path) { (void)path; }
 
 static void tell(uint32_t thread, enum kind kind, uint64_t address, uint64_t other, uint64_t caller) {
     struct record record = {.thread = thread, .kind = (uint8_t)kind, .address = address, .other = other, .frames = 1};

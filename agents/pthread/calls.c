@@ -16,6 +16,10 @@ static uint32_t cut = NO_LOG;
 static long begin;
 static int is_in_call, is_in_none; /* the events are of the last call; they are marked as those of none */
 static uint32_t last_thread, last_site, last_objects[2]; /* of calls; of events */
+/* Writes of values that belong to the past: `after` that many entries. They are merged into the log when the run ends. */
+static struct late { uint32_t after, thread, variable, site; } *late;
+static size_t late_count, late_room;
+static uint32_t entries;
 
 static int has_log(void) { return !cut; }
 
@@ -52,8 +56,9 @@ static void put(uint32_t kind, uint32_t thread, uint32_t object, uint32_t site) 
     if (site == last_site) flags |= SAME_SITE;
     else to = put_number(to, last_site = site);
     *entry = (uint8_t)kind | flags;
+    entries++;
     buffered += (size_t)(to - entry), used += (uint64_t)(to - entry);
-    if (used > options.most_logged) cut_log(CUT_LONG);
+    if (used > options.most_logged || entries == UINT32_MAX) cut_log(CUT_LONG);
     else if (buffered > BUFFERED - MOST_ENTRY) write_buffer();
 }
 
@@ -87,10 +92,78 @@ void log_event(char letter, uint32_t thread, uint32_t object, uint32_t site) {
 
 void log_exec(void) { put(LOG_EXEC, last_thread, last_objects[1], last_site); }
 
+/* ---- what belongs to the past ---- */
+
+uint32_t log_entries(void) { return entries; }
+
+void log_write_after(uint32_t after, uint32_t thread, uint32_t variable, uint32_t site) {
+    if (!has_log()) return;
+    late = grow(late, late_count, &late_room, sizeof *late);
+    late[late_count++] = (struct late){after, thread, variable, site};
+    used += MOST_ENTRY;
+}
+
+static int compare(const void *left, const void *right) {
+    const struct late *one = left, *other = right;
+    if (one->after != other->after) return one->after < other->after ? -1 : 1;
+    return one->variable < other->variable ? -1 : one->variable > other->variable;
+}
+
+static uint32_t read_number(FILE *from) {
+    uint32_t number = 0;
+    for (int shift = 0, byte; shift < 35 && (byte = getc(from)) != EOF; shift += 7) {
+        number |= (uint32_t)(byte & 127) << shift;
+        if (byte < 128) break;
+    }
+    return number;
+}
+
+/* Such a write is of no call, and so is what comes after it up to the next call: records make no events of an earlier one. */
+static void put_late(const struct late *it) {
+    put(LOG_OTHER, last_thread, last_objects[1], last_site);
+    put(LOG_EVENT + 5, it->thread, it->variable, it->site ? it->site : last_site);
+}
+
+/* Copies the log entry by entry. The numbers that an entry leaves out are those of the entry before it in the same log. */
+static void merge(FILE *from) {
+    uint32_t thread = 0, site = 0, objects[2] = {0, 0}, count = 0;
+    size_t next = 0;
+    for (int byte; has_log() && (byte = getc(from)) != EOF; count++) {
+        uint32_t kind = (uint32_t)byte % LOG_KINDS;
+        for (; next < late_count && late[next].after <= count; next++) put_late(&late[next]);
+        if (!(byte & SAME_THREAD)) thread = read_number(from);
+        if (!(byte & SAME_OBJECT)) objects[kind >= LOG_EVENT] = read_number(from);
+        if (!(byte & SAME_SITE)) site = read_number(from);
+        put(kind, thread, objects[kind >= LOG_EVENT], site);
+        if (kind == LOG_END) break;
+    }
+}
+
+/* Writes the log again, with the writes that belong to its past. */
+static void merge_log(void) {
+    char path[PATHS], raw[PATHS];
+    FILE *from = NULL;
+    qsort(late, late_count, sizeof *late, compare);
+    int is_moved = fclose(file) == 0 && rename(in_work(path, "calls"), in_work(raw, "calls.raw")) == 0;
+    if (!is_moved || !(from = fopen(raw, "re")) || !(file = create_in_work("calls"))) {
+        cut = CUT_UNWRITTEN, file = NULL;
+        if (from) fclose(from);
+        return;
+    }
+    for (long at = 0; at < begin; at++) putc(getc(from), file);
+    fflush(file);
+    last_thread = last_site = last_objects[0] = last_objects[1] = entries = 0;
+    used = (uint64_t)begin;
+    merge(from);
+    fclose(from), unlink(raw);
+}
+
 void end_calls(void) {
     if (!file) return;
     put(LOG_END, last_thread, last_objects[1], last_site);
     if (has_log()) write_buffer();
+    if (has_log() && late_count) merge_log();
+    if (file && has_log()) write_buffer();
     if (file && fclose(file) && has_log()) {
         char path[PATHS];
         unlink(in_work(path, "calls")), cut = CUT_UNWRITTEN;

@@ -21,13 +21,13 @@
 enum { MOST_CHECKS = 4, MANY_WINDOWS = 16, MANY_EVENTS = 1 << 18, PATIENCE = 5000, NICE = 10 };
 enum { MICROSECONDS = 500, STALLED_ROUNDS = 4000, GRACE_ROUNDS = 2000, AHEAD = 1000, LOOK_EVERY = 200, COMMAND_SECONDS = 60 };
 
-/* The agent for Python uses these offsets, and it and the crate for Rust these numbers of kinds. */
-_Static_assert(R_UNLOCK == 12 && R_UNLOCK_EITHER == 17 && R_GIVE == 19 && R_NEW == 22 && R_TITLE == 27, "goodlock_agent.py, recorder.rs");
+/* The agents for Python and Java use these offsets, and they and the crate for Rust these numbers of kinds. */
+_Static_assert(R_UNLOCK == 12 && R_UNLOCK_EITHER == 17 && R_GIVE == 19 && R_NEW == 22 && R_TITLE == 27, "goodlock_agent.py, Kind.java, recorder.rs");
 _Static_assert(offsetof(struct ring, consumed) == 64 && offsetof(struct ring, threads) == 128 && offsetof(struct ring, owner) == 132 &&
                offsetof(struct ring, attached) == 144 && offsetof(struct ring, sites_used) == 160 && offsetof(struct ring, text) == 164 &&
                offsetof(struct ring, waits) == 1048768 && offsetof(struct ring, slots) == 2097344 &&
-               offsetof(struct ring, others) == 18874560 && sizeof(struct ring) == 24396096 && sizeof(struct record) == 64 &&
-               sizeof(struct wait) == 64, "goodlock_agent.py");
+               offsetof(struct ring, others) == 18874560 && offsetof(struct ring, values) == 18891020 && sizeof(struct ring) == 24396096 &&
+               sizeof(struct record) == 64 && sizeof(struct wait) == 64, "goodlock_agent.py, Mapping.java, Ring.java");
 
 static const char *const gate_names[GATE_OPTIONS] = {"--suppress", "--baseline", "--fail-on", "--root"};
 struct ring *ring;
@@ -35,7 +35,9 @@ int is_follower;
 static const char *reporter;
 static pid_t program, follows, deadlock_report, command, checks[MOST_CHECKS];
 static const char *schedule_name;
-static int library_file = -1, is_spoilt, program_status, has_program_ended;
+enum { LIBRARIES = 2 };
+static struct library { char *path; int file; } libraries[LIBRARIES]; /* to preload; the second one has no path if there is none */
+static int is_spoilt, program_status, has_program_ended;
 static int go = -1, unstarted_by = -1; /* pipes: the program may start; why it did not */
 static uint64_t consumed; /* that of the ring is for the recorder */
 static uint32_t windows_closed, windows_checked; /* the last one that is complete; that is searched, or will be at the end */
@@ -195,10 +197,13 @@ static void pass_on(int number) {
     if (has_program_ended) signal_followed(number);
 }
 
+/* Of the agent for Python: an interrupted thread leaves a place empty. */
+static int counts_no_places(void) { return options.is_python && !options.is_java; }
+
 /* The place after the last record. The agent for Python does not count: an empty place may be before others. */
 static uint64_t end_of_records(uint64_t at) {
     uint64_t end = at;
-    if (!options.is_python) return __atomic_load_n(&ring->next, __ATOMIC_ACQUIRE);
+    if (!counts_no_places()) return __atomic_load_n(&ring->next, __ATOMIC_ACQUIRE);
     for (uint64_t ahead = 0; ahead < AHEAD; ahead++)
         if (__atomic_load_n(&ring->slots[(at + ahead) % SLOTS].ready, __ATOMIC_ACQUIRE) == at + ahead + 1) end = at + ahead + 1;
     return end;
@@ -223,7 +228,7 @@ static uint64_t drain(int is_over) {
 
 /* If a stopped thread does not fill its place, and all places behind it are used, the program would wait for it. */
 static void give_up_if_stalled(int *rounds) {
-    if (options.is_python) { /* an interrupted thread leaves a place empty */
+    if (counts_no_places()) {
         *rounds = end_of_records(consumed) > consumed ? *rounds + 1 : 0;
         if (*rounds > STALLED_ROUNDS) __atomic_store_n(&ring->consumed, ++consumed, __ATOMIC_RELEASE), *rounds = 0;
     } else if (ring->off || __atomic_load_n(&ring->next, __ATOMIC_RELAXED) - consumed < SLOTS) *rounds = 0;
@@ -301,17 +306,44 @@ static void make_ring(char *name, size_t size) {
         exit(WRONG);
     }
     setrlimit(RLIMIT_FSIZE, &limit);
-    ring->magic = RING_MAGIC, ring->threads = 1, ring->collector = (uint32_t)getpid();
+    ring->magic = RING_MAGIC, ring->threads = 1, ring->collector = (uint32_t)getpid(), ring->values = is_following() ? 0 : options.values;
     snprintf(name, size, "/proc/%d/fd/%d", getpid(), file);
 }
 
 /* LD_PRELOAD is a list with spaces and colons. A library in a folder with these is named as an open file of the collector. */
-static void preload(const char *library) {
-    static char *list, by_number[40];
+static const char *preloaded(const struct library *library, char name[40]) {
+    if (!strpbrk(library->path, " :")) return library->path;
+    snprintf(name, 40, "/proc/%d/fd/%d", getppid(), library->file);
+    return name;
+}
+
+static void preload(void) {
+    static char *list, names[LIBRARIES][40];
     const char *before = getenv("LD_PRELOAD");
-    if (strpbrk(library, " :")) snprintf(by_number, sizeof by_number, "/proc/%d/fd/%d", getppid(), library_file), library = by_number;
-    if (asprintf(&list, "%s%s%s", library, before ? ":" : "", before ? before : "") < 0) _exit(NOT_STARTED);
+    if (asprintf(&list, "%s%s%s%s%s", preloaded(&libraries[0], names[0]), libraries[1].path ? ":" : "",
+                 libraries[1].path ? preloaded(&libraries[1], names[1]) : "", before ? ":" : "", before ? before : "") < 0) _exit(NOT_STARTED);
     setenv("LD_PRELOAD", list, 1);
+}
+
+static void choose_library(struct library *to, const char *beside, const char *name) {
+    const char *slash = strrchr(beside, '/');
+    if (asprintf(&to->path, "%.*s%s", slash ? (int)(slash - beside) + 1 : 0, beside, name) < 0) refuse("there is no memory");
+    to->file = strpbrk(to->path, " :") ? open(to->path, O_RDONLY | O_CLOEXEC) : -1;
+}
+
+/* The recorder; for a program with hooks the one that follows values, with a library that has the name of the runtime which it needs. */
+static void choose_libraries(const char *recorder, const char *name) {
+    char runtime[MOST_RUNTIME];
+    enum hooks hooks = options.values ? hooks_of(name, runtime) : NO_HOOKS;
+    if (hooks == OWN_RUNTIME)
+        refuse("the program contains the runtime of ThreadSanitizer: link it with -shared-libsan if by clang, and without -static-libtsan if by "
+               "gcc, or give --memory none");
+    int follows_values = hooks == HOOKED || (options.values && options.has_chosen_values);
+    choose_library(&libraries[0], recorder, follows_values ? "values.so" : strrchr(recorder, '/') ? strrchr(recorder, '/') + 1 : recorder);
+    if (follows_values && access(libraries[0].path, R_OK)) refuse("values in memory are followed on x86-64 only: give --memory none");
+    if (hooks == HOOKED) choose_library(&libraries[1], recorder, runtime);
+    if (hooks == HOOKED && access(libraries[1].path, R_OK))
+        refuse("the program needs another version of ThreadSanitizer's runtime than those that goodlock replaces: give --memory none");
 }
 
 /* The runtime of gcc's AddressSanitizer refuses to come after another library. What the user has set comes later, and wins. */
@@ -322,7 +354,7 @@ static void permit_order_of_sanitizer(void) {
     setenv("ASAN_OPTIONS", list, 1);
 }
 
-static void __attribute__((noreturn)) execute(char **words, const char *library, const char *name) {
+static void __attribute__((noreturn)) execute(char **words, const char *name) {
     char text[12];
     for (int number = 1; number < 32; number++) if (number != SIGKILL && number != SIGSTOP) signal(number, SIG_DFL);
     setenv("GOODLOCK_RING", name, 1);
@@ -331,16 +363,15 @@ static void __attribute__((noreturn)) execute(char **words, const char *library,
     if (options.is_python) {
         snprintf(text, sizeof text, "%d", options.frames);
         setenv("GOODLOCK_STACKS", text, 1);
-    } else preload(library), permit_order_of_sanitizer();
+    } else preload(), permit_order_of_sanitizer();
     execvp(words[0], words);
     _exit(write(unstarted_by, &errno, sizeof errno) ? NOT_FOUND : NOT_STARTED);
 }
 
 /* Makes the program's process, so that its number is known. It waits until `release_program`. */
-static void prepare_program(char **words, const char *library, const char *name) {
+static void prepare_program(char **words, const char *name) {
     int may_go[2], fault[2];
     char byte;
-    if (strpbrk(library, " :")) library_file = open(library, O_RDONLY | O_CLOEXEC);
     if (pipe2(may_go, O_CLOEXEC) < 0 || pipe2(fault, O_CLOEXEC) < 0 || (program = fork()) < 0) {
         say("cannot start a process: %s", strerror(errno));
         exit(NOT_STARTED);
@@ -349,7 +380,7 @@ static void prepare_program(char **words, const char *library, const char *name)
         close(may_go[1]);
         unstarted_by = fault[1];
         if (read(may_go[0], &byte, 1) != 1) _exit(WRONG);
-        execute(words, library, name);
+        execute(words, name);
     }
     close(may_go[0]), close(fault[1]);
     go = may_go[1], unstarted_by = fault[0];
@@ -376,7 +407,8 @@ static void write_summary(int is_whole, unsigned long left_out) {
             write_processes(), ring->cleared, (unsigned long)ring->futexes);
     fprintf(file, "frames %d\npython %d\nfollower %d\nfollows %d\nserver %d\n", options.frames, options.is_python, is_follower,
             options.follows_others, options.server != NULL);
-    fprintf(file, "crowded_locks %lu\n", crowded_locks);
+    fprintf(file, "crowded_locks %lu\njava %d\n", crowded_locks, options.is_java);
+    fprintf(file, "values %u\nvalues_read %lu\n", ring->values, values_read);
     fprintf(file, "no_log %u\nlogged %lu\nleft_out %lu\n", why_no_log(), logged, left_out);
     fclose(file);
 }
@@ -391,6 +423,7 @@ static int finish(void) {
     int is_whole = end_run();
     unsigned long left_out = window > 1 ? write_dependencies() : 0;
     if (options.server && window == 1 && is_whole && !ask_server(events, "1.answer")) unlink(in_work(path, "1.answer"));
+    read_text();
     close_sites();
     write_libraries();
     write_summary(is_whole, left_out);
@@ -453,7 +486,10 @@ int main(int count, char **words) {
     if (options.follows_others && !follows) follow_with(options.program, reporter, all, options_in(count - 4, words));
     if (is_follower) options.server = NULL;
     if (follows) ring->program = (uint32_t)follows;
-    else prepare_program(words, library, name);
+    else {
+        if (!options.is_python) choose_libraries(library, words[0]);
+        prepare_program(words, name);
+    }
     prepare_run();
     sigaction(SIGTERM, &action, NULL), sigaction(SIGHUP, &action, NULL);
     if (!start(words)) return WEXITSTATUS(program_status);

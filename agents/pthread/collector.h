@@ -1,6 +1,7 @@
 /* Shared by the files of the collector: collector.c runs the program and reads its records, encode.c turns records into the events
- * of traces, readers.c those of reader-writer locks, names.c keeps names, deadlock.c finds threads that wait for each other, tables.c keeps
- * threads and locks, sites.c names callers, server.c streams to a server. */
+ * of traces, readers.c those of reader-writer locks, accesses.c and predicates.c those of values, inserts.c adds events of the past, names.c
+ * keeps names, deadlock.c finds threads that wait for each other, tables.c keeps threads and locks, sites.c names callers, server.c streams to a
+ * server, hooks.c looks whether a program was compiled with hooks. */
 #define _GNU_SOURCE
 #include "limits.h"
 #include "ring.h"
@@ -27,8 +28,11 @@ struct options {
     char out[PATHS];                /* absolute */
     const char *on_deadlock;        /* report, kill, or a command */
     int bound, error_status, frames, is_python, has_no_config, allows_partial, follows_others;
+    int is_java;                    /* is_python is set too: the program brings its recorder, and sites are texts */
     uint32_t window, seconds;       /* bound: 0 if each is searched up to the largest that can have a cycle */
     uint64_t most_logged;           /* bytes of the log; 0: there is none */
+    uint32_t values;                /* that are followed: of atomics, of memory */
+    int has_chosen_values;          /* the command line says so: also for the programs that the program starts */
     const char *schedule;           /* of the run that is followed; NULL: none. These three are of goodlock --reproduce */
     uint32_t patience;              /* milliseconds */
     int leaves_deadlock;            /* to a debugger */
@@ -101,10 +105,11 @@ struct lock {
     struct entry entry;                                         /* by address */
     struct lock *in_page, **before, *on_stack, **on_stack_before; /* the next ones in its page, and on its thread's stack */
     uint64_t address;
-    uint32_t number, holder, depth, helper, site, variables[3]; /* number 0: the next acquire gets a new one; helper: see encode.c */
+    uint32_t number, holder, depth, helper, site, variables[4]; /* number 0: the next acquire gets a new one; helper: see encode.c */
     uint32_t identity;                                          /* in the log of calls; 0: the next call gives it a new one */
     uint8_t how, is_tried, is_nested;                           /* is_nested: its holder has acquired another one */
     struct sharing *sharing;                                    /* its readers: see readers.c. NULL: it is no reader-writer lock */
+    struct predicate *predicate, *guards;                       /* of a condition; those of a mutex: see predicates.c */
     struct lock *whole;                                         /* of a part; its other members: */
     uint32_t reader, earlier;                                   /* who reads by it; how many sections of writers had no such part */
 };
@@ -112,7 +117,7 @@ struct reader { uint32_t thread, site; };
 struct thread {
     struct entry entry, by_handle;                              /* by number */
     struct thread *older, *newer;
-    uint64_t handle, stack_low, stack_high;
+    uint64_t handle, stack_low, stack_high, released;           /* released: the address of the mutex that it has released last */
     uint32_t number, begun, joining, depth;                     /* begun: the site of its fork; depth: locks that the trace shows */
     uint32_t in_window;                                         /* the window in which it was forked last */
     uint32_t tries, tries_in_window;                            /* locks that it holds by an acquire which does not wait; the most of the window */
@@ -137,6 +142,10 @@ void flush_trace(void);
 /* Closes the window and opens the next one. */
 void next_window(void);
 uint32_t name_in_trace(uint32_t thread);
+/* The same, after the thread was forked in this window. */
+uint32_t name_in_window(uint32_t thread);
+/* The events of the window without those that were inserted. */
+uint32_t raw_events(void);
 /* The number of a lock in the traces. One that nobody has acquired gets one. */
 uint32_t number_of(struct lock *lock);
 
@@ -150,6 +159,63 @@ void release_fully(struct lock *lock, uint32_t site);
 void give_by(uint32_t thread, struct lock *lock, int which, uint32_t site);
 void write_by(uint32_t thread, struct lock *lock, int which, uint32_t site);
 void take_by(uint32_t thread, const struct lock *lock, int which, uint32_t site);
+
+/* When a thread had drawn a record: how many events of the window and entries of the log were before. */
+struct moment { uint32_t window, position, thread, site, logged; };
+/* The thread writes or reads a value; it wrote it at a moment of this window. */
+void write_value(uint32_t thread, uint32_t variable, uint32_t site);
+void take_value(uint32_t thread, uint32_t variable, uint32_t site);
+void insert_write(const struct moment *moment, uint32_t variable);
+/* The thread reads a value that was written before the window. `moment`: when, or NULL if the log has the write. */
+void read_in_log(uint32_t thread, const struct moment *moment, uint32_t variable, uint32_t site);
+/* Whether events are streamed when they are recorded. */
+int is_streaming(void);
+
+/* ---- accesses.c ---- */
+
+enum level { BY_ATOMICS, BY_ALL, LEVELS }; /* as in memory/memory.h */
+extern unsigned long values_read;
+/* Whether the program has the recorder that follows values. */
+int has_recorder_of_values(void);
+/* A variable that no event has yet. */
+uint32_t new_value(enum level level);
+/* The thread has drawn a record, whose events are written. Called only with that recorder. */
+void note_place(uint32_t thread, int is_read, uint32_t site);
+/* A thread has forked or joined another one. */
+void learn_by_fork(uint32_t parent, uint32_t child);
+void learn_by_join(uint32_t thread, uint32_t child);
+/* The thread has read what another one wrote. */
+void see(uint32_t thread, uint64_t cell, uint32_t site);
+/* A window begins; another program begins in the process. */
+void forget_places(void);
+void forget_authors(void);
+
+/* ---- predicates.c ---- */
+
+/* A thread signals a condition; it was woken by one, or has received what somebody gave; it has begun a section of a mutex. */
+void note_signal(const struct thread *thread, struct lock *condition, uint32_t site);
+void note_wake_up(const struct thread *thread, struct lock *condition, int has_waited);
+void read_predicates(uint32_t thread, const struct lock *mutex, uint32_t site);
+/* A condition or a mutex ends; a window begins. */
+void forget_predicates(struct lock *lock);
+void forget_received(void);
+
+/* ---- inserts.c ---- */
+
+void begin_inserts(void);
+uint32_t inserted(void);
+/* The window has a value. */
+void note_value(void);
+void insert_event(const struct moment *moment, uint32_t in_trace, uint32_t variable);
+/* Writes the trace of the window again, with the events that were inserted. Returns 0 if that is not possible. */
+int merge_trace(const char *path);
+
+/* ---- hooks.c ---- */
+
+enum { MOST_RUNTIME = 80 };
+enum hooks { NO_HOOKS, HOOKED, OWN_RUNTIME }; /* OWN_RUNTIME: it is linked into the program, so that no other one can replace it */
+/* Whether a program was compiled with hooks, and the name of the runtime that it needs. */
+enum hooks hooks_of(const char *program, char runtime[MOST_RUNTIME]);
 
 /* ---- readers.c ---- */
 
@@ -171,6 +237,8 @@ void note_name(const char *format, ...) __attribute__((format(printf, 1, 2)));
 void name_thread(const struct record *record, uint64_t handle_or_text);
 void name_lock(uint32_t number, uint64_t address);
 void close_names(void);
+/* Adds a line to OUT.tmp/unseen: what the recorder could not see. */
+void note_unseen(const char *what);
 
 /* ---- calls.c ---- */
 
@@ -185,6 +253,9 @@ void log_no_call(void);
 /* An event of the run, without windows; how many there were. */
 extern unsigned long logged;
 void log_event(char letter, uint32_t thread, uint32_t object, uint32_t site);
+/* The entries so far; a write of a value after as many of them. */
+uint32_t log_entries(void);
+void log_write_after(uint32_t entries, uint32_t thread, uint32_t variable, uint32_t site);
 /* Another program has begun in the process. */
 void log_exec(void);
 
@@ -276,6 +347,8 @@ int end_following(void);
 uint32_t site_of(const uint64_t *callers, uint32_t count);
 /* The file that the recorder has named for this address, and the address in it; NULL: none. */
 const char *file_at(uint64_t address, uint64_t *offset);
+/* Reads the lines that the recorder has added to the text. */
+void read_text(void);
 /* Copies a text of the shared memory, as far as it has that many bytes and is one line. */
 enum { MOST_TEXT = 1000 };
 void copy_text(char to[MOST_TEXT + 1], uint64_t from);
@@ -292,6 +365,8 @@ void forget_sites(uint64_t from, uint64_t size);
 extern int is_shared_server; /* with another agent */
 int connect_to_server(const char *address);
 void stream(uint8_t kind, uint32_t thread, uint32_t object);
+/* Streams the events of a file. */
+void stream_trace(const char *path);
 /* Sends what is collected, and reads the replies. */
 void flush_stream(void);
 /* Asks for the report of `length` events and writes it to OUT.tmp/NAME. Returns 0 if there is none. */

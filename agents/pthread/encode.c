@@ -6,7 +6,7 @@
 #include "collector.h"
 
 enum { MOST_FORKS = MOST_THREADS - 1, SLACK = 1000, FORKS = 32, GROWTH = 7, BUFFER = 1 << 16, LEAST_SEEN = 1 << 10 };
-enum { HANDED = 2 }; /* of a lock's variables: orders and releases by other threads. readers.c has the others */
+enum { HANDED = 2, VALUE }; /* of a lock's variables: orders and releases by other threads, atomic values. readers.c has the others */
 
 uint32_t events, window;
 unsigned long unseen, unstarted, overflowing, lock_events;
@@ -20,6 +20,13 @@ static uint32_t last_site;
 static FILE *trace, *waits;
 static int has_failed;
 static int is_repeating; /* the events repeat what is before the window */
+
+/* Known from the first record on: the shared memory is the program's. */
+int has_recorder_of_values(void) {
+    static int is_known, is_there;
+    if (!is_known) is_known = 1, is_there = !is_following() && ring->values & VALUES_RECORDER;
+    return is_there;
+}
 
 /* ---- the trace file ---- */
 
@@ -56,8 +63,12 @@ static void event_of_window(uint32_t thread, char letter, uint32_t object, uint3
     buffered = (size_t)(to - buffer);
     events++;
     forks += letter == 'f';
-    if (window == 1 && options.server) stream((uint8_t)(strchr(kinds, letter) - kinds + 1), thread, object);
+    if (is_streaming()) stream((uint8_t)(strchr(kinds, letter) - kinds + 1), thread, object);
 }
+
+int is_streaming(void) { return window == 1 && options.server && !has_recorder_of_values(); }
+
+uint32_t raw_events(void) { return events - inserted(); }
 
 /* The number of a thread in the log. */
 static uint32_t name_in_log(uint32_t in_trace) { return in_trace == FIRST_THREAD ? 0 : in_trace; }
@@ -88,6 +99,34 @@ static uint32_t name(uint32_t thread) {
     return name_in_trace(thread);
 }
 
+uint32_t name_in_window(uint32_t thread) { return name(thread); }
+
+/* ---- values ---- */
+
+void write_value(uint32_t thread, uint32_t variable, uint32_t site) {
+    note_value();
+    event(name(thread), 'w', variable, site);
+}
+
+void take_value(uint32_t thread, uint32_t variable, uint32_t site) {
+    note_value();
+    event(name(thread), 'd', variable, site);
+}
+
+void insert_write(const struct moment *moment, uint32_t variable) {
+    uint32_t in_trace = name_in_trace(moment->thread);
+    insert_event(moment, in_trace, variable);
+    events++;
+    log_write_after(moment->logged, name_in_log(in_trace), variable, moment->site);
+}
+
+void read_in_log(uint32_t thread, const struct moment *moment, uint32_t variable, uint32_t site) {
+    if (why_no_log()) return;
+    uint32_t in_trace = name(thread);
+    if (moment) log_write_after(moment->logged, moment->thread, variable, moment->site);
+    log_event('d', name_in_log(in_trace), variable, site);
+}
+
 /* ---- orders ---- */
 
 static uint32_t variable(struct lock *object, int which) {
@@ -102,6 +141,13 @@ static void give(uint32_t thread, uint32_t to, uint32_t site) {
 }
 
 static void take(uint32_t thread, uint32_t from, uint32_t site) { event(thread, 'd', from, site); }
+
+/* The values of one object of Java are one variable. */
+static void give_value(uint32_t thread, struct lock *object, uint32_t site) {
+    if (!object->variables[VALUE]) object->variables[VALUE] = new_value(BY_ATOMICS);
+    note_value();
+    give(thread, object->variables[VALUE], site);
+}
 
 void give_by(uint32_t thread, struct lock *lock, int which, uint32_t site) { give(name(thread), variable(lock, which), site); }
 void write_by(uint32_t thread, struct lock *lock, int which, uint32_t site) { event(name(thread), 'w', variable(lock, which), site); }
@@ -231,6 +277,7 @@ static void begin_section(uint32_t thread, struct lock *lock, uint32_t site) {
     if (it->held_count && !lock->helper && lock->how != TRIES) note_dependency(it, lock, marker);
     it->held = grow(it->held, it->held_count, &it->held_room, sizeof *it->held);
     it->held[it->held_count++] = lock;
+    if (lock->guards) read_predicates(thread, lock, site);
 }
 
 static void end_section(uint32_t thread, struct lock *lock, uint32_t site) {
@@ -267,6 +314,7 @@ void release_fully(struct lock *lock, uint32_t site) {
 static void renew(struct lock *lock) {
     release_fully(lock, 0);
     forget_sharing(lock);
+    forget_predicates(lock);
     remove_lock(lock);
 }
 
@@ -314,6 +362,7 @@ static void fork_thread(uint32_t parent, uint32_t child, uint32_t site) {
     it->in_window = window, it->begun = site, it->is_forked = 1;
     event(in_trace, 'f', name_in_trace(child), site);
     note_life('f', parent, child, site);
+    learn_by_fork(parent, child);
 }
 
 /* In the trace they stay held. The next acquire of one gets a new number. */
@@ -344,17 +393,19 @@ static void note_join(const struct thread *by, const struct thread *child) {
     if (by->held_count && by->waits_for_end && child->in_window == window && waits_file()) fprintf(waits, "%u\n", name_in_trace(child->number));
 }
 
+static int is_release(int kind) { return kind == R_UNLOCK || kind == R_UNLOCK_OWN; }
+
 /* A wait on a condition is a release and a receive. */
 static void note_woken(const struct thread *thread) {
     static uint32_t noted;
-    int is_wait = thread->last_kind == R_UNLOCK || thread->last_kind == R_UNLOCK_OWN;
-    if (noted != window && is_wait && thread->held_count && waits_file()) noted = window, fputs("woken\n", waits);
+    if (noted != window && is_release(thread->last_kind) && thread->held_count && waits_file()) noted = window, fputs("woken\n", waits);
 }
 
 static void join_thread(uint32_t thread, uint32_t child, uint32_t site) {
     struct thread *it = known_thread(child);
     if (!it || child == thread) return;
     note_join(find_thread(thread), it);
+    learn_by_join(thread, child);
     if (it->in_window == window && name_in_trace(child)) event_of_window(name(thread), 'j', name_in_trace(child), site);
     name_for_log(find_thread(thread));
     if (it->is_forked && child) log_event('j', thread, child, site), note_life('j', thread, child, site);
@@ -385,14 +436,25 @@ static void open_trace(void) {
     if (!trace && !has_failed && !is_following()) has_failed = 1, say("cannot write %s; the program runs on", path);
     if (trace && (window > 1 || is_follower)) fprintf(trace, "%s\n", mark_of_name());
     events = forks = buffered = last_site = tried = tried_forks = 0;
+    begin_inserts(), forget_places(), forget_received();
     free(seen), begin_seen(LEAST_SEEN), seen_count = 0;
+}
+
+/* Inserts what was found later. Returns 0 if that is not possible. */
+static int finish_trace(void) {
+    char path[PATHS];
+    window_name(path, window, "trace");
+    if (!merge_trace(path)) return 0;
+    if (window == 1 && options.server && !is_streaming()) stream_trace(path);
+    return 1;
 }
 
 static int close_trace(void) {
     write_out();
     write_window();
     if (waits) fclose(waits), waits = NULL;
-    if (trace && fclose(trace) && !has_failed) has_failed = 1, say("the trace cannot be written; the program runs on");
+    int is_written = !trace || (fclose(trace) == 0 && finish_trace());
+    if (!is_written && !has_failed) has_failed = 1, say("the trace cannot be written; the program runs on");
     trace = NULL;
     return !has_failed;
 }
@@ -464,8 +526,8 @@ void next_window(void) {
 static int is_valid(const struct record *record) {
     int has_number = record->kind == R_FORK || record->kind == R_NAMED || record->kind == R_UNSTARTED ||
                      record->kind == R_FORGOTTEN;
-    return record->kind >= R_FORK && record->kind <= R_TITLE && record->frames <= BY_STACK && record->thread < MOST_NUMBERS &&
-           (!has_number || record->other < MOST_NUMBERS) && has_room_for_threads();
+    return record->kind >= R_FORK && record->kind <= R_SEES && record->frames <= BY_STACK && record->thread < MOST_NUMBERS &&
+           (!has_number || record->other < MOST_NUMBERS) && (record->kind != R_SEES || has_recorder_of_values()) && has_room_for_threads();
 }
 
 /* The object of a call, as the log names it. Returns 0 if the record is no call of the program, or there is no log. */
@@ -484,7 +546,7 @@ static int object_of_call(const struct record *record, uint32_t *object) {
 
 /* Another program has begun in this process. A later run begins with the first one again. */
 static void begin_program(void) {
-    forget_all(), find_thread(0), next_window();
+    forget_all(), find_thread(0), next_window(), forget_authors();
     if (identities) log_exec();
 }
 
@@ -504,7 +566,8 @@ int encode(const struct record *record) {
         leave_stack(it, record->other & ~(uint64_t)LOCK_FLAGS);
     if (object_of_call(record, &object)) log_call(thread, record->kind == R_UNLOCK_OWN ? R_UNLOCK : record->kind, object, site);
     encode_record(record, callers, site);
-    if ((it = known_thread(thread))) it->last_kind = record->kind;
+    if (has_recorder_of_values()) note_place(thread, record->kind == R_SEES, site);
+    if (record->kind != R_SEES && (it = known_thread(thread))) it->last_kind = record->kind;
     return 1;
 }
 
@@ -531,9 +594,11 @@ static void encode_record(const struct record *record, const uint64_t *callers, 
     case R_TRIED: acquire(thread, find_used_lock(thread, record->address), TRIES, site); break;
     case R_TIMED: acquire(thread, find_used_lock(thread, record->address), TIMES_OUT, site); break;
     case R_UNLOCK:
+        it->released = record->address;
         if ((lock = known_lock(record->address)) && lock->holder != NOBODY) release(lock, thread, site);
         break;
     case R_UNLOCK_OWN:
+        it->released = record->address;
         if ((lock = known_lock(record->address)) && lock->holder == thread) release(lock, thread, site);
         break;
     case R_WRITE_LOCK: write_lock(thread, record->address, BLOCKS, record->other & PREFERS_WRITERS, site); break;
@@ -544,10 +609,21 @@ static void encode_record(const struct record *record, const uint64_t *callers, 
         read_lock(thread, record->address, how, record->other & PREFERS_WRITERS, site);
         break;
     case R_UNLOCK_EITHER: unlock_either(thread, record->address, site); break;
-    case R_GIVE: give(name(thread), variable(find_lock(record->address), HANDED), site); break;
+    case R_GIVE:
+        if (record->other == BY_VALUE) give_value(name(thread), find_lock(record->address), site);
+        else give(name(thread), variable(find_lock(record->address), HANDED), site);
+        if (record->other == BY_CONDITION) note_signal(it, find_lock(record->address), site);
+        break;
     case R_TAKE:
+        lock = known_lock(record->address);
+        if (record->other == BY_VALUE) {
+            if (lock && lock->variables[VALUE]) take_value(thread, lock->variables[VALUE], site);
+            break;
+        }
         note_woken(it);
-        if ((lock = known_lock(record->address)) && lock->variables[HANDED]) take(name(thread), lock->variables[HANDED], site);
+        if (!lock || !lock->variables[HANDED]) break;
+        take(name(thread), lock->variables[HANDED], site);
+        note_wake_up(it, lock, is_release(it->last_kind));
         break;
     case R_ONCE:
         if ((lock = known_lock(record->address)) && lock->variables[HANDED] && is_first(thread, lock->variables[HANDED]))
@@ -559,6 +635,7 @@ static void encode_record(const struct record *record, const uint64_t *callers, 
     case R_UNLOADED: forget_sites(record->address, record->other); /* fall through */
     case R_FREE: each_lock_in(record->address, record->other, renew); break;
     case R_TITLE: name_thread(record, callers[0]); break;
+    case R_SEES: see(thread, record->address, site); break;
     case R_UNSTARTED:
         unstarted++;
         if ((other = known_thread((uint32_t)record->other))) forget_thread(other);

@@ -115,7 +115,7 @@ EXPORT int g_cond_wait_until(void *condition, void *lock, int64_t until) {
 EXPORT void g_cond_signal(void *condition) {
     TAKE_SITE;
     const struct call_of_schedule *turn = is_inside ? NULL : ENTER(R_GIVE, condition, 0);
-    tell_if(!is_inside, R_GIVE, condition, &site);
+    if (!is_inside) tell(R_GIVE, condition, BY_CONDITION, &site);
     WITHIN_VOID(REAL(g_cond_signal)(condition));
     LEAVE(turn);
 }
@@ -123,7 +123,7 @@ EXPORT void g_cond_signal(void *condition) {
 EXPORT void g_cond_broadcast(void *condition) {
     TAKE_SITE;
     const struct call_of_schedule *turn = is_inside ? NULL : ENTER(R_GIVE, condition, 0);
-    tell_if(!is_inside, R_GIVE, condition, &site);
+    if (!is_inside) tell(R_GIVE, condition, BY_CONDITION, &site);
     WITHIN_VOID(REAL(g_cond_broadcast)(condition));
     LEAVE(turn);
 }
@@ -147,6 +147,7 @@ EXPORT void __cxa_guard_release(void *guard) {
     TAKE_SITE;
     const struct call_of_schedule *turn = ENTER(R_GIVE, guard, 0);
     tell(R_GIVE, guard, 0, &site);
+    publish_value(guard); /* the program reads it as an atomic, and calls nothing if it is initialised */
     WITHIN_VOID(REAL(__cxa_guard_release)(guard));
     LEAVE(turn);
 }

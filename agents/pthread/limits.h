@@ -8,3 +8,7 @@ enum { MOST_EVENTS = 1048576, MOST_THREADS = 1024, MOST_HELD = 32, MOST_DEPTH = 
 #define HELPERS 2000000000u
 #define TRY_MARKERS 3000000000u
 #define TIMED_MARKERS 3500000000u
+
+/* Variables from here on stand for values that threads read: those of atomics, and those of plain memory and of predicates of conditions. */
+#define ATOMIC_VALUES 1000000000u
+#define PLAIN_VALUES 2000000000u

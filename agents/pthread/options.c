@@ -7,7 +7,7 @@
 enum { MOST_CONFIGURED = 64, CONFIGURED_BYTES = 1 << 16, FAILED = 3, MOST_SECONDS = 86400 };
 
 static const struct options defaults = {.bound = 4, .error_status = -1, .frames = 1, .window = MOST_EVENTS, .seconds = 60, .on_deadlock = "report",
-                                        .most_logged = 1 << 30};
+                                        .most_logged = 1 << 30, .values = VALUES_OF_ATOMICS | VALUES_OF_MEMORY};
 struct options options;
 
 void refuse(const char *what) {
@@ -34,12 +34,26 @@ static uint64_t size_of(const char *word) {
     return value << shift;
 }
 
+static uint32_t values_of(const char *word) {
+    if (!strcmp(word, "all")) return VALUES_OF_ATOMICS | VALUES_OF_MEMORY;
+    if (!strcmp(word, "atomics")) return VALUES_OF_ATOMICS;
+    if (strcmp(word, "none")) refuse("--memory is all, atomics or none");
+    return 0;
+}
+
+/* Of plain memory a program in Java always has the predicates of conditions, and nothing else. */
+static void choose_values_of_java(void) {
+    if (options.has_chosen_values && options.values & VALUES_OF_MEMORY) refuse("--memory is atomics or none for a program in Java");
+    options.values = VALUES_OF_MEMORY | (options.has_chosen_values ? options.values : 0);
+}
+
 static char **read_options(int count, char **words) {
     static const struct option known[] = {{"bound", 1, 0, 'b'}, {"out", 1, 0, 'o'}, {"server", 1, 0, 's'}, {"error-exitcode", 1, 0, 'e'},
                                           {"stacks", 1, 0, 't'}, {"window", 1, 0, 'w'}, {"no-config", 0, 0, 'n'}, {"suppress", 1, 0, '0'},
                                           {"baseline", 1, 0, '1'}, {"fail-on", 1, 0, '2'}, {"root", 1, 0, '3'}, {"on-deadlock", 1, 0, 'd'},
                                           {"seconds", 1, 0, 'l'}, {"keep-log", 1, 0, 'k'}, {"follow", 1, 0, 'f'}, {"patience-ms", 1, 0, 'm'},
-                                          {"leave-deadlock", 0, 0, 'g'}, {"allow-partial", 0, 0, 'p'}, {"trace-children", 0, 0, 'c'},
+                                          {"memory", 1, 0, 'v'}, {"leave-deadlock", 0, 0, 'g'}, {"allow-partial", 0, 0, 'p'}, {"trace-children", 0, 0, 'c'},
+                                          {"java", 0, 0, 'j'},
                                           {0, 0, 0, 0}};
     char here[PATHS] = "", *out = "goodlock";
     opterr = optind = 0;
@@ -58,12 +72,15 @@ static char **read_options(int count, char **words) {
         case 'm': options.patience = value_of(optarg, 1, 1000 * MOST_SECONDS, "--patience is a number of seconds"); break;
         case 'g': options.leaves_deadlock = 1; break;
         case 'k': options.most_logged = size_of(optarg); break;
+        case 'v': options.values = values_of(optarg), options.has_chosen_values = 1; break;
         case 'p': options.allows_partial = 1; break;
         case 'c': options.follows_others = 1; break;
+        case 'j': options.is_java = 1; break; /* agents/java gives it */
         case 'n': options.has_no_config = 1; break;
         case '0': case '1': case '2': case '3': options.gate[letter - '0'] = optarg; break;
         default: refuse("an option is unknown or lacks its value");
     }
+    if (options.is_java) choose_values_of_java();
     if (!getcwd(here, sizeof here)) here[0] = 0;
     if (!out[0] || (!here[0] && out[0] != '/')) refuse("--out is the name of a file");
     if (strlen(here) + strlen(out) > MOST_NAME) refuse("the name of --out is too long");

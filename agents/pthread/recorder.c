@@ -21,24 +21,20 @@
 #include <time.h>
 #include <unistd.h>
 
-enum { STARTS = 4096, LINES = 1 << 20, PAGES = 1 << 16, SECONDS_WITHOUT_PROGRESS = 30, MOST_TEXT = 1000, MOST_TRIES = 10000, ANY_LINE = 0x0f };
-enum { TYPE = 3, ROBUST = 16, INHERITS = 32 }; /* parts of a mutex's kind in glibc */
+enum { STARTS = 4096, SECONDS_WITHOUT_PROGRESS = 30, MOST_TEXT = 1000, MOST_TRIES = 10000 };
+enum { TYPE = 3, ROBUST = 16, INHERITS = 32, TCB_SIZE = 2304 }; /* of glibc: parts of a mutex's kind; what it keeps of a thread */
 
 struct start { uint32_t taken, number; void *(*run)(void *); int (*run_c11)(void *); void *argument; uint64_t stack_size; };
 
 struct page page __attribute__((aligned(4096)));
 struct ring *mapped; /* that of GOODLOCK_RING, also in a process that does not record */
-static uint32_t is_claimed;
+uint32_t is_claimed;
 static uint64_t default_stack_size;
 static struct start starts[STARTS];
-/* By hash: lines of 64 bytes that have a lock, until they are freed, and pages that have had one. A line has a bit for each 16 bytes where a
- * lock begins, and a mark of its own, or no mark if it stands for several. */
-static uint8_t lines[LINES], pages[PAGES];
 THREAD_LOCAL uint32_t self = NOBODY;
 THREAD_LOCAL uint64_t stack_low, stack_high;
 static THREAD_LOCAL void (*once_routine)(void);
 static THREAD_LOCAL void *once_control;
-static THREAD_LOCAL int is_finding_free;
 static THREAD_LOCAL uint32_t tid;
 THREAD_LOCAL uint64_t stated;
 
@@ -54,21 +50,16 @@ THREAD_LOCAL uint64_t stated;
     X(pthread_rwlock_trywrlock) X(pthread_rwlock_timedwrlock) X(pthread_rwlock_clockwrlock) X(pthread_rwlock_unlock) \
     X(pthread_rwlock_init) X(pthread_rwlock_destroy) X(sem_post) X(sem_wait) X(sem_trywait) X(sem_timedwait) X(sem_clockwait) \
     X(mtx_lock) X(mtx_trylock) X(mtx_timedlock) X(mtx_unlock) X(mtx_init) X(mtx_destroy) X(cnd_wait) X(cnd_timedwait) \
-    X(cnd_signal) X(cnd_broadcast) X(thrd_create) X(thrd_join) X(call_once) X(munmap) X(free) X(realloc)
+    X(cnd_signal) X(cnd_broadcast) X(thrd_create) X(thrd_join) X(call_once)
 #define DECLARE(name) static __typeof__(&name) real_##name;
 REALS(DECLARE)
-static size_t (*real_malloc_usable_size)(void *); /* NULL if it does not belong to the same allocator as `free` */
 
 /* The real function of this name. The constructor has found it, except for calls that run before the constructor. */
 #define REAL(name) ({ if (!real_##name) real_##name = (__typeof__(&name))dlsym(RTLD_NEXT, #name); real_##name; })
 
 static void find_reals(void) {
-    Dl_info of_free, of_size;
 #define FIND(name) (void)REAL(name);
     REALS(FIND)
-    size_t (*size)(void *) = (size_t (*)(void *))dlsym(RTLD_NEXT, "malloc_usable_size");
-    if (size && real_free && dladdr((void *)size, &of_size) && dladdr((void *)real_free, &of_free) && of_size.dli_fbase == of_free.dli_fbase)
-        real_malloc_usable_size = size;
 }
 
 /* ---- one event ---- */
@@ -95,7 +86,9 @@ static int claim(int starts_thread);
 static void number_self(int starts_thread);
 
 static void write_record(struct ring *to, uint32_t thread, enum kind kind, uint64_t address, uint64_t other, const struct site *site) {
+    settle_values();
     uint64_t place = __atomic_fetch_add(&to->next, 1, __ATOMIC_RELAXED);
+    count_record(kind == R_SEES);
     struct record *record = &to->slots[place % SLOTS];
     if (place - __atomic_load_n(&to->consumed, __ATOMIC_ACQUIRE) >= SLOTS && !wait_for_slot(to, place)) return;
     record->address = address, record->other = other, record->thread = thread, record->kind = (uint8_t)kind;
@@ -112,38 +105,6 @@ void tell(enum kind kind, const volatile void *address, uint64_t other, const st
         if (self == NOBODY || !(to = page.ring)) return;
     }
     write_record(to, self, kind, (uint64_t)address, other, site);
-}
-
-static int page_of(uint64_t address) { return (int)((address >> 12) * 0x9E3779B97F4A7C15u >> 48); }
-static uint64_t hash_of_line(uint64_t address) { return (address >> 6) * 0x9E3779B97F4A7C15u; }
-static uint8_t *line_of(uint64_t address) { return &lines[hash_of_line(address) >> 44]; }
-static uint8_t mark_of(uint64_t address) { return (uint8_t)((hash_of_line(address) >> 36) % 15 + 1) << 4; }
-static uint8_t bit_of(uint64_t address) { return (uint8_t)(1 << (address >> 4 & 3)); }
-
-/* This memory has a lock. */
-static void remember(uint64_t address) {
-    uint8_t *line = line_of(address), *of_page = &pages[page_of(address)], mark = mark_of(address), bit = bit_of(address);
-    uint8_t before = __atomic_load_n(line, __ATOMIC_RELAXED), after;
-    if (!*of_page) *of_page = 1;
-    do {
-        after = !before ? mark | bit : (before & 0xf0) == mark ? before | bit : ANY_LINE;
-        if (before == after || before == ANY_LINE) return;
-    } while (!__atomic_compare_exchange_n(line, &before, after, 0, __ATOMIC_RELAXED, __ATOMIC_RELAXED));
-}
-
-/* Whether these bytes of a line, which are freed, may have a lock. It has none afterwards. */
-static int forget(uint64_t from, uint64_t end) {
-    uint8_t *line = line_of(from), mark = mark_of(from), bits = 0, before = __atomic_load_n(line, __ATOMIC_RELAXED), after;
-    if (!before) return 0;
-    if (before == ANY_LINE) return 1;
-    for (uint64_t at = from & ~(uint64_t)15; at < end; at += 16) bits |= bit_of(at);
-    do {
-        if (before == ANY_LINE) return 1;
-        if ((before & 0xf0) != mark || !(before & bits)) return 0;
-        after = before & ~bits;
-        if (!(after & 0x0f)) after = 0;
-    } while (!__atomic_compare_exchange_n(line, &before, after, 0, __ATOMIC_RELAXED, __ATOMIC_RELAXED));
-    return 1;
 }
 
 int is_recorded(void) {
@@ -171,6 +132,14 @@ void has_waited(struct wait *wait) {
     if (wait) __atomic_store_n(&wait->address, 0, __ATOMIC_RELEASE);
 }
 
+#ifdef FOLLOWS_VALUES
+void tell_seen(uint64_t cell, void *caller, void *frame) {
+    struct site site = {.count = 1, .callers = {(uint64_t)caller}};
+    if (frame) take_site(&site, frame, caller);
+    tell(R_SEES, (void *)cell, 0, &site);
+}
+#endif
+
 /* ---- threads ---- */
 
 /* A thread whose start was not seen. The first thread of a process has the number 0. */
@@ -180,11 +149,11 @@ static void number_self(int starts_thread) {
     if (!is_claimed && !claim(starts_thread)) return;
     if (syscall(SYS_gettid) == getpid()) {
         struct site high = {.count = 1, .callers = {stack_high}};
-        self = 0;
+        begin_values(self = 0);
         write_record(to, 0, R_START, (uint64_t)pthread_self(), stack_low, &high);
         return;
     }
-    self = __atomic_fetch_add(&to->threads, 1, __ATOMIC_RELAXED);
+    begin_values(self = __atomic_fetch_add(&to->threads, 1, __ATOMIC_RELAXED));
     write_record(to, self, R_UNSEEN, (uint64_t)pthread_self(), 0, &none);
 }
 
@@ -205,6 +174,7 @@ static void ask_for_ring(struct other *other) {
     if (!own) return;
     self = NOBODY, is_claimed = 0, own->attached = 1;
     forget_stacks();
+    stop_values();
     page.ring = own;
 }
 
@@ -229,7 +199,9 @@ static int records_start(void) {
     if (page.ring && self == NOBODY) number_self(1);
     if (!page.ring) count_process();
     if (page.ring && self == NOBODY) number_self(1);
-    return page.ring && self != NOBODY;
+    if (!page.ring || self == NOBODY) return 0;
+    follow_values(self);
+    return 1;
 }
 
 static struct start *new_start(uint64_t stack_size) {
@@ -258,6 +230,7 @@ static void tell_end(void *unused) {
     struct site none = {.count = 0};
     if (schedule) end_lane();
     tell(R_END, unused, 0, &none);
+    end_values();
 }
 
 /* Numbers the new thread, and gives the copied start back. */
@@ -265,9 +238,10 @@ static struct start begin_thread(struct start *shared, void *frame) {
     struct start start = *shared;
     struct site high = {.count = 1};
     __atomic_store_n(&shared->taken, 0, __ATOMIC_RELEASE);
-    self = start.number;
+    begin_values(self = start.number);
     if (schedule) begin_lane();
     stack_high = (uint64_t)frame, stack_low = stack_high - (start.stack_size < stack_high ? start.stack_size : 0);
+    forget_values(stack_low, (uint64_t)pthread_self() + TCB_SIZE - stack_low); /* and the variables of the thread */
     high.callers[0] = stack_high;
     tell(R_START, (void *)pthread_self(), stack_low, &high);
     return start;
@@ -459,15 +433,15 @@ EXPORT int pthread_rwlock_destroy(pthread_rwlock_t *lock) { return RENEW(lock, R
 
 /* ---- orders ---- */
 
-#define GIVE(object, call) ({ TAKE_SITE; const struct call_of_schedule *turn = ENTER(R_GIVE, object, 0); \
-    tell(R_GIVE, object, 0, &site); int error = call; LEAVE(turn); error; })
+#define GIVE(object, by, call) ({ TAKE_SITE; const struct call_of_schedule *turn = ENTER(R_GIVE, object, 0); \
+    tell(R_GIVE, object, by, &site); int error = call; LEAVE(turn); error; })
 /* `fault`: errno of an attempt that fails, 0 if the call waits. */
 #define TAKE(object, fault, call) ({ TAKE_SITE; const struct call_of_schedule *turn = ENTER(R_TAKE, object, fault); \
     int error = turn == &failing_call ? (errno = fault, -1) : call; \
     if (!error) { tell(R_TAKE, object, 0, &site); LEAVE(turn); } \
     error; })
 
-EXPORT int sem_post(sem_t *semaphore) { return GIVE(semaphore, REAL(sem_post)(semaphore)); }
+EXPORT int sem_post(sem_t *semaphore) { return GIVE(semaphore, 0, REAL(sem_post)(semaphore)); }
 EXPORT int sem_wait(sem_t *semaphore) { return TAKE(semaphore, 0, REAL(sem_wait)(semaphore)); }
 EXPORT int sem_trywait(sem_t *semaphore) { return TAKE(semaphore, EAGAIN, REAL(sem_trywait)(semaphore)); }
 EXPORT int sem_timedwait(sem_t *semaphore, const struct timespec *until) {
@@ -476,10 +450,10 @@ EXPORT int sem_timedwait(sem_t *semaphore, const struct timespec *until) {
 EXPORT int sem_clockwait(sem_t *semaphore, clockid_t clock, const struct timespec *until) {
     return TAKE(semaphore, ETIMEDOUT, REAL(sem_clockwait)(semaphore, clock, until));
 }
-EXPORT int pthread_cond_signal(pthread_cond_t *condition) { return GIVE(condition, REAL(pthread_cond_signal)(condition)); }
-EXPORT int pthread_cond_broadcast(pthread_cond_t *condition) { return GIVE(condition, REAL(pthread_cond_broadcast)(condition)); }
-EXPORT int cnd_signal(cnd_t *condition) { return GIVE(condition, REAL(cnd_signal)(condition)); }
-EXPORT int cnd_broadcast(cnd_t *condition) { return GIVE(condition, REAL(cnd_broadcast)(condition)); }
+EXPORT int pthread_cond_signal(pthread_cond_t *condition) { return GIVE(condition, BY_CONDITION, REAL(pthread_cond_signal)(condition)); }
+EXPORT int pthread_cond_broadcast(pthread_cond_t *condition) { return GIVE(condition, BY_CONDITION, REAL(pthread_cond_broadcast)(condition)); }
+EXPORT int cnd_signal(cnd_t *condition) { return GIVE(condition, BY_CONDITION, REAL(cnd_signal)(condition)); }
+EXPORT int cnd_broadcast(cnd_t *condition) { return GIVE(condition, BY_CONDITION, REAL(cnd_broadcast)(condition)); }
 
 EXPORT int pthread_barrier_wait(pthread_barrier_t *barrier) {
     TAKE_SITE;
@@ -590,90 +564,6 @@ EXPORT void call_once(once_flag *control, void (*routine)(void)) {
     LEAVE(turn);
 }
 
-/* ---- memory: a lock in freed memory ends ---- */
-
-static int may_contain_lock(uint64_t from, uint64_t size) {
-    int found = 0;
-    if (size <= 4096) {
-        for (uint64_t at = from, end = from + size, next; at < end; at = next) {
-            next = (at | 63) + 1;
-            found |= forget(at, next < end ? next : end);
-        }
-        return found;
-    }
-    if (size > (uint64_t)256 << 12) return 1;
-    for (uint64_t at = from & ~(uint64_t)4095; at < from + size; at += 4096) if (pages[page_of(at)]) return 1;
-    return 0;
-}
-
-static void frees(void *memory) {
-    struct site none = {.count = 0};
-    if (!memory || !page.ring || !is_claimed || !real_malloc_usable_size) return;
-    uint64_t size = real_malloc_usable_size(memory);
-    if (may_contain_lock((uint64_t)memory, size)) tell(R_FREE, memory, size, &none);
-}
-
-/* Other constructors may free memory before this library's constructor. What dlsym itself frees meanwhile stays allocated. */
-EXPORT void free(void *memory) {
-    if (!real_free) {
-        if (is_finding_free) return;
-        is_finding_free = 1;
-        if (!REAL(free)) return;
-        is_finding_free = 0;
-    }
-    frees(memory);
-    real_free(memory);
-}
-
-EXPORT void *realloc(void *memory, size_t size) {
-    if (real_free) frees(memory);
-    return REAL(realloc)(memory, size);
-}
-
-/* C++: the library of C++ calls `free`, but an allocator may have its own. `size` and `alignment` are passed on. */
-#define DELETES(X) X(_ZdlPv) X(_ZdaPv) X(_ZdlPvm) X(_ZdaPvm) X(_ZdlPvSt11align_val_t) X(_ZdaPvSt11align_val_t) \
-    X(_ZdlPvmSt11align_val_t) X(_ZdaPvmSt11align_val_t) X(_ZdlPvRKSt9nothrow_t) X(_ZdaPvRKSt9nothrow_t)
-#define DELETE(name) \
-    static void (*real_##name)(void *, size_t, size_t); \
-    static int frees_##name; \
-    EXPORT void name(void *memory, size_t size, size_t alignment) { \
-        if (!real_##name) real_##name = (void (*)(void *, size_t, size_t))dlsym(RTLD_NEXT, #name), frees_##name = is_of_allocator(real_##name); \
-        if (frees_##name) frees(memory); \
-        if (real_##name) real_##name(memory, size, alignment); \
-        else free(memory); \
-    }
-
-/* Returns whether a function belongs to the allocator whose `malloc_usable_size` is known. */
-static int is_of_allocator(void (*function)(void *, size_t, size_t)) {
-    Dl_info of_free, of_it;
-    return function && real_free && dladdr((void *)function, &of_it) && dladdr((void *)real_free, &of_free) &&
-           of_it.dli_fbase == of_free.dli_fbase;
-}
-
-DELETES(DELETE)
-
-void hide_unless_next(const char *name, void *own) {
-    Dl_info of_own, of_this;
-    ElfW(Sym) *symbol;
-    if (dlsym(RTLD_NEXT, name) || !dladdr1(own, &of_own, (void **)&symbol, RTLD_DL_SYMENT) || !symbol ||
-        !dladdr((void *)hide_unless_next, &of_this) || of_own.dli_fbase != of_this.dli_fbase) return;
-    uint64_t page = (uint64_t)sysconf(_SC_PAGESIZE), first = (uint64_t)symbol & -page, end = (uint64_t)(symbol + 1);
-    if (mprotect((void *)first, end - first, PROT_READ | PROT_WRITE)) return;
-    symbol->st_value = 0;
-    mprotect((void *)first, end - first, PROT_READ);
-}
-
-static void hide_deletes(void) {
-#define HIDE(name) hide_unless_next(#name, (void *)name);
-    DELETES(HIDE)
-}
-
-EXPORT int munmap(void *memory, size_t size) {
-    struct site none = {.count = 0};
-    if (page.ring && is_claimed && may_contain_lock((uint64_t)memory, size)) tell(R_FREE, memory, size, &none);
-    return REAL(munmap)(memory, size);
-}
-
 /* ---- for programs with locks of their own: agents/rust calls these, and states callers by numbers ---- */
 
 /* Returns the number of a caller that is not an address, or 0 if there is no room. */
@@ -689,10 +579,11 @@ EXPORT uint64_t goodlock_site(const char *text, uint32_t length) {
 /* The next calls of this thread are by this caller; 0: by their return addresses. */
 EXPORT void goodlock_state(uint64_t caller) { stated = caller; }
 
-/* The flags of a reader-writer lock are 256 times as large. */
+/* The flags of a reader-writer lock, and of what gives, are 256 times as large. */
 EXPORT void goodlock_record(uint32_t kind, uint64_t object, uint64_t caller) {
     struct site site = {.count = 1, .stack = (uint64_t)__builtin_frame_address(0), .callers = {caller}};
-    tell((enum kind)(kind % 256), (void *)object, site.stack | kind / 256 % (LOCK_FLAGS + 1), &site);
+    uint32_t flags = kind / 256 % (LOCK_FLAGS + 1);
+    tell((enum kind)(kind % 256), (void *)object, kind % 256 == R_GIVE ? flags : site.stack | flags, &site);
 }
 
 /* Before a blocking acquire, and with object 0 after it. */
@@ -744,6 +635,7 @@ static int claim(int starts_thread) {
 /* Another process is not in this trace, except if its parent has recorded nothing. */
 static void in_child(void) {
     tid = 0;
+    stop_values();
     page.ring = is_claimed ? NULL : mapped;
 }
 
@@ -772,6 +664,7 @@ __attribute__((constructor)) static void at_start(void) {
     find_libraries();
     if (!path) return;
     find_reals();
+    find_frees();
     find_starts();
     begin_stacks();
     struct ring *found = map_ring(path);
@@ -787,6 +680,7 @@ __attribute__((constructor)) static void at_start(void) {
     pthread_atfork(NULL, NULL, in_child);
     madvise(&page, sizeof page, MADV_WIPEONFORK);
     mapped = found;
+    note_values(found);
     if (found->owner && found->owner != (uint32_t)getpid()) return;
     found->attached = 1;
     begin_schedule(); /* its own calls are not recorded */

@@ -1,5 +1,6 @@
-/* Shared by the files of the recorder: recorder.c has the events and the calls of the C library, libraries.c those of other libraries, stacks.c
- * finds callers, titles.c has the names of threads, follow.c and pause.c what a run needs that follows a recorded one. */
+/* Shared by the files of the recorder: recorder.c has the events and the calls of the C library, libraries.c those of other libraries, frees.c
+ * the end of memory, stacks.c finds callers, titles.c has the names of threads, follow.c and pause.c what a run needs that follows a recorded
+ * one. The files in memory/ follow values; they are in one of the two recorders that `build` makes. */
 #define _GNU_SOURCE
 #include "ring.h"
 
@@ -18,6 +19,7 @@ struct site { uint32_t count; uint64_t stack, callers[MOST_FRAMES]; };
 /* A child by `fork`, `_Fork` or `clone` finds this page filled with zeros. ring: NULL if nothing is recorded. */
 extern struct page { struct ring *ring; char rest[4096 - sizeof(struct ring *)]; } page;
 extern struct ring *mapped;
+extern uint32_t is_claimed; /* by this process */
 extern THREAD_LOCAL uint32_t self;
 extern THREAD_LOCAL uint64_t stack_low, stack_high;
 extern THREAD_LOCAL uint64_t stated; /* the caller of this thread's next calls, if the program states it */
@@ -47,9 +49,13 @@ void has_waited(struct wait *wait);
 /* A library that the program loads for itself has a function of this name that RTLD_NEXT does not find. Then this library must not come before
  * it: the loader passes over a symbol without a value. */
 void hide_unless_next(const char *name, void *own);
-/* In libraries.c and programs.c. */
+/* In libraries.c, programs.c and frees.c. */
 void find_libraries(void);
 void find_starts(void);
+void find_frees(void);
+void hide_deletes(void);
+/* This memory has a lock. */
+void remember(uint64_t address);
 
 /* Whether this thread records. It is numbered from then on. */
 int is_recorded(void);
@@ -85,3 +91,45 @@ void end_lane(void);
 
 #define ENTER(kind, object, may_fail) (schedule ? enter(kind, (uint64_t)(object), &site, may_fail) : NULL)
 #define LEAVE(call) ((call) ? leave(call) : (void)0)
+
+/* ---- memory/: the values that threads read, in the recorder for programs with hooks ---- */
+
+#ifdef FOLLOWS_VALUES
+/* Before the first thread is created: what is written before is seen by all, since they are forked later. `number` is this thread. */
+void follow_values(uint32_t number);
+/* This process has this ring, and its recorder can follow values. */
+void note_values(struct ring *to);
+/* This thread has a number from now on; its function has ended. */
+void begin_values(uint32_t number);
+void end_values(void);
+/* Nothing is followed any more: this is another process. */
+void stop_values(void);
+int is_following_values(void);
+/* Before and after this thread draws the place of a record. */
+void settle_values(void);
+void count_record(int is_read);
+/* This memory is new, or is read or written by a library. */
+void forget_values(uint64_t from, uint64_t size);
+void touch_values(uint64_t from, uint64_t size, int writes);
+/* A library writes an atomic of eight bytes. */
+void publish_value(const void *at);
+/* The accesses of this thread are not followed between these two: they are those of a lock that the program annotates. */
+void hide_accesses(void);
+void show_accesses(void);
+/* Records R_SEES. The frame is that of the function which returns to the caller, or NULL if it has returned. */
+void tell_seen(uint64_t cell, void *caller, void *frame);
+#else
+static inline void follow_values(uint32_t number) { (void)number; }
+static inline void note_values(struct ring *to) { (void)to; }
+static inline void begin_values(uint32_t number) { (void)number; }
+static inline void end_values(void) {}
+static inline void stop_values(void) {}
+static inline int is_following_values(void) { return 0; }
+static inline void settle_values(void) {}
+static inline void count_record(int is_read) { (void)is_read; }
+static inline void forget_values(uint64_t from, uint64_t size) { (void)from, (void)size; }
+static inline void touch_values(uint64_t from, uint64_t size, int writes) { (void)from, (void)size, (void)writes; }
+static inline void publish_value(const void *at) { (void)at; }
+static inline void hide_accesses(void) {}
+static inline void show_accesses(void) {}
+#endif

@@ -80,10 +80,11 @@ static int is_blocked(pid_t process, const struct wait *wait) {
     unsigned long first = 0, operation, value, timeout = 1;
     if (!wait->tid || !read_task(process, wait->tid, "syscall", line, sizeof line)) return 0;
     was_readable = 1;
-    if (wait->kind == SPINS_FOR_LOCK) return !strncmp(line, "running", 7);
+    int is_running = !strncmp(line, "running", 7);
+    if (wait->kind == SPINS_FOR_LOCK || (wait->kind == WAITS_FOR_OWN_LOCK && is_running)) return is_running;
     if (sscanf(line, "%ld %lx %lx %lx %lx", &call, &first, &operation, &value, &timeout) != 5 || call != SYS_futex) return 0;
     if (options.is_python) return !timeout; /* the address of its lock is not known; a thread that waits for the interpreter has a timeout */
-    return wait->kind == WAITS_FOR_THREAD || (first >= wait->address && first - wait->address < LOCK_BYTES);
+    return wait->kind == WAITS_FOR_THREAD || wait->kind == WAITS_FOR_OWN_LOCK || (first >= wait->address && first - wait->address < LOCK_BYTES);
 }
 
 /* Looks once. Returns whether a deadlock is proven: it is the same in so many looks, one after another. */

@@ -96,6 +96,16 @@ void stream(uint8_t kind, uint32_t thread, uint32_t object) {
     if (count == BATCH) send_batch();
 }
 
+void stream_trace(const char *path) {
+    static const char kinds[] = "fjardw";
+    char line[PATHS], letter;
+    FILE *file = session < 0 ? NULL : fopen(path, "re");
+    uint32_t thread, object;
+    while (file && fgets(line, sizeof line, file))
+        if (sscanf(line, "%u%c%u", &thread, &letter, &object) == 3) stream((uint8_t)(strchr(kinds, letter) - kinds + 1), thread, object);
+    if (file) fclose(file);
+}
+
 void flush_stream(void) {
     send_batch();
     while (session >= 0 && in_flight) read_reply();

@@ -3,6 +3,7 @@
 #include "collector.h"
 
 enum { PATH = 2000, PAUSE = 100, LONG_PAUSE = 3000 };
+#define UNSEEN "unseen "
 struct site { struct entry entry; uint64_t callers[MOST_STACK]; uint32_t count, number; }; /* by a hash of its callers */
 struct module { uint64_t base, low, high; char *path; };
 
@@ -19,8 +20,7 @@ static void add_module(struct modules *to, uint64_t base, uint64_t low, uint64_t
     to->all[to->count++] = (struct module){base, low, high, path ? strdup(path) : NULL};
 }
 
-/* Reads the lines that the recorder has added to the text. */
-static void read_text(void) {
+void read_text(void) {
     uint32_t used = __atomic_load_n(&ring->text_used, __ATOMIC_ACQUIRE);
     unsigned long base, low, high;
     char line[PATH + 100], path[PATH];
@@ -31,7 +31,8 @@ static void read_text(void) {
         char *end = strchr(line, '\n');
         if (!end && size < sizeof line - 1) return;
         text_read += end ? (uint32_t)(end - line) + 1 : (uint32_t)size;
-        if (end && sscanf(line, "module %lx %lx %lx %1999[^\n]", &base, &low, &high, path) == 4) add_module(&told, base, low, high, path);
+        if (end && !strncmp(line, UNSEEN, sizeof UNSEEN - 1)) *end = 0, note_unseen(line + sizeof UNSEEN - 1);
+        else if (end && sscanf(line, "module %lx %lx %lx %1999[^\n]", &base, &low, &high, path) == 4) add_module(&told, base, low, high, path);
     }
 }
 

@@ -36,6 +36,7 @@ import time
 R_FORK, R_NAMED, R_START, R_UNSEEN, R_END, R_JOINS, R_JOINED, R_EXEC = range(1, 9)
 R_LOCK, R_TRIED, R_TIMED, R_UNLOCK = range(9, 13)
 R_GIVE, R_TAKE, R_NEW, R_FORGOTTEN, R_TITLE = 19, 20, 22, 25, 27
+BY_CONDITION = 2  # of R_GIVE
 WAITS_FOR_LOCK, WAITS_FOR_THREAD = 1, 2
 # The shared memory; collector.c tests that these are the offsets in ring.h.
 NEXT, MAGIC, CONSUMED, THREADS, OWNER, ATTACHED, OFF, FINISHED, SITES_USED, TEXT = 0, 8, 64, 128, 132, 144, 148, 152, 160, 164
@@ -271,10 +272,10 @@ def address_of(thing):
         return thing.goodlock_address.value
 
 
-def give(thing):
+def give(thing, by=0):
     """What this thread did is before what a receiver does."""
     call = enter(R_GIVE, address_of(thing))
-    recorder.record(R_GIVE, address_of(thing))
+    recorder.record(R_GIVE, address_of(thing), by)
     thing.goodlock_receivers = set()
     leave(call)
 
@@ -479,15 +480,20 @@ def always(_):
     return True
 
 
-def gives(real, means=itself):
+def gives(real, means=itself, by=0):
     """The call gives: what the caller did before is before what a receiver does. `means` returns the object that hands over."""
 
     def method(self, *args, **named):
         if not recorder.is_inside() and not is_of_the_library():
-            give(means(self))
+            give(means(self), by)
         return real(self, *args, **named)
 
     return method
+
+
+def notifies(real):
+    """The call gives, and a later section of the condition's lock comes after it, also if its thread does not wait."""
+    return gives(real, by=BY_CONDITION)
 
 
 def takes(real, has_received=bool, means=itself):
@@ -716,8 +722,8 @@ def attach(path, frames):
     patches.put(threading.Barrier, "wait", meets)
     patches.put(threading.Barrier, "abort", gives)
     patches.put(threading.Condition, "wait", waits_for_notice)
-    patches.put(threading.Condition, "notify", gives)
-    patches.put(threading.Condition, "notify_all", gives)
+    patches.put(threading.Condition, "notify", notifies)
+    patches.put(threading.Condition, "notify_all", notifies)
     return patches
 
 

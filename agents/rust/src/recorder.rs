@@ -6,9 +6,11 @@ use std::panic::Location;
 use std::sync::atomic::{AtomicU64, AtomicUsize, Ordering};
 use std::sync::OnceLock;
 
-/// Flags of `agents/pthread/ring.h`, as `goodlock_record` takes them: a reader does not wait; waiting writers keep readers out, as in std.
+/// Flags of `agents/pthread/ring.h`, as `goodlock_record` takes them: a reader does not wait; waiting writers keep readers out, as in std; a
+/// condition gives.
 const TRIED: u32 = 1 << 8;
 const WRITERS_FIRST: u32 = 4 << 8;
+const BY_CONDITION: u32 = 2 << 8;
 
 /// What is recorded: the kinds of `agents/pthread/ring.h`.
 #[derive(Clone, Copy)]
@@ -23,6 +25,7 @@ pub enum Kind {
     ReadTried = 16 | WRITERS_FIRST | TRIED,
     UnlockEither = 17,
     Give = 19,
+    Notify = 19 | BY_CONDITION,
     Take = 20,
     New = 22,
 }

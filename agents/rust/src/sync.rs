@@ -209,14 +209,14 @@ impl Condvar {
     /// As in std.
     #[track_caller]
     pub fn notify_one(&self) {
-        self.object.record(Kind::Give, Site::here());
+        self.object.record(Kind::Notify, Site::here());
         self.inner.notify_one();
     }
 
     /// As in std.
     #[track_caller]
     pub fn notify_all(&self) {
-        self.object.record(Kind::Give, Site::here());
+        self.object.record(Kind::Notify, Site::here());
         self.inner.notify_all();
     }
 
