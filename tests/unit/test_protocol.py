@@ -6,7 +6,7 @@ import threading
 import unittest
 
 from goodlock.dashboard.watch import Refusal, Watch
-from goodlock.protocol import (ACQUIRE, FORK, PLACED, REFUSED, EventRefused, Lost, Opened, Refused, Session, Status, batch_body,
+from goodlock.protocol import (ACQUIRE, FORK, PLACED, REFUSED, Batched, EventRefused, Lost, Opened, Refused, Session, Status, batch_body,
                                event_body, frame_of, split)
 
 FRAMES = "0009010000000000000001", "000903000000010000000a"
@@ -70,9 +70,9 @@ class Sends(unittest.TestCase):
             session.offer_batches([event] * 100)
         self.assertEqual((caught.exception.index, caught.exception.number), (69, 1))
 
-    def test_accepted(self) -> None:
+    def test_probe(self) -> None:
         session = self.session(("000b0a01020000000000000000", "00000007480006000003e8"))
-        self.assertEqual(session.accepted(), 1000)
+        self.assertEqual(session.probe(), Batched(0, 6, 1000))
 
     def test_questions(self) -> None:
         status = "0000002a46" "00000000" "0000000c" "00000001" "0000000a" "02" "00000002" "00000001" "0000000000000001" "0000000000000000"

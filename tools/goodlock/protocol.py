@@ -139,10 +139,10 @@ class Session:
         self.send(*(batch_body(window[at:at + MOST_IN_BATCH]) for at in starts))
         return [(at, Batched(*self.fields(*self.head(), BATCHED, ">BBI"))) for at in starts]
 
-    def accepted(self) -> int:
-        """Returns the number of accepted events, without a question: the reply to a batch has it. No batch in which thread 0 joins itself
-        is accepted, so this changes nothing."""
-        return self.offer_batch([(JOIN, 0, 0)]).length
+    def probe(self) -> Batched:
+        """Returns the number of accepted events as its length, without a question; the refusal is 1 if the trace is full. No batch in which
+        thread 0 joins itself is accepted, so this changes nothing."""
+        return self.offer_batch([(JOIN, 0, 0)])
 
     def offer_batch(self, events: list[RawEvent]) -> Batched:
         return Batched(*self.exchange(batch_body(events), BATCHED, ">BBI"))

@@ -5,13 +5,14 @@ import sys
 
 from goodlock.commandline import parser_of, run, whole_number
 from goodlock.config import add_no_config, parse_args
-from goodlock.dashboard.web import start, work_folder
+from goodlock.dashboard.web import start, start_windows, work_folder
 from goodlock.protocol import split
 
 HELP = """
 Open the printed address in a browser. The page shows the accepted events, asks questions with a
 bound that you choose, and draws the deadlocks of each settled question. Ctrl-C ends the dashboard;
-the server goes on. The dashboard is one of the 16 sessions of the server.
+the server goes on. The dashboard is one of the 16 sessions of the server. For operators it has
+/healthz, /metrics and /state: docs/operation.md describes them.
 
 With --bind, everyone who reaches the address can see the run and ask questions: there is no
 password and no encryption.
@@ -36,19 +37,27 @@ def address_of(word: str) -> str:
 
 def show() -> int:
     parser = parser_of("dashboard", __doc__, HELP)
-    parser.add_argument("address", type=address_of, metavar="ADDRESS", help="the server, as `goodlockd serve` prints it: 127.0.0.1:7070")
+    parser.add_argument("address", type=address_of, metavar="ADDRESS", nargs="?",
+                        help="the server, as `goodlockd serve` prints it: 127.0.0.1:7070")
     parser.add_argument("--port", type=whole_number(0, 65535), default=7071, metavar="P",
                         help="the port of the page, 0 for a free one; default 7071")
     parser.add_argument("--trace", metavar="FILE", help="the event file that the agent writes; it may not exist yet. With it the page "
                         "shows source lines, the order of events, and what keeps potential cycles apart")
     parser.add_argument("--bind", default="127.0.0.1", metavar="ADDRESS", help="listen at this address instead of the loopback")
+    parser.add_argument("--windows", metavar="FILE", help="instead of a server: shows the windows of a service, from the file windows.json that "
+                        "`tools/with_server --roll` writes")
     add_no_config(parser)
     args = parse_args(parser, "dashboard")
+    if bool(args.address) == bool(args.windows):
+        parser.error("one of ADDRESS and --windows FILE is needed")
+    if args.windows and args.trace:
+        parser.error("--trace is for ADDRESS: the file of --windows names the traces")
     for number in (signal.SIGTERM, signal.SIGHUP):
         signal.signal(number, signal.default_int_handler)
     with work_folder() as folder:
         try:
-            dashboard = start(args.address, args.trace, args.bind, args.port, folder)
+            dashboard = (start_windows(args.windows, args.bind, args.port, folder) if args.windows
+                         else start(args.address, args.trace, args.bind, args.port, folder))
         except OSError as fault:
             print(f"cannot listen on {args.bind}:{args.port}: {fault.strerror}; --port chooses another port", file=sys.stderr)
             return 1

@@ -1,6 +1,7 @@
 """Draws a trace and its report as one HTML file: for each cycle a ring of threads and locks, and under it a time line."""
 from goodlock.commandline import count, parser_of, print_whole, run, write_whole
 from goodlock.drawing.page import drawn_reports, page
+from goodlock.happened import head_notes
 from goodlock.reports import read_reports
 from goodlock.traces import Index, read_trace
 
@@ -20,7 +21,8 @@ def draw() -> None:
                              "ones first; a group is the cycles at the same code locations; 0 or more, default 20")
     args = parser.parse_args()
     index = Index(read_trace(args.trace))
-    whole = page(args.trace, index, drawn_reports(index, read_reports(args.report, index), args.cycles))
+    reports = drawn_reports(index, read_reports(args.report, index), args.cycles)
+    whole = page(args.trace, index, reports, head_notes(args.report))
     if args.html:
         write_whole(args.html, whole)
     else:

@@ -1,9 +1,11 @@
 // Reads the state every second and shows it; asks questions.
 const PERIOD = 1000;
 const STATES = { connecting: "connecting", connected: "connected", gone: "server gone", busy: "server busy", silent: "no reply",
-  other: "not goodlockd", ended: "dashboard ended" };
+  other: "not goodlockd", ended: "dashboard ended", over: "run ended" };
 const { token, instance } = document.documentElement.dataset;
+const NOTHING = { kind: "", text: "No question is settled yet" };
 let state = { connection: "connecting", run: 0 };
+let hasChosen = false; // a bound
 const asked = { key: null }; // the question that this page has asked and that is not settled
 
 const clock = (seconds) => new Date(1000 * seconds).toLocaleTimeString("en-GB");
@@ -23,7 +25,7 @@ function messageOf() {
   }
   if (state.connection !== "connected") {
     const seen = state.seen_at ? ` Shown is the state at ${clock(state.seen_at)}.` : "";
-    return `${state.message} Trying again every second.${seen}`;
+    return `${state.message}${state.connection === "over" ? "" : " Trying again every second."}${seen}`;
   }
   return state.restarted_at ? `The server has restarted at ${clock(state.restarted_at)}. Its earlier events and questions are gone.` : "";
 }
@@ -35,25 +37,40 @@ function drawConnection() {
   const message = messageOf();
   byId("message").hidden = !message;
   setText("message", message);
-  drawTitle();
+  drawVerdict();
   byId("ask-button").disabled = state.connection !== "connected";
 }
 
 function drawState() {
   drawConnection();
   setText("server", state.server);
+  byId("ask-part").hidden = state.windows;
+  setText("questions-title", state.windows ? "Windows" : "Questions");
+  byId("full").hidden = !state.full;
+  setText("full-events", inWords(state.accepted ?? 0));
+  byId("deadlock").hidden = !state.deadlock.length;
+  setText("deadlock-lines", state.deadlock.join("\n"));
   setText("hint", state.server);
-  byId("no-events").hidden = state.accepted !== 0;
+  byId("no-events").hidden = state.accepted !== 0 || state.windows;
   setText("accepted", state.accepted === null ? "–" : inWords(state.accepted));
   drawChart(state.rates);
   followReport(state.questions);
   drawQuestions(state.questions);
+  offerBound(state.questions);
 }
 
-function drawTitle() {
-  const most = Math.max(0, ...(state.questions ?? []).map((question) => question.confirmed));
-  const found = most ? `${inWords(most)} confirmed – ` : "";
+function drawVerdict() {
+  const verdict = state.verdict ?? NOTHING;
+  byId("verdict").className = verdict.kind ? `verdict ${verdict.kind}` : "faint";
+  setText("verdict", verdict.text);
+  const found = state.verdict ? `${verdict.text} – ` : "";
   document.title = (state.connection === "connected" ? found : `${STATES[state.connection]} – `) + "goodlockd";
+}
+
+// Offers the bound of the last question, until the user has chosen another one.
+function offerBound(questions) {
+  const last = questions[questions.length - 1];
+  if (last?.bound >= 2 && last.bound <= 8 && !hasChosen) byId("bound").value = last.bound;
 }
 
 async function look() {
@@ -95,4 +112,5 @@ async function watch() {
 }
 
 byId("ask").addEventListener("submit", ask);
+byId("bound").addEventListener("change", () => { hasChosen = true; });
 watch();

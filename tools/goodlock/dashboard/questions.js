@@ -2,6 +2,8 @@
 const rows = new Map();
 
 const keyOf = (question) => `${question.run}-question-${question.number}`;
+const nounOf = (question) => question.window === null ? "question" : "window";
+const titleCase = (word) => word[0].toUpperCase() + word.slice(1);
 const isSettled = (question) => question.delivered === question.total;
 const plural = (number, one) => `${inWords(number)} ${number === 1 ? one : one + "s"}`;
 
@@ -28,35 +30,44 @@ function newRow(question) {
   const make = (name, className = "") => Object.assign(document.createElement(name), { className });
   const row = { element: make("li"), what: make("span", "faint count"), done: make("span", "count"), found: make("span", "count") };
   row.bar = make("progress");
+  row.moving = make("span", "progress");
+  row.moving.append(row.bar);
   row.tasks = make("span", "faint count");
   row.button = make("button");
-  row.button.textContent = "Show report";
-  row.button.setAttribute("aria-label", `Show the report of question ${question.number}`);
+  row.button.setAttribute("aria-label", `Show the report of ${nounOf(question)} ${question.number}`);
   row.button.addEventListener("click", () => showReport(keyOf(question), true));
   const name = make("strong");
-  name.textContent = `Question ${question.number}`;
+  name.textContent = `${titleCase(nounOf(question))} ${question.number}`;
   row.bar.setAttribute("aria-label", `Progress of question ${question.number}`);
-  row.done.append(row.bar, row.tasks);
+  row.done.append(row.moving, row.tasks);
   row.element.append(name, row.what, row.done, row.found, row.button);
   return row;
 }
 
 function fillRow(row, question) {
   const settled = isSettled(question);
-  row.what.textContent = `${plural(question.length, "event")}, at most ${question.bound} threads`;
-  row.bar.hidden = settled;
+  const events = question.length || question.window === null ? plural(question.length, "event") : ""; // nobody counts those of a left out window
+  row.what.textContent = events + (question.bound ? `, at most ${question.bound} threads` : "");
+  row.moving.hidden = settled || question.window !== null;
   row.bar.max = Math.max(1, question.total);
   row.bar.value = question.delivered;
-  row.tasks.textContent = settled ? "settled" : `${inWords(question.delivered)} of ${plural(question.total, "task")}`;
+  const progress = `${inWords(question.delivered)} of ${plural(question.total, "task")}, ${inWords(question.seconds ?? 0)} s`;
+  row.tasks.textContent = question.window ?? (settled ? "settled" : progress);
   fillFound(row.found, question, settled);
   row.button.disabled = !settled;
-  row.element.classList.toggle("shown", keyOf(question) === shown.key);
-  row.element.setAttribute("aria-current", keyOf(question) === shown.key);
+  const isShown = keyOf(question) === shown.key;
+  row.button.textContent = isShown ? "Shown" : "Show report";
+  row.element.classList.toggle("shown", isShown);
+  row.element.setAttribute("aria-current", isShown);
 }
 
 function fillFound(element, question, settled) {
+  if (!question.bound) {
+    element.replaceChildren("not examined");
+    return;
+  }
   const confirmed = document.createElement("span");
   confirmed.textContent = `${inWords(question.confirmed)} confirmed`;
   confirmed.className = question.confirmed > 0 ? "confirmed-count" : "";
-  element.replaceChildren(`${plural(question.cycles, "cycle")}, `, confirmed, settled ? "" : " so far");
+  element.replaceChildren(`${plural(question.cycles, "cycle")}, `, confirmed, settled || question.window !== null ? "" : " so far");
 }

@@ -31,7 +31,7 @@ function clearReport() {
 
 function titleOf(key) {
   const [run, , number] = key.split("-");
-  return `Report of question ${number}${Number(run) === state.run ? "" : ", before the server restarted"}`;
+  return `Report of ${state.windows ? "window" : "question"} ${number}${Number(run) === state.run ? "" : ", before the server restarted"}`;
 }
 
 async function loadReport(key) {

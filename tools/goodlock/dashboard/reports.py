@@ -1,17 +1,16 @@
 """The reports of settled questions: fetches each from the server once, draws it, and makes the files to download."""
-import contextlib
+import json
 import os
-import re
+import signal
 import subprocess
 import sys
 import threading
 from dataclasses import dataclass
 from typing import Optional
 
-from goodlock.agent.run import Run
-from goodlock.agent.names import Names
-from goodlock.agent.sites import Sites, name_lines_of
+from goodlock.dashboard.files import TraceFile
 from goodlock.dashboard.watch import Refusal, Watch
+from goodlock.drawing.verdict import Line
 from goodlock.locations import top_of
 from goodlock.program import TOOLS, built_program
 from goodlock.reports import FEWER_EVENTS
@@ -19,61 +18,17 @@ from goodlock.reports import FEWER_EVENTS
 DRAW, SUMMARY = ("-m", "goodlock.dashboard.draw"), (os.path.join(TOOLS, "summary"), "--no-config")
 KINDS = {"report": "", "json": "--json", "sarif": "--sarif"}
 MOST_KEPT, TOO_LONG = 16, 23
-SITE = re.compile(rb"^# at ([0-9]{1,10})$", re.M)
-NO_TRACE = "Start the dashboard with --trace FILE to see source lines, the order of events, and what keeps potential cycles apart."
 LATER = "The trace file has fewer events than this report. The source lines and the order of events appear here when it has them."
-MISSING = "The trace file {} cannot be read. The source lines and the order of events appear here when it can."
+SLOW = "The drawing with the trace takes longer than {} s, so it is not shown. tools/picture draws it without a time limit."
+SECONDS_TO_DRAW = 120
 
 
 class NoReport(Exception):
     """There is no such report now. The text says why."""
 
 
-class TraceFile:
-    """The trace file. While an agent writes it, it has numbers instead of source lines, and may end within a line."""
-
-    def __init__(self, name: Optional[str], folder: str) -> None:
-        self.name, self.folder = name or "", folder
-        self.report = f"{self.name.removesuffix('.trace')}.report"
-
-    def lacks(self) -> str:
-        """Returns what to say if there is no copy."""
-        return MISSING.format(self.name) if self.name else NO_TRACE
-
-    def version(self, is_whole: bool) -> str:
-        """Returns a text that changes with the file, or if a drawing had all events it needs, when another file replaces this one."""
-        try:
-            found = os.stat(self.name)
-        except OSError:
-            return ""
-        with contextlib.suppress(OSError):  # says which cycles were reproduced
-            return f"{found.st_ino} {found.st_size if not is_whole else ''} {os.stat(self.report).st_ino}"
-        return f"{found.st_ino}" if is_whole else f"{found.st_ino} {found.st_size}"
-
-    def copy(self) -> Optional[str]:
-        """Copies the file, with source lines. Returns the name of the copy in the folder, or None if there is no file."""
-        try:
-            with open(self.name, "rb") as file:
-                text = file.read()
-        except OSError:
-            return None
-        name = os.path.basename(self.name)
-        path, run = os.path.join(self.folder, name), Run(self.name.removesuffix(".trace"))
-        is_growing = os.path.exists(run.work("sites"))
-        with open(path, "wb") as file:
-            file.write(text[:text.rfind(b"\n") + 1] if is_growing else text)
-        if is_growing and SITE.search(text):
-            with contextlib.suppress(ValueError):  # the file is not an agent's
-                name_lines_of(path, Sites(run, frames_of(run)), Names(run, 1))
-        return name
-
-
-def frames_of(run: Run) -> int:
-    """Returns how many callers the names of a run's sites have."""
-    try:
-        return run.summary()["frames"]
-    except OSError:
-        return 1
+class TooSlow(Exception):
+    """A tool was not done in time, and was ended."""
 
 
 @dataclass
@@ -81,6 +36,7 @@ class Drawing:
     """The drawing of a report, the version of the trace that it shows, and a note if it lacks the events of the trace."""
 
     html: str
+    verdict: Line
     note: str
     is_whole: bool
     version: str
@@ -94,19 +50,28 @@ class Reports:
         self.working = threading.Lock()
         self.drawings: dict[tuple[int, int], Drawing] = {}
         self.refused: dict[str, Refusal] = {}
+        self.revisions: dict[str, str] = {}  # of the files
         # the program's name may be relative to this folder
         self.environment = os.environ | {"GOODLOCKD_PROGRAM": built_program(), "PYTHONPATH": TOOLS}
 
     def version(self, run: int, number: int) -> str:
         """Returns a text that changes when the drawing of a report would."""
         kept = self.drawings.get((run, number))
-        return self.trace.version(bool(kept and kept.is_whole))
+        return f"{self.watch.revision(number)} {self.trace_of(number).version(bool(kept and kept.is_whole))}"
+
+    def trace_of(self, number: int) -> TraceFile:
+        """Returns the trace file of a question."""
+        return self.trace
+
+    def recorded(self) -> str:
+        """Returns the name of the trace file beside which the agent notes a deadlock."""
+        return self.trace.name
 
     def file(self, run: int, number: int) -> str:
         """Returns the name of a report's file in the folder. The server is asked for it until it has sent it or called it too long."""
         name = f"{run}-question-{number}.report"
-        path = os.path.join(self.folder, name)
-        if os.path.exists(path):
+        path, revision = os.path.join(self.folder, name), self.watch.revision(number)
+        if os.path.exists(path) and self.revisions.get(name, "") == revision:
             return name
         if name in self.refused:
             raise self.refused[name]
@@ -120,6 +85,7 @@ class Reports:
         if not is_there:
             raise NoReport("The question is not settled yet.")
         os.replace(f"{path}.part", path)
+        self.revisions[name] = revision
         return name
 
     def drawing(self, run: int, number: int) -> Drawing:
@@ -127,36 +93,47 @@ class Reports:
             path, kept = self.file(run, number), self.drawings.get((run, number))
             if kept and kept.version == self.version(run, number):
                 return kept
-            growing, whole = self.trace.version(False), self.trace.version(True)
-            html, note = self.draw(path)
+            trace, revision = self.trace_of(number), self.revisions.get(path, "")
+            growing, whole = trace.version(False), trace.version(True)
+            (html, verdict), note = self.draw(path, trace)
             while len(self.drawings) >= MOST_KEPT:
                 del self.drawings[next(iter(self.drawings))]
-            self.drawings[run, number] = Drawing(html, note, not note, growing if note else whole)
+            self.drawings[run, number] = Drawing(html, verdict, note, not note, f"{revision} {growing if note else whole}")
             return self.drawings[run, number]
 
-    def draw(self, path: str) -> tuple[str, str]:
-        """Returns the drawing of a report, and a note if it lacks the events of the trace."""
-        copy, note = self.trace.copy(), self.trace.lacks()
-        if copy:
-            made = self.execute(*DRAW, path, copy, os.path.abspath(self.trace.name))
-            if made.returncode == 0:
-                return made.stdout.decode(), ""
-            fault = last_line(made)
-            note = LATER if FEWER_EVENTS in fault else f"The trace file cannot be used. {fault}"
-        made = self.execute(*DRAW, path)
+    def draw(self, path: str, trace: TraceFile) -> tuple[tuple[str, Line], str]:
+        """Returns the drawing of a report with the verdict, and a note if it lacks the events of the trace."""
+        copy, note = trace.copy(), trace.lacks()
+        try:
+            if copy:
+                made = self.execute(*DRAW, path, copy, os.path.abspath(trace.name))
+                if made.returncode == 0:
+                    return parts_of(made), ""
+                fault = last_line(made)
+                note = LATER if FEWER_EVENTS in fault else f"The trace file cannot be used. {fault}"
+        except TooSlow:
+            note = SLOW.format(SECONDS_TO_DRAW)
+        try:
+            made = self.execute(*DRAW, path)
+        except TooSlow:
+            raise NoReport(f"The report cannot be drawn in {SECONDS_TO_DRAW} s.") from None
         if made.returncode:
             raise NoReport(f"The report cannot be drawn. {last_line(made)}")
-        return made.stdout.decode(), note
+        return parts_of(made), note
 
     def download(self, run: int, number: int, kind: str) -> str:
         """Returns the path of a file with the report, or with its summary as JSON or SARIF."""
         with self.working:
             name = self.file(run, number)
             if kind != "report":
-                copy = self.trace.copy()
+                trace = self.trace_of(number)
+                copy = trace.copy()
                 if copy is None:
-                    raise NoReport(self.trace.lacks())
-                made = self.execute(*SUMMARY, copy, name, KINDS[kind], "--root", top_of())
+                    raise NoReport(trace.lacks())
+                try:
+                    made = self.execute(*SUMMARY, copy, name, KINDS[kind], "--root", top_of())
+                except TooSlow:
+                    raise NoReport(f"The summary cannot be made in {SECONDS_TO_DRAW} s: tools/summary has no time limit.") from None
                 if made.returncode:
                     raise NoReport(f"There is no summary. {last_line(made)}")
                 name = f"{name.removesuffix('.report')}.{kind}"
@@ -165,9 +142,21 @@ class Reports:
             return os.path.join(self.folder, name)
 
     def execute(self, *args: str) -> subprocess.CompletedProcess[bytes]:
-        """Runs a tool in the folder. Ctrl-C in the terminal does not end it."""
-        return subprocess.run([sys.executable, *args], capture_output=True, cwd=self.folder, env=self.environment, check=False,
-                              start_new_session=True)
+        """Runs a tool in the folder, for SECONDS_TO_DRAW at most. Ctrl-C in the terminal does not end it."""
+        with subprocess.Popen([sys.executable, *args], stdout=subprocess.PIPE, stderr=subprocess.PIPE, cwd=self.folder, env=self.environment,
+                              start_new_session=True) as process:
+            try:
+                output, errors = process.communicate(timeout=SECONDS_TO_DRAW)
+            except subprocess.TimeoutExpired:
+                os.killpg(process.pid, signal.SIGKILL)  # its own processes too
+                raise TooSlow from None
+        return subprocess.CompletedProcess(args, process.returncode, output, errors)
+
+
+def parts_of(made: subprocess.CompletedProcess[bytes]) -> tuple[str, Line]:
+    """Returns what the drawing has printed."""
+    found = json.loads(made.stdout)
+    return found["html"], Line(*found["verdict"])
 
 
 def last_line(made: subprocess.CompletedProcess[bytes]) -> str:

@@ -21,14 +21,22 @@ from http.server import BaseHTTPRequestHandler, ThreadingHTTPServer
 from typing import Any, Optional
 from urllib.parse import urlsplit
 
+from goodlock.dashboard.files import notes_beside
+from goodlock.dashboard.metrics import FORM, metrics_text
 from goodlock.dashboard.reports import KINDS, NoReport, Reports
-from goodlock.dashboard.watch import Refusal, Watch
+from goodlock.dashboard.watch import Question, Refusal, Watch
+from goodlock.dashboard.windows import WindowReports, Windows
+from goodlock.drawing.page import STYLE
+from goodlock.drawing.verdict import PREDICTS, Line, verdict_of
+from goodlock.happened import deadlock_of
+from goodlock.locations import Root
 from goodlock.protocol import Lost
 
 HERE = os.path.dirname(os.path.abspath(__file__))
 SCRIPTS = ["chart.js", "questions.js", "report.js", "page.js"]
 LOOPBACK, ANY = {"127.0.0.1", "::1", "localhost"}, {"0.0.0.0", "::"}
 REPORT_PATH = re.compile(r"/(report|download)/([0-9]{1,9})-question-([0-9]{1,9})(?:\.([a-z]+))?")
+OUTER = re.compile(r"deadlock |thread [0-9]+ waits ")  # the lines that the others explain
 LONGEST_BODY, SECONDS_TO_SEND = 1000, 30
 
 
@@ -42,7 +50,7 @@ class Page:
 
     def __init__(self) -> None:
         self.token, self.instance, nonce = secrets.token_urlsafe(24), secrets.token_urlsafe(8), secrets.token_urlsafe(16)
-        parts = {"token": self.token, "instance": self.instance, "nonce": nonce, "style": text_of("page.css"),
+        parts = {"token": self.token, "instance": self.instance, "nonce": nonce, "style": text_of(STYLE) + text_of("page.css"),
                  "script": "\n".join(map(text_of, SCRIPTS))}
         self.bytes = re.sub(r"\{\{(\w+)\}\}", lambda match: parts[match[1]], text_of("page.html")).encode()
         self.policy = (f"default-src 'none'; script-src 'nonce-{nonce}'; style-src-elem 'nonce-{nonce}'; style-src-attr 'unsafe-inline'; "
@@ -63,6 +71,11 @@ class Handler(BaseHTTPRequestHandler):
             self.send("text/html; charset=utf-8", self.server.page.bytes)
         elif self.path == "/state":
             self.send_object(self.server.state())
+        elif self.path == "/metrics":
+            self.send(FORM, metrics_text(self.server.watch, bool(self.server.deadlock())).encode())
+        elif self.path == "/healthz":
+            fault = self.server.watch.fault()
+            self.refuse(503 if fault else 200, fault or "ok")
         elif (match := REPORT_PATH.fullmatch(self.path)) and match[1] == "report" and not match[4]:
             self.send_drawing(int(match[2]), int(match[3]))
         elif match and match[1] == "download" and match[4] in KINDS:
@@ -178,10 +191,33 @@ class Dashboard(ThreadingHTTPServer):
 
     def state(self) -> dict[str, object]:
         """Returns what the page shows, as one object. A settled question has the version of its drawing."""
-        view = self.watch.view
+        view, deadlock = self.watch.view, self.deadlock()
         questions = [question._asdict() | {"version": self.reports.version(question.run, question.number)}
                      for question in view["questions"]]
-        return {**view, "questions": questions, "instance": self.page.instance}
+        verdict = verdict_of(0, 0, 0, 0, 0, deadlock[0]) if deadlock else self.verdict(view["questions"], view["accepted"] or 0)
+        return {**view, "questions": questions, "instance": self.page.instance, "deadlock": deadlock, "verdict": verdict and verdict._asdict()}
+
+    def deadlock(self) -> list[str]:
+        """Returns the agent's lines about a deadlock that has happened; none if there was none."""
+        notes = notes_beside(self.reports.recorded())
+        result, others = deadlock_of(notes, Root())
+        return [note if OUTER.match(note) else f"  {note}" for note in notes if note not in others] if result else []
+
+    def verdict(self, questions: list[Question], accepted: int) -> Optional[Line]:
+        """Returns the strongest verdict of all questions, or None if nothing is known. One without a deadlock is that of the longest question."""
+        if isinstance(self.watch, Windows):
+            return self.watch.verdict()
+        known = [(self.verdict_on(question), question) for question in questions if question.is_settled or question.confirmed]
+        if not known:
+            return None
+        line, question = max(known, key=lambda pair: (pair[0].rank, pair[1].length, pair[1].bound))
+        part = f"The first {question.length:,} of {accepted:,} events predict"
+        return line if line.rank or question.length >= accepted else line._replace(text=line.text.replace(PREDICTS, part))
+
+    def verdict_on(self, question: Question) -> Line:
+        """Returns the verdict of the drawing of a question, or else what the server counts, which weighs no values."""
+        drawing = self.reports.drawings.get((question.run, question.number))
+        return drawing.verdict if drawing else verdict_of(question.length, question.bound, question.confirmed, 0, question.potential)
 
     def handle_error(self, request: Any, client_address: Any) -> None:
         """A browser that closes a connection is no error."""
@@ -200,8 +236,17 @@ def work_folder() -> Iterator[str]:
 def start(address: str, trace: Optional[str], bind: str, port: int, folder: str) -> Dashboard:
     """Starts to watch a server, and returns the dashboard, which listens. Its files are in the folder."""
     watch = Watch(address)
-    dashboard = Dashboard(bind, port, watch, Reports(watch, trace, folder))
-    threading.Thread(target=watch.watch, daemon=True).start()
+    return started(Dashboard(bind, port, watch, Reports(watch, trace, folder)))
+
+
+def start_windows(file: str, bind: str, port: int, folder: str) -> Dashboard:
+    """Starts to watch the windows of a service."""
+    windows = Windows(file)
+    return started(Dashboard(bind, port, windows, WindowReports(windows, None, folder)))
+
+
+def started(dashboard: Dashboard) -> Dashboard:
+    threading.Thread(target=dashboard.watch.watch, daemon=True).start()
     return dashboard
 
 

@@ -4,12 +4,13 @@ from dataclasses import dataclass
 from html import escape
 from typing import NamedTuple, Optional, Union
 
-from goodlock.drawing.shapes import APART, FAINT, INK, OTHER, STUCK, Value, drawing, fitting, shape, shorten, text
+from goodlock.drawing.shapes import APART, FAINT, GLYPH, INK, OTHER, SMALLEST, STUCK, Value, cut, drawing, fitting, shape, text, titled, two_lines
 from goodlock.reports import Member
-from goodlock.traces import Event, Index, description_of, source_of
+from goodlock.traces import VERBS, Event, Index, description_of, source_of
 
-GUTTER, HEAD, ROW, TALL_ROW, GAP_ROW, SCREEN = 58, 34, 31, 42, 26, 975
-NARROWEST, WIDEST, BETWEEN, MOST_DIGITS = 148, 168, 40, 7
+GUTTER, HEAD, ROW, TALL_ROW, GAP_ROW, SCREEN = 64, 46, 31, 42, 26, 1080
+NARROWEST, WIDEST, BETWEEN, MOST_DIGITS, TALL = 200, 230, 40, 7, 1000
+KINDS = {"f": "thread", "j": "thread", "a": "lock", "r": "lock"}
 
 
 class Shown(NamedTuple):
@@ -91,22 +92,38 @@ class TimeLine:
         return None
 
     def draw(self, title: str) -> str:
+        """Returns the drawing in a box that scrolls."""
         waiting = self.marks.waiting
         width = GUTTER + self.column * len(self.threads) + 12
         bottom = self.height + (self.row_height + 26 + 13 * len(waiting) if waiting else 6)
-        parts = [self.heads(), self.lanes(), self.bars(), *map(self.link, self.marks.links)]
+        heads = self.heads()
+        parts = [heads, self.lanes(), self.bars(), *map(self.link, self.marks.links)]
         parts += [self.row_drawn(row, top, width) for row, top in zip(self.rows, self.tops)]
         if waiting:
             parts.append(self.waits(width))
-        return drawing(self.name, width, bottom, parts, title)
+        # the same heads once more, over the first ones: they stay in sight while the reader scrolls
+        above = f' class="heads" aria-hidden="true" style="margin-bottom:-{HEAD}px"'
+        drawn = drawing("", width, HEAD, [heads], "", above) + drawing(self.name, width, bottom, parts, title)
+        is_tall = bottom > TALL
+        jump = f'<p><a href="#{self.name}stuck">Jump to the threads that wait</a></p>' if is_tall and waiting else ""
+        return f'{jump}<div class="scroll{" fits" if width <= SCREEN else ""}{" tall" if is_tall else ""}">{drawn}</div>'
 
     def heads(self) -> str:
         parts = []
         for thread in self.threads:
-            x, label = self.x_of(thread), f"thread {thread}"
-            parts.append(shape("rect", x=x - 48, y=4, width=96, height=26, rx=6, fill=INK))
-            parts.append(text(x, 21.5, label, fill="#ffffff", font_weight=600, font_size=fitting(label, 84, 13.0)))
+            x, width = self.x_of(thread), self.chip_width
+            parts.append(shape("rect", x=x - width / 2, y=4, width=width, height=36, rx=6, fill="head"))
+            parts.append(two_lines(x, 22, width - 12, "thread", thread, self.name_of("thread", thread), fill="on-head", weight=600))
         return "".join(parts)
+
+    def name_of(self, kind: str, number: int) -> Optional[str]:
+        return self.index.names.get((kind, number))
+
+    def label_of(self, event: Event) -> str:
+        """Returns what an event does, with the name of its thread or lock if it has one."""
+        kind = KINDS.get(event.letter, "")
+        name = self.name_of(kind, event.target)
+        return titled(kind, event.target, name, self.chip_width - 6, f"{VERBS[event.letter].split()[0]} ") if name else description_of(event)
 
     def lanes(self) -> str:
         """Draws a thin line for each thread, from its fork if the drawing shows it."""
@@ -115,7 +132,7 @@ class TimeLine:
             fork = self.index.fork_of.get(thread)
             begin = self.y_of(fork) if fork is not None and fork in self.order else None
             x = self.x_of(thread)
-            line: dict[str, Value] = {"stroke": "#d5dce2", "stroke_width": 2}
+            line: dict[str, Value] = {"stroke": "line", "stroke_width": 2}
             parts.append(shape("path", d=f"M{x} {begin or HEAD} V{end}", **line))
             if begin and fork is not None:
                 parts.append(shape("path", d=f"M{x} {HEAD} V{begin}", stroke_dasharray="1 5", **line))
@@ -128,7 +145,7 @@ class TimeLine:
             return ""
         side = 1 if x > self.x_of(parent) else -1
         path = f"M{self.x_of(parent) + side * self.chip_width / 2:.1f} {y:.1f} H{x - side * 3:.1f}"
-        return shape("path", d=path, fill="none", stroke=FAINT, stroke_width=1.3, marker_end=f"url(#{self.name}{FAINT[1:]})")
+        return shape("path", d=path, fill="none", stroke=FAINT, stroke_width=1.3, marker_end=f"url(#{self.name}{FAINT})")
 
     # ---- the locks that a thread holds ----
 
@@ -178,12 +195,12 @@ class TimeLine:
             return self.left_out(row.places, top, width)
         event, y = self.index.events[row.place], top + self.row_height / 2
         number = str(self.index.origin(row.place).number)
-        label = text(GUTTER - 14, y + 4, number, text_anchor="end", fill=FAINT, font_size=11 if len(number) <= MOST_DIGITS else 8)
+        label = text(GUTTER - 14, y + 4, number, text_anchor="end", fill=FAINT, font_size=SMALLEST if len(number) <= MOST_DIGITS else 8.5)
         return label + self.chip(row.place, event, y)
 
     def chip(self, place: int, event: Event, y: float) -> str:
-        x, height, label = self.x_of(event.thread), self.row_height - 8, description_of(event)
-        tip = shape("title", escape(f"{self.index.origin(place).title}: thread {event.thread} {label}{tip_of(event)}"))
+        x, height, label = self.x_of(event.thread), self.row_height - 8, self.label_of(event)
+        tip = shape("title", escape(f"{self.index.origin(place).title}: thread {event.thread} {description_of(event)}{tip_of(event)}"))
         box = shape("rect", tip, x=x - self.chip_width / 2, y=y - height / 2, width=self.chip_width, height=height, rx=5,
                     **self.edge(place, event))
         if not self.has_sources:
@@ -191,19 +208,19 @@ class TimeLine:
         return box + self.large(x, y - 2, label, INK) + self.small(x, y + 11, source_of(event))
 
     def edge(self, place: int, event: Event) -> dict[str, Value]:
-        fill = "#fff4dc" if place in self.marks.reasons else "#ffffff"
+        fill = "mark" if place in self.marks.reasons else "card"
         if place in self.marks.wanted:
             return {"fill": fill, "stroke": STUCK, "stroke_width": 2.2, "stroke_dasharray": "6 3"}
         if place in self.marks.reasons:
             return {"fill": fill, "stroke": APART, "stroke_width": 2.2}
         colour = self.colours.get(event.target) if event.letter in "ar" else None
-        return {"fill": fill, "stroke": colour or "#b8c3cc", "stroke_width": 1.4}
+        return {"fill": fill, "stroke": colour or OTHER, "stroke_width": 1.4}
 
     def large(self, x: float, y: float, label: str, colour: str, **how: Value) -> str:
         return text(x, y, label, fill=colour, font_size=fitting(label, self.chip_width - 6), **how)
 
     def small(self, x: float, y: float, label: str) -> str:
-        return text(x, y, shorten(label, int(self.chip_width / 5.2)), fill=FAINT, font_size=9.5)
+        return text(x, y, cut(label, int((self.chip_width - 6) / (GLYPH * SMALLEST))), fill=FAINT, font_size=SMALLEST)
 
     def left_out(self, places: list[int], top: float, width: float) -> str:
         y = top + GAP_ROW / 2
@@ -211,16 +228,16 @@ class TimeLine:
         whose = f"of thread {min(threads)}" if len(threads) == 1 else f"of {len(threads)} threads"
         first, last = self.index.origin(places[0]), self.index.origin(places[-1])
         label = f"⋯ {len(places):,} events {whose}, {'places ' if first.kind == 'place' else ''}{first.label} to {last.label}, left out ⋯"
-        band = shape("rect", x=GUTTER - 8, y=top + 3, width=width - GUTTER, height=GAP_ROW - 6, rx=4, fill="#eef2f5")
-        return band + text((GUTTER + width - 8) / 2, y + 4, label, fill="#5b6a77", font_size=11)
+        band = shape("rect", x=GUTTER - 8, y=top + 3, width=width - GUTTER, height=GAP_ROW - 6, rx=4, fill="soft")
+        return band + text((GUTTER + width - 8) / 2, y + 4, label, fill=FAINT, font_size=SMALLEST)
 
     # ---- the members that wait ----
 
     def waits(self, width: float) -> str:
         """Draws the waiting members, and from each an arrow to the thread that holds its lock."""
         top, deep, waiting, parts = self.height, self.row_height, self.marks.waiting, []
-        band = shape("rect", x=4, y=top - 1, width=width - 8, height=deep + 6, rx=6, fill="#fdeaea")
-        parts.append(text(GUTTER - 14, top + deep / 2 + 6, "stuck", text_anchor="end", fill=STUCK, font_weight=600, font_size=11))
+        band = shape("rect", id=f"{self.name}stuck", x=4, y=top - 1, width=width - 8, height=deep + 6, rx=6, fill="alarm")
+        parts.append(text(GUTTER - 14, top + deep / 2 + 6, "stuck", text_anchor="end", fill=STUCK, font_weight=600, font_size=SMALLEST))
         for at, member in enumerate(waiting):
             holder = waiting[(at + 1) % len(waiting)]
             parts.append(self.wait_chip(member, top + 2, deep))
@@ -236,9 +253,10 @@ class TimeLine:
         x, event, at = self.x_of(member.thread), self.index.events[member.place or 0], self.index.origin(member.place or 0).title
         tip = shape("title", escape(f"thread {member.thread} is before {at}{tip_of(event)}"))
         box = shape("rect", tip, x=x - self.chip_width / 2, y=top + 1, width=self.chip_width, height=height - 2, rx=5,
-                    fill="#ffffff", stroke=STUCK, stroke_width=2, stroke_dasharray="6 3")
-        label = self.large(x, top + 13, f"waits for lock {member.lock}", STUCK, font_weight=600)
-        return box + label + self.small(x, top + 24, f"at {at}") + self.small(x, top + 35, source_of(event))
+                    fill="card", stroke=STUCK, stroke_width=2, stroke_dasharray="6 3")
+        wanted = titled("lock", member.lock, self.name_of("lock", member.lock), self.chip_width - 6, "waits for ")
+        label = self.large(x, top + 13.5, wanted, STUCK, font_weight=600)
+        return box + label + self.small(x, top + 25.5, f"at {at}") + self.small(x, top + 37.5, source_of(event))
 
     def held_by(self, member: Member, holder: Member, begin: float, deep: float) -> str:
         held = [taken.lock if taken else None for taken in self.slots[holder.thread]]
@@ -247,7 +265,7 @@ class TimeLine:
         colour = self.colours.get(member.lock, OTHER)
         path = f"M{self.x_of(member.thread):.1f} {begin - 5} V{deep} H{end_x:.1f} V{begin}"
         return shape("path", d=path, fill="none", stroke=colour, stroke_width=2, stroke_linejoin="round",
-                     marker_end=f"url(#{self.name}{colour[1:]})")
+                     marker_end=f"url(#{self.name}{colour})")
 
     def link(self, link: Link) -> str:
         events = self.index.events
@@ -259,7 +277,7 @@ class TimeLine:
         out_x, in_x = x + side * self.chip_width / 2, to_x - side * (self.chip_width / 2 + 2)
         middle = (out_x + in_x) / 2
         path = f"M{out_x:.1f} {begin:.1f} C{middle:.1f} {begin:.1f} {middle:.1f} {end:.1f} {in_x:.1f} {end:.1f}"
-        return shape("path", d=path, fill="none", stroke=APART, stroke_width=2.2, marker_end=f"url(#{self.name}{APART[1:]})")
+        return shape("path", d=path, fill="none", stroke=APART, stroke_width=2.2, marker_end=f"url(#{self.name}{APART})")
 
 
 def tip_of(event: Event) -> str:
