@@ -31,7 +31,7 @@ MADE = {
     "desk/offer_batch": (1, "the error of `grow`, in the refusal of a batch"),
     "offline_report/part": (1, "the piece has no job, since its allocation failed"),
     "offline_report/compute": (1, "an earlier task of the question has failed for this reason"),
-    "question_server/run_threads": (1, "a thread could not be started"),
+    "question_server/run_threads": (2, "a thread could not be started"),
     "sequencer/lacks_memory": (1, "a pattern"),
     "sequencer/drain": (1, "the reply of the book reports it"),
     "sequencer/unshared": (1, "the rows were not shared, and their report is not too long"),

@@ -37,12 +37,9 @@ sessions_rule = or_else (number_option (codes "sessions") 0 1_000_000) (codes "0
 abbrev pub idle_rule : Rule
 idle_rule = or_else (number_option (codes "idle") 0 86_400) (codes "0")
 
--- a flag
-abbrev pub stop_rule : Rule
-stop_rule = record (new_rule (codes "stop-at-eof")) {
-  long = Some (codes "stop-at-eof");
-  action = Some SetTrue;
-}
+-- a flag `--id`
+abbrev pub flag_rule : Text → Rule
+flag_rule id = record (new_rule id) { long = Some id; action = Some SetTrue }
 
 abbrev pub bound_rule : Rule
 bound_rule = record (number_option (codes "bound") 2 8) { required = true }
@@ -57,7 +54,8 @@ sized_serve_app = with_rule (with_rule (with_rule (with_rule (new_app (codes "se
 
 -- the commands, each with its arguments in the order of their words
 abbrev pub serve_app : App
-serve_app = with_rule (with_rule sized_serve_app idle_rule) stop_rule
+serve_app = with_rule (with_rule (with_rule sized_serve_app idle_rule)
+    (flag_rule (codes "stop-at-eof"))) (flag_rule (codes "log"))
 
 abbrev pub script_app : App
 script_app = with_rule (with_rule (new_app (codes "script")) (positional (codes "file"))) limit_rule
@@ -111,7 +109,7 @@ SaysFlag rows id flag = (one_of id rows ≡ Some (codes "true") → flag ≡ tru
 
 -- the name of a command
 abbrev pub command_name : Invocation → Text
-command_name (Serve address workers sessions limit idle stop) = codes "serve"
+command_name (Serve address workers sessions limit idle stop log) = codes "serve"
 command_name (Script file limit) = codes "script"
 command_name (Offline file bound) = codes "offline"
 command_name (Replay trace witness) = codes "replay"
@@ -120,10 +118,11 @@ command_name (Check trace file) = codes "check"
 
 -- each text and number of the command is that of its argument
 abbrev pub SaysCommand : List Row → Invocation → Type 0
-SaysCommand rows (Serve address workers sessions limit idle stop) =
+SaysCommand rows (Serve address workers sessions limit idle stop log) =
     SaysText rows (codes "address") address × SaysNumber rows (codes "workers") workers
     × SaysNumber rows (codes "sessions") sessions × SaysNumber rows (codes "limit") limit
     × SaysNumber rows (codes "idle") idle × SaysFlag rows (codes "stop-at-eof") stop
+    × SaysFlag rows (codes "log") log
 SaysCommand rows (Script file limit) =
     SaysText rows (codes "file") file × SaysNumber rows (codes "limit") limit
 SaysCommand rows (Offline file bound) =

@@ -8,7 +8,7 @@ mod words;
 ghost use Rattle.std.specs.Prelude.{◌≡◌, ◌≤◌, false, true, IfOk, IfSome, Ok, codes, map, option_map};
 ghost use Rattle.clap.specs.Words.{app_of, first_of, found_of, rows_of, rule_of, subcommand_rows_of};
 ghost use Rattle.command_line.specs.CommandLine.{IsInClosedRange, HasNumbersInRange};
-ghost use Rattle.command_line.specs.Program.{SaysFlag, SaysInvocation, SaysMatches, SaysNamed, SaysNumber, TakesCommand, bound_rule, check_app, cycle_rule, explain_app, goodlockd, idle_rule, limit_rule, bare_app, offline_app, positional, number_option, replay_app, script_app, serve_app, sessions_rule, sized_serve_app, stop_rule, workers_rule};
+ghost use Rattle.command_line.specs.Program.{SaysFlag, SaysInvocation, SaysMatches, SaysNamed, SaysNumber, TakesCommand, bound_rule, check_app, cycle_rule, explain_app, flag_rule, goodlockd, idle_rule, limit_rule, bare_app, offline_app, positional, number_option, replay_app, script_app, serve_app, sessions_rule, sized_serve_app, workers_rule};
 
 use clap::error::ErrorKind;
 use clap::{Arg, ArgAction, ArgMatches, Command, Error, value_parser};
@@ -21,7 +21,7 @@ pub enum Invocation<'a> {
     /// Serve at an address, with 1 to 16 workers, for `sessions` sessions (0: without end, at most
     /// 1,000,000), over a book that accepts at most `limit` events (1 to 1,048,576). A session that
     /// is idle for `idle` seconds (0: never, at most 86,400) is closed. With `stop_at_eof` the
-    /// server ends when standard input does.
+    /// server ends when standard input does. With `log` it writes a log to standard error.
     Serve {
         address: &'a str,
         workers: u32,
@@ -29,6 +29,7 @@ pub enum Invocation<'a> {
         limit: u32,
         idle: u32,
         stop_at_eof: bool,
+        log: bool,
     },
     /// Run a script over a book that accepts at most `limit` events (1 to 1,048,576).
     Script {
@@ -117,14 +118,15 @@ fn idle<'a>(alloc: Global) -> Arg<'a>
         .default_value("0")
 }
 
-fn stop_at_eof<'a>(alloc: Global) -> Arg<'a>
-    ensures rule { rule_of result ≡ stop_rule }
+/// Returns a flag `--id`.
+fn flag<'a>(alloc: Global, id: &'a str, help: &'a str) -> Arg<'a>
+    ensures rule { rule_of result ≡ flag_rule id.entry.now }
     ensures local { result.global ≡ false }
 {
-    Arg::new(alloc, "stop-at-eof")
-        .long("stop-at-eof")
+    Arg::new(alloc, id)
+        .long(id)
         .action(ArgAction::SetTrue)
-        .help("End when standard input ends; open sessions have 5 seconds")
+        .help(help)
 }
 
 fn bound<'a>(alloc: Global) -> Arg<'a>
@@ -168,7 +170,12 @@ fn serve<'a>(alloc: Global) -> Result<Command<'a>, AllocError>
 {
     sized_serve(alloc)?
         .arg(idle(alloc))?
-        .arg(stop_at_eof(alloc))
+        .arg(flag(
+            alloc,
+            "stop-at-eof",
+            "End when standard input ends; open sessions have 5 seconds",
+        ))?
+        .arg(flag(alloc, "log", "Log sessions and questions to standard error"))
 }
 
 fn script<'a>(alloc: Global) -> Result<Command<'a>, AllocError>
@@ -285,6 +292,7 @@ fn chosen_serve<'a>(given: &ArgMatches<'a>) -> Option<Invocation<'a>>
         limit: number_argument(given, "limit", 1, 1_048_576)?,
         idle: number_argument(given, "idle", 0, 86_400)?,
         stop_at_eof: flag_argument(given, "stop-at-eof"),
+        log: flag_argument(given, "log"),
     })
 }
 

@@ -84,4 +84,4 @@ pub not_understood : (file : List ℕ) (limit : ℕ) (before : Option (List ℕ)
 not_understood file limit before (Line number) refused = ((number, refused), refl)
 not_understood file limit before (Merged number) refused = absurd refused
 not_understood file limit before Memory refused = cut_none before (λ text. (status : Status) × ScriptPrints file limit status text)
-not_understood file limit before Output refused = absurd refused
+not_understood file limit before (Output reason) refused = absurd refused

@@ -31,7 +31,7 @@ abbrev pub RefusesFile : List ℕ → CommandError → Type 0
 RefusesFile file (Line number) = IsFirstBadIn file number
 RefusesFile file (Merged number) = ⊥
 RefusesFile file Memory = Unit {0}
-RefusesFile file Output = ⊥
+RefusesFile file (Output reason) = ⊥
 
 -- the line that reports the first unlawful event
 abbrev pub refused_at_line : FirstUnlawful → List ℕ

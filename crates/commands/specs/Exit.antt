@@ -32,4 +32,4 @@ abbrev pub error_status : CommandError → Status
 error_status (Line number) = NotUnderstood
 error_status (Merged number) = NotUnderstood
 error_status Memory = Error
-error_status Output = Error
+error_status (Output reason) = Error

@@ -87,4 +87,4 @@ abbrev pub RefusesCommands : List (List ℕ) → CommandError → Type 0
 RefusesCommands lines (Line number) = IsFirstBadLine lines number
 RefusesCommands lines (Merged number) = ⊥
 RefusesCommands lines Memory = Unit {0}
-RefusesCommands lines Output = ⊥
+RefusesCommands lines (Output reason) = ⊥

@@ -48,8 +48,8 @@ pub enum CommandError {
     Merged(usize),
     /// An allocation failed.
     Memory,
-    /// A write to standard output failed.
-    Output,
+    /// A write to standard output failed, with this error.
+    Output(io::Error),
 }
 
 impl From<NoMemory> for CommandError {
@@ -96,10 +96,10 @@ impl From<io::Error> for CommandError {
     ghost use Rattle.std.specs.Prelude.{◌≡◌};
     ghost use Rattle.commands.specs.declared.exit.CommandError.TheVariants.{Output};
 
-    ghost from_gives = { λ _ error. error ≡ Output };
+    ghost from_gives = { λ reason error. error ≡ Output reason };
 
-    fn from(_error: io::Error) -> CommandError {
-        CommandError::Output
+    fn from(reason: io::Error) -> CommandError {
+        CommandError::Output(reason)
     }
 }
 
@@ -129,9 +129,22 @@ impl CommandError {
                 let _ = writeln!(err, "no memory");
                 Status::Error
             }
-            CommandError::Output => Status::Error,
+            CommandError::Output(reason) => report_output(reason, err),
         }
     }
+}
+
+/// Writes the error message about a failed write to standard output, with the system's reason, to
+/// `err`, and returns the exit status. The reader of a broken pipe wants no more, so that is no
+/// message.
+fn report_output<E: Write>(reason: &io::Error, err: &mut E) -> Status
+    ensures { result ≡ Error }
+{
+    if reason.kind() != io::ErrorKind::BrokenPipe {
+        let _ = writeln!(err, "cannot write to standard output");
+        let _ = writeln!(err, "{reason}");
+    }
+    Status::Error
 }
 
 /// Returns the status of a command, after an error message about the file `name` if it failed.
@@ -146,6 +159,13 @@ pub(crate) fn reported<E: Write>(
         Ok(status) => status,
         Err(error) => error.report(name, err),
     }
+}
+
+/// Returns the error of a writer that writes nothing.
+fn no_progress() -> CommandError
+    ensures { error_status result ≡ Error }
+{
+    CommandError::Output(io::Error::from(io::ErrorKind::WriteZero))
 }
 
 /// Writes the bytes from index `start` on once. Returns how many of them were written, which is 0
@@ -163,10 +183,10 @@ fn write_from<O: Write>(out: &mut O, bytes: &[u8], start: usize) -> Result<usize
     ensures failed { IfErr result (λ error. error_status error ≡ Error) }
 {
     match out.write(&bytes[start..]) {
-        Ok(0) => Err(CommandError::Output),
+        Ok(0) => Err(no_progress()),
         Ok(count) => Ok(count),
         Err(error) if error.kind() == io::ErrorKind::Interrupted => Ok(0),
-        Err(_) => Err(CommandError::Output),
+        Err(error) => Err(CommandError::Output(error)),
     }
 }
 
@@ -187,7 +207,7 @@ pub(crate) fn write_bytes<O: Write>(out: &mut O, bytes: &[u8]) -> Result<(), Com
         }
         at += write_from(out, bytes, at)?;
     }
-    Err(CommandError::Output)
+    Err(no_progress())
 }
 
 /// Writes the whole text to `out` and flushes it. Returns the status.
@@ -210,17 +230,20 @@ pub(crate) fn write_text<O: Write>(
 }
 
 /// Returns the status that the program ends with: the command's own, or `Error` after an I/O error.
-/// If an allocation failed, standard error gets `no memory`.
+/// Standard error gets `no memory` if an allocation failed, else the system's reason. It gets
+/// nothing if standard output is a broken pipe.
 pub fn final_status(rt: &HostRuntime, ran: io::Result<Status>) -> Status
     ensures { MatchResult ran (λ status. result ≡ status) (λ _. result ≡ Error) }
 {
     match ran {
         Ok(status) => status,
         Err(error) => {
-            if error.kind() == io::ErrorKind::OutOfMemory {
-                // There is no other place to report a failed write to standard error.
-                let _ = eprintln!(rt; "no memory");
-            }
+            // There is no other place to report a failed write to standard error.
+            let _ = match error.kind() {
+                io::ErrorKind::OutOfMemory => eprintln!(rt; "no memory"),
+                io::ErrorKind::BrokenPipe => Ok(()),
+                _ => eprintln!(rt; "a system call failed\n{error}"),
+            };
             Status::Error
         }
     }

@@ -10,6 +10,8 @@ use commands::{
     script_file,
 };
 use findings::RunOn;
+use log::Log;
+use log::sink::Console;
 use question_server::{ServerError, Service, close_at_end, run_server};
 use std::alloc::{AllocError, Global};
 use std::hash::RandomState;
@@ -42,13 +44,14 @@ fn listen(rt: &HostRuntime, address: &str) -> io::Result<Option<TcpListener>> {
 }
 
 /// Runs the server, and prints the number of sessions at its end.
-fn serve<T: Threads + Wait + Clock + Copy + Send + Sync>(
+fn serve<T: Threads + Wait + Clock + Copy + Send + Sync, L: Log + Sync>(
     rt: &HostRuntime,
     threads: T,
     address: &str,
     listener: &TcpListener,
     service: Service,
     closing: &AtomicU64,
+    log: &L,
 ) -> io::Result<Status>
     requires limit { IsLimitNumber service.limit }
     requires workers { IsInClosedRange 1 16 service.workers }
@@ -62,6 +65,7 @@ fn serve<T: Threads + Wait + Clock + Copy + Send + Sync>(
         service,
         &RunOn,
         closing,
+        log,
     ) {
         Ok(sessions) => {
             println!(rt; "served {sessions}")?;
@@ -94,6 +98,7 @@ fn serve_at<T: Threads + Wait + Clock + Copy + Send + Sync>(
     address: &str,
     service: Service,
     stop_at_eof: bool,
+    log: bool,
 ) -> io::Result<Status>
     requires limit { IsLimitNumber service.limit }
     requires workers { IsInClosedRange 1 16 service.workers }
@@ -109,7 +114,9 @@ fn serve_at<T: Threads + Wait + Clock + Copy + Send + Sync>(
         listener.set_nonblocking(true)?;
         watch_input(rt, &threads, &closing)?;
     }
-    serve(rt, threads, address, &listener, service, &closing)
+    let console = if log { Some(Console(*rt)) } else { None };
+    let log = console.with_target("goodlockd");
+    serve(rt, threads, address, &listener, service, &closing, &log)
 }
 
 /// Returns the words of the command line, or `None` after an error message if one is not UTF-8.
@@ -152,6 +159,7 @@ fn run<T: Threads + Wait + Clock + Copy + Send + Sync>(
             limit,
             idle,
             stop_at_eof,
+            log,
         } => {
             let service = Service {
                 workers,
@@ -159,7 +167,7 @@ fn run<T: Threads + Wait + Clock + Copy + Send + Sync>(
                 limit,
                 idle,
             };
-            serve_at(rt, threads, address, service, stop_at_eof)
+            serve_at(rt, threads, address, service, stop_at_eof, log)
         }
         Invocation::Script { file, limit } => script_file(rt, file, limit),
         Invocation::Offline { file, bound } => offline_file(rt, &threads, file, bound),

@@ -1,6 +1,6 @@
 //! A session over a socket.
 use sequencer::Calls;
-use sessions::{Ended, ReadSource, WriteSink, serve};
+use sessions::{Ended, ReadSource, ServeFault, WriteSink, serve};
 use std::alloc::Global;
 use std::io::Read;
 use std::net::{Shutdown, TcpStream};
@@ -40,20 +40,22 @@ fn limit_idleness(stream: &TcpStream, seconds: u32) {
 }
 
 /// Answers the requests of the stream until it ends, has a fault, or is idle for `idle` seconds (0:
-/// for any time).
+/// for any time). Returns how the session ended.
 pub fn handle_connection<R: Wait, C: Calls>(
     rt: &R,
     alloc: Global,
     stream: &TcpStream,
     idle: u32,
     calls: &mut C,
-) {
+) -> Result<Ended, ServeFault> {
     // If this fails replies are delayed, but right.
     let _ = stream.set_nodelay(true);
     limit_idleness(stream, idle);
     let mut source = ReadSource::new(stream);
     let mut sink = WriteSink::new(stream);
-    if let Ok(Ended::Frame(_)) = serve(rt, alloc, &mut source, &mut sink, calls) {
+    let ended = serve(rt, alloc, &mut source, &mut sink, calls);
+    if let Ok(Ended::Frame(_)) = ended {
         linger(stream);
     }
+    ended
 }

@@ -8,10 +8,12 @@ mod backoff;
 mod closing;
 mod connections;
 mod handle_pool;
+mod question_log;
 mod seats;
 mod server_tasks;
 mod service;
 mod serving;
+mod session_log;
 
 pub use closing::close_at_end;
 pub use desk::Client;

@@ -8,9 +8,11 @@ use crate::handle_pool::HandlePool;
 use crate::seats::{MAX_SEATS, Seats};
 use crate::server_tasks::{DeskTasks, ServerTasks};
 use crate::service::{ServerError, Service};
+use crate::session_log::{log_failed_accept, log_turned_away};
 use board::{BoardState, HistoryId, NewHistory};
 use desk::Desk;
 use findings::Hold;
+use log::{Level, Log, log_enabled};
 use std::alloc::Global;
 use std::hash::RandomState;
 use std::marker::Brand;
@@ -56,11 +58,40 @@ fn seat_for<R: Wait>(
     Some((stream, seat))
 }
 
+/// Returns the stream of an accept, or `None` after a pause if the server can accept again.
+///
+/// # Errors
+///
+/// `Listen` if the listener accepts nothing any more.
+fn accepted_stream<R: Clock, L: Log>(
+    rt: &R,
+    accepted: io::Result<TcpStream>,
+    pause: &mut Pause,
+    log: &L,
+) -> Result<Option<TcpStream>, ServerError> {
+    match accepted {
+        Ok(stream) => {
+            *pause = Pause::new();
+            Ok(Some(stream))
+        }
+        Err(error) if is_of_listener(&error) => Err(ServerError::Listen),
+        Err(error) if error.kind() == io::ErrorKind::WouldBlock => {
+            thread::sleep(rt, Duration::from_millis(POLL_MILLIS));
+            Ok(None)
+        }
+        Err(error) => {
+            log_failed_accept(log, &error);
+            pause.pause(rt);
+            Ok(None)
+        }
+    }
+}
+
 /// Serves up to `most` sessions, each in its own thread, and returns their number once they have
 /// ended. A connection without a seat or without a thread is closed and not counted. After an
 /// accept that failed for another reason than the listener it pauses, and goes on. If the server
 /// must end, it accepts no more, and ends the open sessions.
-fn take_sessions<R: Threads + Wait + Clock + Copy + Send + Sync, D: ServerTasks>(
+fn take_sessions<R: Threads + Wait + Clock + Copy + Send + Sync, D: ServerTasks, L: Log + Sync>(
     rt: R,
     alloc: Global,
     listener: &TcpListener,
@@ -68,6 +99,7 @@ fn take_sessions<R: Threads + Wait + Clock + Copy + Send + Sync, D: ServerTasks>
     closing: &AtomicU64,
     seats: &Mutex<Seats>,
     server_tasks: &D,
+    log: &L,
 ) -> Result<u64, ServerError> {
     thread::scope(thread::scope_env(), &rt, |scope| {
         let mut taken = 0u64;
@@ -76,31 +108,24 @@ fn take_sessions<R: Threads + Wait + Clock + Copy + Send + Sync, D: ServerTasks>
             if closing.load(Ordering::SeqCst) != 0 {
                 break;
             }
-            let stream = match accepted {
-                Ok(stream) => stream,
-                Err(error) if is_of_listener(&error) => return Err(ServerError::Listen),
-                Err(error) if error.kind() == io::ErrorKind::WouldBlock => {
-                    thread::sleep(&rt, Duration::from_millis(POLL_MILLIS));
-                    continue;
-                }
-                Err(_) => {
-                    pause.pause(&rt);
-                    continue;
-                }
-            };
-            pause = Pause::new();
-            let Some((stream, seat)) = seat_for(&rt, alloc, stream, seats) else {
+            let Some(stream) = accepted_stream(&rt, accepted, &mut pause, log)? else {
                 continue;
             };
+            let Some((stream, seat)) = seat_for(&rt, alloc, stream, seats) else {
+                log_turned_away(log);
+                continue;
+            };
+            let number = taken.saturating_add(1);
             let session = move || {
-                server_tasks.run_session(&stream);
+                server_tasks.run_session(number, &stream);
                 seats.lock(&rt).leave(seat);
             };
             if scope.spawn(session).is_err() {
+                log_turned_away(log);
                 seats.lock(&rt).leave(seat);
                 continue;
             }
-            taken = taken.saturating_add(1);
+            taken = number;
             if taken == most {
                 return Ok(taken);
             }
@@ -110,8 +135,9 @@ fn take_sessions<R: Threads + Wait + Clock + Copy + Send + Sync, D: ServerTasks>
     })
 }
 
-/// Runs the workers and serves sessions. Stops the workers once the sessions have ended.
-fn run_threads<R: Threads + Wait + Clock + Copy + Send + Sync, D: ServerTasks>(
+/// Runs the workers, and a thread for the log if it is on, and serves sessions. Stops the other
+/// threads once the sessions have ended.
+fn run_threads<R: Threads + Wait + Clock + Copy + Send + Sync, D: ServerTasks, L: Log + Sync>(
     rt: R,
     alloc: Global,
     listener: &TcpListener,
@@ -120,6 +146,7 @@ fn run_threads<R: Threads + Wait + Clock + Copy + Send + Sync, D: ServerTasks>(
     closing: &AtomicU64,
     seats: &Mutex<Seats>,
     server_tasks: &D,
+    log: &L,
 ) -> Result<u64, ServerError> {
     thread::scope(thread::scope_env(), &rt, |scope| {
         for _ in 0..service.workers {
@@ -127,6 +154,12 @@ fn run_threads<R: Threads + Wait + Clock + Copy + Send + Sync, D: ServerTasks>(
                 stop.store(1, Ordering::SeqCst);
                 return Err(ServerError::NotMade);
             }
+        }
+        if log_enabled!(log; Level::Info)
+            && scope.spawn(move || server_tasks.log_questions()).is_err()
+        {
+            stop.store(1, Ordering::SeqCst);
+            return Err(ServerError::NotMade);
         }
         let served = take_sessions(
             rt,
@@ -136,6 +169,7 @@ fn run_threads<R: Threads + Wait + Clock + Copy + Send + Sync, D: ServerTasks>(
             closing,
             seats,
             server_tasks,
+            log,
         );
         stop.store(1, Ordering::SeqCst);
         served
@@ -147,6 +181,7 @@ fn serve_desk<
     N: HistoryId + Send + Sync,
     R: Threads + Wait + Clock + Copy + Send + Sync,
     H: Hold + Sync,
+    L: Log + Sync,
 >(
     rt: R,
     alloc: Global,
@@ -156,6 +191,7 @@ fn serve_desk<
     handle_pool: &Mutex<HandlePool<N>>,
     hold: &H,
     closing: &AtomicU64,
+    log: &L,
 ) -> Result<u64, ServerError> {
     let Ok(seats) = Seats::new(alloc) else {
         return Err(ServerError::NotMade);
@@ -168,6 +204,7 @@ fn serve_desk<
         handle_pool,
         hold,
         idle: service.idle,
+        log,
         stop: &stop,
     };
     let seats = Mutex::new(seats);
@@ -180,6 +217,7 @@ fn serve_desk<
         closing,
         &seats,
         &server_tasks,
+        log,
     )
 }
 
@@ -188,6 +226,7 @@ fn serve_named<
     N: HistoryId + Send + Sync,
     R: Threads + Wait + Clock + Copy + Send + Sync,
     H: Hold + Sync,
+    L: Log + Sync,
 >(
     rt: R,
     alloc: Global,
@@ -197,12 +236,14 @@ fn serve_named<
     service: Service,
     hold: &H,
     closing: &AtomicU64,
+    log: &L,
 ) -> Result<u64, ServerError>
     requires book { history.seen.book ≡ N.book }
     requires limit { service.limit ≡ N.limit }
     requires workers { IsWorkers service.workers }
 {
-    let count = MAX_SEATS + service.workers as usize;
+    // The log has a reader of its own.
+    let count = MAX_SEATS + service.workers as usize + 1;
     let Ok((desk, readers)) = Desk::<N, R, BoardState<N>>::new(
         alloc,
         state,
@@ -229,6 +270,7 @@ fn serve_named<
                 &handle_pool,
                 hold,
                 closing,
+                log,
             );
             drop(handle_pool);
             served
@@ -252,11 +294,15 @@ fn serve_named<
 /// that failed, but not by an error of the listener, is tried again after 2 milliseconds, and after
 /// twice as long each further time, up to a second.
 ///
+/// The log gets the beginning and the end of each session, the question and the end of each
+/// question, each failed accept, and each connection that is closed without a session. It is
+/// passed as a `log::Log` that may be off; then nothing looks at the questions.
+///
 /// # Errors
 ///
 /// - `Listen` if the listener accepts nothing any more, once the open sessions have ended.
 /// - `NotMade` if the desk, the claimants or the worker threads could not be created.
-pub fn run_server<R: Threads + Wait + Clock + Copy + Send + Sync, H: Hold + Sync>(
+pub fn run_server<R: Threads + Wait + Clock + Copy + Send + Sync, H: Hold + Sync, L: Log + Sync>(
     rt: R,
     alloc: Global,
     state: RandomState,
@@ -264,11 +310,12 @@ pub fn run_server<R: Threads + Wait + Clock + Copy + Send + Sync, H: Hold + Sync
     service: Service,
     hold: &H,
     closing: &AtomicU64,
+    log: &L,
 ) -> Result<u64, ServerError>
     requires limit { IsBookLimit service.limit }
     requires workers { IsWorkers service.workers }
 {
-    serve_named::<Brand, R, H>(
+    serve_named::<Brand, R, H, L>(
         rt,
         alloc,
         state,
@@ -277,5 +324,6 @@ pub fn run_server<R: Threads + Wait + Clock + Copy + Send + Sync, H: Hold + Sync
         service,
         hold,
         closing,
+        log,
     )
 }

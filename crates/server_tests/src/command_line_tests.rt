@@ -14,6 +14,7 @@ const VALID: [(&[&str], Invocation<'static>); 7] = [
             limit: 1_048_576,
             idle: 0,
             stop_at_eof: false,
+            log: false,
         },
     ),
     (
@@ -30,6 +31,7 @@ const VALID: [(&[&str], Invocation<'static>); 7] = [
             "--idle",
             "86400",
             "--stop-at-eof",
+            "--log",
         ],
         Invocation::Serve {
             address: "[::1]:9",
@@ -38,6 +40,7 @@ const VALID: [(&[&str], Invocation<'static>); 7] = [
             limit: 1,
             idle: 86_400,
             stop_at_eof: true,
+            log: true,
         },
     ),
     (

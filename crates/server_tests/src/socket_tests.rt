@@ -6,6 +6,7 @@ use crate::fixtures::{
 use crate::meeting::Meeting;
 use crate::workers::TasksMeet;
 use findings::{Hold, RunOn};
+use log::sink::Discard;
 use question_server::{Service, run_server};
 use std::alloc::Global;
 use std::hash::RandomState;
@@ -35,7 +36,10 @@ fn serve_sessions<R: Threads + Wait + Clock + Copy + Send + Sync, H: Hold + Sync
         idle: 0,
     };
     let closing = AtomicU64::new(0);
-    run_server(rt, alloc, state, listener, service, hold, &closing).ok()
+    run_server(
+        rt, alloc, state, listener, service, hold, &closing, &Discard,
+    )
+    .ok()
 }
 
 /// Reads the body of the next reply.
