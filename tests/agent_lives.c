@@ -35,6 +35,10 @@ void remove_earlier(void) {}
 const char *mark_of_name(void) { return "#"; }
 void stream(uint8_t kind, uint32_t thread, uint32_t object) { (void)kind, (void)thread, (void)object; }
 void stream_trace(const char *path) { (void)path; }
+int has_server(void) { return 0; }
+int has_roller(void) { return 0; }
+int is_roll_wanted(void) { return 0; }
+void next_server(uint32_t length) { (void)length; }
 
 static void tell(uint32_t thread, enum kind kind, uint64_t address, uint64_t other, uint64_t caller) {
     struct record record = {.thread = thread, .kind = (uint8_t)kind, .address = address, .other = other, .frames = 1};

@@ -423,6 +423,7 @@ static int finish(void) {
     int is_whole = end_run();
     unsigned long left_out = window > 1 ? write_dependencies() : 0;
     if (options.server && window == 1 && is_whole && !ask_server(events, "1.answer")) unlink(in_work(path, "1.answer"));
+    if (options.server) end_streaming();
     read_text();
     close_sites();
     write_libraries();

@@ -171,6 +171,21 @@ void read_in_log(uint32_t thread, const struct moment *moment, uint32_t variable
 /* Whether events are streamed when they are recorded. */
 int is_streaming(void);
 
+/* Writes an event to the trace of the window, and streams it. */
+void write_now(uint32_t thread, char letter, uint32_t object, uint32_t site);
+/* That many events of the window are left out. */
+void forget_events(uint32_t count);
+
+/* ---- repeats.c ---- */
+
+/* A window begins. */
+void begin_repeats(void);
+/* Writes the event, at once or later, unless its section repeats an earlier one. */
+void add_event(uint32_t thread, char letter, uint32_t object, uint32_t site);
+/* Writes all events that wait; those that have waited for a while. */
+void keep_pending(void);
+void look_at_pending(void);
+
 /* ---- accesses.c ---- */
 
 enum level { BY_ATOMICS, BY_ALL, LEVELS }; /* as in memory/memory.h */
@@ -363,7 +378,14 @@ void forget_sites(uint64_t from, uint64_t size);
 /* ---- server.c ---- */
 
 extern int is_shared_server; /* with another agent */
+/* Returns 0 if this is no address. */
 int connect_to_server(const char *address);
+/* Whether a server takes the events of the window. */
+int has_server(void);
+/* A window of `length` events is complete, and the next one begins. */
+void next_server(uint32_t length);
+/* The run has ended. Writes what no server has seen to OUT.tmp/unserved. */
+void end_streaming(void);
 void stream(uint8_t kind, uint32_t thread, uint32_t object);
 /* Streams the events of a file. */
 void stream_trace(const char *path);
@@ -371,3 +393,15 @@ void stream_trace(const char *path);
 void flush_stream(void);
 /* Asks for the report of `length` events and writes it to OUT.tmp/NAME. Returns 0 if there is none. */
 int ask_server(uint32_t length, const char *name);
+
+/* ---- roll.c: servers for windows, by tools/with_server --roll ---- */
+
+/* Whether the run at this address has one. */
+int find_roller(const char *address);
+int has_roller(void);
+/* Announces the window, before which the run had `first` events. Returns the address of its server; an empty text: there is none. */
+const char *address_of_window(uint32_t number, uint64_t first);
+/* Reads, from time to time, whether the server takes no more questions, so that the next window is to begin. */
+void look_at_roller(void);
+int is_roll_wanted(void);
+void end_rolling(void);

@@ -20,6 +20,7 @@ static uint32_t last_site;
 static FILE *trace, *waits;
 static int has_failed;
 static int is_repeating; /* the events repeat what is before the window */
+static int leaves_out_repeats; /* see repeats.c; -1: the window has no event yet */
 
 /* Known from the first record on: the shared memory is the program's. */
 int has_recorder_of_values(void) {
@@ -46,8 +47,7 @@ static char *put_number(char *to, uint32_t number) {
     return to;
 }
 
-/* An event that only the trace of the window has. */
-static void event_of_window(uint32_t thread, char letter, uint32_t object, uint32_t site) {
+void write_now(uint32_t thread, char letter, uint32_t object, uint32_t site) {
     static const char kinds[] = "fjardw";
     if (buffered > BUFFER - 64) write_out();
     char *to = buffer + buffered;
@@ -61,14 +61,26 @@ static void event_of_window(uint32_t thread, char letter, uint32_t object, uint3
     to = put_number(to, object);
     *to++ = '\n';
     buffered = (size_t)(to - buffer);
-    events++;
-    forks += letter == 'f';
     if (is_streaming()) stream((uint8_t)(strchr(kinds, letter) - kinds + 1), thread, object);
 }
 
-int is_streaming(void) { return window == 1 && options.server && !has_recorder_of_values(); }
+/* An event that only the trace of the window has. */
+static void event_of_window(uint32_t thread, char letter, uint32_t object, uint32_t site) {
+    events++;
+    forks += letter == 'f';
+    if (leaves_out_repeats < 0) leaves_out_repeats = has_roller() && !has_recorder_of_values();
+    if (leaves_out_repeats) add_event(thread, letter, object, site);
+    else write_now(thread, letter, object, site);
+}
 
-uint32_t raw_events(void) { return events - inserted(); }
+void forget_events(uint32_t count) { events -= count; }
+
+int is_streaming(void) { return has_server() && !has_recorder_of_values(); }
+
+uint32_t raw_events(void) {
+    keep_pending();
+    return events - inserted();
+}
 
 /* The number of a thread in the log. */
 static uint32_t name_in_log(uint32_t in_trace) { return in_trace == FIRST_THREAD ? 0 : in_trace; }
@@ -437,6 +449,8 @@ static void open_trace(void) {
     if (trace && (window > 1 || is_follower)) fprintf(trace, "%s\n", mark_of_name());
     events = forks = buffered = last_site = tried = tried_forks = 0;
     begin_inserts(), forget_places(), forget_received();
+    begin_repeats();
+    leaves_out_repeats = -1;
     free(seen), begin_seen(LEAST_SEEN), seen_count = 0;
 }
 
@@ -445,11 +459,12 @@ static int finish_trace(void) {
     char path[PATHS];
     window_name(path, window, "trace");
     if (!merge_trace(path)) return 0;
-    if (window == 1 && options.server && !is_streaming()) stream_trace(path);
+    if (has_server() && !is_streaming()) stream_trace(path);
     return 1;
 }
 
 static int close_trace(void) {
+    keep_pending();
     write_out();
     write_window();
     if (waits) fclose(waits), waits = NULL;
@@ -472,6 +487,7 @@ int end_run(void) {
 }
 
 void flush_trace(void) {
+    look_at_pending();
     if (!buffered) return;
     write_out();
     if (trace) fflush(trace);
@@ -518,6 +534,7 @@ void next_window(void) {
     uint32_t length = events;
     close_trace();
     window_closed(window++, length);
+    if (options.server) next_server(length);
     open_trace();
     repeat_held();
 }
@@ -558,7 +575,7 @@ int encode(const struct record *record) {
     for (int at = 0; at < record->frames && at < MOST_FRAMES; at++) memcpy(&callers[at], record->callers[at], 6);
     uint32_t thread = record->thread, site = site_of(callers, record->kind == R_START || record->kind == R_TITLE ? 0 : record->frames), object = 0;
     struct thread *it = find_thread(thread);
-    if (events >= options.window || events + GROWTH * tried + tried_forks + SLACK >= MOST_EVENTS || forks + tried_forks + FORKS >= MOST_FORKS)
+    if (events >= options.window || is_roll_wanted() || events + GROWTH * tried + tried_forks + SLACK >= MOST_EVENTS || forks + tried_forks + FORKS >= MOST_FORKS)
         next_window();
     log_no_call();
     if (record->kind >= R_LOCK && record->kind < R_GIVE && it->on_stack && record->other >= it->stack_low &&

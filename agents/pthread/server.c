@@ -1,105 +1,57 @@
-/* Streams the first window to a server, in batches of 64 events with 16 batches in flight, and asks it for the report. */
+/* Streams windows to servers, by the client in agents/client, and asks the server of the only window for its report. A server takes one window:
+ * with tools/with_server --roll each window has a server of its own, else the first one has. */
+#include "../client/goodlock_client.h"
 #include "collector.h"
 
-#include <arpa/inet.h>
-#include <errno.h>
-#include <netinet/in.h>
-#include <netinet/tcp.h>
-#include <sys/socket.h>
-#include <sys/time.h>
-
-enum { BATCH = 64, IN_FLIGHT = 16, SECONDS_TO_REPLY = 10 };
-enum { ASK = 7, ANSWER = 8, SEND_BATCH = 10, OPENED = 67, PENDING, REPORT, BATCHED = 72 };
+enum { LOOK_EVERY = 100, MOST_UNSERVED = 2000 };
 
 int is_shared_server;
-static int session = -1;
-static uint8_t batch[4 + 9 * BATCH];
-static uint32_t count, in_flight, accepted;
+static struct goodlock_client client;
+static int has_session, is_full;   /* is_full: the server has the first window, and takes no other one */
+static int is_lost;                /* a session has ended before its window */
+static int is_rolling;             /* each window gets a server, as long as tools/with_server runs */
+static uint64_t first;             /* events of the windows before */
+static uint32_t unserved;          /* windows that no server has seen, or not to the end */
+static char list[MOST_UNSERVED];   /* of their numbers */
 
 static void give_up(const char *why) {
-    if (session >= 0) close(session);
-    session = -1;
     say("%s; the program runs on, and the collected events are kept", why);
+    goodlock_close(&client);
+    has_session = 0;
+}
+
+/* Whether the server has all events so far, and no others. Else the session ends. */
+static int is_taken(enum goodlock_outcome outcome) {
+    if (client.others) is_shared_server = 1, give_up("another agent streams to this server too, and one server takes one run");
+    else if (outcome) is_lost = 1, give_up(client.fault);
+    return has_session;
+}
+
+static enum goodlock_outcome connect_to(const char *address) {
+    enum goodlock_outcome outcome = goodlock_connect(&client, address, 0);
+    has_session = outcome == GOODLOCK_DONE;
+    return outcome;
 }
 
 int connect_to_server(const char *address) {
-    const char *colon = strrchr(address, ':');
-    struct sockaddr_in to = {.sin_family = AF_INET};
-    struct timeval patience = {.tv_sec = SECONDS_TO_REPLY};
-    char host[16] = "";
-    int on = 1;
-    if (colon && colon - address < 16) memcpy(host, address, (size_t)(colon - address)), to.sin_port = htons((uint16_t)atoi(colon + 1));
-    if (!to.sin_port || inet_pton(AF_INET, host, &to.sin_addr) != 1) return 0;
-    session = socket(AF_INET, SOCK_STREAM | SOCK_CLOEXEC, 0);
-    setsockopt(session, IPPROTO_TCP, TCP_NODELAY, &on, sizeof on);
-    setsockopt(session, SOL_SOCKET, SO_RCVTIMEO, &patience, sizeof patience);
-    setsockopt(session, SOL_SOCKET, SO_SNDTIMEO, &patience, sizeof patience);
-    if (connect(session, (struct sockaddr *)&to, sizeof to) < 0) give_up("there is no server at this address");
+    is_rolling = find_roller(address);
+    const char *of_window = is_rolling ? address_of_window(1, 0) : "";
+    enum goodlock_outcome outcome = connect_to(*of_window ? of_window : address);
+    if (outcome == GOODLOCK_MISUSED && !*of_window) return 0;
+    if (outcome) give_up(client.fault);
     return 1;
 }
 
-static int receive(void *to, size_t length) {
-    for (size_t got = 0; got < length;) {
-        ssize_t more = recv(session, (char *)to + got, length - got, 0);
-        if (more == 0 || (more < 0 && errno != EINTR)) return 0;
-        if (more > 0) got += (size_t)more;
-    }
-    return 1;
-}
-
-static int send_all(const void *from, size_t length) {
-    for (size_t sent = 0; sent < length;) {
-        ssize_t more = send(session, (const char *)from + sent, length - sent, MSG_NOSIGNAL);
-        if (more < 0 && errno != EINTR) return 0;
-        if (more > 0) sent += (size_t)more;
-    }
-    return 1;
-}
-
-static uint32_t number(const uint8_t *from) {
-    return (uint32_t)from[0] << 24 | (uint32_t)from[1] << 16 | (uint32_t)from[2] << 8 | from[3];
-}
-
-static void put_number(uint8_t *to, uint32_t value) {
-    for (int byte = 0; byte < 4; byte++) to[byte] = (uint8_t)(value >> (24 - 8 * byte));
-}
-
-static void read_reply(void) {
-    uint8_t reply[11];
-    char why[120];
-    in_flight--;
-    if (!receive(reply, 6) || reply[4] != BATCHED || !receive(reply + 6, 5)) give_up("the server has ended or does not reply");
-    else if (number(reply + 7) != accepted) is_shared_server = 1, give_up("another agent streams to this server too, and one server takes one run");
-    else {
-        accepted += reply[5];
-        if (!reply[6]) return;
-        snprintf(why, sizeof why, "the server refused an event with number %u after place %u", reply[6], accepted);
-        give_up(why);
-    }
-    in_flight = 0;
-}
-
-static void send_batch(void) {
-    size_t length = 2 + 9 * (size_t)count;
-    if (!count || session < 0) return;
-    batch[0] = (uint8_t)(length >> 8), batch[1] = (uint8_t)length, batch[2] = SEND_BATCH, batch[3] = (uint8_t)count;
-    count = 0;
-    if (!send_all(batch, length + 2)) give_up("the server has ended or does not reply");
-    else if (++in_flight == IN_FLIGHT) read_reply();
-}
+int has_server(void) { return has_session && !is_full; }
 
 void stream(uint8_t kind, uint32_t thread, uint32_t object) {
-    if (session < 0) return;
-    uint8_t *event = batch + 4 + 9 * count++;
-    event[0] = kind;
-    put_number(event + 1, thread), put_number(event + 5, object);
-    if (count == BATCH) send_batch();
+    if (has_server()) is_taken(goodlock_event(&client, (enum goodlock_kind)kind, thread, object));
 }
 
 void stream_trace(const char *path) {
     static const char kinds[] = "fjardw";
     char line[PATHS], letter;
-    FILE *file = session < 0 ? NULL : fopen(path, "re");
+    FILE *file = has_server() ? fopen(path, "re") : NULL;
     uint32_t thread, object;
     while (file && fgets(line, sizeof line, file))
         if (sscanf(line, "%u%c%u", &thread, &letter, &object) == 3) stream((uint8_t)(strchr(kinds, letter) - kinds + 1), thread, object);
@@ -107,42 +59,84 @@ void stream_trace(const char *path) {
 }
 
 void flush_stream(void) {
-    send_batch();
-    while (session >= 0 && in_flight) read_reply();
+    static int rounds;
+    if (has_session) is_taken(goodlock_flush(&client));
+    if (++rounds % LOOK_EVERY == 0) look_at_roller();
 }
 
-/* Sends a request, and reads the reply's kind and the first bytes of its rest. Returns the number of bytes that are left, or -1. */
-static long exchange(const uint8_t *request, size_t length, uint8_t *kind, uint8_t *rest) {
-    uint8_t head[5];
-    if (!send_all(request, length) || !receive(head, 5)) return -1;
-    uint32_t left = number(head) - 1, first = head[4] == REPORT ? 4 : left;
-    *kind = head[4];
-    return first <= 16 && receive(rest, first) ? (long)(left - first) : -1;
+/* ---- windows ---- */
+
+/* Without a session at its end, the server has not seen the whole window. */
+static void note_unserved(uint32_t number) {
+    static uint32_t last;
+    size_t used = strlen(list);
+    unserved++;
+    if (used + 30 > sizeof list) return;
+    if (last && last == number - 1) {
+        char *dash = strrchr(list, ' ') ? strchr(strrchr(list, ' '), '-') : strchr(list, '-');
+        used = dash ? (size_t)(dash - list) : used;
+        snprintf(list + used, sizeof list - used, "-%u", number);
+    } else snprintf(list + used, sizeof list - used, "%s%u", used ? ", " : "", number);
+    last = number;
+}
+
+/* Without --roll: the server stays as it is, for its operators. */
+static void end_first_window(void) {
+    if (!has_session || is_full) return;
+    is_full = 1;
+    say("the server has the first window, %llu events, and takes no more: it sees nothing from event %llu on; tools/with_server --roll gives "
+        "each window a server", (unsigned long long)first, (unsigned long long)first);
+}
+
+void next_server(uint32_t length) {
+    static int is_said;
+    if (has_session) is_taken(goodlock_flush(&client));
+    first += length;
+    if (!is_rolling) { end_first_window(); return; }
+    if (!has_session) note_unserved(window - 1);
+    goodlock_close(&client);
+    has_session = 0;
+    const char *address = address_of_window(window, first);
+    if (*address && connect_to(address)) give_up(client.fault);
+    else if (!*address && has_roller() && !is_said++) say("no server has room for window %u: such windows are left out, as the report says; the program runs on", window);
+}
+
+void end_streaming(void) {
+    FILE *file = NULL;
+    if (has_session) is_taken(goodlock_flush(&client));
+    if (is_rolling && !has_session) note_unserved(window);
+    if (unserved || is_full || (is_lost && client.accepted)) file = create_in_work("unserved");
+    if (file && unserved) fprintf(file, "on a server: %s %s%s\n", unserved == 1 ? "window" : "windows", list, strlen(list) + 30 > sizeof list ? " and others" : "");
+    else if (file) fprintf(file, "on the server: what came from event %llu on\n", (unsigned long long)client.accepted);
+    if (file) fclose(file);
+    goodlock_close(&client);
+    has_session = 0;
+    end_rolling();
+}
+
+/* ---- the report ---- */
+
+/* Waits for the report of a question, and writes it to a file. Returns 0 if there is none. */
+static int write_answer(uint32_t question, FILE *file) {
+    enum goodlock_outcome outcome = GOODLOCK_PENDING;
+    client.report_milliseconds = (int)options.seconds * 1000;
+    for (int tries = 0; outcome == GOODLOCK_PENDING && tries < (int)options.seconds * 50 && !is_asked_to_end(); tries++) {
+        if ((outcome = goodlock_answer(&client, question, file)) == GOODLOCK_PENDING) usleep(10000);
+    }
+    if (outcome) give_up("the server sends no report");
+    return outcome == GOODLOCK_DONE;
 }
 
 int ask_server(uint32_t length, const char *name) {
-    uint8_t ask[4] = {0, 2, ASK, (uint8_t)(options.bound ? options.bound : MOST_BOUND)}, answer[7] = {0, 5, ANSWER}, kind, rest[16];
-    char text[4096];
+    struct goodlock_opened opened;
     flush_stream();
-    if (session < 0) return 0;
-    if (exchange(ask, 4, &kind, rest) < 0 || kind != OPENED || number(rest + 4) != length) {
+    if (!has_session) return 0;
+    if (goodlock_ask(&client, options.bound ? options.bound : MOST_BOUND, &opened) || opened.length != length) {
         give_up("the server does not report on these events");
         return 0;
     }
-    put_number(answer + 3, number(rest));
-    for (int tries = 0; tries < (int)options.seconds * 50 && !is_asked_to_end(); tries++, usleep(10000)) {
-        long left = exchange(answer, 7, &kind, rest);
-        if (left < 0 || (kind != PENDING && kind != REPORT)) break;
-        if (kind == PENDING) continue;
-        FILE *file = create_in_work(name);
-        int is_whole = file != NULL;
-        for (long part; left > 0 && is_whole; left -= part) {
-            part = left < (long)sizeof text ? left : (long)sizeof text;
-            is_whole = receive(text, (size_t)part) && fwrite(text, 1, (size_t)part, file) == (size_t)part;
-        }
-        if (file && fclose(file)) is_whole = 0;
-        return is_whole;
-    }
-    give_up("the server sends no report");
-    return 0;
+    FILE *file = create_in_work(name);
+    int is_whole = file && write_answer(opened.question, file);
+    if (file && fclose(file)) is_whole = 0;
+    return is_whole;
 }

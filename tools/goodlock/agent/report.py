@@ -181,6 +181,7 @@ def limits_of(run: Run, summary: dict[str, int], windows: dict[int, Window], who
         yield "the monitors and locks of a program in Java, which are not seen here: agents/java records them"
     if libraries:
         yield f"the locks inside of {', '.join(libraries)}"
+    yield from lines_in(run, "unserved")
     yield from unseen_by(run)
     if any(window.found for window in windows.values()):
         yield from unseen_values(summary)

@@ -23,7 +23,7 @@ from goodlock.traces import EVENT, Index, lines_of, read_trace
 MARK = "# mark "  # with it the search would leave a timed cycle out; the report adds it later
 LOG_OF_RUN, PART = "the whole run", 0.75  # the part of the time after which the windows are searched alone
 WHY_NO_LOG = {1: "its log takes more than --keep-log", 2: "its log could not be written", 3: "--keep-log is 0"}
-ON_SERVER = "the server has only the first window"
+ON_SERVER = "a server has only one window"
 BY_WINDOWS = "the windows are reported, not the whole run: a cycle goes, or may go, through a join or a wake-up, for which the log has no lock"
 ACROSS_WINDOWS = "potential: across windows: its members are in different windows, whose events have no known order"
 

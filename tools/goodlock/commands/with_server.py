@@ -1,0 +1,133 @@
+"""Starts a server on the loopback at a free port, runs a command with the server's address in GOODLOCKD, and ends the server.
+
+usage: tools/with_server COMMAND ARGUMENT ..
+       tools/with_server --roll DIR [--bound K] [--every SECONDS] [--settle SECONDS] COMMAND ARGUMENT ..
+
+  --roll DIR          follows a run of any length: when a window of the agent is full, another server takes the next one, and two servers
+                      at most are alive. DIR/windows.json lists the windows and their cycles, DIR/N.report is the report on window N.
+                      DIR is made if it is missing; files of an earlier run are replaced
+  --bound K           the most members of a cycle in these reports, 2 to 8; default 2
+  --every SECONDS     asks about the events so far in this interval, 1 to 3600; default 2
+  --settle SECONDS    waits at most for this time for the last question of a window, 1 to 86400; default 60
+
+With --roll, COMMAND starts an agent, such as agents/pthread/goodlock --server "$GOODLOCKD" PROGRAM. If both servers are still busy when a
+window begins, no server sees this window. windows.json lists such windows, and at the end one line on standard error counts them.
+
+The exit status is that of the command, 128 and the number of the signal that has ended it, 126 or 127 if it cannot be started, 1 if there
+is no server, or 2 if the command line is wrong.
+
+  GOODLOCKD_PROGRAM=FILE    another program than ./goodlockd
+"""
+from __future__ import annotations
+
+import os
+import signal
+import subprocess
+import sys
+from types import FrameType
+from typing import Optional
+
+from goodlock.commandline import BOUNDS, plural, print_whole, run
+from goodlock.rolling import Roller, Server
+
+WRONG, NO_SERVER, NOT_STARTED, NOT_FOUND, INTERRUPTED = 2, 1, 126, 127, 130
+OPTIONS = {"--roll": "", "--bound": "2", "--every": "2", "--settle": "60"}
+LIMITS = {"--bound": (BOUNDS[0], BOUNDS[-1]), "--every": (1, 3600), "--settle": (1, 86400)}
+
+
+def execute(words: list[str], **variables: str) -> int:
+    """Runs a command to its end. Signals that end this process are passed on to it; Ctrl-C of a terminal reaches it anyhow."""
+    signal.signal(signal.SIGINT, lambda *_: None)
+    try:
+        process = subprocess.Popen(words, env=os.environ | variables)
+    except OSError as fault:
+        print(f"with_server: cannot run {words[0]}: {fault.strerror}", file=sys.stderr)
+        return NOT_FOUND if isinstance(fault, FileNotFoundError) else NOT_STARTED
+
+    def pass_on(number: int, _frame: Optional[FrameType]) -> None:
+        process.send_signal(number)
+
+    for number in signal.SIGTERM, signal.SIGHUP:
+        signal.signal(number, pass_on)
+    status = process.wait()
+    for number in signal.SIGINT, signal.SIGTERM, signal.SIGHUP:
+        signal.signal(number, signal.default_int_handler)  # from here on they end what is left to do
+    return status if status >= 0 else 128 - status
+
+
+def with_one(words: list[str]) -> int:
+    server = Server()
+    try:
+        return execute(words, GOODLOCKD=server.address)
+    finally:
+        server.end()
+
+
+def summary_of(roller: Roller) -> str:
+    """Returns the line about a run."""
+    totals = roller.state()["totals"]
+    assert isinstance(totals, dict)
+    left_out = f"; {plural(roller.count_left_out, 'window')} left out, which no server has seen" if roller.count_left_out else ""
+    unsettled = sum(window.state == "ended" and not window.is_settled for window in roller.windows)
+    not_settled = f"; {plural(unsettled, 'window')} not searched to the end" if unsettled else ""
+    return (f"with_server: {plural(roller.count, 'window')}, {plural(totals['events'], 'event')}, {totals['confirmed']} confirmed and "
+            f"{totals['potential']} potential cycles{left_out}{not_settled}: {os.path.join(roller.folder, 'windows.json')}")
+
+
+def with_many(options: dict[str, str], words: list[str]) -> int:
+    folder = options["--roll"]
+    os.makedirs(folder, exist_ok=True)
+    for name in os.listdir(folder):
+        if name == "windows.json" or name.removesuffix(".report").isdecimal() and name.endswith(".report"):
+            os.remove(os.path.join(folder, name))
+    roller = Roller(folder, int(options["--bound"]), int(options["--every"]), int(options["--settle"]))
+    with roller.running() as (address, path):
+        status = execute(words, GOODLOCKD=address, GOODLOCKD_ROLL=path)
+    print(summary_of(roller), file=sys.stderr)
+    return status
+
+
+def refuse(text: str) -> int:
+    print(f"with_server: {text}; --help explains the options", file=sys.stderr)
+    return WRONG
+
+
+def read_options(words: list[str]) -> tuple[dict[str, str], list[str]]:
+    """Returns the options and the command. Raises ValueError with a text if one is wrong."""
+    options = dict(OPTIONS)
+    while words and words[0].startswith("--"):
+        name, equals, value = words[0].partition("=")
+        if name == "--" and not equals:
+            words = words[1:]
+            break
+        if name not in OPTIONS:
+            raise ValueError(f"there is no option {name}")
+        if not equals and len(words) < 2:
+            raise ValueError(f"{name} lacks its value")
+        options[name], words = (value, words[1:]) if equals else (words[1], words[2:])
+    for name, (least, most) in LIMITS.items():
+        value = options[name]
+        if not (value.isascii() and value.isdecimal() and len(value) < 8 and least <= int(value) <= most):
+            raise ValueError(f"{name} is {least} to {most}")
+        if value != OPTIONS[name] and not options["--roll"]:
+            raise ValueError(f"{name} needs --roll")
+    if not words:
+        raise ValueError("there is no command")
+    return options, words
+
+
+def main() -> int:
+    words = sys.argv[1:]
+    if words in (["--help"], ["-h"], []):
+        return run(lambda: print_whole(f"{(__doc__ or '').strip()}\n"))
+    try:
+        options, words = read_options(words)
+    except ValueError as fault:
+        return refuse(str(fault))
+    try:
+        return with_many(options, words) if options["--roll"] else with_one(words)
+    except OSError as fault:
+        print(f"with_server: {fault.filename or 'no server'}: {fault.strerror or fault}", file=sys.stderr)
+        return NO_SERVER
+    except KeyboardInterrupt:
+        return INTERRUPTED
