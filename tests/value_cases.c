@@ -1,10 +1,12 @@
 /* Programs of two threads that take two locks in opposite orders. A value in memory lets the second thread go on or decides what it does. As
- * each case is, the value keeps the threads apart, so that no deadlock can happen; with the word `real` the value comes too early for that. In
- * each run the second thread is late, and no deadlock happens.
+ * each case is, the value keeps the threads apart, so that no deadlock can happen; with the word `real` the value comes too early for that. The
+ * second thread waits by a pipe, which no agent sees, until the first one has ended: so no deadlock happens. With the word `naps` it waits for
+ * 60 ms at most.
  *
- * usage: value_cases CASE [real] */
+ * usage: value_cases CASE [real] [naps] */
 #define _GNU_SOURCE
 #include <linux/futex.h>
+#include <poll.h>
 #include <pthread.h>
 #include <stdatomic.h>
 #include <stdlib.h>
@@ -14,9 +16,13 @@
 
 static pthread_mutex_t one = PTHREAD_MUTEX_INITIALIZER, other = PTHREAD_MUTEX_INITIALIZER, third = PTHREAD_MUTEX_INITIALIZER;
 static pthread_cond_t changed = PTHREAD_COND_INITIALIZER;
-static int is_real;
+static int is_real, patience = -1;
+static int ended[2]; /* a pipe that the first thread closes at its end */
 
-static void nap(void) { usleep(60000); }
+static void nap(void) {
+    struct pollfd end = {.fd = ended[0], .events = POLLIN};
+    poll(&end, 1, patience);
+}
 static void lock(pthread_mutex_t *it) { pthread_mutex_lock(it); }
 static void unlock(pthread_mutex_t *it) { pthread_mutex_unlock(it); }
 static void nest(pthread_mutex_t *outer, pthread_mutex_t *inner) {
@@ -137,6 +143,31 @@ SECOND(condition_is_true) {
     nest(&other, &one);
 }
 
+/* The same, with a signal after the mutex was released. An earlier signal says nothing. The second thread looks at the condition before the last
+ * one. Between the two it makes as many sections of another lock as the environment says. */
+static int may_look[2], has_looked[2];
+static void pass(int to) { if (write(to, "x", 1) != 1) _exit(9); }
+static void await(int from) { char byte; if (read(from, &byte, 1) != 1) _exit(9); }
+static void signal_early(void) { lock(&third), pthread_cond_signal(&changed), unlock(&third); }
+static void signal_late(void) {
+    lock(&third), is_ready = 1, unlock(&third);
+    pass(may_look[1]), await(has_looked[0]);
+    pthread_cond_signal(&changed);
+}
+FIRST(signal_after_unlock) { signal_early(); WORK_THEN(signal_late()); }
+SECOND(signal_after_unlock) {
+    static pthread_mutex_t busy = PTHREAD_MUTEX_INITIALIZER;
+    const char *sections = getenv("SECTIONS");
+    await(may_look[0]);
+    lock(&third);
+    while (!is_ready) pthread_cond_wait(&changed, &third);
+    unlock(&third);
+    for (int left = sections ? atoi(sections) : 0; left > 0; left--) lock(&busy), unlock(&busy);
+    pass(has_looked[1]);
+    nap();
+    nest(&other, &one);
+}
+
 /* A lock by futex around both sections. */
 static atomic_int word; /* 0 free, 1 held, 2 held and waited for */
 static void futex_enter(void) {
@@ -232,18 +263,19 @@ FIRST(text_compared) { WORK_THEN(set_text()); }
 SECOND(text_compared) { do nap(); while (!is_text_done()); nest(&other, &one); }
 
 #define CASES(X) X(flag_under_lock) X(atomic_flag_set) X(spin_gate) X(sequence_lock) X(value_decides) X(double_checked) X(queue_of_atomics) \
-    X(volatile_flag) X(condition_is_true) X(futex_gate) X(exchanged_turn) X(pipe_hands_over) X(bank_in_rounds) X(counter_inside) X(spin_inside) \
-    X(annotated_inside) X(annotated_member) X(lock_in_assembly) X(text_compared)
+    X(volatile_flag) X(condition_is_true) X(signal_after_unlock) X(futex_gate) X(exchanged_turn) X(pipe_hands_over) X(bank_in_rounds) \
+    X(counter_inside) X(spin_inside) X(annotated_inside) X(annotated_member) X(lock_in_assembly) X(text_compared)
 #define LISTED(name) {#name, name##_first, name##_second},
 static const struct { const char *name; void (*first)(void), (*second)(void); } cases[] = {CASES(LISTED)};
 static int chosen;
-static void *run_first(void *unused) { cases[chosen].first(); return unused; }
+static void *run_first(void *unused) { cases[chosen].first(); close(ended[1]); return unused; }
 static void *run_second(void *unused) { cases[chosen].second(); return unused; }
 
 int main(int words, char **word) {
     pthread_t first, second;
-    if (words < 2 || pipe(ends)) return 2;
-    is_real = words > 2;
+    if (words < 2 || pipe(ends) || pipe(ended) || pipe(may_look) || pipe(has_looked)) return 2;
+    is_real = words > 2 && !strcmp(word[2], "real");
+    if (!strcmp(word[words - 1], "naps")) patience = 60;
     while (strcmp(cases[chosen].name, word[1])) if (++chosen == sizeof cases / sizeof *cases) return 2;
     pthread_create(&first, NULL, run_first, NULL);
     pthread_create(&second, NULL, run_second, NULL);

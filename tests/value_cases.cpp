@@ -6,6 +6,7 @@
 #include <future>
 #include <memory>
 #include <mutex>
+#include <poll.h>
 #include <semaphore>
 #include <thread>
 #include <unistd.h>
@@ -13,7 +14,11 @@
 static std::mutex one, other;
 static bool is_real;
 
-static void nap() { usleep(60000); }
+static int ended[2];
+static void nap() {
+    pollfd end{ended[0], POLLIN, 0};
+    poll(&end, 1, -1);
+}
 static void nest(std::mutex &outer, std::mutex &inner) {
     std::lock_guard<std::mutex> first(outer);
     std::lock_guard<std::mutex> second(inner);
@@ -52,12 +57,12 @@ static void promise_second() { nap(); if (result.get() == 3) nest(other, one); }
 static const struct { const char *name; void (*first)(), (*second)(); } cases[] = {CASES(LISTED)};
 
 int main(int words, char **word) {
-    if (words < 2) return 2;
+    if (words < 2 || pipe(ended)) return 2;
     is_real = words > 2;
     mine = yours = std::make_shared<Owned>();
     for (auto &it : cases)
         if (!strcmp(it.name, word[1])) {
-            std::thread first(it.first), second(it.second);
+            std::thread first([&it] { it.first(); close(ended[1]); }), second(it.second);
             first.join(), second.join();
             return 0;
         }

@@ -1,6 +1,7 @@
 """What tests/values compares: traces with all reads and writes and what the agent keeps of them.
 
 usage: values.py filter COUNT            random traces, and the filter's model of them: equal reports
+       values.py predicates COUNT        random traces with all predicates of conditions, and with those that the collector writes: equal reports
        values.py steps WHOLE RECORDED WIDE    the whole trace that value_steps prints, and the recorded one: equal verdicts
        values.py draw TRACE DRAWN        the numbers that value_races prints: each read is tied to its writer
 """
@@ -13,6 +14,7 @@ import re
 import subprocess
 import sys
 from collections import Counter
+from collections.abc import Iterator
 
 EVENT = re.compile(r"([0-9]+)([fjardw])([0-9]+)")
 PLAIN = re.compile(r"[0-9]+[dw]2[0-9]{9}\n")
@@ -161,8 +163,96 @@ def difference(events: Trace, drops_all: bool = False) -> str:
     kept = Filter(drops_all)
     for event in events:
         kept.take(*event)
-    whole, less = rows(events), rows(kept.kept())
-    return "" if whole == less else f"{events} has {whole}, and what is kept of it {less}"
+    return difference_of(events, kept.kept())
+
+
+def difference_of(all_events: Trace, kept: Trace) -> str:
+    """Returns how the reports on two traces differ."""
+    whole, less = rows(all_events), rows(kept)
+    return "" if whole == less else f"{all_events} has {whole}, and what is kept of it {less}"
+
+
+# ---- predicates of conditions ----
+
+
+class Predicates:
+    """The predicates of conditions in a trace: its writes of variables are signals, its reads are waits that were woken. Each variable has a lock
+    as its mutex. A thread that signals a condition next reads no value of it. `drops_all`: nor does any other thread, and the test must fail."""
+
+    PLAIN = 2_000_000_000
+
+    def __init__(self, locks: int, drops_all: bool = False) -> None:
+        self.locks, self.drops_all = locks, drops_all
+        self.signals: dict[int, tuple[int, int]] = {}  # of a condition: the last one's thread and number
+        self.received: dict[tuple[int, int], int] = {}
+        self.number, self.output = 0, list[tuple[int, str, int]]()
+        self.dropped = set[int]()  # places in the output
+        self.looks: dict[int, dict[int, int]] = {}  # of a thread: the places of its last reads, by conditions, if it has done nothing since
+
+    def take(self, thread: int, letter: str, target: int) -> None:
+        looks = self.looks.pop(thread, {})
+        if letter == "w":
+            self.dropped.update([looks[target]] if target in looks else [])
+            self.number += 1
+            self.output += [(thread, "d", target), (thread, "w", target), (thread, "w", self.PLAIN + self.number)]
+            self.signals[target] = thread, self.number
+        elif letter == "d" and target in self.signals:
+            self.output.append((thread, "d", target))
+            self.received[thread, target] = self.signals[target][1]
+        elif letter != "d":
+            self.output.append((thread, letter, target))
+        if letter == "a":
+            self.looks[thread] = dict(self.read(thread, target))
+
+    def read(self, thread: int, lock: int) -> Iterator[tuple[int, int]]:
+        """Reads the predicates of a mutex. Yields their conditions and the places of the reads."""
+        for condition, (by, number) in self.signals.items():
+            if condition % self.locks + 1 == lock and by != thread and self.received.get((thread, condition)) != number:
+                self.received[thread, condition] = number
+                yield condition, len(self.output)
+                self.output.append((thread, "d", self.PLAIN + number))
+
+    def kept(self) -> Trace:
+        """Returns the events that are in the trace."""
+        return [event for place, event in enumerate(self.output)
+                if place not in self.dropped and not (self.drops_all and event[1] == "d" and event[2] >= self.PLAIN)]
+
+
+def difference_by_predicates(events: Trace, locks: int, drops_all: bool = False) -> tuple[str, int]:
+    """Returns how the report on a trace with all predicates differs from that on one with those that are kept, and how many reads are not."""
+    predicates = Predicates(locks, drops_all)
+    for event in events:
+        predicates.take(*event)
+    return difference_of(predicates.output, predicates.kept()), len(predicates.dropped)
+
+
+# Thread 2 finds true, under lock 2, what thread 1 has signalled under it after its sections.
+FOUND_TRUE = [(0, "f", 1), (0, "f", 2), (1, "a", 1), (1, "a", 3), (1, "r", 3), (1, "r", 1), (1, "a", 2), (1, "w", 1), (1, "r", 2),
+              (2, "a", 2), (2, "r", 2), (2, "a", 3), (2, "a", 1), (2, "r", 1), (2, "r", 3)]
+
+
+def with_signals(walk: Walk) -> Trace:
+    """Returns the events of a walk. After some acquires the thread signals a condition of the lock."""
+    events: Trace = []
+    for event in walk.events:
+        events.append(event)
+        if event[1] == "a" and walk.pick.random() < 0.4:
+            events.append((event[0], "w", event[2] - 1 or walk.locks))
+    return events
+
+
+def test_predicates(count: int) -> None:
+    dropped = 0
+    for seed in range(count):
+        walk = Walk(seed)
+        fault, fewer = difference_by_predicates(with_signals(walk), walk.locks)
+        dropped += fewer
+        if fault:
+            sys.exit(f"values.py: {fault}")
+    if dropped < count // 2:
+        sys.exit(f"values.py: only {dropped} reads of predicates were left out of {count} traces")
+    if difference_by_predicates(FOUND_TRUE, 3)[0] or not difference_by_predicates(FOUND_TRUE, 3, drops_all=True)[0]:
+        sys.exit("values.py: the test of predicates finds no fault when no thread reads one")
 
 
 # ---- recorded runs ----
@@ -234,6 +324,8 @@ def main() -> None:
                 sys.exit(f"values.py: {fault}")
         if not difference(HANDED_OVER, drops_all=True):
             sys.exit("values.py: the test of the filter finds no fault when it keeps no read")
+    elif words[0] == "predicates":
+        test_predicates(int(words[1]))
     elif words[0] == "steps":
         test_steps(words[1], words[2], words[3] == "1")
     else:

@@ -16,8 +16,8 @@ static uint32_t cut = NO_LOG;
 static long begin;
 static int is_in_call, is_in_none; /* the events are of the last call; they are marked as those of none */
 static uint32_t last_thread, last_site, last_objects[2]; /* of calls; of events */
-/* Writes of values that belong to the past: `after` that many entries. They are merged into the log when the run ends. */
-static struct late { uint32_t after, thread, variable, site; } *late;
+/* Values that belong to the past: `after` that many entries. They are merged into the log when the run ends. */
+static struct late { uint32_t after, thread, variable, site; char letter; } *late;
 static size_t late_count, late_room;
 static uint32_t entries;
 
@@ -82,12 +82,16 @@ void log_call(uint32_t thread, uint32_t kind, uint32_t object, uint32_t site) {
     put(kind, thread, object, site);
 }
 
+static uint32_t kind_of_event(char letter) {
+    static const char letters[] = "fjardw";
+    return LOG_EVENT + (uint32_t)(strchr(letters, letter) - letters);
+}
+
 /* An event without a site is at that of the event before, as in a trace. */
 void log_event(char letter, uint32_t thread, uint32_t object, uint32_t site) {
-    static const char letters[] = "fjardw";
     logged++;
     if (!is_in_call && !is_in_none) is_in_none = 1, put(LOG_OTHER, last_thread, last_objects[1], last_site);
-    put(LOG_EVENT + (uint32_t)(strchr(letters, letter) - letters), thread, object, site ? site : last_site);
+    put(kind_of_event(letter), thread, object, site ? site : last_site);
 }
 
 void log_exec(void) { put(LOG_EXEC, last_thread, last_objects[1], last_site); }
@@ -96,16 +100,17 @@ void log_exec(void) { put(LOG_EXEC, last_thread, last_objects[1], last_site); }
 
 uint32_t log_entries(void) { return entries; }
 
-void log_write_after(uint32_t after, uint32_t thread, uint32_t variable, uint32_t site) {
+void log_after(uint32_t after, char letter, uint32_t thread, uint32_t variable, uint32_t site) {
     if (!has_log()) return;
     late = grow(late, late_count, &late_room, sizeof *late);
-    late[late_count++] = (struct late){after, thread, variable, site};
+    late[late_count++] = (struct late){after, thread, variable, site, letter};
     used += MOST_ENTRY;
 }
 
 static int compare(const void *left, const void *right) {
     const struct late *one = left, *other = right;
     if (one->after != other->after) return one->after < other->after ? -1 : 1;
+    if (one->letter != other->letter) return one->letter < other->letter ? -1 : 1;
     return one->variable < other->variable ? -1 : one->variable > other->variable;
 }
 
@@ -118,10 +123,10 @@ static uint32_t read_number(FILE *from) {
     return number;
 }
 
-/* Such a write is of no call, and so is what comes after it up to the next call: records make no events of an earlier one. */
+/* Such an event is of no call, and so is what comes after it up to the next call: records make no events of an earlier one. */
 static void put_late(const struct late *it) {
     put(LOG_OTHER, last_thread, last_objects[1], last_site);
-    put(LOG_EVENT + 5, it->thread, it->variable, it->site ? it->site : last_site);
+    put(kind_of_event(it->letter), it->thread, it->variable, it->site ? it->site : last_site);
 }
 
 /* Copies the log entry by entry. The numbers that an entry leaves out are those of the entry before it in the same log. */
@@ -139,7 +144,7 @@ static void merge(FILE *from) {
     }
 }
 
-/* Writes the log again, with the writes that belong to its past. */
+/* Writes the log again, with what belongs to its past. */
 static void merge_log(void) {
     char path[PATHS], raw[PATHS];
     FILE *from = NULL;
@@ -162,7 +167,7 @@ void end_calls(void) {
     if (!file) return;
     put(LOG_END, last_thread, last_objects[1], last_site);
     if (has_log()) write_buffer();
-    if (has_log() && late_count) merge_log();
+    if (has_log() && late_count && (window > 1 || may_have_cycle())) merge_log(); /* else nobody reads the log */
     if (file && has_log()) write_buffer();
     if (file && fclose(file) && has_log()) {
         char path[PATHS];

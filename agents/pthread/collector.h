@@ -1,7 +1,7 @@
 /* Shared by the files of the collector: collector.c runs the program and reads its records, encode.c turns records into the events
- * of traces, readers.c those of reader-writer locks, accesses.c and predicates.c those of values, inserts.c adds events of the past, names.c
- * keeps names, deadlock.c finds threads that wait for each other, tables.c keeps threads and locks, sites.c names callers, server.c streams to a
- * server, hooks.c looks whether a program was compiled with hooks. */
+ * of traces, readers.c those of reader-writer locks, accesses.c and predicates.c those of values, inserts.c adds events of the past, graph.c has
+ * the lock graph, names.c keeps names, deadlock.c finds threads that wait for each other, tables.c keeps threads and locks, sites.c names
+ * callers, server.c streams to a server, hooks.c looks whether a program was compiled with hooks. */
 #define _GNU_SOURCE
 #include "limits.h"
 #include "ring.h"
@@ -114,6 +114,8 @@ struct lock {
     uint32_t reader, earlier;                                   /* who reads by it; how many sections of writers had no such part */
 };
 struct reader { uint32_t thread, site; };
+/* When a thread had drawn a record: how many events of the window and entries of the log were before. */
+struct moment { uint32_t window, position, thread, site, logged; };
 struct thread {
     struct entry entry, by_handle;                              /* by number */
     struct thread *older, *newer;
@@ -125,6 +127,7 @@ struct thread {
     uint8_t has_ended, is_forgotten, waits_for_end, last_kind;  /* is_forgotten: nobody joins it; waits_for_end: in its join; of a record */
     uint8_t is_forked;                                          /* in the log */
     struct lock **held, *on_stack;
+    const struct lock *looks_at;                                /* the mutex of its section, if it is to read the predicates of it */
     struct helper { uint32_t number, window; } *helpers;        /* artificial threads that hold nothing, and the last window that has them */
     size_t held_count, held_room, helpers_count, helpers_room;
 };
@@ -160,16 +163,29 @@ void give_by(uint32_t thread, struct lock *lock, int which, uint32_t site);
 void write_by(uint32_t thread, struct lock *lock, int which, uint32_t site);
 void take_by(uint32_t thread, const struct lock *lock, int which, uint32_t site);
 
-/* When a thread had drawn a record: how many events of the window and entries of the log were before. */
-struct moment { uint32_t window, position, thread, site, logged; };
 /* The thread writes or reads a value; it wrote it at a moment of this window. */
 void write_value(uint32_t thread, uint32_t variable, uint32_t site);
 void take_value(uint32_t thread, uint32_t variable, uint32_t site);
 void insert_write(const struct moment *moment, uint32_t variable);
-/* The thread reads a value that was written before the window. `moment`: when, or NULL if the log has the write. */
+/* The thread reads a value that was written before the window, at this moment: the log has both. */
 void read_in_log(uint32_t thread, const struct moment *moment, uint32_t variable, uint32_t site);
+/* The same for a write or a read of which it is known at the end of the window whether that has it: only if the window may have a cycle. If it
+ * is not `is_in_window`, since the other one of the two is in another window, only the log has it. */
+void defer_value(const struct moment *moment, char letter, uint32_t variable, int is_in_window);
 /* Whether events are streamed when they are recorded. */
 int is_streaming(void);
+int has_values_at_once(void);
+/* Whether the window may have a cycle, as far as it is recorded. */
+int may_have_cycle(void);
+
+/* ---- graph.c: the lock graph of a window ---- */
+
+/* The thread has acquired a lock while it held another one. */
+void add_edge(uint32_t held, uint32_t lock, uint32_t thread);
+/* Whether the graph has a ring with edges of two threads. */
+int has_ring(void);
+void write_graph(FILE *to);
+void forget_graph(void);
 
 /* Writes an event to the trace of the window, and streams it. */
 void write_now(uint32_t thread, char letter, uint32_t object, uint32_t site);
@@ -207,21 +223,30 @@ void forget_authors(void);
 
 /* ---- predicates.c ---- */
 
-/* A thread signals a condition; it was woken by one, or has received what somebody gave; it has begun a section of a mutex. */
+/* A thread signals a condition; it was woken by one, or has received what somebody gave; it has begun a section of a lock. */
 void note_signal(const struct thread *thread, struct lock *condition, uint32_t site);
 void note_wake_up(const struct thread *thread, struct lock *condition, int has_waited);
-void read_predicates(uint32_t thread, const struct lock *mutex, uint32_t site);
+void note_section(struct thread *thread, const struct lock *lock);
+/* Before what a thread does next: it looks at the predicates of the section that it has begun. `given`: the condition that it signals, or NULL. */
+void read_predicates(struct thread *thread, const struct lock *given);
 /* A condition or a mutex ends; a window begins. */
 void forget_predicates(struct lock *lock);
-void forget_received(void);
+void forget_sections(void);
 
 /* ---- inserts.c ---- */
 
 void begin_inserts(void);
+/* The events that were inserted, without deferred ones; those that are deferred. */
 uint32_t inserted(void);
+uint32_t deferred(void);
 /* The window has a value. */
 void note_value(void);
-void insert_event(const struct moment *moment, uint32_t in_trace, uint32_t variable);
+/* A write or a read after `position` events of the window. `order`: of inserts at one position. It is that of the log: twice the number of entries
+ * before it, and one more for an event that is an entry. Inserts of one order are reads first, then by their variables. */
+struct insert { uint64_t order; uint32_t position, thread, variable, site; char letter; uint8_t is_deferred; };
+void insert_event(const struct insert *it);
+/* The window has the deferred events if they are needed. Returns how many it gets. */
+uint32_t decide_on_deferred(int are_needed);
 /* Writes the trace of the window again, with the events that were inserted. Returns 0 if that is not possible. */
 int merge_trace(const char *path);
 
@@ -268,9 +293,9 @@ void log_no_call(void);
 /* An event of the run, without windows; how many there were. */
 extern unsigned long logged;
 void log_event(char letter, uint32_t thread, uint32_t object, uint32_t site);
-/* The entries so far; a write of a value after as many of them. */
+/* The entries so far; an event after as many of them. */
 uint32_t log_entries(void);
-void log_write_after(uint32_t entries, uint32_t thread, uint32_t variable, uint32_t site);
+void log_after(uint32_t entries, char letter, uint32_t thread, uint32_t variable, uint32_t site);
 /* Another program has begun in the process. */
 void log_exec(void);
 

@@ -77,6 +77,9 @@ void forget_events(uint32_t count) { events -= count; }
 
 int is_streaming(void) { return has_server() && !has_recorder_of_values(); }
 
+/* A server takes no event of the past, and where repeats are left out the place of an event is not known before its section has ended. */
+int has_values_at_once(void) { return is_streaming() || (has_roller() && !has_recorder_of_values()); }
+
 uint32_t raw_events(void) {
     keep_pending();
     return events - inserted();
@@ -125,18 +128,31 @@ void take_value(uint32_t thread, uint32_t variable, uint32_t site) {
     event(name(thread), 'd', variable, site);
 }
 
+static void insert_at(const struct moment *moment, char letter, uint32_t variable, uint64_t order, int is_deferred) {
+    const struct insert it = {order, moment->position, name_in_trace(moment->thread), variable, moment->site, letter, (uint8_t)is_deferred};
+    insert_event(&it);
+}
+
 void insert_write(const struct moment *moment, uint32_t variable) {
-    uint32_t in_trace = name_in_trace(moment->thread);
-    insert_event(moment, in_trace, variable);
+    insert_at(moment, 'w', variable, 2 * (uint64_t)moment->logged, 0);
     events++;
-    log_write_after(moment->logged, name_in_log(in_trace), variable, moment->site);
+    log_after(moment->logged, 'w', moment->thread, variable, moment->site);
+}
+
+void defer_value(const struct moment *moment, char letter, uint32_t variable, int is_in_window) {
+    uint64_t order = 2 * (uint64_t)moment->logged;
+    if (letter == 'd' && moment->logged == log_entries() && !why_no_log()) {
+        log_event('d', moment->thread, variable, moment->site);
+        order = 2 * (uint64_t)log_entries() - 1;
+    } else log_after(moment->logged, letter, moment->thread, variable, moment->site);
+    if (is_in_window) insert_at(moment, letter, variable, order, 1);
 }
 
 void read_in_log(uint32_t thread, const struct moment *moment, uint32_t variable, uint32_t site) {
     if (why_no_log()) return;
-    uint32_t in_trace = name(thread);
-    if (moment) log_write_after(moment->logged, moment->thread, variable, moment->site);
-    log_event('d', name_in_log(in_trace), variable, site);
+    name(thread);
+    log_after(moment->logged, 'w', moment->thread, variable, moment->site);
+    log_event('d', thread, variable, site);
 }
 
 /* ---- orders ---- */
@@ -222,20 +238,6 @@ static uint32_t find_helper(uint32_t thread, uint32_t site) {
     return helper.number;
 }
 
-/* The lock graph of this window: which thread has acquired a lock while it held another one. */
-struct edge { struct entry entry; uint32_t held, lock, thread; };
-static struct table edges;
-
-static void add_edge(uint32_t held, uint32_t lock, uint32_t thread) {
-    uint64_t key = ((uint64_t)held << 32 | lock) * 0x9E3779B97F4A7C15u ^ thread;
-    struct edge *edge = (struct edge *)find_entry(&edges, key);
-    while (edge && (edge->held != held || edge->lock != lock || edge->thread != thread)) edge = (struct edge *)edge->entry.next;
-    if (edge) return;
-    edge = allocate(sizeof *edge);
-    edge->held = held, edge->lock = lock, edge->thread = thread;
-    add_entry(&edges, &edge->entry, key);
-}
-
 static void count_try(struct thread *it, struct lock *lock) {
     lock->is_tried = 1, tried++;
     if (++it->tries > it->tries_in_window) it->tries_in_window++, tried_forks++;
@@ -246,12 +248,8 @@ static void write_window(void) {
     char name[24];
     snprintf(name, sizeof name, "%u.window", window);
     FILE *file = is_following() ? NULL : create_in_work(name);
-    if (file) fprintf(file, "%u %u\n", events, tried);
-    for (size_t slot = 0; slot < edges.size && file; slot++)
-        for (struct entry *entry = edges.slots[slot]; entry; entry = entry->next)
-            fprintf(file, "%u %u %u\n", ((struct edge *)entry)->held, ((struct edge *)entry)->lock, ((struct edge *)entry)->thread);
-    if (file) fputs("end\n", file), fclose(file);
-    clear_table(&edges);
+    if (file) fprintf(file, "%u %u\n", events, tried), write_graph(file), fputs("end\n", file), fclose(file);
+    forget_graph();
 }
 
 /* Writes that the thread acquires a lock that it does not hold. `is_repeating`: again, as in an earlier window. */
@@ -289,11 +287,12 @@ static void begin_section(uint32_t thread, struct lock *lock, uint32_t site) {
     if (it->held_count && !lock->helper && lock->how != TRIES) note_dependency(it, lock, marker);
     it->held = grow(it->held, it->held_count, &it->held_room, sizeof *it->held);
     it->held[it->held_count++] = lock;
-    if (lock->guards) read_predicates(thread, lock, site);
+    note_section(it, lock);
 }
 
 static void end_section(uint32_t thread, struct lock *lock, uint32_t site) {
     struct thread *it = find_thread(thread);
+    if (it->looks_at == lock) read_predicates(it, NULL);
     remove_held(it, lock);
     it->tries -= lock->is_tried, lock->is_tried = 0;
     if (lock->helper) {
@@ -388,6 +387,7 @@ static void leave_held(struct thread *it) {
 
 /* The thread has no more events, and nobody joins it. */
 static void forget_thread(struct thread *it) {
+    read_predicates(it, NULL);
     leave_held(it);
     leave_stack(it, UINT64_MAX);
     remove_thread(it);
@@ -416,6 +416,7 @@ static void note_woken(const struct thread *thread) {
 static void join_thread(uint32_t thread, uint32_t child, uint32_t site) {
     struct thread *it = known_thread(child);
     if (!it || child == thread) return;
+    read_predicates(it, NULL);
     note_join(find_thread(thread), it);
     learn_by_join(thread, child);
     if (it->in_window == window && name_in_trace(child)) event_of_window(name(thread), 'j', name_in_trace(child), site);
@@ -448,7 +449,7 @@ static void open_trace(void) {
     if (!trace && !has_failed && !is_following()) has_failed = 1, say("cannot write %s; the program runs on", path);
     if (trace && (window > 1 || is_follower)) fprintf(trace, "%s\n", mark_of_name());
     events = forks = buffered = last_site = tried = tried_forks = 0;
-    begin_inserts(), forget_places(), forget_received();
+    begin_inserts(), forget_places(), forget_sections();
     begin_repeats();
     leaves_out_repeats = -1;
     free(seen), begin_seen(LEAST_SEEN), seen_count = 0;
@@ -463,9 +464,12 @@ static int finish_trace(void) {
     return 1;
 }
 
+int may_have_cycle(void) { return waits || has_ring(); }
+
 static int close_trace(void) {
     keep_pending();
     write_out();
+    if (deferred()) events += decide_on_deferred(may_have_cycle());
     write_window();
     if (waits) fclose(waits), waits = NULL;
     int is_written = !trace || (fclose(trace) == 0 && finish_trace());
@@ -481,7 +485,12 @@ void begin_run(char **words) {
     begin_calls(words);
 }
 
+static void read_all_predicates(void) {
+    for (struct thread *it = oldest_thread; it; it = it->newer) read_predicates(it, NULL);
+}
+
 int end_run(void) {
+    read_all_predicates();
     end_calls();
     return close_trace();
 }
@@ -531,10 +540,11 @@ static void repeat_held(void) {
 }
 
 void next_window(void) {
-    uint32_t length = events;
+    read_all_predicates();
     close_trace();
-    window_closed(window++, length);
-    if (options.server) next_server(length);
+    window_closed(window, events);
+    window++;
+    if (options.server) next_server(events);
     open_trace();
     repeat_held();
 }
@@ -563,7 +573,7 @@ static int object_of_call(const struct record *record, uint32_t *object) {
 
 /* Another program has begun in this process. A later run begins with the first one again. */
 static void begin_program(void) {
-    forget_all(), find_thread(0), next_window(), forget_authors();
+    read_all_predicates(), forget_all(), find_thread(0), next_window(), forget_authors();
     if (identities) log_exec();
 }
 
@@ -575,9 +585,10 @@ int encode(const struct record *record) {
     for (int at = 0; at < record->frames && at < MOST_FRAMES; at++) memcpy(&callers[at], record->callers[at], 6);
     uint32_t thread = record->thread, site = site_of(callers, record->kind == R_START || record->kind == R_TITLE ? 0 : record->frames), object = 0;
     struct thread *it = find_thread(thread);
-    if (events >= options.window || is_roll_wanted() || events + GROWTH * tried + tried_forks + SLACK >= MOST_EVENTS || forks + tried_forks + FORKS >= MOST_FORKS)
-        next_window();
+    uint32_t most = events + deferred() + GROWTH * tried + tried_forks + SLACK;
+    if (events >= options.window || is_roll_wanted() || most >= MOST_EVENTS || forks + tried_forks + FORKS >= MOST_FORKS) next_window();
     log_no_call();
+    if (it->looks_at) read_predicates(it, record->kind == R_GIVE && record->other == BY_CONDITION ? known_lock(record->address) : NULL);
     if (record->kind >= R_LOCK && record->kind < R_GIVE && it->on_stack && record->other >= it->stack_low &&
         record->other < it->stack_high)
         leave_stack(it, record->other & ~(uint64_t)LOCK_FLAGS);

@@ -1,37 +1,50 @@
-/* Writes of values that are found only when they are read: they are inserted in the past. Until a window ends its trace lacks them; then the
- * trace is written again with them. calls.c does the same for the log, when the run ends. */
+/* Values that are found only later: they are inserted in the past. Until a window ends its trace lacks them; then the trace is written again
+ * with them. calls.c does the same for the log, when the run ends. Some are deferred: whether the window needs them is known at its end. */
 #include "collector.h"
 
 #include <sys/stat.h>
 
-struct insert { uint32_t position, logged, thread, variable, site; };
-
 static struct insert *inserts;
 static size_t inserts_count, inserts_room;
+static uint32_t deferred_count;
 static int has_values; /* the window has values */
 
-uint32_t inserted(void) { return (uint32_t)inserts_count; }
+uint32_t inserted(void) { return (uint32_t)inserts_count - deferred_count; }
 
-void begin_inserts(void) { inserts_count = 0, has_values = 0; }
+uint32_t deferred(void) { return deferred_count; }
+
+void begin_inserts(void) { inserts_count = deferred_count = 0, has_values = 0; }
 
 void note_value(void) { has_values = 1; }
 
-void insert_event(const struct moment *moment, uint32_t in_trace, uint32_t variable) {
+void insert_event(const struct insert *it) {
     inserts = grow(inserts, inserts_count, &inserts_room, sizeof *inserts);
-    inserts[inserts_count++] = (struct insert){moment->position, moment->logged, in_trace, variable, moment->site};
+    inserts[inserts_count++] = *it;
+    deferred_count += it->is_deferred;
+}
+
+uint32_t decide_on_deferred(int are_needed) {
+    uint32_t count = deferred_count;
+    size_t kept = 0;
+    deferred_count = 0;
+    if (are_needed) return has_values |= count > 0, count;
+    for (size_t at = 0; at < inserts_count; at++) if (!inserts[at].is_deferred) inserts[kept++] = inserts[at];
+    inserts_count = kept;
+    return 0;
 }
 
 /* In the order of the log: what follows a run compares the two. */
 static int compare(const void *left, const void *right) {
     const struct insert *one = left, *other = right;
     if (one->position != other->position) return one->position < other->position ? -1 : 1;
-    if (one->logged != other->logged) return one->logged < other->logged ? -1 : 1;
+    if (one->order != other->order) return one->order < other->order ? -1 : 1;
+    if (one->letter != other->letter) return one->letter < other->letter ? -1 : 1; /* a read first: a write follows a whole record */
     return one->variable < other->variable ? -1 : one->variable > other->variable;
 }
 
 static void write_insert(FILE *to, const struct insert *it, uint32_t *site) {
     if (it->site && it->site != *site) fprintf(to, "# at %u\n", *site = it->site);
-    fprintf(to, "%uw%u\n", it->thread, it->variable);
+    fprintf(to, "%u%c%u\n", it->thread, it->letter, it->variable);
 }
 
 /* Copies a trace line by line. A line of a site is written when an event needs it. */
