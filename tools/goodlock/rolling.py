@@ -242,7 +242,7 @@ class Roller:
         is_prepared, ready = False, 0.0
         while True:
             is_last = window.state == SETTLING  # before the events are counted: then they are all there
-            window.events = session.accepted()
+            window.events = session.probe().length
             if is_last and window.asked == window.events:
                 window.is_settled = True
                 return
