@@ -1,6 +1,8 @@
 //! Replies as bytes.
-ghost use Rattle.std.specs.Prelude.{◌≡◌, ◌+◌, ◌++◌, ◌≤◌, ◌<◌, ◌∷◌, length, slice_index, OnOk, OnErr, IfOk, IsOk, vec_len, vec_capacity};
+ghost use Rattle.std.specs.Prelude.{◌≡◌, ◌^◌, ℕ, List, ◌+◌, ◌++◌, ◌≤◌, ◌<◌, ◌∷◌, length, slice_index, OnOk, OnErr, IfOk, IsOk, vec_len, vec_capacity};
 ghost use Rattle.std.specs.Int.{w32, w64, to_be_bytes};
+ghost use Rattle.event_frames.specs.Heads.{frame_text};
+ghost use Rattle.trace_model.specs.declared.messages.session.Reply.TheVariants.{Report};
 ghost use Rattle.trace_model.specs.Protocol.Replies.{reply_body, reply_frame, fault_number, refusal_number, three_words, status_fields, IsReply};
 
 use std::alloc::{AllocError, Global};
@@ -193,4 +195,46 @@ pub fn encode_reply(alloc: Global, reply: &Reply) -> Result<Vec<u8>, NoMemory>
     let mut out = Vec::new(alloc);
     push_reply(&mut out, reply)?;
     Ok(out)
+}
+
+/// Returns the text of a report, with which its frame ends. The frame of another reply has none.
+pub fn frame_text(reply: &Reply) -> &[u8]
+    ensures { result.now ≡ frame_text reply.now }
+{
+    match reply {
+        Reply::Report { text, .. } => text.as_slice(),
+        _ => &[],
+    }
+}
+
+/// Returns the frame of the report about a question, without its text of `bytes` bytes.
+#[tactic(auto, unfolding(trace_model::specs::Protocol::Replies::reply_frame))]
+fn report_head(alloc: Global, question: u32, bytes: u32) -> Result<Vec<u8>, AllocError>
+    requires { bytes + 5 < 2 ^ 32 }
+    ensures { IfOk result (λ head. (text : List ℕ) → length text ≡ bytes →
+        head.items ++ text ≡ reply_frame (Report question text)) }
+{
+    let mut head = Vec::with_capacity(alloc, 9)?;
+    head.extend_from_slice(&(bytes + 5).to_be_bytes())?;
+    head.push(69)?;
+    head.extend_from_slice(&question.to_be_bytes())?;
+    Ok(head)
+}
+
+/// Returns the frame of `reply` without its [`frame_text`], which is not copied. The text of a
+/// report must have at most `MAX_REPORT` bytes.
+///
+/// # Errors
+///
+/// `NoMemory` if an allocation fails.
+pub fn encode_head(alloc: Global, reply: &Reply) -> Result<Vec<u8>, NoMemory>
+    requires { IsReply reply.now }
+    ensures { IfOk result (λ head. head.items ++ frame_text reply.now ≡ reply_frame reply.now) }
+{
+    match reply {
+        Reply::Report { question, text } => {
+            Ok(report_head(alloc, *question, text.as_slice().len() as u32)?)
+        }
+        _ => encode_reply(alloc, reply),
+    }
 }

@@ -2,6 +2,7 @@
 use Rattle.std.proofs.Common.{◌≡◌, ℕ, ◌+◌, ◌-◌, ◌≤◌, List, [], ◌++◌, length, take, drop, Option, None, Some, refl, sym, ap, subst, ◌∙◌, append_assoc, arith}
 use Rattle.std.specs.Io.KnownBytes.{Consumes, Appends, Keeps, append_known}
 use Rattle.std.proofs.lemmas.List.{append-nil, take_all, length-drop, drop-take, take-append-drop}
+use Rattle.std.proofs.Math.Seq.{take-append-add, take-append_seam}
 use Rattle.std.proofs.lemmas.Grind.{common_steps}
 
 pub put_none : (old : Option (List ℕ)) → Appends old old []
@@ -91,3 +92,14 @@ put_on old now next failures failures' failures'' bytes at n p le q e =
       put = subst (λ (x : List ℕ). Appends old next x) (sym (take_on bytes at n)) (put_then old now next (take at bytes) (take n (drop at bytes)) p.put (subst (λ (x : List ℕ). Appends now next (take n x)) rest q));
       same = e ∙ p.same;
     }
+
+-- a part of the first of two lists is one of both
+pub part_of_first : (old new : Option (List ℕ)) (first second : List ℕ) (n : ℕ) → Appends old new (take n first) → (m : ℕ) × Appends old new (take m (first ++ second))
+part_of_first old new first second n p =
+    let part = take n first in
+    let split = ap (λ t. t ++ second) (sym (take-append-drop n first)) ∙ append_assoc part (drop n first) second in
+    (length part, subst (Appends old new) (sym (ap (take (length part)) split ∙ take-append_seam part (drop n first ++ second))) p)
+
+pub part_of_second : (old mid new : Option (List ℕ)) (first second : List ℕ) (n : ℕ) → Appends old mid first → Appends mid new (take n second) → (m : ℕ) × Appends old new (take m (first ++ second))
+part_of_second old mid new first second n p q =
+    (length first + n, subst (Appends old new) (sym (take-append-add first second n)) (put_then old mid new first (take n second) p q))

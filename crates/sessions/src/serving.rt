@@ -1,12 +1,12 @@
 //! The loop of a session.
-ghost use Rattle.std.specs.Prelude.{◌≡◌, ◌<◌, ℕ, take, None, IfOk, OnOk, OnErr, IfErr};
+ghost use Rattle.std.specs.Prelude.{◌≡◌, ◌<◌, ◌++◌, ℕ, take, None, IfOk, OnOk, OnErr, IfErr};
 ghost use Rattle.std.specs.Io.KnownBytes.{Appends, Keeps};
 ghost use Rattle.trace_model.specs.Protocol.Replies.{reply_frame, IsReply};
 ghost use Rattle.sessions.specs.Serving.{between, session_point, AnswersRequests, BreaksOff, IsCountedFault, ServesText, Counts};
 ghost use Rattle.sessions.specs.declared.serving.ServeFault.TheVariants.{Write};
 
 use crate::ends::{Sink, Source, TransferFailed};
-use event_frames::{FrameReader, encode_reply};
+use event_frames::{FrameReader, encode_head, frame_text};
 use sequencer::Calls;
 use std::alloc::Global;
 use std::sync::Wait;
@@ -52,8 +52,26 @@ fn write_all<R: Wait, K: Sink>(rt: &R, sink: &mut K, bytes: &[u8]) -> Result<(),
     Ok(())
 }
 
-/// Writes a reply, or a prefix of it if a write fails. If it cannot be allocated, the earlier
-/// replies are sent.
+/// Writes all bytes of both slices, or a prefix of them if a write fails.
+fn write_both<R: Wait, K: Sink>(
+    rt: &R,
+    sink: &mut K,
+    first: &[u8],
+    second: &[u8],
+) -> Result<(), TransferFailed>
+    ensures ok { OnOk result (Appends (K.written sink.old) (K.written sink.new)
+        (first.now ++ second.now)) }
+    ensures same { OnOk result (K.failures sink.new ≡ K.failures sink.old) }
+    ensures failed { OnErr result (K.failures sink.old < K.failures sink.new) }
+    ensures err { OnErr result ((n : ℕ) × Appends (K.written sink.old) (K.written sink.new)
+        (take n (first.now ++ second.now))) }
+{
+    write_all(rt, sink, first)?;
+    write_all(rt, sink, second)
+}
+
+/// Writes a reply, or a prefix of it if a write fails. If its head cannot be allocated, the earlier
+/// replies are sent. The text of a report is not copied.
 fn reply_with<R: Wait, K: Sink>(
     rt: &R,
     alloc: Global,
@@ -69,11 +87,11 @@ fn reply_with<R: Wait, K: Sink>(
     ensures counted { IfErr result
         (λ fault. IsCountedFault fault (K.failures sink.old) (K.failures sink.new)) }
 {
-    let Ok(bytes) = encode_reply(alloc, &reply) else {
+    let Ok(head) = encode_head(alloc, &reply) else {
         let _ = sink.send(rt);
         return Err(ServeFault::Memory);
     };
-    match write_all(rt, sink, &bytes) {
+    match write_both(rt, sink, &head, frame_text(&reply)) {
         Ok(()) => Ok(()),
         Err(TransferFailed) => Err(ServeFault::Write),
     }
