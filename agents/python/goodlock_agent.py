@@ -84,9 +84,6 @@ class Recorder:
         NUMBER.pack_into(self.memory, OWNER, self.process)
         NUMBER.pack_into(self.memory, ATTACHED, 1)
 
-    def stop(self):
-        self.is_on = False
-
     # ---- callers ----
 
     def register(self, text):
@@ -156,10 +153,8 @@ class Recorder:
             self.write(number, R_UNSEEN, number + 1, 0, ())
             return number
 
-    def new_number(self, wanted=None):
-        """Returns the number of a new thread: the wanted one, or one that no thread has."""
-        if wanted is not None:
-            return wanted
+    def new_number(self):
+        """Returns a number that no thread has."""
         number = next(self.numbers)
         NUMBER.pack_into(self.memory, THREADS, number + 1)
         return number
@@ -293,9 +288,9 @@ def receive(thing):
         leave(call)
 
 
-def is_of_the_library(depth=2):
+def is_of_the_library():
     """Whether the library calls for itself. `run` of a thread or a timer, `cancel` of a timer and `wait_for` call for the program."""
-    frame = sys._getframe(depth)
+    frame = sys._getframe(2)
     return frame.f_globals.get("__name__") == "threading" and frame.f_code.co_name not in ("run", "cancel", "wait_for")
 
 
@@ -394,9 +389,6 @@ class TracedRLock(TracedLock):
         call = self.record_in_turn(R_UNLOCK) if self.within._is_owned() else None
         self.within.release()
         leave(call)
-
-    def __enter__(self):
-        return self.acquire()
 
     def _is_owned(self):
         return self.within._is_owned()
@@ -628,7 +620,8 @@ def starts(real):
     def start(thread):
         if not recorder.is_recording() or thread._started.is_set():
             return real(thread)  # raises if it was started before
-        child, run = recorder.new_number(follower.number_of_child() if follower else None), thread.run
+        recorded = follower.number_of_child() if follower else None
+        child, run = recorder.new_number() if recorded is None else recorded, thread.run
 
         def numbered():
             recorder.here.number = child
@@ -760,7 +753,7 @@ def tracing(out="goodlock", bound=None, server=None, stacks=None, options=()):
     finally:
         if patches:
             patches.restore()
-            recorder.stop()
+            recorder.is_on = False
             NUMBER.pack_into(recorder.memory, FINISHED, 1)
         if collector:
             run.has_deadlock = {0: False, 1: True}.get(collector.wait())

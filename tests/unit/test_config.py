@@ -53,7 +53,7 @@ class Find(InFolder):
 
 class Read(InFolder):
     def test_empty(self) -> None:
-        self.assertEqual(read_config(self.write("goodlock.toml", "# nothing\n")), Config("goodlock.toml", {}, {}))
+        self.assertEqual(read_config(self.write("goodlock.toml", "# nothing\n")), Config({}, {}))
 
     def test_whole(self) -> None:
         text = """bound = 3

@@ -3,7 +3,7 @@ import os
 import unittest
 
 from goodlock.commands import from_std
-from goodlock.conversion import Numbers, converted
+from goodlock.conversion import converted, numbers
 from goodlock.errors import InputError
 from goodlock.limits import MOST_HELD_OF_RUN
 from goodlock.traces import one_line
@@ -89,9 +89,8 @@ class FromStd(Converts):
 
 class Small(unittest.TestCase):
     def test_numbers(self) -> None:
-        numbers = Numbers()
-        self.assertEqual([numbers.of(name) for name in ("a", ("b", 1), "a", "c")], [1, 2, 1, 3])
-        self.assertEqual((len(numbers), "a" in numbers, "d" in numbers), (3, True, False))
+        found = numbers()
+        self.assertEqual([found[name] for name in ("a", ("b", 1), "a", "c")], [1, 2, 1, 3])
 
     def test_one_line(self) -> None:
         self.assertEqual(one_line("  a\t\nb  c "), "a b c")

@@ -9,7 +9,7 @@ from goodlock.dashboard.draw import drawn, drawn_alone
 from goodlock.dashboard.web import HERE as WEB
 from goodlock.drawing.page import STYLE, drawn_reports, page, plain_name, short_name, title_for
 from goodlock.drawing.shapes import HEADS, columns_of, colours_of, cut, fitting, isolated, text, titled
-from goodlock.drawing.timeline import LeftOut, Shown, rows_of
+from goodlock.drawing.timeline import Row, rows_of
 from goodlock.drawing.verdict import Line, verdict_of
 from goodlock.reports import read_reports
 from goodlock.traces import Index
@@ -139,7 +139,7 @@ class OfDashboard(Pages):
 
 class Small(unittest.TestCase):
     def test_rows(self) -> None:
-        self.assertEqual(rows_of(range(5), {1}, 2), [Shown(0), Shown(1), LeftOut([2, 3, 4])])
+        self.assertEqual(rows_of(range(5), {1}, 2), [Row([0]), Row([1]), Row([2, 3, 4], is_left_out=True)])
         self.assertEqual(rows_of([], set()), [])
 
     def test_texts(self) -> None:

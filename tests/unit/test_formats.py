@@ -37,7 +37,7 @@ def with_text(result: Result, text: str) -> Result:
 
 class Json(unittest.TestCase):
     def setUp(self) -> None:
-        self.question = Question(Report(0, 12, 2, 5, 3), (CONFIRMED, POTENTIAL, KNOWN, SUPPRESSED), LeftOut(4, 5, 6, 7, 2), ("a note",))
+        self.question = Question(Report(0, 12, 2, 5, 3), (CONFIRMED, POTENTIAL, KNOWN, SUPPRESSED), LeftOut(4, 5, 6, 2, 7), ("a note",))
         self.run_ = replace(EVERYTHING, most=2)
 
     def summary(self) -> Object:

@@ -26,7 +26,7 @@ def question_of(index: Index, groups: Groups, notes: Sequence[str], root: Root, 
     happened, others = deadlock_of(notes, root)
     results = with_happened([result_of(index, group, root) for group in groups.ordered()], happened)
     judged = judge.judged(numbered(results, root))
-    left_out = LeftOut(groups.tried, groups.further, groups.further_confirmed, groups.writers_wait, groups.further_no_value)
+    left_out = LeftOut(groups.tried, groups.further, groups.further_confirmed, groups.further_no_value, groups.writers_wait)
     notes = [*others, f"the trace is reduced: {index.origins.note}"] if index.origins.note else others
     return Question(groups.report, tuple(explained(index, groups, judged, most)), left_out, tuple(notes))
 

@@ -5,7 +5,7 @@ import argparse
 import contextlib
 import os
 import sys
-from collections.abc import Callable
+from collections.abc import Callable, Iterator
 from types import TracebackType
 from typing import IO, Optional
 
@@ -19,16 +19,21 @@ def plural(number: int, one: str) -> str:
     return f"{number:,} {one if number == 1 else one + 's'}"
 
 
-def parser_of(prog: str, description: str, epilog: str = "") -> argparse.ArgumentParser:
+def parser_of(prog: str, description: str, epilog: str) -> argparse.ArgumentParser:
     """Returns a parser that prints these texts with their line feeds. The first line of the description is enough for it."""
     return argparse.ArgumentParser(prog=prog, description=description, epilog=epilog, formatter_class=argparse.RawDescriptionHelpFormatter)
+
+
+def is_number(word: str, digits: int = 19) -> bool:
+    """Returns whether a word is a whole number of at most `digits` digits."""
+    return word.isascii() and word.isdecimal() and len(word) <= digits
 
 
 def whole_number(least: int, most: Optional[int] = None) -> Callable[[str], int]:
     """Returns a reader of an option's number in this range."""
 
     def number_of(word: str) -> int:
-        number = int(word) if word.isascii() and word.isdecimal() and len(word) < 20 else least - 1
+        number = int(word) if is_number(word) else least - 1
         if number < least or most is not None and number > most:
             raise argparse.ArgumentTypeError(f"not {least} or more" if most is None else f"not {least} to {most:,}")
         return number
@@ -69,10 +74,24 @@ def print_whole(text: str) -> None:
         raise OutputError(fault) from None
 
 
+def print_usage(text: str, status: int = 0) -> int:
+    """Prints the usage of a command. Returns 0 if the command line asks for it, else this status."""
+    return run(lambda: print_whole(f"{text.strip()}\n")) or (0 if sys.argv[1:] in (["--help"], ["-h"]) else status)
+
+
 def write_whole(name: str, text: str) -> None:
     """Writes a file. If that fails, an earlier file of this name is unchanged."""
     with Outputs() as outputs:
         outputs.open(name).write(text)
+
+
+@contextlib.contextmanager
+def writing() -> Iterator[None]:
+    """An error of the system in the block is one of an output."""
+    try:
+        yield
+    except OSError as fault:
+        raise OutputError(fault) from None
 
 
 class Outputs:
@@ -86,11 +105,9 @@ class Outputs:
         """Ends the last file and begins one. Returns it. A device or a pipe is written directly."""
         name = os.path.realpath(name)
         is_plain = os.path.isfile(name) or not os.path.exists(name)
-        try:
+        with writing():
             self.end()
             self.file = open(f"{name}.part" if is_plain else name, "w", encoding="utf-8", errors="replace")
-        except OSError as fault:
-            raise OutputError(fault) from None
         if is_plain:
             self.names.append(name)
         return self.file

@@ -7,6 +7,7 @@ from collections.abc import Iterable, Iterator, Mapping, Sequence
 from typing import IO, Optional, Protocol
 
 from goodlock.commandline import Outputs, plural
+from goodlock.parts import Waiter
 from goodlock.reducer import Reduced, Replay, Source, Spot, replayed
 from goodlock.reports import Verdict, read_reports
 from goodlock.traces import Index
@@ -38,14 +39,8 @@ def front(mine: Sequence[int], witness: Sequence[int]) -> int:
     return low
 
 
-class Waits(Protocol):
+class Waits(Waiter, Protocol):
     """A member of a cycle: its thread waits for a lock, at a place of the reduced trace."""
-
-    @property
-    def thread(self) -> int: ...
-
-    @property
-    def lock(self) -> int: ...
 
     @property
     def place(self) -> Optional[int]: ...

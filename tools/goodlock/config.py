@@ -6,7 +6,7 @@ import os
 import re
 import sys
 from collections.abc import Callable, Sequence
-from dataclasses import dataclass, field
+from dataclasses import dataclass
 from typing import Any, Optional, Union
 
 from goodlock.errors import InputError, shown
@@ -78,11 +78,10 @@ TAKEN: dict[str, tuple[str, ...]] = {
 
 @dataclass(frozen=True)
 class Config:
-    """The values of a configuration file; none if there is no file. `tables` has those of each tool by the name of its table."""
+    """The values of a configuration file. `tables` has those of each tool by the name of its table."""
 
-    file: Optional[str] = None
-    common: dict[str, Value] = field(default_factory=dict)
-    tables: dict[str, dict[str, Value]] = field(default_factory=dict)
+    common: dict[str, Value]
+    tables: dict[str, dict[str, Value]]
 
     def values_for(self, tool: str) -> dict[str, Value]:
         """Returns the values that a tool takes, by the names of its options without dashes: `suppressions` is `suppress`."""
@@ -124,7 +123,7 @@ def read_config(name: str) -> Config:
         if table not in TABLES:
             raise InputError(name, None, f"[{shown(table)}]: unknown; the tables are {', '.join(f'[{known}]' for known in TABLES)}")
     known = {table: values_of(name, f"{table}.", TABLES[table], values, folder) for table, values in tables.items()}
-    return Config(name, values_of(name, "", COMMON, common, folder), known)
+    return Config(values_of(name, "", COMMON, common, folder), known)
 
 
 def parse(name: str) -> dict[str, Any]:

@@ -6,35 +6,27 @@ else: so these forks order nothing. Each event has the line of the foreign trace
 from __future__ import annotations
 
 import argparse
-import os
-from collections import Counter
+from collections import Counter, defaultdict
 from collections.abc import Callable, Hashable, Iterator
-from typing import IO, Protocol
+from itertools import count
+from typing import IO
 
 from goodlock.commandline import Outputs
 from goodlock.limits import LARGEST, MOST_HELD_OF_RUN
-from goodlock.reducer import Source
-from goodlock.reduction import Job, add_options, folder_beside, run_job
+from goodlock.reduction import add_options, check_names
 from goodlock.traces import AdmissionCheck, one_line
-
 
 MOST_LETTERS = 10_000  # of a name or a code location
 
 
-class Numbers:
-    """Numbers names by first appearance, from 1."""
+def numbers() -> defaultdict[Hashable, int]:
+    """Returns what numbers names by first appearance, from 1."""
+    return defaultdict(count(1).__next__)
 
-    def __init__(self) -> None:
-        self.numbers: dict[Hashable, int] = {}
 
-    def of(self, name: Hashable) -> int:
-        return self.numbers.setdefault(name, len(self.numbers) + 1)
-
-    def __contains__(self, name: Hashable) -> bool:
-        return name in self.numbers
-
-    def __len__(self) -> int:
-        return len(self.numbers)
+def counted(found: Counter[str]) -> str:
+    """Returns counts as a list, the largest first: `NotHeld 2, HeldByOther 1`."""
+    return ", ".join(f"{name} {number:,}" for name, number in found.most_common())
 
 
 class Conversion:
@@ -44,7 +36,7 @@ class Conversion:
     def __init__(self, file: IO[str]) -> None:
         self.file = file
         self.check = AdmissionCheck(most_threads=LARGEST, most_held=MOST_HELD_OF_RUN)
-        self.threads, self.locks, self.variables = Numbers(), Numbers(), Numbers()
+        self.threads, self.locks, self.variables = numbers(), numbers(), numbers()
         self.names: dict[tuple[str, int], str] = {}
         self.named: set[tuple[str, int]] = set()
         self.dropped: Counter[str] = Counter()
@@ -52,13 +44,13 @@ class Conversion:
 
     def thread(self, key: Hashable, name: str) -> int:
         """Returns the number of a thread. `name` is for the comments."""
-        number = self.threads.of(key)
+        number = self.threads[key]
         self.names.setdefault(("thread", number), one_line(name))
         return number
 
     def lock(self, key: Hashable, name: str) -> int:
         """Returns the number of a lock."""
-        number = self.locks.of(key)
+        number = self.locks[key]
         self.names.setdefault(("lock", number), one_line(name))
         return number
 
@@ -103,20 +95,12 @@ class Conversion:
     def lines(self) -> Iterator[str]:
         """Yields what was dropped."""
         if self.dropped:
-            yield f"dropped, not lawful: {', '.join(f'{name} {number:,}' for name, number in self.dropped.most_common())}"
+            yield f"dropped, not lawful: {counted(self.dropped)}"
 
 
 def shortened(text: str) -> str:
     """Returns a text that fits a comment: tools/reduce reads at most 65,534 bytes of one."""
     return text if len(text) <= MOST_LETTERS else f"{text[:MOST_LETTERS]}.."
-
-
-class Converter(Protocol):
-    """Reads a foreign trace and offers its events. `lines` yields what a user should know of it."""
-
-    def convert(self, conversion: Conversion) -> None: ...
-
-    def lines(self) -> Iterator[str]: ...
 
 
 def converted(path: str, convert: Callable[[Conversion], None]) -> Conversion:
@@ -135,17 +119,5 @@ def arguments_of(parser: argparse.ArgumentParser) -> argparse.Namespace:
     args = parser.parse_args()
     if args.whole and args.bound:
         parser.error("--bound reports on the reduced run: leave out --whole, or call `goodlockd offline` for each trace")
-    if os.path.realpath(args.file) == os.path.realpath(f"{args.out}.trace"):
-        parser.error(f"{args.out}.trace is the file to read: choose another name")
+    check_names(parser, [args.file], args.out)
     return args
-
-
-def convert_file(parser: argparse.ArgumentParser, converter_of: Callable[[str], Converter]) -> int:
-    """Converts the file that the command line names. Returns the exit status."""
-    args = arguments_of(parser)
-    converter = converter_of(args.file)
-    with folder_beside(args.out) as folder:
-        path = os.path.join(folder, "converted")
-        conversion = converted(path, converter.convert)
-        job = Job(args.out, [Source(path, one_line(args.file))], args.window, args.bound or 0, args.whole, artificial=1)
-        return run_job(job, folder, [*conversion.lines(), *converter.lines()])

@@ -5,6 +5,7 @@ import enum
 import glob
 import json
 import re
+from collections import Counter
 from collections.abc import Iterable, Sequence
 from dataclasses import dataclass, field, replace
 from fnmatch import translate
@@ -147,11 +148,8 @@ class Judgement:
     @property
     def sentence(self) -> str:
         """Says why the command fails; an empty text if it does not."""
-        parts = []
-        for verdict in reversed(Verdict):
-            count = sum(result.verdict is verdict for result in self.failing)
-            if count:
-                parts.append(f"{count:,} {verdict.value}")
+        counts = Counter(result.verdict for result in self.failing)
+        parts = [f"{counts[verdict]:,} {verdict.value}" for verdict in reversed(Verdict) if counts[verdict]]
         if self.unjudged:
             parts.append(f"{self.unjudged:,} cycles in no group")
         return f"--fail-on {self.gate.fail_on}: {', '.join(parts)}" if parts else ""

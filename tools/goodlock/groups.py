@@ -2,11 +2,12 @@
 import re
 from bisect import bisect_left
 from collections import Counter
-from collections.abc import Iterable, Sequence
+from collections.abc import Iterable, Iterator, Sequence
 from dataclasses import dataclass, field
 from typing import NamedTuple, Optional, Protocol, TypeVar
 
-from goodlock.parts import Basis
+from goodlock.commandline import plural
+from goodlock.parts import WRITERS_WAIT, Basis
 from goodlock.reports import Cycle, Member, Report, Verdict
 from goodlock.traces import Index
 
@@ -184,15 +185,28 @@ class Groups:
         return bool(marks) and any(lock in marks for member in cycle.members for lock in member.held)
 
     @property
+    def confirmed(self) -> int:
+        return sum(group.confirmed for group in self.by_key.values()) + self.further_confirmed
+
+    @property
     def no_value(self) -> int:
         """How many cycles are confirmed if no value decides."""
         return sum(group.no_value for group in self.by_key.values()) + self.further_no_value
+
+    @property
+    def potential(self) -> int:
+        return sum(group.cycles for group in self.by_key.values()) + self.further - self.confirmed - self.no_value
 
     def ordered(self) -> list[Group]:
         """Returns the groups, those with the strongest evidence first."""
         kept = {id(group) for group in self.by_key.values()}
         found = [group for group in self.with_witness if id(group) in kept]
         return sorted(found + [group for group in self.by_key.values() if not group.verdict.is_confirmed], key=lambda group: -group.rank)
+
+
+def why_left_out(tried: int, writers_wait: int) -> Iterator[str]:
+    """Yields why cycles are in no group."""
+    yield from (f"{plural(count, 'cycle')} {why}" for count, why in ((tried, TRIED), (writers_wait, WRITERS_WAIT)) if count)
 
 
 def groups_of(index: Index, reports: Iterable[tuple[Report, Optional[Cycle]]]) -> list[Groups]:

@@ -4,6 +4,7 @@ from __future__ import annotations
 import re
 from collections.abc import Iterable, Iterator, Sequence
 from dataclasses import dataclass, field, replace
+from itertools import islice, takewhile
 from typing import Optional
 
 from goodlock.groups import advice_for, key_of
@@ -43,15 +44,11 @@ class NoteReader:
 
 def head_notes(report: str) -> list[str]:
     """Returns the notes before the first cycle of a report; none if there is no such file, or it is no report."""
-    lines = []
+    lines = lines_of(report)
     try:
-        for number, line in enumerate(lines_of(report)):
-            if number and not line.startswith(INDENT):
-                break
-            lines.append(line)
+        reader = NoteReader([*islice(lines, 1), *takewhile(lambda line: line.startswith(INDENT), lines)])
     except OSError:
         return []
-    reader = NoteReader(lines)
     list(reader)
     return reader.notes[0] if reader.notes else []
 

@@ -118,11 +118,8 @@ def paths_in(folders: Sequence[str]) -> Iterator[str]:
 
 
 def traces_in(folders: Sequence[str], out: str) -> list[TraceFile]:
-    traces = {}
-    for path in paths_in(folders):
-        trace = TraceFile(path, out)
-        traces[trace.name] = trace
-    return list(traces.values())
+    traces = (TraceFile(path, out) for path in paths_in(folders))
+    return list({trace.name: trace for trace in traces}.values())
 
 
 def pack(program: str, out: str) -> None:
@@ -168,7 +165,7 @@ def run_jobs(program: str, args: Namespace, traces: Sequence[TraceFile]) -> None
 
 def check_hosts(name: str) -> None:
     """Tests the form of a file of hosts."""
-    number = hosts = 0
+    hosts = 0
     with open(name, encoding="utf-8", errors="replace") as file:
         for number, line in enumerate(file, 1):
             if line.strip() and not line.startswith("#"):

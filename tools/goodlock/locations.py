@@ -2,19 +2,16 @@
 from __future__ import annotations
 
 import os
+from pathlib import Path
 from typing import Optional
 
 from goodlock.groups import Location, location_of
 
 
-def top_of(folder: str = ".") -> str:
-    """Returns the nearest folder with `.git`, from a folder upwards, or else the folder itself. In a worktree `.git` is a file."""
-    folder = here = os.path.abspath(folder)
-    while not os.path.exists(os.path.join(here, ".git")):
-        if here == os.path.dirname(here):
-            return folder
-        here = os.path.dirname(here)
-    return here
+def top_of() -> str:
+    """Returns the nearest folder with `.git`, from the working folder upwards, or else the working folder. In a worktree `.git` is a file."""
+    here = Path.cwd()
+    return str(next((folder for folder in (here, *here.parents) if os.path.exists(folder / ".git")), here))
 
 
 class Root:

@@ -4,9 +4,9 @@ from __future__ import annotations
 import re
 from collections import Counter
 from dataclasses import dataclass, field, fields, replace
-from typing import Any, Optional
+from typing import Optional
 
-from goodlock.formats.json import numbers_from, result_from
+from goodlock.formats.json import Object, numbers_from, result_from
 from goodlock.gates import Judge
 from goodlock.groups import Pair, key_of
 from goodlock.happened import deadlock_of, head_notes, with_happened
@@ -15,7 +15,6 @@ from goodlock.results import LeftOut, Numbers, Result, numbered
 
 SHOWN_TRACES, MOST_NOTES = 3, 20
 OTHER_WINDOW = re.compile(r"(?:window|process) [0-9]+: ")  # whose trace is analysed too
-Object = dict[str, Any]
 
 
 @dataclass

@@ -5,8 +5,7 @@ import shlex
 from typing import Optional
 
 from goodlock.grades import reads_in
-from goodlock.groups import advice_for as advice_for_locations
-from goodlock.groups import instance_of, pairs_of, sides_of
+from goodlock.groups import advice_for, instance_of, pairs_of, sides_of
 from goodlock.refutations import MOST_SENTENCES, Entry, Numbers, Refutation, RefutationStep, refutations_of
 from goodlock.reports import Cycle, Report, Verdict
 from goodlock.traces import VERBS, Event, Index, description_of, source_of
@@ -47,7 +46,7 @@ class Reason:
 
     def take_reads(self, cycle: Cycle) -> None:
         """Names the reads of values that keep the members apart."""
-        locations = advice_for_locations(pairs_of(self.index, sides_of(self.index, cycle.members)))
+        locations = advice_for(pairs_of(self.index, sides_of(self.index, cycle.members)))
         self.advice = f"If a thread that sees another value there does not come to its acquire, the cycle is harmless. Otherwise: {locations}"
         if cycle.reads:
             self.heading = BY_VALUES
@@ -57,7 +56,7 @@ class Reason:
 
     def take(self, refutation: Refutation) -> None:
         self.heading = f"Kept apart by {' and '.join(text for kind, text in BY.items() if kind in refutation.kinds)}"
-        self.advice = advice_for(refutation)
+        self.advice = advice_on(refutation)
         self.left_out = refutation.count - len(refutation.steps)
         for step in refutation.steps:
             self.word_step(step.entries)
@@ -131,7 +130,7 @@ def deed(index: Index, event: Event) -> str:
     return f"{VERBS[event.letter]} {kind or f'variable {event.target}'}"
 
 
-def advice_for(refutation: Refutation) -> str:
+def advice_on(refutation: Refutation) -> str:
     """Returns what to do about members that are kept apart."""
     if "section" in refutation.kinds:
         return "Orders that swap two critical sections of one lock are not examined: one of them may still lead to the deadlock."

@@ -61,10 +61,10 @@ def program() -> str:
     return os.path.join(ROOT, "out", "reducer", "reducer")
 
 
-def run_program(words: list[str]) -> str:
+def run_program(words: list[str], sources: list[Source]) -> str:
     """Runs the program, and returns what it prints."""
-    done = subprocess.run([program(), *words], stdin=subprocess.DEVNULL, stdout=subprocess.PIPE, stderr=subprocess.PIPE, encoding="utf-8",
-                          errors="replace")
+    words = [program(), *words, *(word for source in sources for word in source.words)]
+    done = subprocess.run(words, stdin=subprocess.DEVNULL, stdout=subprocess.PIPE, stderr=subprocess.PIPE, encoding="utf-8", errors="replace")
     if done.returncode:
         raise ReducerError(done.returncode, done.stderr)
     return done.stdout
@@ -73,7 +73,7 @@ def run_program(words: list[str]) -> str:
 def reduced(sources: list[Source], folder: str, most: int = MOST_EVENTS, is_whole: bool = False) -> Reduced:
     """Writes what can matter of a run, or all of it, to traces in a folder. Each has at most `most` events."""
     task = "whole" if is_whole else "reduce"
-    printed = run_program([task, folder, str(most), *(word for source in sources for word in source.words)])
+    printed = run_program([task, folder, str(most)], sources)
     counts = {name: int(number) for name, number in (line.split() for line in printed.splitlines())}
     windows = counts.pop("windows")
     places, cuts = array("Q"), dict[int, int]()
@@ -104,7 +104,7 @@ class Replay(NamedTuple):
 
 def replayed(sources: list[Source], witnesses: str) -> Iterator[Replay]:
     """Yields the verdict of each witness in a file, which `completion` has written."""
-    for line in run_program(["check", witnesses, *(word for source in sources for word in source.words)]).splitlines():
+    for line in run_program(["check", witnesses], sources).splitlines():
         word, *rest = line.split()
         numbers = list(map(int, rest))
         if word == "reaches":

@@ -14,11 +14,10 @@ from dataclasses import dataclass
 from types import FrameType
 from typing import Optional
 
-from goodlock.commandline import BOUNDS, Outputs, plural, print_whole, whole_number
+from goodlock.commandline import Outputs, plural, print_whole, whole_number, writing
 from goodlock.completion import confirmed_in, note_of, verdicts_of
-from goodlock.errors import OutputError
 from goodlock.grades import cycle_lines, graded, head_line
-from goodlock.limits import MOST_EVENTS
+from goodlock.limits import LEAST_BOUND, MOST_BOUND, MOST_EVENTS
 from goodlock.program import launcher
 from goodlock.reducer import Reduced, ReducerError, Replay, Source, reduced
 from goodlock.reports import WITNESS, WITNESS_NO_VALUE, Verdict, read_reports
@@ -29,10 +28,16 @@ ACROSS = "a cycle whose members are in different windows is not found"
 
 def add_options(parser: argparse.ArgumentParser) -> None:
     """Adds the options of the tools that reduce."""
-    parser.add_argument("--bound", type=whole_number(BOUNDS.start, BOUNDS.stop - 1), metavar="K",
+    parser.add_argument("--bound", type=whole_number(LEAST_BOUND, MOST_BOUND), metavar="K",
                         help="also write OUT.report, the report with this bound; each confirmed cycle is replayed over the whole run")
     parser.add_argument("--window", type=whole_number(2, MOST_EVENTS), default=MOST_EVENTS, metavar="N",
                         help="the most events of a trace, 2 to 1,048,576, the default; more become windows")
+
+
+def check_names(parser: argparse.ArgumentParser, files: Iterable[str], out: str) -> None:
+    """Refuses to write over a file that is to be read."""
+    if any(os.path.realpath(name) == os.path.realpath(f"{out}.trace") for name in files):
+        parser.error(f"{out}.trace is the file to read: choose another name")
 
 
 @dataclass(frozen=True)
@@ -69,10 +74,8 @@ def interrupted_by(*signals: signal.Signals) -> Iterator[None]:
 def folder_beside(out: str) -> Iterator[str]:
     """Yields a folder for the files that become OUT.trace and others: so they get their names at once, when all is written."""
     above = os.path.dirname(os.path.realpath(f"{out}.trace"))
-    try:
+    with writing():
         folder = tempfile.mkdtemp(prefix=".reduce-", dir=above)
-    except OSError as fault:
-        raise OutputError(fault) from None
     try:
         with interrupted_by(signal.SIGTERM, signal.SIGHUP):
             yield folder
@@ -85,11 +88,8 @@ def copy_to(folder: str, name: str) -> str:
     if name != "-" and (os.path.isfile(name) or not os.path.exists(name) or os.path.isdir(name)):
         return name
     with open(sys.stdin.fileno() if name == "-" else name, "rb", closefd=name != "-") as file:
-        try:
-            with tempfile.NamedTemporaryFile(dir=folder, delete=False) as copy:
-                shutil.copyfileobj(file, copy, 1 << 20)
-        except OSError as fault:
-            raise OutputError(fault) from None
+        with writing(), tempfile.NamedTemporaryFile(dir=folder, delete=False) as copy:
+            shutil.copyfileobj(file, copy, 1 << 20)
     return copy.name
 
 
@@ -113,10 +113,8 @@ def run_job(job: Job, folder: str, more: Iterable[str] = ()) -> int:
 
 
 def replace(path: str, name: str) -> None:
-    try:
+    with writing():
         os.replace(path, os.path.realpath(name))
-    except OSError as fault:
-        raise OutputError(fault) from None
 
 
 def trace_names(out: str, count: int) -> list[str]:

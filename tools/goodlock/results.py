@@ -14,7 +14,7 @@ from goodlock.locations import Root
 from goodlock.parts import condition_of
 from goodlock.reports import Report, Verdict, confirmed_text
 from goodlock.reproduce.notes import command_for
-from goodlock.traces import CALLED_BY, Index, Origin, description_of
+from goodlock.traces import CALLED_BY, Index, Origin, description_of, named
 
 
 class State(enum.Enum):
@@ -42,16 +42,14 @@ def is_below_root(location: Location) -> bool:
     return location.file is not None and not location.file.startswith(("/", "../"))
 
 
-def named(kind: str, number: int, name: Optional[str]) -> str:
-    """Returns `lock 1`, or `lock 1 (accounts)` if it has a name."""
-    return f"{kind} {number} ({name})" if name else f"{kind} {number}"
-
-
 class InTrace:
-    """What has a place in a trace, and an origin if that was reduced from files."""
+    """What has a place in a trace, an origin if that was reduced from files, and a location."""
 
     place: Optional[int]
     origin: Optional[Origin]
+    location: Optional[Location]
+    callers: tuple[str, ...]
+    has_source = True
 
     @property
     def at(self) -> str:
@@ -62,6 +60,11 @@ class InTrace:
     def label(self) -> str:
         """The place as a list shows it."""
         return self.origin.label if self.origin else str(self.place)
+
+    @property
+    def source(self) -> str:
+        """The source line with its callers, or an empty text."""
+        return CALLED_BY.join((self.location.text, *self.callers)) if self.location and self.has_source else ""
 
 
 @dataclass(frozen=True)
@@ -82,11 +85,6 @@ class Spot(InTrace):
     def target(self) -> str:
         """What a thread waits for here."""
         return "the end of another thread" if self.lock is None else named("lock", self.lock, self.name)
-
-    @property
-    def source(self) -> str:
-        """The source line with its callers, or an empty text."""
-        return CALLED_BY.join((self.location.text, *self.callers)) if self.has_source else ""
 
 
 @dataclass(frozen=True)
@@ -120,11 +118,6 @@ class WitnessStep(InTrace):
     location: Optional[Location] = None
     callers: tuple[str, ...] = ()
     origin: Optional[Origin] = None
-
-    @property
-    def source(self) -> str:
-        """The source line with its callers, or an empty text."""
-        return CALLED_BY.join((self.location.text, *self.callers)) if self.location else ""
 
 
 @dataclass(frozen=True)
@@ -251,8 +244,8 @@ class LeftOut(NamedTuple):
     tried: int = 0
     further: int = 0
     further_confirmed: int = 0
-    writers_wait: int = 0
     further_no_value: int = 0
+    writers_wait: int = 0
 
     @property
     def further_text(self) -> str:
@@ -302,12 +295,22 @@ class Run:
     @property
     def remarks(self) -> list[str]:
         """What a reader must know beside the results: what was not examined, and which suppressions are not used."""
-        found = [*self.notes, *(f"{trace}: {fault}" for trace, fault in self.faults)]
+        found = [*self.notes, *self.fault_lines]
         if self.left_out.further:
             found.append(f"{plural(self.left_out.further, 'cycle')} in too many further groups, {self.left_out.further_text}")
         if len(kept(self.results)) > self.most:
             found.append(f"{plural(len(kept(self.results)) - self.most, 'group')} not shown")
-        return found + [f"{self.suppressions} line {number} suppresses nothing" for number in self.unused]
+        return found + self.unused_lines
+
+    @property
+    def fault_lines(self) -> list[str]:
+        """Says why traces have no report."""
+        return [f"{trace}: {fault}" for trace, fault in self.faults]
+
+    @property
+    def unused_lines(self) -> list[str]:
+        """Says which suppressions are not used."""
+        return [f"{self.suppressions} line {number} suppresses nothing" for number in self.unused]
 
 
 def kept(results: Iterable[Result]) -> list[Result]:
@@ -322,9 +325,8 @@ def ordered(results: Iterable[Result]) -> list[Result]:
 
 def headline(results: Sequence[Result]) -> str:
     """Returns how many results are new, known and suppressed."""
-    counts = [(sum(result.state is state for result in results), state.value) for state in State]
-    found = ", ".join(f"{count:,} {word}" for count, word in counts if count)
-    return found or "none"
+    counts = Counter(result.state for result in results)
+    return ", ".join(f"{counts[state]:,} {state.value}" for state in State if counts[state]) or "none"
 
 
 # ---- from groups ----
@@ -379,14 +381,13 @@ def witness_of(index: Index, group: Group, root: Root) -> Witness:
 def numbers_of(index: Index, groups: Groups, happened: int, seconds: float) -> Numbers:
     """Returns the numbers of a trace, and the cycles of one report on it. A marker is no lock."""
     locks = {event.target for event in index.events if event.letter == "a"}
-    confirmed = sum(group.confirmed for group in groups.by_key.values()) + groups.further_confirmed
     return Numbers(
         events=len(index.events),
         threads=1 + len(index.fork_of),
         locks=len(locks - index.marks),
         dependencies=len(index.dependencies),
-        confirmed=confirmed,
-        potential=sum(group.cycles for group in groups.by_key.values()) + groups.further - confirmed - groups.no_value,
+        confirmed=groups.confirmed,
+        potential=groups.potential,
         tried=groups.tried,
         happened=happened,
         seconds=seconds,

@@ -3,7 +3,7 @@ import re
 from array import array
 from bisect import bisect_left, bisect_right
 from collections import defaultdict
-from collections.abc import Iterator
+from collections.abc import Iterable, Iterator
 from dataclasses import dataclass, field
 from functools import cached_property
 from math import inf
@@ -123,6 +123,11 @@ class Trace:
 def description_of(event: Event) -> str:
     """Returns what an event does: `acquires lock 10`."""
     return f"{VERBS[event.letter]} {event.target}"
+
+
+def named(kind: str, number: int, name: Optional[str]) -> str:
+    """Returns `lock 1`, or `lock 1 (accounts)` if it has a name."""
+    return f"{kind} {number} ({name})" if name else f"{kind} {number}"
 
 
 def source_of(event: Event) -> str:
@@ -288,6 +293,13 @@ def events_in(name: str) -> Iterator[Event]:
     reader = EventReader(name)
     for line in lines_of(name):
         yield from reader.events_of(line)
+
+
+def raw_events(lines: Iterable[str]) -> Iterator[tuple[int, str, int]]:
+    """Yields the events of the lines of a trace that have one event each, as an agent writes them. Others are skipped."""
+    for line in lines:
+        if match := EVENT.fullmatch(line.rstrip("\n")):
+            yield int(match[1]), match[2], int(match[3])
 
 
 class TraceReader(EventReader):
@@ -470,8 +482,7 @@ class Index:
 
     def name_of(self, kind: str, number: int) -> str:
         """Returns `thread 1` or `lock 1`, with the name that a comment of the trace gives it."""
-        name = self.names.get((kind, number))
-        return f"{kind} {number} ({name})" if name else f"{kind} {number}"
+        return named(kind, number, self.names.get((kind, number)))
 
     def steps_to(self, instance: list[int], near: int = 2) -> set[int]:
         """Returns the places that a short list shows of the way to an instance: the forks that lead to its threads, the acquires of their

@@ -4,6 +4,7 @@ from __future__ import annotations
 import argparse
 import sys
 from collections.abc import Iterable, Sequence
+from dataclasses import replace
 
 from goodlock.agent.run import say
 from goodlock.agent.search import TIMED, Found, Window
@@ -24,7 +25,7 @@ def settings_from(words: Sequence[str]) -> Settings:
     parser = argparse.ArgumentParser(prog="goodlock", usage="goodlock [OPTION ..] PROGRAM [ARG ..]")
     add_gate_options(parser)
     settings = settings_of(parser.parse_known_args(words)[0])
-    return settings if settings.gate.fail_on else Settings(settings.root, settings.suppressions, settings.judge, DEFAULT)
+    return settings if settings.gate.fail_on else replace(settings, gate=DEFAULT)
 
 
 def take_options(words: Sequence[str]) -> None:

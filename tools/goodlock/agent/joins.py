@@ -2,13 +2,13 @@
 thread that joins it acquires the lock before the join. So a cycle shows that one waits for the other's end."""
 from __future__ import annotations
 
-from collections import defaultdict
+from collections import Counter, defaultdict
 from collections.abc import Iterable, Iterator
 from dataclasses import dataclass, field
 
 from goodlock.agent.rings import Edge
 from goodlock.limits import ENDS_OF_THREADS, MOST_EVENTS, MOST_HELD
-from goodlock.traces import EVENT
+from goodlock.traces import EVENT, raw_events
 
 
 @dataclass
@@ -23,20 +23,16 @@ class Joins:
 def joins_in(lines: Iterable[str], wanted: Iterable[int]) -> Joins:
     """Reads the lines of a trace. `wanted` are the threads that holders of locks join. One that acquires nothing itself needs no lock, and one
     that has it already, since the search was interrupted before, gets no second one."""
-    held: dict[int, dict[int, int]] = defaultdict(dict)  # of a thread: its locks, and how often it has acquired each
+    held: dict[int, Counter[int]] = defaultdict(Counter)  # of a thread: its locks, and how often it has acquired each
     acquired: dict[int, set[int]] = defaultdict(set)
-    forked, most = set[int](), dict[int, int]()
+    forked, most = set[int](), Counter[int]()
     found: dict[int, tuple[int, set[int]]] = {}
     candidates, events = set(wanted), 0
-    for line in lines:
-        if not (match := EVENT.fullmatch(line.rstrip("\n"))):
-            continue
-        events += 1
-        thread, letter, target = int(match[1]), match[2], int(match[3])
+    for events, (thread, letter, target) in enumerate(raw_events(lines), 1):
         if letter == "a":
-            held[thread][target] = held[thread].get(target, 0) + 1
+            held[thread][target] += 1
             acquired[thread].add(target)
-            most[thread] = max(most.get(thread, 0), len(held[thread]))
+            most[thread] = max(most[thread], len(held[thread]))
         elif letter == "r" and target in held[thread]:
             held[thread][target] -= 1
             if not held[thread][target]:
@@ -49,7 +45,7 @@ def joins_in(lines: Iterable[str], wanted: Iterable[int]) -> Joins:
     for child, (by, locks) in found.items():
         end = ENDS_OF_THREADS + child
         has_end = end in acquired[child]
-        if has_end or (0 < most.get(child, 0) < MOST_HELD and events + 4 * len(joins.threads) + 4 <= MOST_EVENTS):
+        if has_end or (0 < most[child] < MOST_HELD and events + 4 * len(joins.threads) + 4 <= MOST_EVENTS):
             joins.threads.update([] if has_end else [child])
             joins.edges += [Edge(lock, end, by) for lock in locks] + [Edge(end, lock, child) for lock in acquired[child] - {end}]
     return joins

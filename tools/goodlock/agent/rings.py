@@ -83,19 +83,19 @@ def on_rings(edges: Graph) -> Graph:
     return {held: {lock: edges[held][lock] for lock in locks} for held, locks in after.items()}
 
 
-def longest_ring(edges: Graph, most: int = MOST_RING) -> int:
-    """Returns the most locks of a ring whose edges are of different threads; 0 if there is none, `most` if there may be one of at least that
-    many."""
+def longest_ring(edges: Graph) -> int:
+    """Returns the most locks of a ring whose edges are of different threads; 0 if there is none, MOST_RING if there may be one of at least
+    that many."""
     graph, longest, steps = on_rings(edges), 0, 0
     for first in graph:
         stack: list[tuple[int, tuple[int, ...], tuple[int, ...]]] = [(first, (first,), ())]  # `first` is the least lock of its ring
         while stack:
             at, path, threads = stack.pop()
             steps += 1
-            if len(path) == most or steps > MOST_STEPS:
-                return most
+            if len(path) == MOST_RING or steps > MOST_STEPS:
+                return MOST_RING
             for lock, by in graph[at].items():
-                free = by.difference(threads) if len(by) < most else {-len(path)}  # there is always one left
+                free = by.difference(threads) if len(by) < MOST_RING else {-len(path)}  # there is always one left
                 if lock == first and free and len(path) > 1:
                     longest = max(longest, len(path))
                 elif lock > first and lock not in path:

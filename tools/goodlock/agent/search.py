@@ -182,7 +182,7 @@ def kind_of(cycle: Cycle) -> str:
     return TIMED if markers else cycle.verdict.value
 
 
-def found_of(index: Index, group: Group, is_timed: bool, not_named: str = "") -> Found:
+def found_of(index: Index, group: Group, is_timed: bool, not_named: str) -> Found:
     cycle, members = group.example, []
     for member, side in zip(cycle.members, group.sides):
         fork = index.fork_of.get(member.thread)

@@ -10,7 +10,7 @@ from typing import NamedTuple
 
 from goodlock.agent.rings import Edge
 from goodlock.limits import ATOMIC_VALUES, END_OF_VALUES, MOST_EVENTS, MOST_HELD, WAKE_UPS
-from goodlock.traces import EVENT
+from goodlock.traces import EVENT, raw_events
 
 MOST_OF_THREAD = 4  # wake-ups of one thread: it may hold that many more locks
 
@@ -93,7 +93,7 @@ class Reader:
             lock = WAKE_UPS + number
             if by_giver[giver] == MOST_OF_THREAD or self.most[giver] + MOST_OF_THREAD > MOST_HELD or len(wait.held) == MOST_HELD:
                 continue
-            if self.events + 4 * (by_giver.total() + 1) > MOST_EVENTS:
+            if self.events + 4 * (sum(by_giver.values()) + 1) > MOST_EVENTS:
                 break
             by_giver[giver] += 1
             wakes.before[acquire] += f"# lock {lock} is the wake-up of thread {wait.thread} by thread {giver}\n{giver}a{lock}\n"
@@ -106,9 +106,8 @@ class Reader:
 def wakes_in(lines: Iterable[str]) -> Wakes:
     """Reads the lines of a trace."""
     reader = Reader()
-    for line in lines:
-        if match := EVENT.fullmatch(line.rstrip("\n")):
-            reader.take(int(match[1]), match[2], int(match[3]))
+    for event in raw_events(lines):
+        reader.take(*event)
     return reader.wakes()
 
 

@@ -18,7 +18,7 @@ from types import FrameType
 from typing import NoReturn, Optional
 
 from goodlock.agent.run import say
-from goodlock.commandline import print_whole, run
+from goodlock.commandline import is_number, print_usage
 from goodlock.dashboard.web import start, work_folder
 from goodlock.program import ROOT
 from goodlock.protocol import split
@@ -120,10 +120,10 @@ def stay(page: str, seconds: str) -> None:
 
 def main() -> int:
     if len(sys.argv) < 3:
-        return run(lambda: print_whole(f"{__doc__.strip()}\n")) or (0 if sys.argv[1:] in (["--help"], ["-h"]) else WRONG)
+        return print_usage(__doc__, WRONG)
     args, options = take_options(sys.argv[2:])
     seconds, trace = options.get("--dashboard", ""), f"{options.get('--out', 'goodlock')}.trace"
-    if seconds and not (seconds.isascii() and seconds.isdecimal() and len(seconds) < 9):
+    if seconds and not is_number(seconds, 8):
         refuse("--dashboard takes a number of seconds; --help explains the options")
     if "--server" in options and not is_address(options["--server"]):
         refuse("--server is an IPv4 address and a port; --help explains the options")

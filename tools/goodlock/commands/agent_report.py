@@ -18,7 +18,7 @@ from goodlock.agent.report import NO_REPORT, finish, read_deadlock
 from goodlock.agent.run import Run, say
 from goodlock.agent.search import NoReport, check_all
 from goodlock.agent.sites import Sites
-from goodlock.commandline import print_whole, run
+from goodlock.commandline import print_usage
 from goodlock.errors import InputError
 from goodlock.limits import MOST_BOUND
 
@@ -39,7 +39,7 @@ def check_options(words: list[str]) -> int:
 
 def main() -> int:
     if len(sys.argv) < 7 or sys.argv[1] not in TASKS:
-        return run(lambda: print_whole(f"{__doc__.strip()}\n")) or (0 if sys.argv[1:] in (["--help"], ["-h"]) else NO_REPORT)
+        return print_usage(__doc__, NO_REPORT)
     task, program, bound, out, number, seconds = sys.argv[1:7]
     files, gate = Run(out, program, MOST_BOUND if bound == "auto" else int(bound)), sys.argv[7:]
     try:

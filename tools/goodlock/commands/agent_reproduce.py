@@ -15,14 +15,13 @@ import sys
 from typing import NoReturn
 
 from goodlock.agent.run import say
-from goodlock.commandline import print_whole, run
+from goodlock.commandline import is_number, print_usage
 from goodlock.errors import InputError
 from goodlock.reproduce.drive import NOT_REPRODUCED, Agent, Driver, Plan
 from goodlock.reproduce.recorded import check_builds, find_cycle
 from goodlock.reproduce.notes import note_reproduced
 
 WRONG, MOST_TRIES, MOST_PATIENCE, AGENT_FILES = 2, 1000, 3600, 4
-CYCLE = "--cycle"
 
 
 class Parser(argparse.ArgumentParser):
@@ -32,7 +31,7 @@ class Parser(argparse.ArgumentParser):
 
 
 def tries(word: str) -> int:
-    if not (word.isascii() and word.isdecimal() and len(word) < 6 and 1 <= int(word) <= MOST_TRIES):
+    if not (is_number(word, 5) and 1 <= int(word) <= MOST_TRIES):
         raise argparse.ArgumentTypeError(f"not 1 to {MOST_TRIES}")
     return int(word)
 
@@ -49,7 +48,7 @@ def seconds(word: str) -> float:
 
 def numbers(word: str) -> tuple[int, ...]:
     words = word.replace(",", " ").split()
-    if not words or not all(part.isascii() and part.isdecimal() and len(part) < 12 for part in words):
+    if not words or not all(is_number(part, 11) for part in words):
         raise argparse.ArgumentTypeError("not the numbers of a cycle, as in 0,1")
     return tuple(map(int, words))
 
@@ -57,7 +56,7 @@ def numbers(word: str) -> tuple[int, ...]:
 def read_args(words: list[str]) -> argparse.Namespace:
     parser = Parser(prog="goodlock", add_help=False, allow_abbrev=False)
     parser.add_argument("--reproduce", required=True)
-    parser.add_argument(CYCLE, type=numbers)
+    parser.add_argument("--cycle", type=numbers)
     parser.add_argument("--tries", type=tries, default=3)
     parser.add_argument("--patience", type=seconds, default=2.0)
     parser.add_argument("--gdb", action="store_true")
@@ -86,7 +85,7 @@ def reproduce(words: list[str]) -> int:
 
 def main() -> int:
     if len(sys.argv) <= AGENT_FILES + 1:
-        return run(lambda: print_whole(f"{__doc__.strip()}\n")) or (0 if sys.argv[1:] in (["--help"], ["-h"]) else WRONG)
+        return print_usage(__doc__, WRONG)
     for number in (signal.SIGTERM, signal.SIGHUP):  # end as by Ctrl-C: nothing is left behind
         signal.signal(number, signal.default_int_handler)
     try:
@@ -102,7 +101,3 @@ def main() -> int:
         return WRONG
     except KeyboardInterrupt:
         return NOT_REPRODUCED
-
-
-if __name__ == "__main__":
-    raise SystemExit(main())

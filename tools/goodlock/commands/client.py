@@ -16,7 +16,7 @@ import contextlib
 import sys
 from typing import Optional
 
-from goodlock.commandline import BOUNDS, print_whole, run
+from goodlock.commandline import BOUNDS, print_usage, print_whole, run
 from goodlock.errors import InputError
 from goodlock.protocol import KINDS, EventRefused, Lost, Refused, Session, split
 from goodlock.traces import events_in, read_whole
@@ -56,7 +56,7 @@ def stream(address: str, file: str, bound: int) -> int:
 def main() -> int:
     args = sys.argv[1:]
     if args in (["--help"], ["-h"]):
-        return run(lambda: print_whole(f"{__doc__.strip()}\n"))
+        return print_usage(__doc__)
     try:
         address, file, bound = args
         split(address)

@@ -1,5 +1,6 @@
 """Shows a running server in a browser: its events, its questions and their reports. Asks questions."""
 import argparse
+import contextlib
 import signal
 import sys
 
@@ -62,10 +63,8 @@ def show() -> int:
             print(f"cannot listen on {args.bind}:{args.port}: {fault.strerror}; --port chooses another port", file=sys.stderr)
             return 1
         print(f"listening {dashboard.url()}", flush=True)
-        try:
+        with contextlib.suppress(KeyboardInterrupt):
             dashboard.serve_forever()
-        except KeyboardInterrupt:
-            pass
     return 0
 
 

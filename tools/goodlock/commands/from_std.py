@@ -1,10 +1,13 @@
 """Converts a trace in RAPID's STD format, with lines such as `T1|acq(l)|Bank.java:35`, into a trace that `goodlockd offline` reads."""
+import os
 from collections import Counter
 from collections.abc import Iterator
 
 from goodlock.commandline import parser_of, run
-from goodlock.conversion import Conversion, convert_file
+from goodlock.conversion import Conversion, arguments_of, converted, counted
 from goodlock.errors import InputError, fault_of_text, shown
+from goodlock.reducer import Source
+from goodlock.reduction import Job, folder_beside, run_job
 from goodlock.traces import lines_of, one_line
 
 HELP = """
@@ -71,17 +74,27 @@ class Converter:
 
     def lines(self) -> Iterator[str]:
         if self.left_out:
-            yield f"left out: {', '.join(f'{name} {number:,}' for name, number in self.left_out.most_common())}"
+            yield f"left out: {counted(self.left_out)}"
 
 
 def number_of(conversion: Conversion, letter: str, name: str) -> int:
     """Returns the number of the thread, lock or variable that is an event's target."""
     if letter in "fj":
         return conversion.thread(name, name)
-    return conversion.lock(name, name) if letter in "ar" else conversion.variables.of(name)
+    return conversion.lock(name, name) if letter in "ar" else conversion.variables[name]
+
+
+def convert() -> int:
+    parser = parser_of("from_std", __doc__, HELP)
+    parser.add_argument("file", help="a trace in STD format")
+    args = arguments_of(parser)
+    converter = Converter(args.file)
+    with folder_beside(args.out) as folder:
+        path = os.path.join(folder, "converted")
+        conversion = converted(path, converter.convert)
+        job = Job(args.out, [Source(path, one_line(args.file))], args.window, args.bound or 0, args.whole, artificial=1)
+        return run_job(job, folder, [*conversion.lines(), *converter.lines()])
 
 
 def main() -> int:
-    parser = parser_of("from_std", __doc__, HELP)
-    parser.add_argument("file", help="a trace in STD format")
-    return run(lambda: convert_file(parser, Converter))
+    return run(convert)

@@ -9,8 +9,7 @@ import sys
 from collections.abc import Sequence
 
 from goodlock import ci
-from goodlock.commandline import BOUNDS, count, parser_of, plural, run, whole_number, write_whole
-from goodlock.errors import OutputError
+from goodlock.commandline import BOUNDS, count, parser_of, plural, run, whole_number, write_whole, writing
 from goodlock.formats.json import many_text as json_text
 from goodlock.formats.text import many_text
 from goodlock.jobs import TraceFile, check_hosts, do_job, run_jobs, traces_in
@@ -93,13 +92,6 @@ def program_to_run(parser: argparse.ArgumentParser) -> str:
     return program
 
 
-def make_folder(name: str) -> None:
-    try:
-        os.makedirs(name, exist_ok=True)
-    except OSError as fault:
-        raise OutputError(fault) from None
-
-
 def run_of(args: argparse.Namespace, settings: Settings, traces: Sequence[TraceFile]) -> Run:
     log = os.path.join(args.out, "joblog")
     merged = Merged(settings.root, f"there is no result{f': see the job log {log}' if os.path.exists(log) else ''}")
@@ -130,7 +122,8 @@ def analyse() -> int:
     traces = find_traces(parser, args)
     left = [trace for trace in traces if "fault" in (trace.read(args.bound) or {"fault": ""})]
     program = program_to_run(parser) if left else ""
-    make_folder(args.out)
+    with writing():
+        os.makedirs(args.out, exist_ok=True)
     if left:
         run_jobs(program, args, left)
     found = run_of(args, settings, traces)

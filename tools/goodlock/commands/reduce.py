@@ -1,9 +1,7 @@
 """Leaves out the events of a run that change no cycle and no verdict, so that a run of any length fits a trace."""
-import os
-
 from goodlock.commandline import parser_of, run
 from goodlock.reducer import Source
-from goodlock.reduction import Job, add_options, copy_to, folder_beside, run_job
+from goodlock.reduction import Job, add_options, check_names, copy_to, folder_beside, run_job
 from goodlock.traces import one_line
 
 HELP = """
@@ -35,9 +33,7 @@ def reduce() -> int:
     args = parser.parse_args()
     if args.files.count("-") > 1:
         parser.error("standard input can be read once")
-    for name in args.files:
-        if os.path.realpath(name) == os.path.realpath(f"{args.out}.trace"):
-            parser.error(f"{args.out}.trace is the file to read: choose another name")
+    check_names(parser, args.files, args.out)
     with folder_beside(args.out) as folder:
         sources = [Source(copy_to(folder, name), "standard input" if name == "-" else one_line(name)) for name in args.files]
         return run_job(Job(args.out, sources, args.window, args.bound or 0), folder)

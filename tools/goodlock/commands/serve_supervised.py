@@ -14,7 +14,7 @@ import signal
 import subprocess
 import sys
 
-from goodlock.commandline import print_whole, run
+from goodlock.commandline import print_usage, run
 from goodlock.program import launcher
 
 
@@ -23,13 +23,10 @@ def supervise(words: list[str]) -> int:
     numbers = signal.SIGTERM, signal.SIGINT, signal.SIGHUP
     signal.pthread_sigmask(signal.SIG_BLOCK, numbers)  # until there is a server
     read_end, write_end = os.pipe()
-    is_open = True
+    pipe = open(write_end, "wb", buffering=0)
 
     def stop(number: int, frame: object) -> None:
-        nonlocal is_open
-        if is_open:
-            is_open = False
-            os.close(write_end)
+        pipe.close()  # a second time changes nothing
 
     # A process group of its own: Ctrl-C of a terminal reaches only this command.
     server = subprocess.Popen([launcher(), "serve", *words, "--stop-at-eof"], stdin=read_end, start_new_session=True,
@@ -45,5 +42,5 @@ def supervise(words: list[str]) -> int:
 def main() -> int:
     words = sys.argv[1:]
     if words in (["--help"], ["-h"], []):
-        return run(lambda: print_whole(f"{(__doc__ or '').strip()}\n"))
+        return print_usage(__doc__ or "")
     return run(lambda: supervise(words))

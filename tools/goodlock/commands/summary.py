@@ -9,7 +9,7 @@ from goodlock.analysis import merged_results, questions_of
 from goodlock.commandline import count, parser_of, plural, print_whole, run
 from goodlock.formats.json import summary_text as json_text
 from goodlock.formats.text import summary_text
-from goodlock.gates import Judgement, suppression_of
+from goodlock.gates import suppression_of
 from goodlock.reports import Verdict
 from goodlock.results import LeftOut, Question, Run, kept, numbers_of
 from goodlock.settings import Settings, settings_of
@@ -81,7 +81,7 @@ def summarise() -> int:
     args = read_args()
     settings = settings_of(args)
     questions, found = run_of(args, settings)
-    judgement: Judgement = settings.gate.judgement(found.results, found.left_out)
+    judgement = settings.gate.judgement(found.results, found.left_out)
     if args.generate_suppressions:
         print_whole(suppressions_text(questions))
         return 0

@@ -21,6 +21,7 @@ from http.server import BaseHTTPRequestHandler, ThreadingHTTPServer
 from typing import Any, Optional
 from urllib.parse import urlsplit
 
+from goodlock.commandline import is_number
 from goodlock.dashboard.files import notes_beside
 from goodlock.dashboard.metrics import FORM, metrics_text
 from goodlock.dashboard.reports import KINDS, NoReport, Reports
@@ -85,7 +86,7 @@ class Handler(BaseHTTPRequestHandler):
 
     def do_POST(self) -> None:
         length = self.headers.get("Content-Length", "")
-        if not (length.isascii() and length.isdecimal()) or len(length) > 9 or int(length) > LONGEST_BODY:
+        if not is_number(length, 9) or int(length) > LONGEST_BODY:
             self.close_connection = True
             self.refuse(413, "The request is too long.")
             return
@@ -251,8 +252,6 @@ def started(dashboard: Dashboard) -> Dashboard:
 
 
 def is_numeric(name: str) -> bool:
-    try:
-        ipaddress.ip_address(name)
-    except ValueError:
-        return False
-    return True
+    with contextlib.suppress(ValueError):
+        return bool(ipaddress.ip_address(name))
+    return False

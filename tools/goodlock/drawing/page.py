@@ -13,10 +13,10 @@ from goodlock.drawing.shapes import PALETTE, colours_of
 from goodlock.drawing.timeline import Link, Marks, TimeLine, rows_of
 from goodlock.drawing.verdict import Line, kind_of, verdict_of
 from goodlock.grades import graded
-from goodlock.groups import TRIED, Groups, instance_of, location_of
+from goodlock.groups import Groups, instance_of, location_of, why_left_out
 from goodlock.happened import DEADLOCK, deadlock_of
 from goodlock.locations import Root
-from goodlock.parts import WRITERS_WAIT, condition_of
+from goodlock.parts import condition_of
 from goodlock.reasons import Reason, reasons_of
 from goodlock.reports import Cycle, Member, Report, Verdict, confirmed_text, no_value_text
 from goodlock.reproduce.notes import command_for
@@ -67,13 +67,11 @@ class Drawn:
 
     def sections(self) -> list[Part]:
         """Returns what the page draws."""
-        return self.parts()[:self.most] if self.is_grouped else self.parts()
+        return self.parts()[:self.most]
 
     def verdict(self, happened: str = "") -> Line:
-        groups = self.groups.by_key.values()
-        confirmed, no_value = sum(group.confirmed for group in groups) + self.groups.further_confirmed, self.groups.no_value
-        potential = sum(group.cycles for group in groups) + self.groups.further - confirmed - no_value
-        return verdict_of(self.report.length, self.report.bound, confirmed, no_value, potential, happened)
+        groups = self.groups
+        return verdict_of(self.report.length, self.report.bound, groups.confirmed, groups.no_value, groups.potential, happened)
 
 
 def drawn_reports(index: Index, reports: Iterable[tuple[Report, Optional[Cycle]]], most: int) -> list[Drawn]:
@@ -141,9 +139,7 @@ def report_parts(index: Index, drawn: Drawn, at: int) -> Iterator[str]:
                 f"confirmed {report.confirmed:,}{no_value_text(groups.no_value)}.")
     if not report.cycles:
         yield NO_CYCLES.format(" Threads, locks and branches that the run did not use are not in it.")
-    for count, why in ((groups.tried, TRIED), (groups.writers_wait, WRITERS_WAIT)):
-        if count:
-            yield faint(f'{plural(count, "cycle")} {why}.')
+    yield from (faint(f"{line}.") for line in why_left_out(groups.tried, groups.writers_wait))
     if drawn.is_grouped:
         number = len(groups.by_key)
         which = "each group" if number <= drawn.most else "the first group" if drawn.most == 1 else f"each of the first {drawn.most} groups"

@@ -2,7 +2,7 @@
 from collections.abc import Collection, Iterable, Sequence
 from dataclasses import dataclass
 from html import escape
-from typing import NamedTuple, Optional, Union
+from typing import NamedTuple, Optional
 
 from goodlock.drawing.shapes import APART, FAINT, GLYPH, INK, OTHER, SMALLEST, STUCK, Value, cut, drawing, fitting, shape, text, titled, two_lines
 from goodlock.reports import Member
@@ -13,16 +13,11 @@ NARROWEST, WIDEST, BETWEEN, MOST_DIGITS, TALL = 200, 230, 40, 7, 1000
 KINDS = {"f": "thread", "j": "thread", "a": "lock", "r": "lock"}
 
 
-class Shown(NamedTuple):
-    """A row with one event."""
-
-    place: int
-
-
-class LeftOut(NamedTuple):
-    """A row for a run of events that are left out."""
+class Row(NamedTuple):
+    """A row with one event, or for a run of events that are left out."""
 
     places: list[int]
+    is_left_out: bool = False
 
 
 class Link(NamedTuple):
@@ -37,9 +32,6 @@ class Taken(NamedTuple):
 
     lock: int
     begin: float
-
-
-Row = Union[Shown, LeftOut]
 
 
 @dataclass
@@ -58,9 +50,9 @@ class TimeLine:
 
     def __init__(self, name: str, index: Index, rows: list[Row], colours: dict[int, str], marks: Marks) -> None:
         self.name, self.index, self.colours, self.rows, self.marks = name, index, colours, rows, marks
-        self.order = [place for row in rows for place in ([row.place] if isinstance(row, Shown) else row.places)]
+        self.order = [place for row in rows for place in row.places]
         events = index.events
-        shown = [events[row.place] for row in rows if isinstance(row, Shown)]
+        shown = [events[row.places[0]] for row in rows if not row.is_left_out]
         self.threads = sorted({event.thread for event in shown} | {member.thread for member in marks.waiting})
         self.column = min(WIDEST, max(NARROWEST, (SCREEN - GUTTER - 12) // max(1, len(self.threads))))
         self.chip_width = self.column - BETWEEN
@@ -75,8 +67,11 @@ class TimeLine:
         y, tops = HEAD + 12, []
         for row in self.rows:
             tops.append(y)
-            y += self.row_height if isinstance(row, Shown) else GAP_ROW
+            y += self.height_of(row)
         return tops, y
+
+    def height_of(self, row: Row) -> int:
+        return GAP_ROW if row.is_left_out else self.row_height
 
     def x_of(self, thread: int) -> float:
         return GUTTER + self.column * (self.threads.index(thread) + 0.5)
@@ -84,11 +79,8 @@ class TimeLine:
     def y_of(self, place: int) -> Optional[float]:
         """Returns the middle of the row that shows a place or leaves it out."""
         for row, top in zip(self.rows, self.tops):
-            if isinstance(row, Shown):
-                if row.place == place:
-                    return top + self.row_height / 2
-            elif row.places[0] <= place <= row.places[-1]:
-                return top + GAP_ROW / 2
+            if row.places[0] <= place <= row.places[-1]:
+                return top + self.height_of(row) / 2
         return None
 
     def draw(self, title: str) -> str:
@@ -153,10 +145,8 @@ class TimeLine:
         """Draws a bar for each held lock, from its outermost acquire to its release or to the end."""
         parts, index = [], self.index
         for row, top in zip(self.rows, self.tops):
-            y = top + (self.row_height if isinstance(row, Shown) else GAP_ROW) / 2
-            places = [row.place] if isinstance(row, Shown) else row.places
-            within = set(places)
-            for place in places:
+            y, within = top + self.height_of(row) / 2, set(row.places)
+            for place in row.places:
                 thread, _, target, _ = index.events[place]
                 if thread in self.slots and place in index.sections and index.sections[place] not in within:
                     self.take_slot(thread, Taken(target, y))
@@ -191,12 +181,12 @@ class TimeLine:
     # ---- rows ----
 
     def row_drawn(self, row: Row, top: float, width: float) -> str:
-        if isinstance(row, LeftOut):
+        if row.is_left_out:
             return self.left_out(row.places, top, width)
-        event, y = self.index.events[row.place], top + self.row_height / 2
-        number = str(self.index.origin(row.place).number)
+        place, y = row.places[0], top + self.row_height / 2
+        number = str(self.index.origin(place).number)
         label = text(GUTTER - 14, y + 4, number, text_anchor="end", fill=FAINT, font_size=SMALLEST if len(number) <= MOST_DIGITS else 8.5)
-        return label + self.chip(row.place, event, y)
+        return label + self.chip(place, self.index.events[place], y)
 
     def chip(self, place: int, event: Event, y: float) -> str:
         x, height, label = self.x_of(event.thread), self.row_height - 8, self.label_of(event)
@@ -290,13 +280,13 @@ def rows_of(places: Iterable[int], important: set[int], longest_run: float = 8) 
     run: list[int] = []
 
     def close() -> None:
-        rows.extend([LeftOut(run[:])] if len(run) > longest_run else map(Shown, run))
+        rows.extend([Row(run[:], is_left_out=True)] if len(run) > longest_run else [Row([place]) for place in run])
         run.clear()
 
     for place in places:
         if place in important:
             close()
-            rows.append(Shown(place))
+            rows.append(Row([place]))
         else:
             run.append(place)
     close()

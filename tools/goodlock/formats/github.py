@@ -11,7 +11,7 @@ from goodlock.results import Run, is_below_root
 def text_of(run: Run, judgement: Judgement) -> str:
     """Returns the annotations, the most important ones first: GitHub shows ten errors and ten warnings of a step."""
     levels = [(level_of(result, judgement.gate), result) for result in run.shown]
-    lines = [annotation(Level.ERROR, f"{trace}: {fault}", "No report") for trace, fault in run.faults]
+    lines = [annotation(Level.ERROR, line, "No report") for line in run.fault_lines]
     if judgement.unjudged:
         lines.append(annotation(Level.ERROR, f"{judgement.unjudged:,} cycles are in no group", "Too many groups"))
     for wanted in Level:

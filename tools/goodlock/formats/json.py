@@ -9,7 +9,7 @@ from goodlock.gates import Judgement
 from goodlock.groups import Location
 from goodlock.locations import Root
 from goodlock.reports import Verdict
-from goodlock.results import KeptApart, LeftOut, Numbers, Question, Result, ResultMember, Run, Spot, State, Witness, WitnessStep, kept
+from goodlock.results import KeptApart, Numbers, Question, Result, ResultMember, Run, Spot, State, Witness, WitnessStep, kept
 from goodlock.traces import Origin
 
 VERSION = 1
@@ -86,7 +86,7 @@ def question_object(question: Question, most: int) -> Object:
         "not_shown": max(0, len(shown) - most),
         "suppressed": counts_object(question.results, State.SUPPRESSED),
         "known": counts_object(question.results, State.KNOWN),
-        "left_out": left_out_object(question.left_out),
+        "left_out": question.left_out._asdict(),
         "notes": list(question.notes),
         "shown": [result_object(result) for result in shown[:most]],
     }
@@ -95,11 +95,6 @@ def question_object(question: Question, most: int) -> Object:
 def counts_object(results: Sequence[Result], state: State) -> Object:
     found = [result for result in results if result.state is state]
     return {"groups": len(found), "cycles": sum(result.cycles for result in found)}
-
-
-def left_out_object(left_out: LeftOut) -> Object:
-    return {"tried": left_out.tried, "further": left_out.further, "further_confirmed": left_out.further_confirmed,
-            "further_no_value": left_out.further_no_value, "writers_wait": left_out.writers_wait}
 
 
 def result_object(result: Result) -> Object:

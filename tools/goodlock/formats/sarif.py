@@ -101,16 +101,12 @@ def rule_object(rule: Rule) -> Object:
 
 def invocation_object(run: Run, judgement: Judgement) -> Object:
     """Returns how the tool ended. It was not successful if a trace has no report."""
-    notes = [notification(note, "warning") for note in run.remarks if note not in fault_texts(run)]
+    notes = [notification(note, "warning") for note in run.remarks if note not in run.fault_lines]
     return {
         "executionSuccessful": not run.faults,
         "exitCode": judgement.status or (1 if run.faults else 0),
-        "toolExecutionNotifications": [notification(text, "error") for text in fault_texts(run)] + notes,
+        "toolExecutionNotifications": [notification(line, "error") for line in run.fault_lines] + notes,
     }
-
-
-def fault_texts(run: Run) -> list[str]:
-    return [f"{trace}: {fault}" for trace, fault in run.faults]
 
 
 def notification(text: str, level: str) -> Object:

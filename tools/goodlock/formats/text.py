@@ -4,8 +4,7 @@ from __future__ import annotations
 from collections.abc import Iterator, Sequence
 
 from goodlock.commandline import plural
-from goodlock.groups import TRIED
-from goodlock.parts import WRITERS_WAIT
+from goodlock.groups import why_left_out
 from goodlock.reports import Verdict, confirmed_text, no_value_text
 from goodlock.results import Question, Result, ResultMember, Run, State, kept
 
@@ -13,11 +12,7 @@ from goodlock.results import Question, Result, ResultMember, Run, State, kept
 def summary_text(questions: Sequence[Question], run: Run) -> str:
     """Returns the summary of the reports on a trace."""
     parts = ["\n".join(question_lines(question, run.most)) for question in questions]
-    return "\n\n".join([*parts, *unused_lines(run)]) + "\n"
-
-
-def unused_lines(run: Run) -> list[str]:
-    return [f"{run.suppressions} line {number} suppresses nothing" for number in run.unused]
+    return "\n\n".join([*parts, *run.unused_lines]) + "\n"
 
 
 def question_lines(question: Question, most: int) -> Iterator[str]:
@@ -27,18 +22,13 @@ def question_lines(question: Question, most: int) -> Iterator[str]:
     yield from (f"  {note}" for note in question.notes)
     if not report.cycles and not question.results:
         yield "  Within the bound this run predicts no deadlock of this shape."
-    yield from reason_lines(left_out.tried, left_out.writers_wait)
+    yield from (f"  {line}" for line in why_left_out(left_out.tried, left_out.writers_wait))
     if left_out.further:
         yield f"  {plural(left_out.further, 'cycle')} left out, {left_out.further_text}: these are in too many further groups"
     for number, result in enumerate(shown[:most], 1):
         yield ""
         yield from result_lines(number, result)
     yield from left_out_lines(question.results, most)
-
-
-def reason_lines(tried: int, writers_wait: int) -> Iterator[str]:
-    """Yields why cycles are in no group."""
-    yield from (f"  {plural(count, 'cycle')} {why}" for count, why in ((tried, TRIED), (writers_wait, WRITERS_WAIT)) if count)
 
 
 def left_out_lines(results: Sequence[Result], most: int) -> Iterator[str]:
@@ -132,7 +122,7 @@ def many_lines(run: Run, traces: int) -> Iterator[str]:
     numbers = run.numbers
     yield (f"{plural(traces, 'trace')}, {len(run.faults):,} without a report; {plural(numbers.events, 'event')}; "
            f"{plural(numbers.cycles, 'cycle')}, {confirmed_text(numbers.confirmed, numbers.no_value)}, in {plural(len(run.results), 'group')}")
-    yield from reason_lines(numbers.tried, numbers.writers_wait)
+    yield from (f"  {line}" for line in why_left_out(numbers.tried, numbers.writers_wait))
     yield from (f"  {note}" for note in run.notes)
     for number, result in enumerate(run.shown, 1):
         yield ""
@@ -140,10 +130,10 @@ def many_lines(run: Run, traces: int) -> Iterator[str]:
     yield from left_out_lines(run.results, run.most)
     if run.unused:
         yield ""
-        yield from unused_lines(run)
+        yield from run.unused_lines
     if run.faults:
         yield "\nwithout a report"
-        yield from (f"  {trace}: {fault}" for trace, fault in run.faults)
+        yield from (f"  {line}" for line in run.fault_lines)
 
 
 def merged_lines(number: int, result: Result) -> Iterator[str]:

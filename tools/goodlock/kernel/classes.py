@@ -30,7 +30,6 @@ class Class:
 
     name: str
     acquires: int
-    waited: int
     inside: dict[tuple[str, bool], bool] = field(default_factory=dict)
     enabled: dict[tuple[str, bool], bool] = field(default_factory=dict)
     inside_line: dict[str, int] = field(default_factory=dict)
@@ -93,7 +92,7 @@ def read_classes(name: str) -> Classes:
 
 
 def class_of(words: list[str]) -> Class:
-    found = Class(words[15], int(words[1]), int(words[2]))
+    found = Class(words[15], int(words[1]))
     for at, interrupt in enumerate(INTERRUPTS):
         numbers = list(map(int, words[3 + 6 * at:9 + 6 * at]))
         for is_read in (False, True):

@@ -19,7 +19,7 @@ MAGIC = b"goodcalls 2\n"
 EVENT, OTHER, EXEC, CUT, END = 22, 28, 29, 30, 31  # kinds of entries that are no calls; EVENT and 5 more: events
 SAME_THREAD, SAME_OBJECT, SAME_SITE, KINDS = 32, 64, 128, 32
 LETTERS, MOST_NUMBER, LONGEST_ENTRY, CHUNK = "fjardw", 5, 16, 1 << 20
-LONG, UNWRITTEN, NO_LOG, BY_EXEC = 1, 2, 3, 9
+LONG, UNWRITTEN, BY_EXEC = 1, 2, 9
 WHY_CUT = {LONG: "the run is too long: its log takes more than --keep-log; record it with a larger --keep-log",
            UNWRITTEN: "the log of the run could not be written: record it again on a disk with more room",
            BY_EXEC: "the process ran calls of one program and then another one by exec: record that one alone"}
@@ -89,6 +89,11 @@ class Log:
 
     def __len__(self) -> int:
         return len(self.threads)
+
+    @property
+    def most_object(self) -> int:
+        """The largest number of an object; threads are none."""
+        return max((about for kind, about in zip(self.kinds, self.objects) if kind not in (FORK, JOINED)), default=0)
 
 
 def command_of(name: str) -> Optional[list[str]]:
@@ -217,7 +222,7 @@ def hash_of(line: str) -> int:
 def check_numbers(log: Log) -> None:
     if not all(place.file in log.files and place.offset < 1 << 64 for place in log.places.values()):
         raise InputError(log.name, None, "a code address is in no file: record the program again")
-    if max((about for kind, about in zip(log.kinds, log.objects) if kind not in (FORK, JOINED)), default=0) > len(log):
+    if log.most_object > len(log):
         raise InputError(log.name, None, "an object has a number that no call gave it: record the program again")
 
 

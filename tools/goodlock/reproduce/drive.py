@@ -9,6 +9,7 @@ import tempfile
 from collections.abc import Callable, Iterator
 from dataclasses import dataclass
 from functools import partial
+from itertools import repeat
 from typing import Optional
 
 from goodlock.agent.run import Run, say
@@ -87,8 +88,7 @@ def schedules(recorded_schedule: Schedule, tries: int) -> Iterator[Schedule]:
     second one of these also pauses before the locks that the members hold."""
     run, cycle = recorded_schedule.run, recorded_schedule.cycle
     if cycle.verdict.is_confirmed:
-        for _ in range(tries):
-            yield recorded_schedule
+        yield from repeat(recorded_schedule, tries)
     for number in range(tries):
         yield Schedule(run, cycle, LONG_PAUSE if number > 1 else SHORT_PAUSE, is_early=number % 2 == 1)
 

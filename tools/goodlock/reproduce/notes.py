@@ -7,7 +7,7 @@ import shlex
 from collections.abc import Iterable, Iterator, Sequence
 from typing import Optional
 
-from goodlock.agent.run import ACROSS, say
+from goodlock.agent.run import ACROSS, say, shortly
 from goodlock.commandline import write_whole
 from goodlock.errors import InputError, OutputError
 from goodlock.program import ROOT
@@ -59,6 +59,5 @@ def command_for(trace: Optional[str], numbers: Sequence[int]) -> str:
     if len(words) > 2 and os.path.basename(words[1]) == PYTHON_AGENT:
         agent, words = "python", words[2:]
     goodlock = os.path.join(ROOT, "agents", agent, "goodlock")
-    shorter = os.path.relpath(goodlock)
-    command = [goodlock if shorter.startswith("..") else shorter, "--reproduce", name, "--cycle", ",".join(map(str, numbers)), *words]
+    command = [shortly(goodlock), "--reproduce", name, "--cycle", ",".join(map(str, numbers)), *words]
     return " ".join(map(shlex.quote, command))

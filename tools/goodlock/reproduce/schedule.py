@@ -7,19 +7,18 @@ from __future__ import annotations
 import os
 import struct
 from array import array
-from collections import defaultdict
+from collections import Counter, defaultdict
 from collections.abc import Iterable, Sequence
 from dataclasses import dataclass
 from functools import cached_property
 from itertools import islice
 from typing import Optional
 
-from goodlock import limits
 from goodlock.errors import InputError
 from goodlock.groups import instance_of
-from goodlock.limits import END_OF_VALUES, ENDS_OF_THREADS, PLAIN_VALUES, TRY_MARKERS, WAKE_UPS
+from goodlock.limits import ATOMIC_VALUES, END_OF_VALUES, ENDS_OF_THREADS, PLAIN_VALUES, TRY_MARKERS, WAKE_UPS
 from goodlock.reports import Cycle, Verdict
-from goodlock.reproduce.calls import FORK, JOINED, NO_CALL, WHY_CUT, Log
+from goodlock.reproduce.calls import FORK, NO_CALL, WHY_CUT, Log
 from goodlock.traces import Event, Index
 
 MAGIC = 0x31646568637321
@@ -90,7 +89,7 @@ def is_read_later(log: Log, place: int, event: Event) -> bool:
     if place >= len(log.events):
         return False
     found = log.events.at(place)
-    return found[1] == "w" and limits.ATOMIC_VALUES <= found[2] < limits.TRY_MARKERS and found != event[:3]
+    return found[1] == "w" and ATOMIC_VALUES <= found[2] < TRY_MARKERS and found != event[:3]
 
 
 def is_of_end(event: Event) -> bool:
@@ -145,12 +144,12 @@ class Schedule:
 
     def find_parents(self) -> dict[int, tuple[int, int]]:
         """Returns of each forked thread its parent, and which child of it it is."""
-        log, parents, forks = self.run.log, dict[int, tuple[int, int]](), dict[int, int]()
+        log, parents, forks = self.run.log, dict[int, tuple[int, int]](), Counter[int]()
         for at, kind in enumerate(log.kinds):
             if kind == FORK:
                 parent = log.threads[at]
-                parents[log.objects[at]] = parent, forks.get(parent, 0)
-                forks[parent] = forks.get(parent, 0) + 1
+                parents[log.objects[at]] = parent, forks[parent]
+                forks[parent] += 1
         return parents
 
     def can_be_followed(self, thread: int) -> bool:
@@ -214,7 +213,7 @@ class Schedule:
         files = b"".join(pack_file(file.path, file.build) for file in log.files.values())
         members = b"".join(self.pack_member(place) for place in self.in_trace)
         counts = [len(lanes) // LANE.size, len(calls) // CALL.size, len(self.turn_of), len(sites) // SITE.size, len(log.files),
-                  len(self.instance), 0 if self.pause else self.most_object(), self.pause, int(self.is_early)]
+                  len(self.instance), 0 if self.pause else log.most_object, self.pause, int(self.is_early)]
         head = HEAD.pack(MAGIC, *counts, *[0] * 5)
         return head + lanes + calls + struct.pack(f"<{len(owners)}I", *owners) + sites + files + members
 
@@ -227,10 +226,6 @@ class Schedule:
         """Returns the number of the site of an event's call."""
         call = self.run.call_of(place)
         return 0 if call == NO_CALL else self.site_numbers.get(self.run.log.sites[call], 0)
-
-    def most_object(self) -> int:
-        log = self.run.log
-        return max((about for kind, about in zip(log.kinds, log.objects) if kind not in (FORK, JOINED)), default=0)
 
     def pack_lanes(self) -> tuple[bytes, bytes]:
         log, sites, lanes, calls = self.run.log, self.site_numbers, bytearray(), bytearray()
