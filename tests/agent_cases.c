@@ -797,6 +797,12 @@ static void in_handler(void) {
     }
 }
 
+/* SIGALRM ends the program after 4 seconds, or after those of ALARM, if something else is to end it first. */
+static void end_later(void) {
+    const char *seconds = getenv("ALARM");
+    alarm(seconds ? (unsigned)atoi(seconds) : 4);
+}
+
 /* deadlocks: a deadlock that happens. SIGALRM ends the program. */
 static void *a_meets_b(void *unused) {
     pthread_mutex_lock(&a);
@@ -815,13 +821,13 @@ static void *b_meets_a(void *unused) {
 }
 
 static void deadlocks(void) {
-    alarm(4);
+    end_later();
     run_two(a_meets_b, b_meets_a);
 }
 
 /* waits_for_itself: a thread acquires its own lock again */
 static void waits_for_itself(void) {
-    alarm(4);
+    end_later();
     pthread_mutex_lock(&a);
     pthread_mutex_lock(&a);
 }
@@ -834,7 +840,7 @@ static void *wants_a(void *unused) {
 
 static void joins_holding(void) {
     pthread_t handle;
-    alarm(4);
+    end_later();
     pthread_mutex_lock(&a);
     if (pthread_create(&handle, NULL, wants_a, NULL)) abort();
     pthread_join(handle, NULL);
