@@ -19,7 +19,7 @@ def plural(number: int, one: str) -> str:
     return f"{number:,} {one if number == 1 else one + 's'}"
 
 
-def parser_of(prog: str, description: str, epilog: str) -> argparse.ArgumentParser:
+def parser_of(prog: str, description: str, epilog: str = "") -> argparse.ArgumentParser:
     """Returns a parser that prints these texts with their line feeds. The first line of the description is enough for it."""
     return argparse.ArgumentParser(prog=prog, description=description, epilog=epilog, formatter_class=argparse.RawDescriptionHelpFormatter)
 
