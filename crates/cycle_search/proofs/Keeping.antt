@@ -5,9 +5,9 @@ use Rattle.trace_model.specs.Theory.Dependencies.{Dependency}
 use Rattle.cycle_search.specs.declared.kept.Kept.{Kept}
 use Rattle.cycle_search.specs.declared.refused.SearchRefused.{SearchRefused}
 use Rattle.cycle_search.specs.declared.refused.SearchRefused.TheVariants.{TooMany}
-use Rattle.cycle_search.specs.Collecting.{TakesAll}
+use Rattle.cycle_search.specs.Collecting.{TakesAll, TookAll, CollectorRefuses}
 use Rattle.cycle_search.specs.Keeping.{keeps}
-use Rattle.cycle_search.specs.CycleSearch.{CycleFrom, MoreThan}
+use Rattle.cycle_search.specs.CycleSearch.{AreAll, AreSome, CycleFrom, MoreThan}
 use Rattle.cycle_search.proofs.Turns.{cycles-from, more-from}
 
 module _ (ds : List Dependency) (bound root : ℕ) (old new : Kept) (answer : Result (Unit {0}) SearchRefused)
@@ -26,3 +26,18 @@ module _ (ds : List Dependency) (bound root : ℕ) (old new : Kept) (answer : Re
   kept-too_many is =
       let (after, some, refuses) = (subst (λ r. TakesAll keeps (CycleFrom ds bound root) old r new) is takes) old [] (keeps.nothing old) in
       more-from ds bound root old.most after some (subst (λ z. old.most < length (z ++ after)) none (refuses refl))
+
+-- What the collector keeps after it took more cycles.
+pub kept-more : (P : List ℕ → Type 0) (old new : Kept) → ((start : Kept) (before : List (List ℕ)) → keeps.took start before old → TookAll keeps P start before new) →
+    (new.most ≡ old.most) × ((more : List (List ℕ)) × (new.cycles.items ≡ old.cycles.items ++ more) × AreAll P more)
+kept-more P old new takes =
+    let (after, (more, e, all), took) = takes old [] (keeps.nothing old) in
+    (took.0, (more, took.1 ∙ ap (λ z. old.cycles.items ++ z) e, all))
+
+-- It refuses a cycle as too many only at its limit.
+pub refused-more : (P : List ℕ → Type 0) (old : Kept) (refused : SearchRefused) →
+    ((start : Kept) (before : List (List ℕ)) → keeps.took start before old → CollectorRefuses keeps P start before refused) → refused ≡ TooMany →
+    (more : List (List ℕ)) × AreSome P more × (old.most < length (old.cycles.items ++ more))
+refused-more P old refused refuses is =
+    let (after, (more, e, some), full) = refuses old [] (keeps.nothing old) in
+    (more, some, subst (λ z. old.most < length (old.cycles.items ++ z)) e (full is))

@@ -1,4 +1,6 @@
 pub mod Listing
+pub mod Positions
+pub mod Continuing
 pub mod Paths
 pub mod Turns
 pub mod EdgeLemmas

@@ -74,6 +74,10 @@ all-none P none = record {
   complete = λ n h. absurd (none n h);
 }
 
+-- There is nothing with the property.
+pub none-of : (P : List ℕ → Type 0) → AreAll P [] → (n : List ℕ) → P n → ⊥
+none-of P all n h = let (k, l, e) = all.complete n h in omega (arith, l)
+
 pub some-one : (P : List ℕ → Type 0) (c : List ℕ) → P c → AreSome P (c ∷ [])
 some-one P c p = record {
   sound = λ n h. let k = has_contained (c ∷ []) n h in only k.0 n k.1;

@@ -89,6 +89,22 @@ module _ (ds : List Dependency) (path : List ℕ) (m : ℕ) where
     ];
   }
 
+-- A path without its last number.
+pub path-shorter : (ds : List Dependency) (path : List ℕ) (m : ℕ) → 0 < length path → IsPath ds (path ++ m ∷ []) → IsPath ds path
+path-shorter ds path m begun p = record {
+  begun = begun;
+  known = all-from (λ n. n < length ds) path (λ k n h. all-had (λ n. n < length ds) (path ++ m ∷ []) p.known k n (get-push_kept path m k n h));
+  least_first = λ first n h c.
+      let k = has_contained path n c in
+      p.least_first first n (get-push_kept path m 0 first h) (contains_had (path ++ m ∷ []) n (k.0, get-push_kept path m k.0 n k.1));
+  threads_distinct = λ i j a b l x y. p.threads_distinct i j a b l (still i a x) (still j b y);
+  held_disjoint = λ i j a b l x y. p.held_disjoint i j a b l (still i a x) (still j b y);
+  linked = λ i a b x y. p.linked i a b (still i a x) (still (suc i) b y);
+}
+  where
+    still : (i : ℕ) (a : Dependency) → Member ds path i a → Member ds (path ++ m ∷ []) i a
+    still i a (n, x, y) = (n, get-push_kept path m i n x, y)
+
 -- A single number is a path.
 only : (root k m : ℕ) → slice_get (root ∷ []) k ≡ Some m → root ≡ m
 only root zero m h = same_Some root m h
@@ -249,20 +265,17 @@ module _ (ds : List Dependency) (path : List ℕ) (p : IsPath ds path) (last : D
     (λ links. decides.1 (links (length path - 1) last next (omega (arith, p.begun)) last-member here)),
   )
 
-  pub nexts-known : (all : List ℕ) → ((m : ℕ) → Contains all m ↔ HoldsLock ds m last.lock) → (first : ℕ) → get_or path 0 0 ≡ first → (nexts : List ℕ) →
-      ((m : ℕ) → Contains nexts m ↔ ((first < m) × Contains all m)) → IsStrictlyIncreasing nexts → AreNexts ds path nexts
-  nexts-known all holds first head nexts exact ascends = record {
+  pub nexts-known : (all : List ℕ) → ((m : ℕ) → Contains all m ↔ HoldsLock ds m last.lock) → (after : ℕ) → (nexts : List ℕ) →
+      ((m : ℕ) → Contains nexts m ↔ ((after < m) × Contains all m)) → IsStrictlyIncreasing nexts → AreNexts ds path after nexts
+  nexts-known all holds after nexts exact ascends = record {
     known = λ m h. slice_get_within ds m (holder m h).0 (holder m h).1;
-    above = λ m h f x. let l = ((exact m).0 h).0 in omega (arith, l, sym (get_or_from_slice_get path 0 f 0 x) ∙ head);
+    above = λ m h. ((exact m).0 h).0;
     linked = λ m h k a b s x y.
         let d = holder m h in
         subst (λ z. Contains z.held a.lock) (same_Some d.0 b (sym d.1 ∙ y)) (subst (λ z. Contains d.0.held z.lock) (is-last k a s x) d.2);
     complete = λ m l above links.
         let d = found ds m l in
-        (exact m).1 (
-          above first (slice_get-get_or path 0 0 p.begun ∙ ap Some head),
-          (holds m).1 (d.0, d.1, links (length path - 1) last d.0 (omega (arith, p.begun)) last-member d.1),
-        );
+        (exact m).1 (above, (holds m).1 (d.0, d.1, links (length path - 1) last d.0 (omega (arith, p.begun)) last-member d.1));
     ascends = ascends;
   }
     where

@@ -43,19 +43,10 @@ IsTooFar search path next = search.members ≤ length path + slice_index search.
 abbrev pub CycleFrom : List Dependency → ℕ → ℕ → List ℕ → Type 0
 CycleFrom ds bound root numbers = IsCycle ds bound numbers × (slice_get numbers 0 ≡ Some root)
 
--- A cycle up to the bound that begins with the path and has more members.
-abbrev pub CycleBeyond : List Dependency → ℕ → List ℕ → List ℕ → Type 0
-CycleBeyond ds bound path numbers =
-    IsCycle ds bound numbers × ((next : ℕ) × (rest : List ℕ) × (numbers ≡ path ++ next ∷ rest))
-
 -- A cycle up to the bound that begins with the path followed by this number.
 abbrev pub CycleThrough : List Dependency → ℕ → List ℕ → ℕ → List ℕ → Type 0
 CycleThrough ds bound path next numbers =
     IsCycle ds bound numbers × ((rest : List ℕ) × (numbers ≡ path ++ next ∷ rest))
-
--- A cycle of the search that begins with the path and has more members.
-abbrev pub SearchedBeyond : CycleSearch → ArrayVec ℕ → List ℕ → Type 0
-SearchedBeyond search path = CycleBeyond search.search_input.now search.members path.items
 
 -- A cycle of the search that begins with the path followed by this number.
 abbrev pub SearchedThrough : CycleSearch → ArrayVec ℕ → ℕ → List ℕ → Type 0
@@ -66,13 +57,19 @@ SearchedThrough search path next =
 abbrev pub CycleOver : List Dependency → ℕ → List ℕ → (ℕ → Type 0) → List ℕ → Type 0
 CycleOver ds bound path P numbers = (next : ℕ) × P next × CycleThrough ds bound path next numbers
 
+-- A cycle of the search that begins with the path followed by a number above `after`.
+abbrev pub SearchedAfter : CycleSearch → ArrayVec ℕ → ℕ → List ℕ → Type 0
+SearchedAfter search path after =
+    CycleOver search.search_input.now search.members path.items (λ next. after < next)
+
 -- The number is one of the first `i` of these.
 abbrev pub IsAmong : List ℕ → ℕ → ℕ → Type 0
 IsAmong nexts i next = (k : ℕ) × (k < i) × (slice_get nexts k ≡ Some next)
 
--- A cycle that begins with the path followed by a number up to `last`.
-abbrev pub CycleUpTo : List Dependency → ℕ → List ℕ → ℕ → List ℕ → Type 0
-CycleUpTo ds bound path last = CycleOver ds bound path (λ next. next ≤ last)
+-- A cycle that begins with the path followed by a number above `after`, up to `last`.
+abbrev pub CycleUpTo : List Dependency → ℕ → List ℕ → ℕ → ℕ → List ℕ → Type 0
+CycleUpTo ds bound path after last =
+    CycleOver ds bound path (λ next. (after < next) × (next ≤ last))
 
 -- The path may be the beginning of a cycle.
 pub record IsPath (ds : List Dependency) (path : List ℕ) : Type 0 where
@@ -114,10 +111,11 @@ CompletesCycle ds path = (k : ℕ) (first last : Dependency) → suc k ≡ lengt
     Member ds path 0 first →
     Member ds path k last → Contains first.held last.lock
 
--- Exactly the dependencies above the first member that hold the lock of the last member, ascending.
-pub record AreNexts (ds : List Dependency) (path nexts : List ℕ) : Type 0 where
+-- Exactly the dependencies above a number that hold the lock of the last member, ascending.
+pub record AreNexts (ds : List Dependency) (path : List ℕ) (after : ℕ)
+    (nexts : List ℕ) : Type 0 where
   pub known : (m : ℕ) → Contains nexts m → m < length ds
-  pub above : (m : ℕ) → Contains nexts m → AboveFirst path m
+  pub above : (m : ℕ) → Contains nexts m → after < m
   pub linked : (m : ℕ) → Contains nexts m → LinksTo ds path m
-  pub complete : (m : ℕ) → m < length ds → AboveFirst path m → LinksTo ds path m → Contains nexts m
+  pub complete : (m : ℕ) → m < length ds → after < m → LinksTo ds path m → Contains nexts m
   pub ascends : IsStrictlyIncreasing nexts

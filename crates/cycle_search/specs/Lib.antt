@@ -9,3 +9,4 @@ pub mod Walk
 pub mod Distances
 pub mod Collecting
 pub mod Keeping
+pub mod Pausing

@@ -40,7 +40,7 @@ pub(crate) fn is_long(search_input: &SearchInput<'_>, path: &Path, members: usiz
     if members < LEAST_MEMBERS {
         return false;
     }
-    let nexts = successors(search_input, path);
+    let nexts = successors(search_input, path, path[0]);
     let third = third_members(search_input, path[0], nexts);
     let each = third / nexts.len().max(1);
     let mut paths = third;

@@ -4,20 +4,22 @@
 //! acquires. A path grows by one successor at a time. It is a cycle if its first member holds the
 //! lock that its last member acquires.
 
-ghost use Rattle.std.specs.Prelude.{◌≡◌, ◌<◌, ◌≤◌, ◌↔◌, ◌+◌, ◌++◌, ◌∷◌, [], ℕ, List, slice_index, length, IsTrue, IfOk, OnOk, Err};
+ghost use Rattle.std.specs.Prelude.{◌≡◌, ◌<◌, ◌≤◌, ◌↔◌, ◌+◌, ◌++◌, ◌∷◌, [], ℕ, List, false, slice_index, length, IsTrue, IfOk, OnOk, Err};
 ghost use Rattle.trace_model.specs.declared.limits.TheConstants.{MAX_CYCLES};
-ghost use Rattle.trace_model.specs.Theory.Cycles.{AreCyclesFrom};
+ghost use Rattle.trace_model.specs.Theory.Cycles.{AreCyclesFrom, ListBelow};
 ghost use Rattle.guards.specs.Compatible.{IsCompatible};
 ghost use Rattle.cycle_search.specs.Acquirers.{IsLeastAbove};
 ghost use Rattle.cycle_search.specs.Collecting.{AcceptsAll, TakesAll};
 ghost use Rattle.cycle_search.specs.Distances.{AreDistances};
-ghost use Rattle.cycle_search.specs.CycleSearch.{IsPath, CompletesCycle, AboveFirst, LinksTo, CompletesAsLast, AreNexts, MoreThan, CycleFrom, HasDistances, IsTooFar, SearchedBeyond, SearchedThrough, IfTooMany};
+ghost use Rattle.cycle_search.specs.CycleSearch.{IsPath, CompletesCycle, AboveFirst, LinksTo, CompletesAsLast, AreNexts, MoreThan, CycleFrom, HasDistances, IsTooFar, SearchedAfter, SearchedThrough, IfTooMany};
+ghost use Rattle.cycle_search.specs.Pausing.{CanContinue, IfPaused, PausesAfter, PausesAt, SearchedFrom, TakesUntil, position_at};
 
 use crate::ascending::above;
 use crate::collector::Collector;
 use crate::costs::{closing_visits, is_long};
 use crate::distances::distances_to;
 use crate::kept::Kept;
+use crate::pace::{Halt, Pace, Unpaused};
 use crate::{Components, SearchInput, SearchRefused};
 use arrayvec::ArrayVec;
 use guards::compatible;
@@ -29,16 +31,16 @@ pub(crate) type Path = ArrayVec<u32, MAX_MEMBERS>;
 
 /// The parameters of one search.
 #[derive(Clone, Copy)]
-struct CycleSearch<'a> {
-    search_input: &'a SearchInput<'a>,
+pub(crate) struct CycleSearch<'a> {
+    pub(crate) search_input: &'a SearchInput<'a>,
     /// The least number of members that must follow each dependency, or an empty list if distances
     /// were not computed.
-    distances: &'a [u32],
+    pub(crate) distances: &'a [u32],
     /// The maximum number of members of a cycle.
-    members: usize,
+    pub(crate) members: usize,
     /// If the last member is missing and the path has more successors than this, the search looks
     /// up the last member by the locks that it acquires.
-    successors: usize,
+    pub(crate) successors: usize,
 }
 
 /// Returns all cycles with at most `bound` members whose first member is `root`, each once, in
@@ -109,9 +111,6 @@ pub fn collect_cycles<C: Collector<Cycle>>(
     ensures { IfOk result (λ taken. TakesAll C.taking (CycleFrom search_input.now bound root)
         collector.old taken collector.new) }
 {
-    if !search_input.components.is_cyclic(root) {
-        return Ok(Ok(()));
-    }
     let members = most_members(search_input, root, bound);
     if members < 2 {
         return Ok(Ok(()));
@@ -125,24 +124,31 @@ pub fn collect_cycles<C: Collector<Cycle>>(
         members,
         successors: closing_visits(search_input, root),
     };
-    Ok(extend(&search, &mut path, collector))
+    match extend(&search, &mut path, root, collector, &mut Unpaused) {
+        Ok(()) => Ok(Ok(())),
+        Err(Halt::Refused(refused)) => Ok(Err(refused)),
+        Err(Halt::Paused(_)) => unreachable!(),
+    }
 }
 
 /// Returns the most members that a cycle of `root` up to the bound can have: no more than its
-/// component has threads.
-fn most_members(search_input: &SearchInput<'_>, root: u32, bound: Bound) -> usize
+/// component has threads. Returns 0 if `root` is in no cycle of the graph.
+pub(crate) fn most_members(search_input: &SearchInput<'_>, root: u32, bound: Bound) -> usize
     requires { root < length search_input.now }
     ensures within { result ≤ bound }
     ensures eight { result ≤ 8 }
     ensures all { (numbers : List ℕ) → CycleFrom search_input.now bound root numbers →
         length numbers ≤ result }
 {
+    if !search_input.components.is_cyclic(root) {
+        return 0;
+    }
     let threads = search_input.components.thread_count(root);
     threads.min(bound.get() as usize)
 }
 
 /// Returns the distances to the path's one member if a search from it is long, else an empty list.
-fn distances_of(
+pub(crate) fn distances_of(
     alloc: Global,
     search_input: &SearchInput<'_>,
     path: &Path,
@@ -164,54 +170,103 @@ fn distances_of(
     )
 }
 
-/// Gives to the collector all cycles that begin with the path and have more members.
-#[cycle(search)]
-fn extend<C: Collector<Cycle>>(
+/// Gives to the collector all cycles of the path's first member that are not before the position
+/// of the path and `last`.
+pub(crate) fn extend_from<C: Collector<Cycle>, P: Pace>(
     search: &CycleSearch<'_>,
     path: &mut Path,
+    last: u32,
     collector: &mut C,
-) -> Result<(), C::Refused>
+    pace: &mut P,
+) -> Result<(), Halt<C::Refused>>
     requires path { IsPath search.now.search_input.now path.old.items }
     requires room { length path.old.items < search.now.members }
     requires members { search.now.members ≤ 8 }
+    requires above { slice_index path.old.items 0 ≤ last }
     requires distances { HasDistances search.now path.old.items }
-    requires accepts { AcceptsAll C.taking (SearchedBeyond search.now path.old) collector.old }
-    ensures path { OnOk result (path.new.items ≡ path.old.items) }
-    ensures all { TakesAll C.taking (SearchedBeyond search.now path.old)
-        collector.old result collector.new }
+    requires accepts { AcceptsAll C.taking (SearchedFrom search.now path.old last) collector.old }
+    ensures all { TakesUntil C.taking (SearchedFrom search.now path.old last)
+        collector.old result path.new.items collector.new }
+    ensures paused { IfPaused result (CanContinue search.now path.new.items) }
+    ensures first { IfPaused result (λ _.
+        slice_index path.new.items 0 ≡ slice_index path.old.items 0) }
+    ensures kept { IfPaused result (λ now.
+        ListBelow (position_at path.new.items now) (position_at path.old.items last) → ⊥) }
+    ensures later { IfPaused result (λ now. (P.pauses pace.old → ⊥) →
+        ListBelow (position_at path.old.items last) (position_at path.new.items now)) }
 {
-    let nexts = successors(search.search_input, path);
-    // The path may have many successors although few dependencies close it.
-    if path.len() + 1 == search.members && search.successors < nexts.len() {
-        return close(search, path, collector);
-    }
-    for next in nexts {
-        visit(search, path, *next, collector)?;
+    extend(search, path, last, collector, pace)?;
+    while path.len() > 1 {
+        let Some(last) = path.pop() else {
+            unreachable!()
+        };
+        extend(search, path, last, collector, pace)?;
     }
     Ok(())
 }
 
-/// Gives to the collector all cycles that consist of the path and one more member. It looks up that
-/// member by the locks that the first member holds.
+/// Gives to the collector all cycles that begin with the path followed by a number above `after`.
 #[cycle(search)]
-fn close<C: Collector<Cycle>>(
+pub(crate) fn extend<C: Collector<Cycle>, P: Pace>(
     search: &CycleSearch<'_>,
     path: &mut Path,
+    after: u32,
     collector: &mut C,
-) -> Result<(), C::Refused>
+    pace: &mut P,
+) -> Result<(), Halt<C::Refused>>
+    requires path { IsPath search.now.search_input.now path.old.items }
+    requires room { length path.old.items < search.now.members }
+    requires members { search.now.members ≤ 8 }
+    requires above { slice_index path.old.items 0 ≤ after }
+    requires distances { HasDistances search.now path.old.items }
+    requires accepts { AcceptsAll C.taking (SearchedAfter search.now path.old after) collector.old }
+    ensures path { OnOk result (path.new.items ≡ path.old.items) }
+    ensures all { TakesUntil C.taking (SearchedAfter search.now path.old after)
+        collector.old result path.new.items collector.new }
+    ensures paused { IfPaused result (PausesAfter search.now path.old after path.new) }
+    ensures later { IfPaused result (λ last. (P.pauses pace.old → ⊥) →
+        ListBelow (position_at path.old.items after) (position_at path.new.items last)) }
+    ensures pauses { IfPaused result (λ last. (some : P) × P.pauses some) }
+{
+    let nexts = successors(search.search_input, path, after);
+    // The path may have many successors although few dependencies close it.
+    if path.len() + 1 == search.members && search.successors < nexts.len() {
+        return close(search, path, after, collector, pace);
+    }
+    for next in nexts {
+        visit(search, path, *next, collector, pace)?;
+    }
+    Ok(())
+}
+
+/// Gives to the collector all cycles that consist of the path and one more member above `after`. It
+/// looks up that member by the locks that the first member holds.
+#[cycle(search)]
+fn close<C: Collector<Cycle>, P: Pace>(
+    search: &CycleSearch<'_>,
+    path: &mut Path,
+    after: u32,
+    collector: &mut C,
+    pace: &mut P,
+) -> Result<(), Halt<C::Refused>>
     requires path { IsPath search.now.search_input.now path.old.items }
     requires room { length path.old.items + 1 ≡ search.now.members }
     requires members { search.now.members ≤ 8 }
+    requires above { slice_index path.old.items 0 ≤ after }
     requires distances { HasDistances search.now path.old.items }
-    requires accepts { AcceptsAll C.taking (SearchedBeyond search.now path.old) collector.old }
+    requires accepts { AcceptsAll C.taking (SearchedAfter search.now path.old after) collector.old }
     ensures path { OnOk result (path.new.items ≡ path.old.items) }
-    ensures all { TakesAll C.taking (SearchedBeyond search.now path.old)
-        collector.old result collector.new }
+    ensures all { TakesUntil C.taking (SearchedAfter search.now path.old after)
+        collector.old result path.new.items collector.new }
+    ensures paused { IfPaused result (PausesAfter search.now path.old after path.new) }
+    ensures later { IfPaused result (λ last. (P.pauses pace.old → ⊥) →
+        ListBelow (position_at path.old.items after) (position_at path.new.items last)) }
+    ensures pauses { IfPaused result (λ last. (some : P) × P.pauses some) }
 {
-    let mut last = path[0];
+    let mut last = after;
     while let Some(next) = next_completing(search.search_input, path, last) {
         if links(search.search_input, path, next) {
-            visit(search, path, next, collector)?;
+            visit(search, path, next, collector, pace)?;
         }
         last = next;
     }
@@ -220,47 +275,70 @@ fn close<C: Collector<Cycle>>(
 
 /// Gives to the collector all cycles that begin with the path followed by `next`.
 #[cycle(search)]
-fn visit<C: Collector<Cycle>>(
+fn visit<C: Collector<Cycle>, P: Pace>(
     search: &CycleSearch<'_>,
     path: &mut Path,
     next: u32,
     collector: &mut C,
-) -> Result<(), C::Refused>
+    pace: &mut P,
+) -> Result<(), Halt<C::Refused>>
     requires path { IsPath search.now.search_input.now path.old.items }
     requires room { length path.old.items < search.now.members }
     requires members { search.now.members ≤ 8 }
     requires distances { HasDistances search.now path.old.items }
     requires known { next < length search.now.search_input.now }
-    requires above { AboveFirst path.old.items next }
+    requires above { slice_index path.old.items 0 < next }
     requires linked { LinksTo search.now.search_input.now path.old.items next }
     requires accepts { AcceptsAll C.taking (SearchedThrough search.now path.old next)
         collector.old }
     ensures path { OnOk result (path.new.items ≡ path.old.items) }
-    ensures all { TakesAll C.taking (SearchedThrough search.now path.old next)
-        collector.old result collector.new }
+    ensures all { TakesUntil C.taking (SearchedThrough search.now path.old next)
+        collector.old result path.new.items collector.new }
+    ensures paused { IfPaused result (PausesAt search.now path.old next path.new) }
+    ensures later { IfPaused result (λ last. (P.pauses pace.old → ⊥) →
+        ListBelow (path.old.items ++ next ∷ []) (position_at path.new.items last)) }
+    ensures pauses { IfPaused result (λ last. (some : P) × P.pauses some) }
 {
-    let search_input = search.search_input;
-    if !same_component(search_input.components, path, next) {
+    if !pace.visits() {
+        return Err(Halt::Paused(next - 1));
+    }
+    if !may_follow(search, path, next) {
         return Ok(());
     }
-    if is_too_far(search, path, next) {
-        return Ok(());
-    }
-    if ends_open(search_input, search.members, path, next) {
-        return Ok(());
-    }
-    if !fits(search_input, path, next) {
-        return Ok(());
-    }
-    let is_cycle = closes(search_input, path, next);
+    let is_cycle = closes(search.search_input, path, next);
     path.push(next);
     if is_cycle {
-        collector.take(cycle_of(path))?;
+        if let Err(refused) = collector.take(cycle_of(path)) {
+            return Err(Halt::Refused(refused));
+        }
     } else if path.len() < search.members {
-        extend(search, path, collector)?;
+        extend(search, path, path[0], collector, pace)?;
     }
     path.pop();
     Ok(())
+}
+
+/// Returns whether a cycle of the search may begin with the path followed by `next`.
+fn may_follow(search: &CycleSearch<'_>, path: &Path, next: u32) -> bool
+    requires path { IsPath search.now.search_input.now path.now.items }
+    requires room { length path.now.items < search.now.members }
+    requires distances { HasDistances search.now path.now.items }
+    requires known { next < length search.now.search_input.now }
+    ensures follows { IsTrue result → IsCompatible search.now.search_input.now path.now.items next }
+    ensures none { result ≡ false → (numbers : List ℕ) →
+        SearchedThrough search.now path.now next numbers → ⊥ }
+{
+    let search_input = search.search_input;
+    if !same_component(search_input.components, path, next) {
+        return false;
+    }
+    if is_too_far(search, path, next) {
+        return false;
+    }
+    if ends_open(search_input, search.members, path, next) {
+        return false;
+    }
+    fits(search_input, path, next)
 }
 
 /// Returns whether `next` is in the component of the path's first member.
@@ -331,14 +409,13 @@ fn closes(search_input: &SearchInput<'_>, path: &Path, next: u32) -> bool
     first.held.contains(last.lock)
 }
 
-/// Returns the dependencies above the path's first member that hold the lock of its last member,
-/// ascending.
-pub(crate) fn successors<'a>(search_input: &SearchInput<'a>, path: &Path) -> &'a [u32]
+/// Returns the dependencies above `after` that hold the lock of the path's last member, ascending.
+pub(crate) fn successors<'a>(search_input: &SearchInput<'a>, path: &Path, after: u32) -> &'a [u32]
     requires { IsPath search_input.now path.now.items }
-    ensures { AreNexts search_input.now path.now.items result.now }
+    ensures { AreNexts search_input.now path.now.items after result.now }
 {
     let holders = search_input.successors(path[path.len() - 1]);
-    above(holders, path[0])
+    above(holders, after)
 }
 
 /// Returns the least dependency above `bound` that acquires a lock which the path's first member

@@ -1,24 +1,29 @@
-use Rattle.std.proofs.Common.{◌≡◌, ◌+◌, ◌<◌, ◌-◌, ◌++◌, ◌∷◌, [], length, ℕ, List, Option, Some, get_or, slice_get, refl, sym, ap, subst, ◌∙◌, arith, true≢false}
+use Rattle.std.proofs.Common.{◌≡◌, ◌+◌, ◌<◌, ◌-◌, ◌++◌, ◌∷◌, suc, [], length, ℕ, List, Option, inl, inr, get_or, slice_get, refl, sym, ap, subst, ◌∙◌, arith, append_assoc, true≢false}
+use Rattle.std.proofs.lemmas.Bool.{cases_lt}
 use Rattle.std.proofs.lemmas.Option.{slice_get-get_or, slice_get_within, get_or_from_slice_get}
 use Rattle.std.proofs.lemmas.Grind.{get_or_default_zero}
 use Rattle.std.proofs.lemmas.Result.{err_from_is_err_and}
 use Rattle.std.specs.List.{Contains}
+use Rattle.trace_model.specs.Theory.Cycles.{ListBelow}
 use Rattle.trace_model.specs.Theory.Dependencies.{Dependency}
-use Rattle.dependencies.specs.Tables.{table_dependencies}
-use Rattle.cycle_search.specs.CycleSearch.{IsPath, AboveFirst, LinksTo, CompletesAsLast, CycleOver, CycleUpTo, IsAmong, AreAll, CycleBeyond, CycleThrough, HasDistances, SearchedThrough}
+use Rattle.cycle_search.specs.CycleSearch.{IsPath, AboveFirst, LinksTo, CompletesCycle, CompletesAsLast, CycleOver, CycleUpTo, IsAmong, AreAll, CycleThrough, HasDistances, SearchedThrough}
 use Rattle.cycle_search.specs.Collecting.{AcceptsAll, TakesSoFar}
+use Rattle.cycle_search.specs.Pausing.{IsListBefore, PausesAfter, PausesAt, position_at}
 use Rattle.cycle_search.specs.Acquirers.{IsLeastAbove}
 use Rattle.cycle_search.specs.Distances.{AreDistances}
-use Rattle.trace_model.proofs.Lists.{length-push, get-push_kept}
+use Rattle.trace_model.proofs.Lists.{get-push_kept}
 use Rattle.trace_model.proofs.Theory.Unique.{contains_had}
-use Rattle.cycle_search.proofs.Listing.{all-none, popped}
-use Rattle.cycle_search.proofs.Collecting.{accepts-through, takes-none, takes-as, takes-after, takes-one, refuses-after, refuses-as, refuses-for, refuses-one, ended}
-use Rattle.cycle_search.proofs.Turns.{adds-more, adds-end, some-more, closers-begin, closers-more, closers-some, closers-end, rejected, closed, one-closed, forth, deeper, deeper-some, full}
+use Rattle.cycle_search.proofs.Listing.{all-none}
+use Rattle.cycle_search.proofs.Collecting.{accepts-through, takes-none, takes-as, takes-after, takes-one, refuses-one, until-for, ended-after, ended-as, paused-as, paused-last}
+use Rattle.cycle_search.proofs.Positions.{below-longer, paused-later}
+use Rattle.cycle_search.proofs.Turns.{adds-more, adds-end, above-first, some-more, until-more, closers-begin, closers-more, closers-some, closers-until, closers-end, rejected, closed, one-closed, forth, deeper, deeper-some, deeper-until, full, none-before}
 use Rattle.cycle_search.proofs.Paths.{path-tested}
-use Rattle.cycle_search.proofs.ComponentLemmas.{other-component}
-use Rattle.cycle_search.proofs.DistanceLemmas.{too-far}
 use Rattle.cycle_search.proofs.search.+search.Goals as goal
-use Rattle.cycle_search.proofs.search.+search.Goals.{visit-then-is_cycle+in_ok-take, visit-else-is_cycle+then-len-search+in_ok-extend, visit-else-is_cycle+else-len-search}
+use Rattle.cycle_search.proofs.search.+search.Goals.{visit-then-is_cycle+in_default, visit-else-is_cycle+then-len-search+in_ok-extend, visit-else-is_cycle+else-len-search}
+
+-- A number above the first one.
+above-first-of : (path : List ℕ) (m : ℕ) → get_or path 0 0 < m → AboveFirst path m
+above-first-of path m l first at = omega (arith, l, get_or_from_slice_get path 0 first 0 at)
 
 pub extend-visit-requires : goal.extend-visit-requires
 extend-visit-requires g t c =
@@ -29,10 +34,11 @@ extend-visit-requires g t c =
     let here : Contains items m = (i, c.loop-next-test.true, get_or_default_zero items i m c.loop-next-test.true) in
     let same = sym c.loop-next.invariant.same in
     let shorter = ap (λ (p : List ℕ). length p) same in
-    let accepts = accepts-through g.C.Collector.taking c.args.search.now.search_input.now c.args.search.now.members c.args.path.now.items _ m
+    let over : get_or c.args.path.now.items 0 0 < m = omega (arith, c.requires.above, n.above m here) in
+    let accepts = accepts-through g.C.Collector.taking c.args.search.now.search_input.now c.args.search.now.members c.args.path.now.items _ m (λ next. c.args.after < next)
     (CycleOver c.args.search.now.search_input.now c.args.search.now.members c.args.path.now.items (IsAmong items i)) c.args.collector.now c.loop-next.collector
-    same c.loop-next.invariant.added c.requires.accepts in
-    (λ κs lives. (omega (arith, shorter), (lives.0, (lives.1, (subst (λ p. IsPath c.args.search.now.search_input.now p) same c.requires.path, (subst (λ (p : List ℕ). length p < c.args.search.now.members) same c.requires.room, (c.requires.members, (subst (λ p. HasDistances c.args.search.now p) same c.requires.distances, (n.known m here, (subst (λ p. AboveFirst p m) same (n.above m here), (subst (λ p. LinksTo c.args.search.now.search_input.now p m) same (n.linked m here), accepts)))))))))))
+    (n.above m here) same c.loop-next.invariant.added c.requires.accepts in
+    (λ κs lives. (omega (arith, shorter), (lives.0, (lives.1.0, (lives.1.1, (subst (λ p. IsPath c.args.search.now.search_input.now p) same c.requires.path, (subst (λ (p : List ℕ). length p < c.args.search.now.members) same c.requires.room, (c.requires.members, (subst (λ p. HasDistances c.args.search.now p) same c.requires.distances, (n.known m here, (subst (λ (p : List ℕ). get_or p 0 0 < m) same over, (subst (λ p. LinksTo c.args.search.now.search_input.now p m) same (n.linked m here), accepts))))))))))))
 
 pub extend-returns-in_err-visit-clause-all : goal.extend-returns-in_err-visit-clause-all
 extend-returns-in_err-visit-clause-all g t c =
@@ -40,35 +46,70 @@ extend-returns-in_err-visit-clause-all g t c =
     let ds = c.args.search.now.search_input.now in
     let bound = c.args.search.now.members in
     let path = c.args.path.now.items in
+    let after = c.args.after in
+    let items = c.successors-nexts.result.now in
+    let i = c.loop-next.next-index in
+    let m = get_or items i 0 in
+    let begun = c.requires.path.begun in
+    let are = c.successors-nexts.ensures in
+    let at = slice_get-get_or items i 0 c.loop-next-test.true in
+    let p = err_from_is_err_and c.from_residual.result c.from_residual.ensures.1 in
+    ended-after taking (CycleOver ds bound path (IsAmong items i)) (CycleThrough ds bound path m) (CycleOver ds bound path (λ n. after < n)) c.args.collector.now c.loop-next.collector
+    c.visit.new.collector c.visit.new.path.items _ p.0 _ p.1 (sym p.2)
+    (some-more ds bound path after items begun are i m at)
+    (λ last is.
+    let (can, (rest, e)) = paused-last (PausesAt c.args.search.now c.loop-next.path m c.visit.new.path) _ last is c.in_err-visit.ensures.paused in
+    until-more ds bound path after items begun are i m at (position_at c.visit.new.path.items last) rest (e ∙ ap (λ (q : List ℕ). q ++ m ∷ rest) c.loop-next.invariant.same))
+    c.loop-next.invariant.added
+    (until-for taking (λ q. CycleThrough ds bound q m) c.loop-next.path.items path c.loop-next.collector c.visit.new.collector c.visit.new.path.items c.in_err-visit.field-0.0
+    c.loop-next.invariant.same c.in_err-visit.ensures.all)
+
+pub extend-returns-in_err-visit-clause-paused : goal.extend-returns-in_err-visit-clause-paused
+extend-returns-in_err-visit-clause-paused g t c =
     let items = c.successors-nexts.result.now in
     let i = c.loop-next.next-index in
     let m = get_or items i 0 in
     let p = err_from_is_err_and c.from_residual.result c.from_residual.ensures.1 in
-    ended taking (CycleBeyond ds bound path) c.args.collector.now _ _ p.0 _ p.1 (sym p.2)
-    (refuses-after taking (CycleOver ds bound path (IsAmong items i)) (CycleThrough ds bound path m) (CycleBeyond ds bound path) c.args.collector.now c.loop-next.collector _
-    (some-more ds bound path items c.successors-nexts.ensures.ascends i m (slice_get-get_or items i 0 c.loop-next-test.true))
-    c.loop-next.invariant.added
-    (refuses-for taking (λ q. CycleThrough ds bound q m) c.loop-next.path.items path c.loop-next.collector _ c.loop-next.invariant.same c.in_err-visit.ensures.all))
+    paused-as (PausesAfter c.args.search.now c.args.path.now c.args.after c.visit.new.path) _ p.0 _ p.1 (sym p.2)
+    (λ last is.
+    let (can, (rest, e)) = paused-last (PausesAt c.args.search.now c.loop-next.path m c.visit.new.path) _ last is c.in_err-visit.ensures.paused in
+    (m, c.successors-nexts.ensures.above m (i, c.loop-next-test.true, get_or_default_zero items i m c.loop-next-test.true), (can, (rest, e ∙ ap (λ (q : List ℕ). q ++ m ∷ rest) c.loop-next.invariant.same))))
 
-pub extend-close-requires : goal.extend-close-requires
-extend-close-requires g t c =
-    let d = c.decreases in
-    let room = c.requires.room in
-    let len = c.len.ensures.value in
-    let full = c.if-len-search.true in
-    (λ κs lives. (omega arith, (lives.0, (lives.1, (c.requires.path, (omega arith, (c.requires.members, (c.requires.distances, c.requires.accepts))))))))
-
-pub extend-returns-then-search-nexts : goal.extend-returns-then-search-nexts
-extend-returns-then-search-nexts g t c = record {
-  path = c.close.ensures.path;
-  all = c.close.ensures.all;
-}
+pub extend-returns-in_err-visit-clause-later : goal.extend-returns-in_err-visit-clause-later
+extend-returns-in_err-visit-clause-later g t c =
+    let path = c.args.path.now.items in
+    let after = c.args.after in
+    let items = c.successors-nexts.result.now in
+    let i = c.loop-next.next-index in
+    let m = get_or items i 0 in
+    let are = c.successors-nexts.ensures in
+    let at = slice_get-get_or items i 0 c.loop-next-test.true in
+    let p = err_from_is_err_and c.from_residual.result c.from_residual.ensures.1 in
+    paused-as (λ last. (g.P.Pace.pauses c.args.pace.now → ⊥) → ListBelow (position_at path after) (position_at c.visit.new.path.items last)) _ p.0 _ p.1 (sym p.2)
+    (λ last is goes.
+    let (can, (rest, e)) = paused-last (PausesAt c.args.search.now c.loop-next.path m c.visit.new.path) _ last is c.in_err-visit.ensures.paused in
+    let own = paused-last (λ last. (g.P.Pace.pauses c.loop-next.pace → ⊥) → ListBelow (c.loop-next.path.items ++ m ∷ []) (position_at c.visit.new.path.items last)) _ last is c.in_err-visit.ensures.later in
+    paused-later path after m (position_at c.visit.new.path.items last) rest (are.above m (i, c.loop-next-test.true, get_or_default_zero items i m c.loop-next-test.true))
+    (e ∙ ap (λ (q : List ℕ). q ++ m ∷ rest) c.loop-next.invariant.same)
+    (λ next. elim (cases_lt 0 i) [
+      | inl l ↦ absurd (omega (
+        arith,
+        next,
+        above-first c.args.search.now.search_input.now c.args.search.now.members path after items c.requires.path.begun are i m at l
+            (get_or items 0 0) (slice_get-get_or items 0 0 (omega (arith, l, c.loop-next-test.true))),
+      ))
+      | inr l ↦
+          let zero' : i ≡ 0 = omega (arith, l) in
+          subst (λ (q : List ℕ). ListBelow (q ++ m ∷ []) (position_at c.visit.new.path.items last)) c.loop-next.invariant.same
+          (own (λ pauses. goes (subst (λ pace. g.P.Pace.pauses pace) (c.loop-next.invariant.paced zero') pauses)))
+    ]))
 
 pub extend-loop-next-init : goal.extend-loop-next-init
 extend-loop-next-init g t c =
     let over = CycleOver c.args.search.now.search_input.now c.args.search.now.members c.args.path.now.items (IsAmong c.successors-nexts.result.now 0) in
     record {
       same = refl;
+      paced = λ first. refl;
       added = takes-none g.C.Collector.taking over c.args.collector.now (all-none over (λ n h. omega (arith, h.1.1)));
     }
 
@@ -83,25 +124,23 @@ extend-loop-next-preserved g t c =
     let m = get_or items i 0 in
     record {
       same = c.in_ok-visit.ensures.path ∙ c.loop-next.invariant.same;
+      paced = λ first. absurd (omega (arith, first));
       added = takes-after taking (CycleOver ds bound path (IsAmong items i)) (CycleThrough ds bound path m) (CycleOver ds bound path (IsAmong items (i + 1)))
           c.args.collector.now c.loop-next.collector c.visit.new.collector
-          (adds-more ds bound path items c.successors-nexts.ensures.ascends i m (slice_get-get_or items i 0 c.loop-next-test.true))
+          (adds-more ds bound path c.args.after items c.requires.path.begun c.successors-nexts.ensures i m (slice_get-get_or items i 0 c.loop-next-test.true))
           c.loop-next.invariant.added
           (subst (λ p. TakesSoFar taking (CycleThrough ds bound p m) c.loop-next.collector c.visit.new.collector) c.loop-next.invariant.same c.in_ok-visit.ensures.all);
     }
 
-pub extend-returns : goal.extend-returns
-extend-returns g t c =
+pub extend-returns-clause-all : goal.extend-returns-clause-all
+extend-returns-clause-all g t c =
     let ds = c.args.search.now.search_input.now in
     let bound = c.args.search.now.members in
     let path = c.args.path.now.items in
     let items = c.successors-nexts.result.now in
-    record {
-      path = c.loop-next.invariant.same;
-      all = takes-as g.C.Collector.taking (CycleOver ds bound path (IsAmong items c.loop-next.next-index)) (CycleBeyond ds bound path) c.args.collector.now c.loop-next.collector
-          (λ before after. adds-end ds bound path items c.loop-next.next-index before after c.requires.path.begun c.successors-nexts.ensures c.loop-next-test.false)
-          c.loop-next.invariant.added;
-    }
+    takes-as g.C.Collector.taking (CycleOver ds bound path (IsAmong items c.loop-next.next-index)) (CycleOver ds bound path (λ n. c.args.after < n)) c.args.collector.now c.loop-next.collector
+    (λ before after. adds-end ds bound path c.args.after items c.requires.path.begun c.successors-nexts.ensures c.loop-next.next-index before after c.loop-next-test.false)
+    c.loop-next.invariant.added
 
 -- The result of the search for the next closing member, for the unchanged path.
 closer-of : (ds : List Dependency) (path path' : List ℕ) (last : ℕ) (found answer : Option ℕ) → path' ≡ path → found ≡ answer →
@@ -110,39 +149,30 @@ closer-of ds path path' last found answer same is least =
     subst (IsLeastAbove last (CompletesAsLast ds path)) is (subst (λ p. IsLeastAbove last (CompletesAsLast ds p) found) same least)
 
 pub close-loop-next-init : goal.close-loop-next-init
-close-loop-next-init g t c =
-    let head = ap (λ (xs : List ℕ). get_or xs 0 0) (sym c.deref.ensures.0) in
-    record {
-      same = refl;
-      first = omega (arith, head);
-      added = takes-none g.C.Collector.taking (CycleUpTo c.args.search.now.search_input.now c.args.search.now.members c.args.path.now.items _) c.args.collector.now
-          (closers-begin c.args.search.now.search_input.now c.args.search.now.members c.args.path.now.items c.requires.path c.requires.room _
-          (slice_get-get_or c.args.path.now.items 0 0 c.requires.path.begun ∙ ap Some head));
-    }
+close-loop-next-init g t c = record {
+  same = refl;
+  from = omega arith;
+  paced = λ first. refl;
+  added = takes-none g.C.Collector.taking (CycleUpTo c.args.search.now.search_input.now c.args.search.now.members c.args.path.now.items c.args.after c.args.after) c.args.collector.now
+      (closers-begin c.args.search.now.search_input.now c.args.search.now.members c.args.path.now.items c.args.after c.requires.path c.requires.room);
+}
 
-pub close-next_completing-requires : goal.close-next_completing-requires
-close-next_completing-requires g t c = subst (λ p. IsPath c.args.search.now.search_input.now p) (sym c.loop-next.invariant.same) c.requires.path
-
-pub close-links-requires : goal.close-links-requires
-close-links-requires g t c =
+pub close-links-requires-clause-next : goal.close-links-requires-clause-next
+close-links-requires-clause-next g t c =
     let back = (c.next_completing.ensures.sound c.in-Some.next c.in-Some.is).1 in
-    record {
-      path = subst (λ p. IsPath c.args.search.now.search_input.now p) (sym c.loop-next.invariant.same) c.requires.path;
-      next = slice_get_within c.args.search.now.search_input.now c.in-Some.next back.1 back.3;
-    }
+    slice_get_within c.args.search.now.search_input.now c.in-Some.next back.1 back.3
 
 pub close-visit-requires : goal.close-visit-requires
 close-visit-requires g t c =
-    let d = c.decreases in
     let more = c.next_completing.ensures.sound c.in-Some.next c.in-Some.is in
     let same = sym c.loop-next.invariant.same in
     let shorter = ap (λ (p : List ℕ). length p) same in
     let head = ap (λ (p : List ℕ). get_or p 0 0) same in
-    let begun = λ (first : ℕ) (at : slice_get c.loop-next.path.items 0 ≡ Some first). get_or_from_slice_get c.loop-next.path.items 0 first 0 at in
-    let accepts = accepts-through g.C.Collector.taking c.args.search.now.search_input.now c.args.search.now.members c.args.path.now.items _ c.in-Some.next
-    (CycleUpTo c.args.search.now.search_input.now c.args.search.now.members c.args.path.now.items c.loop-next.last) c.args.collector.now c.loop-next.collector
-    same c.loop-next.invariant.added c.requires.accepts in
-    (λ κs lives. (omega (arith, shorter, c.requires.room), (lives.0, (lives.1, (subst (λ p. IsPath c.args.search.now.search_input.now p) same c.requires.path, (omega (arith, shorter, c.requires.room), (c.requires.members, (subst (λ p. HasDistances c.args.search.now p) same c.requires.distances, (slice_get_within c.args.search.now.search_input.now c.in-Some.next more.1.1 more.1.3, (λ first at. omega (arith, head, more.0, begun first at, c.loop-next.invariant.first), (c.links.ensures.0 c.if-links.true, accepts)))))))))))
+    let above : c.args.after < c.in-Some.next = omega (arith, more.0, c.loop-next.invariant.from) in
+    let accepts = accepts-through g.C.Collector.taking c.args.search.now.search_input.now c.args.search.now.members c.args.path.now.items _ c.in-Some.next (λ next. c.args.after < next)
+    (CycleUpTo c.args.search.now.search_input.now c.args.search.now.members c.args.path.now.items c.args.after c.loop-next.last) c.args.collector.now c.loop-next.collector
+    above same c.loop-next.invariant.added c.requires.accepts in
+    (λ κs lives. (omega (arith, shorter, c.requires.room), (lives.0, (lives.1.0, (lives.1.1, (subst (λ p. IsPath c.args.search.now.search_input.now p) same c.requires.path, (omega (arith, shorter, c.requires.room), (c.requires.members, (subst (λ p. HasDistances c.args.search.now p) same c.requires.distances, (slice_get_within c.args.search.now.search_input.now c.in-Some.next more.1.1 more.1.3, (omega (arith, head, above, c.requires.above), (c.links.ensures.0 c.if-links.true, accepts))))))))))))
 
 pub close-returns-in_err-visit-clause-all : goal.close-returns-in_err-visit-clause-all
 close-returns-in_err-visit-clause-all g t c =
@@ -150,15 +180,39 @@ close-returns-in_err-visit-clause-all g t c =
     let ds = c.args.search.now.search_input.now in
     let bound = c.args.search.now.members in
     let path = c.args.path.now.items in
+    let after = c.args.after in
     let last = c.loop-next.last in
+    let from = c.loop-next.invariant.from in
     let m = c.in-Some.next in
+    let least = closer-of ds path _ last _ _ c.loop-next.invariant.same c.in-Some.is c.next_completing.ensures in
     let p = err_from_is_err_and c.from_residual.result c.from_residual.ensures.1 in
-    ended taking (CycleBeyond ds bound path) c.args.collector.now _ _ p.0 _ p.1 (sym p.2)
-    (refuses-after taking (CycleUpTo ds bound path last) (CycleThrough ds bound path m) (CycleBeyond ds bound path) c.args.collector.now c.loop-next.collector _
-    (closers-some ds bound path c.requires.path c.requires.room last m
-    (closer-of ds path _ last _ _ c.loop-next.invariant.same c.in-Some.is c.next_completing.ensures))
+    ended-after taking (CycleUpTo ds bound path after last) (CycleThrough ds bound path m) (CycleOver ds bound path (λ n. after < n)) c.args.collector.now c.loop-next.collector
+    c.visit.new.collector c.visit.new.path.items _ p.0 _ p.1 (sym p.2)
+    (closers-some ds bound path after c.requires.path c.requires.room last m from least)
+    (λ now is.
+    let (can, (rest, e)) = paused-last (PausesAt c.args.search.now c.loop-next.path m c.visit.new.path) _ now is c.in_err-visit.ensures.paused in
+    closers-until ds bound path after c.requires.path c.requires.room last m from least (position_at c.visit.new.path.items now) rest (e ∙ ap (λ (q : List ℕ). q ++ m ∷ rest) c.loop-next.invariant.same))
     c.loop-next.invariant.added
-    (refuses-for taking (λ q. CycleThrough ds bound q m) c.loop-next.path.items path c.loop-next.collector _ c.loop-next.invariant.same c.in_err-visit.ensures.all))
+    (until-for taking (λ q. CycleThrough ds bound q m) c.loop-next.path.items path c.loop-next.collector c.visit.new.collector c.visit.new.path.items c.in_err-visit.field-0.0
+    c.loop-next.invariant.same c.in_err-visit.ensures.all)
+
+pub close-returns-in_err-visit-clause-later : goal.close-returns-in_err-visit-clause-later
+close-returns-in_err-visit-clause-later g t c =
+    let path = c.args.path.now.items in
+    let after = c.args.after in
+    let m = c.in-Some.next in
+    let more = c.next_completing.ensures.sound c.in-Some.next c.in-Some.is in
+    let p = err_from_is_err_and c.from_residual.result c.from_residual.ensures.1 in
+    paused-as (λ last. (g.P.Pace.pauses c.args.pace.now → ⊥) → ListBelow (position_at path after) (position_at c.visit.new.path.items last)) _ p.0 _ p.1 (sym p.2)
+    (λ now is goes.
+    let (can, (rest, e)) = paused-last (PausesAt c.args.search.now c.loop-next.path m c.visit.new.path) _ now is c.in_err-visit.ensures.paused in
+    let own = paused-last (λ last. (g.P.Pace.pauses c.loop-next.pace → ⊥) → ListBelow (c.loop-next.path.items ++ m ∷ []) (position_at c.visit.new.path.items last)) _ now is c.in_err-visit.ensures.later in
+    paused-later path after m (position_at c.visit.new.path.items now) rest (omega (arith, more.0, c.loop-next.invariant.from))
+    (e ∙ ap (λ (q : List ℕ). q ++ m ∷ rest) c.loop-next.invariant.same)
+    (λ next.
+    let first : c.loop-next.last ≡ after = omega (arith, next, more.0, c.loop-next.invariant.from) in
+    subst (λ (q : List ℕ). ListBelow (q ++ m ∷ []) (position_at c.visit.new.path.items now)) c.loop-next.invariant.same
+    (own (λ pauses. goes (subst (λ pace. g.P.Pace.pauses pace) (c.loop-next.invariant.paced first) pauses)))))
 
 smaller : (ds : List Dependency) (path : List ℕ) (last next : ℕ) → (last < next) × CompletesAsLast ds path next → length ds - next < length ds - last
 smaller ds path last next (more, (first, d, head, at, takes)) = omega (arith, more, slice_get_within ds next d at)
@@ -172,14 +226,17 @@ close-loop-next-preserved-in_ok-visit g t c =
     let ds = c.args.search.now.search_input.now in
     let bound = c.args.search.now.members in
     let path = c.args.path.now.items in
+    let after = c.args.after in
     let last = c.loop-next.last in
     let m = c.in-Some.next in
+    let over = (c.next_completing.ensures.sound m c.in-Some.is).0 in
     record {
       same = c.in_ok-visit.ensures.path ∙ c.loop-next.invariant.same;
-      first = omega (arith, c.loop-next.invariant.first, (c.next_completing.ensures.sound m c.in-Some.is).0);
-      added = takes-after taking (CycleUpTo ds bound path last) (CycleThrough ds bound path m) (CycleUpTo ds bound path m)
+      from = omega (arith, c.loop-next.invariant.from, over);
+      paced = λ first. absurd (omega (arith, first, c.loop-next.invariant.from, over));
+      added = takes-after taking (CycleUpTo ds bound path after last) (CycleThrough ds bound path m) (CycleUpTo ds bound path after m)
           c.args.collector.now c.loop-next.collector c.visit.new.collector
-          (closers-more ds bound path c.requires.path c.requires.room last m
+          (closers-more ds bound path after c.requires.path c.requires.room last m c.loop-next.invariant.from
           (closer-of ds path _ last _ _ c.loop-next.invariant.same c.in-Some.is c.next_completing.ensures))
           c.loop-next.invariant.added
           (subst (λ p. TakesSoFar taking (CycleThrough ds bound p m) c.loop-next.collector c.visit.new.collector) c.loop-next.invariant.same c.in_ok-visit.ensures.all);
@@ -194,106 +251,48 @@ close-loop-next-preserved g t c =
     let ds = c.args.search.now.search_input.now in
     let bound = c.args.search.now.members in
     let path = c.args.path.now.items in
+    let after = c.args.after in
     let last = c.loop-next.last in
     let m = c.in-Some.next in
+    let over = (c.next_completing.ensures.sound m c.in-Some.is).0 in
     record {
       same = c.loop-next.invariant.same;
-      first = omega (arith, c.loop-next.invariant.first, (c.next_completing.ensures.sound m c.in-Some.is).0);
-      added = takes-after taking (CycleUpTo ds bound path last) (CycleThrough ds bound path m) (CycleUpTo ds bound path m)
+      from = omega (arith, c.loop-next.invariant.from, over);
+      paced = λ first. absurd (omega (arith, first, c.loop-next.invariant.from, over));
+      added = takes-after taking (CycleUpTo ds bound path after last) (CycleThrough ds bound path m) (CycleUpTo ds bound path after m)
           c.args.collector.now c.loop-next.collector c.loop-next.collector
-          (closers-more ds bound path c.requires.path c.requires.room last m
+          (closers-more ds bound path after c.requires.path c.requires.room last m c.loop-next.invariant.from
           (closer-of ds path _ last _ _ c.loop-next.invariant.same c.in-Some.is c.next_completing.ensures))
           c.loop-next.invariant.added
           (takes-none taking (CycleThrough ds bound path m) c.loop-next.collector (rejected ds bound path m c.requires.path.begun
           (λ f. true≢false (sym (c.links.ensures.1 (subst (λ p. LinksTo ds p m) (sym c.loop-next.invariant.same) f.linked)) ∙ c.if-links.false))));
     }
 
-pub close-returns : goal.close-returns
-close-returns g t c =
+pub close-returns-clause-all : goal.close-returns-clause-all
+close-returns-clause-all g t c =
     let ds = c.args.search.now.search_input.now in
     let bound = c.args.search.now.members in
     let path = c.args.path.now.items in
     let last = c.loop-next.last in
-    record {
-      path = c.loop-next.invariant.same;
-      all = takes-as g.C.Collector.taking (CycleUpTo ds bound path last) (CycleBeyond ds bound path) c.args.collector.now c.loop-next.collector
-          (closers-end ds bound path c.requires.path c.requires.room last
-          (closer-of ds path _ last _ _ c.loop-next.invariant.same c.in_default.is c.next_completing.ensures))
-          c.loop-next.invariant.added;
-    }
+    takes-as g.C.Collector.taking (CycleUpTo ds bound path c.args.after last) (CycleOver ds bound path (λ n. c.args.after < n)) c.args.collector.now c.loop-next.collector
+    (closers-end ds bound path c.args.after c.requires.path c.requires.room last
+    (closer-of ds path _ last _ _ c.loop-next.invariant.same c.in_default.is c.next_completing.ensures))
+    c.loop-next.invariant.added
 
-pub visit-same_component-requires : goal.visit-same_component-requires
-visit-same_component-requires g t c =
-    let path = c.requires.path in
-    let first = path.known 0 0 path.begun in
-    let next = c.requires.known in
-    let each = c.search_input.invariant.components.each in
-    let same = ap length c.search_input.view_is in
-    record { begun = path.begun; first = omega arith; next = omega arith }
-
-pub visit-returns-then-not-fits : goal.visit-returns-then-not-fits
-visit-returns-then-not-fits g t c = record {
-  path = refl;
-  all = takes-none g.C.Collector.taking (SearchedThrough c.args.search.now c.args.path.now c.args.next) c.args.collector.now
-      (rejected c.args.search.now.search_input.now c.args.search.now.members c.args.path.now.items c.args.next c.requires.path.begun
-      (λ f. true≢false (sym (c.fits.ensures.1 f.compatible) ∙ c.if-not-fits.true)));
-}
-
-pub visit-returns-then-ends_open : goal.visit-returns-then-ends_open
-visit-returns-then-ends_open g t c =
-    let ends = c.ends_open.ensures in
-    let test = c.if-ends_open.true in record {
-      path = refl;
-      all = takes-none g.C.Collector.taking (SearchedThrough c.args.search.now c.args.path.now c.args.next) c.args.collector.now
-          (full c.args.search.now.search_input.now c.args.search.now.members c.args.path.now.items c.args.next (ends.is_open test)
-          (omega (arith, ends.last test, length-push c.args.path.now.items c.args.next)));
-    }
-
-pub visit-returns-then-is_too_far : goal.visit-returns-then-is_too_far
-visit-returns-then-is_too_far g t c = record {
-  path = refl;
-  all = takes-none g.C.Collector.taking (SearchedThrough c.args.search.now c.args.path.now c.args.next) c.args.collector.now
-      (too-far c.args.search.now.search_input.now c.args.search.now.members c.args.path.now.items c.args.next c.args.search.now.distances.now
-      c.requires.path.begun c.requires.distances c.requires.known (c.is_too_far.ensures c.if-is_too_far.true));
-}
-
-pub visit-returns-then-not-same_component : goal.visit-returns-then-not-same_component
-visit-returns-then-not-same_component g t c = record {
-  path = refl;
-  all = takes-none g.C.Collector.taking (SearchedThrough c.args.search.now c.args.path.now c.args.next) c.args.collector.now
-      (subst (λ ds. AreAll (CycleThrough ds c.args.search.now.members c.args.path.now.items c.args.next) []) c.search_input.view_is
-      (other-component (table_dependencies c.search_input.inside.table.now) c.args.search.now.members c.args.path.now.items c.args.next c.search_input.inside.components.now
-      c.search_input.invariant.components c.requires.path.begun (λ e. true≢false (sym (c.same_component.ensures.1 e) ∙ c.if-not-same_component.true))));
-}
-
-pub visit-returns-in_err-take-clause-all : goal.visit-returns-in_err-take-clause-all
-visit-returns-in_err-take-clause-all g t c =
-    let taking = g.C.Collector.taking in
+pub visit-returns-then-not-visits-clause-all : goal.visit-returns-then-not-visits-clause-all
+visit-returns-then-not-visits-clause-all g t c =
     let ds = c.args.search.now.search_input.now in
     let bound = c.args.search.now.members in
     let path = c.args.path.now.items in
-    let p = err_from_is_err_and c.from_residual.result c.from_residual.ensures.1 in
-    let cycle = path ++ c.args.next ∷ [] in
-    let some = one-closed ds bound path c.args.next
-    (path-tested ds path c.args.next c.requires.path c.requires.known c.requires.above c.requires.linked (c.fits.ensures.0 c.if-not-fits.false))
-    (c.closes-is_cycle.ensures.0 c.if-is_cycle.true) c.requires.path.begun c.requires.room in
-    ended taking (CycleThrough ds bound path c.args.next) c.args.collector.now _ _ p.0 _ p.1 (sym p.2)
-    (refuses-one taking (CycleThrough ds bound path c.args.next) c.args.collector.now cycle _ _ some (c.cycle_of.ensures ∙ c.push.ensures.items) c.in_err-take.ensures)
-
-pub visit-extend-requires : goal.visit-extend-requires
-visit-extend-requires g t c =
-    let d = c.decreases in
-    let ds = c.args.search.now.search_input.now in
-    let path = c.args.path.now.items in
     let m = c.args.next in
-    let pushed = sym c.push.ensures.items in
-    let longer = path-tested ds path m c.requires.path c.requires.known c.requires.above c.requires.linked (c.fits.ensures.0 c.if-not-fits.false) in
-    let first = get_or_from_slice_get c.push.new.self.items 0 (get_or path 0 0) 0
-    (ap (λ (xs : List ℕ). slice_get xs 0) c.push.ensures.items ∙ get-push_kept path m 0 (get_or path 0 0) (slice_get-get_or path 0 0 c.requires.path.begun)) in
-    let distances = subst (λ first. AreDistances ds first c.args.search.now.distances.now) (sym first) c.requires.distances in
-    let accepts = subst (λ p. AcceptsAll g.C.Collector.taking (CycleBeyond ds c.args.search.now.members p) c.args.collector.now) pushed
-    (λ numbers h. c.requires.accepts numbers (forth ds c.args.search.now.members path m numbers h)) in
-    λ κs lives. (omega (arith, c.push.ensures.len), (lives.0, (lives.1, (subst (λ p. IsPath ds p) pushed longer, (omega arith, (c.requires.members, (distances, accepts)))))))
+    let same : suc (m - 1) ≡ m = omega (arith, c.requires.above) in
+    takes-none g.C.Collector.taking (IsListBefore (CycleThrough ds bound path m) (position_at path (m - 1))) c.args.collector.now
+    (subst (λ n. AreAll (IsListBefore (CycleThrough ds bound path m) (path ++ n ∷ [])) []) (sym same) (none-before ds bound path m))
+
+pub visit-returns-then-not-may_follow-clause-all : goal.visit-returns-then-not-may_follow-clause-all
+visit-returns-then-not-may_follow-clause-all g t c =
+    takes-none g.C.Collector.taking (SearchedThrough c.args.search.now c.args.path.now c.args.next) c.args.collector.now
+    (all-none (SearchedThrough c.args.search.now c.args.path.now c.args.next) (c.may_follow.ensures.none c.if-not-may_follow.true))
 
 pub visit-take-requires : goal.visit-take-requires
 visit-take-requires g t c =
@@ -302,10 +301,39 @@ visit-take-requires g t c =
     let path = c.args.path.now.items in
     let cycle = path ++ c.args.next ∷ [] in
     let some = one-closed ds bound path c.args.next
-    (path-tested ds path c.args.next c.requires.path c.requires.known c.requires.above c.requires.linked (c.fits.ensures.0 c.if-not-fits.false))
+    (path-tested ds path c.args.next c.requires.path c.requires.known (above-first-of path c.args.next c.requires.above) c.requires.linked (c.may_follow.ensures.follows c.if-not-may_follow.false))
     (c.closes-is_cycle.ensures.0 c.if-is_cycle.true) c.requires.path.begun c.requires.room in
     subst (λ (z : List ℕ). g.C.Collector.taking.accepts c.args.collector.now z) (sym (c.cycle_of.ensures ∙ c.push.ensures.items))
     (c.requires.accepts cycle (some.sound cycle (contains_had (cycle ∷ []) cycle (0, refl))))
+
+pub visit-returns-in-Err-clause-all : goal.visit-returns-in-Err-clause-all
+visit-returns-in-Err-clause-all g t c =
+    let taking = g.C.Collector.taking in
+    let ds = c.args.search.now.search_input.now in
+    let bound = c.args.search.now.members in
+    let path = c.args.path.now.items in
+    let cycle = path ++ c.args.next ∷ [] in
+    let some = one-closed ds bound path c.args.next
+    (path-tested ds path c.args.next c.requires.path c.requires.known (above-first-of path c.args.next c.requires.above) c.requires.linked (c.may_follow.ensures.follows c.if-not-may_follow.false))
+    (c.closes-is_cycle.ensures.0 c.if-is_cycle.true) c.requires.path.begun c.requires.room in
+    refuses-one taking (CycleThrough ds bound path c.args.next) c.args.collector.now cycle _ _ some (c.cycle_of.ensures ∙ c.push.ensures.items) c.in-Err.ensures
+
+pub visit-extend-requires : goal.visit-extend-requires
+visit-extend-requires g t c =
+    let ds = c.args.search.now.search_input.now in
+    let bound = c.args.search.now.members in
+    let path = c.args.path.now.items in
+    let m = c.args.next in
+    let pushed = sym c.push.ensures.items in
+    let longer = path-tested ds path m c.requires.path c.requires.known (above-first-of path c.args.next c.requires.above) c.requires.linked (c.may_follow.ensures.follows c.if-not-may_follow.false) in
+    let kept = get-push_kept path m 0 (get_or path 0 0) (slice_get-get_or path 0 0 c.requires.path.begun) in
+    let first = get_or_from_slice_get c.push.new.self.items 0 (get_or path 0 0) 0 (ap (λ (xs : List ℕ). slice_get xs 0) c.push.ensures.items ∙ kept) in
+    let distances = subst (λ first. AreDistances ds first c.args.search.now.distances.now) (sym first) c.requires.distances in
+    let after = ap (λ (xs : List ℕ). get_or xs 0 0) (sym c.deref.ensures.0) in
+    let accepts = subst (λ p. AcceptsAll g.C.Collector.taking (CycleOver ds bound p (λ n. get_or c.deref.result.now 0 0 < n)) c.args.collector.now) pushed
+    (λ numbers h. c.requires.accepts numbers (forth ds bound path m (get_or path 0 0) kept numbers
+    (subst (λ first. CycleOver ds bound (path ++ m ∷ []) (λ n. first < n) numbers) (sym after ∙ first) h))) in
+    λ κs lives. (omega (arith, c.push.ensures.len), (lives.0, (lives.1.0, (lives.1.1, (subst (λ p. IsPath ds p) pushed longer, (omega arith, (c.requires.members, (omega (arith, after), (distances, accepts)))))))))
 
 pub visit-returns-in_err-extend-clause-all : goal.visit-returns-in_err-extend-clause-all
 visit-returns-in_err-extend-clause-all g t c =
@@ -313,40 +341,68 @@ visit-returns-in_err-extend-clause-all g t c =
     let ds = c.args.search.now.search_input.now in
     let bound = c.args.search.now.members in
     let path = c.args.path.now.items in
-    let p = err_from_is_err_and c.from_residual-in_err-extend.result c.from_residual-in_err-extend.ensures.1 in
-    ended taking (CycleThrough ds bound path c.args.next) c.args.collector.now _ _ p.0 _ p.1 (sym p.2)
-    (refuses-as taking (CycleBeyond ds bound (path ++ c.args.next ∷ [])) (CycleThrough ds bound path c.args.next) c.args.collector.now _
-    (λ before after (more, e, some). (more, e, deeper-some ds bound path c.args.next more some))
-    (refuses-for taking (λ q. CycleBeyond ds bound q) _ (path ++ c.args.next ∷ []) c.args.collector.now _ c.push.ensures.items c.in_err-extend.ensures.all))
+    let m = c.args.next in
+    let first = get_or path 0 0 in
+    let kept = get-push_kept path m 0 first (slice_get-get_or path 0 0 c.requires.path.begun) in
+    let pushed = get_or_from_slice_get c.push.new.self.items 0 first 0 (ap (λ (xs : List ℕ). slice_get xs 0) c.push.ensures.items ∙ kept) in
+    let after = ap (λ (xs : List ℕ). get_or xs 0 0) (sym c.deref.ensures.0) in
+    let open' = λ (k : CompletesCycle ds (path ++ m ∷ [])). true≢false (sym (c.closes-is_cycle.ensures.1 k) ∙ c.if-is_cycle.false) in
+    let p = err_from_is_err_and c.from_residual.result c.from_residual.ensures.1 in
+    ended-as taking (CycleOver ds bound (path ++ m ∷ []) (λ n. first < n)) (CycleThrough ds bound path m) c.args.collector.now c.extend.new.collector c.extend.new.path.items _ p.0 _ p.1 (sym p.2)
+    (λ before after (more, e, some). (more, e, deeper-some ds bound path m first kept more some))
+    (λ last is before after (more, e, all). (more, e, deeper-until ds bound path m first kept (position_at c.extend.new.path.items last) more open' all))
+    (until-for taking (λ a. CycleOver ds bound (path ++ m ∷ []) (λ n. a < n)) (get_or c.deref.result.now 0 0) first c.args.collector.now c.extend.new.collector c.extend.new.path.items
+    c.in_err-extend.field-0.0 (sym after ∙ pushed)
+    (until-for taking (λ q. CycleOver ds bound q (λ n. get_or c.deref.result.now 0 0 < n)) c.push.new.self.items (path ++ m ∷ []) c.args.collector.now c.extend.new.collector c.extend.new.path.items
+    c.in_err-extend.field-0.0 c.push.ensures.items c.in_err-extend.ensures.all))
 
-pub visit-returns : goal.visit-returns
-visit-returns g t c =
+pub visit-returns-in_err-extend-clause-paused : goal.visit-returns-in_err-extend-clause-paused
+visit-returns-in_err-extend-clause-paused g t c =
+    let path = c.args.path.now.items in
+    let m = c.args.next in
+    let p = err_from_is_err_and c.from_residual.result c.from_residual.ensures.1 in
+    paused-as (PausesAt c.args.search.now c.args.path.now m c.extend.new.path) _ p.0 _ p.1 (sym p.2)
+    (λ last is.
+    let (x, above, (can, (rest, e))) = paused-last (PausesAfter c.args.search.now c.push.new.self _ c.extend.new.path) _ last is c.in_err-extend.ensures.paused in
+    (can, (x ∷ rest, e ∙ ap (λ (q : List ℕ). q ++ x ∷ rest) c.push.ensures.items ∙ append_assoc path (m ∷ []) (x ∷ rest))))
+
+pub visit-returns-in_err-extend-clause-later : goal.visit-returns-in_err-extend-clause-later
+visit-returns-in_err-extend-clause-later g t c =
+    let path = c.args.path.now.items in
+    let m = c.args.next in
+    let p = err_from_is_err_and c.from_residual.result c.from_residual.ensures.1 in
+    paused-as (λ last. (g.P.Pace.pauses c.args.pace.now → ⊥) → ListBelow (path ++ m ∷ []) (position_at c.extend.new.path.items last)) _ p.0 _ p.1 (sym p.2)
+    (λ last is goes.
+    let (x, above, (can, (rest, e))) = paused-last (PausesAfter c.args.search.now c.push.new.self _ c.extend.new.path) _ last is c.in_err-extend.ensures.paused in
+    subst (ListBelow (path ++ m ∷ [])) (sym (e ∙ ap (λ (q : List ℕ). q ++ x ∷ rest) c.push.ensures.items ∙ append_assoc path (m ∷ []) (x ∷ rest))) (below-longer path m x rest))
+
+pub visit-returns-clause-all : goal.visit-returns-clause-all
+visit-returns-clause-all g t c =
     let taking = g.C.Collector.taking in
     let ds = c.args.search.now.search_input.now in
     let bound = c.args.search.now.members in
     let path = c.args.path.now.items in
+    let m = c.args.next in
     let pushed = c.push.ensures.items in
-    record {
-      path = c.pop.ensures.rest ∙ popped path c.if-is_cycle.path.items c.args.next (elim c.if-is_cycle.branch [
-        | visit-then-is_cycle+in_ok-take w ↦ ap (λ p. p.items) w.path-is ∙ pushed
-        | visit-else-is_cycle+then-len-search+in_ok-extend w ↦ ap (λ p. p.items) w.path-is ∙ w.in_ok-extend.ensures.path ∙ pushed
-        | visit-else-is_cycle+else-len-search w ↦ ap (λ p. p.items) w.path-is ∙ pushed
-      ]);
-      all = elim c.if-is_cycle.branch [
-        | visit-then-is_cycle+in_ok-take w ↦
-            rw w.collector-is (takes-one taking (CycleThrough ds bound path c.args.next) c.args.collector.now w.take.new.self (path ++ c.args.next ∷ [])
-            (closed ds bound path c.args.next
-            (path-tested ds path c.args.next c.requires.path c.requires.known c.requires.above c.requires.linked (c.fits.ensures.0 c.if-not-fits.false))
-            (c.closes-is_cycle.ensures.0 w.if-is_cycle.true) c.requires.path.begun c.requires.room)
-            (subst (λ (z : List ℕ). (start : g.row.C.Denot) (before : List (List ℕ)) → taking.took start before c.args.collector.now → taking.took start (before ++ z ∷ []) w.take.new.self)
-            (w.cycle_of.ensures ∙ pushed) w.in_ok-take.ensures))
-        | visit-else-is_cycle+then-len-search+in_ok-extend w ↦
-            rw w.collector-is (takes-as taking (CycleBeyond ds bound (path ++ c.args.next ∷ [])) (CycleThrough ds bound path c.args.next) c.args.collector.now w.extend.new.collector
-            (λ before after (more, e, all). (more, e, deeper ds bound path c.args.next more (λ k. true≢false (sym (c.closes-is_cycle.ensures.1 k) ∙ w.if-is_cycle.false)) all))
-            (subst (λ q. TakesSoFar taking (CycleBeyond ds bound q) c.args.collector.now w.extend.new.collector) pushed w.in_ok-extend.ensures.all))
-        | visit-else-is_cycle+else-len-search w ↦
-            rw w.collector-is (takes-none taking (CycleThrough ds bound path c.args.next) c.args.collector.now
-            (full ds bound path c.args.next (λ k. true≢false (sym (c.closes-is_cycle.ensures.1 k) ∙ w.if-is_cycle.false))
-            (omega (arith, w.if-len-search.false, w.len.ensures.value, ap (λ (xs : List ℕ). length xs) pushed))))
-      ];
-    }
+    elim c.if-is_cycle.branch [
+      | visit-then-is_cycle+in_default w ↦
+          rw w.collector-is (takes-one taking (CycleThrough ds bound path m) c.args.collector.now w.take.new.self (path ++ m ∷ [])
+          (closed ds bound path m
+          (path-tested ds path m c.requires.path c.requires.known (above-first-of path m c.requires.above) c.requires.linked (c.may_follow.ensures.follows c.if-not-may_follow.false))
+          (c.closes-is_cycle.ensures.0 w.if-is_cycle.true) c.requires.path.begun c.requires.room)
+          (subst (λ (z : List ℕ). (start : g.row.C.Denot) (before : List (List ℕ)) → taking.took start before c.args.collector.now → taking.took start (before ++ z ∷ []) w.take.new.self)
+          (w.cycle_of.ensures ∙ pushed) w.in_default.ensures))
+      | visit-else-is_cycle+then-len-search+in_ok-extend w ↦
+          let first = get_or path 0 0 in
+          let kept = get-push_kept path m 0 first (slice_get-get_or path 0 0 c.requires.path.begun) in
+          let start = get_or_from_slice_get c.push.new.self.items 0 first 0 (ap (λ (xs : List ℕ). slice_get xs 0) pushed ∙ kept) in
+          let after = ap (λ (xs : List ℕ). get_or xs 0 0) (sym w.deref.ensures.0) in
+          rw w.collector-is (takes-as taking (CycleOver ds bound (path ++ m ∷ []) (λ n. first < n)) (CycleThrough ds bound path m) c.args.collector.now w.extend.new.collector
+          (λ before after (more, e, all). (more, e, deeper ds bound path m first kept more (λ k. true≢false (sym (c.closes-is_cycle.ensures.1 k) ∙ w.if-is_cycle.false)) all))
+          (subst (λ a. TakesSoFar taking (CycleOver ds bound (path ++ m ∷ []) (λ n. a < n)) c.args.collector.now w.extend.new.collector) (sym after ∙ start)
+          (subst (λ q. TakesSoFar taking (CycleOver ds bound q (λ n. get_or w.deref.result.now 0 0 < n)) c.args.collector.now w.extend.new.collector) pushed w.in_ok-extend.ensures.all)))
+      | visit-else-is_cycle+else-len-search w ↦
+          rw w.collector-is (takes-none taking (CycleThrough ds bound path m) c.args.collector.now
+          (full ds bound path m (λ k. true≢false (sym (c.closes-is_cycle.ensures.1 k) ∙ w.if-is_cycle.false))
+          (omega (arith, w.if-len-search.false, w.len.ensures.value, ap (λ (xs : List ℕ). length xs) pushed))))
+    ]

@@ -1,4 +1,4 @@
-use Rattle.std.proofs.Common.{◌≡◌, ◌-◌, ◌*◌, ◌≤◌, length, slice_index}
+use Rattle.std.proofs.Common.{◌≡◌, ◌-◌, ◌*◌, ◌≤◌, length}
 use Rattle.cycle_search.specs.Collecting.{TakesSoFar}
 use Rattle.cycle_search.specs.CycleSearch.{CycleOver, IsAmong, CycleUpTo}
 use Rattle.cycle_search.proofs.search.+search.Given as goal
@@ -15,6 +15,7 @@ decreases-visit g l = 3 * (l.search.now.members - length l.path.now.items) - 2
 abbrev pub invariant-extend-loop-next : goal.invariant-extend-loop-next
 invariant-extend-loop-next g l = record {
   same : l.path.items ≡ l.fn.path.items;
+  paced : l.next-index ≡ 0 → l.pace ≡ l.fn.pace;
   added : TakesSoFar g.C.Collector.taking (CycleOver l.search.search_input.now l.search.members l.fn.path.items (IsAmong l.nexts l.next-index)) l.fn.collector l.collector;
 }
 
@@ -24,6 +25,7 @@ decreases-close-loop-next g l = length l.search.search_input.now - l.last
 abbrev pub invariant-close-loop-next : goal.invariant-close-loop-next
 invariant-close-loop-next g l = record {
   same : l.path.items ≡ l.fn.path.items;
-  first : slice_index l.fn.path.items 0 ≤ l.last;
-  added : TakesSoFar g.C.Collector.taking (CycleUpTo l.search.search_input.now l.search.members l.fn.path.items l.last) l.fn.collector l.collector;
+  from : l.fn.after ≤ l.last;
+  paced : l.last ≡ l.fn.after → l.pace ≡ l.fn.pace;
+  added : TakesSoFar g.C.Collector.taking (CycleUpTo l.search.search_input.now l.search.members l.fn.path.items l.fn.after l.last) l.fn.collector l.collector;
 }
