@@ -1,6 +1,6 @@
 //! The search for derived places.
 
-ghost use Rattle.std.specs.Prelude.{◌≡◌, ℕ, ◌<◌, ◌≤◌, ◌⊎◌, List, [], ◌∷◌, ◌++◌, true, false, Some, OnOk, IfOk, MatchOption};
+ghost use Rattle.std.specs.Prelude.{◌≡◌, ℕ, ◌<◌, ◌≤◌, ◌⊎◌, List, [], ◌∷◌, ◌++◌, true, false, Some, OnOk, IfOk, IfSome, MatchOption};
 ghost use Rattle.std.specs.List.{Contains};
 ghost use Rattle.trace_model.specs.Theory.Trace.{Trace, At};
 ghost use Rattle.trace_model.specs.Theory.Reordering.{AreReached};
@@ -301,7 +301,11 @@ impl DerivationSearch {
             return Ok(None);
         };
         let fork = Reason::ForkJoin(prefix.last);
+        let before = self.ranges.len();
         self.require(index, index.fork_of(event.thread), prefix, prefix, &fork)?;
+        if let Some(member) = self.caught_since(index, places, before) {
+            return Ok(Some(member));
+        }
         let mut next = Some(prefix.last);
         while let Some(place) = next {
             if is_past(&range.after, place) {
@@ -313,9 +317,7 @@ impl DerivationSearch {
             };
             let count = self.ranges.len();
             self.follow(index, &here)?;
-            if self.ranges.len() > count
-                && let Some(member) = self.caught(index, places)
-            {
+            if let Some(member) = self.caught_since(index, places, count) {
                 return Ok(Some(member));
             }
             next = index.thread_before(place);
@@ -374,6 +376,18 @@ impl DerivationSearch {
             }
         }
         None
+    }
+
+    /// Returns the first member whose place is derived, or `None` if none is or if there are no more
+    /// than `count` ranges.
+    fn caught_since(&self, index: &TraceIndex, places: &[Place], count: usize) -> Option<usize>
+        ensures { IfSome result (IsCaughtAt index.now.events self.now places.now) }
+    {
+        if self.ranges.len() > count {
+            self.caught(index, places)
+        } else {
+            None
+        }
     }
 
     /// Adds an entry for a derived place.

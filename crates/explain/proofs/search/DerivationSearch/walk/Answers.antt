@@ -1,10 +1,10 @@
-use Rattle.std.proofs.Common.{◌≡◌, ◌∷◌, [], ◌++◌, inl, inr, MatchOption, refl, sym, subst, ◌∙◌, arith}
+use Rattle.std.proofs.Common.{◌≡◌, ◌∷◌, [], ◌++◌, inl, inr, IfSome, refl, sym, subst, ◌∙◌, arith}
 use Rattle.std.proofs.lemmas.List.Elements.{Contains-append_left}
 use Rattle.std.proofs.lemmas.Option.{same_Some}
 use Rattle.trace_model.specs.declared.traces.event.Op.TheVariants.{Fork}
 use Rattle.trace_model.specs.Theory.Trace.{Does, OfThread}
 use Rattle.trace_model.proofs.Theory.Least.{at_thread}
-use Rattle.explain.specs.DerivationSearch.{IsCaughtAt, IsCaughtNowhere}
+use Rattle.explain.specs.DerivationSearch.{IsCaughtAt}
 use Rattle.explain.proofs.Adding.{extends_trans}
 use Rattle.explain.proofs.Walking.{before_some, walk_less}
 use Rattle.explain.proofs.Finished.{followed_stays, place_in, fork_at, walk_goes_on, walk_ends}
@@ -69,8 +69,16 @@ loop-next-preserved c =
           );
     }
 
-pub returns-in-Some-next : goal.returns-in-Some-next
-returns-in-Some-next c followed is here f =
+pub returns-in-Some-caught_since : goal.returns-in-Some-caught_since
+returns-in-Some-caught_since c followed is here f =
+    let s = c.args.index.now.events in
+    let last = c.args.range.now.prefix.last in
+    let own : OfThread s last c.in-Some.event.thread = (c.in-Some.event.op, sym c.event.ensures ∙ c.in-Some.is) in
+    let (i, e, h) = c.in_ok-require.ensures.required c.args.places.now is here here (λ p k xs a b. (a, inl (c.in-Some.event.thread, own, (c.fork_of.ensures p).0 k))) in
+    (i, subst (λ o. IfSome o (IsCaughtAt s c.require.new.self c.args.places.now)) c.in-Some-caught_since.is c.caught_since.ensures)
+
+pub returns-in-Some-caught_since-2 : goal.returns-in-Some-caught_since-2
+returns-in-Some-caught_since-2 c followed is here f =
     let s = c.args.index.now.events in
     let y = c.loop-next.self in
     let z = c.follow.new.self in
@@ -82,7 +90,7 @@ returns-in-Some-next c followed is here f =
     let (all, (i, e, g), sub, fork, done) = c.loop-next.invariant.followed followed is here f in
     let (j, k, also) = c.in_ok-follow.ensures c.args.places.now all i (place_in s c.args.places.now c.args.self.now y prefix t place own on e here)
     (fork_at s y prefix.last t place own on.0 fork) g in
-    (j, subst (λ o. MatchOption o (IsCaughtNowhere s z c.args.places.now) (IsCaughtAt s z c.args.places.now)) c.in-Some-caught.is c.caught.ensures)
+    (j, subst (λ o. IfSome o (IsCaughtAt s z c.args.places.now)) c.in-Some-caught_since-2.is c.caught_since-in-Some-next.ensures)
 
 pub returns-then-is_past : goal.returns-then-is_past
 returns-then-is_past c followed is here f =
