@@ -15,3 +15,4 @@ pub mod StepMembers
 pub mod HeadCounts
 pub mod TrueRows
 pub mod ExplainedTexts
+pub mod FirstEvents

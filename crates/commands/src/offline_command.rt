@@ -2,7 +2,7 @@
 ghost use Rattle.std.specs.Prelude.{◌≡◌, ◌++◌, ◌≤◌, IfOk, IfErr, OnOk};
 ghost use Rattle.commands.specs.declared.exit.Status.TheVariants.{Done, Refused};
 ghost use Rattle.commands.specs.Admission.{HasBadLine};
-ghost use Rattle.commands.specs.Offline.{OfflinePrints, OfflineTells, refused_line};
+ghost use Rattle.commands.specs.Offline.{OfflinePrints, OfflineTells, ReportPrints, refused_line};
 ghost use Rattle.commands.specs.Output.{EndsWithResult, IsJust};
 ghost use Rattle.offline_report.specs.Offline.{IsOfflineRefusal, IsReport, whole};
 
@@ -77,6 +77,30 @@ pub(crate) fn write_refused<O: Write>(
     write_text(out, &text, Status::Refused)
 }
 
+/// Writes the report on the events, or why there is none.
+fn report_events<R: Threads + Sync, P: Progress + Sync, O: Write>(
+    rt: &R,
+    alloc: Global,
+    state: RandomState,
+    events: Vec<Event>,
+    bound: Bound,
+    progress: &P,
+    out: &mut O,
+) -> Result<Status, CommandError>
+    ensures { EndsWithResult (ReportPrints events.items bound) ⊥ result
+        (O.contents out.old) (O.contents out.new) }
+{
+    match report_on(rt, alloc, state, events, bound, progress) {
+        Ok(pieces) => {
+            let written = write_pieces(out, &pieces);
+            drop(pieces);
+            written
+        }
+        Err(OfflineRefused::NoMemory) => Err(CommandError::Memory),
+        Err(refused) => write_refused(alloc, refused, out),
+    }
+}
+
 /// Writes the report on the events of the file, or why there is none.
 fn report<R: Threads + Sync, P: Progress + Sync, O: Write>(
     rt: &R,
@@ -91,15 +115,7 @@ fn report<R: Threads + Sync, P: Progress + Sync, O: Write>(
         (O.contents out.old) (O.contents out.new) }
 {
     let events = read_events(alloc, file)?;
-    match report_on(rt, alloc, state, events, bound, progress) {
-        Ok(pieces) => {
-            let written = write_pieces(out, &pieces);
-            drop(pieces);
-            written
-        }
-        Err(OfflineRefused::NoMemory) => Err(CommandError::Memory),
-        Err(refused) => write_refused(alloc, refused, out),
-    }
+    report_events(rt, alloc, state, events, bound, progress, out)
 }
 
 /// Writes the report on the events in `file` to `out`: question 0, cycles of at most `bound`

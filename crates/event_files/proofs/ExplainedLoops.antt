@@ -1,12 +1,9 @@
 -- The lines of a file of explained cycles, one after the other.
-use Rattle.std.proofs.Common.{◌≡◌, ℕ, ◌+◌, ◌<◌, Bool, true, false, cond, not, eqb, List, [], ◌∷◌, ◌++◌, Option, Some, None, length, map, get_or, take, if◌then◌else◌, refl, sym, ap, subst, ◌∙◌, append_assoc}
-use Rattle.std.specs.List.{All, filter, onto_first, slice_split}
-use Rattle.std.proofs.lemmas.Bool.{ne_eqb}
+use Rattle.std.proofs.Common.{◌≡◌, ℕ, ◌+◌, ◌<◌, true, false, cond, not, List, [], ◌∷◌, ◌++◌, Option, Some, None, length, map, get_or, take, refl, sym, ap, subst, ◌∙◌, append_assoc}
+use Rattle.std.specs.List.{All}
 use Rattle.std.proofs.lemmas.List.{append-nil, append_cancel_left, map-append, take_more}
 use Rattle.std.proofs.lemmas.List.Elements.{All-head, All-nil, filter-append}
 use Rattle.std.proofs.lemmas.Option.{slice_get-get_or}
-use Rattle.event_files.specs.EventFile.{is_word, line_words, unless_comment}
-use Rattle.event_files.specs.WitnessFile.{has_words}
 use Rattle.event_files.specs.ExplainedFile.{EndsEarly, AreFirstFileLines, IsFirstWrong, IsMerged, IsOnlyTextOf, IsTextOf, is_kept, is_merge_mark, unskipped_lines}
 use Rattle.event_files.specs.ExplainedLines.{IsTextOfLine, IsStatedLine, StatedLine, line_text}
 use Rattle.event_files.specs.ExplainedText.{Contents, IsStatedCycle, contents_of, head_numbers}
@@ -20,24 +17,6 @@ use Rattle.event_files.proofs.ExplainedBeginnings.{begins_file, file_stated, fil
 use Rattle.event_files.proofs.NumberedTexts.{end_all}
 use Rattle.event_files.proofs.ExplainedReadings.{reading}
 use Rattle.event_files.proofs.ExplainedUnique.{same_file}
-
--- a space at the beginning of a line
-pub after_space : (byte : ℕ) (line : List ℕ) → byte ≡ 32 → has_words (line_words (byte ∷ line)) ≡ has_words (line_words line)
-after_space byte line is = ap (λ b. has_words (line_words (b ∷ line))) is
-
-not_comment : (b : Bool) (words : List (List ℕ)) (word : List ℕ) → has_words (if b then [] else word ∷ words) ≡ not b
-not_comment true words word = refl
-not_comment false words word = refl
-
-first_word : (byte : ℕ) (pieces : List (List ℕ)) → has_words (unless_comment (filter is_word (onto_first byte pieces))) ≡ not (eqb byte 35)
-first_word byte [] = not_comment (eqb byte 35) [] (byte ∷ [])
-first_word byte (piece ∷ pieces) = not_comment (eqb byte 35) (filter is_word pieces) (byte ∷ piece)
-
--- another byte there
-pub at_byte : (byte : ℕ) (line : List ℕ) → (byte ≡ 32 → ⊥) → has_words (line_words (byte ∷ line)) ≡ not (eqb byte 35)
-at_byte byte line other =
-    let pieces = slice_split (λ b. eqb b 32) line in
-    ap (λ b. has_words (unless_comment (filter is_word (cond b ([] ∷ pieces) (onto_first byte pieces))))) (ne_eqb byte 32 other) ∙ first_word byte pieces
 
 -- the next line that is read of a file
 record IsNextLine (line : List ℕ) (r : StatedReading) (parts : List StatedLine) : Type 0 where

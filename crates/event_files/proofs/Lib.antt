@@ -5,6 +5,7 @@ pub mod ExplainedOrder
 pub mod ExplainedReadings
 pub mod ExplainedTexts
 pub mod ExplainedUnique
+pub mod FirstEvents
 pub mod Lines
 pub mod NumberedTexts
 pub mod Numerals

@@ -2,6 +2,7 @@
 use Rattle.std.specs.Prelude.{◌≡◌, ◌+◌, ℕ, Bool, true, false, not, ◌==◌, List, [], ◌∷◌, ◌++◌, Some, decimal, if◌then◌else◌, map, slice_get, take}
 use Rattle.std.specs.Char.{is_ascii_digit}
 use Rattle.std.specs.List.{filter, flat_map, slice_split}
+use Rattle.trace_model.specs.declared.limits.TheConstants.{MAX_EVENTS}
 use Rattle.trace_model.specs.declared.traces.event.Event.{Event}
 use Rattle.trace_model.specs.declared.traces.event.Op.{Op}
 use Rattle.trace_model.specs.declared.traces.event.Op.TheVariants.{Fork, Join, Acquire, Release, Read, Write}
@@ -61,6 +62,22 @@ AreEventsIn events lines = map event_word events ≡ flat_map line_words lines
 -- The words of the file are exactly those of the events.
 abbrev pub AreWordsOfEvents : List Event → List ℕ → Type 0
 AreWordsOfEvents events file = map event_word events ≡ file_words file
+
+-- The first of the events: those of the longest trace, and the one after them, which is refused.
+abbrev pub first_events : List Event → List Event
+first_events events = take (MAX_EVENTS + 1) events
+
+-- These are the first of the events whose words are exactly those of the file.
+abbrev pub AreFirstEventsOf : List Event → List ℕ → Type 0
+AreFirstEventsOf kept file =
+    (events : List Event) × AreWordsOfEvents events file × (kept ≡ first_events events)
+
+-- If the old events are the first of some, then the new ones are the first of these with those of
+-- the words after them.
+abbrev pub KeepsWords : List Event → List (List ℕ) → List Event → Type 0
+KeepsWords old words new = (before : List Event) → old ≡ first_events before →
+    (events : List Event) × (map event_word events ≡ words)
+    × (new ≡ first_events (before ++ events))
 
 -- The word denotes an event whose numbers fit in 32 bits.
 abbrev pub IsEventWord : List ℕ → Type 0

@@ -1,16 +1,17 @@
 //! Event files: lines of event words.
-ghost use Rattle.std.specs.Prelude.{◌≡◌, ◌<◌, ◌^◌, ◌++◌, ℕ, true, false, IfErr, IfOk, IfSome, Ok, Some, decimal, map};
+ghost use Rattle.std.specs.Prelude.{◌≡◌, ◌<◌, ◌^◌, ◌∷◌, ◌++◌, [], ℕ, true, false, IfErr, IfOk, IfSome, Ok, Some, decimal, map};
 ghost use Rattle.std.specs.List.{All, filter, position};
 ghost use Rattle.trace_model.specs.Protocol.Frames.{FitsWords, IsRequest, object_of};
 ghost use Rattle.trace_model.specs.declared.traces.event.Event.{Event};
 ghost use Rattle.trace_model.specs.declared.traces.event.Op.{Op};
 ghost use Rattle.trace_model.specs.declared.messages.session.Request.TheVariants.{Offer};
-ghost use Rattle.event_files.specs.EventFile.{is_no_digit, is_word, letter_of, event_word, pieces_at, is_comment, line_words, AreEventsIn, AreWordsOfEvents, HasBadWord, RefusesLines};
+ghost use Rattle.event_files.specs.EventFile.{is_no_digit, is_word, letter_of, event_word, pieces_at, is_comment, line_words, AreFirstEventsOf, HasBadWord, IsEventWord, KeepsWords, RefusesLines};
+ghost use Rattle.event_files.specs.WitnessFile.{has_words};
 
 use crate::numbers::parse_number;
 use crate::refused::FileRefused;
 use std::alloc::{AllocError, Global};
-use trace_model::{Event, NoMemory, Op};
+use trace_model::{Event, MAX_EVENTS, NoMemory, Op};
 
 /// Returns the operation with this letter and object, or `None` if no operation has the letter.
 fn op_of(letter: u8, object: u32) -> Option<Op>
@@ -128,52 +129,82 @@ pub fn push_events(events: &mut Vec<Event>, words: &[&[u8]]) -> Result<bool, NoM
     Ok(true)
 }
 
-/// Adds the events of a line at the end of `events`. Returns false if the line is not understood.
+/// The greatest number of events that are kept of a file: those of the longest trace, and the next
+/// one, which the admission check refuses.
+const MAX_KEPT: usize = MAX_EVENTS + 1;
+
+/// Adds the event of `word` at the end of `kept`, if there is room. Returns false if the word is
+/// not an event word.
+///
+/// # Errors
+///
+/// `NoMemory` if an allocation fails.
+fn keep_word(kept: &mut Vec<Event>, word: &[u8]) -> Result<bool, NoMemory>
+    ensures kept { result ≡ Ok true → KeepsWords kept.old.items (word.now ∷ []) kept.new.items }
+    ensures bad { result ≡ Ok false → IsEventWord word.now → ⊥ }
+{
+    let Some(event) = event(word) else {
+        return Ok(false);
+    };
+    if kept.len() < MAX_KEPT {
+        kept.push(event)?;
+    }
+    Ok(true)
+}
+
+/// Returns whether the line has words and is no comment.
+pub(crate) fn has_words(line: &[u8]) -> bool
+    ensures { result ≡ has_words (line_words line.now) }
+{
+    for byte in line {
+        if *byte != b' ' {
+            return *byte != b'#';
+        }
+    }
+    false
+}
+
+/// Adds the events of a line at the end of `kept`, as long as there is room. Returns false if the
+/// line is not understood.
 ///
 /// # Errors
 ///
 /// `NoMemory` if an allocation fails. Some of the events may have been added.
-fn push_line(alloc: Global, events: &mut Vec<Event>, line: &[u8]) -> Result<bool, NoMemory>
-    ensures added { result ≡ Ok true →
-        map event_word events.new.items ≡ map event_word events.old.items ++ line_words line.now }
+fn keep_line(kept: &mut Vec<Event>, line: &[u8]) -> Result<bool, NoMemory>
+    ensures kept { result ≡ Ok true →
+        KeepsWords kept.old.items (line_words line.now) kept.new.items }
     ensures bad { result ≡ Ok false → HasBadWord (line_words line.now) }
 {
-    let words = words_of(alloc, line)?;
-    push_events(events, &words)
-}
-
-/// Returns the events of `lines`, in order.
-///
-/// # Errors
-///
-/// - `Line` with the number of the first line that is not understood, counted from 1.
-/// - `NoMemory` if an allocation fails.
-fn events_of(alloc: Global, lines: &[&[u8]]) -> Result<Vec<Event>, FileRefused>
-    ensures events { IfOk result (λ events.
-        AreEventsIn events.items (map (λ line. line.now) lines.now)) }
-    ensures refused { IfErr result (RefusesLines (map (λ line. line.now) lines.now)) }
-{
-    let mut events = Vec::new(alloc);
-    let mut number = 0usize;
-    for line in lines {
-        number = number.saturating_add(1);
-        if !push_line(alloc, &mut events, line)? {
-            return Err(FileRefused::Line(number));
+    if !has_words(line) {
+        return Ok(true);
+    }
+    let pieces = line.split(|byte| *byte == b' ');
+    for word in pieces.filter(|piece| !piece.is_empty()) {
+        if !keep_word(kept, word)? {
+            return Ok(false);
         }
     }
-    Ok(events)
+    Ok(true)
 }
 
-/// Returns the events of a file, in order.
+/// Returns the events of a file, in order, but at most one more than a trace has. Each word of the
+/// file is read, and no line or word is kept.
 ///
 /// # Errors
 ///
 /// - `Line` with the number of the first line that is not understood, counted from 1.
 /// - `NoMemory` if an allocation fails.
 pub fn read_events(alloc: Global, file: &[u8]) -> Result<Vec<Event>, FileRefused>
-    ensures events { IfOk result (λ events. AreWordsOfEvents events.items file.now) }
+    ensures events { IfOk result (λ events. AreFirstEventsOf events.items file.now) }
     ensures refused { IfErr result (RefusesLines (pieces_at 10 file.now)) }
 {
-    let lines = lines_of(alloc, file)?;
-    events_of(alloc, &lines)
+    let mut kept = Vec::new(alloc);
+    let mut number = 0usize;
+    for line in file.split(|byte| *byte == b'\n') {
+        number = number.saturating_add(1);
+        if !keep_line(&mut kept, line)? {
+            return Err(FileRefused::Line(number));
+        }
+    }
+    Ok(kept)
 }

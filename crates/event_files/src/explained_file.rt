@@ -1,12 +1,10 @@
 //! Files of explained cycles.
 ghost use Rattle.std.specs.Prelude.{◌≡◌, IfErr, IfOk, map};
-ghost use Rattle.event_files.specs.EventFile.{line_words};
-ghost use Rattle.event_files.specs.WitnessFile.{has_words};
 ghost use Rattle.event_files.specs.ExplainedFile.{IsExplainedText, IsOnlyExplainedText, IsOnlyTextOf, IsTextOf, RefusesExplained, RefusesLines, is_kept, is_merge_mark, unskipped_lines};
 ghost use Rattle.event_files.specs.ExplainedReading.{ReadsLine, stated_reading};
 ghost use Rattle.event_files.specs.ExplainedText.{contents_of};
 
-use crate::event_file::lines_of;
+use crate::event_file::{has_words, lines_of};
 use crate::explained_lines::line_in;
 use crate::explained_reading::Reading;
 use crate::explanations::ExplainedFile;
@@ -14,18 +12,6 @@ use crate::refused::ExplainedRefused;
 use crate::witness_file::after_last;
 use std::alloc::Global;
 use trace_model::NoMemory;
-
-/// Returns whether the line has words and is no comment.
-fn has_words(line: &[u8]) -> bool
-    ensures { result ≡ has_words (line_words line.now) }
-{
-    for byte in line {
-        if *byte != b' ' {
-            return *byte != b'#';
-        }
-    }
-    false
-}
 
 /// Returns whether the line says that an agent merged cycles.
 fn is_merge_mark(line: &[u8]) -> bool

@@ -1,10 +1,10 @@
 //! Event files, witness files and explained cycles: the text formats of traces and of evidence.
 //!
-//! [`read_events`] returns the events of a file; its contract says that the words of the file are
-//! exactly those of the events. Start reading there; [`read_witness`] reads the input of the replay
-//! checker. [`push_refutation`] writes the sentences of a refutation. [`read_explained`] reads rows
-//! with their witnesses and refutations; its contract says that the lines of the file are exactly
-//! those of what it returns.
+//! [`read_events`] returns the first events of a file, at most one more than a trace may have; its
+//! contract says that they are the first of the events whose words are exactly those of the file.
+//! Start reading there; [`read_witness`] reads the input of the replay checker. [`push_refutation`]
+//! writes the sentences of a refutation. [`read_explained`] reads rows with their witnesses and
+//! refutations; its contract says that the lines of the file are exactly those of what it returns.
 #![tactic(auto)]
 
 mod event_file;

@@ -1,7 +1,7 @@
 use Rattle.std.proofs.Common.{◌≡◌, drop}
 use Rattle.event_files.specs.EventFile.{line_words}
 use Rattle.event_files.specs.WitnessFile.{has_words}
-use Rattle.event_files.proofs.explained_file.has_words.Given as goal
+use Rattle.event_files.proofs.event_file.has_words.Given as goal
 
 -- the bytes so far are spaces
 abbrev pub invariant-loop-byte : goal.invariant-loop-byte

@@ -2,8 +2,8 @@ use Rattle.std.proofs.Common.{◌+◌, drop, get_or, sym, ap, ◌∙◌}
 use Rattle.std.proofs.lemmas.List.{drop_more, drop_all}
 use Rattle.event_files.specs.EventFile.{line_words}
 use Rattle.event_files.specs.WitnessFile.{has_words}
-use Rattle.event_files.proofs.ExplainedLoops.{after_space, at_byte}
-use Rattle.event_files.proofs.explained_file.has_words.Goals as goal
+use Rattle.event_files.proofs.Lines.{after_space, at_byte}
+use Rattle.event_files.proofs.event_file.has_words.Goals as goal
 
 pub returns-then-byte-ne32 : goal.returns-then-byte-ne32
 returns-then-byte-ne32 c =
