@@ -4,3 +4,5 @@ pub mod Steps
 pub mod Together
 pub mod Responses
 pub mod Turns
+pub mod PassingOver
+pub mod PausedAt

@@ -17,6 +17,5 @@ IsFirstMissing s number found =
     × MatchOption found ((task : ℕ) → slice_get q.tasks task ≡ Some None → ⊥) (IsLeastMissingTask q)
 
 -- the job is one of the question with this number and bound
-abbrev pub IsJobOf : ℕ → ℕ → Option AskedQuestion → Type 0
-IsJobOf question bound kept =
-    (job : AskedQuestion) × (kept ≡ Some job) × (job.question ≡ question) × (job.bound ≡ bound)
+abbrev pub IsJobOf : ℕ → ℕ → AskedQuestion → Type 0
+IsJobOf question bound job = (job.question ≡ question) × (job.bound ≡ bound)

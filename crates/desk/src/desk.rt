@@ -93,6 +93,11 @@ impl<N: HistoryId, R: Wait + Copy, T: BoardValue<N>> Desk<N, R, T> {
         self.rt
     }
 
+    /// Returns the allocator.
+    pub(crate) fn alloc(&self) -> Global {
+        self.alloc
+    }
+
     /// Offers an event and returns its place. The receipt ends with the event's step.
     ///
     /// # Errors

@@ -9,6 +9,7 @@ mod desk;
 mod locked;
 mod own;
 mod shared;
+mod task_jobs;
 mod worker;
 
 pub use client::Client;

@@ -1,16 +1,17 @@
 //! Jobs and findings that were made from a snapshot of the desk. A receipt shows that their events
 //! are those of the question, so they are not compared again under the lock.
 
-ghost use Rattle.std.specs.Prelude.{◌≡◌, Err, IfOk, IsTrue};
+ghost use Rattle.std.specs.Prelude.{◌≡◌, ◌↔◌, Err, IfErr, IfOk, IsTrue};
 ghost use Rattle.std.specs.Arc.{arc_value};
 ghost use Rattle.desk.specs.Published.{Afterwards};
-ghost use Rattle.desk.specs.Questions.{IsAboutEvents};
+ghost use Rattle.desk.specs.Questions.{IsAboutEvents, IsJobOf};
 ghost use Rattle.trace_model.specs.declared.limits.TheConstants.{MAX_CYCLES};
 ghost use Rattle.trace_model.specs.Theory.Dependencies.{dependencies};
 ghost use Rattle.cycle_search.specs.CycleSearch.{CycleFrom, MoreThan};
+ghost use Rattle.findings.specs.TaskSearches.{ContinuesSearch, IsTaskSearch};
 
 use board::{HistoryId, Receipt};
-use findings::{Analysis, ComputeRefused, Finding, Job};
+use findings::{Advanced, Analysis, ComputeRefused, Finding, Job, TaskSearch};
 use std::alloc::Global;
 use std::marker::Model;
 use std::sync::Arc;
@@ -78,26 +79,39 @@ impl<N: HistoryId> OwnJob<N> {
 
     /// Returns whether this is a job of the question with this number and bound.
     pub(crate) fn is_of(&self, question: u32, bound: Bound) -> bool
-        ensures { IsTrue result → (self.now.question ≡ question) × (self.now.bound ≡ bound) }
+        ensures { IsTrue result ↔ IsJobOf question bound self.now }
     {
         self.job.question() == question && self.job.bound() == bound
     }
 
-    /// Computes the rows of a task, like `Job::compute`.
+    /// Continues the search of a task, like `Job::advance`. The inner `Err` is the paused search.
     ///
     /// # Errors
     ///
-    /// As of `Job::compute`.
-    pub(crate) fn compute(&mut self, task: u32) -> Result<OwnFinding<N>, ComputeRefused>
+    /// As of `Job::advance`.
+    pub(crate) fn advance(
+        &mut self,
+        search: TaskSearch,
+        visits: u64,
+    ) -> Result<Result<OwnFinding<N>, TaskSearch>, ComputeRefused>
+        requires search { IsTaskSearch self.old.events self.old.bound search }
         ensures same { self.new ≡ self.old }
-        ensures asked { IfOk result (λ own. (own.question ≡ self.old.question)
-            × (own.bound ≡ self.old.bound) × (own.task ≡ task)) }
+        ensures found { IfOk result (λ advanced. IfOk advanced
+            (λ own. (own.question ≡ self.old.question)
+            × (own.bound ≡ self.old.bound) × (own.task ≡ search.task))) }
+        ensures paused { IfOk result (λ advanced. IfErr advanced
+            (ContinuesSearch self.old.events self.old.bound visits search)) }
         ensures too_many { result ≡ Err ComputeRefused.TooManyCycles →
-            MoreThan (CycleFrom (dependencies self.old.events) self.old.bound task) MAX_CYCLES }
+            MoreThan (CycleFrom (dependencies self.old.events) self.old.bound search.task)
+            MAX_CYCLES }
     {
-        let finding = self.job.compute(task)?;
-        let receipt = self.receipt.again();
-        Ok(OwnFinding { finding, receipt })
+        match self.job.advance(search, visits)? {
+            Advanced::Finished(finding) => {
+                let receipt = self.receipt.again();
+                Ok(Ok(OwnFinding { finding, receipt }))
+            }
+            Advanced::Paused(later) => Ok(Err(later)),
+        }
     }
 }
 

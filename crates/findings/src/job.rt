@@ -10,11 +10,13 @@ ghost use Rattle.cycle_search.specs.CycleSearch.{CycleFrom, MoreThan};
 ghost use Rattle.snapshots.specs.Found.{AreRowsOf};
 ghost use Rattle.findings.specs.Analyses.{IsScratchOf};
 ghost use Rattle.findings.specs.Collecting.{AcceptsRows, TookRows, RefusesRows};
+ghost use Rattle.findings.specs.TaskSearches.{AdvancesTo, IsTaskSearch};
 
 use crate::analysis::Analysis;
 use crate::collecting::{RowsRefused, collect_by};
 use crate::computing::ComputeRefused;
-use crate::rows::rows_of;
+use crate::rows::{SearchedRows, rows_of, rows_within};
+use crate::task_search::{Advanced, TaskSearch};
 use cycle_search::Collector;
 use reports::Row;
 use snapshots::Finding;
@@ -117,6 +119,33 @@ impl Job {
         )
     }
 
+    /// Continues the search of a task. Returns its finding, as [`Job::compute`] does, or after
+    /// `visits` visited members the search, paused: later than before, if `visits` is not 0. The
+    /// job can compute further tasks after any result.
+    ///
+    /// The caller passes a new search, or one that a job with the same events and bound paused.
+    ///
+    /// # Errors
+    /// - `TooManyCycles` only if the task has more than `MAX_CYCLES` cycles.
+    /// - `NoMemory` if an allocation fails. The search is dropped.
+    pub fn advance(&mut self, search: TaskSearch, visits: u64) -> Result<Advanced, ComputeRefused>
+        requires search { IsTaskSearch self.old.events self.old.bound search }
+        ensures same { self.new ≡ self.old }
+        ensures advanced { IfOk result (AdvancesTo self.old visits search) }
+        ensures too_many { result ≡ Err ComputeRefused.TooManyCycles →
+            MoreThan (CycleFrom (dependencies self.old.events) self.old.bound search.task)
+            MAX_CYCLES }
+    {
+        advanced_by(
+            self.alloc,
+            &self.analysis,
+            self.question,
+            &mut self.scratch,
+            search,
+            visits,
+        )
+    }
+
     /// Gives the rows of a task to the collector, in their order, and returns it. They are those of
     /// [`Job::compute`], but no row is kept. The job can compute further tasks after any result.
     ///
@@ -175,6 +204,54 @@ fn finding_of(
         task,
     )?;
     Ok(Finding::of(snapshot, question, analysis.bound, task, rows))
+}
+
+/// Continues the search of a task. See [`Job::advance`].
+///
+/// # Errors
+/// Those of [`Job::advance`].
+fn advanced_by(
+    alloc: Global,
+    analysis: &Analysis,
+    question: u32,
+    scratch: &mut Option<ClosureScratch>,
+    search: TaskSearch,
+    visits: u64,
+) -> Result<Advanced, ComputeRefused>
+    requires scratch { ForSome scratch.old
+        (IsScratchOf analysis.now.events analysis.now.requirements) }
+    requires search { IsTaskSearch analysis.now.events analysis.now.bound search }
+    ensures scratch { ForSome scratch.new
+        (IsScratchOf analysis.now.events analysis.now.requirements) }
+    ensures advanced { IfOk result (AdvancesTo (record {
+      question = question;
+      bound = analysis.now.bound;
+      events = analysis.now.events;
+    }) visits search) }
+    ensures too_many { result ≡ Err ComputeRefused.TooManyCycles →
+        MoreThan (CycleFrom (dependencies analysis.now.events) analysis.now.bound search.task)
+        MAX_CYCLES }
+{
+    let Ok(snapshot) = Arc::try_clone(&analysis.snapshot) else {
+        return Err(ComputeRefused::NoMemory);
+    };
+    let task = search.task;
+    let bound = analysis.bound;
+    let searched = rows_within(
+        alloc,
+        &snapshot,
+        &analysis.tables,
+        scratch,
+        bound,
+        search,
+        visits,
+    )?;
+    match searched {
+        SearchedRows::All(rows) => Ok(Advanced::Finished(Finding::of(
+            snapshot, question, bound, task, rows,
+        ))),
+        SearchedRows::Paused(later) => Ok(Advanced::Paused(later)),
+    }
 }
 
 /// Gives the rows of a task to the collector. See [`Job::collect`].

@@ -11,9 +11,12 @@ ghost use Rattle.cycle_search.specs.Components.{AreComponents};
 ghost use Rattle.fronts.specs.Requirements.{AreRequirements};
 ghost use Rattle.sp_closure.specs.Timestamps.{AreTimestamps};
 ghost use Rattle.findings.specs.Analyses.{AreTraceRequirements, AreAnalysisTables, HasNoCycleFrom};
+ghost use Rattle.findings.specs.TaskSearches.{IsTaskSearch, AreSearchedCycles};
 
+use crate::task_search::TaskSearch;
 use cycle_search::{
-    Collector, Components, Cycle, SearchInput, SearchRefused, collect_cycles, cycles_from,
+    Collector, Components, Cycle, PausedSearch, SearchInput, SearchRefused, Searched,
+    collect_cycles, cycles_from,
 };
 use snapshots::Snapshot;
 use sp_closure::{Requirements, Steps, Timestamps};
@@ -80,6 +83,40 @@ impl Tables {
             Some(search_input) => cycles_from(alloc, &search_input, task, bound),
             None => Ok(Vec::new(alloc)),
         }
+    }
+
+    /// Continues the search of a task until all its cycles are found or `visits` members were
+    /// visited. A task past the last one has no cycles.
+    ///
+    /// The caller passes the snapshot from which the tables were computed, and a search of it with
+    /// this bound.
+    ///
+    /// # Errors
+    /// - `TooMany` only if the task has more than `MAX_CYCLES` cycles.
+    /// - `NoMemory` if an allocation fails.
+    pub(crate) fn go_on(
+        &self,
+        alloc: Global,
+        snapshot: &Snapshot,
+        bound: Bound,
+        search: TaskSearch,
+        visits: u64,
+    ) -> Result<Searched, SearchRefused>
+        requires tables { AreAnalysisTables snapshot.now self.now }
+        requires search { IsTaskSearch snapshot.now bound search }
+        ensures searched { IfOk result (AreSearchedCycles snapshot.now bound visits search) }
+        ensures too_many { IfTooMany result
+            (MoreThan (CycleFrom (dependencies snapshot.now) bound search.task) MAX_CYCLES) }
+    {
+        let TaskSearch { task, search } = search;
+        let Some(search_input) = self.search_input(snapshot, task) else {
+            return Ok(Searched::All(Vec::new(alloc)));
+        };
+        let begun = match search {
+            Some(begun) => begun,
+            None => PausedSearch::new(alloc, &search_input, task, bound)?,
+        };
+        begun.go_on(&search_input, visits)
     }
 
     /// Gives the cycles of a task to the collector, in lexicographic order, until it refuses one.

@@ -5,7 +5,7 @@ ghost use Rattle.question_server.specs.declared.backoff.TheConstants.{AWAKE, MOS
 use std::thread;
 use std::time::{Clock, Duration};
 
-/// The number of successive turns that deliver nothing before a worker sleeps.
+/// The number of successive turns without work before a worker sleeps.
 const AWAKE: u32 = 64;
 
 /// The length of one sleep, in milliseconds.
@@ -17,7 +17,7 @@ const MOST_SLEEPS: u32 = 1024;
 /// The state of a worker between its turns.
 #[derive(Clone, Copy)]
 pub struct Backoff {
-    /// The number of turns that deliver nothing before the worker sleeps.
+    /// The number of turns without work before the worker sleeps.
     awake: u32,
     /// The number of sleeps before the next turn.
     sleeps: u32,
@@ -37,15 +37,15 @@ impl Backoff {
         }
     }
 
-    /// Starts to count again after a turn that delivered something.
-    pub fn delivered(&mut self)
+    /// Starts to count again after a turn that delivered a task or searched on.
+    pub fn worked(&mut self)
         ensures { self.new ≡ record { awake = AWAKE; sleeps = self.old.sleeps; failed = 0 } }
     {
         self.awake = AWAKE;
         self.failed = 0;
     }
 
-    /// Counts a turn that delivered nothing: yields to another thread, or sleeps once if there were
+    /// Counts a turn without work: yields to another thread, or sleeps once if there were
     /// `AWAKE` such turns.
     pub fn after_nothing(&mut self, clock: &impl Clock)
         ensures { self.new ≡ record {

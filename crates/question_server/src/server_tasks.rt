@@ -52,7 +52,8 @@ impl<
     H: Hold + Sync,
     L: Log + Sync,
 > ServerTasks for DeskTasks<'a, N, R, H, L> {
-    /// The worker sleeps while its turns deliver nothing, longer if they fail for lack of memory.
+    /// The worker sleeps while its turns have nothing to do, longer if they fail for lack of memory.
+    /// After a search that was paused it takes the next turn at once.
     fn work(&self) {
         let Ok(desk) = Arc::try_clone(self.desk) else {
             return;
@@ -71,7 +72,7 @@ impl<
                 continue;
             }
             match worker.turn(self.hold) {
-                Turn::Delivered => backoff.delivered(),
+                Turn::Delivered | Turn::Paused => backoff.worked(),
                 Turn::Failed(TurnFailure::NoMemory) => backoff.after_failure(),
                 _ => backoff.after_nothing(&self.rt),
             }

@@ -7,6 +7,7 @@ use crate::concurrent_offer_tests::{Offers, accepts_concurrent_offers};
 use crate::delivery_tests::{Way, delivers_concurrently, delivers_in_turn};
 use crate::desk_tests::{accepts_repetitions, places_or_refuses_each};
 use crate::fixtures::LIMIT;
+use crate::question_order_tests::questions_take_turns;
 use crate::test_desk::{TestDesk, new_desk};
 use crate::worker_order_tests::three_workers_deliver;
 use crate::worker_tests::{reports_abandoned_tasks, two_workers_deliver};
@@ -32,13 +33,14 @@ pub(crate) enum Script {
     TwoWorkers,
     AbandonedTasks,
     ThreeWorkers,
+    TwoQuestions,
 }
 
 impl Script {
     /// Returns the number of board readers that the script needs.
     fn readers(self) -> usize {
         match self {
-            Script::AllocationFailure | Script::AbandonedTasks => 2,
+            Script::AllocationFailure | Script::AbandonedTasks | Script::TwoQuestions => 2,
             Script::TwoWorkers => 4,
             Script::ThreeWorkers => 5,
             _ => 1,
@@ -120,5 +122,6 @@ fn run<D: TestDesk, R: RandomSource + AllocGlobal + Threads + Wait + Abort + Cop
         Script::TwoWorkers => two_workers_deliver(&rt, alloc, desk, reader, others),
         Script::AbandonedTasks => reports_abandoned_tasks(&rt, alloc, desk, reader, others),
         Script::ThreeWorkers => three_workers_deliver(rt, alloc, desk, reader, others),
+        Script::TwoQuestions => questions_take_turns(&rt, alloc, desk, reader, others),
     })
 }

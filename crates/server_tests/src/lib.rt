@@ -33,6 +33,8 @@ mod offline_tests;
 #[cfg(test)]
 mod public_surface;
 #[cfg(test)]
+mod question_order_tests;
+#[cfg(test)]
 mod segment_edges;
 #[cfg(test)]
 mod session_tests;

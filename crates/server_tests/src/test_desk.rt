@@ -65,11 +65,18 @@ impl<N: HistoryId> TestReader for BoardReader<N> {
 /// A worker that computes tasks of a desk.
 pub(crate) trait TestWorker: Drop {
     fn turn(&mut self, hold: &impl Hold) -> Turn;
+
+    /// Takes a turn whose search is paused after this number of visited members.
+    fn turn_within(&mut self, hold: &impl Hold, visits: u64) -> Turn;
 }
 
 impl<N: HistoryId, R: Wait + Copy> TestWorker for Worker<N, R, BoardState<N>> {
     fn turn(&mut self, hold: &impl Hold) -> Turn {
         Worker::turn(self, hold)
+    }
+
+    fn turn_within(&mut self, hold: &impl Hold, visits: u64) -> Turn {
+        Worker::turn_within(self, hold, visits)
     }
 }
 
