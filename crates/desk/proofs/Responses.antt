@@ -26,12 +26,13 @@ use Rattle.trace_model.proofs.Protocol.Taking.{status_shown}
 use Rattle.board.specs.Totals.{ShowsCounts, Shows, shown_as}
 use Rattle.board.specs.declared.summary.QuestionSummary.{QuestionSummary}
 use Rattle.board.specs.declared.summary.Summary.{Summary}
-use Rattle.sequencer.specs.declared.answering.Answer.{Answer}
+use Rattle.sequencer.specs.declared.answered.Answered.{Answered}
+use Rattle.sequencer.specs.Answered.{reply_in}
 use Rattle.sequencer.specs.declared.answering.AnswerRefused.{AnswerRefused}
 use Rattle.sequencer.specs.declared.asking.AskRefused.{AskRefused}
 use Rattle.sequencer.specs.declared.asking.Opened.{Opened}
 use Rattle.sequencer.specs.declared.batching.Batched.{Batched}
-use Rattle.sequencer.specs.Book.{Refuses, answer_refusal, answer_reply, ask_refusal, opened_reply}
+use Rattle.sequencer.specs.Book.{Refuses, answer_refusal, ask_refusal, opened_reply}
 use Rattle.sequencer.specs.Printing.{report_printer}
 use Rattle.sequencer.specs.Called.{StepsOrMemory}
 use Rattle.sequencer.proofs.Called.{batch_steps}
@@ -139,8 +140,8 @@ WasOpened limit run bound opened = EndsBy limit run (Open bound opened.total) (�
 abbrev WasRefused : ℕ → List BoardStep → Request → Refusal → Type 0
 WasRefused limit run request refusal = Afterwards limit run (λ state. Refuses state request (replies.Refused refusal))
 
-abbrev WasAnswered : ℕ → List BoardStep → ℕ → Answer → Type 0
-WasAnswered limit run question response = Afterwards limit run (λ state. step report_printer state (AskAnswer question) ≡ (answer_reply question response, state))
+abbrev WasAnswered : ℕ → List BoardStep → ℕ → Answered → Type 0
+WasAnswered limit run question response = Afterwards limit run (λ state. step report_printer state (AskAnswer question) ≡ (reply_in response, state))
 
 pub response_placed : (limit : ℕ) (run : List BoardStep) (event : Event) (result : Result Place Refusal) (place : Place) → result ≡ Ok place → IfOk result (WasPlaced limit run event) →
     RepliesAfter limit (Offer event) (replies.Placed place) run
@@ -153,13 +154,13 @@ pub response_unplaced : (limit : ℕ) (run : List BoardStep) (event : Event) (re
 response_unplaced limit run event result refusal is h =
     let (state, after, refuses) = subst (λ r. IfErr r (WasRefused limit run (Offer event))) is h in (state, after, elim refuses [ inl machine ↦ inl machine | inr (memory, accepted) ↦ inr (memory, refl, accepted) ])
 
-pub response_answer : (limit : ℕ) (run : List BoardStep) (question : ℕ) (result : Result Answer AnswerRefused) (response : Answer) (reply : Reply) → result ≡ Ok response → reply ≡ answer_reply question response →
-    IfOk result (WasAnswered limit run question) → RepliesAfter limit (AskAnswer question) reply run
-response_answer limit run question result response reply is same h =
+pub response_answer : (limit : ℕ) (run : List BoardStep) (question : ℕ) (result : Result Answered AnswerRefused) (response : Answered) → result ≡ Ok response →
+    IfOk result (WasAnswered limit run question) → RepliesAfter limit (AskAnswer question) (reply_in response) run
+response_answer limit run question result response is h =
     let (state, after, steps) = subst (λ r. IfOk r (WasAnswered limit run question)) is h in
-    subst (λ (r : Reply). RepliesAfter limit (AskAnswer question) r run) (sym same) (state, after, inl steps)
+    (state, after, inl steps)
 
-pub response_no_answer : (limit : ℕ) (run : List BoardStep) (question : ℕ) (result : Result Answer AnswerRefused) (refused : AnswerRefused) (refusal : Refusal) → result ≡ Err refused → refusal ≡ answer_refusal refused →
+pub response_no_answer : (limit : ℕ) (run : List BoardStep) (question : ℕ) (result : Result Answered AnswerRefused) (refused : AnswerRefused) (refusal : Refusal) → result ≡ Err refused → refusal ≡ answer_refusal refused →
     IfErr result (λ r. WasRefused limit run (AskAnswer question) (answer_refusal r)) → RepliesAfter limit (AskAnswer question) (replies.Refused refusal) run
 response_no_answer limit run question result refused refusal is same h =
     let (state, after, refuses) = subst (λ r. IfErr r (λ x. WasRefused limit run (AskAnswer question) (answer_refusal x))) is h in

@@ -7,11 +7,12 @@ ghost use Rattle.trace_model.specs.Protocol.Runs as runs;
 ghost use Rattle.trace_model.specs.Protocol.Runs.{shown_status};
 ghost use Rattle.trace_model.specs.declared.messages.session.Request.TheVariants as requests;
 ghost use Rattle.board.specs.Totals.{ShowsCounts};
+ghost use Rattle.sequencer.specs.Answered.{reply_in};
 ghost use Rattle.desk.specs.Clients.{IsResponse, IsStatus, StepsAtDesk};
 
 use crate::desk::Desk;
 use board::{BoardReader, BoardValue, HistoryId, Receipt, Summary};
-use sequencer::Calls;
+use sequencer::{Answered, Calls};
 use std::marker::Model;
 use std::sync::{Arc, Wait};
 use trace_model::{Event, QuestionStatus, Refusal, Reply, Request};
@@ -98,14 +99,15 @@ impl<N: HistoryId, R: Wait + Copy, T: BoardValue<N>> Client<N, R, T> {
         }
     }
 
-    fn answer(&mut self, question: u32) -> Reply
-        ensures response { IsResponse N.limit self.old (requests.Answer question) result self.new }
-        ensures fits { IsReply result }
+    fn answer(&mut self, question: u32) -> Answered
+        ensures response { IsResponse N.limit self.old (requests.Answer question)
+            (reply_in result) self.new }
+        ensures fits { IsReply (reply_in result) }
     {
         let response = self.desk.answer(question);
         match self.learn(response) {
-            Ok(response) => response.reply(question),
-            Err(refused) => Reply::Refused(refused.refusal()),
+            Ok(answered) => answered,
+            Err(refused) => Answered::Whole(Reply::Refused(refused.refusal())),
         }
     }
 
@@ -147,13 +149,13 @@ fn status_in(summary: &Summary, question: u32) -> Reply
 impl<N: HistoryId, R: Wait + Copy, T: BoardValue<N>> Calls for Client<N, R, T> {
     ghost steps = { λ old request reply new. StepsAtDesk N.limit old request reply new };
 
-    fn call(&mut self, request: Request) -> Reply {
+    fn call(&mut self, request: Request) -> Answered {
         match request {
-            Request::Offer(event) => self.offer(event),
-            Request::Ask(bound) => self.ask(bound),
+            Request::Offer(event) => Answered::Whole(self.offer(event)),
+            Request::Ask(bound) => Answered::Whole(self.ask(bound)),
             Request::Answer(question) => self.answer(question),
-            Request::Status(question) => self.status(question),
-            Request::Batch(batch) => self.offer_batch(batch.events()),
+            Request::Status(question) => Answered::Whole(self.status(question)),
+            Request::Batch(batch) => Answered::Whole(self.offer_batch(batch.events())),
         }
     }
 }

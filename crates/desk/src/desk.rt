@@ -10,7 +10,8 @@ ghost use Rattle.trace_model.specs.declared.messages.step.BoardStep.TheVariants 
 ghost use Rattle.trace_model.specs.declared.messages.session.Request.TheVariants as requests;
 ghost use Rattle.trace_model.specs.declared.messages.session.Reply.TheVariants.{Placed, Refused};
 ghost use Rattle.snapshots.specs.Found.{AreRowsOf};
-ghost use Rattle.sequencer.specs.Book.{IsBookLimit, Refuses, RefusesSnapshot, answer_refusal, answer_reply, ask_refusal, opened_reply};
+ghost use Rattle.sequencer.specs.Answered.{reply_in};
+ghost use Rattle.sequencer.specs.Book.{IsBookLimit, Refuses, RefusesSnapshot, answer_refusal, ask_refusal, opened_reply};
 ghost use Rattle.sequencer.specs.Printing.{report_printer};
 ghost use Rattle.sequencer.specs.Deliveries.{delivery};
 ghost use Rattle.desk.specs.Batches.{EndsByBatch};
@@ -24,7 +25,7 @@ use crate::own::{OwnFinding, OwnJob};
 use crate::shared::SharedAnalysis;
 use board::{BoardReader, BoardState, BoardValue, HistoryId, Receipt};
 use findings::{Finding, Snapshot};
-use sequencer::{Answer, AnswerRefused, AskRefused, Batched, Delivered, NoSuchQuestion, Opened};
+use sequencer::{AnswerRefused, Answered, AskRefused, Batched, Delivered, NoSuchQuestion, Opened};
 use std::alloc::Global;
 use std::hash::RandomState;
 use std::sync::{Arc, Mutex, Wait};
@@ -240,18 +241,19 @@ impl<N: HistoryId, R: Wait + Copy, T: BoardValue<N>> Desk<N, R, T> {
         self.locked.lock(&self.rt).deliver_all(findings)
     }
 
-    /// Returns the report of a question if all its tasks are delivered, else how many are. The
-    /// lock is held until the rows are shared; the report is printed after it.
+    /// Returns the reply to a request for the answer of a question: the report if all its tasks are
+    /// delivered, else how many are. The lock is held until the rows are shared; the report is
+    /// measured after it, and the text of its rows is not in memory.
     ///
     /// # Errors
     ///
     /// The machine's refusal after the receipt's steps, or `NoMemory` if the machine answers but an
     /// allocation fails.
-    pub fn answer(&self, question: u32) -> (Result<Answer, AnswerRefused>, Receipt<N>)
+    pub fn answer(&self, question: u32) -> (Result<Answered, AnswerRefused>, Receipt<N>)
         ensures response { IfOk result.0
-            (λ response. Afterwards N.limit result.1
+            (λ answered. Afterwards N.limit result.1
             (λ state. step report_printer state (requests.Answer question) ≡
-            (answer_reply question response, state))) }
+            (reply_in answered, state))) }
         ensures refused { IfErr result.0
             (λ refused. Afterwards N.limit result.1
             (λ state. Refuses state (requests.Answer question)
@@ -260,7 +262,7 @@ impl<N: HistoryId, R: Wait + Copy, T: BoardValue<N>> Desk<N, R, T> {
     {
         let (shared, receipt) = self.locked.lock(&self.rt).share_answer(question);
         match shared {
-            Ok(shared) => (shared.print(self.alloc, question), receipt),
+            Ok(shared) => (shared.reply(self.alloc, question), receipt),
             Err(refused) => (Err(refused), receipt),
         }
     }

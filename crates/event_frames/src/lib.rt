@@ -13,5 +13,5 @@ mod replies;
 mod requests;
 
 pub use reader::FrameReader;
-pub use replies::{encode_head, encode_reply, frame_text, push_reply};
+pub use replies::{encode_head, encode_reply, frame_text, push_reply, report_head};
 pub use requests::{answer_frame, ask_frame, batch_frame, offer_frame, status_frame};

@@ -208,8 +208,12 @@ pub fn frame_text(reply: &Reply) -> &[u8]
 }
 
 /// Returns the frame of the report about a question, without its text of `bytes` bytes.
+///
+/// # Errors
+///
+/// `AllocError` if an allocation fails.
 #[tactic(auto, unfolding(trace_model::specs::Protocol::Replies::reply_frame))]
-fn report_head(alloc: Global, question: u32, bytes: u32) -> Result<Vec<u8>, AllocError>
+pub fn report_head(alloc: Global, question: u32, bytes: u32) -> Result<Vec<u8>, AllocError>
     requires { bytes + 5 < 2 ^ 32 }
     ensures { IfOk result (λ head. (text : List ℕ) → length text ≡ bytes →
         head.items ++ text ≡ reply_frame (Report question text)) }

@@ -1,7 +1,7 @@
 //! The part of the log that is about questions.
 
 use log::{Log, info};
-use sequencer::Calls;
+use sequencer::{Answered, Calls};
 use std::time::{Clock, Duration};
 use trace_model::{MAX_QUESTIONS, QuestionStatus, Reply, Request};
 
@@ -67,13 +67,13 @@ impl QuestionLog {
 
 /// Returns the status of a question, or `None` if it is not open or the board is busy.
 fn status_of<C: Calls>(calls: &mut C, question: u32) -> Option<QuestionStatus> {
-    match calls.call(Request::Status(question)) {
-        Reply::Status(status) => Some(status),
-        other => {
-            drop(other);
-            None
-        }
-    }
+    let answered = calls.call(Request::Status(question));
+    let status = match &answered {
+        Answered::Whole(Reply::Status(status)) => Some(*status),
+        _ => None,
+    };
+    drop(answered);
+    status
 }
 
 /// Logs that a question was asked.

@@ -1,5 +1,5 @@
 -- The text of a report.
-use Rattle.std.specs.Prelude.{◌≡◌, ℕ, List, ◌++◌, length, codes, decimal, Option, Some, None, is_some, count_by, Bool}
+use Rattle.std.specs.Prelude.{◌≡◌, ℕ, List, [], ◌++◌, length, codes, decimal, Option, Some, None, is_some, count_by, Bool}
 use Rattle.std.specs.List.{flat_map, range_with_len, zip}
 use Rattle.trace_model.specs.Theory.Dependencies.{Dependency}
 use Rattle.trace_model.specs.Theory.Rows.{Evidence}
@@ -27,19 +27,25 @@ member_line d = member d ++ codes "\n"
 abbrev pub placed_line : Dependency × ℕ → List ℕ
 placed_line m = member m.0 ++ codes " place " ++ decimal m.1 ++ codes "\n"
 
--- The line of a witness.
-abbrev pub witness_line : List ℕ → List ℕ
-witness_line places = codes "  witness" ++ number_list places ++ codes "\n"
-
--- The rest of a row after the numbers of its cycle.
+-- The verdict of a row and the lines of its members. For a confirmed row the line of the witness is
+-- begun.
 abbrev pub verdict : List Dependency → Option Evidence → List ℕ
 verdict ds None = codes " potential\n" ++ flat_map member_line ds
 verdict ds (Some found) = codes " confirmed\n" ++ flat_map placed_line (zip ds found.places) ++
-    witness_line found.witness
+    codes "  witness"
+
+-- A row up to the places of its witness.
+abbrev pub row_front : PrintedRow → List ℕ
+row_front p = codes "cycle" ++ number_list p.row.cycle ++ verdict p.dependencies p.row.found
+
+-- The places of the witness of a confirmed row, and the end of their line.
+abbrev pub witness_end : Option Evidence → List ℕ
+witness_end None = []
+witness_end (Some found) = number_list found.witness ++ codes "\n"
 
 -- The text of a row.
 abbrev pub row_text : PrintedRow → List ℕ
-row_text p = codes "cycle" ++ number_list p.row.cycle ++ verdict p.dependencies p.row.found
+row_text p = row_front p ++ witness_end p.row.found
 
 -- The row is confirmed.
 abbrev pub is_confirmed_row : PrintedRow → Bool

@@ -116,6 +116,44 @@ pub fn report_text(
     Ok(buffer.finish())
 }
 
+/// The beginning of a report: the number of bytes of its text, and its first line.
+#[derive(Drop)]
+pub struct ReportStart {
+    pub bytes: u32,
+    pub first_line: Vec<u8>,
+}
+
+/// Measures a report and prints its first line. The text of its rows is not in memory: a
+/// [`RowCursor`](crate::RowCursor) gives it in pieces.
+///
+/// # Errors
+/// - `TooLong` exactly if the report has more than `MAX_REPORT` bytes.
+/// - `NoMemory` if an allocation fails.
+pub fn begin_report(
+    alloc: Global,
+    question: u32,
+    events: u32,
+    bound: Bound,
+    tasks: &[Vec<Row>],
+) -> Result<ReportStart, TextRefused>
+    ensures text { IfOk result (λ start. start.first_line.items ++
+        flat_map (λ task. flat_map row_text task.items) tasks.now ≡
+        report question events bound (flat_map (λ task. task.items) tasks.now)) }
+    ensures measured { IfOk result (λ start. (start.bytes ≤ MAX_REPORT)
+        × (start.bytes ≡ length (report question events bound
+        (flat_map (λ task. task.items) tasks.now)))) }
+    ensures too_long { IsErrOf result TextRefused.TooLong ↔
+        (MAX_REPORT < length (report question events bound
+        (flat_map (λ task. task.items) tasks.now))) }
+{
+    let plan = plan_of(question, events, bound.get(), tasks)?;
+    let first_line = head_text(alloc, question, events, bound, plan.cycles, plan.confirmed)?;
+    Ok(ReportStart {
+        bytes: plan.length as u32,
+        first_line,
+    })
+}
+
 /// Returns the first line of a report: the number, length and bound of its question, and the
 /// numbers of rows and of confirmed rows.
 ///

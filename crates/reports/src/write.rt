@@ -6,7 +6,7 @@
 
 ghost use Rattle.std.specs.List.{flat_map, zip};
 ghost use Rattle.fronts.specs.State.{included_places};
-ghost use Rattle.reports.specs.Text.{number_list, member, member_line, placed_line, witness_line, verdict, row_text, about, counts};
+ghost use Rattle.reports.specs.Text.{number_list, member, member_line, placed_line, verdict, row_front, witness_end, row_text, about, counts};
 ghost use Rattle.reports.specs.Sinks.{Appends};
 
 use crate::row::{Found, Row};
@@ -100,16 +100,8 @@ pub(crate) fn write_placed<T: Sink>(
     Ok(())
 }
 
-/// Writes the line of a witness.
-pub(crate) fn write_witness_line<T: Sink>(text: &mut T, fronts: &Fronts) -> Result<(), T::Refused>
-    ensures { Appends T.room text.old (witness_line (included_places fronts.now)) result text.new }
-{
-    text.put(b"  witness")?;
-    write_places(text, fronts)?;
-    text.put(b"\n")
-}
-
-/// Writes the rest of a row after the numbers of its cycle.
+/// Writes the verdict of a row, and the lines of its members. For a confirmed row it begins the line
+/// of the witness.
 pub(crate) fn write_verdict<T: Sink>(
     text: &mut T,
     dependencies: &[Dependency],
@@ -125,7 +117,29 @@ pub(crate) fn write_verdict<T: Sink>(
         Some(found) => {
             text.put(b" confirmed\n")?;
             write_placed(text, dependencies, &found.places)?;
-            write_witness_line(text, &found.witness)
+            text.put(b"  witness")
+        }
+    }
+}
+
+/// Writes a row up to the places of its witness.
+pub(crate) fn write_front<T: Sink>(text: &mut T, row: &Row) -> Result<(), T::Refused>
+    ensures { Appends T.room text.old (row_front row.now) result text.new }
+{
+    text.put(b"cycle")?;
+    write_numbers(text, row.cycle.numbers())?;
+    write_verdict(text, row.dependencies.as_slice(), &row.found)
+}
+
+/// Writes the places of the witness of a row, if it has one, and the end of their line.
+pub(crate) fn write_witness<T: Sink>(text: &mut T, found: &Option<Found>) -> Result<(), T::Refused>
+    ensures { Appends T.room text.old (witness_end found.now) result text.new }
+{
+    match found {
+        None => Ok(()),
+        Some(found) => {
+            write_places(text, &found.witness)?;
+            text.put(b"\n")
         }
     }
 }
@@ -134,9 +148,8 @@ pub(crate) fn write_verdict<T: Sink>(
 pub(crate) fn write_row<T: Sink>(text: &mut T, row: &Row) -> Result<(), T::Refused>
     ensures { Appends T.room text.old (row_text row.now) result text.new }
 {
-    text.put(b"cycle")?;
-    write_numbers(text, row.cycle.numbers())?;
-    write_verdict(text, row.dependencies.as_slice(), &row.found)
+    write_front(text, row)?;
+    write_witness(text, &row.found)
 }
 
 /// Writes rows.

@@ -9,3 +9,4 @@ pub mod Sessions
 pub mod Exact
 pub mod Drains
 pub mod Played
+pub mod Answered

@@ -1,5 +1,5 @@
 //! Answers and status of questions. An answer has two parts: the rows, which the book shares, and the
-//! text, which is printed from them without the book.
+//! text, which is printed from them without the book, as a whole or piece by piece.
 
 ghost use Rattle.std.specs.Prelude.{◌≡◌, ℕ, List, Vec, Some, map, flat_map, IfErr, IfOk};
 ghost use Rattle.std.specs.declared.alloc.Global.{Global};
@@ -9,16 +9,20 @@ ghost use Rattle.result_ledger.specs.Tasks.{IsMissing};
 ghost use Rattle.trace_model.specs.Protocol.Machine as machine;
 ghost use Rattle.trace_model.specs.declared.refusal.Refusal.TheVariants as refusals;
 ghost use Rattle.trace_model.specs.declared.messages.session.Reply.TheVariants.{Refused, Status};
+ghost use Rattle.sequencer.specs.Answered.{reply_in};
 ghost use Rattle.sequencer.specs.Book.{RefusesAnswer, RefusesReply, answer_refusal, answer_reply, shared_reply, text_reply, IsAnswered};
 ghost use Rattle.sequencer.specs.Printing.{report_printer};
 
+use crate::answered::Answered;
 use crate::book::{Book, NoSuchQuestion};
 use crate::question_state::QuestionState;
-use reports::{TextRefused, is_too_long, report_text};
+use crate::report_reply::ReportReply;
+use crate::row_text::RowText;
+use reports::{TextRefused, begin_report, is_too_long, report_text};
 use result_ledger::SharedTasks;
 use std::alloc::Global;
 use thiserror::Error;
-use trace_model::{Bound, QuestionStatus, Refusal, ReportText};
+use trace_model::{Bound, QuestionStatus, Refusal, Reply, ReportText};
 
 /// The answer to a question: the number of delivered tasks, or the report if all are delivered.
 #[derive(Debug, Drop)]
@@ -88,6 +92,40 @@ impl SharedAnswer {
         let tasks = settled.tasks.as_slice();
         match report_text(alloc, question, settled.length, settled.bound, tasks) {
             Ok(text) => Ok(Answer::Settled(ReportText::from_vec(text))),
+            Err(TextRefused::TooLong) => Err(AnswerRefused::ReportTooLong),
+            Err(TextRefused::NoMemory) => Err(AnswerRefused::NoMemory),
+        }
+    }
+
+    /// Returns the reply about the question with this number. The report, if it is settled, is
+    /// measured and its first line is printed; the text of its rows is not in memory.
+    ///
+    /// # Errors
+    ///
+    /// - `ReportTooLong` if the report has more than `MAX_REPORT` bytes.
+    /// - `NoMemory` if the first line cannot be allocated.
+    pub fn reply(self, alloc: Global, question: u32) -> Result<Answered, AnswerRefused>
+        ensures ok { IfOk result (λ answered. shared_reply question self ≡ reply_in answered) }
+        ensures refused { IfErr result (RefusesReply (shared_reply question self)) }
+    {
+        let settled = match self {
+            SharedAnswer::Pending { delivered, total } => {
+                return Ok(Answered::Whole(Reply::Pending {
+                    question,
+                    delivered,
+                    total,
+                }));
+            }
+            SharedAnswer::Settled(settled) => settled,
+        };
+        let tasks = settled.tasks.as_slice();
+        match begin_report(alloc, question, settled.length, settled.bound, tasks) {
+            Ok(start) => Ok(Answered::Report(ReportReply {
+                question,
+                bytes: start.bytes,
+                first_line: start.first_line,
+                rows: RowText::new(settled.tasks),
+            })),
             Err(TextRefused::TooLong) => Err(AnswerRefused::ReportTooLong),
             Err(TextRefused::NoMemory) => Err(AnswerRefused::NoMemory),
         }

@@ -2,10 +2,12 @@
 ghost use Rattle.trace_model.specs.Protocol.Replies.{IsReply};
 ghost use Rattle.trace_model.specs.declared.messages.session.Request.{Request};
 ghost use Rattle.trace_model.specs.declared.messages.session.Reply.{Reply};
+ghost use Rattle.sequencer.specs.Answered.{reply_in};
 ghost use Rattle.sequencer.specs.Called.{StepsOrMemory};
 
+use crate::answered::Answered;
 use crate::book::Book;
-use trace_model::{Reply, Request};
+use trace_model::Request;
 
 /// Answers the requests of a session.
 pub trait Calls {
@@ -13,9 +15,9 @@ pub trait Calls {
     ghost steps: { Self → Request → Reply → Self → Type 0 };
 
     /// Answers a request.
-    fn call(&mut self, request: Request) -> Reply
-        ensures step { steps self.old request result self.new }
-        ensures fits { IsReply result };
+    fn call(&mut self, request: Request) -> Answered
+        ensures step { steps self.old request (reply_in result) self.new }
+        ensures fits { IsReply (reply_in result) };
 }
 
 /// A book replies as the machine does. If an allocation fails the reply is `NoMemory`, and the book
@@ -23,7 +25,7 @@ pub trait Calls {
 impl Calls for Book {
     ghost steps = { λ old request reply new. StepsOrMemory old.state request reply new.state };
 
-    fn call(&mut self, request: Request) -> Reply {
-        Book::call(self, &request)
+    fn call(&mut self, request: Request) -> Answered {
+        Answered::Whole(Book::call(self, &request))
     }
 }

@@ -5,6 +5,7 @@
 //! exactly the machine's replies. Start reading at `book`, then `step`.
 #![tactic(auto)]
 
+mod answered;
 mod answering;
 mod asking;
 mod batching;
@@ -16,9 +17,12 @@ mod playing;
 mod question_state;
 mod recorder;
 mod replies;
+mod report_reply;
+mod row_text;
 mod sharing;
 mod step;
 
+pub use answered::Answered;
 pub use answering::{Answer, AnswerRefused, SettledQuestion, SharedAnswer};
 pub use asking::{AskRefused, Opened};
 pub use batching::Batched;
@@ -28,4 +32,7 @@ pub use delivering::Delivered;
 pub use input::{Input, MAX_PLAYED, Session};
 pub use playing::{PlayRefused, Played, play};
 pub use question_state::QuestionState;
+pub use report_reply::ReportReply;
+pub use reports::Piece;
+pub use row_text::RowText;
 pub use step::{Change, Step};

@@ -1,9 +1,10 @@
 //! Tests of a book by its own calls, and findings for other tests.
 
 use crate::fixtures::{LIMIT, OPPOSITE_EVENTS, REPORT};
+use crate::test_desk::in_memory;
 use findings::{Finding, Snapshot};
 use sequencer::{Answer, AnswerRefused, Book, Delivered};
-use std::alloc::Global;
+use std::alloc::{AllocError, Global};
 use std::hash::RandomState;
 use std::process::Abort;
 use std::random::RandomSource;
@@ -167,4 +168,41 @@ fn opposite_orders_by_calls_of_a_book(rt: HostRuntime) -> Result<(), Fail> {
     let reported = reports(&rt, rt.alloc(), &mut book);
     drop(book);
     reported
+}
+
+/// Returns the trace of two opposite orders in which thread 1 first takes and releases a lock 600
+/// times, so its witness has a run of more than 1,200 places.
+fn events_with_a_long_run(alloc: Global) -> Result<Vec<Event>, AllocError> {
+    let mut events = Vec::new(alloc);
+    events.extend_from_slice(&OPPOSITE_EVENTS[..2])?;
+    for _ in 0..600u32 {
+        for op in [Op::Acquire(10), Op::Release(10)] {
+            events.push(Event { thread: 1, op })?;
+        }
+    }
+    events.extend_from_slice(&OPPOSITE_EVENTS[2..])?;
+    Ok(events)
+}
+
+/// Asserts that the pieces of the answer to question 0 are the text of its report, which is longer
+/// than a piece.
+fn answers_in_pieces(rt: &impl Abort, alloc: Global, book: &mut Book) -> Result<(), Fail> {
+    let whole = book.answer(0);
+    let pieces = in_memory(book.share_answer(0)?.reply(alloc, 0)?);
+    assert_eq!(rt; report_in(&pieces), report_in(&whole));
+    let text = report_in(&whole).map_err(|_| "a report")?;
+    assert!(rt; text.len() > 4096, "a long report");
+    Ok(())
+}
+
+#[test]
+fn pieces_of_a_long_report_are_its_text(rt: HostRuntime) -> Result<(), Fail> {
+    let events = events_with_a_long_run(rt.alloc())?;
+    let mut book = Book::new(rt.alloc(), RandomState::new(&rt)?, LIMIT)?;
+    let snapshot = ask_over(&mut book, &events).ok_or("a snapshot")?;
+    let delivered = delivers_both(&rt, rt.alloc(), &mut book, &snapshot);
+    drop(snapshot);
+    let outcome = delivered.and_then(|()| answers_in_pieces(&rt, rt.alloc(), &mut book));
+    drop(book);
+    outcome
 }

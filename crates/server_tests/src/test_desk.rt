@@ -8,12 +8,14 @@ use board::{BoardReader, BoardState, HistoryId, NewHistory, Receipt, Summary};
 use claims::Claimant;
 use desk::{Desk, Turn, Worker};
 use findings::{Finding, Hold};
-use sequencer::{Answer, AnswerRefused, AskRefused, Batched, Delivered, Opened};
-use std::alloc::Global;
+use sequencer::{
+    Answer, AnswerRefused, Answered, AskRefused, Batched, Delivered, Opened, Piece, ReportReply,
+};
+use std::alloc::{AllocError, Global};
 use std::hash::RandomState;
 use std::process::Abort;
 use std::sync::{Arc, Wait};
-use trace_model::{Event, Place, Refusal};
+use trace_model::{Event, Place, Refusal, Reply, ReportText};
 
 /// A desk as tests use it. The proof of a function spells out the type of each value in it. The
 /// types of a desk are long, so tests use these associated types.
@@ -109,9 +111,9 @@ impl<N: HistoryId + Send + Sync, R: Wait + Copy + Send + Sync> TestDesk
     }
 
     fn answer(&self) -> Result<Answer, AnswerRefused> {
-        let (answer, receipt) = Desk::answer(self, 0);
+        let (answered, receipt) = Desk::answer(self, 0);
         drop(receipt);
-        answer
+        in_memory(answered?)
     }
 
     fn missing(&self) -> Option<Option<u32>> {
@@ -131,6 +133,41 @@ impl<N: HistoryId + Send + Sync, R: Wait + Copy + Send + Sync> TestDesk
     fn worker(self, claimant: Claimant, reader: BoardReader<N>) -> Worker<N, R, BoardState<N>> {
         Worker::new(self, claimant, reader)
     }
+}
+
+/// Returns the answer with the whole text of its report.
+pub(crate) fn in_memory(answered: Answered) -> Result<Answer, AnswerRefused> {
+    match answered {
+        Answered::Whole(
+            Reply::Pending {
+                question: _,
+                delivered,
+                total,
+            },
+        ) => Ok(Answer::Pending { delivered, total }),
+        Answered::Whole(other) => {
+            drop(other);
+            Err(AnswerRefused::NoSuchQuestion)
+        }
+        Answered::Report(report) => match whole_text(report) {
+            Ok(text) => Ok(Answer::Settled(ReportText::from_vec(text))),
+            Err(_) => Err(AnswerRefused::NoMemory),
+        },
+    }
+}
+
+/// Returns the first line of the report and all pieces of its rows.
+fn whole_text(report: ReportReply) -> Result<Vec<u8>, AllocError> {
+    let mut text = report.first_line;
+    let mut rows = report.rows;
+    let mut piece = Piece::new();
+    for _ in 0..u64::MAX {
+        if !rows.next(&mut piece) {
+            break;
+        }
+        text.extend_from_slice(piece.bytes())?;
+    }
+    Ok(text)
 }
 
 /// A desk and its readers.

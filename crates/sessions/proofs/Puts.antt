@@ -103,3 +103,33 @@ part_of_first old new first second n p =
 pub part_of_second : (old mid new : Option (List ℕ)) (first second : List ℕ) (n : ℕ) → Appends old mid first → Appends mid new (take n second) → (m : ℕ) × Appends old new (take m (first ++ second))
 part_of_second old mid new first second n p q =
     (length first + n, subst (Appends old new) (sym (take-append-add first second n)) (put_then old mid new first (take n second) p q))
+
+-- a part of the text is written, and the rest is left
+pub record IsPoured (old now : Option (List ℕ)) (failures failures' : ℕ) (whole left : List ℕ) : Type 0 where
+  pub done : List ℕ
+  pub put : Appends old now done
+  pub whole_is : done ++ left ≡ whole
+  pub same : failures' ≡ failures
+
+module _ (old now next : Option (List ℕ)) (failures failures' : ℕ) (whole left piece rest bytes : List ℕ)
+    (p : IsPoured old now failures failures' whole left) (takes : left ≡ piece ++ rest) (is : bytes ≡ piece) where
+  all : (p.done ++ piece) ++ rest ≡ whole
+  all = append_assoc p.done piece rest ∙ ap (λ t. p.done ++ t) (sym takes) ∙ p.whole_is
+
+  pub poured_on : (failures'' : ℕ) → Appends now next bytes → failures'' ≡ failures' → IsPoured old next failures failures'' whole rest
+  poured_on failures'' q e = record {
+    done = p.done ++ piece;
+    put = put_then old now next p.done piece p.put (subst (Appends now next) is q);
+    whole_is = all;
+    same = e ∙ p.same;
+  }
+
+  pub poured_part : (n : ℕ) × Appends now next (take n bytes) → (m : ℕ) × Appends old next (take m whole)
+  poured_part (n, q) =
+      let first = part_of_second old now next p.done piece n p.put (subst (λ t. Appends now next (take n t)) is q) in
+      let part = part_of_first old next (p.done ++ piece) rest first.0 first.1 in
+      (part.0, subst (λ t. Appends old next (take part.0 t)) all part.1)
+
+pub poured_all : (old now : Option (List ℕ)) (failures failures' : ℕ) (whole left : List ℕ) → IsPoured old now failures failures' whole left → left ≡ [] → Appends old now whole
+poured_all old now failures failures' whole left p none =
+    subst (Appends old now) (sym (append-nil p.done) ∙ ap (λ t. p.done ++ t) (sym none) ∙ p.whole_is) p.put

@@ -2,12 +2,13 @@
 ghost use Rattle.std.specs.Prelude.{◌≡◌, ◌<◌, ◌++◌, ℕ, take, None, IfOk, OnOk, OnErr, IfErr};
 ghost use Rattle.std.specs.Io.KnownBytes.{Appends, Keeps};
 ghost use Rattle.trace_model.specs.Protocol.Replies.{reply_frame, IsReply};
+ghost use Rattle.sequencer.specs.Answered.{reply_in};
 ghost use Rattle.sessions.specs.Serving.{between, session_point, AnswersRequests, BreaksOff, IsCountedFault, ServesText, Counts};
 ghost use Rattle.sessions.specs.declared.serving.ServeFault.TheVariants.{Write};
 
 use crate::ends::{Sink, Source, TransferFailed};
-use event_frames::{FrameReader, encode_head, frame_text};
-use sequencer::Calls;
+use event_frames::{FrameReader, encode_head, frame_text, report_head};
+use sequencer::{Answered, Calls, Piece, ReportReply, RowText};
 use std::alloc::Global;
 use std::sync::Wait;
 use thiserror::Error;
@@ -70,9 +71,78 @@ fn write_both<R: Wait, K: Sink>(
     write_all(rt, sink, second)
 }
 
-/// Writes a reply, or a prefix of it if a write fails. If its head cannot be allocated, the earlier
-/// replies are sent. The text of a report is not copied.
-fn reply_with<R: Wait, K: Sink>(
+/// Writes the text of rows piece by piece, or a prefix of it if a write fails. Does not allocate.
+fn write_rows<R: Wait, K: Sink>(rt: &R, sink: &mut K, rows: RowText) -> Result<(), TransferFailed>
+    ensures ok { OnOk result (Appends (K.written sink.old) (K.written sink.new) rows) }
+    ensures same { OnOk result (K.failures sink.new ≡ K.failures sink.old) }
+    ensures failed { OnErr result (K.failures sink.old < K.failures sink.new) }
+    ensures err { OnErr result ((n : ℕ) × Appends (K.written sink.old) (K.written sink.new)
+        (take n rows)) }
+{
+    let mut left = rows;
+    let mut piece = Piece::new();
+    for _ in rt.forever() {
+        if !left.next(&mut piece) {
+            return Ok(());
+        }
+        write_all(rt, sink, piece.bytes())?;
+    }
+    unreachable!()
+}
+
+/// Writes a report: both slices, and then the text of its rows piece by piece; or a prefix of all if
+/// a write fails. Does not allocate.
+fn write_pieces<R: Wait, K: Sink>(
+    rt: &R,
+    sink: &mut K,
+    head: &[u8],
+    first_line: &[u8],
+    rows: RowText,
+) -> Result<(), TransferFailed>
+    ensures ok { OnOk result (Appends (K.written sink.old) (K.written sink.new)
+        (head.now ++ first_line.now ++ rows)) }
+    ensures same { OnOk result (K.failures sink.new ≡ K.failures sink.old) }
+    ensures failed { OnErr result (K.failures sink.old < K.failures sink.new) }
+    ensures err { OnErr result ((n : ℕ) × Appends (K.written sink.old) (K.written sink.new)
+        (take n (head.now ++ first_line.now ++ rows))) }
+{
+    write_both(rt, sink, head, first_line)?;
+    write_rows(rt, sink, rows)
+}
+
+/// Writes the reply with a report like `reply_with`. After its first byte nothing is allocated.
+fn reply_with_report<R: Wait, K: Sink>(
+    rt: &R,
+    alloc: Global,
+    sink: &mut K,
+    report: ReportReply,
+) -> Result<(), ServeFault>
+    ensures ok { OnOk result (Appends (K.written sink.old) (K.written sink.new)
+        (reply_frame (reply_in (Answered.Report report)))) }
+    ensures err { OnErr result ((n : ℕ) × Appends (K.written sink.old) (K.written sink.new)
+        (take n (reply_frame (reply_in (Answered.Report report))))) }
+    ensures same { OnOk result (K.failures sink.new ≡ K.failures sink.old) }
+    ensures counted { IfErr result
+        (λ fault. IsCountedFault fault (K.failures sink.old) (K.failures sink.new)) }
+{
+    let ReportReply {
+        question,
+        bytes,
+        first_line,
+        rows,
+    } = report;
+    let Ok(head) = report_head(alloc, question, bytes) else {
+        let _ = sink.send(rt);
+        return Err(ServeFault::Memory);
+    };
+    match write_pieces(rt, sink, head.as_slice(), first_line.as_slice(), rows) {
+        Ok(()) => Ok(()),
+        Err(TransferFailed) => Err(ServeFault::Write),
+    }
+}
+
+/// Writes a reply that is in memory like `reply_with`. The text of a report is not copied.
+fn reply_with_whole<R: Wait, K: Sink>(
     rt: &R,
     alloc: Global,
     sink: &mut K,
@@ -94,6 +164,29 @@ fn reply_with<R: Wait, K: Sink>(
     match write_both(rt, sink, &head, frame_text(&reply)) {
         Ok(()) => Ok(()),
         Err(TransferFailed) => Err(ServeFault::Write),
+    }
+}
+
+/// Writes a reply, or a prefix of it if a write fails. If its head cannot be allocated, the earlier
+/// replies are sent.
+fn reply_with<R: Wait, K: Sink>(
+    rt: &R,
+    alloc: Global,
+    sink: &mut K,
+    answered: Answered,
+) -> Result<(), ServeFault>
+    requires { IsReply (reply_in answered) }
+    ensures ok { OnOk result (Appends (K.written sink.old) (K.written sink.new)
+        (reply_frame (reply_in answered))) }
+    ensures err { OnErr result ((n : ℕ) × Appends (K.written sink.old) (K.written sink.new)
+        (take n (reply_frame (reply_in answered)))) }
+    ensures same { OnOk result (K.failures sink.new ≡ K.failures sink.old) }
+    ensures counted { IfErr result
+        (λ fault. IsCountedFault fault (K.failures sink.old) (K.failures sink.new)) }
+{
+    match answered {
+        Answered::Whole(reply) => reply_with_whole(rt, alloc, sink, reply),
+        Answered::Report(report) => reply_with_report(rt, alloc, sink, report),
     }
 }
 
@@ -124,7 +217,7 @@ fn answer_all<R: Wait, K: Sink, C: Calls>(
             }
             Ok(None) => return Ok(None),
             Err(fault) => {
-                reply_with(rt, alloc, sink, Reply::Fault(fault))?;
+                reply_with(rt, alloc, sink, Answered::Whole(Reply::Fault(fault)))?;
                 return Ok(Some(fault));
             }
         }

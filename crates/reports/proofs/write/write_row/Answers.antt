@@ -1,22 +1,16 @@
-use Rattle.std.proofs.Common.{◌++◌, codes, sym, length-append, arith}
-use Rattle.reports.specs.Text.{number_list, verdict, row_text}
-use Rattle.reports.proofs.Sinks.{adds_both, appends_second, lacks_part, lacks_begun}
+use Rattle.std.proofs.Common.{sym}
+use Rattle.reports.specs.Text.{row_front, row_text, witness_end}
+use Rattle.reports.proofs.Sinks.{appends_second, lacks_begun, length-begin}
 use Rattle.reports.proofs.write.write_row.Goals as goal
 
-pub returns-in_err-put : goal.returns-in_err-put
-returns-in_err-put g c =
-    lacks_begun g.T.Sink.room _ _ (codes "cycle") (row_text c.args.row.now) _ c.from_residual.ensures.0 (omega arith) c.in_err-put.ensures
-
-pub returns-in_err-write_numbers : goal.returns-in_err-write_numbers
-returns-in_err-write_numbers g c =
-    let row = c.row.inside in
-    rw (sym c.row.view_is) (lacks_part g.T.Sink.room _ _ _ (codes "cycle") (number_list row.cycle) (codes "cycle" ++ number_list row.cycle ++ verdict row.dependencies.items row.found) _ c.from_residual-in_err-write_numbers.ensures.0
-    (omega (arith, length-append (number_list row.cycle) (verdict row.dependencies.items row.found))) c.in_ok-put.ensures
-    (rw c.numbers.ensures.value at c.in_err-write_numbers.ensures))
+pub returns-in_err-write_front : goal.returns-in_err-write_front
+returns-in_err-write_front g c =
+    let row = c.args.row.now in
+    lacks_begun g.T.Sink.room _ _ (row_front row) (row_text row) _ c.from_residual.ensures.0
+    (length-begin (row_front row) (witness_end row.row.found)) c.in_err-write_front.ensures
 
 pub returns : goal.returns
 returns g c =
-    let row = c.row.inside in
-    rw (sym c.row.view_is) (appends_second g.T.Sink.room _ _ _ (codes "cycle" ++ number_list row.cycle) (verdict row.dependencies.items row.found) _
-    (adds_both g.T.Sink.room _ _ _ (codes "cycle") (number_list row.cycle) c.in_ok-put.ensures (rw c.numbers.ensures.value at c.in_ok-write_numbers.ensures))
-    (rw c.as_slice.ensures.value at c.write_verdict.ensures))
+    let row = c.args.row.now in
+    appends_second g.T.Sink.room _ _ _ (row_front row) (witness_end row.row.found) _ c.in_ok-write_front.ensures
+    (rw (sym c.row.view_is) c.write_witness.ensures)

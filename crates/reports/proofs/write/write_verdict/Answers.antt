@@ -1,7 +1,8 @@
-use Rattle.std.proofs.Common.{◌++◌, codes, flat_map, arith}
+use Rattle.std.proofs.Common.{◌++◌, codes, flat_map, sym, arith}
+use Rattle.std.specs.List.{zip}
 use Rattle.std.proofs.lemmas.Grind.{common_steps}
-use Rattle.reports.specs.Text.{member_line}
-use Rattle.reports.proofs.Sinks.{appends_second, lacks_begun}
+use Rattle.reports.specs.Text.{member_line, placed_line}
+use Rattle.reports.proofs.Sinks.{adds_both, appends_second, lacks_begun}
 use Rattle.reports.proofs.write.write_verdict.Goals as goal
 
 pub returns-in_ok-put-in-None : goal.returns-in_ok-put-in-None
@@ -20,4 +21,7 @@ pub returns-in_err-write_placed-in-Some : goal.returns-in_err-write_placed-in-So
 returns-in_err-write_placed-in-Some g c = grind (arith, common_steps)
 
 pub returns-in_ok-write_placed-in-Some : goal.returns-in_ok-write_placed-in-Some
-returns-in_ok-write_placed-in-Some g c = grind (arith, common_steps)
+returns-in_ok-write_placed-in-Some g c =
+    let lines = flat_map placed_line (zip c.args.dependencies.now c.found.inside.places) in
+    rw c.in-Some.is (rw (sym c.found.view_is) (appends_second g.T.Sink.room _ _ _ (codes " confirmed\n" ++ lines) (codes "  witness") _
+    (adds_both g.T.Sink.room _ _ _ (codes " confirmed\n") lines c.in_ok-put-in-Some.ensures c.in_ok-write_placed-in-Some.ensures) c.put-in-Some-2.ensures))

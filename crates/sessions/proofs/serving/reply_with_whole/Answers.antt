@@ -1,7 +1,7 @@
 use Rattle.std.proofs.Common.{ℕ, [], ◌++◌, take, subst, ◌∙◌}
 use Rattle.std.specs.Io.KnownBytes.{Appends}
 use Rattle.sessions.proofs.Puts.{put_kept, put_none}
-use Rattle.sessions.proofs.serving.reply_with.Goals as goal
+use Rattle.sessions.proofs.serving.reply_with_whole.Goals as goal
 
 pub returns-in_default : goal.returns-in_default
 returns-in_default g c =
