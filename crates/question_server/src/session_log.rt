@@ -20,7 +20,7 @@ pub fn log_end<L: Log>(log: &L, session: u64, idle: u32, ended: Result<Ended, Se
         Ok(Ended::Input) => info!(log; "session {session} ends with its input"),
         Ok(Ended::Frame(fault)) => warn!(log; "session {session} ends with a fault: {fault:?}"),
         Err(ServeFault::Read) if idle > 0 => {
-            warn!(log; "session {session} ends: a read failed, or was idle for {idle} s");
+            warn!(log; "session {session} ends: a read failed, or no byte came for {idle} s");
         }
         Err(fault) => warn!(log; "session {session} ends: {fault}"),
     }
