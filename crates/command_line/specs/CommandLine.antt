@@ -13,8 +13,9 @@ IsLimitNumber limit = IsInClosedRange 1 1_048_576 limit
 
 -- each number of the command is in its range
 abbrev pub HasNumbersInRange : Invocation → Type 0
-HasNumbersInRange (Serve address workers sessions limit idle stop log) = IsInClosedRange 1 16 workers
-    × IsInClosedRange 0 1_000_000 sessions × IsLimitNumber limit × IsInClosedRange 0 86_400 idle
+HasNumbersInRange (Serve address workers sessions limit idle stop log) =
+    IsInClosedRange 1 16 workers × IsInClosedRange 0 1_000_000 sessions × IsLimitNumber limit
+    × IsInClosedRange 0 86_400 idle
 HasNumbersInRange (Script file limit) = IsLimitNumber limit
 HasNumbersInRange (Offline file bound) = IsInClosedRange 2 8 bound
 HasNumbersInRange (Replay trace witness) = Unit {0}

@@ -1,23 +1,24 @@
 -- The texts of rows, with more of them.
 use Rattle.std.proofs.Common.{◌≡◌, ◌≢◌, Bool, false, nat_eq, ℕ, zero, suc, ◌+◌, ◌<◌, ◌≤◌, get_or, List, [], ◌∷◌, ◌++◌, ◌∙◌, length, take, slice_get, arith, map, option_map, inl, inr, subst, length-append, Option, Some, None, MatchOption, true, refl, sym, ap, true≢false}
 use Rattle.std.specs.Prelude.{is_some}
-use Rattle.std.specs.List.{All, AllZip, Contains}
+use Rattle.std.specs.Global.{Vec}
+use Rattle.std.specs.List.{All, AllZip, Contains, flat_map}
+use Rattle.std.proofs.Math.ListN.{get_or-map}
 use Rattle.std.specs.Cmp.Lexicographic.{pointwise, bytes_decides}
 use Rattle.std.proofs.Math.Seq.{take-append-add}
-use Rattle.std.proofs.lemmas.List.{append-nil}
+use Rattle.std.proofs.lemmas.List.{append-nil, length-map, map-append}
 use Rattle.std.proofs.Common.{append_assoc}
 use Rattle.std.proofs.lemmas.List.Elements.{All-contains, All-map, Contains-get_or}
 use Rattle.std.proofs.lemmas.Option.{none-some, same_Some, slice_get-map, slice_get_within, get_or_from_slice_get}
 use Rattle.std.proofs.lemmas.List.Concat.{flat_map-append, flat_map-cons}
 use Rattle.trace_model.specs.Theory.Trace.{Trace}
-use Rattle.trace_model.specs.Theory.Rows.{IsRow, Row}
+use Rattle.trace_model.specs.Theory.Rows.{AreRows, IsRow, Row}
 use Rattle.trace_model.specs.Theory.Dependencies.{dependencies}
 use Rattle.trace_model.specs.Theory.Cycles.{IsCycle}
 use Rattle.reports.specs.Printed.{PrintedRow, with_dependencies}
-use Rattle.snapshots.specs.Found.{AreRowsOf, RowsOfTask}
-use Rattle.cycle_search.proofs.Listing.{get-split}
-use Rattle.commands.specs.Explain.{AreRowsUpTo, Explains, ExplainsSome, IsExplanation}
-use Rattle.commands.specs.ExplainFindings.{rows_of_findings}
+use Rattle.snapshots.specs.Found.{AreRowsOf}
+use Rattle.offline_report.specs.Offline.{AreTasks, printed_rows, rows_by_task}
+use Rattle.commands.specs.Explain.{Explains, ExplainsSome, IsExplanation, IsKnownRow, all_rows}
 
 -- The second fact holds for each value, and there is one.
 pub of_some : {X : Type 0} (o : Option X) (A B : Type 0) → is_some o ≡ true → B → MatchOption o A (λ _. B)
@@ -95,35 +96,38 @@ named_at s bound task rows i row at are =
 
 -- ---- all tasks
 
--- The rows of one more task.
-pub rows_more : (s : Trace) (bound n : ℕ) (tasks : List (List PrintedRow)) (rows : List PrintedRow) → AreRowsUpTo s bound n tasks → AreRowsOf s bound n rows → AreRowsUpTo s bound (n + 1) (tasks ++ rows ∷ [])
-rows_more s bound n tasks rows upto are = record {
-  total = omega (arith, upto.total, length-append tasks (rows ∷ []));
-  each = λ task found is. elim (get-split tasks (rows ∷ []) task found is) [
-    | inl h ↦ upto.each task found h.0
-    | inr h ↦ last task found h.0 h.1 h.2
-  ];
-}
-  where
-    last : (task : ℕ) (found : List PrintedRow) (j : ℕ) → task ≡ length tasks + j → slice_get (rows ∷ []) j ≡ Some found → AreRowsOf s bound task found
-    last task found zero e is =
-        let here : n ≡ task = omega (arith, e, upto.total) in
-        subst (λ k. AreRowsOf s bound k found) here (subst (AreRowsOf s bound n) (same_Some rows found is) are)
-    last task found (suc j) e is = absurd (none-some found is)
+-- The rows of a task with tasks before and after it.
+pub rows_amid : (s : Trace) (tasks : List (Vec Row)) (task : Vec Row) (others : List (Vec Row)) →
+    printed_rows s (all_rows (tasks ++ task ∷ others)) ≡ (printed_rows s (all_rows tasks) ++ printed_rows s task.items) ++ printed_rows s (all_rows others)
+rows_amid s tasks task others =
+    let printed : Row → PrintedRow = with_dependencies (dependencies s) in
+    let items : Vec Row → List Row = λ t. t.items in
+    let id : List Row → List Row = λ rows. rows in
+    ap (λ (l : List (List Row)). map printed (flat_map id l)) (map-append items tasks (task ∷ others))
+    ∙ ap (map printed) (flat_map-append id (rows_by_task tasks) (task.items ∷ rows_by_task others))
+    ∙ map-append printed (all_rows tasks) (flat_map id (task.items ∷ rows_by_task others))
+    ∙ ap (λ (l : List Row). printed_rows s (all_rows tasks) ++ map printed l) (flat_map-cons id task.items (rows_by_task others))
+    ∙ ap (λ (l : List PrintedRow). printed_rows s (all_rows tasks) ++ l) (map-append printed task.items (all_rows others))
+    ∙ sym (append_assoc (printed_rows s (all_rows tasks)) (printed_rows s task.items) (printed_rows s (all_rows others)))
 
-pub rows_none : (s : Trace) (bound : ℕ) → AreRowsUpTo s bound 0 []
-rows_none s bound = record { total = refl; each = λ task rows is. absurd (none-some rows is) }
+pub rows_added : (s : Trace) (tasks : List (Vec Row)) (task : Vec Row) → printed_rows s (all_rows (tasks ++ task ∷ [])) ≡ printed_rows s (all_rows tasks) ++ printed_rows s task.items
+rows_added s tasks task = rows_amid s tasks task [] ∙ append-nil (printed_rows s (all_rows tasks) ++ printed_rows s task.items)
 
--- The same rows of the same task.
-pub rows_as : (s t : Trace) (b d k l : ℕ) (rows : List PrintedRow) → s ≡ t → b ≡ d → k ≡ l → AreRowsOf s b k rows → AreRowsOf t d l rows
-rows_as s t b d k l rows p q r are =
-    subst (λ task. AreRowsOf t d task rows) r (subst (λ bound. AreRowsOf t bound k rows) q (subst (λ events. AreRowsOf events b k rows) p are))
+-- The rows of a task, and of all tasks, are exact, with numbers of dependencies.
+pub known_rows : (s : Trace) (bound task : ℕ) (rows : List Row) → AreRows s bound task rows → All (IsKnownRow s) rows
+known_rows s bound task rows are i d within =
+    let cycle : Row → List ℕ = λ r. r.cycle in
+    let row = get_or rows i d in
+    let listed : Contains (map cycle rows) row.cycle =
+    subst (λ c. Contains (map cycle rows) c) (get_or-map cycle rows i d) (Contains-get_or (map cycle rows) i d.cycle (subst (λ n. i < n) (sym (length-map rows cycle)) within)) in
+    record { exact = are.exact i d within; known = ((are.cycles.exact row.cycle).0 listed).0.known }
 
--- The rows of one more finding.
-pub rows_in_more : (fs : List RowsOfTask) (f : RowsOfTask) → rows_of_findings (fs ++ f ∷ []) ≡ rows_of_findings fs ++ f.rows
-rows_in_more fs f =
-    let g : RowsOfTask → List PrintedRow = λ x. x.rows in
-    flat_map-append g fs (f ∷ []) ∙ ap (λ l. rows_of_findings fs ++ l) (flat_map-cons g f [] ∙ append-nil f.rows)
+pub known_tasks : (s : Trace) (bound : ℕ) (tasks : List (Vec Row)) → AreTasks s bound (rows_by_task tasks) → All (λ task. All (IsKnownRow s) task.items) tasks
+known_tasks s bound tasks are k d within =
+    let items : Vec Row → List Row = λ t. t.items in
+    let (task, at, more) = at_index tasks k within in
+    let there = slice_get-map items tasks k ∙ ap (option_map items) at in
+    subst (λ (t : Vec Row). All (IsKnownRow s) t.items) (sym (get_or_from_slice_get tasks k task d at)) (known_rows s bound k task.items (are.each k task.items there))
 
 -- The first elements of a list are first ones of a longer list.
 first_of_more : {X : Type 0} (n : ℕ) (xs ys : List X) → (m : ℕ) × (take m (xs ++ ys) ≡ take n xs)

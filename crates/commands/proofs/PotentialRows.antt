@@ -7,13 +7,13 @@ use Rattle.std.proofs.lemmas.Option.{slice_get_cases}
 use Rattle.std.proofs.lemmas.List.Concat.{flat_map-cons}
 use Rattle.std.proofs.lemmas.List.Elements.{Contains-append_right, Contains-get_or}
 use Rattle.std.proofs.lemmas.List.{length-map}
-use Rattle.trace_model.specs.Theory.Dependencies.{Dependency}
+use Rattle.trace_model.specs.Theory.Dependencies.{Dependency, dependencies}
 use Rattle.trace_model.specs.Theory.Trace.{Trace}
 use Rattle.trace_model.specs.Theory.Cycles.{IsConfirmed}
 use Rattle.trace_model.specs.Theory.Rows.{Row, IsRow, IsLeastInstance, IsWitness}
-use Rattle.reports.specs.Printed.{PrintedRow}
+use Rattle.reports.specs.Printed.{PrintedRow, with_dependencies}
 use Rattle.snapshots.specs.Found.{AreRowsOf}
-use Rattle.commands.specs.Explain.{IsPotential}
+use Rattle.commands.specs.Explain.{IsKnownRow, IsPotential}
 
 not_confirmed : (s : Trace) (row : Row) → row.found ≡ None → IsRow s row → IsConfirmed s row.cycle → ⊥
 not_confirmed s row none exact =
@@ -35,6 +35,10 @@ potential_row s bound task rows i d within are none =
       named = are.named i d within;
       not_confirmed = not_confirmed s p.row none exact;
     }
+
+-- A potential row of the trace, with the dependencies of its members.
+pub potential_printed : (s : Trace) (row : Row) → IsKnownRow s row → row.found ≡ None → IsPotential s (with_dependencies (dependencies s) row)
+potential_printed s row is none = record { known = is.known; named = refl; not_confirmed = not_confirmed s row none is.exact }
 
 pub none_of : {X : Type 0} (o : Option X) → is_some o ≡ false → o ≡ None
 none_of None e = refl

@@ -9,18 +9,22 @@ use Rattle.trace_model.specs.Theory.Cycles.{IsConfirmed, IsCycle}
 use Rattle.trace_model.specs.Theory.Dependencies.{dependencies}
 use Rattle.trace_model.specs.Theory.Refutation.{IsRefutation}
 use Rattle.event_files.specs.Refutations.{refutation_text, label_and_number}
-use Rattle.trace_model.specs.Theory.Rows.{IsRow}
+use Rattle.trace_model.specs.Theory.Rows.{Row, IsRow}
+use Rattle.std.specs.Global.{Vec}
+use Rattle.findings.specs.declared.computing.ComputeRefused.{ComputeRefused}
+use Rattle.findings.specs.declared.computing.ComputeRefused.TheVariants.{TooManyCycles as TooManyFound}
+use Rattle.offline_report.specs.Offline.{AreTasks, first_line_of, printed_rows, rows_by_task}
 use Rattle.cycle_search.specs.CycleSearch.{CycleFrom, MoreThan}
 use Rattle.event_files.specs.EventFile.{pieces_at}
 use Rattle.commands.specs.Admission.{HasBadLine}
+use Rattle.commands.specs.Offline.{ReportPrints}
 use Rattle.commands.specs.Output.{EndsWithStatus}
 use Rattle.commands.specs.Text.{labeled_line, refusal_line}
 use Rattle.commands.specs.Replay.{AreLawfulEventsOf, UnlawfulPrints}
 use Rattle.commands.specs.declared.exit.Status.{Status}
 use Rattle.commands.specs.declared.exit.Status.TheVariants.{Done, Refused, Error, NotUnderstood}
 use Rattle.reports.specs.Printed.{PrintedRow, with_dependencies}
-use Rattle.reports.specs.Text.{about, counts, is_confirmed_row, row_text}
-use Rattle.snapshots.specs.Found.{AreRowsOf}
+use Rattle.reports.specs.Text.{row_text}
 
 -- The row of a cycle that is not confirmed, with the dependencies of its members.
 pub record IsPotential (s : Trace) (p : PrintedRow) : Type 0 where
@@ -47,33 +51,30 @@ Explains s rows text = (texts : List (List ℕ)) × AllZip (IsExplanation s) row
 abbrev pub ExplainsSome : Trace → List PrintedRow → List ℕ → Type 0
 ExplainsSome s rows text = (n : ℕ) × Explains s (take n rows) text
 
--- exactly the rows of the first `n` tasks
-pub record AreRowsUpTo (s : Trace) (bound n : ℕ) (tasks : List (List PrintedRow)) : Type 0 where
-  pub total : length tasks ≡ n
-  pub each : (task : ℕ) (rows : List PrintedRow) → slice_get tasks task ≡ Some rows →
-      AreRowsOf s bound task rows
+-- A row of the trace, with numbers of dependencies.
+pub record IsKnownRow (s : Trace) (row : Row) : Type 0 where
+  pub exact : IsRow s row
+  pub known : (m : ℕ) → Contains row.cycle m → m < length (dependencies s)
+
+-- The rows of all tasks, in order.
+abbrev pub all_rows : List (Vec Row) → List Row
+all_rows tasks = flat_map (λ rows. rows) (rows_by_task tasks)
 
 -- exactly the rows of the trace, in the order of the tasks
 abbrev pub AreRowsOfTrace : Trace → ℕ → List PrintedRow → Type 0
-AreRowsOfTrace s bound rows = (tasks : List (List PrintedRow))
-    × AreRowsUpTo s bound (length (dependencies s)) tasks
-    × (rows ≡ flat_map (λ task. task) tasks)
-
--- the first line of the report with these rows
-abbrev pub first_report_line : Trace → ℕ → List PrintedRow → List ℕ
-first_report_line s bound rows =
-    about 0 (length s) bound ++ counts (length rows) (count_by is_confirmed_row rows)
+AreRowsOfTrace s bound rows = (tasks : List (List Row)) × AreTasks s bound tasks
+    × (rows ≡ printed_rows s (flat_map (λ task. task) tasks))
 
 -- The first line of the report, and then the texts of all rows of the trace.
 abbrev pub ExplainsAll : Trace → ℕ → List ℕ → Type 0
 ExplainsAll s bound text = (rows : List PrintedRow) × (texts : List ℕ) × AreRowsOfTrace s bound rows
-    × Explains s rows texts × (text ≡ first_report_line s bound rows ++ texts)
+    × Explains s rows texts × (text ≡ first_line_of (length s) bound rows ++ texts)
 
 -- The first line of the report, and then the texts of the first rows of the trace.
 abbrev pub ExplainsFirst : Trace → ℕ → List ℕ → Type 0
 ExplainsFirst s bound text = (rows : List PrintedRow) × (texts : List ℕ)
     × AreRowsOfTrace s bound rows
-    × ExplainsSome s rows texts × (text ≡ first_report_line s bound rows ++ texts)
+    × ExplainsSome s rows texts × (text ≡ first_line_of (length s) bound rows ++ texts)
 
 -- The numbers are a cycle up to the bound, and the text is that of its exact row.
 abbrev pub ExplainsCycle : Trace → ℕ → List ℕ → List ℕ → Type 0
@@ -96,9 +97,10 @@ too_many_line = refusal_line TooManyCycles
 abbrev pub HasTooManyCycles : Trace → ℕ → ℕ → Type 0
 HasTooManyCycles s bound task = MoreThan (CycleFrom (dependencies s) bound task) MAX_CYCLES
 
--- A task has too many cycles.
-abbrev pub RefusesAll : Trace → ℕ → List ℕ → Type 0
-RefusesAll s bound text = (task : ℕ) × HasTooManyCycles s bound task × (text ≡ too_many_line)
+-- A task has too many cycles. The text is the line of this refusal.
+abbrev pub IsTooMany : ComputeRefused → Status → List ℕ → Type 0
+IsTooMany refused status text =
+    (refused ≡ TooManyFound) × (status ≡ Refused) × (text ≡ too_many_line)
 
 -- The numbers are no cycle up to the bound, or the task of this cycle has too many.
 abbrev pub RefusesCycle : Trace → ℕ → List ℕ → List ℕ → Type 0
@@ -109,10 +111,11 @@ RefusesCycle s bound numbers text =
 
 -- ---- the command
 
--- The text about all cycles is right with this status. With `Error` it has the first rows.
+-- The text about all cycles is right with this status. It is refused as the report is. With `Error`
+-- it has the first rows.
 abbrev pub PrintsAllOf : Trace → ℕ → Status → List ℕ → Type 0
 PrintsAllOf s bound Done text = ExplainsAll s bound text
-PrintsAllOf s bound Refused text = RefusesAll s bound text
+PrintsAllOf s bound Refused text = ReportPrints s bound Refused text
 PrintsAllOf s bound Error text = ExplainsFirst s bound text
 PrintsAllOf s bound NotUnderstood text = ⊥
 

@@ -1,7 +1,6 @@
 pub mod Admission
 pub mod Exit
 pub mod Explain
-pub mod ExplainFindings
 pub mod Offline
 pub mod Output
 pub mod Replay

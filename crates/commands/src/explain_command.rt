@@ -5,13 +5,14 @@ ghost use Rattle.std.specs.Option.{ForSome, option_copied};
 ghost use Rattle.std.specs.Arc.{arc_value};
 ghost use Rattle.trace_model.specs.Theory.Trace.{Trace};
 ghost use Rattle.trace_model.specs.Theory.Lawful.{IsWellFormed};
-ghost use Rattle.reports.specs.Printed.{PrintedRow};
+ghost use Rattle.trace_model.specs.Theory.Dependencies.{dependencies};
+ghost use Rattle.reports.specs.Printed.{PrintedRow, with_dependencies};
+ghost use Rattle.reports.specs.Text.{row_text};
+ghost use Rattle.offline_report.specs.Offline.{IsReportRows, printed_rows};
 ghost use Rattle.snapshots.specs.Found.{AreRowsOf};
-ghost use Rattle.findings.specs.declared.computing.ComputeRefused.TheVariants.{TooManyCycles};
 ghost use Rattle.commands.specs.declared.exit.Status.TheVariants.{Error, NotUnderstood};
 ghost use Rattle.event_files.specs.EventFile.{pieces_at};
-ghost use Rattle.commands.specs.Explain.{AddsRefutation, ExplainTells, Explains, ExplainsSome, HasTooManyCycles, IsExplanation, IsChosen, IsPotential, AreNumberWords, NamesCycle, NamesNone, PrintsAllOf, PrintsChosen, PrintsOneOf, first_report_line, no_cycle_line};
-ghost use Rattle.commands.specs.ExplainFindings.{HasAllRows, IsTooMany, rows_of_findings};
+ghost use Rattle.commands.specs.Explain.{AddsRefutation, ExplainTells, Explains, ExplainsSome, IsExplanation, IsChosen, IsKnownRow, IsPotential, IsTooMany, AreNumberWords, NamesCycle, NamesNone, PrintsAllOf, PrintsChosen, PrintsOneOf, all_rows, no_cycle_line};
 ghost use Rattle.commands.specs.Exit.{error_status};
 ghost use Rattle.commands.specs.Output.{EndsWithResult, IsCutShort, Writes};
 
@@ -24,9 +25,9 @@ use dependencies::Dependency;
 use event_files::laws::refutations_are_writable;
 use event_files::{parse_number, push_refutation};
 use explain::refutation_of;
-use findings::{Analysis, ComputeRefused, Finding, Job, Snapshot};
-use offline_report::OfflineRefused;
-use reports::{Row, TextBuffer, confirmed_in, head_text};
+use findings::{Analysis, ComputeRefused, Finding, Job, RunOn, Snapshot};
+use offline_report::{Offline, OfflineRefused, ReportRows, RowPrinter};
+use reports::{BareRow, Row, TextBuffer};
 use std::alloc::{AllocError, Global};
 use std::hash::RandomState;
 use std::io::{self, BufWriter, Write};
@@ -71,29 +72,59 @@ fn push_reasons(
     }
 }
 
-/// Returns the text of the row with this index: the row itself, and if its cycle is potential a
-/// refutation of it. The row is written in the buffer first, which is empty before and after.
+/// Returns the text of a row, which is `printed`, and if its cycle is potential a refutation of it.
+fn explanation_of(
+    alloc: Global,
+    state: RandomState,
+    snapshot: &Snapshot,
+    row: &Row,
+    printed: &[u8],
+) -> Result<Vec<u8>, NoMemory>
+    requires row { row.now.row.found ≡ None → IsPotential snapshot.now row.now }
+    requires printed { printed.now ≡ row_text row.now }
+    ensures { IfOk result (λ text. IsExplanation snapshot.now row.now text.items) }
+{
+    let mut text = Vec::from_slice(alloc, printed)?;
+    if row.found.is_none() {
+        push_reasons(alloc, state, snapshot, row, &mut text)?;
+    }
+    Ok(text)
+}
+
+/// Returns the text of the row with this index, and if its cycle is potential a refutation of it.
 fn text_of(
     alloc: Global,
     state: RandomState,
     finding: &Finding,
     index: usize,
-    buffer: &mut TextBuffer,
 ) -> Result<Vec<u8>, NoMemory>
-    requires index { index < length finding.now.rows }
-    requires empty { buffer.old ≡ [] }
-    ensures text { IfOk result (λ text. (row : PrintedRow) →
+    requires { index < length finding.now.rows }
+    ensures { IfOk result (λ text. (row : PrintedRow) →
         slice_get finding.now.rows index ≡ Some row →
         IsExplanation finding.now.events row text.items) }
-    ensures empty { OnOk result (buffer.new ≡ []) }
 {
-    let rows = finding.rows();
-    let row = &rows[index];
+    let row = &finding.rows()[index];
+    let mut buffer = TextBuffer::new(alloc);
     buffer.push_row(row)?;
-    let mut text = buffer.take_text()?;
-    if row.found.is_none() {
-        push_reasons(alloc, state, finding.snapshot(), row, &mut text)?;
-    }
+    let text = explanation_of(alloc, state, finding.snapshot(), row, buffer.bytes())?;
+    Ok(text)
+}
+
+/// Returns the text of a row of the trace, and if its cycle is potential a refutation of it.
+fn text_of_row(
+    alloc: Global,
+    state: RandomState,
+    snapshot: &Snapshot,
+    row: BareRow,
+    printer: &mut RowPrinter,
+) -> Result<Vec<u8>, NoMemory>
+    requires { IsKnownRow snapshot.now row }
+    ensures { IfOk result (λ text. IsExplanation snapshot.now
+        (with_dependencies (dependencies snapshot.now) row) text.items) }
+{
+    let row = printer.print(snapshot, row)?;
+    let text = explanation_of(alloc, state, snapshot, &row, printer.text())?;
+    printer.keep(row);
     Ok(text)
 }
 
@@ -101,20 +132,20 @@ fn text_of(
 fn write_rows<O: Write>(
     alloc: Global,
     state: RandomState,
-    finding: &Finding,
-    buffer: &mut TextBuffer,
+    snapshot: &Snapshot,
+    rows: Vec<BareRow>,
+    printer: &mut RowPrinter,
     out: &mut O,
 ) -> Result<(), CommandError>
-    requires { buffer.old ≡ [] }
+    requires { All (IsKnownRow snapshot.now) rows.items }
     ensures written { OnOk result (Writes (O.contents out.old) (O.contents out.new)
-        (Explains finding.now.events finding.now.rows)) }
+        (Explains snapshot.now (printed_rows snapshot.now rows.items))) }
     ensures cut { OnErr result (IsCutShort (O.contents out.old) (O.contents out.new)
-        (ExplainsSome finding.now.events finding.now.rows)) }
-    ensures empty { OnOk result (buffer.new ≡ []) }
+        (ExplainsSome snapshot.now (printed_rows snapshot.now rows.items))) }
     ensures failed { IfErr result (λ error. error_status error ≡ Error) }
 {
-    for index in 0..finding.rows().len() {
-        let text = text_of(alloc, state, finding, index, buffer)?;
+    for row in rows {
+        let text = text_of_row(alloc, state, snapshot, row, printer)?;
         write_bytes(out, &text)?;
     }
     Ok(())
@@ -124,68 +155,22 @@ fn write_rows<O: Write>(
 fn write_tasks<O: Write>(
     alloc: Global,
     state: RandomState,
-    tasks: &[Finding],
+    snapshot: &Snapshot,
+    tasks: Vec<Vec<BareRow>>,
+    printer: &mut RowPrinter,
     out: &mut O,
 ) -> Result<(), CommandError>
-    ensures written { OnOk result ((s : Trace) → All (λ f. f.events ≡ s) tasks.now →
-        Writes (O.contents out.old) (O.contents out.new) (Explains s
-        (rows_of_findings tasks.now))) }
-    ensures cut { OnErr result ((s : Trace) → All (λ f. f.events ≡ s) tasks.now →
-        IsCutShort (O.contents out.old) (O.contents out.new)
-        (ExplainsSome s (rows_of_findings tasks.now))) }
+    requires { All (λ task. All (IsKnownRow snapshot.now) task.items) tasks.items }
+    ensures written { OnOk result (Writes (O.contents out.old) (O.contents out.new)
+        (Explains snapshot.now (printed_rows snapshot.now (all_rows tasks.items)))) }
+    ensures cut { OnErr result (IsCutShort (O.contents out.old) (O.contents out.new)
+        (ExplainsSome snapshot.now (printed_rows snapshot.now (all_rows tasks.items)))) }
     ensures failed { IfErr result (λ error. error_status error ≡ Error) }
 {
-    let mut buffer = TextBuffer::new(alloc);
-    for finding in tasks {
-        write_rows(alloc, state, finding, &mut buffer, out)?;
+    for rows in tasks {
+        write_rows(alloc, state, snapshot, rows, printer, out)?;
     }
     Ok(())
-}
-
-/// The findings of all tasks, with the numbers of their rows and of the confirmed ones.
-#[derive(Drop)]
-struct Findings {
-    tasks: Vec<Finding>,
-    cycles: u64,
-    confirmed: u64,
-}
-
-/// Returns the findings of all tasks of the analysis.
-///
-/// # Errors
-///
-/// - `TooManyCycles` if a task has too many.
-/// - `NoMemory` if an allocation fails.
-fn find_all(alloc: Global, analysis: Arc<Analysis, Global>) -> Result<Findings, ComputeRefused>
-    ensures found { IfOk result (HasAllRows (arc_value analysis).events
-        (arc_value analysis).bound) }
-    ensures refused { IfErr result (λ refused. refused ≡ TooManyCycles →
-        (task : ℕ) × HasTooManyCycles (arc_value analysis).events (arc_value analysis).bound task) }
-{
-    let tasks = analysis.snapshot().tasks();
-    let mut job = Job::new(alloc, analysis, QUESTION);
-    let mut findings = no_findings(alloc, tasks)?;
-    let mut cycles = 0u64;
-    let mut confirmed = 0u64;
-    for task in 0..tasks {
-        let finding = job.compute(task)?;
-        cycles += finding.rows().len() as u64;
-        confirmed += confirmed_in(finding.rows()) as u64;
-        findings.push_reserved(finding);
-    }
-    Ok(Findings {
-        tasks: findings,
-        cycles,
-        confirmed,
-    })
-}
-
-/// Returns the empty list, with memory for the findings of these many tasks.
-fn no_findings(alloc: Global, tasks: u32) -> Result<Vec<Finding>, NoMemory>
-    ensures empty { IfOk result (λ findings. findings.items ≡ []) }
-    ensures room { IfOk result (λ findings. tasks ≤ vec_capacity findings) }
-{
-    Ok(Vec::with_capacity(alloc, tasks as usize)?)
 }
 
 /// Writes the line that says why a task has no rows. `NoMemory` has no line.
@@ -203,9 +188,49 @@ fn write_uncomputed<O: Write>(
     }
 }
 
-/// Writes the first line of the report and the texts of all cycles of the analysis, or that a task
-/// has too many.
-fn write_all<O: Write>(
+/// Writes the first line of the report and the texts of its rows.
+fn write_found<O: Write>(
+    alloc: Global,
+    state: RandomState,
+    snapshot: &Snapshot,
+    found: ReportRows,
+    out: &mut O,
+) -> Result<Status, CommandError>
+    requires { (bound : ℕ) × IsReportRows snapshot.now bound found }
+    ensures { (bound : ℕ) → IsReportRows snapshot.now bound found →
+        EndsWithResult (PrintsAllOf snapshot.now bound) ⊥ result
+        (O.contents out.old) (O.contents out.new) }
+{
+    let mut printer = RowPrinter::new(alloc, snapshot.len() as u32, &found)?;
+    write_bytes(out, &found.first_line)?;
+    write_tasks(alloc, state, snapshot, found.tasks, &mut printer, out)?;
+    out.flush()?;
+    Ok(Status::Done)
+}
+
+/// Writes the first line of the report and the texts of all its cycles, or that the report is too
+/// long. Nothing is written before all rows are computed.
+fn write_report<R: Threads + Sync, O: Write>(
+    rt: &R,
+    alloc: Global,
+    state: RandomState,
+    offline: &Offline,
+    out: &mut O,
+) -> Result<Status, CommandError>
+    ensures { EndsWithResult (PrintsAllOf offline.now.events offline.now.bound) ⊥ result
+        (O.contents out.old) (O.contents out.new) }
+{
+    match offline.rows(rt, &RunOn) {
+        Ok(found) => write_found(alloc, state, offline.snapshot(), found, out),
+        Err(OfflineRefused::NoMemory) => Err(CommandError::Memory),
+        Err(refused) => write_refused(alloc, refused, out),
+    }
+}
+
+/// Writes the first line of the report and the texts of all cycles of the analysis, or that the
+/// report is too long.
+fn write_all<R: Threads + Sync, O: Write>(
+    rt: &R,
     alloc: Global,
     state: RandomState,
     analysis: Arc<Analysis, Global>,
@@ -215,17 +240,8 @@ fn write_all<O: Write>(
         (arc_value analysis).bound) ⊥ result
         (O.contents out.old) (O.contents out.new) }
 {
-    let (length, bound) = (analysis.snapshot().len() as u32, analysis.bound());
-    let findings = match find_all(alloc, analysis) {
-        Ok(findings) => findings,
-        Err(refused) => return write_uncomputed(alloc, refused, out),
-    };
-    let (cycles, confirmed) = (findings.cycles, findings.confirmed);
-    let head = head_text(alloc, QUESTION, length, bound, cycles, confirmed)?;
-    write_bytes(out, &head)?;
-    write_tasks(alloc, state, &findings.tasks, out)?;
-    out.flush()?;
-    Ok(Status::Done)
+    let offline = Offline::of(alloc, analysis);
+    write_report(rt, alloc, state, &offline, out)
 }
 
 /// Returns the line that says that the trace has no such cycle.
@@ -278,8 +294,7 @@ fn write_one<O: Write>(
     };
     match index_of(&finding, cycle) {
         Some(index) => {
-            let mut buffer = TextBuffer::new(alloc);
-            let text = text_of(alloc, state, &finding, index, &mut buffer)?;
+            let text = text_of(alloc, state, &finding, index)?;
             write_text(out, &text, Status::Done)
         }
         None => {
@@ -347,7 +362,7 @@ fn analyze<R: Threads>(
 }
 
 /// Writes the texts of the chosen cycles, or why there are none or no more.
-fn write_chosen<R: Threads, O: Write>(
+fn write_chosen<R: Threads + Sync, O: Write>(
     rt: &R,
     alloc: Global,
     state: RandomState,
@@ -363,16 +378,16 @@ fn write_chosen<R: Threads, O: Write>(
     let analysis = analyze(rt, alloc, state, events, bound)?;
     match cycle {
         Some(cycle) => write_one(alloc, state, analysis, cycle, out),
-        None => write_all(alloc, state, analysis, out),
+        None => write_all(rt, alloc, state, analysis, out),
     }
 }
 
 /// Writes the cycles of at most `bound` members of the events in `file` to `out`, or the given one:
 /// each as its row in the report, and if it is potential with a refutation. The first line of the
-/// report comes before all cycles, and is left out before one. If an event is not lawful, there is
-/// no such cycle or a task has too many, `out` gets only a line that says so, and the status is
-/// `Refused`. An error message about the file goes to `err`.
-pub fn run_explain<R: Threads, O: Write, E: Write>(
+/// report comes before all cycles, and is left out before one. If an event is not lawful, the
+/// report is too long, there is no such cycle or its task has too many, `out` gets only a line that
+/// says so, and the status is `Refused`. An error message about the file goes to `err`.
+pub fn run_explain<R: Threads + Sync, O: Write, E: Write>(
     rt: &R,
     alloc: Global,
     state: RandomState,
@@ -418,7 +433,7 @@ fn chosen_cycle(rt: &HostRuntime, words: Option<&str>) -> io::Result<Result<Opti
 /// # Errors
 ///
 /// If an allocation or a standard stream fails before the first cycle.
-pub fn explain_named<T: Threads>(
+pub fn explain_named<T: Threads + Sync>(
     rt: &HostRuntime,
     threads: &T,
     file: &str,

@@ -1,10 +1,12 @@
 //! The command `offline`: the report on a file of events.
-ghost use Rattle.std.specs.Prelude.{◌≡◌, ◌++◌, ◌≤◌, IfOk, IfErr, OnOk};
-ghost use Rattle.commands.specs.declared.exit.Status.TheVariants.{Done, Refused};
+ghost use Rattle.std.specs.Prelude.{◌≡◌, ◌++◌, ◌≤◌, IfOk, IfErr, OnErr, OnOk};
+ghost use Rattle.std.specs.Io.KnownBytes.{Appends};
+ghost use Rattle.commands.specs.declared.exit.Status.TheVariants.{Done, Error, Refused};
 ghost use Rattle.commands.specs.Admission.{HasBadLine};
+ghost use Rattle.commands.specs.Exit.{error_status};
 ghost use Rattle.commands.specs.Offline.{OfflinePrints, OfflineTells, ReportPrints, refused_line};
-ghost use Rattle.commands.specs.Output.{EndsWithResult, IsJust};
-ghost use Rattle.offline_report.specs.Offline.{IsOfflineRefusal, IsReport, whole};
+ghost use Rattle.commands.specs.Output.{AppendsPart, EndsWithResult, IsJust};
+ghost use Rattle.offline_report.specs.Offline.{IsOfflineRefusal, IsReportRows, rows_text, tasks_rows_text};
 
 use crate::admission::push_refused_at;
 use crate::exit::{CommandError, Status, reported, write_bytes, write_text};
@@ -13,7 +15,9 @@ use crate::progress::Progress;
 use crate::progress_line::ProgressLine;
 use crate::text::push_refusal_line;
 use event_files::read_events;
-use offline_report::{Offline, OfflineRefused};
+use findings::Snapshot;
+use offline_report::{Offline, OfflineRefused, ReportRows, RowPrinter};
+use reports::BareRow;
 use std::alloc::Global;
 use std::hash::RandomState;
 use std::io::{self, BufWriter, IsTerminal, Write};
@@ -32,32 +36,58 @@ fn push_refused(text: &mut Vec<u8>, refused: OfflineRefused) -> Result<(), NoMem
     }
 }
 
-/// Returns the report on `events` as consecutive pieces of text.
-fn report_on<R: Threads + Sync, P: Progress + Sync>(
+/// Returns the rows of the report, and reports the progress.
+fn rows_of<R: Threads + Sync, P: Progress + Sync>(
     rt: &R,
-    alloc: Global,
-    state: RandomState,
-    events: Vec<Event>,
-    bound: Bound,
+    offline: &Offline,
     progress: &P,
-) -> Result<Vec<Vec<u8>>, OfflineRefused>
-    ensures text { IfOk result (λ pieces. IsReport events.items bound (whole pieces.items)) }
-    ensures refused { IfErr result (IsOfflineRefusal events.items bound) }
+) -> Result<ReportRows, OfflineRefused>
+    ensures rows { IfOk result (IsReportRows offline.now.events offline.now.bound) }
+    ensures refused { IfErr result (IsOfflineRefusal offline.now.events offline.now.bound) }
 {
-    let offline = Offline::open(rt, alloc, state, events, bound)?;
     progress.begin(offline.tasks());
-    let pieces = offline.pieces(rt, progress);
+    let found = offline.rows(rt, progress);
     progress.end();
-    pieces
+    found
 }
 
-/// Writes the pieces of a report in order.
-fn write_pieces<O: Write>(out: &mut O, pieces: &[Vec<u8>]) -> Result<Status, CommandError>
-    ensures { EndsWithResult (IsJust Done (whole pieces.now)) ⊥ result
+/// Writes the texts of the rows of a task.
+fn write_rows<O: Write>(
+    snapshot: &Snapshot,
+    rows: Vec<BareRow>,
+    printer: &mut RowPrinter,
+    out: &mut O,
+) -> Result<(), CommandError>
+    ensures written { OnOk result (Appends (O.contents out.old) (O.contents out.new)
+        (rows_text snapshot.now rows.items)) }
+    ensures cut { OnErr result (AppendsPart (O.contents out.old) (O.contents out.new)
+        (rows_text snapshot.now rows.items)) }
+    ensures failed { IfErr result (λ error. error_status error ≡ Error) }
+{
+    for row in rows {
+        let row = printer.print(snapshot, row)?;
+        write_bytes(out, printer.text())?;
+        printer.keep(row);
+    }
+    Ok(())
+}
+
+/// Writes the first line of a report and the texts of its rows. All memory is allocated before the
+/// first byte is written.
+fn write_report<O: Write>(
+    alloc: Global,
+    snapshot: &Snapshot,
+    found: ReportRows,
+    out: &mut O,
+) -> Result<Status, CommandError>
+    ensures { EndsWithResult (IsJust Done (found.first_line.items ++
+        tasks_rows_text snapshot.now found.tasks.items)) ⊥ result
         (O.contents out.old) (O.contents out.new) }
 {
-    for piece in pieces {
-        write_bytes(out, piece)?;
+    let mut printer = RowPrinter::new(alloc, snapshot.len() as u32, &found)?;
+    write_bytes(out, &found.first_line)?;
+    for rows in found.tasks {
+        write_rows(snapshot, rows, &mut printer, out)?;
     }
     out.flush()?;
     Ok(Status::Done)
@@ -77,6 +107,24 @@ pub(crate) fn write_refused<O: Write>(
     write_text(out, &text, Status::Refused)
 }
 
+/// Writes the report on the opened events, or why there is none.
+fn report_on<R: Threads + Sync, P: Progress + Sync, O: Write>(
+    rt: &R,
+    alloc: Global,
+    offline: &Offline,
+    progress: &P,
+    out: &mut O,
+) -> Result<Status, CommandError>
+    ensures { EndsWithResult (ReportPrints offline.now.events offline.now.bound) ⊥ result
+        (O.contents out.old) (O.contents out.new) }
+{
+    match rows_of(rt, offline, progress) {
+        Ok(found) => write_report(alloc, offline.snapshot(), found, out),
+        Err(OfflineRefused::NoMemory) => Err(CommandError::Memory),
+        Err(refused) => write_refused(alloc, refused, out),
+    }
+}
+
 /// Writes the report on the events, or why there is none.
 fn report_events<R: Threads + Sync, P: Progress + Sync, O: Write>(
     rt: &R,
@@ -90,12 +138,8 @@ fn report_events<R: Threads + Sync, P: Progress + Sync, O: Write>(
     ensures { EndsWithResult (ReportPrints events.items bound) ⊥ result
         (O.contents out.old) (O.contents out.new) }
 {
-    match report_on(rt, alloc, state, events, bound, progress) {
-        Ok(pieces) => {
-            let written = write_pieces(out, &pieces);
-            drop(pieces);
-            written
-        }
+    match Offline::open(rt, alloc, state, events, bound) {
+        Ok(offline) => report_on(rt, alloc, &offline, progress, out),
         Err(OfflineRefused::NoMemory) => Err(CommandError::Memory),
         Err(refused) => write_refused(alloc, refused, out),
     }

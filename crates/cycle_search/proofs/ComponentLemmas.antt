@@ -99,13 +99,15 @@ none-from ds bound root components are off = all-none (CycleFrom ds bound root) 
     false≢true (same_Some _ _ (sym off ∙ ap (slice_get components.cyclic.items) (sym here) ∙ on)))
 
 pub components-ascend : (ds : List Dependency) (components : Components) → length components.numbers.items ≡ length ds → FallAtMost ds components.numbers.items 0 0 →
-    AreSuccessorsMarked ds components.numbers.items components.cyclic.items → AreLockNumbers ds components.locks.positions.items → AreAcquirers ds components.acquirers →
+    AreSuccessorsMarked ds components.numbers.items components.cyclic.items → components.locks.locks.items ≡ map (λ d. d.lock) ds →
+    AreLockNumbers ds components.locks.positions.items → AreAcquirers ds components.acquirers →
     AreComponentThreads ds components.numbers.items components.threads → AreComponents ds components
-components-ascend ds components each up marks numbered acquirers threads = record {
+components-ascend ds components each up marks locked numbered acquirers threads = record {
   each = each;
   ascend = λ m n a b x y c. omega (arith, up m n a b (omega arith) x y c);
   marked = marks.each;
   cyclic = marks.marked;
+  locked = locked;
   numbered = numbered;
   acquirers = acquirers;
   threads = threads;

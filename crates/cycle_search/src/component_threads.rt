@@ -44,8 +44,8 @@ impl ComponentThreads {
     pub(crate) fn count(&self, component: u32) -> usize
         requires { IsNonDecreasing self.now.keys.items }
         ensures { (threads : List ℕ) → AreDistinct threads →
-            ((thread : ℕ) → Contains threads thread → HasComponentThread self.now component thread) →
-            length threads ≤ result }
+            ((thread : ℕ) → Contains threads thread →
+            HasComponentThread self.now component thread) → length threads ≤ result }
     {
         let first = key(component, 0);
         let last = key(component, u32::MAX);

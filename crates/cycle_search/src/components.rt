@@ -55,7 +55,7 @@ impl Drop for Components {
 impl Components {
     /// Computes the components of the dependencies of `table`. `graph` must contain their edges; it
     /// may contain edges of later dependencies, which are ignored. Takes time in proportion to the
-    /// number of locks that the dependencies hold, and to sort the dependencies. Keeps at most 29
+    /// number of locks that the dependencies hold, and to sort the dependencies. Keeps at most 33
     /// bytes for each dependency. Hashes the lock of each dependency once.
     ///
     /// # Errors
@@ -121,8 +121,8 @@ impl Components {
         requires ascends { IsNonDecreasing self.now.threads.keys.items }
         ensures { (threads : List ℕ) → AreDistinct threads →
             ((thread : ℕ) → Contains threads thread →
-            HasComponentThread self.now.threads (slice_index self.now.numbers.items number) thread) →
-            length threads ≤ result }
+            HasComponentThread self.now.threads (slice_index self.now.numbers.items number) thread)
+            → length threads ≤ result }
     {
         self.threads.count(self.numbers[number as usize])
     }

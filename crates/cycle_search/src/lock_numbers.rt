@@ -1,6 +1,6 @@
-//! Two numbers for the lock of each dependency, so that a search hashes no lock.
+//! The lock of each dependency with two numbers, so that a search hashes no lock.
 
-ghost use Rattle.std.specs.Prelude.{◌≡◌, Some, slice_get, IfOk, IsTrue};
+ghost use Rattle.std.specs.Prelude.{◌≡◌, ◌<◌, Some, length, map, slice_get, IfOk, IsTrue};
 ghost use Rattle.dependencies.specs.Tables.{table_dependencies};
 ghost use Rattle.lock_graph.specs.Graph.{HasGraphOf};
 ghost use Rattle.cycle_search.specs.LockNumbers.{AreLockNumbers};
@@ -10,11 +10,12 @@ use lock_graph::LockGraph;
 use std::alloc::Global;
 use trace_model::NoMemory;
 
-/// For the lock that each dependency acquires its position in the graph, 4,294,967,295 if no
-/// dependency holds it, and the first dependency that acquires it. No contract says more: the other
-/// numbers are tested where they are used.
+/// The lock that each dependency acquires, its position in the graph, 4,294,967,295 if no
+/// dependency holds it, and the first dependency that acquires it. No contract says more of the
+/// numbers: they are tested where they are used.
 #[derive(Drop)]
 pub(crate) struct LockNumbers {
+    locks: Vec<u32>,
     positions: Vec<u32>,
     firsts: Vec<u32>,
 }
@@ -30,19 +31,37 @@ impl LockNumbers {
         graph: &LockGraph,
     ) -> Result<LockNumbers, NoMemory>
         requires { HasGraphOf (table_dependencies table.now) graph.now }
-        ensures { IfOk result (λ locks. AreLockNumbers
-            (table_dependencies table.now) locks.positions.items) }
+        ensures locks { IfOk result (λ numbers.
+            numbers.locks.items ≡ map (λ d. d.lock) (table_dependencies table.now)) }
+        ensures positions { IfOk result (λ numbers. AreLockNumbers
+            (table_dependencies table.now) numbers.positions.items) }
     {
+        let mut locks = Vec::with_capacity(alloc, table.len())?;
         let mut positions = Vec::new(alloc);
         let mut firsts = Vec::new(alloc);
         let mut first_at = vec![in alloc; u32::MAX; graph.lock_count()]?;
         for number in 0..table.len() {
             let number = number as u32;
-            let position = graph.position(table.get(number).lock);
+            let lock = table.get(number).lock;
+            let position = graph.position(lock);
+            locks.push(lock)?;
             positions.push(position)?;
             firsts.push(first_of(&mut first_at, position, number))?;
         }
-        Ok(LockNumbers { positions, firsts })
+        Ok(LockNumbers {
+            locks,
+            positions,
+            firsts,
+        })
+    }
+
+    /// Returns the lock that the dependency `number` acquires.
+    #[inline(always)]
+    pub(crate) fn lock(&self, number: u32) -> u32
+        requires { number < length self.now.locks.items }
+        ensures { slice_get self.now.locks.items number ≡ Some result }
+    {
+        self.locks[number as usize]
     }
 
     /// Returns the position in the graph of the lock of each dependency.

@@ -405,8 +405,7 @@ fn closes(search_input: &SearchInput<'_>, path: &Path, next: u32) -> bool
     ensures { IsTrue result ↔ CompletesCycle search_input.now (path.now.items ++ next ∷ []) }
 {
     let first = search_input.table.get(path[0]);
-    let last = search_input.table.get(next);
-    first.held.contains(last.lock)
+    first.held.contains(search_input.lock(next))
 }
 
 /// Returns the dependencies above `after` that hold the lock of the path's last member, ascending.

@@ -25,11 +25,13 @@ impl<'a> Model for SearchInput<'a> {
 
     ghost view = { λ s. table_dependencies s.table.now };
 
-    ghost invariant = { λ s. AreSearchInputs (table_dependencies s.table.now) s.graph.now s.components.now };
+    ghost invariant = { λ s.
+        AreSearchInputs (table_dependencies s.table.now) s.graph.now s.components.now };
 }
 
 impl<'a> SearchInput<'a> {
-    ghost use Rattle.std.specs.Prelude.{◌≡◌, ◌<◌, length};
+    ghost use Rattle.std.specs.Prelude.{◌≡◌, ◌<◌, Some, length, slice_get};
+    ghost use Rattle.trace_model.specs.Theory.Dependencies.{Dependency};
     ghost use Rattle.dependencies.specs.Tables.{table_dependencies};
     ghost use Rattle.lock_graph.specs.Graph.{HasGraphOf};
     ghost use Rattle.cycle_search.specs.Components.{AreComponents};
@@ -53,6 +55,15 @@ impl<'a> SearchInput<'a> {
             graph,
             components,
         }
+    }
+
+    /// Returns the lock that the dependency `number` acquires. Does not allocate.
+    #[inline(always)]
+    pub(crate) fn lock(&self, number: u32) -> u32
+        requires { number < length self.now }
+        ensures { (d : Dependency) → slice_get self.now number ≡ Some d → result ≡ d.lock }
+    {
+        self.components.locks().lock(number)
     }
 
     /// Returns the dependencies that hold the lock which the dependency `number` acquires,

@@ -66,12 +66,12 @@ struct Picked {
     all_drawn: bool,
 }
 
-/// Computes tasks for a desk. It works on the questions in turn: a search that takes long is paused,
-/// and its question waits until the others are settled or paused, too. Then a new round begins. The
-/// worker keeps the job of a question while that is unsettled, and at most one paused search for
-/// each question. It gives up a question whose least missing task has too many cycles. Contracts
-/// see a worker as the steps that its reader has seen or learned, the questions that it gave up or
-/// passes over in this round, and the paused searches.
+/// Computes tasks for a desk. It works on the questions in turn: a search that takes long is
+/// paused, and its question waits until the others are settled or paused, too. Then a new round
+/// begins. The worker keeps the job of a question while that is unsettled, and at most one paused
+/// search for each question. It gives up a question whose least missing task has too many cycles.
+/// Contracts see a worker as the steps that its reader has seen or learned, the questions that it
+/// gave up or passes over in this round, and the paused searches.
 pub struct Worker<N: HistoryId, R: Wait + Copy, T: BoardValue<N>> {
     desk: Arc<Desk<N, R, T>>,
     claimant: Claimant,

@@ -94,8 +94,8 @@ abbrev pub IsJoined : Trace → ℕ → ℕ → Type 0
 IsJoined s q p = (c : ℕ) × Does s q (Join c) × (Does s p (Fork c) ⊎ OfThread s p c)
 
 -- A closed set that contains place q contains place p.
-abbrev pub IsRequired : Trace → ℕ → ℕ → Type 0
-IsRequired s q p = EarlierInThread s p q ⊎ (ForkOrJoin s p q ⊎ (writer s q ≡ Some p))
+abbrev pub IsDirectlyRequired : Trace → ℕ → ℕ → Type 0
+IsDirectlyRequired s q p = EarlierInThread s p q ⊎ (ForkOrJoin s p q ⊎ (writer s q ≡ Some p))
 
 -- Place p is earlier in the thread of one of the places.
 abbrev pub IsBefore : Trace → List ℕ → ℕ → Type 0
@@ -125,7 +125,7 @@ HasLastPlaces s followed x = (l : ℕ) → MatchOption (prefix_at x.locks l)
 -- The followed places are derived, and so are the places that they require.
 pub record HasFollowed (s : Trace) (followed : List ℕ) (x : DerivationSearch) : Type 0 where
   pub derived : (q : ℕ) → Contains followed q → IsDerived s x q
-  pub required : (q p : ℕ) → Contains followed q → IsRequired s q p → IsDerived s x p
+  pub required : (q p : ℕ) → Contains followed q → IsDirectlyRequired s q p → IsDerived s x p
   pub sections : HasLastPlaces s followed x
 
 -- The new search has followed these places.

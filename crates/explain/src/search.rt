@@ -378,8 +378,8 @@ impl DerivationSearch {
         None
     }
 
-    /// Returns the first member whose place is derived, or `None` if none is or if there are no more
-    /// than `count` ranges.
+    /// Returns the first member whose place is derived, or `None` if none is or if there are no
+    /// more than `count` ranges.
     fn caught_since(&self, index: &TraceIndex, places: &[Place], count: usize) -> Option<usize>
         ensures { IfSome result (IsCaughtAt index.now.events self.now places.now) }
     {

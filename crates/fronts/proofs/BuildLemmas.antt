@@ -17,10 +17,10 @@ use Rattle.fronts.specs.declared.requirements.Item.{Item}
 use Rattle.fronts.specs.declared.requirements.Requirements.{Requirements}
 use Rattle.fronts.specs.Slots.{slots_of, AreSlots, AreSlotPlaces, AreThreadSlots, HasSlotPosition}
 use Rattle.fronts.specs.Requirements.{Needs, AreLockSlots, AreItems, AreRequirements, item, item_at}
-use Rattle.fronts.specs.Pushing.{SlottedTrace, with_slots, IsRequirement, IsForkLater, IsReached, IsBegun, AddsRequirements, AreBuilt, AreAllBuilt}
-use Rattle.fronts.proofs.SlotLemmas.{before_position, has_upto}
+use Rattle.fronts.specs.Pushing.{SlottedTrace, with_slots, IsRequirement, IsForkLater, IsIncluded, AreUpTo, IsBegun, AddsRequirements, AreBuilt, AreAllBuilt}
+use Rattle.fronts.proofs.SlotLemmas.{before_position, earlier_position, has_upto}
 use Rattle.fronts.proofs.ThreadLemmas.{place_below}
-use Rattle.fronts.proofs.PushLemmas.{reached_left, reached_right, begun_left, begun_right}
+use Rattle.fronts.proofs.PushLemmas.{included_left, begun_left, begun_right}
 
 found_at : {X : Type 0} (xs : List X) (x : X) → Contains xs x → (k : ℕ) × (slice_get xs k ≡ Some x)
 found_at xs x (k, l, e) = (k, slice_get-get_or xs k x l ∙ ap Some e)
@@ -83,15 +83,13 @@ built_pushed v count p a xs ys k slot b (n, added, num, is, d) = subst (AreBuilt
   needs = λ q r m l st requirement. elim (upto p q l) [
     | inl less ↦ elim (b.needs q r m less st requirement) [
       | inl later ↦ inl later
-      | inr at ↦ inr (reached_left v.trace v.slots m r xs added at)
+      | inr at ↦ inr (included_left v.trace v.slots q m r xs added at)
     ]
     | inr e ↦
         let same : n ≡ m = same_Some n m (sym num ∙ subst (λ z. number_at v.trace z ≡ Some m) e st.number) in
-        let now : IsForkLater v.trace p m r ⊎ IsReached v.trace v.slots m r added = subst (λ z. IsForkLater v.trace p z r ⊎ IsReached v.trace v.slots z r added) same (d.needs r (subst (λ z. Needs v.trace z r) e requirement)) in
-        elim now [
-          | inl later ↦ inl (subst (λ z. IsForkLater v.trace z m r) (sym e) later)
-          | inr at ↦ inr (reached_right v.trace v.slots m r xs added at)
-        ]
+        let now = d.needs earlier r (subst (λ z. Needs v.trace z r) e requirement) in
+        subst (λ z. IsForkLater v.trace z m r ⊎ IsIncluded v.trace v.slots z m r (xs ++ added)) (sym e)
+        (subst (λ z. IsForkLater v.trace p z r ⊎ IsIncluded v.trace v.slots p z r (xs ++ added)) same now)
   ];
   begins = λ q j m l st on. elim (upto p q l) [
     | inl less ↦ begun_left q m xs added (b.begins q j m less st on)
@@ -104,6 +102,11 @@ built_pushed v count p a xs ys k slot b (n, added, num, is, d) = subst (AreBuilt
   where
     here : HasSlotPosition v.trace v.slots p a n
     here = record { slot = slot; number = num }
+
+    earlier : AreUpTo n xs
+    earlier i h =
+        let (q, l, st, dem) = b.only i h in
+        omega (arith, before_position v.trace v.slots count q p a i.number n k st here l)
 
 -- Before the first place there are no requirements.
 pub none_built : (v : SlottedTrace) (lists : List (Vec Item Global)) → ((a : ℕ) (xs : Vec Item Global) → slice_get lists a ≡ Some xs → xs.items ≡ []) → AreAllBuilt v 0 lists
@@ -181,9 +184,11 @@ items_built v d count k len all = record {
             let op = k.apart q p a u st.slot sp.slot ou in
             elim ((all a xs at).needs p r 0 (place_below v.trace u p op) sp (inl (inl (u, op, fork)))) [
               | inl later ↦ absurd (later.0 refl)
-              | inr (prefix, m, c, sr, less) ↦ let (j, f) = item_from d a xs (item 0 (Reach prefix)) at c in inr (j, 0, prefix, m, f, omega arith, sr, less)
+              | inr (inl own) ↦ let (i, sr, none) = earlier_position v.trace v.slots count r p a 0 k sp own in absurd (omega (arith, none))
+              | inr (inr (h, prefix, m, c, few, sr, less)) ↦ let (j, f) = item_from d a xs (item h (Reach prefix)) at c in inr (j, h, prefix, m, f, omega (arith, few), sr, less)
             ]
-        | inr (prefix, m, c, sr, less) ↦ let (j, f) = item_from d a xs (item n (Reach prefix)) at c in inr (j, n, prefix, m, f, omega arith, sr, less)
+        | inr (inl own) ↦ inl own
+        | inr (inr (h, prefix, m, c, few, sr, less)) ↦ let (j, f) = item_from d a xs (item h (Reach prefix)) at c in inr (j, h, prefix, m, f, few, sr, less)
       ];
   begins = λ q i a n on st.
       let (t, oq) = k.of_place q a st.slot in

@@ -16,13 +16,10 @@ use Rattle.trace_model.proofs.Theory.Least.{at_thread}
 use Rattle.std.specs.List.Sorted.{IsStrictlyIncreasing}
 use Rattle.trace_index.specs.Numbers.{of_thread, thread_before, acquire_before}
 use Rattle.trace_model.proofs.Theory.Begun.{begun_so, begun_from}
-use Rattle.fronts.specs.declared.slot_table.SlotTable.{SlotTable}
-use Rattle.fronts.specs.declared.requirements.SlotKind.{SlotKind}
-use Rattle.fronts.specs.declared.requirements.SlotKind.TheVariants.{Thread, Lock}
-use Rattle.fronts.specs.Slots.{slots_of, AreSlots}
+use Rattle.fronts.specs.Slots.{AreSlots}
 use Rattle.fronts.specs.Requirements.{AreLocks}
 use Rattle.fronts.specs.SlotTable.{AreFirsts, AreSlotNumbers, next_slot}
-use Rattle.fronts.specs.Firsts.{first_of_thread, first_of_lock, first_of, AreSlotsOf}
+use Rattle.fronts.specs.Firsts.{first_of_thread, first_of_lock}
 use Rattle.fronts.proofs.SlotTableLemmas.{as_before, as_first}
 use Rattle.trace_model.proofs.Theory.Computed.{of_thread_from}
 use Rattle.trace_model.proofs.Theory.Derivable.{of_thread_so}
@@ -131,7 +128,7 @@ threads_have s = record {
   below = λ p t o. place_below s t p o;
 }
 
-thread_slots : (s : Trace) (firsts slots : ℕ → Option ℕ) (count : ℕ) → ((p : ℕ) → firsts p ≡ first_of_thread s p) →
+pub thread_slots : (s : Trace) (firsts slots : ℕ → Option ℕ) (count : ℕ) → ((p : ℕ) → firsts p ≡ first_of_thread s p) →
     AreSlotNumbers firsts slots count (length s) → AreSlots s slots count
 thread_slots s firsts slots count same c = record {
   each = each_has (OfThread s) (of_thread s) (first_of_thread s) (length s) (threads_have s) firsts same slots count c;
@@ -165,7 +162,7 @@ locks_have s = record {
   below = λ p k b. slice_get_within s p _ b.1.0;
 }
 
-lock_slots : (s : Trace) (firsts locks : ℕ → Option ℕ) (count : ℕ) → ((p : ℕ) → firsts p ≡ first_of_lock s p) →
+pub lock_slots : (s : Trace) (firsts locks : ℕ → Option ℕ) (count : ℕ) → ((p : ℕ) → firsts p ≡ first_of_lock s p) →
     AreSlotNumbers firsts locks count (length s) → AreLocks s locks count
 lock_slots s firsts locks count same c = record {
   each = each_has (BeginsOn s) (begins_on s) (first_of_lock s) (length s) (locks_have s) firsts same locks count c;
@@ -173,15 +170,11 @@ lock_slots s firsts locks count same c = record {
   alike = are_alike (BeginsOn s) (begins_on s) (first_of_lock s) (length s) (locks_have s) firsts same locks count c;
 }
 
--- The same for both.
-pub shared_firsts : (s : Trace) (shared : SlotKind) (firsts : ℕ → Option ℕ) → ((p : ℕ) → firsts p ≡ first_of s shared p) → AreFirsts firsts
-shared_firsts s Thread firsts same = firsts_are (OfThread s) (of_thread s) (first_of_thread s) (length s) (threads_have s) firsts same
-shared_firsts s Lock firsts same = firsts_are (BeginsOn s) (begins_on s) (first_of_lock s) (length s) (locks_have s) firsts same
+pub thread_firsts : (s : Trace) → AreFirsts (first_of_thread s)
+thread_firsts s = firsts_are (OfThread s) (of_thread s) (first_of_thread s) (length s) (threads_have s) (first_of_thread s) (λ p. refl)
 
-pub shared_slots : (s : Trace) (shared : SlotKind) (firsts : ℕ → Option ℕ) (slot_table : SlotTable) → ((p : ℕ) → firsts p ≡ first_of s shared p) →
-    AreSlotNumbers firsts (slots_of slot_table) slot_table.count (length s) → AreSlotsOf s shared slot_table
-shared_slots s Thread firsts slot_table same c = thread_slots s firsts (slots_of slot_table) slot_table.count same c
-shared_slots s Lock firsts slot_table same c = lock_slots s firsts (slots_of slot_table) slot_table.count same c
+pub lock_firsts : (s : Trace) → AreFirsts (first_of_lock s)
+lock_firsts s = firsts_are (BeginsOn s) (begins_on s) (first_of_lock s) (length s) (locks_have s) (first_of_lock s) (λ p. refl)
 
 pub some_within : (o : Option ℕ) (n : ℕ) → ((p : ℕ) → o ≡ Some p → p < n) → IfSome o (λ p. p < n)
 some_within None n f = tt

@@ -1,5 +1,5 @@
 -- The requirements of each place, and the items that it adds to its thread.
-use Rattle.std.proofs.Common.{◌≡◌, ◌↔◌, ℕ, zero, suc, ◌<◌, ◌≤◌, ◌⊎◌, inl, inr, List, [], ◌∷◌, ◌++◌, length, Option, Some, None, MatchOption, unwrap_or, refl, sym, ap, subst, ◌∙◌, arith, append_assoc}
+use Rattle.std.proofs.Common.{◌≡◌, ◌↔◌, ℕ, zero, suc, ◌<◌, ◌≤◌, ◌⊎◌, inl, inr, List, [], ◌∷◌, ◌++◌, length, Option, Some, None, MatchOption, refl, sym, ap, subst, ◌∙◌, arith, append_assoc, append-nil}
 use Rattle.std.specs.List.{Contains}
 use Rattle.std.specs.Option.{option_and_then}
 use Rattle.std.proofs.lemmas.Bool.{cases_lt}
@@ -19,13 +19,13 @@ use Rattle.fronts.specs.declared.requirements.Section.{Section}
 use Rattle.fronts.specs.declared.requirements.Requirement.{Requirement}
 use Rattle.fronts.specs.declared.requirements.Requirement.TheVariants.{Reach, Begin}
 use Rattle.fronts.specs.declared.requirements.Item.{Item}
-use Rattle.fronts.specs.Slots.{AreSlots}
+use Rattle.fronts.specs.Slots.{AreSlots, HasSlotPosition}
 use Rattle.fronts.specs.Threads.{IsLastOfThread}
 use Rattle.fronts.specs.Requirements.{Needs, IsPrefixThrough, EndsSection, item}
-use Rattle.fronts.specs.Pushing.{SlottedTrace, prefix_through, requirement_items, reached_items, IsStart, IsFirstNeed, IsLastNeed, IsBegin, IsRequirement, IsForkLater, IsReached, IsBegun, AreRequirementsAt}
+use Rattle.fronts.specs.Pushing.{SlottedTrace, requirement_items, IsRequired, IsRedundant, AddsPrefix, AddsReach, IsStart, IsFirstNeed, IsLastNeed, IsBegin, IsRequirement, IsForkLater, IsReached, IsIncluded, AreUpTo, IsBegun, AddsRequirements}
 use Rattle.fronts.proofs.FrontLemmas.{earlier_lt}
 use Rattle.fronts.proofs.ThreadLemmas.{place_below}
-use Rattle.fronts.proofs.SlotLemmas.{number_of}
+use Rattle.fronts.proofs.SlotLemmas.{number_of, number_is, position_before}
 
 abbrev joined_thread : Op → ℕ
 joined_thread (Join c) = c
@@ -86,19 +86,6 @@ need_thread s q r (inl (inr (c, d, inl (u, at)))) = (u, (Fork c, at))
 need_thread s q r (inl (inr (c, d, inr o))) = (c, o)
 need_thread s q r (inr w) = let so = writer_so s q r w in (so.2.1.0, (Write so.0, so.2.1.1))
 
-some_unwrapped : (o : Option ℕ) (a : ℕ) → o ≡ Some a → o ≡ Some (unwrap_or o 0)
-some_unwrapped None a h = absurd (none-some a h)
-some_unwrapped (Some b) a h = refl
-
--- The prefix through a place contains it.
-prefix_is : (s : Trace) (slots : ℕ → Option ℕ) (count p t : ℕ) → AreSlots s slots count → OfThread s p t → IsPrefixThrough s slots (prefix_through s slots p) p
-prefix_is s slots count p t k o =
-    let (a, e, less) = k.each p t o in (
-      unwrap_or (number_at s p) 0,
-      record { slot = some_unwrapped (slots p) a e; number = some_unwrapped (number_at s p) (earlier_events s t p) (number_of s p t o) },
-      omega arith,
-    )
-
 pub none_in : {X : Type 0} (x : X) → Contains [] x → ⊥
 none_in x (k, l, e) = omega arith
 
@@ -124,16 +111,12 @@ abbrev IsReach : Requirement → Type 0
 IsReach (Reach g) = Unit
 IsReach (Begin l c) = ⊥
 
-reach_only : (v : SlottedTrace) (count q n : ℕ) (o : Option ℕ) (i : Item) → AreSlots v.trace v.slots count → ((r : ℕ) → o ≡ Some r → Needs v.trace q r) →
-    Contains (reached_items v.trace v.slots n o) i → IsRequirement v q n i
-reach_only v count q n None i k so h = absurd (none_in i h)
-reach_only v count q n (Some p) i k so h =
-    let requirement = so p refl in
-    let (t, o) = need_thread v.trace q p requirement in
-    let g = prefix_through v.trace v.slots p in
+reach_only : (v : SlottedTrace) (q r n : ℕ) (g : ThreadPrefix) (i : Item) → Needs v.trace q r → IsPrefixThrough v.trace v.slots g r →
+    Contains (item n (Reach g) ∷ []) i → IsRequirement v q n i
+reach_only v q r n g i need through h =
     subst (IsRequirement v q n) (one_in (item n (Reach g)) i h) (record {
       number = refl;
-      reach = λ prefix e. (p, requirement, subst (λ z. IsPrefixThrough v.trace v.slots z p) (ap (λ z. prefix_in z g) e) (prefix_is v.trace v.slots count p t k o));
+      reach = λ prefix e. (r, need, subst (λ z. IsPrefixThrough v.trace v.slots z r) (ap (λ z. prefix_in z g) e) through);
       begin = λ l c e. absurd (subst IsReach e tt);
     })
 
@@ -157,25 +140,41 @@ number_le s t p r o l = elim (cases_lt r p) [
 ]
 
 -- The prefix through a later place of the thread contains the place.
-reach_covers : (s : Trace) (slots : ℕ → Option ℕ) (count n p r t : ℕ) (o : Option ℕ) → AreSlots s slots count → o ≡ Some p → OfThread s p t → OfThread s r t → r ≤ p →
-    IsReached s slots n r (reached_items s slots n o)
-reach_covers s slots count n p r t o k e op or l =
-    let (a, at, less) = k.each p t op in
-    let slot : unwrap_or (slots p) 0 ≡ a = same_Some _ a (sym (some_unwrapped (slots p) a at) ∙ at) in
-    let num = number_of s p t op in
-    let number : unwrap_or (number_at s p) 0 ≡ earlier_events s t p = same_Some _ _ (sym (some_unwrapped (number_at s p) _ num) ∙ num) in (
-      prefix_through s slots p,
-      earlier_events s t r,
-      rw e (Contains-push [] (item n (Reach (prefix_through s slots p)))),
-      record { slot = k.alike p r a t at op or ∙ ap Some (sym slot); number = number_of s r t or },
-      omega (arith, number, number_le s t p r or l),
-    )
+through_holds : (s : Trace) (slots : ℕ → Option ℕ) (count p r t : ℕ) (prefix : ThreadPrefix) → AreSlots s slots count → IsPrefixThrough s slots prefix p →
+    OfThread s p t → OfThread s r t → r ≤ p → (m : ℕ) × HasSlotPosition s slots r prefix.slot m × (m < prefix.count)
+through_holds s slots count p r t prefix k (n, at, e) op or l = (
+  earlier_events s t r,
+  record { slot = k.alike p r prefix.slot t at.slot op or; number = number_of s r t or },
+  omega (arith, e, number_is s p t n op at.number, number_le s t p r or l),
+)
+
+-- What an item requires includes the shorter prefixes of the same thread.
+required_holds : (s : Trace) (slots : ℕ → Option ℕ) (n r m : ℕ) (prefix : ThreadPrefix) (xs : List Item) → AreUpTo n xs → IsRequired prefix xs →
+    HasSlotPosition s slots r prefix.slot m → m < prefix.count → IsReached s slots n r xs
+required_holds s slots n r m prefix xs upto (k, known, c, slot, longer) at l = (
+  k,
+  known,
+  m,
+  c,
+  upto (item k (Reach known)) c,
+  subst (λ a. HasSlotPosition s slots r a m) (sym slot) at,
+  omega (arith, longer, l),
+)
+
+redundant_holds : (s : Trace) (slots : ℕ → Option ℕ) (count q r m : ℕ) (position prefix : ThreadPrefix) (xs : List Item) → AreSlots s slots count →
+    HasSlotPosition s slots q position.slot position.count → AreUpTo position.count xs → IsRedundant position prefix xs →
+    HasSlotPosition s slots r prefix.slot m → m < prefix.count → IsIncluded s slots q position.count r xs
+redundant_holds s slots count q r m position prefix xs k here upto (inl (slot, few)) at l =
+    inl (position_before s slots count r q position.slot m position.count k (subst (λ a. HasSlotPosition s slots r a m) slot at) here (omega (arith, few, l)))
+redundant_holds s slots count q r m position prefix xs k here upto (inr required) at l =
+    inr (required_holds s slots position.count r m prefix xs upto required at l)
 
 pub reached_left : (s : Trace) (slots : ℕ → Option ℕ) (n r : ℕ) (xs ys : List Item) → IsReached s slots n r xs → IsReached s slots n r (xs ++ ys)
-reached_left s slots n r xs ys (prefix, m, c, st, l) = (prefix, m, Contains-append_left xs ys (item n (Reach prefix)) c, st, l)
+reached_left s slots n r xs ys (k, prefix, m, c, few, st, l) = (k, prefix, m, Contains-append_left xs ys (item k (Reach prefix)) c, few, st, l)
 
-pub reached_right : (s : Trace) (slots : ℕ → Option ℕ) (n r : ℕ) (xs ys : List Item) → IsReached s slots n r ys → IsReached s slots n r (xs ++ ys)
-reached_right s slots n r xs ys (prefix, m, c, st, l) = (prefix, m, Contains-append_right xs ys (item n (Reach prefix)) c, st, l)
+pub included_left : (s : Trace) (slots : ℕ → Option ℕ) (q n r : ℕ) (xs ys : List Item) → IsIncluded s slots q n r xs → IsIncluded s slots q n r (xs ++ ys)
+included_left s slots q n r xs ys (inl own) = inl own
+included_left s slots q n r xs ys (inr at) = inr (reached_left s slots n r xs ys at)
 
 pub begun_left : (q n : ℕ) (xs ys : List Item) → IsBegun q n xs → IsBegun q n (xs ++ ys)
 begun_left q n xs ys (l, c, h, e) = (l, c, Contains-append_left xs ys (item n (Begin l c)) h, e)
@@ -191,60 +190,126 @@ begun_at v q n k o b on =
     let there = subst (λ (z : Requirement). Contains (requirement_items n (Some z)) (item n (Begin l c))) (sym f) last in
     (l, c, subst (λ (z : Option Requirement). Contains (requirement_items n z) (item n (Begin l c))) (sym e) there, at)
 
-pub requirements_from : (v : SlottedTrace) (count q n : ℕ) (a b c : Option ℕ) (o : Option Requirement) → AreSlots v.trace v.slots count → number_at v.trace q ≡ Some n →
-    IsStart v.trace q a → IsFirstNeed v.trace q b → IsLastNeed v.trace q c → IsBegin v q o →
-    AreRequirementsAt v q n (reached_items v.trace v.slots n a ++ (reached_items v.trace v.slots n b ++ (reached_items v.trace v.slots n c ++ requirement_items n o)))
-requirements_from v count q n a b c o k num start first last begin = record {
-  only = λ i h. elim (Contains-append_cases xs (ys ++ (zs ++ ws)) i h) [
-    | inl hx ↦ reach_only v count q n a i k start.true_need hx
-    | inr h1 ↦ elim (Contains-append_cases ys (zs ++ ws) i h1) [
-      | inl hy ↦ reach_only v count q n b i k first.true_need hy
-      | inr h2 ↦ elim (Contains-append_cases zs ws i h2) [
-        | inl hz ↦ reach_only v count q n c i k last.true_need hz
-        | inr hw ↦ begin_only v q n o i begin hw
-      ]
-    ]
-  ];
-  needs = λ r requirement. needed r requirement;
-  begins = λ j on. begun_right q n xs (ys ++ (zs ++ ws)) (begun_right q n ys (zs ++ ws) (begun_right q n zs ws (begun_at v q n j o begin on)));
+-- The old items, followed by requirements of the place `q`. A place of the thread of `o`, up to `o`, is included afterwards.
+pub record Adds (v : SlottedTrace) (q n : ℕ) (o : Option ℕ) (old new : List Item) : Type 0 where
+  pub added : List Item
+  pub is : new ≡ old ++ added
+  pub only : (i : Item) → Contains added i → IsRequirement v q n i
+  pub holds : AreUpTo n old → (p r t : ℕ) → o ≡ Some p → OfThread v.trace p t → OfThread v.trace r t → r ≤ p → IsIncluded v.trace v.slots q n r new
+
+prefix_added : (v : SlottedTrace) (count q p : ℕ) (position prefix : ThreadPrefix) (old new : List Item) → AreSlots v.trace v.slots count →
+    HasSlotPosition v.trace v.slots q position.slot position.count → Needs v.trace q p → IsPrefixThrough v.trace v.slots prefix p →
+    AddsPrefix position prefix old new → Adds v q position.count (Some p) old new
+prefix_added v count q p position prefix old new k here need through (inl is) =
+    let one = item position.count (Reach prefix) in record {
+      added = one ∷ [];
+      is = is;
+      only = λ i h. reach_only v q p position.count prefix i need through h;
+      holds = λ upto z r t e oz or l.
+          let op = subst (λ y. OfThread v.trace y t) (sym (same_Some p z e)) oz in
+          let (m, at, less) = through_holds v.trace v.slots count p r t prefix k through op or (omega (arith, l, same_Some p z e)) in
+          inr (position.count, prefix, m, subst (λ ys. Contains ys one) (sym is) (Contains-append_right old (one ∷ []) one (Contains-push [] one)), omega arith, at, less);
+    }
+prefix_added v count q p position prefix old new k here need through (inr (is, redundant)) = record {
+  added = [];
+  is = is ∙ sym (append-nil old);
+  only = λ i h. absurd (none_in i h);
+  holds = λ upto z r t e oz or l.
+      let op = subst (λ y. OfThread v.trace y t) (sym (same_Some p z e)) oz in
+      let (m, at, less) = through_holds v.trace v.slots count p r t prefix k through op or (omega (arith, l, same_Some p z e)) in
+      subst (IsIncluded v.trace v.slots q position.count r) (sym is) (redundant_holds v.trace v.slots count q r m position prefix old k here upto redundant at less);
 }
+
+pub reach_added : (v : SlottedTrace) (count q : ℕ) (o : Option ℕ) (position : ThreadPrefix) (old new : List Item) → AreSlots v.trace v.slots count →
+    HasSlotPosition v.trace v.slots q position.slot position.count → ((r : ℕ) → o ≡ Some r → Needs v.trace q r) →
+    AddsReach v.trace v.slots position o old new → Adds v q position.count o old new
+reach_added v count q None position old new k here so is = record {
+  added = [];
+  is = is ∙ sym (append-nil old);
+  only = λ i h. absurd (none_in i h);
+  holds = λ upto p r t e oz or l. absurd (none-some p e);
+}
+reach_added v count q (Some p) position old new k here so (prefix, through, adds) =
+    prefix_added v count q p position prefix old new k here (so p refl) through adds
+
+upto_added : (v : SlottedTrace) (q n : ℕ) (o : Option ℕ) (old new : List Item) → AreUpTo n old → Adds v q n o old new → AreUpTo n new
+upto_added v q n o old new upto adds i h = elim (Contains-append_cases old adds.added i (subst (λ ys. Contains ys i) adds.is h)) [
+  | inl before ↦ upto i before
+  | inr now ↦ omega (arith, (adds.only i now).number)
+]
+
+included_added : (v : SlottedTrace) (q n r : ℕ) (o : Option ℕ) (old new : List Item) → Adds v q n o old new → IsIncluded v.trace v.slots q n r old → IsIncluded v.trace v.slots q n r new
+included_added v q n r o old new adds at = subst (IsIncluded v.trace v.slots q n r) (sym adds.is) (included_left v.trace v.slots q n r old adds.added at)
+
+four_pushed : (old one two three new x y z w : List Item) → one ≡ old ++ x → two ≡ one ++ y → three ≡ two ++ z → new ≡ three ++ w → new ≡ old ++ (x ++ (y ++ (z ++ w)))
+four_pushed old one two three new x y z w a b c d =
+    d ∙ (ap (λ l. l ++ w) (c ∙ (ap (λ l. l ++ z) (b ∙ (ap (λ l. l ++ y) a)))) ∙ simp append_assoc refl)
+
+pub requirements_from : (v : SlottedTrace) (q n : ℕ) (a b c : Option ℕ) (o : Option Requirement) (old one two three new : List Item) → number_at v.trace q ≡ Some n →
+    IsStart v.trace q a → IsFirstNeed v.trace q b → IsLastNeed v.trace q c → IsBegin v q o →
+    Adds v q n a old one → Adds v q n b one two → Adds v q n c two three → new ≡ three ++ requirement_items n o → AddsRequirements v q old new
+requirements_from v q n a b c o old one two three new num start first last begin first_adds second_adds third_adds is = (
+  n,
+  xs ++ (ys ++ (zs ++ ws)),
+  num,
+  all,
+  record {
+    only = λ i h. elim (Contains-append_cases xs (ys ++ (zs ++ ws)) i h) [
+      | inl hx ↦ first_adds.only i hx
+      | inr h1 ↦ elim (Contains-append_cases ys (zs ++ ws) i h1) [
+        | inl hy ↦ second_adds.only i hy
+        | inr h2 ↦ elim (Contains-append_cases zs ws i h2) [
+          | inl hz ↦ third_adds.only i hz
+          | inr hw ↦ begin_only v q n o i begin hw
+        ]
+      ]
+    ];
+    needs = λ upto r need. subst (λ l. IsForkLater v.trace q n r ⊎ IsIncluded v.trace v.slots q n r l) all (needed upto r need);
+    begins = λ j on. begun_right q n xs (ys ++ (zs ++ ws)) (begun_right q n ys (zs ++ ws) (begun_right q n zs ws (begun_at v q n j o begin on)));
+  },
+)
   where
     xs : List Item
-    xs = reached_items v.trace v.slots n a
+    xs = first_adds.added
 
     ys : List Item
-    ys = reached_items v.trace v.slots n b
+    ys = second_adds.added
 
     zs : List Item
-    zs = reached_items v.trace v.slots n c
+    zs = third_adds.added
 
     ws : List Item
     ws = requirement_items n o
 
-    by_first : (r : ℕ) → Needs v.trace q r → b ≡ Some r → IsReached v.trace v.slots n r (xs ++ (ys ++ (zs ++ ws)))
-    by_first r requirement e =
-        let (t, here) = need_thread v.trace q r requirement in
-        reached_right v.trace v.slots n r xs (ys ++ (zs ++ ws)) (reached_left v.trace v.slots n r ys (zs ++ ws) (reach_covers v.trace v.slots count n r r t b k e here here (omega arith)))
+    all : new ≡ old ++ (xs ++ (ys ++ (zs ++ ws)))
+    all = four_pushed old one two three new xs ys zs ws first_adds.is second_adds.is third_adds.is is
 
-    by_start : (r : ℕ) → Needs v.trace q r → a ≡ Some r → IsReached v.trace v.slots n r (xs ++ (ys ++ (zs ++ ws)))
-    by_start r requirement e =
-        let (t, here) = need_thread v.trace q r requirement in
-        reached_left v.trace v.slots n r xs (ys ++ (zs ++ ws)) (reach_covers v.trace v.slots count n r r t a k e here here (omega arith))
+    from_three : (r : ℕ) → IsIncluded v.trace v.slots q n r three → IsIncluded v.trace v.slots q n r new
+    from_three r at = subst (IsIncluded v.trace v.slots q n r) (sym is) (included_left v.trace v.slots q n r three ws at)
 
-    by_last : (r t : ℕ) → OfThread v.trace r t → (p : ℕ) × (c ≡ Some p) × OfThread v.trace p t × (r ≤ p) → IsReached v.trace v.slots n r (xs ++ (ys ++ (zs ++ ws)))
-    by_last r t or (p, e, op, l) =
-        reached_right v.trace v.slots n r xs (ys ++ (zs ++ ws)) (reached_right v.trace v.slots n r ys (zs ++ ws) (reached_left v.trace v.slots n r zs ws (reach_covers v.trace v.slots count n p r t c k e op or l)))
+    from_two : (r : ℕ) → IsIncluded v.trace v.slots q n r two → IsIncluded v.trace v.slots q n r new
+    from_two r at = from_three r (included_added v q n r c two three third_adds at)
 
-    own_fork : (m r t : ℕ) → n ≡ m → OfThread v.trace q t → Does v.trace r (Fork t) → IsForkLater v.trace q n r ⊎ IsReached v.trace v.slots n r (xs ++ (ys ++ (zs ++ ws)))
-    own_fork zero r t e oq d = inr (by_start r (inl (inl (t, oq, d))) (start.fork t r (num ∙ ap Some e) oq d))
-    own_fork (suc m) r t e oq d = inl ((λ z. omega (arith, e, z)), t, oq, d)
+    by_start : AreUpTo n old → (r : ℕ) → Needs v.trace q r → a ≡ Some r → IsIncluded v.trace v.slots q n r new
+    by_start upto r need e =
+        let (t, here) = need_thread v.trace q r need in
+        from_two r (included_added v q n r b one two second_adds (first_adds.holds upto r r t e here here (omega arith)))
 
-    needed : (r : ℕ) → Needs v.trace q r → IsForkLater v.trace q n r ⊎ IsReached v.trace v.slots n r (xs ++ (ys ++ (zs ++ ws)))
-    needed r (inl (inl (t, oq, d))) = own_fork n r t refl oq d
-    needed r (inl (inr (j, dq, inl dr))) = inr (by_first r (inl (inr (j, dq, inl dr))) (first.fork j r dq dr))
-    needed r (inl (inr (j, dq, inr or))) = inr (by_last r j or (last.joined j r dq or))
-    needed r (inr w) = inr (by_first r (inr w) (first.written r w))
+    by_first : AreUpTo n old → (r : ℕ) → Needs v.trace q r → b ≡ Some r → IsIncluded v.trace v.slots q n r new
+    by_first upto r need e =
+        let (t, here) = need_thread v.trace q r need in
+        from_two r (second_adds.holds (upto_added v q n a old one upto first_adds) r r t e here here (omega arith))
 
-pub four_pushed : (old one two three new x y z w : List Item) → one ≡ old ++ x → two ≡ one ++ y → three ≡ two ++ z → new ≡ three ++ w → new ≡ old ++ (x ++ (y ++ (z ++ w)))
-four_pushed old one two three new x y z w a b c d =
-    d ∙ (ap (λ l. l ++ w) (c ∙ (ap (λ l. l ++ z) (b ∙ (ap (λ l. l ++ y) a)))) ∙ simp append_assoc refl)
+    by_last : AreUpTo n old → (r t : ℕ) → OfThread v.trace r t → (p : ℕ) × (c ≡ Some p) × OfThread v.trace p t × (r ≤ p) → IsIncluded v.trace v.slots q n r new
+    by_last upto r t or (p, e, op, l) =
+        from_three r (third_adds.holds (upto_added v q n b one two (upto_added v q n a old one upto first_adds) second_adds) p r t e op or l)
+
+    own_fork : AreUpTo n old → (m r t : ℕ) → n ≡ m → OfThread v.trace q t → Does v.trace r (Fork t) → IsForkLater v.trace q n r ⊎ IsIncluded v.trace v.slots q n r new
+    own_fork upto zero r t e oq d = inr (by_start upto r (inl (inl (t, oq, d))) (start.fork t r (num ∙ ap Some e) oq d))
+    own_fork upto (suc m) r t e oq d = inl ((λ z. omega (arith, e, z)), t, oq, d)
+
+    needed : AreUpTo n old → (r : ℕ) → Needs v.trace q r → IsForkLater v.trace q n r ⊎ IsIncluded v.trace v.slots q n r new
+    needed upto r (inl (inl (t, oq, d))) = own_fork upto n r t refl oq d
+    needed upto r (inl (inr (j, dq, inl dr))) = inr (by_first upto r (inl (inr (j, dq, inl dr))) (first.fork j r dq dr))
+    needed upto r (inl (inr (j, dq, inr or))) = inr (by_last upto r j or (last.joined j r dq or))
+    needed upto r (inr w) = inr (by_first upto r (inr w) (first.written r w))

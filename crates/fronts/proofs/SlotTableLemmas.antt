@@ -209,3 +209,16 @@ count_by_slot firsts slot_table count p c are old is = go (firsts p) refl
                 ∙ sym (ap (λ z. slot_count_after z p count) e ∙ h.2))
           ]
     ]
+
+-- The slot of one more place, as the loop pushes it.
+pub slot_pushed : (firsts : ℕ → Option ℕ) (slots new : List (Option ℕ)) (count more n : ℕ) (slot : Option ℕ) → AreFirsts firsts → length slots ≡ n →
+    AreSlotNumbers firsts (slot_in slots) count n → slot ≡ next_slot (slot_in slots) (firsts n) n count → more ≡ slot_count_after slot count count →
+    new ≡ slots ++ slot ∷ [] → AreSlotNumbers firsts (slot_in new) more (n + 1)
+slot_pushed firsts slots new count more n slot are len old is_slot is_more pushed =
+    subst (λ z. AreSlotNumbers firsts (slot_in z) more (n + 1)) (sym pushed)
+    (subst (λ z. AreSlotNumbers firsts (slot_in (slots ++ slot ∷ [])) more (z + 1)) len
+    (classes_push firsts slots count more slot are (subst (AreSlotNumbers firsts (slot_in slots) count) (sym len) old)
+    (is_slot ∙ ap (λ z. next_slot (slot_in slots) (firsts z) z count) (sym len)) (all_more ∙ ap (λ z. slot_count_after (firsts z) z count) (sym len))))
+  where
+    all_more : more ≡ slot_count_after (firsts n) n count
+    all_more = is_more ∙ count_by_slot firsts (slot_in slots) count n slot are old is_slot

@@ -5,11 +5,6 @@ use Rattle.trace_model.specs.Theory.Trace.{Trace}
 use Rattle.trace_model.specs.Theory.Held.{begins_on, begun_lock}
 use Rattle.trace_model.specs.Theory.Closure.{ascending_places}
 use Rattle.trace_index.specs.Numbers.{of_thread}
-use Rattle.fronts.specs.declared.slot_table.SlotTable.{SlotTable}
-use Rattle.fronts.specs.declared.requirements.SlotKind.{SlotKind}
-use Rattle.fronts.specs.declared.requirements.SlotKind.TheVariants.{Thread, Lock}
-use Rattle.fronts.specs.Slots.{AreThreadSlots}
-use Rattle.fronts.specs.Requirements.{AreLockSlots}
 
 -- The first place of the place's thread.
 abbrev pub first_of_thread : Trace → ℕ → Option ℕ
@@ -20,13 +15,3 @@ first_of_thread s p = option_and_then
 abbrev pub first_of_lock : Trace → ℕ → Option ℕ
 first_of_lock s p = option_and_then
     (λ l. slice_get (ascending_places (begins_on s l) (length s)) 0) (begun_lock s p)
-
--- The first place in the same slot.
-abbrev pub first_of : Trace → SlotKind → ℕ → Option ℕ
-first_of s Thread p = first_of_thread s p
-first_of s Lock p = first_of_lock s p
-
--- The slots are those of the threads, or of the locks.
-abbrev pub AreSlotsOf : Trace → SlotKind → SlotTable → Type 0
-AreSlotsOf s Thread slot_table = AreThreadSlots s slot_table
-AreSlotsOf s Lock slot_table = AreLockSlots s slot_table

@@ -1,9 +1,9 @@
 -- The items that a place adds to the list of its thread.
-use Rattle.std.specs.Prelude.{◌≡◌, ℕ, ◌+◌, ◌<◌, ◌≤◌, ◌⊎◌, List, [], ◌∷◌, ◌++◌, slice_get, Option, Some, None, unwrap_or}
+use Rattle.std.specs.Prelude.{◌≡◌, ℕ, ◌<◌, ◌≤◌, ◌⊎◌, List, [], ◌∷◌, ◌++◌, slice_get, Option, Some, None, MatchOption}
 use Rattle.std.specs.List.{Contains}
 use Rattle.std.specs.Global.{Global}
 use Rattle.std.specs.Prelude.{Vec}
-use Rattle.trace_model.specs.Theory.Trace.{Trace, Does, OfThread}
+use Rattle.trace_model.specs.Theory.Trace.{Trace, Does, OfThread, EarlierInThread}
 use Rattle.trace_model.specs.declared.traces.event.Op.TheVariants.{Fork, Join}
 use Rattle.trace_model.specs.Theory.Held.{BeginsOn}
 use Rattle.trace_model.specs.Theory.Lookups.{writer}
@@ -27,23 +27,32 @@ pub record SlottedTrace : Type 0 where
 abbrev pub with_slots : Trace → SlotTable → SlotTable → SlottedTrace
 with_slots s threads locks = record { trace = s; slots = slots_of threads; locks = slots_of locks }
 
--- The prefix that ends with the place.
-abbrev pub prefix_through : Trace → (ℕ → Option ℕ) → ℕ → ThreadPrefix
-prefix_through s slots p = record {
-  slot = unwrap_or (slots p) 0;
-  count = unwrap_or (number_at s p)
-      0 + 1;
-}
-
 -- The item of a requirement, if there is one.
 abbrev pub requirement_items : ℕ → Option Requirement → List Item
 requirement_items n None = []
 requirement_items n (Some requirement) = item n requirement ∷ []
 
--- The item that requires the place, if there is one.
-abbrev pub reached_items : Trace → (ℕ → Option ℕ) → ℕ → Option ℕ → List Item
-reached_items s slots n None = []
-reached_items s slots n (Some p) = item n (Reach (prefix_through s slots p)) ∷ []
+-- The list has an item that requires the prefix, or a longer prefix of the same thread.
+abbrev pub IsRequired : ThreadPrefix → List Item → Type 0
+IsRequired prefix xs = (n : ℕ) × (known : ThreadPrefix) × Contains xs (item n (Reach known))
+    × (known.slot ≡ prefix.slot) × (prefix.count ≤ known.count)
+
+-- The place at `position` needs no item for the prefix: the prefix is before it in its own thread,
+-- or is required.
+abbrev pub IsRedundant : ThreadPrefix → ThreadPrefix → List Item → Type 0
+IsRedundant position prefix xs = ((prefix.slot ≡ position.slot) × (prefix.count ≤ position.count))
+    ⊎ IsRequired prefix xs
+
+-- The old items, followed by the item for the prefix, unless that is redundant.
+abbrev pub AddsPrefix : ThreadPrefix → ThreadPrefix → List Item → List Item → Type 0
+AddsPrefix position prefix old new = (new ≡ old ++ item position.count (Reach prefix) ∷ [])
+    ⊎ ((new ≡ old) × IsRedundant position prefix old)
+
+-- The same for the prefix that ends with the place `o`, if there is one.
+abbrev pub AddsReach : Trace → (ℕ → Option ℕ) → ThreadPrefix → Option ℕ → List Item → List Item →
+    Type 0
+AddsReach s slots position o old new = MatchOption o (new ≡ old) (λ p. (prefix : ThreadPrefix)
+    × IsPrefixThrough s slots prefix p × AddsPrefix position prefix old new)
 
 -- The place `q` needs the place `o`, if there is one: the fork of its thread if `q` is the thread's
 -- first place.
@@ -83,26 +92,35 @@ pub record IsRequirement (v : SlottedTrace) (q n : ℕ) (i : Item) : Type 0 wher
 abbrev pub IsForkLater : Trace → ℕ → ℕ → ℕ → Type 0
 IsForkLater s q n r = (n ≡ 0 → ⊥) × (t : ℕ) × OfThread s q t × Does s r (Fork t)
 
--- An item with number `n` requires a prefix that contains `r`.
+-- An item with number at most `n` requires a prefix that contains `r`.
 abbrev pub IsReached : Trace → (ℕ → Option ℕ) → ℕ → ℕ → List Item → Type 0
-IsReached s slots n r xs = (prefix : ThreadPrefix) × (m : ℕ) × Contains xs (item n (Reach prefix))
+IsReached s slots n r xs = (k : ℕ) × (prefix : ThreadPrefix) × (m : ℕ)
+    × Contains xs (item k (Reach prefix)) × (k ≤ n)
     × HasSlotPosition s slots r prefix.slot m × (m < prefix.count)
+
+-- Thread order includes `r` before the place `q`, which has number `n`, or an item requires it.
+abbrev pub IsIncluded : Trace → (ℕ → Option ℕ) → ℕ → ℕ → ℕ → List Item → Type 0
+IsIncluded s slots q n r xs = EarlierInThread s r q ⊎ IsReached s slots n r xs
+
+-- The items are requirements of places with numbers up to `n`.
+abbrev pub AreUpTo : ℕ → List Item → Type 0
+AreUpTo n xs = (i : Item) → Contains xs i → i.number ≤ n
 
 -- An item with number `n` is the section that begins at `q`.
 abbrev pub IsBegun : ℕ → ℕ → List Item → Type 0
 IsBegun q n xs = (l : ℕ) × (c : Section) × Contains xs (item n (Begin l c)) × (c.place ≡ q)
 
--- The requirements of the place `q`, which has number `n`.
-pub record AreRequirementsAt (v : SlottedTrace) (q n : ℕ) (xs : List Item) : Type 0 where
+-- The requirements of the place `q`, which has number `n`, after the items `old` of its thread.
+pub record AreRequirementsAt (v : SlottedTrace) (q n : ℕ) (old xs : List Item) : Type 0 where
   pub only : (i : Item) → Contains xs i → IsRequirement v q n i
-  pub needs : (r : ℕ) → Needs v.trace q r → IsForkLater v.trace q n r
-      ⊎ IsReached v.trace v.slots n r xs
+  pub needs : AreUpTo n old → (r : ℕ) → Needs v.trace q r → IsForkLater v.trace q n r
+      ⊎ IsIncluded v.trace v.slots q n r (old ++ xs)
   pub begins : (k : ℕ) → BeginsOn v.trace q k → IsBegun q n xs
 
 -- The old items, followed by the requirements of the place `q`.
 abbrev pub AddsRequirements : SlottedTrace → ℕ → List Item → List Item → Type 0
 AddsRequirements v q old new = (n : ℕ) × (added : List Item) × (number_at v.trace q ≡ Some n)
-    × (new ≡ old ++ added) × AreRequirementsAt v q n added
+    × (new ≡ old ++ added) × AreRequirementsAt v q n old added
 
 -- The items of the slot's places below `p`, in the order of the places.
 pub record AreBuilt (v : SlottedTrace) (p a : ℕ) (xs : List Item) : Type 0 where
@@ -112,7 +130,7 @@ pub record AreBuilt (v : SlottedTrace) (p a : ℕ) (xs : List Item) : Type 0 whe
   pub ascend : (j k : ℕ) (x y : Item) → j ≤ k → slice_get xs j ≡ Some x → slice_get xs k ≡ Some y →
       x.number ≤ y.number
   pub needs : (q r n : ℕ) → q < p → HasSlotPosition v.trace v.slots q a n → Needs v.trace q r →
-      IsForkLater v.trace q n r ⊎ IsReached v.trace v.slots n r xs
+      IsForkLater v.trace q n r ⊎ IsIncluded v.trace v.slots q n r xs
   pub begins : (q k n : ℕ) → q < p → HasSlotPosition v.trace v.slots q a n → BeginsOn v.trace q k →
       IsBegun q n xs
 

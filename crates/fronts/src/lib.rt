@@ -14,6 +14,7 @@
 
 mod epoch_array;
 mod fronts;
+mod item_cache;
 mod members;
 mod overlay;
 mod propagation;

@@ -1,14 +1,15 @@
 //! What each place of a trace requires, in tables that are built once for the trace.
 
-ghost use Rattle.std.specs.Prelude.{◌≡◌, ℕ, ◌+◌, ◌<◌, ◌^◌, length, ◌++◌, slice_get, Some, IfSome, OnOk, IfOk};
+ghost use Rattle.std.specs.Prelude.{◌≡◌, ℕ, ◌+◌, ◌<◌, ◌^◌, length, ◌++◌, slice_get, Some, IfSome, OnOk, IfOk, IsTrue};
 ghost use Rattle.std.specs.Arc.{arc_value};
 ghost use Rattle.trace_index.specs.Numbers.{number_at};
 ghost use Rattle.fronts.specs.Slots.{slot_in, slots_of, AreSlotPlaces, AreThreadSlots, HasSlotPosition};
 ghost use Rattle.fronts.specs.Requirements.{AreLockSlots, IsPrefixThrough, EndsSection};
-ghost use Rattle.fronts.specs.Pushing.{SlottedTrace, reached_items, requirement_items, with_slots, IsStart, IsFirstNeed, IsLastNeed, IsBegin, AddsRequirements, AreAllBuilt};
+ghost use Rattle.fronts.specs.Pushing.{SlottedTrace, IsRequired, IsRedundant, AddsReach, requirement_items, with_slots, IsStart, IsFirstNeed, IsLastNeed, IsBegin, AddsRequirements, AreAllBuilt};
 ghost use Rattle.fronts.specs.SlotTable.{AreSlotNumbers, next_slot};
-ghost use Rattle.fronts.specs.Firsts.{first_of_thread, first_of_lock, first_of, AreSlotsOf};
+ghost use Rattle.fronts.specs.Firsts.{first_of_thread, first_of_lock};
 
+use crate::item_cache::ItemCache;
 use crate::slot_table::{SlotTable, next_count, slot_at};
 use segments::MaybeIndex;
 use std::alloc::Global;
@@ -50,8 +51,9 @@ pub(crate) struct Item {
     pub(crate) requirement: Requirement,
 }
 
-/// The requirements of the places of each thread, in the order of the places. Threads and locks
-/// have dense numbers, their slots.
+/// The requirements of the places of each thread, in the order of the places. Most of those that
+/// thread order or an earlier item of the thread includes are left out. Threads and locks have
+/// dense numbers, their slots.
 #[derive(Drop)]
 pub struct Requirements {
     /// The slots of the threads.
@@ -62,11 +64,11 @@ pub struct Requirements {
     pub(crate) items: Vec<Vec<Item>>,
 }
 
-/// What the places of one slot share: their thread, or the lock on which they begin a section.
-#[derive(Clone, Copy)]
-pub(crate) enum SlotKind {
-    Thread,
-    Lock,
+/// The slots of the threads and of the locks.
+#[derive(Drop)]
+struct SlotTables {
+    threads: SlotTable,
+    locks: SlotTable,
 }
 
 /// Returns the event at `place`, or `None` past the end of the trace.
@@ -116,44 +118,37 @@ fn lock_slot(index: &TraceIndex, slots: &[MaybeIndex], place: usize, count: u32)
     }
 }
 
-/// Returns the slot of the next place, of its thread or of its lock.
-#[inline(always)]
-fn slot_by(
-    index: &TraceIndex,
-    slots: &[MaybeIndex],
-    place: usize,
-    count: u32,
-    shared: SlotKind,
-) -> MaybeIndex
-    requires within { place < length index.now.events }
-    requires slot_table { AreSlotNumbers (first_of index.now.events shared)
-        (slot_in slots.now) count place }
-    requires few { count < 4294967295 }
-    ensures { result ≡ next_slot (slot_in slots.now)
-        (first_of index.now.events shared place) place count }
-{
-    match shared {
-        SlotKind::Thread => thread_slot(index, slots, place, count),
-        SlotKind::Lock => lock_slot(index, slots, place, count),
-    }
-}
-
-/// Returns the slots of the threads, or of the locks.
+/// Returns the slots of the threads and of the locks.
 ///
 /// # Errors
 /// `NoMemory` if an allocation fails.
-fn slot_table_by(alloc: Global, index: &TraceIndex, shared: SlotKind) -> Result<SlotTable, NoMemory>
-    ensures { IfOk result (AreSlotsOf index.now.events shared) }
+fn slot_tables(alloc: Global, index: &TraceIndex) -> Result<SlotTables, NoMemory>
+    ensures threads { IfOk result (λ tables. AreThreadSlots index.now.events tables.threads) }
+    ensures locks { IfOk result (λ tables. AreLockSlots index.now.events tables.locks) }
 {
     let _len = index.len(); // for the proof
-    let mut slots: Vec<MaybeIndex> = Vec::with_capacity(alloc, index.len())?;
-    let mut count = 0;
+    let mut threads: Vec<MaybeIndex> = Vec::with_capacity(alloc, index.len())?;
+    let mut locks: Vec<MaybeIndex> = Vec::with_capacity(alloc, index.len())?;
+    let mut thread_count = 0;
+    let mut lock_count = 0;
     for place in 0..index.len() {
-        let slot = slot_by(index, slots.as_slice(), place, count, shared);
-        slots.push_reserved(slot);
-        count = next_count(slot, count);
+        let thread = thread_slot(index, threads.as_slice(), place, thread_count);
+        let lock = lock_slot(index, locks.as_slice(), place, lock_count);
+        threads.push_reserved(thread);
+        locks.push_reserved(lock);
+        thread_count = next_count(thread, thread_count);
+        lock_count = next_count(lock, lock_count);
     }
-    Ok(SlotTable { slots, count })
+    Ok(SlotTables {
+        threads: SlotTable {
+            slots: threads,
+            count: thread_count,
+        },
+        locks: SlotTable {
+            slots: locks,
+            count: lock_count,
+        },
+    })
 }
 
 /// Returns the prefix of its thread that is before `place`.
@@ -186,28 +181,85 @@ pub(crate) fn prefix_through(index: &TraceIndex, threads: &SlotTable, place: Pla
     }
 }
 
-/// Appends the requirement that `place` is included, if there is a place.
+/// Returns whether the item at index `candidate` requires `prefix`, or a longer prefix of the same
+/// thread.
+fn is_required_at(items: &[Item], candidate: usize, prefix: ThreadPrefix) -> bool
+    ensures { IsTrue result → IsRequired prefix items.now }
+{
+    match listed(items, candidate) {
+        Some(item) => match item.requirement {
+            Requirement::Reach(known) => known.slot == prefix.slot && prefix.count <= known.count,
+            Requirement::Begin(_, _) => false,
+        },
+        None => false,
+    }
+}
+
+/// Returns whether the place at `position` needs no item for `prefix`. `items` are those of its
+/// thread. Thread order includes an earlier prefix of the same thread, and an item of an earlier
+/// place often requires as much of another thread.
+fn is_redundant(
+    items: &[Item],
+    cache: &ItemCache,
+    position: ThreadPrefix,
+    prefix: ThreadPrefix,
+) -> bool
+    ensures { IsTrue result → IsRedundant position prefix items.now }
+{
+    if prefix.slot == position.slot && prefix.count <= position.count {
+        return true;
+    }
+    is_required_at(items, cache.candidate(position.slot, prefix.slot), prefix)
+}
+
+/// Appends the requirement of the place at `position` that `place` is included, unless the item is
+/// redundant.
+#[inline(never)]
+fn push_place(
+    index: &TraceIndex,
+    threads: &SlotTable,
+    items: &mut Vec<Item>,
+    cache: &mut ItemCache,
+    position: ThreadPrefix,
+    place: Place,
+) -> Result<(), NoMemory>
+    requires slots { AreThreadSlots index.now.events threads.now }
+    requires in_trace { place < length index.now.events }
+    ensures { OnOk result (AddsReach index.now.events (slots_of threads.now) position (Some place)
+        items.old.items items.new.items) }
+{
+    let prefix = prefix_through(index, threads, place);
+    if is_redundant(items.as_slice(), cache, position, prefix) {
+        return Ok(());
+    }
+    cache.record(position.slot, prefix.slot, items.len());
+    items.push(Item {
+        number: position.count,
+        requirement: Requirement::Reach(prefix),
+    })?;
+    Ok(())
+}
+
+/// Appends the requirement of the place at `position` that `place` is included, if there is a place
+/// and the item is not redundant.
 #[inline(always)]
 fn push_reach(
     index: &TraceIndex,
     threads: &SlotTable,
     items: &mut Vec<Item>,
-    number: u32,
+    cache: &mut ItemCache,
+    position: ThreadPrefix,
     place: Option<Place>,
 ) -> Result<(), NoMemory>
     requires slots { AreThreadSlots index.now.events threads.now }
     requires in_trace { IfSome place (λ p. p < length index.now.events) }
-    ensures { OnOk result (items.new.items ≡ items.old.items ++
-        reached_items index.now.events (slots_of threads.now) number place) }
+    ensures { OnOk result (AddsReach index.now.events (slots_of threads.now) position place
+        items.old.items items.new.items) }
 {
-    if let Some(place) = place {
-        let prefix = prefix_through(index, threads, place);
-        items.push(Item {
-            number,
-            requirement: Requirement::Reach(prefix),
-        })?;
+    match place {
+        Some(place) => push_place(index, threads, items, cache, position, place),
+        None => Ok(()),
     }
-    Ok(())
 }
 
 /// Returns the section that begins at `place`.
@@ -245,7 +297,8 @@ fn first_need(index: &TraceIndex, place: Place, event: Event) -> Option<Place>
 {
     match event.op {
         Op::Join(child) => index.fork_of(child),
-        _ => index.writer(place),
+        Op::Read(_) => index.writer(place),
+        _ => None,
     }
 }
 
@@ -260,19 +313,25 @@ fn last_need(index: &TraceIndex, place: Place, event: Event) -> Option<Place>
     }
 }
 
-/// Returns the requirement of the section that begins at `place`, if one does.
+/// Returns the requirement of the section that begins at `place`, if one does. `event` is the event
+/// at `place`.
 #[inline(always)]
 fn begin_of(
     index: &TraceIndex,
     threads: &SlotTable,
     locks: &SlotTable,
     place: Place,
+    event: Event,
 ) -> Option<Requirement>
+    requires event { slice_get index.now.events place ≡ Some event }
     requires slots { AreThreadSlots index.now.events threads.now }
     requires locks { AreLockSlots index.now.events locks.now }
     requires in_trace { place < length index.now.events }
     ensures { IsBegin (with_slots index.now.events threads.now locks.now) place result }
 {
+    let Op::Acquire(_lock) = event.op else {
+        return None;
+    };
     match index.begun(place) {
         Some(_) => {
             let section = section_at(index, threads, place);
@@ -301,7 +360,8 @@ fn push_requirement(
     Ok(())
 }
 
-/// Appends all requirements of `place`.
+/// Appends the requirements of `place`, which is at `position`. `cache` finds redundant ones, which
+/// are left out.
 ///
 /// # Errors
 /// `NoMemory` if an allocation fails; some may have been appended.
@@ -310,24 +370,27 @@ fn push_requirements(
     threads: &SlotTable,
     locks: &SlotTable,
     items: &mut Vec<Item>,
+    cache: &mut ItemCache,
     place: Place,
+    position: ThreadPrefix,
 ) -> Result<(), NoMemory>
     requires slots { AreThreadSlots index.now.events threads.now }
     requires locks { AreLockSlots index.now.events locks.now }
     requires in_trace { place < length index.now.events }
+    requires position { HasSlotPosition index.now.events
+        (slots_of threads.now) place position.slot position.count }
     ensures { OnOk result (AddsRequirements (with_slots index.now.events threads.now locks.now)
         place items.old.items items.new.items) }
 {
     let event = index.event(place).unwrap();
-    let number = index.number(place).unwrap();
-    let start = start_of(index, place, event, number);
+    let start = start_of(index, place, event, position.count);
     let first = first_need(index, place, event);
     let last = last_need(index, place, event);
-    let begin = begin_of(index, threads, locks, place);
-    push_reach(index, threads, items, number, start)?;
-    push_reach(index, threads, items, number, first)?;
-    push_reach(index, threads, items, number, last)?;
-    push_requirement(items, number, begin)
+    let begin = begin_of(index, threads, locks, place, event);
+    push_reach(index, threads, items, cache, position, start)?;
+    push_reach(index, threads, items, cache, position, first)?;
+    push_reach(index, threads, items, cache, position, last)?;
+    push_requirement(items, position.count, begin)
 }
 
 /// Returns the item at index `j`.
@@ -377,6 +440,7 @@ fn fill(
         (length index.now.events) lists.new.items) }
 {
     let mut positions = Vec::with_capacity(alloc, index.len())?;
+    let mut cache = ItemCache::new();
     for place in 0..index.len() {
         let place = Place::new(place as u32);
         let position = prefix_before(index, threads, place);
@@ -385,7 +449,9 @@ fn fill(
             threads,
             locks,
             &mut lists[position.slot as usize],
+            &mut cache,
             place,
+            position,
         )?;
         positions.push_reserved(position);
     }
@@ -413,8 +479,7 @@ impl Requirements {
     pub fn build(alloc: Global, index: &TraceIndex) -> Result<Requirements, NoMemory>
         ensures { IfOk result (AreRequirements index.now.events) }
     {
-        let threads = slot_table_by(alloc, index, SlotKind::Thread)?;
-        let locks = slot_table_by(alloc, index, SlotKind::Lock)?;
+        let SlotTables { threads, locks } = slot_tables(alloc, index)?;
         let mut items = no_items(alloc, threads.count)?;
         let positions = fill(alloc, index, &threads, &locks, &mut items)?;
         Ok(Requirements {

@@ -1,13 +1,13 @@
 //! The map, and the look-up of a number's position in it.
 
-ghost use Rattle.std.specs.Prelude.{◌≡◌, ℕ, Some, None, IsSome, is_some, true, [], cond, nat_eq, unwrap_or, option_copied, OnOk, OnErr};
+ghost use Rattle.std.specs.Prelude.{◌≡◌, ℕ, Some, None, IsSome, is_some, true, [], cond, nat_eq, unwrap_or, option_copied, IfOk, OnOk, OnErr};
 ghost use Rattle.std.specs.Option.{option_copied_mut};
 ghost use Rattle.std.specs.Map.{lookup, set_value};
 ghost use Rattle.std.specs.Borrow.{sem, LendsIf};
 ghost use Rattle.number_map.specs.Positions.{HasNumberAt};
 ghost use Rattle.number_map.specs.contracts.map.NumberMap.{the_row};
 
-use crate::position_cache::PositionCache;
+use crate::growing_cache::GrowingCache;
 use indexmap::IndexMap;
 use std::alloc::{AllocError, Global};
 use std::collections::hash_map::RandomState;
@@ -20,7 +20,7 @@ type Entries<V> = IndexMap<u32, V, RandomState>;
 #[derive(Drop)]
 pub struct NumberMap<V: Drop> {
     entries: Entries<V>,
-    cache: PositionCache,
+    cache: GrowingCache,
 }
 
 impl<V: Drop> Model for NumberMap<V> {
@@ -79,13 +79,13 @@ impl<V: Drop> NumberMap<V> {
     {
         NumberMap {
             entries: IndexMap::with_hasher(alloc, state),
-            cache: PositionCache::new(),
+            cache: GrowingCache::new(alloc),
         }
     }
 
-    /// Returns the position of `number`, or `None` if it has no entry.
+    /// Returns the position of `number`, or `None` if it has no entry. Does not allocate.
     #[inline(always)]
-    fn position(&self, number: u32) -> Option<usize>
+    pub fn position(&self, number: u32) -> Option<usize>
         ensures { HasNumberAt self.now number result }
     {
         position_of(&self.entries, self.cache.candidate(number), number)
@@ -118,6 +118,23 @@ impl<V: Drop> NumberMap<V> {
         }
     }
 
+    /// Returns the position of `number` as `position` does, and caches it.
+    #[inline(always)]
+    fn find_position(&mut self, number: u32) -> Option<usize>
+        ensures position { HasNumberAt self.old number result }
+        ensures unchanged { self.new ≡ self.old }
+    {
+        let candidate = self.cache.candidate(number);
+        if is_at(&self.entries, candidate, number) {
+            return Some(candidate);
+        }
+        let position = uncached_position_of(&self.entries, number);
+        if let Some(position) = position {
+            self.cache.record(number, position);
+        }
+        position
+    }
+
     /// Returns whether `number` has an entry, and caches its position. A caller with a large
     /// default value calls it before `reserve`, and makes the value only if it is needed. Does not
     /// allocate.
@@ -126,13 +143,7 @@ impl<V: Drop> NumberMap<V> {
         ensures found { result ≡ is_some (lookup (nat_eq number) self.old) }
         ensures unchanged { self.new ≡ self.old }
     {
-        match self.position(number) {
-            Some(position) => {
-                self.cache.record(number, position);
-                true
-            }
-            None => false,
-        }
+        self.find_position(number).is_some()
     }
 
     /// Makes an entry with the value `default` for `number`, if it has none. A caller that reads a
@@ -152,13 +163,50 @@ impl<V: Drop> NumberMap<V> {
         ensures err { OnErr result (self.new ≡ self.old) }
         ensures absent { OnErr result (lookup (nat_eq number) self.old ≡ None) }
     {
-        if self.find(number) {
-            return Ok(());
+        self.reserve_position(number, default)?;
+        Ok(())
+    }
+
+    /// Makes an entry as `reserve` does, and returns its position. The position is that of `number`
+    /// from then on, since entries are neither moved nor removed.
+    ///
+    /// # Errors
+    ///
+    /// As `reserve`. The map is unchanged.
+    #[inline(always)]
+    pub fn reserve_position(&mut self, number: u32, default: V) -> Result<usize, AllocError>
+        ensures shown { (q : ℕ) → unwrap_or (lookup (nat_eq q) self.new) default ≡
+            unwrap_or (lookup (nat_eq q) self.old) default }
+        ensures ok { OnOk result (IsSome (lookup (nat_eq number) self.new)) }
+        ensures position { IfOk result (λ i. HasNumberAt self.new number (Some i)) }
+        ensures kept { (q : ℕ) → IsSome (lookup (nat_eq q) self.old) →
+            IsSome (lookup (nat_eq q) self.new) }
+        ensures err { OnErr result (self.new ≡ self.old) }
+        ensures absent { OnErr result (lookup (nat_eq number) self.old ≡ None) }
+    {
+        match self.find_position(number) {
+            Some(position) => Ok(position),
+            None => self.add(number, default),
         }
+    }
+
+    /// Makes an entry for `number`, which has none, and returns its position.
+    #[inline(never)]
+    fn add(&mut self, number: u32, default: V) -> Result<usize, AllocError>
+        requires { lookup (nat_eq number) self.old ≡ None }
+        ensures shown { (q : ℕ) → unwrap_or (lookup (nat_eq q) self.new) default ≡
+            unwrap_or (lookup (nat_eq q) self.old) default }
+        ensures ok { OnOk result (IsSome (lookup (nat_eq number) self.new)) }
+        ensures position { IfOk result (λ i. HasNumberAt self.new number (Some i)) }
+        ensures kept { (q : ℕ) → IsSome (lookup (nat_eq q) self.old) →
+            IsSome (lookup (nat_eq q) self.new) }
+        ensures err { OnErr result (self.new ≡ self.old) }
+    {
         let position = self.entries.len();
+        self.cache.fit(position + 1)?;
         self.entries.insert(number, default)?;
         self.cache.record(number, position);
-        Ok(())
+        Ok(position)
     }
 
     /// Sets the value of `number`, which must have an entry. Does not allocate.
@@ -168,7 +216,19 @@ impl<V: Drop> NumberMap<V> {
         ensures { (q : ℕ) → lookup (nat_eq q) self.new ≡
             cond (nat_eq number q) (Some value) (lookup (nat_eq q) self.old) }
     {
-        if let Some(known) = self.get_mut(number) {
+        if let Some(position) = self.position(number) {
+            self.set_at(position, value);
+        }
+    }
+
+    /// Sets the value of the number at `position`. Does not allocate.
+    #[inline(always)]
+    pub fn set_at(&mut self, position: usize, value: V)
+        ensures { (number q : ℕ) → HasNumberAt self.old number (Some position) →
+            lookup (nat_eq q) self.new ≡
+            cond (nat_eq number q) (Some value) (lookup (nat_eq q) self.old) }
+    {
+        if let Some(known) = self.entries.get_index_mut(position) {
             *known = value;
         }
     }
@@ -181,5 +241,17 @@ impl<V: Copy> NumberMap<V> {
         ensures { result ≡ lookup (nat_eq number) self.now }
     {
         self.get_ref(number).copied()
+    }
+
+    /// Returns a copy of the value of the number at `position`. Does not allocate.
+    #[inline(always)]
+    pub fn get_at(&self, position: usize) -> Option<V>
+        ensures { (number : ℕ) → HasNumberAt self.now number (Some position) →
+            result ≡ lookup (nat_eq number) self.now }
+    {
+        match self.entries.get_index(position) {
+            Some((_, value)) => Some(*value),
+            None => None,
+        }
     }
 }

@@ -1,9 +1,10 @@
 //! A direct-mapped cache of positions.
 
 /// How many entries the cache has.
-const ENTRIES: usize = 256;
+const ENTRIES: usize = 2048;
 
-/// A direct-mapped cache: for each of 256 key residues, the position at which a key was last found.
+/// A direct-mapped cache: for each of 2,048 key residues, the position at which a key was last
+/// found.
 ///
 /// A cached position is a candidate: several keys share an entry, so the caller checks that its
 /// key is at the position. A caller with keys that are not numbers passes a number made of the key.

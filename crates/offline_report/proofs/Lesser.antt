@@ -15,7 +15,7 @@ use Rattle.reports.specs.Printed.{PrintedRow}
 use Rattle.cycle_search.specs.CycleSearch.{CycleFrom}
 use Rattle.findings.specs.Collecting.{AreSomeRows}
 use Rattle.findings.proofs.Members.{numbers_of}
-use Rattle.offline_report.proofs.TaskRows.{plain}
+use Rattle.offline_report.proofs.PlainRows.{plain}
 
 -- Lists in the order of keys. The weight of some of the elements is at most that of all.
 module _ {X : Type 0} (key : X → List ℕ) (weight : X → ℕ) where

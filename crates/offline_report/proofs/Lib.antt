@@ -3,6 +3,6 @@ pub mod Collected
 pub mod Sizes
 pub mod Texts
 pub mod Pieces
-pub mod TaskRows
+pub mod PlainRows
 pub mod RowsMore
 pub mod Lesser

@@ -1,5 +1,5 @@
 -- The report on all tasks, and the first event that is not lawful.
-use Rattle.std.proofs.Common.{◌≡◌, ℕ, suc, ◌+◌, ◌<◌, ◌≤◌, ◌⊎◌, inl, inr, leb, true, false, sum_by, count_by, length-append, List, [], ◌∷◌, ◌++◌, length, map, slice_get, option_map, Option, Some, None, refl, sym, ap, subst, ◌∙◌, arith}
+use Rattle.std.proofs.Common.{◌≡◌, ℕ, suc, ◌+◌, ◌<◌, ◌≤◌, ◌⊎◌, inl, inr, leb, true, false, sum_by, count_by, length-append, List, [], ◌∷◌, ◌++◌, append_assoc, length, map, slice_get, option_map, Option, Some, None, refl, sym, ap, subst, ◌∙◌, arith}
 use Rattle.std.specs.List.{flat_map, All}
 use Rattle.std.proofs.lemmas.List.{length-map, map-append}
 use Rattle.std.proofs.lemmas.List.Concat.{flat_map-cons}
@@ -14,13 +14,15 @@ use Rattle.trace_model.specs.Theory.Rows.{Row, AreRows}
 use Rattle.reports.specs.Printed.{PrintedRow, with_dependencies}
 use Rattle.reports.specs.Text.{about, counts, is_confirmed_row, report, row_text}
 use Rattle.reports.proofs.Counting.{flat_map-flat_map}
-use Rattle.offline_report.specs.Offline.{AreComputed, AreTasks, AreWhole, IsNotAdmitted, IsNotComputed, IsOfflineRefusal, IsTooLong, report_of, size_of, tasks_report}
+use Rattle.std.specs.Global.{Vec}
+use Rattle.std.proofs.lemmas.Grind.{flat_map-append}
+use Rattle.offline_report.specs.Offline.{AreComputed, AreTasks, AreWhole, IsNotAdmitted, IsNotComputed, IsOfflineRefusal, IsTooLong, first_line_of, printed_rows, report_of, rows_by_task, rows_text, size_of, tasks_report, tasks_rows_text}
 use Rattle.cycle_search.specs.CycleSearch.{CycleFrom}
 use Rattle.findings.specs.Collecting.{AreSomeRows}
 use Rattle.trace_model.proofs.Theory.Unique.{rows_unique}
 use Rattle.offline_report.proofs.Lesser.{of_tasks}
 use Rattle.offline_report.proofs.Sizes.{sizes_are}
-use Rattle.offline_report.proofs.TaskRows.{CycleUp, joined, plain, some_rows, task_rows}
+use Rattle.offline_report.proofs.PlainRows.{CycleUp, joined, plain, some_rows, task_rows}
 use Rattle.offline_report.specs.declared.parts.Part.{Part}
 use Rattle.offline_report.specs.declared.refused.OfflineRefused.{OfflineRefused}
 use Rattle.offline_report.specs.declared.refused.OfflineRefused.TheVariants.{Unlawful, TooLong, TooManyCycles, NoMemory}
@@ -122,11 +124,11 @@ module _ (s : Trace) (bound len : ℕ) (tasks : List (List PrintedRow)) (parts :
       let rows = flat_map (λ (rows : List Row). rows) all in
       let lesser = of_tasks s bound (size ds) 0 tasks all (c.total ∙ sym are.total) some_at (λ k v is.
       let at : k ≡ 0 + k = omega arith in subst (λ root. AreRows s bound root v) at (are.each k v is)) in
-      let fact = sizes_are tasks parts c.written ∙ ap length (sym (flat_map-flat_map row_text (λ (rows : List PrintedRow). rows) tasks) ∙ ap (flat_map row_text) (sym names)) ∙ text_size ds (plain all_rows) in
+      let fact = ap length (sym (flat_map-flat_map row_text (λ (rows : List PrintedRow). rows) tasks) ∙ ap (flat_map row_text) (sym names)) ∙ text_size ds (plain all_rows) in
       let printed = map (with_dependencies ds) rows in
       let head = about 0 (length s) bound in
       let numbers = counts (length printed) (count_by is_confirmed_row printed) in
-      omega (arith, fact, lesser, text_size ds rows, length-append head (numbers ++ flat_map row_text printed), length-append numbers (flat_map row_text printed))
+      omega (arith, (sizes_are tasks parts c.written).least, fact, lesser, text_size ds rows, length-append head (numbers ++ flat_map row_text printed), length-append numbers (flat_map row_text printed))
 
   every : (sum_by size_of parts ≤ MAX_REPORT → AreWhole parts) → (all : List (List Row)) → AreTasks s bound all → MAX_REPORT < length (report_of s bound all)
   every whole all are = by (leb_tells (sum_by size_of parts) MAX_REPORT)
@@ -150,6 +152,33 @@ module _ (s : Trace) (bound len : ℕ) (tasks : List (List PrintedRow)) (parts :
         over = subst (λ (text : List ℕ). MAX_REPORT < length text) (ap (λ k. report 0 k bound all_rows) l ∙ ap (report 0 (length s) bound) (sym names)) over;
         every = every whole;
       }
+
+-- The text of all rows, task by task.
+texts_by_task : (s : Trace) (tasks : List (Vec Row)) → tasks_rows_text s tasks ≡ rows_text s (flat_map (λ rows. rows) (rows_by_task tasks))
+texts_by_task s [] = refl
+texts_by_task s (task ∷ tasks) =
+    let ds = dependencies s in
+    let rest = flat_map (λ (rows : List Row). rows) (rows_by_task tasks) in
+    flat_map-cons (λ (task : Vec Row). rows_text s task.items) task tasks
+    ∙ ap (λ (l : List ℕ). rows_text s task.items ++ l) (texts_by_task s tasks)
+    ∙ sym (flat_map-append row_text (printed_rows s task.items) (printed_rows s rest))
+    ∙ ap (flat_map row_text) (sym (map-append (with_dependencies ds) task.items rest))
+    ∙ ap (rows_text s) (sym (flat_map-cons (λ (rows : List Row). rows) task.items (rows_by_task tasks)))
+
+-- The rows of all tasks, with the dependencies of their members.
+pub printed_all : (s : Trace) (bound n : ℕ) (tasks : List (List PrintedRow)) (parts : List Part) → AreComputed s bound n tasks parts →
+    printed_rows s (flat_map (λ rows. rows) (all_plain tasks)) ≡ flat_map (λ rows. rows) tasks
+printed_all s bound n tasks parts c = named_tasks (dependencies s) tasks (named_in s bound n tasks parts c)
+
+-- The report is its first line, and then the texts of the rows, task by task.
+pub text_is : (s : Trace) (bound : ℕ) (tasks : List (Vec Row)) (first : List ℕ) → first ≡ first_line_of (length s) bound (printed_rows s (flat_map (λ rows. rows) (rows_by_task tasks))) →
+    first ++ tasks_rows_text s tasks ≡ report_of s bound (rows_by_task tasks)
+unfolding report_of
+text_is s bound tasks first is =
+    let rows = flat_map (λ (rows : List Row). rows) (rows_by_task tasks) in
+    let printed = printed_rows s rows in
+    (λ i. is i ++ texts_by_task s tasks i)
+    ∙ append_assoc (about 0 (length s) bound) (counts (length printed) (count_by is_confirmed_row printed)) (flat_map row_text printed)
 
 pub not_computed : (s : Trace) (bound : ℕ) (refused : OfflineRefused) → IsNotComputed refused → IsOfflineRefusal s bound refused
 not_computed s bound (Unlawful first) h = absurd h

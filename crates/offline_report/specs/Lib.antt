@@ -1,2 +1,2 @@
 pub mod Offline
-pub mod RowTexts
+pub mod TaskRows

@@ -1,5 +1,5 @@
 -- The report on a whole list of events.
-use Rattle.std.specs.Prelude.{◌≡◌, ℕ, ◌<◌, ◌≤◌, ◌-◌, ◌^◌, List, length, map, slice_get, sum_by, count_by, true, Option, Some, MatchOption, Result, Ok, Err, Contains, IfOk, MatchResult}
+use Rattle.std.specs.Prelude.{◌≡◌, ℕ, ◌<◌, ◌≤◌, ◌-◌, ◌^◌, List, ◌++◌, length, map, slice_get, sum_by, count_by, true, Option, Some, MatchOption, Result, Ok, Err, Contains, IfOk, MatchResult}
 use Rattle.std.specs.Global.{Vec}
 use Rattle.std.specs.List.{All, AllZip, flat_map, range_with_len}
 use Rattle.trace_model.specs.declared.limits.TheConstants.{MAX_REPORT, MAX_CYCLES}
@@ -10,10 +10,11 @@ use Rattle.trace_model.specs.Theory.Rows.{Row, AreRows, IsRow}
 use Rattle.trace_model.specs.Theory.Cycles.{IsCycle}
 use Rattle.wellformed.specs.FirstUnlawful.{IsFirstUnlawful}
 use Rattle.reports.specs.Printed.{PrintedRow, with_dependencies}
-use Rattle.reports.specs.Text.{report, row_text, is_confirmed_row}
+use Rattle.reports.specs.Text.{about, counts, report, row_text, is_confirmed_row}
 use Rattle.cycle_search.specs.CycleSearch.{AreSome, CycleFrom, MoreThan}
 use Rattle.findings.specs.Collecting.{AreRowsOfCycles, AreSomeRows}
 use Rattle.offline_report.specs.declared.parts.Part.{Part}
+use Rattle.offline_report.specs.declared.parts.ReportRows.{ReportRows}
 use Rattle.offline_report.specs.declared.refused.OfflineRefused.{OfflineRefused}
 use Rattle.offline_report.specs.declared.refused.OfflineRefused.TheVariants.{Unlawful, TooLong, TooManyCycles, NoMemory}
 
@@ -72,22 +73,28 @@ IsNotComputed TooLong = ⊥
 IsNotComputed TooManyCycles = ⊥
 IsNotComputed NoMemory = Unit {0}
 
--- The text of these rows, and the numbers of rows and of confirmed rows.
-pub record HasRows (rows : List PrintedRow) (written : List ℕ) (count certain : ℕ) : Type 0 where
-  pub text : written ≡ flat_map row_text rows
-  pub cycles : count ≡ length rows
+-- The number of bytes of a text. It is exact if it is not more than those of the longest report.
+pub record IsSize (n : ℕ) (text : List ℕ) : Type 0 where
+  pub least : n ≤ length text
+  pub exact : n ≤ MAX_REPORT → n ≡ length text
+
+-- These rows without the dependencies of their members, the number of bytes of their texts, and the
+-- number of confirmed rows.
+pub record HasRows (rows : List PrintedRow) (kept : List Row) (size certain : ℕ) : Type 0 where
+  pub plain : kept ≡ map (λ p. p.row) rows
+  pub bytes : IsSize size (flat_map row_text rows)
   pub confirmed : certain ≡ count_by is_confirmed_row rows
 
--- The text of a part, and its length.
-abbrev pub part_text : Part → List ℕ
-part_text part = part.text.items
+-- The rows of a part, and the number of bytes of their texts.
+abbrev pub part_rows : Part → List Row
+part_rows part = part.rows.items
 
 abbrev pub size_of : Part → ℕ
-size_of part = length (part_text part)
+size_of part = part.bytes
 
 -- The part of these rows.
 abbrev pub IsPartOf : List PrintedRow → Part → Type 0
-IsPartOf rows part = HasRows rows part.text.items part.cycles part.confirmed
+IsPartOf rows part = HasRows rows part.rows.items part.bytes part.confirmed
 
 -- The rows are some of the task, and all of them if the part is whole.
 pub record AreInPart (s : Trace) (bound task : ℕ) (rows : List PrintedRow) (part : Part) :
@@ -151,11 +158,40 @@ tasks_text tasks = flat_map (λ rows. flat_map row_text rows) tasks
 unfoldable pub tasks_report : ℕ → ℕ → List (List PrintedRow) → List ℕ
 tasks_report events bound tasks = report 0 events bound (flat_map (λ rows. rows) tasks)
 
--- The concatenation of the pieces.
-abbrev pub whole : List (Vec ℕ) → List ℕ
-whole pieces = flat_map (λ piece. piece.items) pieces
+-- The rows of each task.
+abbrev pub rows_by_task : List (Vec Row) → List (List Row)
+rows_by_task tasks = map (λ task. task.items) tasks
 
--- The pieces of this text, or `None` if it is too long.
-abbrev pub ArePiecesOf : List ℕ → Option (Vec (Vec ℕ)) → Type 0
-ArePiecesOf text written = MatchOption written (MAX_REPORT < length text)
-    (λ pieces. (whole pieces.items ≡ text) × (length text ≤ MAX_REPORT))
+-- The first line of the report of question 0 with these rows.
+abbrev pub first_line_of : ℕ → ℕ → List PrintedRow → List ℕ
+first_line_of events bound rows =
+    about 0 events bound ++ counts (length rows) (count_by is_confirmed_row rows)
+
+-- The rows of the trace, with the dependencies of their members.
+abbrev pub printed_rows : Trace → List Row → List PrintedRow
+printed_rows s rows = map (with_dependencies (dependencies s)) rows
+
+-- The text of rows of the trace.
+abbrev pub rows_text : Trace → List Row → List ℕ
+rows_text s rows = flat_map row_text (printed_rows s rows)
+
+-- The text of rows of the trace, task by task.
+abbrev pub tasks_rows_text : Trace → List (Vec Row) → List ℕ
+tasks_rows_text s tasks = flat_map (λ task. rows_text s task.items) tasks
+
+-- The rows of the report and its first line. The report is not too long.
+pub record IsReportRows (s : Trace) (bound : ℕ) (found : ReportRows) : Type 0 where
+  pub well_formed : IsWellFormed s
+  pub tasks : AreTasks s bound (rows_by_task found.tasks.items)
+  pub first_line : found.first_line.items ≡ first_line_of (length s) bound
+      (printed_rows s (flat_map (λ rows. rows) (rows_by_task found.tasks.items)))
+  pub short : length (report_of s bound (rows_by_task found.tasks.items)) ≤ MAX_REPORT
+
+-- The rows of the parts, and the first line of the report on them, or `None` if the report is too
+-- long.
+abbrev pub AreReportRowsOf : ℕ → ℕ → List (List PrintedRow) → Option ReportRows → Type 0
+AreReportRowsOf events bound tasks found =
+    MatchOption found (MAX_REPORT < length (tasks_report events bound tasks))
+    (λ r. (rows_by_task r.tasks.items ≡ map (λ rows. map (λ p. p.row) rows) tasks)
+    × (r.first_line.items ≡ first_line_of events bound (flat_map (λ rows. rows) tasks))
+    × (length (tasks_report events bound tasks) ≤ MAX_REPORT))

@@ -8,11 +8,14 @@
 mod gathering;
 mod opening;
 mod parts;
+mod printing;
 mod refused;
 mod reporting;
-mod row_texts;
+mod task_rows;
 mod tasks;
 
 pub use opening::Offline;
+pub use parts::ReportRows;
+pub use printing::RowPrinter;
 pub use refused::OfflineRefused;
 pub use reporting::{offline, offline_with};

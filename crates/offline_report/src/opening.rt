@@ -3,9 +3,10 @@ ghost use Rattle.std.specs.Prelude.{◌≡◌, length, IfOk, IfErr, OnOk};
 ghost use Rattle.std.specs.Arc.{arc_value};
 ghost use Rattle.trace_model.specs.Theory.Dependencies.{dependencies};
 ghost use Rattle.trace_model.specs.Theory.Lawful.{IsWellFormed};
-ghost use Rattle.offline_report.specs.Offline.{IsNotAdmitted, IsOfflineRefusal, IsReport, whole};
+ghost use Rattle.offline_report.specs.Offline.{IsNotAdmitted, IsOfflineRefusal, IsReport, IsReportRows};
 
-use crate::parts::{joined, report_pieces};
+use crate::parts::{ReportRows, report_rows};
+use crate::printing::report_text;
 use crate::refused::OfflineRefused;
 use crate::tasks::parts_of;
 use findings::{Analysis, Hold, Snapshot};
@@ -64,6 +65,17 @@ impl Offline {
         Ok(Offline { alloc, analysis })
     }
 
+    /// Returns the events with this analysis. Does not allocate.
+    pub fn of(alloc: Global, analysis: Arc<Analysis, Global>) -> Offline
+        ensures { result ≡ record {
+          question = 0;
+          bound = (arc_value analysis).bound;
+          events = (arc_value analysis).events;
+        } }
+    {
+        Offline { alloc, analysis }
+    }
+
     /// Returns the number of tasks: the number of dependencies of the events. Does not allocate.
     pub fn tasks(&self) -> u32
         ensures { result ≡ length (dependencies self.now.events) }
@@ -71,38 +83,46 @@ impl Offline {
         self.analysis.snapshot().tasks()
     }
 
-    /// Returns the report in pieces: their concatenation is exactly the report that a book would
-    /// give. As many threads as there are processors compute the tasks and write their texts. Each
-    /// task calls the hold, with question 0, when its rows are computed.
+    /// Returns the snapshot of the events. Does not allocate.
+    pub fn snapshot(&self) -> &Snapshot
+        ensures { result.now ≡ self.now.events }
+    {
+        let analysis: &Analysis = &self.analysis;
+        analysis.snapshot()
+    }
+
+    /// Returns the rows of the report that a book would give. As many threads as there are
+    /// processors compute the tasks. Each task calls the hold, with question 0, when its rows are
+    /// computed.
     ///
     /// # Errors
     /// If several tasks fail, the error is that of one of them.
-    /// - `TooLong` if the text is too long.
+    /// - `TooLong` if the text of the report is too long.
     /// - `NoMemory` if an allocation fails.
-    pub fn pieces<R: Threads + Sync, H: Hold + Sync>(
+    pub fn rows<R: Threads + Sync, H: Hold + Sync>(
         &self,
         rt: &R,
         hold: &H,
-    ) -> Result<Vec<Vec<u8>>, OfflineRefused>
-        ensures text { IfOk result
-            (λ pieces. IsReport self.now.events self.now.bound (whole pieces.items)) }
+    ) -> Result<ReportRows, OfflineRefused>
+        ensures rows { IfOk result (IsReportRows self.now.events self.now.bound) }
         ensures refused { IfErr result (IsOfflineRefusal self.now.events self.now.bound) }
     {
         let analysis: &Analysis = &self.analysis;
         let snapshot = analysis.snapshot();
         let length = snapshot.len() as u32;
         let parts = parts_of(rt, self.alloc, &self.analysis, snapshot.tasks(), hold)?;
-        match report_pieces(self.alloc, length, analysis.bound(), parts) {
-            Ok(Some(pieces)) => Ok(pieces),
+        match report_rows(self.alloc, length, analysis.bound(), parts) {
+            Ok(Some(found)) => Ok(found),
             Ok(None) => Err(OfflineRefused::TooLong),
             Err(_) => Err(OfflineRefused::NoMemory),
         }
     }
 
-    /// Returns the report as one text. See [`Offline::pieces`].
+    /// Returns the report as one text. See [`Offline::rows`]. Part of the public API; not called by
+    /// the program.
     ///
     /// # Errors
-    /// Those of [`Offline::pieces`].
+    /// Those of [`Offline::rows`].
     pub fn report<R: Threads + Sync, H: Hold + Sync>(
         &self,
         rt: &R,
@@ -111,8 +131,8 @@ impl Offline {
         ensures text { IfOk result (λ text. IsReport self.now.events self.now.bound text.items) }
         ensures refused { IfErr result (IsOfflineRefusal self.now.events self.now.bound) }
     {
-        let pieces = self.pieces(rt, hold)?;
-        match joined(self.alloc, &pieces) {
+        let found = self.rows(rt, hold)?;
+        match report_text(self.alloc, self.snapshot(), found) {
             Ok(text) => Ok(text),
             Err(_) => Err(OfflineRefused::NoMemory),
         }

@@ -1,22 +1,40 @@
 //! The part of each task in the report.
-ghost use Rattle.std.specs.Prelude.{◌≡◌, ◌+◌, ◌<◌, ◌≤◌, ◌^◌, ◌++◌, List, [], true, false, sum_by, IfOk, IsTrue, MatchOption};
-ghost use Rattle.std.specs.List.{All, AllZip, flat_map};
+ghost use Rattle.std.specs.Prelude.{◌≡◌, ◌+◌, ◌<◌, ◌≤◌, ◌^◌, List, [], length, map, true, false, sum_by, IfOk, IsTrue, MatchOption};
+ghost use Rattle.std.specs.List.{All, AllZip};
 ghost use Rattle.trace_model.specs.declared.limits.TheConstants.{MAX_REPORT};
 ghost use Rattle.reports.specs.Printed.{PrintedRow};
-ghost use Rattle.offline_report.specs.Offline.{ArePiecesOf, IsPartOf, size_of, tasks_report, part_text, whole};
+ghost use Rattle.offline_report.specs.Offline.{AreReportRowsOf, IsPartOf, part_rows, rows_by_task, size_of};
 
-use reports::head_text;
+use reports::{BareRow, head_text};
 use std::alloc::Global;
 use trace_model::{Bound, MAX_REPORT, NoMemory};
 
-/// Rows of a task in the report: their text, and the numbers of rows and of confirmed rows.
+/// Rows of a task in the report, without the dependencies of their members.
 #[derive(Drop)]
 pub(crate) struct Part {
-    pub(crate) text: Vec<u8>,
-    pub(crate) cycles: u64,
+    pub(crate) rows: Vec<BareRow>,
+    /// The number of bytes of their texts.
+    pub(crate) bytes: u64,
+    /// The number of bytes of the longest one.
+    pub(crate) longest: u64,
+    /// The number of confirmed rows.
     pub(crate) confirmed: u64,
     /// Whether these are all rows of the task.
     pub(crate) is_whole: bool,
+}
+
+/// The rows of a report, with its first line. They are without the dependencies of their members,
+/// which [`RowPrinter`](crate::RowPrinter) takes from the snapshot.
+#[derive(Drop)]
+pub struct ReportRows {
+    /// The first line, with its end.
+    pub first_line: Vec<u8>,
+    /// The rows of each task, in the order of the tasks.
+    pub tasks: Vec<Vec<BareRow>>,
+    /// The number of bytes of the texts of all rows, as a hint for reserving memory.
+    pub bytes: u64,
+    /// The number of bytes of the longest one, as a hint for reserving memory.
+    pub longest: u64,
 }
 
 impl Part {
@@ -26,8 +44,9 @@ impl Part {
         ensures whole { result.is_whole ≡ false }
     {
         Part {
-            text: Vec::new(alloc),
-            cycles: 0,
+            rows: Vec::new(alloc),
+            bytes: 0,
+            longest: 0,
             confirmed: 0,
             is_whole: false,
         }
@@ -41,7 +60,7 @@ fn after_parts(parts: &[Part]) -> Option<u64>
 {
     let mut left = MAX_REPORT as u64;
     for part in parts {
-        left = left.checked_sub(part.text.len() as u64)?;
+        left = left.checked_sub(part.bytes)?;
     }
     Some(left)
 }
@@ -62,10 +81,10 @@ pub(crate) fn are_too_long(parts: &[Part]) -> bool
 
 /// Returns the number of rows of the parts.
 fn cycles_in(parts: &[Part]) -> u64
-    requires { sum_by (λ part. part.cycles) parts.now < 2 ^ 64 }
-    ensures { result ≡ sum_by (λ part. part.cycles) parts.now }
+    requires { sum_by (λ part. length (part_rows part)) parts.now < 2 ^ 64 }
+    ensures { result ≡ sum_by (λ part. length (part_rows part)) parts.now }
 {
-    parts.iter().map(|part| part.cycles).sum()
+    parts.iter().map(|part| part.rows.len() as u64).sum()
 }
 
 /// Returns the number of confirmed rows of the parts.
@@ -76,66 +95,57 @@ fn confirmed_among(parts: &[Part]) -> u64
     parts.iter().map(|part| part.confirmed).sum()
 }
 
-/// Returns the head and the texts of the parts, in order.
+/// Returns the number of bytes of the longest text of a row.
+fn longest_of(parts: &[Part]) -> u64 {
+    parts
+        .iter()
+        .fold(0, |most: u64, part| most.max(part.longest))
+}
+
+/// Returns the rows of each part, in order.
 ///
 /// # Errors
 /// `NoMemory` if an allocation fails.
-fn in_pieces(alloc: Global, head: Vec<u8>, parts: Vec<Part>) -> Result<Vec<Vec<u8>>, NoMemory>
-    ensures { IfOk result (λ pieces. whole pieces.items ≡ head.items ++
-        flat_map part_text parts.items) }
+fn rows_of_parts(alloc: Global, parts: Vec<Part>) -> Result<Vec<Vec<BareRow>>, NoMemory>
+    ensures { IfOk result (λ tasks. rows_by_task tasks.items ≡ map part_rows parts.items) }
 {
-    let mut pieces = Vec::with_capacity(alloc, parts.len() + 1)?;
-    pieces.push_reserved(head);
+    let mut tasks = Vec::with_capacity(alloc, parts.len())?;
     for part in parts {
-        pieces.push_reserved(part.text);
+        tasks.push_reserved(part.rows);
     }
-    Ok(pieces)
+    Ok(tasks)
 }
 
-/// Returns the report of question 0 with this bound on the first `events` events, in pieces, or
+/// Returns the rows of the report of question 0 with this bound on the first `events` events, or
 /// `None` if it has more than `MAX_REPORT` bytes.
 ///
 /// # Errors
 /// `NoMemory` if an allocation fails.
-pub(crate) fn report_pieces(
+pub(crate) fn report_rows(
     alloc: Global,
     events: u32,
     bound: Bound,
     parts: Vec<Part>,
-) -> Result<Option<Vec<Vec<u8>>>, NoMemory>
+) -> Result<Option<ReportRows>, NoMemory>
     requires { (tasks : List (List PrintedRow)) × AllZip IsPartOf tasks parts.items }
     ensures { IfOk result
-        (λ written. (tasks : List (List PrintedRow)) → AllZip IsPartOf tasks parts.items →
-        ArePiecesOf (tasks_report events bound tasks) written) }
+        (λ found. (tasks : List (List PrintedRow)) → AllZip IsPartOf tasks parts.items →
+        AreReportRowsOf events bound tasks found) }
 {
     let Some(rest) = after_parts(&parts) else {
         return Ok(None);
     };
-    let head = head_text(
-        alloc,
-        0,
-        events,
-        bound,
-        cycles_in(&parts),
-        confirmed_among(&parts),
-    )?;
-    if rest < head.len() as u64 {
+    let (cycles, confirmed) = (cycles_in(&parts), confirmed_among(&parts));
+    let first_line = head_text(alloc, 0, events, bound, cycles, confirmed)?;
+    if rest < first_line.len() as u64 {
         return Ok(None);
     }
-    let pieces = in_pieces(alloc, head, parts)?;
-    Ok(Some(pieces))
-}
-
-/// Returns the pieces as one text.
-///
-/// # Errors
-/// `NoMemory` if an allocation fails.
-pub(crate) fn joined(alloc: Global, pieces: &[Vec<u8>]) -> Result<Vec<u8>, NoMemory>
-    ensures { IfOk result (λ text. text.items ≡ whole pieces.now) }
-{
-    let mut text = Vec::new(alloc);
-    for piece in pieces {
-        text.extend_from_slice(piece)?;
-    }
-    Ok(text)
+    let longest = longest_of(&parts);
+    let tasks = rows_of_parts(alloc, parts)?;
+    Ok(Some(ReportRows {
+        first_line,
+        tasks,
+        bytes: MAX_REPORT as u64 - rest,
+        longest,
+    }))
 }

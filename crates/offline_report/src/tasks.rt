@@ -9,12 +9,10 @@ ghost use Rattle.offline_report.specs.Offline.{AreAllParts, ArePartsWithin, IsTa
 use crate::gathering::{Computes, gather};
 use crate::parts::{Part, are_too_long, are_whole};
 use crate::refused::OfflineRefused;
-use crate::row_texts::{EarlyEnd, RowTexts};
+use crate::task_rows::{EarlyEnd, TaskRows};
 use findings::{Analysis, Hold, Job, RowsRefused};
-use reports::TextBuffer;
 use std::alloc::{AllocError, Global};
 use std::marker::{Brand, PhantomData};
-use std::mem;
 use std::sync::Arc;
 use std::sync::atomic::{AtomicBool, AtomicU64, Ordering};
 use std::thread::Threads;
@@ -44,17 +42,15 @@ impl About for Brand {
     ghost limit = { 0 };
 }
 
-/// What the tasks of one piece share: their job, if there is one, and an empty buffer for their
-/// texts. The type says that the job is for the named question.
+/// What the tasks of one piece share: their job, if there is one. The type says that it is for the
+/// named question.
 #[derive(Drop)]
 struct Piece<A: About> {
     alloc: Global,
     job: Option<Job>,
-    buffer: TextBuffer,
     name: PhantomData<A>,
     ghost about: { IfSome job (λ job. (job.events ≡ A.events)
         × (job.bound ≡ A.bound)) } by { Prim.hlevel props },
-    ghost empty: { buffer ≡ [] },
 }
 
 impl<A: About> Piece<A> {
@@ -71,7 +67,6 @@ impl<A: About> Piece<A> {
         Piece {
             alloc,
             job,
-            buffer: TextBuffer::new(alloc),
             name: PhantomData,
         }
     }
@@ -94,15 +89,10 @@ impl<A: About> Piece<A> {
         let Some(job) = &mut self.job else {
             return Err(OfflineRefused::NoMemory);
         };
-        let buffer = mem::replace(&mut self.buffer, TextBuffer::new(self.alloc));
-        match job.collect(task, RowTexts::new(buffer, written, limit)) {
-            Ok(mut texts) => {
+        match job.collect(task, TaskRows::new(self.alloc, written, limit)) {
+            Ok(mut rows) => {
                 hold.hold(QUESTION, task);
-                let Ok(part) = texts.part(true) else {
-                    return Err(OfflineRefused::NoMemory);
-                };
-                self.buffer = texts.buffer;
-                Ok(part)
+                Ok(rows.part(true))
             }
             Err(RowsRefused::Refused(EarlyEnd::Over(part))) => Ok(part),
             Err(_) => Err(OfflineRefused::NoMemory),

@@ -52,8 +52,8 @@ impl<
     H: Hold + Sync,
     L: Log + Sync,
 > ServerTasks for DeskTasks<'a, N, R, H, L> {
-    /// The worker sleeps while its turns have nothing to do, longer if they fail for lack of memory.
-    /// After a search that was paused it takes the next turn at once.
+    /// The worker sleeps while its turns have nothing to do, longer if they fail for lack of
+    /// memory. After a search that was paused it takes the next turn at once.
     fn work(&self) {
         let Ok(desk) = Arc::try_clone(self.desk) else {
             return;

@@ -22,7 +22,8 @@ Appends room old text result new =
     MatchResult result (λ _. AppendsText room old text new) (λ _. Lacks room old text)
 
 -- What a sink keeps that skips the first 2^64 bytes and keeps 4,096 after them: how many bytes are
--- still to be skipped, and the bytes. A text from an index on is a text after that many fewer bytes.
+-- still to be skipped, and the bytes. A text from an index on is a text after that many fewer
+-- bytes.
 pub record KeepsWindow (skip : ℕ) (kept taken : List ℕ) : Type 0 where
   pub left : skip ≡ 2 ^ 64 - length taken
   pub bytes : kept ≡ take 4096 (drop (2 ^ 64) taken)

@@ -13,11 +13,12 @@ use std::marker::Model;
 use std::mem;
 use trace_model::NoMemory;
 
-/// The least length of a run that is copied from the cache.
-const LONG_RUN: usize = 16;
+/// The least number of bytes of a text for each number in the cache, so that a cache takes less
+/// memory than its text.
+const BYTES_FOR_NUMBER: u64 = 16;
 
-/// A buffer in which a text is written, with a cache of small numbers in decimal that is kept from
-/// one text to the next. Contracts see it as the text.
+/// A buffer in which a text is written, with a cache of small numbers in decimal. Contracts see it
+/// as the text.
 pub struct TextBuffer {
     alloc: Global,
     pub(crate) text: Vec<u8>,
@@ -57,16 +58,27 @@ impl TextBuffer {
         }
     }
 
-    /// Begins a text, with memory for `room` bytes.
+    /// Returns an empty buffer with memory for `room` bytes. Runs of places of a trace with
+    /// `events` events are copied from the cache, if all texts together have enough bytes for one.
     ///
     /// # Errors
     /// `NoMemory` if an allocation fails.
-    pub(crate) fn begin(&mut self, room: usize) -> Result<(), NoMemory>
-        requires { room < 2 ^ 63 }
-        ensures { OnOk result (self.new ≡ []) }
+    pub fn with_room(
+        alloc: Global,
+        room: u32,
+        events: u32,
+        bytes: u64,
+    ) -> Result<TextBuffer, NoMemory>
+        ensures { IfOk result (λ buffer. buffer ≡ []) }
     {
-        self.text = Vec::with_capacity(self.alloc, room)?;
-        Ok(())
+        let cached = (bytes / BYTES_FOR_NUMBER).min(u64::from(events));
+        let numeral_cache = NumeralCache::up_to(alloc, cached as u32)?;
+        Ok(TextBuffer {
+            alloc,
+            text: Vec::with_capacity(alloc, room as usize)?,
+            digits: Buffer::new(),
+            numeral_cache,
+        })
     }
 
     /// Returns the text and leaves the buffer empty.
@@ -76,11 +88,18 @@ impl TextBuffer {
         mem::replace(&mut self.text, Vec::new(self.alloc))
     }
 
-    /// Returns the number of bytes of the text. Does not allocate.
-    pub fn len(&self) -> usize
-        ensures { result ≡ length self.now }
+    /// Returns the bytes of the text. Does not allocate.
+    pub fn bytes(&self) -> &[u8]
+        ensures { result.now ≡ self.now }
     {
-        self.text.len()
+        self.text.as_slice()
+    }
+
+    /// Empties the buffer, which keeps its memory. Does not allocate.
+    pub fn clear(&mut self)
+        ensures { self.new ≡ [] }
+    {
+        self.text.clear();
     }
 
     /// Appends the text of a row.
@@ -91,21 +110,6 @@ impl TextBuffer {
         ensures { OnOk result (self.new ≡ self.old ++ row_text row.now) }
     {
         write_row(self, row)
-    }
-
-    /// Returns the text, in memory of exactly its size, and empties the buffer, which keeps its own
-    /// memory.
-    ///
-    /// # Errors
-    /// `NoMemory` if an allocation fails; the buffer is unchanged.
-    pub fn take_text(&mut self) -> Result<Vec<u8>, NoMemory>
-        ensures text { IfOk result (λ text. text.items ≡ self.old) }
-        ensures empty { OnOk result (self.new ≡ []) }
-    {
-        let mut text = Vec::with_capacity(self.alloc, self.text.len())?;
-        text.extend_from_slice(&self.text)?;
-        self.text.clear();
-        Ok(text)
     }
 
     /// Appends consecutive numbers one by one.
@@ -119,24 +123,6 @@ impl TextBuffer {
     {
         let first = first as usize;
         append_run(&mut self.text, &mut self.digits, first, first + count)
-    }
-
-    /// Appends consecutive numbers by one copy from the cache, which is extended first if
-    /// necessary.
-    ///
-    /// # Errors
-    /// `NoMemory` if an allocation fails.
-    fn put_cached(&mut self, first: u32, count: usize) -> Result<(), NoMemory>
-        requires { first + count ≤ 2 ^ 32 }
-        ensures { OnOk result
-            (self.new ≡ self.old ++ run_text first count) }
-    {
-        let known = mem::replace(&mut self.numeral_cache, NumeralCache::new(self.alloc));
-        let numeral_cache = known.up_to(first as usize + count)?;
-        self.text
-            .extend_from_slice(numeral_cache.run(first, count))?;
-        self.numeral_cache = numeral_cache;
-        Ok(())
     }
 }
 
@@ -156,11 +142,11 @@ impl Sink for TextBuffer {
         append_number(&mut self.text, &mut self.digits, before, number)
     }
 
-    /// The cache grows by at most twice the number of numbers that are appended.
     fn put_run(&mut self, first: u32, count: usize) -> Result<(), NoMemory> {
-        let is_near = (first as usize).saturating_sub(self.numeral_cache.count) <= count;
-        if is_near && count >= LONG_RUN {
-            self.put_cached(first, count)
+        if first as usize + count <= self.numeral_cache.count {
+            self.text
+                .extend_from_slice(self.numeral_cache.run(first, count))?;
+            Ok(())
         } else {
             self.put_each(first, count)
         }

@@ -20,8 +20,8 @@ mod sink;
 mod write;
 
 pub use buffer::TextBuffer;
-pub use measure::confirmed_in;
+pub use measure::{confirmed_in, row_size};
 pub use piece::Piece;
 pub use report::{ReportStart, TextRefused, begin_report, head_text, is_too_long, report_text};
-pub use row::{Found, Row};
+pub use row::{BareRow, Found, Row};
 pub use row_cursor::RowCursor;

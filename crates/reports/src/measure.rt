@@ -1,12 +1,13 @@
 //! Measures a text before it is written.
 
-ghost use Rattle.std.specs.Prelude.{◌≡◌, ◌<◌, ◌≤◌, ◌^◌, ◌+◌, length, [], count_by, sum_by, MatchResult};
+ghost use Rattle.std.specs.Prelude.{◌≡◌, ◌<◌, ◌≤◌, ◌^◌, ◌+◌, length, [], count_by, min, sum_by, MatchResult};
 ghost use Rattle.trace_model.specs.declared.limits.TheConstants.{MAX_REPORT};
-ghost use Rattle.reports.specs.Text.{is_confirmed_row};
+ghost use Rattle.reports.specs.Text.{is_confirmed_row, row_text};
 
 use crate::row::Row;
 use crate::run_measure::{RunMeasure, digits};
 use crate::sink::Sink;
+use crate::write::write_row;
 use trace_model::MAX_REPORT;
 
 /// The text has more than `MAX_REPORT` bytes.
@@ -67,6 +68,18 @@ impl Sink for Counter {
     fn put_run(&mut self, first: u32, count: usize) -> Result<(), TooLong> {
         let bytes = self.run_measure.run(first, count);
         self.count(bytes)
+    }
+}
+
+/// Returns the number of bytes of the text of a row, or `MAX_REPORT + 1` if it has more than
+/// `MAX_REPORT`. Does not allocate.
+pub fn row_size(row: &Row) -> u64
+    ensures { result ≡ min (length (row_text row.now)) (MAX_REPORT + 1) }
+{
+    let mut counter = Counter::new();
+    match write_row(&mut counter, row) {
+        Ok(()) => MAX_REPORT as u64 - counter.left,
+        Err(TooLong) => MAX_REPORT as u64 + 1,
     }
 }
 

@@ -4,7 +4,7 @@
 //! The places of a witness are mostly consecutive. Formatting each number on its own takes about
 //! eight times the processor time.
 
-ghost use Rattle.std.specs.Prelude.{◌≡◌, ◌+◌, ◌-◌, ◌++◌, ◌≤◌, ◌^◌, decimal, IfOk, OnOk};
+ghost use Rattle.std.specs.Prelude.{◌≡◌, ◌+◌, ◌-◌, ◌++◌, ◌≤◌, ◌^◌, decimal, OnOk};
 ghost use Rattle.reports.specs.Text.{run_text};
 
 use crate::run_measure::RunMeasure;
@@ -64,20 +64,16 @@ impl NumeralCache {
         }
     }
 
-    /// Returns the cache, extended to at least `count` numbers.
+    /// Returns the cache of the numbers below `count`.
     ///
     /// # Errors
-    /// `NoMemory` if an allocation fails; the cache is dropped.
-    pub(crate) fn up_to(self, count: usize) -> Result<NumeralCache, NoMemory>
-        requires { count ≤ 2 ^ 32 }
-        ensures { IfOk result (λ numeral_cache. count ≤ numeral_cache.count) }
-    {
-        let NumeralCache { text, count: known } = self;
-        let mut text = text;
-        append_run(&mut text, &mut Buffer::new(), known, count)?;
+    /// `NoMemory` if an allocation fails.
+    pub(crate) fn up_to(alloc: Global, count: u32) -> Result<NumeralCache, NoMemory> {
+        let mut text = Vec::new(alloc);
+        append_run(&mut text, &mut Buffer::new(), 0, count as usize)?;
         Ok(NumeralCache {
             text,
-            count: known.max(count),
+            count: count as usize,
         })
     }
 

@@ -108,8 +108,7 @@ pub fn report_text(
 {
     let most = bound.get();
     let plan = plan_of(question, events, most, tasks)?;
-    let mut buffer = TextBuffer::new(alloc);
-    buffer.begin(plan.length as usize)?;
+    let mut buffer = TextBuffer::with_room(alloc, plan.length as u32, events, plan.length)?;
     write_about(&mut buffer, question, events, most)?;
     write_counts(&mut buffer, plan.cycles, plan.confirmed)?;
     write_tasks(&mut buffer, tasks)?;

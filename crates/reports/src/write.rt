@@ -100,8 +100,8 @@ pub(crate) fn write_placed<T: Sink>(
     Ok(())
 }
 
-/// Writes the verdict of a row, and the lines of its members. For a confirmed row it begins the line
-/// of the witness.
+/// Writes the verdict of a row, and the lines of its members. For a confirmed row it begins the
+/// line of the witness.
 pub(crate) fn write_verdict<T: Sink>(
     text: &mut T,
     dependencies: &[Dependency],

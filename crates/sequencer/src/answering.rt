@@ -1,5 +1,5 @@
-//! Answers and status of questions. An answer has two parts: the rows, which the book shares, and the
-//! text, which is printed from them without the book, as a whole or piece by piece.
+//! Answers and status of questions. An answer has two parts: the rows, which the book shares, and
+//! the text, which is printed from them without the book, as a whole or piece by piece.
 
 ghost use Rattle.std.specs.Prelude.{◌≡◌, ℕ, List, Vec, Some, map, flat_map, IfErr, IfOk};
 ghost use Rattle.std.specs.declared.alloc.Global.{Global};

@@ -90,8 +90,8 @@ fn write_rows<R: Wait, K: Sink>(rt: &R, sink: &mut K, rows: RowText) -> Result<(
     unreachable!()
 }
 
-/// Writes a report: both slices, and then the text of its rows piece by piece; or a prefix of all if
-/// a write fails. Does not allocate.
+/// Writes a report: both slices, and then the text of its rows piece by piece; or a prefix of all
+/// if a write fails. Does not allocate.
 fn write_pieces<R: Wait, K: Sink>(
     rt: &R,
     sink: &mut K,

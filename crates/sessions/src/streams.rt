@@ -237,7 +237,8 @@ impl<O: Write + Drop> WriteSink<O> {
 }
 
 impl<O: Write + Drop> Sink for WriteSink<O> {
-    ghost written = { λ s. append_known (O.contents s.inner) (buffered_bytes s.buffer s.start s.end) };
+    ghost written = { λ s.
+        append_known (O.contents s.inner) (buffered_bytes s.buffer s.start s.end) };
 
     ghost sent = { λ s. O.contents s.inner };
 
@@ -259,5 +260,6 @@ impl<O: Write + Drop> Sink for WriteSink<O> {
         }
     }
 
-    ghost begins = { λ s. sent_begins (O.contents s.inner) (buffered_bytes s.buffer s.start s.end) };
+    ghost begins = { λ s.
+        sent_begins (O.contents s.inner) (buffered_bytes s.buffer s.start s.end) };
 }

@@ -1,6 +1,7 @@
 -- The depths of locks, as an index stores them.
-use Rattle.std.specs.Prelude.{◌≡◌, ℕ, suc, ◌-◌, ◌<◌, ◌≤◌, nat_eq, List, length, take, slice_get, Option, Some, IsSome, unwrap_or, if◌then◌else◌}
+use Rattle.std.specs.Prelude.{◌≡◌, ℕ, suc, ◌-◌, ◌<◌, ◌≤◌, nat_eq, List, length, take, slice_get, Option, Some, None, IsSome, unwrap_or, if◌then◌else◌}
 use Rattle.std.specs.Map.{lookup}
+use Rattle.number_map.specs.Positions.{HasNumberAt}
 use Rattle.trace_model.specs.declared.traces.event.Event.{Event}
 use Rattle.trace_model.specs.declared.traces.event.Op.{Op}
 use Rattle.trace_model.specs.declared.traces.event.Op.TheVariants.{Acquire, Release}
@@ -29,6 +30,13 @@ abbrev pub HasOpEntry : DepthTable → Op → Type 0
 HasOpEntry table (Acquire l) = HasDepthEntry table l
 HasOpEntry table (Release l) = HasDepthEntry table l
 HasOpEntry table _ = Unit {0}
+
+-- The lock that the operation names is at the position, or has no entry if there is no position. An
+-- operation that names no lock has no position.
+abbrev pub HasOpEntryAt : DepthTable → Op → Option ℕ → Type 0
+HasOpEntryAt table (Acquire l) position = HasNumberAt table l position
+HasOpEntryAt table (Release l) position = HasNumberAt table l position
+HasOpEntryAt table _ position = position ≡ None
 
 -- The depth of the lock that the operation names, 0 if it names none.
 abbrev pub op_depth : (ℕ → ℕ) → Op → ℕ
@@ -61,12 +69,13 @@ abbrev pub AreDepths : Trace → ℕ → DepthTable → Type 0
 AreDepths s n table = (l : ℕ) → lock_depth table l ≡ owner_depth (owner (take n s) l)
 
 -- The table has the depths after the first `noted` rows, and the reserved row has the depth of its
--- event.
+-- event and the position of its lock.
 pub record IsDeep (rows : List IndexRow) (table : DepthTable) (noted : ℕ)
     (next : Option Ready) : Type 0 where
   pub depths_are : AreDepths (trace_of rows) noted table
   pub within : noted ≤ length rows
   pub all : (r : Ready) → next ≡ Some r → noted ≡ length rows
   pub entry : (r : Ready) → next ≡ Some r → HasOpEntry table r.row.event.op
+  pub position : (r : Ready) → next ≡ Some r → HasOpEntryAt table r.row.event.op r.lock
   pub ready : (r : Ready) → next ≡ Some r →
       r.row.depth ≡ op_depth (λ l. owner_depth (owner (trace_of rows) l)) r.row.event.op

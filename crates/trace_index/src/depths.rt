@@ -1,8 +1,8 @@
 //! The depth of each lock.
-ghost use Rattle.std.specs.Prelude.{◌≡◌, ℕ, ◌+◌, ◌<◌, ◌≤◌, ◌^◌, length, OnOk, cond, nat_eq};
+ghost use Rattle.std.specs.Prelude.{◌≡◌, ℕ, ◌+◌, ◌<◌, ◌≤◌, ◌^◌, length, IfOk, OnOk};
 ghost use Rattle.trace_model.specs.declared.limits.TheConstants.{MAX_EVENTS};
 ghost use Rattle.trace_model.specs.Theory.Lawful.{IsWellFormed};
-ghost use Rattle.trace_index.specs.Depths.{lock_depth, op_depth, depth_noted, HasDepthEntry, HasOpEntry, IsShallow, AreDeep, AreDepths};
+ghost use Rattle.trace_index.specs.Depths.{lock_depth, op_depth, depth_noted, HasOpEntry, HasOpEntryAt, IsShallow, AreDeep, AreDepths};
 ghost use Rattle.trace_index.specs.Links.{trace_of};
 
 use crate::row::IndexRow;
@@ -11,6 +11,14 @@ use segments::Segments;
 use std::alloc::Global;
 use std::collections::hash_map::RandomState;
 use trace_model::{NoMemory, Op};
+
+/// The depth of the lock that an operation names, 0 if it names none, and the position of its entry
+/// in the table.
+#[derive(Clone, Copy)]
+pub(crate) struct DepthAt {
+    pub(crate) depth: u8,
+    pub(crate) position: Option<usize>,
+}
 
 /// The depth of each lock after the first `noted` rows. In a well-formed trace at most one thread
 /// holds a lock, so a lock has one depth. An index that `share` returned starts with no noted row;
@@ -33,55 +41,44 @@ impl Depths {
         }
     }
 
-    /// Returns the depth of a lock.
+    /// Reserves an entry for the lock that the operation names, and returns its depth and position.
     #[inline(always)]
-    fn of(&self, lock: u32) -> u8
-        ensures { result ≡ lock_depth self.now.table lock }
-    {
-        self.table.get(lock).unwrap_or(0)
-    }
-
-    /// Returns the depth of the lock that the operation names, 0 if it names none.
-    #[inline(always)]
-    pub(crate) fn before(&self, op: Op) -> u8
-        ensures { result ≡ op_depth (lock_depth self.now.table) op }
-    {
-        match op {
-            Op::Acquire(lock) | Op::Release(lock) => self.of(lock),
-            _ => 0,
-        }
-    }
-
-    /// Reserves an entry for the lock that the operation names.
-    #[inline(always)]
-    pub(crate) fn reserve(&mut self, op: Op) -> Result<(), NoMemory>
+    pub(crate) fn reserve(&mut self, op: Op) -> Result<DepthAt, NoMemory>
         ensures shown { (lock : ℕ) →
             lock_depth self.new.table lock ≡ lock_depth self.old.table lock }
         ensures noted { self.new.noted ≡ self.old.noted }
         ensures ok { OnOk result (HasOpEntry self.new.table op) }
+        ensures depth { IfOk result (λ at. at.depth ≡ op_depth (lock_depth self.new.table) op) }
+        ensures position { IfOk result (λ at. HasOpEntryAt self.new.table op at.position) }
     {
         match op {
-            Op::Acquire(lock) | Op::Release(lock) => self.table.reserve(lock, 0)?,
-            _ => {}
+            Op::Acquire(lock) | Op::Release(lock) => {
+                let position = self.table.reserve_position(lock, 0)?;
+                Ok(DepthAt {
+                    depth: self.table.get_at(position).unwrap_or(0),
+                    position: Some(position),
+                })
+            }
+            _ => Ok(DepthAt {
+                depth: 0,
+                position: None,
+            }),
         }
-        Ok(())
     }
 
-    /// Notes the next row: its operation, and the depth of its lock before it.
+    /// Notes the next row: its operation, the depth of its lock before it, and the position of the
+    /// lock.
     #[inline(always)]
-    pub(crate) fn record(&mut self, op: Op, depth: u8)
+    pub(crate) fn record(&mut self, op: Op, depth: u8, position: Option<usize>)
         requires entry { HasOpEntry self.old.table op }
+        requires position { HasOpEntryAt self.old.table op position }
         requires shallow { IsShallow op depth }
         requires few { self.old.noted + 1 < 2 ^ 64 }
         ensures depths { (lock : ℕ) → lock_depth self.new.table lock ≡
             depth_noted op depth lock (lock_depth self.old.table lock) }
         ensures noted { self.new.noted ≡ self.old.noted + 1 }
     {
-        match op {
-            Op::Acquire(lock) => self.table.set(lock, depth + 1),
-            Op::Release(lock) => self.table.set(lock, depth.saturating_sub(1)),
-            _ => {}
-        }
+        set_after(&mut self.table, op, depth, position);
         self.noted += 1;
     }
 
@@ -101,9 +98,29 @@ impl Depths {
             let Some(row) = rows.get(index) else {
                 unreachable!()
             };
-            self.reserve(row.event.op)?;
-            self.record(row.event.op, row.depth);
+            let at = self.reserve(row.event.op)?;
+            self.record(row.event.op, row.depth, at.position);
         }
         Ok(())
+    }
+}
+
+/// Sets the depth after the operation of the lock that it names, which is at the position. `depth`
+/// is the depth of the lock before it.
+#[inline(always)]
+fn set_after(table: &mut NumberMap<u8>, op: Op, depth: u8, position: Option<usize>)
+    requires entry { HasOpEntry table.old op }
+    requires position { HasOpEntryAt table.old op position }
+    requires shallow { IsShallow op depth }
+    ensures { (lock : ℕ) → lock_depth table.new lock ≡
+        depth_noted op depth lock (lock_depth table.old lock) }
+{
+    let Some(position) = position else {
+        return;
+    };
+    match op {
+        Op::Acquire(_) => table.set_at(position, depth + 1),
+        Op::Release(_) => table.set_at(position, depth.saturating_sub(1)),
+        _ => {}
     }
 }

@@ -1,32 +1,15 @@
-//! The position cache of an index: where the keys of recent events were found.
+//! The numbers of keys in the position caches of an index.
 
-use crate::places::Positions;
-use crate::row::{Key, object_key};
-use number_map::PositionCache;
-use trace_model::Event;
+use crate::row::Key;
 
-/// Returns the position at which `key` may be.
-pub(crate) fn candidate(cache: &PositionCache, key: Key) -> usize {
-    cache.candidate(cache_key(key))
-}
-
-/// Records the positions at which the keys of `event` were found.
+/// Returns the number of `key` in a cache. The four kinds of keys begin at different fifths of a
+/// cache of any size.
 #[inline(always)]
-pub(crate) fn record(cache: &mut PositionCache, event: &Event, positions: Positions) {
-    if let Some(position) = positions.thread {
-        cache.record(cache_key(Key::OfThread(event.thread)), position);
-    }
-    if let Some(position) = positions.object {
-        cache.record(cache_key(object_key(event.op)), position);
-    }
-}
-
-/// Returns the number of `key` in the cache. Threads, forks, locks and variables share no entry.
-fn cache_key(key: Key) -> u32 {
+pub(crate) fn cache_key(key: Key) -> u32 {
     match key {
-        Key::OfThread(thread) => thread % 32,
-        Key::ForkOf(thread) => 32 + thread % 32,
-        Key::AcquireOf(lock) => 64 + lock % 128,
-        Key::WriteOf(variable) => 192 + variable % 64,
+        Key::OfThread(thread) => thread,
+        Key::ForkOf(thread) => thread.wrapping_add(0x3333_3333),
+        Key::AcquireOf(lock) => lock.wrapping_add(0x6666_6666),
+        Key::WriteOf(variable) => variable.wrapping_add(0x9999_9999),
     }
 }

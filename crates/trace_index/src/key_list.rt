@@ -5,6 +5,7 @@ ghost use Rattle.trace_model.specs.declared.limits.TheConstants.{MAX_EVENTS};
 ghost use Rattle.trace_index.specs.Links.{matches as has_place, link_of, IsIndexRow, AreIndexRows, AreLastOf, trace_of};
 ghost use Rattle.trace_index.specs.Positions.{AreKeyPositions};
 
+use crate::last_places::LastPlaces;
 use crate::places::{Places, Positions, last_of};
 use crate::row::{IndexRow, Key, index_of, object_key};
 use segments::{Link, Linked, Segments, link_after};
@@ -50,14 +51,14 @@ pub(crate) fn row_after(
     rows: &Segments<IndexRow>,
     tail: &Places,
     positions: Positions,
-    older: &Places,
+    older: &LastPlaces,
     event: Event,
     depth: u8,
     place: Place,
 ) -> IndexRow
     requires rows { AreIndexRows rows.now.0 }
     requires positions { AreKeyPositions tail.now event positions }
-    requires last { AreLastOf (trace_of rows.now.0) (length rows.now.0) tail.now older.now }
+    requires last { AreLastOf (trace_of rows.now.0) (length rows.now.0) tail.now older.now.places }
     requires place { place ≡ length rows.now.0 }
     requires short { length rows.now.0 ≤ MAX_EVENTS }
     ensures event { result.event ≡ event }

@@ -7,19 +7,23 @@ ghost use Rattle.trace_index.specs.declared.row.Key.{Key as KeyValue};
 ghost use Rattle.trace_index.specs.Links.{same_key, AreLastPlaces};
 ghost use Rattle.trace_index.specs.SegmentTables.{AreSealed};
 
-use crate::places::{Places, record_all};
+use crate::key_cache::cache_key;
+use crate::places::{Places, last_near, record_all};
+use crate::row::Key;
 use crate::segment_tables::SegmentTable;
 use indexmap::IndexMap;
+use number_map::GrowingCache;
 use std::alloc::Global;
 use std::collections::hash_map::RandomState;
 use std::sync::Arc;
-use trace_model::NoMemory;
+use trace_model::{NoMemory, Place};
 
 /// The last place of each key in the first `noted` sealed segments. `follow` notes the other
 /// segments when memory for the next event is reserved.
 #[derive(Drop)]
 pub(crate) struct LastPlaces {
     pub(crate) places: Places,
+    pub(crate) cache: GrowingCache,
     pub(crate) noted: usize,
 }
 
@@ -31,8 +35,17 @@ impl LastPlaces {
     {
         LastPlaces {
             places: IndexMap::with_hasher(alloc, state),
+            cache: GrowingCache::new(alloc),
             noted: 0,
         }
+    }
+
+    /// Returns the last place of `key` in the noted segments.
+    #[inline(always)]
+    pub(crate) fn of(&self, key: Key) -> Option<Place>
+        ensures { result ≡ get same_key self.now.places key }
+    {
+        last_near(&self.places, self.cache.candidate(cache_key(key)), key)
     }
 
     /// Notes the sealed segments that are not noted yet.
@@ -46,7 +59,7 @@ impl LastPlaces {
         ensures ok { OnOk result (self.new.noted ≡ length sealed.now) }
     {
         for index in self.noted..sealed.len() {
-            record_all(&mut self.places, &sealed[index].last)?;
+            record_all(&mut self.places, &mut self.cache, &sealed[index].last)?;
             self.noted = index + 1;
         }
         Ok(())

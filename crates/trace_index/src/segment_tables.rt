@@ -14,6 +14,7 @@ use crate::places::{Places, Positions, last, record, reserve};
 use crate::releases::Releases;
 use crate::row::{IndexRow, Key};
 use indexmap::IndexMap;
+use number_map::PositionCache;
 use segments::SEGMENT;
 use std::alloc::{AllocError, Global};
 use std::collections::hash_map::RandomState;
@@ -56,9 +57,16 @@ impl SegmentTable {
         self.releases.reserve()
     }
 
-    /// Records one more place, with this row and these positions of its keys.
+    /// Records one more place, with this row and these positions of its keys. Caches the positions
+    /// of new keys.
     #[inline(always)]
-    pub(crate) fn record(&mut self, row: &IndexRow, positions: Positions, place: Place)
+    pub(crate) fn record(
+        &mut self,
+        cache: &mut PositionCache,
+        row: &IndexRow,
+        positions: Positions,
+        place: Place,
+    )
         requires positions { AreKeyPositions self.old.last row.now.event positions }
         requires room { HasPlaceRoom self.old }
         ensures last { (q : KeyValue) → get same_key self.new.last q ≡
@@ -67,7 +75,14 @@ impl SegmentTable {
         ensures releases { (a : ℕ) → release_in self.new.releases a ≡
             (if ends_acquire row.now a then Some place else release_in self.old.releases a) }
     {
-        record(&mut self.last, row.event, row.depth, positions, place);
+        record(
+            &mut self.last,
+            cache,
+            row.event,
+            row.depth,
+            positions,
+            place,
+        );
         self.releases.record(ended(row), place);
     }
 }

@@ -1,5 +1,6 @@
 -- The tables of the admission check and the events that they follow.
 use Rattle.std.specs.Prelude.{◌≡◌, ℕ, ◌<◌, ◌≤◌, length, Option, Some, None}
+use Rattle.number_map.specs.Positions.{HasNumberAt}
 use Rattle.trace_model.specs.declared.traces.event.Event.{Event}
 use Rattle.trace_model.specs.declared.traces.event.Op.{Op}
 use Rattle.trace_model.specs.declared.traces.event.Op.TheVariants.{Fork, Join, Acquire, Release}
@@ -8,6 +9,7 @@ use Rattle.trace_model.specs.Theory.Trace.{Trace, occurs}
 use Rattle.trace_model.specs.Theory.Held.{held_set}
 use Rattle.trace_model.specs.Theory.Holders.{owner}
 use Rattle.trace_model.specs.Theory.Lawful.{forks, refusal_of, IsWellFormed}
+use Rattle.wellformed.specs.declared.entries.Positions.{Positions}
 use Rattle.wellformed.specs.declared.tables.AdmissionTables.{AdmissionTables}
 use Rattle.wellformed.specs.Owners.{OwnerTable, owner_in, HasLock}
 use Rattle.wellformed.specs.Threads.{ThreadTable, thread_in, HasThread}
@@ -34,6 +36,13 @@ HasOpLock m (Acquire l) = HasLock m l
 HasOpLock m (Release l) = HasLock m l
 HasOpLock m _ = Unit {0}
 
+-- The lock that the operation names is at the position, or has no entry if there is no position. An
+-- operation that names no lock has no position.
+abbrev pub HasOpLockAt : OwnerTable → Op → Option ℕ → Type 0
+HasOpLockAt m (Acquire l) position = HasNumberAt m l position
+HasOpLockAt m (Release l) position = HasNumberAt m l position
+HasOpLockAt m _ position = position ≡ None
+
 -- Each thread and lock that the event names has an entry.
 pub record HasEntries (threads : ThreadTable) (owners : OwnerTable) (e : Event) : Type 0 where
   pub own : HasThread threads e.thread
@@ -43,6 +52,12 @@ pub record HasEntries (threads : ThreadTable) (owners : OwnerTable) (e : Event) 
 -- Memory is reserved for the event.
 abbrev pub HasAdmissionRoom : AdmissionTables → Event → Type 0
 HasAdmissionRoom tables e = HasEntries tables.threads tables.owners e
+
+-- The positions are those of the event's thread and of its lock.
+pub record ArePositions (tables : AdmissionTables) (e : Event) (positions : Positions)
+    : Type 0 where
+  pub thread : HasNumberAt tables.threads e.thread (Some positions.thread)
+  pub lock : HasOpLockAt tables.owners e.op positions.lock
 
 -- The events are well formed, and the tables are those of the events.
 pub record FollowEvents (tables : AdmissionTables) (events : Trace) : Type 0 where

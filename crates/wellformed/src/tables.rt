@@ -1,6 +1,6 @@
 //! The tables of the admission check.
 
-ghost use Rattle.std.specs.Prelude.{◌≡◌, ◌+◌, ◌<◌, ◌^◌, cond, length, None, [], ◌∷◌, ◌++◌, OnErr, OnOk};
+ghost use Rattle.std.specs.Prelude.{◌≡◌, ◌≢◌, ◌+◌, ◌<◌, ◌≤◌, ◌^◌, cond, length, None, [], ◌∷◌, ◌++◌, IfOk, OnErr, OnOk};
 ghost use Rattle.std.specs.Result.{result_err};
 ghost use Rattle.trace_model.specs.declared.limits.TheConstants.{MAX_EVENTS};
 ghost use Rattle.trace_model.specs.declared.traces.event.Event.{Event as EventValue};
@@ -8,13 +8,16 @@ ghost use Rattle.trace_model.specs.Theory.Trace.{Trace};
 ghost use Rattle.trace_model.specs.Theory.Held.{depth, held_set};
 ghost use Rattle.trace_model.specs.Theory.Holders.{depth_by, is_other_owner};
 ghost use Rattle.trace_model.specs.Theory.Lawful.{is_fork, held_by_other, op_refusal_of, refusal_of};
-ghost use Rattle.wellformed.specs.Tables.{FollowEvents, HasAdmissionRoom, IsLawfulForGate};
+ghost use Rattle.wellformed.specs.Owners.{owner_in, op_owner};
+ghost use Rattle.wellformed.specs.Threads.{thread_in};
+ghost use Rattle.wellformed.specs.Tables.{ArePositions, FollowEvents, HasAdmissionRoom, IsLawfulForGate};
 
 use crate::entries::{
-    depth_of, owner_of_op, record_lock, record_thread, reserve_lock, reserve_threads,
+    Positions, depth_of, lock_position, owner_at, owner_of_op, record_lock, record_thread,
+    reserve_lock, reserve_threads,
 };
-use crate::owners::{Owners, owner_of};
-use crate::threads::{Threads, thread_entry};
+use crate::owners::Owners;
+use crate::threads::{ThreadEntry, Threads, thread_at, thread_entry};
 use number_map::NumberMap;
 use std::alloc::Global;
 use std::hash::RandomState;
@@ -63,10 +66,29 @@ impl AdmissionTables {
         ensures { (s : Trace) → FollowEvents self.now s →
             result_err result ≡ refusal_of limit s event.now }
     {
+        let own = thread_entry(&self.threads, event.thread);
+        let was = owner_of_op(&self.owners, event.op);
+        self.check_entries(limit, event, own, was)
+    }
+
+    /// Tests whether `event` may follow, as `check` does. `own` is the state of its thread, and
+    /// `was` the owner of its lock.
+    #[inline(always)]
+    fn check_entries(
+        &self,
+        limit: usize,
+        event: &Event,
+        own: ThreadEntry,
+        was: Option<Owner>,
+    ) -> Result<(), Refusal>
+        requires own { own ≡ thread_in self.now.threads event.now.thread }
+        requires was { was ≡ op_owner self.now.owners event.now.op }
+        ensures { (s : Trace) → FollowEvents self.now s →
+            result_err result ≡ refusal_of limit s event.now }
+    {
         if self.count >= limit {
             return Err(Refusal::Full);
         }
-        let own = thread_entry(&self.threads, event.thread);
         if event.thread != 0 && !own.forked {
             return Err(Refusal::Unforked);
         }
@@ -76,8 +98,8 @@ impl AdmissionTables {
         match event.op {
             Op::Fork(child) => self.check_fork(event.thread, child),
             Op::Join(child) => self.check_join(event.thread, child),
-            Op::Acquire(lock) => self.check_acquire(event.thread, lock, own.held),
-            Op::Release(lock) => self.check_release(event.thread, lock),
+            Op::Acquire(lock) => self.check_acquire(event.thread, lock, was, own.held),
+            Op::Release(lock) => self.check_release(event.thread, lock, was),
             Op::Read(_) | Op::Write(_) => Ok(()),
         }
     }
@@ -114,13 +136,21 @@ impl AdmissionTables {
         Ok(())
     }
 
-    /// Tests an acquire of `lock` by `thread`, which holds `count` locks.
-    fn check_acquire(&self, thread: u32, lock: u32, count: u32) -> Result<(), Refusal>
+    /// Tests an acquire of `lock`, which has this owner, by `thread`, which holds `count` locks.
+    #[inline(always)]
+    fn check_acquire(
+        &self,
+        thread: u32,
+        lock: u32,
+        owner: Option<Owner>,
+        count: u32,
+    ) -> Result<(), Refusal>
+        requires { owner ≡ owner_in self.now.owners lock }
         ensures { (s : Trace) → FollowEvents self.now s →
             count ≡ length (held_set s (length s) thread) →
             result_err result ≡ op_refusal_of s thread (Op.Acquire lock) }
     {
-        let holder = self.holder(thread, lock);
+        let holder = self.holder(thread, lock, owner);
         if holder.depth as usize >= MAX_DEPTH {
             return Err(Refusal::TooNested);
         }
@@ -133,25 +163,29 @@ impl AdmissionTables {
         Ok(())
     }
 
-    /// Tests a release of `lock` by `thread`.
-    fn check_release(&self, thread: u32, lock: u32) -> Result<(), Refusal>
+    /// Tests a release of `lock`, which has this owner, by `thread`.
+    #[inline(always)]
+    fn check_release(&self, thread: u32, lock: u32, owner: Option<Owner>) -> Result<(), Refusal>
+        requires { owner ≡ owner_in self.now.owners lock }
         ensures { (s : Trace) → FollowEvents self.now s →
             result_err result ≡ op_refusal_of s thread (Op.Release lock) }
     {
-        if self.holder(thread, lock).depth == 0 {
+        if self.holder(thread, lock, owner).depth == 0 {
             return Err(Refusal::NotHeld);
         }
         Ok(())
     }
 
-    /// Returns how `thread` and others hold `lock`.
-    fn holder(&self, thread: u32, lock: u32) -> Holder
+    /// Returns how `thread` and others hold `lock`, which has this owner.
+    #[inline(always)]
+    fn holder(&self, thread: u32, lock: u32, owner: Option<Owner>) -> Holder
+        requires { owner ≡ owner_in self.now.owners lock }
         ensures depth { (s : Trace) → FollowEvents self.now s →
             result.depth ≡ depth s (length s) thread lock }
         ensures other { (s : Trace) → FollowEvents self.now s →
             result.other ≡ held_by_other s thread lock }
     {
-        holder_of(owner_of(&self.owners, lock), thread)
+        holder_of(owner, thread)
     }
 
     /// Reserves memory for `event`. The recorded events do not change. Reservations for other
@@ -168,8 +202,23 @@ impl AdmissionTables {
             HasAdmissionRoom self.new e }
         ensures wanting { OnErr result (¬ HasAdmissionRoom self.old event.now) }
     {
-        reserve_threads(&mut self.threads, event)?;
-        reserve_lock(&mut self.owners, event)
+        self.reserve_positions(event)?;
+        Ok(())
+    }
+
+    /// Reserves memory for `event` as `reserve` does, and returns the positions of its entries.
+    #[inline(always)]
+    fn reserve_positions(&mut self, event: &Event) -> Result<Positions, NoMemory>
+        ensures follow { (s : Trace) → FollowEvents self.old s → FollowEvents self.new s }
+        ensures ok { OnOk result (HasAdmissionRoom self.new event.now) }
+        ensures positions { IfOk result (ArePositions self.new event.now) }
+        ensures kept { (e : EventValue) → HasAdmissionRoom self.old e →
+            HasAdmissionRoom self.new e }
+        ensures wanting { OnErr result (¬ HasAdmissionRoom self.old event.now) }
+    {
+        let thread = reserve_threads(&mut self.threads, event)?;
+        let lock = reserve_lock(&mut self.owners, event)?;
+        Ok(Positions { thread, lock })
     }
 
     /// Records `event`. The event must be lawful, and memory must be reserved for it. Does not
@@ -181,11 +230,71 @@ impl AdmissionTables {
         ensures { (s : Trace) → FollowEvents self.old s → refusal_of MAX_EVENTS s event.now ≡ None →
             FollowEvents self.new (s ++ event.now ∷ []) }
     {
-        let was = owner_of_op(&self.owners, event.op);
-        record_thread(&mut self.threads, event, depth_of(was));
-        record_lock(&mut self.owners, event, was);
+        let Some(thread) = self.threads.position(event.thread) else {
+            unreachable!()
+        };
+        let lock = lock_position(&self.owners, event.op);
+        let (own, was) = (
+            thread_at(&self.threads, thread),
+            owner_at(&self.owners, lock),
+        );
+        self.record_at(event, Positions { thread, lock }, own, was);
+    }
+
+    /// Records `event` as `record` does. Its entries are at `positions`: `own` is the state of its
+    /// thread, and `was` the owner of its lock.
+    #[inline(always)]
+    fn record_at(
+        &mut self,
+        event: &Event,
+        positions: Positions,
+        own: ThreadEntry,
+        was: Option<Owner>,
+    )
+        requires room { HasAdmissionRoom self.old event.now }
+        requires positions { ArePositions self.old event.now positions }
+        requires own { own ≡ thread_in self.old.threads event.now.thread }
+        requires was { was ≡ op_owner self.old.owners event.now.op }
+        requires lawful { IsLawfulForGate self.old event.now }
+        ensures { (s : Trace) → FollowEvents self.old s → refusal_of MAX_EVENTS s event.now ≡ None →
+            FollowEvents self.new (s ++ event.now ∷ []) }
+    {
+        let depth = depth_of(was);
+        record_thread(&mut self.threads, event, positions.thread, own, depth);
+        record_lock(&mut self.owners, event, positions.lock, was);
         self.forks = forks_after(self.forks, event);
         self.count += 1;
+    }
+
+    /// Admits `event`: tests it as `check` does, and records it if it is lawful. The inner result
+    /// is that of the test. Looks up the event's thread and lock once. The tables must be those of
+    /// some events, and `limit` at most `MAX_EVENTS`.
+    ///
+    /// # Errors
+    ///
+    /// `NoMemory` if an allocation fails. The recorded events do not change then, nor if the event
+    /// is refused.
+    #[inline(always)]
+    pub fn admit(&mut self, limit: usize, event: &Event) -> Result<Result<(), Refusal>, NoMemory>
+        requires following { (s : Trace) × FollowEvents self.old s }
+        requires limit { limit ≤ MAX_EVENTS }
+        ensures answer { IfOk result (λ answer. (s : Trace) → FollowEvents self.old s →
+            result_err answer ≡ refusal_of limit s event.now) }
+        ensures admitted { OnOk result ((s : Trace) → FollowEvents self.old s →
+            refusal_of limit s event.now ≡ None → FollowEvents self.new (s ++ event.now ∷ [])) }
+        ensures refused { OnOk result ((s : Trace) → FollowEvents self.old s →
+            refusal_of limit s event.now ≢ None → FollowEvents self.new s) }
+        ensures err { OnErr result ((s : Trace) → FollowEvents self.old s →
+            FollowEvents self.new s) }
+    {
+        let positions = self.reserve_positions(event)?;
+        let own = thread_at(&self.threads, positions.thread);
+        let was = owner_at(&self.owners, positions.lock);
+        if let Err(refusal) = self.check_entries(limit, event, own, was) {
+            return Ok(Err(refusal));
+        }
+        self.record_at(event, positions, own, was);
+        Ok(Ok(()))
     }
 }
 

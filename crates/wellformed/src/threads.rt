@@ -1,5 +1,6 @@
 //! The state of each thread.
-ghost use Rattle.std.specs.Prelude.{◌≡◌};
+ghost use Rattle.std.specs.Prelude.{◌≡◌, ℕ, Some};
+ghost use Rattle.number_map.specs.Positions.{HasNumberAt};
 ghost use Rattle.wellformed.specs.Threads.{thread_in, unknown_thread};
 
 use number_map::NumberMap;
@@ -29,4 +30,13 @@ pub fn thread_entry(threads: &Threads, thread: u32) -> ThreadEntry
     ensures { result ≡ thread_in threads.now thread }
 {
     threads.get(thread).unwrap_or(UNKNOWN)
+}
+
+/// Returns the state of the thread at the position.
+#[inline(always)]
+pub fn thread_at(threads: &Threads, position: usize) -> ThreadEntry
+    ensures { (t : ℕ) → HasNumberAt threads.now t (Some position) →
+        result ≡ thread_in threads.now t }
+{
+    threads.get_at(position).unwrap_or(UNKNOWN)
 }

@@ -32,11 +32,9 @@ pub fn first_unlawful(
 {
     let mut tables = AdmissionTables::new(alloc, state);
     for (index, event) in events.iter().enumerate() {
-        if let Err(refusal) = tables.check(MAX_EVENTS, event) {
+        if let Err(refusal) = tables.admit(MAX_EVENTS, event)? {
             return Ok(Some(FirstUnlawful { index, refusal }));
         }
-        tables.reserve(event)?;
-        tables.record(event);
     }
     Ok(None)
 }

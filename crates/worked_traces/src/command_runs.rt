@@ -89,7 +89,7 @@ impl Outcome {
 ///
 /// # Errors
 /// Fails if an allocation fails.
-pub(crate) fn explained<T: Threads>(
+pub(crate) fn explained<T: Threads + Sync>(
     rt: &HostRuntime,
     threads: &T,
     file: NamedFile<'_>,
@@ -121,7 +121,7 @@ pub(crate) fn checked(
 }
 
 /// Runs `explain` over the file with this name: all cycles, or the one that the words name.
-fn explain<T: Threads>(
+fn explain<T: Threads + Sync>(
     rt: &HostRuntime,
     threads: &T,
     file: &str,

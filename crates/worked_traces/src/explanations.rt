@@ -21,7 +21,7 @@ pub(crate) fn are_valid(rt: &HostRuntime, trace: &[u8], text: &[u8]) -> Result<b
 
 /// Returns whether `explain` prints the first line and the rows of the report, and the checker
 /// accepts what it prints.
-pub(crate) fn are_explained<T: Threads>(
+pub(crate) fn are_explained<T: Threads + Sync>(
     rt: &HostRuntime,
     threads: &T,
     trace: &[u8],

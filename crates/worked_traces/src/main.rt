@@ -48,7 +48,7 @@ fn difference_in(
 
 /// Checks a second way to the same answer: of a report, its witnesses and the explanations of its
 /// cycles; of an explanation, its check. Returns what is wrong, or `None` if nothing is.
-fn fault_in_other_ways<T: Threads>(
+fn fault_in_other_ways<T: Threads + Sync>(
     rt: &HostRuntime,
     threads: &T,
     invocation: &Invocation<'_>,

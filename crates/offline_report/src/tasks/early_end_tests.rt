@@ -8,7 +8,6 @@ use crate::opening::Offline;
 use crate::parts::are_whole;
 use crate::refused::OfflineRefused;
 use findings::{Analysis, Hold};
-use reports::TextBuffer;
 use std::alloc::{AllocError, Global};
 use std::hash::RandomState;
 use std::marker::{Brand, PhantomData};
@@ -144,7 +143,6 @@ fn refusals_without_memory<A: About + Send + Sync>(
     let mut without_job: Piece<A> = Piece {
         alloc,
         job: None,
-        buffer: TextBuffer::new(alloc),
         name: PhantomData,
     };
     let mut piece = question.piece();

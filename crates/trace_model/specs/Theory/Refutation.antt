@@ -26,7 +26,8 @@ Justifies s places derived (ThreadOrder q) p = Contains derived q × EarlierInTh
 Justifies s places derived (ForkJoin q) p = Contains derived q × ForkOrJoin s p q
 Justifies s places derived (ReadsFrom q) p = Contains derived q × (writer s q ≡ Some p)
 Justifies s places derived (Sections a b) p =
-    Contains derived a × Contains derived b × (a < b) × BeginOnOneLock s a b × (release s a ≡ Some p)
+    Contains derived a × Contains derived b × (a < b) × BeginOnOneLock s a b
+    × (release s a ≡ Some p)
 
 -- The places of the entries (this project's profile).
 abbrev pub derived_places : List Derived → List ℕ

@@ -7,8 +7,7 @@ use Rattle.trace_model.specs.Theory.Dependencies.{dependencies}
 use Rattle.findings.specs.Analyses.{AnalysisView}
 use Rattle.findings.specs.Found.{AskedQuestion}
 use Rattle.commands.specs.Exit.{error_status}
-use Rattle.commands.specs.Explain.{ExplainsCycle, HasTooManyCycles, PrintsOneOf, RefusesCycle, no_cycle_line}
-use Rattle.commands.specs.ExplainFindings.{IsTooMany}
+use Rattle.commands.specs.Explain.{ExplainsCycle, HasTooManyCycles, IsTooMany, PrintsOneOf, RefusesCycle, no_cycle_line}
 use Rattle.commands.specs.Output.{IsJust}
 use Rattle.commands.specs.declared.exit.Status.{Status}
 use Rattle.commands.specs.declared.exit.Status.TheVariants.{Done, Refused}
@@ -52,7 +51,7 @@ returns-in-Some g c =
     let cycle = c.in-Some.ensures.found row at in
     let is = subst (λ (b : ℕ). IsCycle (dependencies f.events) b numbers) bound (subst (λ (n : List ℕ). IsCycle (dependencies f.events) f.bound n) cycle (cycle_at f.events f.bound f.task f.rows i row at exact)) in
     let text = c.in_ok-text-in-Some.text.items in
-    let right : ExplainsCycle f.events a.bound numbers text = (row, cycle, is, row_at f.events f.bound f.task f.rows i row at exact, named_at f.events f.bound f.task f.rows i row at exact, c.in_ok-text-in-Some.ensures.text row at) in
+    let right : ExplainsCycle f.events a.bound numbers text = (row, cycle, is, row_at f.events f.bound f.task f.rows i row at exact, named_at f.events f.bound f.task f.rows i row at exact, c.in_ok-text-in-Some.ensures row at) in
     let shown = c.deref-in-Some.result.now in
     let outcome : PrintsOneOf a.events a.bound numbers Done shown = subst (λ (t : List ℕ). ExplainsCycle a.events a.bound numbers t) (sym c.deref-in-Some.ensures.value) (subst (λ (s : Trace). ExplainsCycle s a.bound numbers text) events right) in
     ends_as_weaker (IsJust Done shown) (PrintsOneOf a.events a.bound numbers) _ _ c.write_text.result (g.O.Write.contents c.args.out.now) (g.O.Write.contents c.write_text.new.out)

@@ -1,64 +1,82 @@
-use Rattle.std.proofs.Common.{◌≡◌, ◌+◌, List, ℕ, [], ◌∷◌, ◌++◌, ◌∙◌, ap, drop, sym, subst, take}
+use Rattle.std.proofs.Common.{◌≡◌, List, ℕ, [], ◌∷◌, ◌++◌, sym, ap, subst, ◌∙◌, append_assoc, arith}
 use Rattle.std.specs.Prelude.{OnErr}
+use Rattle.std.specs.Global.{Vec}
 use Rattle.std.specs.List.{All}
-use Rattle.std.proofs.lemmas.List.{take-append-drop, take_more}
-use Rattle.std.proofs.lemmas.List.Concat.{flat_map-append}
+use Rattle.std.proofs.lemmas.List.{append-nil, nil_from_length}
 use Rattle.std.proofs.lemmas.Result.{err_from_is_err_and}
-use Rattle.trace_model.specs.Theory.Trace.{Trace}
+use Rattle.trace_model.specs.Theory.Rows.{Row}
 use Rattle.reports.specs.Printed.{PrintedRow}
-use Rattle.snapshots.specs.Found.{RowsOfTask}
-use Rattle.commands.specs.Explain.{Explains, ExplainsSome}
-use Rattle.commands.specs.ExplainFindings.{rows_of_findings}
+use Rattle.findings.proofs.Members.{all_in}
+use Rattle.offline_report.specs.Offline.{printed_rows}
+use Rattle.commands.specs.Explain.{Explains, ExplainsSome, IsKnownRow, all_rows}
 use Rattle.commands.specs.Output.{IsCutShort, Writes}
-use Rattle.commands.proofs.ExplainedTexts.{explains_more, explains_none, rows_in_more, some_all, some_more}
+use Rattle.commands.proofs.ExplainedTexts.{explains_more, explains_none, rows_added, rows_amid, some_all, some_more}
 use Rattle.commands.proofs.Outputs.{appends_more, appends_nothing, cut_after}
 use Rattle.commands.proofs.explain_command.write_tasks.Goals as goal
 
--- The rows of the findings, cut at an index.
-rows_split : (tasks : List RowsOfTask) (n : ℕ) → rows_of_findings tasks ≡ rows_of_findings (take n tasks) ++ rows_of_findings (drop n tasks)
-rows_split tasks n = ap rows_of_findings (sym (take-append-drop n tasks)) ∙ flat_map-append (λ (f : RowsOfTask). f.rows) (take n tasks) (drop n tasks)
+pub write_rows-requires : goal.write_rows-requires
+write_rows-requires g c =
+    let P : Vec Row → Type 0 = λ task. All (IsKnownRow c.args.snapshot.now) task.items in
+    let is = sym c.loop-rows.invariant.rest ∙ ap (λ xs. c.loop-rows.yielded ++ xs) c.in-Some.ensures.steps.0 in
+    all_in P c.loop-rows.yielded c.in-Some.rows c.next.new.self.rest.items (subst (All P) is c.requires)
 
-pub loop-finding-init : goal.loop-finding-init
-loop-finding-init g c = record { written = λ s same. ([], explains_none s, appends_nothing (g.O.Write.contents c.args.out.now)); empty = c.new-buffer.ensures }
+pub loop-rows-init : goal.loop-rows-init
+loop-rows-init g c = record {
+  written = ([], explains_none c.args.snapshot.now, appends_nothing (g.O.Write.contents c.args.out.now));
+  rest = c.into_iter-rows-iterator.ensures.into_iter_gives.0;
+}
 
-pub loop-finding-preserved : goal.loop-finding-preserved
-loop-finding-preserved g c =
-    let tasks = c.args.tasks.now in
-    let i = c.loop-finding.finding-index in
-    let f = c.finding-item.result in
+pub loop-rows-preserved : goal.loop-rows-preserved
+loop-rows-preserved g c =
+    let v = c.loop-rows.invariant in
+    let s = c.args.snapshot.now in
+    let tasks = c.loop-rows.yielded in
+    let task = c.in-Some.rows in
     let before = g.O.Write.contents c.args.out.now in
-    let mid = g.O.Write.contents c.loop-finding.out in
+    let mid = g.O.Write.contents c.loop-rows.out in
     let after = g.O.Write.contents c.write_rows.new.out in
-    let more = take_more tasks i f c.loop-finding-test.true ∙ ap (λ (x : RowsOfTask). take i tasks ++ x ∷ []) (sym c.finding-item.is) in
-    let joined = ap rows_of_findings more ∙ rows_in_more (take i tasks) f in
+    let (text, is, grew) = v.written in
+    let (own, also, grown) = c.in_ok-write_rows.ensures.written in
     record {
-      written = λ s same.
-          let events : f.events ≡ s = ap (λ (x : RowsOfTask). x.events) c.finding-item.is ∙ same i f c.loop-finding-test.true in
-          let (text, is, grew) = c.loop-finding.invariant.written s same in
-          let (own, also, grown) = subst (λ (t : Trace). Writes mid after (Explains t f.rows)) events c.in_ok-write_rows.ensures.written in
-          (text ++ own, subst (λ (rows : List PrintedRow). Explains s rows (text ++ own)) (sym joined) (explains_more s (rows_of_findings (take i tasks)) f.rows text own is also), appends_more before mid after text own grew grown);
-      empty = c.in_ok-write_rows.ensures.empty;
+      written = (
+        text ++ own,
+        subst (λ (l : List PrintedRow). Explains s l (text ++ own)) (sym (rows_added s tasks task)) (explains_more s (printed_rows s (all_rows tasks)) (printed_rows s task.items) text own is also),
+        appends_more before mid after text own grew grown,
+      );
+      rest = append_assoc tasks (task ∷ []) c.next.new.self.rest.items
+          ∙ ap (λ xs. tasks ++ xs) (sym c.in-Some.ensures.steps.0) ∙ v.rest;
     }
 
 pub returns-in_err-write_rows-clause-cut : goal.returns-in_err-write_rows-clause-cut
 returns-in_err-write_rows-clause-cut g c =
-    let tasks = c.args.tasks.now in
-    let i = c.loop-finding.finding-index in
-    let f = c.finding-item.result in
+    let v = c.loop-rows.invariant in
+    let s = c.args.snapshot.now in
+    let tasks = c.loop-rows.yielded in
+    let task = c.in-Some.rows in
     let before = g.O.Write.contents c.args.out.now in
-    let mid = g.O.Write.contents c.loop-finding.out in
+    let mid = g.O.Write.contents c.loop-rows.out in
     let after = g.O.Write.contents c.write_rows.new.out in
-    let more = take_more tasks i f c.loop-finding-test.true ∙ ap (λ (x : RowsOfTask). take i tasks ++ x ∷ []) (sym c.finding-item.is) in
-    let joined = ap rows_of_findings more ∙ rows_in_more (take i tasks) f in
+    let others = c.next.new.self.rest.items in
+    let all = printed_rows s (all_rows c.args.tasks.items) in
+    let first = printed_rows s (all_rows tasks) in
+    let mine = printed_rows s task.items in
+    let rest = printed_rows s (all_rows others) in
+    let is = sym v.rest ∙ ap (λ xs. tasks ++ xs) c.in-Some.ensures.steps.0 in
+    let whole : all ≡ (first ++ mine) ++ rest = ap (λ (xs : List (Vec Row)). printed_rows s (all_rows xs)) is ∙ rows_amid s tasks task others in
+    let begins : all ≡ first ++ (mine ++ rest) = whole ∙ append_assoc first mine rest in
+    let (text, explains, grew) = v.written in
     let p = err_from_is_err_and c.from_residual.result c.from_residual.ensures.1 in
-    let all = rows_of_findings tasks in
-    let rest = rows_of_findings (drop (i + 1) tasks) in
-    let whole : all ≡ (rows_of_findings (take i tasks) ++ f.rows) ++ rest = rows_split tasks (i + 1) ∙ ap (λ (l : List PrintedRow). l ++ rest) joined in
-    let cut : (s : Trace) → All (λ (x : RowsOfTask). x.events ≡ s) tasks → IsCutShort before after (ExplainsSome s all) = λ s same.
-    let events : f.events ≡ s = ap (λ (x : RowsOfTask). x.events) c.finding-item.is ∙ same i f c.loop-finding-test.true in
-    let (text, is, grew) = c.loop-finding.invariant.written s same in
-    let here = subst (λ (t : Trace). IsCutShort mid after (ExplainsSome t f.rows)) events c.in_err-write_rows.ensures.cut in
-    cut_after before mid after (ExplainsSome s f.rows) (ExplainsSome s all) text grew
-    (subst (λ (l : List PrintedRow). ExplainsSome s l text) (sym (rows_split tasks i)) (some_all s (rows_of_findings (take i tasks)) (rows_of_findings (drop i tasks)) text is))
-    (λ y some. subst (λ (l : List PrintedRow). ExplainsSome s l (text ++ y)) (sym whole) (some_more s (rows_of_findings (take i tasks)) f.rows rest text y is some)) here in
-    subst (λ r. OnErr r ((s : Trace) → All (λ (x : RowsOfTask). x.events ≡ s) tasks → IsCutShort before after (ExplainsSome s all))) (sym p.1) cut
+    let cut = cut_after before mid after (ExplainsSome s mine) (ExplainsSome s all) text grew
+    (subst (λ (l : List PrintedRow). ExplainsSome s l text) (sym begins) (some_all s first (mine ++ rest) text explains))
+    (λ y some. subst (λ (l : List PrintedRow). ExplainsSome s l (text ++ y)) (sym whole) (some_more s first mine rest text y explains some))
+    c.in_err-write_rows.ensures.cut in
+    subst (λ r. OnErr r (IsCutShort before after (ExplainsSome s all))) (sym p.1) cut
+
+pub returns-clause-written : goal.returns-clause-written
+returns-clause-written g c =
+    let v = c.loop-rows.invariant in
+    let s = c.args.snapshot.now in
+    let rest = c.loop-rows.rows-iterator.rest in
+    let none : rest.items ≡ [] = nil_from_length rest.items (omega (arith, rest.ok, c.in-None.ensures.steps.0)) in
+    let all : c.loop-rows.yielded ≡ c.args.tasks.items = sym (append-nil c.loop-rows.yielded) ∙ (ap (λ (xs : List (Vec Row)). c.loop-rows.yielded ++ xs) (sym none) ∙ v.rest) in
+    subst (λ (xs : List (Vec Row)). Writes (g.O.Write.contents c.args.out.now) (g.O.Write.contents c.loop-rows.out) (Explains s (printed_rows s (all_rows xs)))) all v.written

@@ -25,6 +25,7 @@ record-requires-2 g c =
     let well_formed = c.self.invariant.index.shown.well_formed in
     record {
       entry = deep.entry r c.in-Some.is;
+      position = deep.position r c.in-Some.is;
       shallow = next_shallow (trace_of i.rows.0) well_formed r.row.event r.row.depth
           (lawful_ready i.rows.0 i.next r c.args.self.now c.args.event.now c.in-Some.is (sym (ap (λ v. v.events) c.self.view_is)) (sym (ap (λ v. v.reserved) c.self.view_is))
           c.requires.reserved c.requires.lawful) (deep.ready r c.in-Some.is);

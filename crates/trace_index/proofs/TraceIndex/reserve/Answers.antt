@@ -2,7 +2,7 @@ use Rattle.std.proofs.lemmas.Option.{same_Some}
 use Rattle.std.proofs.Common.{◌≡◌, ◌*◌, length, refl, sym, ap, subst, ◌∙◌, w32, arith, ℕ, List, None, Some}
 use Rattle.std.proofs.Math.Facts.{Fits-below}
 use Rattle.trace_model.specs.Theory.Trace.{Trace}
-use Rattle.trace_index.specs.Depths.{lock_depth, op_depth, HasOpEntry}
+use Rattle.trace_index.specs.Depths.{lock_depth, op_depth, HasOpEntry, HasOpEntryAt}
 use Rattle.trace_index.specs.Links.{trace_of, AreLastPlaces}
 use Rattle.trace_index.specs.SegmentTables.{AreAllTables}
 use Rattle.trace_index.proofs.Deep.{owned_in, op_depth-agree}
@@ -88,17 +88,17 @@ invariant_of-self-in_err-follow-2 c =
       deep = deep_still c.reserve.new.self.0 c.reserve.new.self.0 d.table d.noted deep.depths deep.within refl;
     }
 
-pub invariant_of-self-in_err-reserve-3 : goal.invariant_of-self-in_err-reserve-3
-invariant_of-self-in_err-reserve-3 c =
+pub invariant_of-self-in_err-lock : goal.invariant_of-self-in_err-lock
+invariant_of-self-in_err-lock c =
     let d = c.reserve-3.new.self in
     record {
       index = followed _ c.reserve.new.self _ _ _ _ _ _ _ _ _ _ _ c.self.invariant.index c.in_ok-reserve.ensures.shown c.deref.ensures.value c.len-len.ensures c.in_ok-reserve-2.ensures.same
           c.in_ok-follow.ensures.last_places c.in_ok-follow.ensures.within;
       deep = deep_entered c.reserve.new.self.0 c.follow-2.new.self.table d.table c.follow-2.new.self.noted d.noted c.in_ok-follow-2.ensures.depths c.in_ok-follow-2.ensures.within
-          c.in_err-reserve-3.ensures.shown c.in_err-reserve-3.ensures.noted;
+          c.in_err-lock.ensures.shown c.in_err-lock.ensures.noted;
     }
 
-is_index : (c : goal.After-ready_for-arg-3-1) → IsIndex c.reserve.new.self c.reserve-2.new.self.sealed.items c.reserve-2.new.self.tail c.follow.new.self.places c.follow.new.self.noted None
+is_index : (c : goal.After-ready_for-arg-2-1) → IsIndex c.reserve.new.self c.reserve-2.new.self.sealed.items c.reserve-2.new.self.tail c.follow.new.self.places c.follow.new.self.noted None
 is_index c =
     followed _ c.reserve.new.self _ _ _ _ _ _ _ _ _ _ _ c.self.invariant.index c.in_ok-reserve.ensures.shown c.deref.ensures.value c.len-len.ensures c.in_ok-reserve-2.ensures.same
     c.in_ok-follow.ensures.last_places c.in_ok-follow.ensures.within
@@ -132,8 +132,8 @@ invariant_of-self-2 c =
     let fits = c.in_ok-reserve-2.ensures.fits in
     let count = c.len-len.ensures in
     let still = deep_entered rows c.follow-2.new.self.table d.table c.follow-2.new.self.noted d.noted c.in_ok-follow-2.ensures.depths c.in_ok-follow-2.ensures.within
-    c.in_ok-reserve-3.ensures.shown c.in_ok-reserve-3.ensures.noted in
-    let all : d.noted ≡ length rows = c.in_ok-reserve-3.ensures.noted ∙ c.in_ok-follow-2.ensures.ok in
+    c.in_ok-lock.ensures.shown c.in_ok-lock.ensures.noted in
+    let all : d.noted ≡ length rows = c.in_ok-lock.ensures.noted ∙ c.in_ok-follow-2.ensures.ok in
     record {
       index = ready_next c.reserve.new.self m.sealed.items m.tail l.places l.noted r
           (followed _ c.reserve.new.self _ _ _ _ _ _ _ _ _ _ _ c.self.invariant.index c.in_ok-reserve.ensures.shown c.deref.ensures.value c.len-len.ensures c.in_ok-reserve-2.ensures.same
@@ -149,9 +149,12 @@ invariant_of-self-2 c =
         depths_are = still.depths_are;
         within = still.within;
         all = λ x h. all;
-        entry = λ x h. subst (λ y. HasOpEntry d.table y.row.event.op) (same_Some r x h) (subst (λ e. HasOpEntry d.table e.op) (sym c.ready_for-ready.ensures.event) c.in_ok-reserve-3.ensures.ok);
+        entry = λ x h. subst (λ y. HasOpEntry d.table y.row.event.op) (same_Some r x h) (subst (λ e. HasOpEntry d.table e.op) (sym c.ready_for-ready.ensures.event) c.in_ok-lock.ensures.ok);
+        position = λ x h. subst (λ y. HasOpEntryAt d.table y.row.event.op y.lock) (same_Some r x h)
+            (subst (λ e. HasOpEntryAt d.table e.op r.lock) (sym c.ready_for-ready.ensures.event)
+            (subst (HasOpEntryAt d.table c.args.event.now.op) (sym c.ready_for-ready.ensures.lock) c.in_ok-lock.ensures.position));
         ready = λ x h. subst (λ y. y.row.depth ≡ op_depth (owned_in (trace_of rows)) y.row.event.op) (same_Some r x h)
-            (c.ready_for-ready.ensures.depth ∙ c.before-depth.ensures
+            (c.ready_for-ready.ensures.depth ∙ c.in_ok-lock.ensures.depth
             ∙ op_depth-agree (lock_depth d.table) (owned_in (trace_of rows)) c.args.event.now.op (depths_of_all rows d.table d.noted still.depths_are all)
             ∙ ap (λ e. op_depth (owned_in (trace_of rows)) e.op) (sym c.ready_for-ready.ensures.event));
       };
@@ -173,8 +176,8 @@ returns-in_err-follow-clause-events c = same_events c.self.inside.rows.0 c.reser
 pub returns-in_err-follow-2-clause-events : goal.returns-in_err-follow-2-clause-events
 returns-in_err-follow-2-clause-events c = same_events c.self.inside.rows.0 c.reserve.new.self.0 c.args.self.now c.in_ok-reserve.ensures.shown (ap (λ v. v.events) c.self.view_is)
 
-pub returns-in_err-reserve-3-clause-events : goal.returns-in_err-reserve-3-clause-events
-returns-in_err-reserve-3-clause-events c = same_events c.self.inside.rows.0 c.reserve.new.self.0 c.args.self.now c.in_ok-reserve.ensures.shown (ap (λ v. v.events) c.self.view_is)
+pub returns-in_err-lock-clause-events : goal.returns-in_err-lock-clause-events
+returns-in_err-lock-clause-events c = same_events c.self.inside.rows.0 c.reserve.new.self.0 c.args.self.now c.in_ok-reserve.ensures.shown (ap (λ v. v.events) c.self.view_is)
 
 pub returns : goal.returns
 returns c = record {

@@ -8,8 +8,8 @@ use Rattle.trace_index.proofs.Keys.{get_same}
 use Rattle.trace_index.proofs.KeyPositions.{over_next}
 use Rattle.trace_index.proofs.places.record_all.Goals as goal
 
-pub set-requires : goal.set-requires
-set-requires c =
+pub set_near-requires : goal.set_near-requires
+set_near-requires c =
     let room = c.loop-index.invariant.room in
     let t = c.loop-index-test.true in
     let len = c.len-index-end.ensures.len in
@@ -30,14 +30,14 @@ loop-index-preserved c =
     let p = c.in-Some.place.now in
     let next : suc i ≡ i + 1 = omega arith in
     let room = c.loop-index.invariant.room in
-    let used = c.set.ensures.room in
+    let used = c.set_near.ensures.room in
     let t = c.loop-index-test.true in
     let len = c.len-index-end.ensures.len in
     record {
       within = omega arith;
       shown = λ q.
           let old = get same_key c.args.places.now q in
-          c.set.ensures.last q ∙ ap (cond (same_key k q) (Some p)) (c.loop-index.invariant.shown q)
+          c.set_near.ensures.last q ∙ ap (cond (same_key k q) (Some p)) (c.loop-index.invariant.shown q)
           ∙ over_next es i k q p old (sym c.in-Some.ensures.entry) (sym (get_same c.args.later.now k) ∙ c.in-Some.ensures.value)
           ∙ ap (λ n. option_or (lookup (same_key q) (take n es)) old) next;
       room = omega arith;

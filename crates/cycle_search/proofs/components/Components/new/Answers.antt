@@ -10,5 +10,5 @@ returns c =
     let ds = table_dependencies c.args.table.now in
     components-ascend ds (record { numbers = c.in_ok-numbers.numbers; cyclic = c.in_ok-cyclic.cyclic; threads = c.in_ok-threads.threads; acquirers = c.in_ok-acquirers.acquirers; locks = c.in_ok-locks.locks })
     c.in_ok-numbers.ensures.each c.in_ok-numbers.ensures.ascend
-    (subst (λ (xs : List ℕ). AreSuccessorsMarked ds xs c.in_ok-cyclic.cyclic.items) c.deref.ensures.value c.in_ok-cyclic.ensures) c.in_ok-locks.ensures c.in_ok-acquirers.ensures
+    (subst (λ (xs : List ℕ). AreSuccessorsMarked ds xs c.in_ok-cyclic.cyclic.items) c.deref.ensures.value c.in_ok-cyclic.ensures) c.in_ok-locks.ensures.locks c.in_ok-locks.ensures.positions c.in_ok-acquirers.ensures
     (subst (λ (xs : List ℕ). AreComponentThreads ds xs c.in_ok-threads.threads) c.deref-2.ensures.value c.in_ok-threads.ensures)

@@ -1,6 +1,6 @@
 use Rattle.std.proofs.Common.{ℕ, inl, inr, sym, subst, ◌∙◌}
 use Rattle.std.proofs.lemmas.List.Elements.{Contains-push_cases}
-use Rattle.explain.specs.DerivationSearch.{IsDerived, IsRequired}
+use Rattle.explain.specs.DerivationSearch.{IsDerived, IsDirectlyRequired}
 use Rattle.explain.proofs.Adding.{on_ok_then, extends_trans, in_more, has_earlier}
 use Rattle.explain.proofs.LastSections.{follows_stays}
 use Rattle.explain.proofs.search.DerivationSearch.follow.Goals as goal
@@ -22,7 +22,7 @@ returns c =
     let (i3, e3, last) = h places followed i2 here2
     (follows_stays s followed x z e12.has (c.in_ok-require.ensures.locks ∙ c.in_ok-add_joined.ensures.locks) f.sections) in
     let e = extends_trans s x z w e12 e3 in
-    let all : (p : ℕ) → IsRequired s place p → IsDerived s z p = λ p r. elim r [
+    let all : (p : ℕ) → IsDirectlyRequired s place p → IsDerived s z p = λ p r. elim r [
       | inl a ↦ has_earlier s z p place a here2.0
       | inr a ↦ elim a [
         | inl b ↦ elim b [
@@ -41,7 +41,7 @@ returns c =
         ];
         required = λ q p k r. elim (Contains-push_cases followed place q k) [
           | inl i ↦ e.has p (f.required q p i r)
-          | inr i ↦ e3.has p (all p (subst (λ v. IsRequired s v p) (sym i) r))
+          | inr i ↦ e3.has p (all p (subst (λ v. IsDirectlyRequired s v p) (sym i) r))
         ];
         sections = last;
       },

@@ -4,4 +4,4 @@ use Rattle.fronts.proofs.requirements.Requirements.build.Goals as goal
 pub returns : goal.returns
 returns c =
     let filled = c.in_ok-positions.ensures in
-    requirements_built c.args.index.now.events _ c.in_ok-threads.ensures c.in_ok-locks.ensures filled.positions c.fill.ensures.length filled.built
+    requirements_built c.args.index.now.events _ c.in_ok-threads.ensures.threads c.in_ok-threads.ensures.locks filled.positions c.fill.ensures.length filled.built

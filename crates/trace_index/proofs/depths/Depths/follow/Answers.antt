@@ -20,7 +20,7 @@ loop-index-preserved c =
     let row = c.in-Some.row in
     let s = trace_of rows in
     let before = c.loop-index.invariant.noted in
-    let now : c.record.new.self.noted ≡ i + 1 = c.record.ensures.noted ∙ ap (λ n. n + 1) (c.in_ok-reserve.ensures.noted ∙ before) in
+    let now : c.record.new.self.noted ≡ i + 1 = c.record.ensures.noted ∙ ap (λ n. n + 1) (c.in_ok-at.ensures.noted ∙ before) in
     record {
       noted = now;
       within = omega arith;
@@ -28,5 +28,5 @@ loop-index-preserved c =
           (depths_next s c.requires.well_formed i row.event row.depth c.loop-index.self.table c.record.new.self.table (get_trace rows i row (sym c.in-Some.ensures))
           (c.requires.rows i row (sym c.in-Some.ensures))
           (subst (λ n. AreDepths s n c.loop-index.self.table) before c.loop-index.invariant.depths)
-          (λ l. c.record.ensures.depths l ∙ ap (depth_noted row.event.op row.depth l) (c.in_ok-reserve.ensures.shown l)));
+          (λ l. c.record.ensures.depths l ∙ ap (depth_noted row.event.op row.depth l) (c.in_ok-at.ensures.shown l)));
     }

@@ -6,11 +6,11 @@ use Rattle.wellformed.proofs.tables.AdmissionTables.holder.Goals as goal
 pub returns-clause-depth : goal.returns-clause-depth
 returns-clause-depth c s f =
     c.holder_of.ensures.depth
-    ∙ ap (λ o. depth_by o c.args.thread) (c.owner_of.ensures ∙ f.shown.owner_is c.args.lock)
+    ∙ ap (λ o. depth_by o c.args.thread) (c.requires ∙ f.shown.owner_is c.args.lock)
     ∙ sym (depth-owner s f.well_formed c.args.thread c.args.lock)
 
 pub returns-clause-other : goal.returns-clause-other
 returns-clause-other c s f =
     c.holder_of.ensures.other
-    ∙ ap (λ o. is_other_owner o c.args.thread) (c.owner_of.ensures ∙ f.shown.owner_is c.args.lock)
+    ∙ ap (λ o. is_other_owner o c.args.thread) (c.requires ∙ f.shown.owner_is c.args.lock)
     ∙ sym (held_by_other-owner s f.well_formed c.args.thread c.args.lock)

@@ -1,0 +1,111 @@
+//! The rows of a task, measured while they are computed.
+ghost use Rattle.std.specs.Prelude.{◌≡◌, ◌-◌, ◌<◌, ◌^◌, cond, IsTrue};
+ghost use Rattle.reports.specs.Text.{is_confirmed_row};
+ghost use Rattle.offline_report.specs.TaskRows.{HasNoRows};
+
+use crate::parts::Part;
+use findings::Collector;
+use reports::{BareRow, Row, row_size};
+use std::alloc::Global;
+use std::mem;
+use std::sync::atomic::{AtomicU64, Ordering};
+
+/// The rows of one task so far, without the dependencies of their members.
+#[derive(Drop)]
+pub(crate) struct TaskRows<'a> {
+    alloc: Global,
+    pub(crate) rows: Vec<BareRow>,
+    /// The number of bytes of their texts.
+    pub(crate) bytes: u64,
+    /// The number of bytes of the longest one.
+    longest: u64,
+    pub(crate) confirmed: u64,
+    /// The number of bytes of the texts of all tasks.
+    written: &'a AtomicU64,
+    /// The number of bytes after which no task goes on.
+    pub(crate) limit: u64,
+}
+
+/// Why a task ends early.
+#[derive(Drop)]
+pub(crate) enum EarlyEnd {
+    /// The texts of the tasks have more bytes than the limit. The part has the rows so far.
+    Over(Part),
+    /// An allocation failed.
+    NoMemory,
+}
+
+impl<'a> TaskRows<'a> {
+    /// Returns the rows of which there are none yet. Does not allocate.
+    pub(crate) fn new(alloc: Global, written: &'a AtomicU64, limit: u64) -> TaskRows<'a>
+        ensures empty { HasNoRows result }
+        ensures limit { result.limit ≡ limit }
+    {
+        TaskRows {
+            alloc,
+            rows: Vec::new(alloc),
+            bytes: 0,
+            longest: 0,
+            confirmed: 0,
+            written,
+            limit,
+        }
+    }
+
+    /// Returns the rows as a part, in memory of their size, and has none then. Does not allocate.
+    pub(crate) fn part(&mut self, is_whole: bool) -> Part
+        ensures rows { result.rows.items ≡ self.old.rows.items }
+        ensures bytes { result.bytes ≡ self.old.bytes }
+        ensures confirmed { result.confirmed ≡ self.old.confirmed }
+        ensures is_whole { result.is_whole ≡ is_whole }
+    {
+        let mut rows = mem::replace(&mut self.rows, Vec::new(self.alloc));
+        rows.shrink_to_fit();
+        Part {
+            rows,
+            bytes: self.bytes,
+            longest: self.longest,
+            confirmed: self.confirmed,
+            is_whole,
+        }
+    }
+
+    /// Counts `added` more bytes. Returns whether the texts of the tasks have more than the limit.
+    fn is_over(&self, added: u64) -> bool
+        ensures { IsTrue result → self.now.limit < 2 ^ 64 - 1 }
+    {
+        let written = self.written.fetch_add(added, Ordering::SeqCst);
+        written.saturating_add(added) > self.limit
+    }
+}
+
+impl<'a> Collector<Row> for TaskRows<'a> {
+    ghost use Rattle.offline_report.specs.TaskRows.{keeps_rows};
+
+    type Refused = EarlyEnd;
+
+    ghost taking = { keeps_rows };
+
+    fn take(&mut self, row: Row) -> Result<(), EarlyEnd> {
+        let size = row_size(&row);
+        let certain = confirmed_of(&row);
+        let Ok(()) = self.rows.push(row.into_bare()) else {
+            return Err(EarlyEnd::NoMemory);
+        };
+        self.bytes = self.bytes.saturating_add(size);
+        self.longest = self.longest.max(size);
+        self.confirmed = self.confirmed.saturating_add(certain);
+        if self.is_over(size) {
+            Err(EarlyEnd::Over(self.part(false)))
+        } else {
+            Ok(())
+        }
+    }
+}
+
+/// Returns 1 for a confirmed row, else 0.
+fn confirmed_of(row: &Row) -> u64
+    ensures { result ≡ cond (is_confirmed_row row.now) 1 0 }
+{
+    u64::from(row.found.is_some())
+}

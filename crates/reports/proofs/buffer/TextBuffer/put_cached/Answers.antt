@@ -1,8 +1,0 @@
-use Rattle.std.proofs.lemmas.Result.{IfOk-from_err}
-use Rattle.reports.proofs.buffer.TextBuffer.put_cached.Goals as goal
-
-pub returns-in_err-numeral_cache : goal.returns-in_err-numeral_cache
-returns-in_err-numeral_cache c = IfOk-from_err c.from_residual.result _ c.from_residual.ensures.0
-
-pub returns-in_err-extend_from_slice : goal.returns-in_err-extend_from_slice
-returns-in_err-extend_from_slice c = IfOk-from_err c.from_residual-in_err-extend_from_slice.result _ c.from_residual-in_err-extend_from_slice.ensures.0
