@@ -116,6 +116,12 @@ class Finishes(OfRun):
             self.assertRegex(self.finish()[1], f"^goodlock: not examined: {note}\ngoodlock: 10 events")
             self.assertRegex(self.read("run.report"), f"^question .*\n    not examined:\n      {note}\n    process 9: run.p9.report\ncycle")
 
+    def test_a_name_with_another_separator(self) -> None:
+        """A line ends at a line feed alone."""
+        self.write("run.tmp/processes", "7 0 a\x0bb\u2028c\n")
+        self.write("run.tmp/summary", SUMMARY.replace("processes 0", "processes 1"))
+        self.assertIn("further processes with threads, 1: a\x0bb\u2028c; ", self.finish()[1])
+
     def test_libraries(self) -> None:
         self.write("run.tmp/libraries", "libc.so.6\nlibgomp.so.1\nlibQt5Core.so.5\nlibgomp.so.1\nlibgomps.so\n")
         self.finish()

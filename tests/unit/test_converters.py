@@ -1,9 +1,10 @@
 """Tests the events that from_std makes of a foreign trace."""
+import io
 import os
 import unittest
 
 from goodlock.commands import from_std
-from goodlock.conversion import converted, numbers
+from goodlock.conversion import Conversion, converted
 from goodlock.errors import InputError
 from goodlock.limits import MOST_HELD_OF_RUN
 from goodlock.traces import one_line
@@ -89,8 +90,10 @@ class FromStd(Converts):
 
 class Small(unittest.TestCase):
     def test_numbers(self) -> None:
-        found = numbers()
-        self.assertEqual([found[name] for name in ("a", ("b", 1), "a", "c")], [1, 2, 1, 3])
+        """Threads, locks and variables are numbered by themselves."""
+        conversion = Conversion(io.StringIO())
+        named = (("lock", "a"), ("lock", "b"), ("lock", "a"), ("thread", "a"), ("lock", "c"))
+        self.assertEqual([conversion.number(kind, name) for kind, name in named], [1, 2, 1, 1, 3])
 
     def test_one_line(self) -> None:
         self.assertEqual(one_line("  a\t\nb  c "), "a b c")

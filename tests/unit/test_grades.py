@@ -93,7 +93,7 @@ class Weighs(unittest.TestCase):
         cycles = weighed(VALUES + FLAG.rstrip() + " " + more, "".join(rows), analysis)
         self.assertEqual([(cycle.name, cycle.verdict, cycle.members[1].place) for cycle in cycles],
                          [("0 1", Verdict.NO_VALUE, 9), ("2 3", Verdict.CONFIRMED, 17), ("4 5", Verdict.NO_VALUE, 27)])
-        self.assertEqual((cycles[1].witness[-1], cycles[2].witness[-2:]), (16, [20, 26]))
+        self.assertEqual((list(cycles[1].witness)[-1], list(cycles[2].witness)[-2:]), (16, [20, 26]))
         self.assertEqual(len(analysis.asked), 1)
 
     def test_weighed_before(self) -> None:

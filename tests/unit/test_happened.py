@@ -2,10 +2,11 @@
 import unittest
 from dataclasses import replace
 
-from goodlock.happened import NoteReader, deadlock_of, with_happened
+from goodlock.happened import deadlock_of, head_notes, with_happened
 from goodlock.locations import Root
 from goodlock.results import Verdict, fingerprint_of
 from samples import CONFIRMED, POTENTIAL
+from written import InFolder
 
 ROOT = Root("/top")
 TWO = """deadlock of 2 threads, which wait for each other
@@ -25,24 +26,13 @@ thread 4 waits for lock 1 at a.c:8 in f
 lock 1 since a.c:7 in f""".splitlines()
 
 
-class Notes(unittest.TestCase):
-    LINES = """question 0 length 4 bound 2 cycles 1 confirmed 0
-    no lock events
-    window 2: b.report
-cycle 0 1 potential
-  thread 1 lock 2 holds 1
-    lock 2 at a.c:3
-  thread 2 lock 1 holds 2
-question 1 length 4 bound 2 cycles 0 confirmed 0
-    another note
-    timed: this cycle ends when a timeout does
-    timed: thread 1 waits for lock 2 at a.c:3
-question 2 length 4 bound 2 cycles 0 confirmed 0""".splitlines()
-
-    def test_notes(self) -> None:
-        reader = NoteReader(self.LINES)
-        self.assertEqual(list(reader), self.LINES)
-        self.assertEqual(reader.notes, [["no lock events", "window 2: b.report"], ["another note"], []])
+class Notes(InFolder):
+    def test_head_of_a_report(self) -> None:
+        head = "question 0 length 4 bound 2 cycles 1 confirmed 0\n    not examined:\n    no lock events\n    window 2: b.report\n    timed: x\n"
+        for text, notes in [(f"{head}cycle 0 1 potential\n    lock 2 at a.c:3\n", ["no lock events", "window 2: b.report"]), (head[:49], []),
+                            ("", []), ("no report\n    a note\n", [])]:
+            self.assertEqual(head_notes(self.write("run.report", text)), notes, text)
+        self.assertEqual(head_notes("missing.report"), [])
 
 
 class Deadlock(unittest.TestCase):

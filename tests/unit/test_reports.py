@@ -1,8 +1,9 @@
 """Tests the reader of reports: what it returns, and how it refuses lines that are wrong or do not fit the trace."""
 import unittest
+from unittest import mock
 
 from goodlock.errors import InputError
-from goodlock.reports import AnyEvents, Cycle, Member, Report, ValueRead, Verdict, member_of, places_in, read_reports
+from goodlock.reports import AnyEvents, Cycle, Member, Places, Report, ReportReader, ValueRead, Verdict, member_of, places_in, read_reports
 from written import OPPOSITE, OPPOSITE_REPORT, cycles_of, index_of
 
 POTENTIAL = """question 3 length 10 bound 4 cycles 1 confirmed 0
@@ -54,12 +55,47 @@ class Reads(unittest.TestCase):
             (POTENTIAL, [places, witness, "      place 10 reads what place 5 wrote: x"], "place 10 .*: does not fit the trace"),
         ]:
             with self.subTest(notes=notes), self.assertRaisesRegex(InputError, f"^bank.report:[0-9]+: {message}$"):
-                cycles_of(index_of(OPPOSITE), report + "\n".join(notes))
+                for cycle in cycles_of(index_of(OPPOSITE), report + "\n".join(notes))[1]:
+                    list(cycle.witness)
 
     def test_output_of_a_script(self) -> None:
         text = "placed 0\nrefused 2 Unforked\nopened 0 length 10 total 2\nworked 2\n" + OPPOSITE_REPORT + "status 0 accepted 10\n" + POTENTIAL
         reports = list(read_reports("x", index_of(OPPOSITE), text.splitlines()))
         self.assertEqual([(report.question, cycle is None) for report, cycle in reports], [(0, True), (0, False), (3, True), (3, False)])
+
+    def test_notes(self) -> None:
+        """A report has notes before its first cycle. What a timeout ends is none."""
+        lines = """question 0 length 4 bound 2 cycles 1 confirmed 0
+    not examined:
+    confirmed if no value decides: 0 cycles
+    no lock events
+    window 2: b.report
+cycle 0 1 potential
+  thread 1 lock 2 holds 1
+    lock 2 at a.c:3
+  thread 2 lock 1 holds 2
+question 1 length 4 bound 2 cycles 0 confirmed 0
+    another note
+    timed: this cycle ends when a timeout does
+    timed: thread 1 waits for lock 2 at a.c:3
+question 2 length 4 bound 2 cycles 0 confirmed 0""".splitlines()
+        reader = ReportReader("x", AnyEvents())
+        self.assertEqual(len(list(reader.read(lines))), 4)
+        self.assertEqual(reader.notes, [["no lock events", "window 2: b.report"], ["another note"], []])
+
+    def test_known_members(self) -> None:
+        """A member whose line was there before is tested against the trace once; the rest of its cycle is tested each time."""
+        row = "  thread 1 lock 20 holds 10\n  thread 2 lock 10 holds 20\n"
+        text = f"question 0 length 10 bound 2 cycles 3 confirmed 0\ncycle 0 1 potential\n{row}cycle 0 2 potential\n{row}cycle 0 3 potential\n"
+        for most in (0, 1, 2):
+            with self.subTest(most), mock.patch("goodlock.reports.MOST_KNOWN", most):
+                found = [cycle.members for cycle in cycles_of(index_of(OPPOSITE), text + row)[1]]
+                self.assertEqual(found, [[member._replace(place=None) for member in MEMBERS]] * 3)
+                with self.assertRaisesRegex(InputError, "^bank.report:10: .*: does not fit the cycle, whose members each hold the lock .*"):
+                    cycles_of(index_of(OPPOSITE), text + "  thread 1 lock 20 holds 10\n" * 2)
+                with self.assertRaisesRegex(InputError, "^bank.report:7: .*: does not fit the trace, which has no such acquire$"):
+                    cycles_of(index_of(OPPOSITE), text.replace("question", "question 0 length 10 bound 2 cycles 1 confirmed 0\ncycle 0 1 potential\n" + row
+                                                               + "question").replace("length 10 bound 2 cycles 3", "length 2 bound 2 cycles 3") + row)
 
     def test_without_a_trace(self) -> None:
         self.assertEqual(len(list(read_reports("x", AnyEvents(), OPPOSITE_REPORT.splitlines()))), 2)
@@ -75,6 +111,35 @@ class Reads(unittest.TestCase):
             self.assertEqual(places_in(text), places, text[:20])
 
 
+class Witness(unittest.TestCase):
+    """The places of a witness are a text until they are needed."""
+
+    def test_places(self) -> None:
+        for places, last in [([], -1), ([0], 0), ([7], 7), ([0, 9, 10, 1048575], 1048575)]:
+            witness = Places.of(places)
+            self.assertEqual((list(witness), len(witness), witness.last), (places, len(places), last))
+            self.assertTrue(witness == places and places == witness, places)
+            self.assertIs(Places.of(witness), witness)
+        self.assertFalse(Places.of([1, 2]) == [1])
+
+    def test_some_of_them(self) -> None:
+        """Each is found with the number of places between it and the one before."""
+        witness = Places.of([0, 3, 9, 10, 99, 100, 101])
+        for places, found in [([], []), ([0], [(0, 0)]), ([0, 3], [(0, 0), (3, 0)]), ([1, 2], []), ([9], [(9, 2)]), ([10, 100], [(10, 3), (100, 1)]),
+                              ([3, 4, 101, 102], [(3, 1), (101, 4)]), ([0, 3, 9, 10, 99, 100, 101], [(place, 0) for place in witness])]:
+            self.assertEqual(list(witness.among(places)), found, places)
+        self.assertEqual([place for place in range(110) if place in witness], [0, 3, 9, 10, 99, 100, 101])
+        self.assertEqual(list(Places.of([]).among([0])), [])
+
+    def test_wrong_ones(self) -> None:
+        """They are refused when they are needed, and do no harm before."""
+        for text in (" 1 0", " 1 1", " 1  2", " 01 2", " 1 2 ", " " + "9" * 5000, " 2 " + "9" * 5000 + " 3"):
+            witness = Places(text.encode(), "x", 7)
+            self.assertLessEqual(len(list(witness.among(range(5)))), 5)
+            with self.assertRaisesRegex(InputError, "^x:7: witness .*: does not fit the trace: these are not ascending places of the trace$"):
+                list(witness)
+
+
 class Refuses(unittest.TestCase):
     """Each case replaces a line of the report; the message is about that line, or about the one after the last."""
 
@@ -84,7 +149,7 @@ class Refuses(unittest.TestCase):
         (1, "question 0 length 10 bound 2 cycles 2 confirmed 1", "6: the report ends within its cycles: the first line has 2"),
         (1, OPPOSITE_REPORT.split("\n")[0] + "\r", "1: question .*: carriage return: a line ends with a line feed alone"),
         (1, "", "1: an empty line"),
-        (1, "refused 10 HeldByOther at 2", "2: cycle 0 1: the first line of the report has fewer cycles"),
+        (1, "refused 10 HeldByOther at 2", "2: cycle 0 1: before a report, which begins with a line such as `question 0 length 10 .*"),
         (2, "cycle 0 confirmed", "2: cycle 0 confirmed: not a line of a report"),
         (2, "cycle 0 1 potential", "3: thread 1 lock 20 holds 10 place 3: the members of a confirmed cycle have places, those .*"),
         (3, "  thread 1 lock 20 holds 10 place 2", "3: thread 1 lock 20 holds 10 place 2: does not fit the trace, which has no such acquire"),
@@ -105,7 +170,8 @@ class Refuses(unittest.TestCase):
                 lines = OPPOSITE_REPORT.splitlines()
                 lines[number - 1] = line
                 with self.assertRaisesRegex(InputError, f"^x:{message}$"):
-                    list(read_reports("x", index_of(OPPOSITE), lines))
+                    for _, cycle in read_reports("x", index_of(OPPOSITE), lines):
+                        list(cycle.witness if cycle else ())
 
     def test_no_report(self) -> None:
         for text, message in [("", "1: there is no report, which begins with a line such as .*"),

@@ -8,9 +8,10 @@ import sys
 import unittest
 from typing import Optional
 
-from goodlock.commands.agent_reproduce import numbers, seconds, tries
+from goodlock.commands.agent_reproduce import numbers, seconds
 from goodlock.errors import InputError
 from goodlock.groups import Pair, key_of
+from goodlock.happened import Waiter, waiters_in
 from goodlock.limits import ATOMIC_VALUES, MOST_VALUES, PLAIN_VALUES
 from goodlock.reducer import ReducerError, Source, reduced
 from goodlock.reports import AnyEvents, Cycle, Member, Verdict, read_reports
@@ -18,7 +19,7 @@ from goodlock.reproduce.buildid import build_id_of, id_in, is_elf
 from goodlock.reproduce.calls import NO_CALL, File, Log, Place, command_of, read_log
 from goodlock.reproduce.drive import schedules
 from goodlock.reproduce.notes import command_for, reproduced_in, with_note
-from goodlock.reproduce.outcome import Outcome, Waiter, read_waiters
+from goodlock.reproduce.outcome import Outcome
 from goodlock.reproduce.recorded import check_builds, find_cycle
 from goodlock.reproduce.schedule import CALL, HEAD, HELD, LANE, REACH, Schedule, address_text, places_before, recorded
 from goodlock.traces import Index, Trace
@@ -319,8 +320,8 @@ class Outcomes(unittest.TestCase):
              "  lock 1 since @4@", "thread 2 waits for lock 1 at @7@", "  lock 2 since @6@", "  lock 9 since @1@"]
 
     def test_waiters(self) -> None:
-        found = read_waiters(self.LINES)
-        self.assertEqual(found, [Waiter(1, "lock", 2, 5, {1: 4}), Waiter(2, "lock", 1, 7, {2: 6, 9: 1})])
+        found, _ = waiters_in([line.strip() for line in self.LINES])
+        self.assertEqual(found, [Waiter(1, "lock", 2, "@5@", "@3@", {1: "@4@"}), Waiter(2, "lock", 1, "@7@", None, {2: "@6@", 9: "@1@"})])
         outcome = Outcome("deadlock", waiters=found, sites={4: ["/a/bank+0x30"], 5: ["/a/bank+0x40", "/a/bank+0x99"], 6: ["/b/libx.so.1+0x80"],
                                                             7: ["/b/libx.so.1.2+0x90"]})
         self.assertEqual(outcome.pairs(), [Pair("bank+0x30", "bank+0x40"), Pair("libx.so+0x80", "libx.so+0x90")])
@@ -394,8 +395,8 @@ class Notes(InFolder):
 
 class Words(unittest.TestCase):
     def test_numbers(self) -> None:
-        self.assertEqual((numbers("0,1"), tries("1"), tries("1000"), seconds("0.01"), seconds("3600")), ((0, 1), 1, 1000, 0.01, 3600))
-        for read, words in ((numbers, ("", "a", "0,x", "-1")), (tries, ("0", "1001", "x", "")), (seconds, ("0", "3601", "x", "nan", "inf"))):
+        self.assertEqual((numbers("0,1"), seconds("0.01"), seconds("3600")), ((0, 1), 0.01, 3600))
+        for read, words in ((numbers, ("", "a", "0,x", "-1")), (seconds, ("0", "3601", "x", "nan", "inf"))):
             for word in words:
                 with self.subTest(word), self.assertRaises(Exception):
                     read(word)

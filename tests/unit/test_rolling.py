@@ -1,11 +1,13 @@
 """Tests the windows of a run that several servers follow, without a server: tests/rolling has the others."""
+import contextlib
+import io
 import os
 import tempfile
 import unittest
 from unittest import mock
 
 from goodlock import rolling
-from goodlock.commands.with_server import read_options
+from goodlock.commands.with_server import read_args
 from goodlock.reports import Cycle, Member, Verdict
 from goodlock.rolling import ENDED, LEFT_OUT, OPEN, SETTLING, Roller, Window, key_of, read_announcement
 
@@ -105,26 +107,31 @@ class Windows(unittest.TestCase):
 
 class Lines(unittest.TestCase):
     def test_announcements(self) -> None:
-        self.assertEqual(read_announcement("window 2 first 101 trace /tmp/a b.2.trace"), (101, "/tmp/a b.2.trace"))
+        self.assertEqual(read_announcement("window 2 first 101 trace traces/a b.2.trace"), (101, "traces/a b.2.trace"))
         self.assertEqual(read_announcement("window 1 first 0 trace "), (0, ""))
         for line in ("", "window 1", "window 1 first x trace y", "windows 1 first 0 trace y", "window 1 first 0"):
             with self.assertRaises(ValueError, msg=line):
                 read_announcement(line)
 
     def test_options(self) -> None:
-        self.assertEqual(read_options(["true", "--bound", "9"]), (dict(zip(("--roll", "--bound", "--every", "--settle"), ("", "2", "2", "60"))),
-                                                                  ["true", "--bound", "9"]))
-        options, words = read_options(["--roll=d", "--bound", "8", "--every=1", "--settle", "86400", "--", "--x"])
-        self.assertEqual((list(options.values()), words), (["d", "8", "1", "86400"], ["--x"]))
+        for words, values, command in ((["true", "--bound", "9"], (None, 2, 2, 60), ["true", "--bound", "9"]),
+                                       (["--roll=d", "--bound", "8", "--every=1", "--settle", "86400", "--", "--x"], ("d", 8, 1, 86400), ["--x"])):
+            args = read_args(words)
+            self.assertEqual((args.roll, args.bound, args.every, args.settle), values)
+            self.assertEqual(args.command, command)
 
     def test_wrong_options(self) -> None:
-        for words, text in ((["--roll"], "--roll lacks its value"), (["--rolls", "d", "x"], "there is no option --rolls"), (["--roll", "d"], "there is no command"),
-                            (["--roll=d", "--bound=1", "x"], "--bound is 2 to 8"), (["--roll=d", "--bound=9", "x"], "--bound is 2 to 8"),
-                            (["--roll=d", "--every=0", "x"], "--every is 1 to 3600"), (["--roll=d", "--every=3601", "x"], "--every is 1 to 3600"),
-                            (["--roll=d", "--settle=0", "x"], "--settle is 1 to 86400"), (["--roll=d", "--settle=86401", "x"], "--settle is 1 to 86400"),
-                            (["--bound=3", "x"], "--bound needs --roll"), (["--roll=d", "--every=1.5", "x"], "--every is 1 to 3600")):
-            with self.assertRaisesRegex(ValueError, f"^{text}$", msg=str(words)):
-                read_options(words)
+        for words, text in ((["--roll"], "argument --roll: expected one argument"), (["--rolls", "d", "x"], "unrecognized arguments: --rolls"),
+                            (["--roll", "d"], "there is no command"), (["--roll=d", "--bound=1", "x"], "argument --bound: not 2 to 8"),
+                            (["--roll=d", "--bound=9", "x"], "argument --bound: not 2 to 8"), (["--roll=d", "--every=0", "x"], "argument --every: not 1 to 3,600"),
+                            (["--roll=d", "--every=3601", "x"], "argument --every: not 1 to 3,600"), (["--bound=3", "x"], "--bound needs --roll"),
+                            (["--roll=d", "--settle=0", "x"], "argument --settle: not 1 to 86,400"), (["--roll=d", "--every=1.5", "x"], "argument --every: .*"),
+                            (["--roll=d", "--settle=86401", "x"], "argument --settle: not 1 to 86,400")):
+            errors = io.StringIO()
+            with self.subTest(words=words), contextlib.redirect_stderr(errors), self.assertRaises(SystemExit) as ended:
+                read_args(words)
+            self.assertEqual(ended.exception.code, 2)
+            self.assertRegex(errors.getvalue(), f"^with_server: {text}; --help explains the options\n$")
 
 
 if __name__ == "__main__":

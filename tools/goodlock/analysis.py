@@ -7,18 +7,18 @@ from dataclasses import replace
 from goodlock.gates import Judge
 from goodlock.grades import graded
 from goodlock.groups import Groups, groups_of
-from goodlock.happened import NoteReader, deadlock_of, with_happened
+from goodlock.happened import deadlock_of, with_happened
 from goodlock.locations import Root
 from goodlock.reasons import Reason, reasons_of
-from goodlock.reports import Verdict, read_reports
+from goodlock.reports import ReportReader, Verdict
 from goodlock.results import KeptApart, LeftOut, Question, Result, State, kept, numbered, ordered, result_of
 from goodlock.traces import Index, lines_of
 
 
 def questions_of(index: Index, report: str, root: Root, judge: Judge, most: int) -> list[tuple[Groups, Question]]:
     """Returns the groups and the results of each report in a file."""
-    reader = NoteReader(lines_of(report))
-    found = groups_of(index, graded(index, read_reports(report, index, reader)))
+    reader = ReportReader(report, index)
+    found = groups_of(index, graded(index, reader.read(lines_of(report))))
     return [(groups, question_of(index, groups, notes, root, judge, most)) for groups, notes in zip(found, reader.notes)]
 
 

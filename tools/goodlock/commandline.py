@@ -7,7 +7,7 @@ import os
 import sys
 from collections.abc import Callable, Iterator
 from types import TracebackType
-from typing import IO, Optional
+from typing import IO, NoReturn, Optional
 
 from goodlock.errors import InputError, OutputError
 from goodlock.limits import LEAST_BOUND, MOST_BOUND
@@ -22,6 +22,27 @@ def plural(number: int, one: str) -> str:
 def parser_of(prog: str, description: str, epilog: str = "") -> argparse.ArgumentParser:
     """Returns a parser that prints these texts with their line feeds. The first line of the description is enough for it."""
     return argparse.ArgumentParser(prog=prog, description=description, epilog=epilog, formatter_class=argparse.RawDescriptionHelpFormatter)
+
+
+class WordsParser(argparse.ArgumentParser):
+    """Parses options before a command that has options of its own. A wrong word is one line on standard error, and status 2."""
+
+    def __init__(self, prog: str) -> None:
+        super().__init__(prog=prog, add_help=False, allow_abbrev=False)
+
+    def error(self, message: str) -> NoReturn:
+        print(f"{self.prog}: {message}; --help explains the options", file=sys.stderr)
+        sys.exit(2)
+
+    def command_in(self, words: list[str], what: str) -> argparse.Namespace:
+        """Returns the values of the options, and the `command`, which must be there."""
+        self.add_argument("command", nargs=argparse.REMAINDER)
+        args = self.parse_args(words)
+        if args.command[:1] == ["--"]:
+            del args.command[0]
+        if not args.command:
+            self.error(f"there is no {what}")
+        return args
 
 
 def is_number(word: str, digits: int = 19) -> bool:

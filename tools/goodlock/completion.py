@@ -3,7 +3,7 @@ from __future__ import annotations
 
 import os
 from bisect import bisect_left
-from collections.abc import Iterable, Iterator, Mapping, Sequence
+from collections.abc import Collection, Iterable, Iterator, Mapping, Sequence
 from typing import IO, Optional, Protocol
 
 from goodlock.commandline import Outputs, plural
@@ -46,11 +46,11 @@ class Waits(Waiter, Protocol):
     def place(self) -> Optional[int]: ...
 
 
-Confirmed = tuple[Sequence[Waits], Sequence[int], Verdict]  # the members of a cycle, its witness, and its verdict
+Confirmed = tuple[Sequence[Waits], Collection[int], Verdict]  # the members of a cycle, its witness, and its verdict
 
 
 def write_witness(file: IO[str], index: Index, places: Sequence[int], cycle: Confirmed) -> None:
-    members, witness, verdict = cycle
+    members, witness, verdict = cycle[0], list(cycle[1]), cycle[2]
     is_without = verdict is Verdict.NO_VALUE
     file.write("without values\n" if is_without else "witness\n")
     for at, member in enumerate(members):

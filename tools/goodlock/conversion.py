@@ -7,21 +7,15 @@ from __future__ import annotations
 
 import argparse
 from collections import Counter, defaultdict
-from collections.abc import Callable, Hashable, Iterator
-from itertools import count
+from collections.abc import Callable, Iterator
 from typing import IO
 
 from goodlock.commandline import Outputs
 from goodlock.limits import LARGEST, MOST_HELD_OF_RUN
 from goodlock.reduction import add_options, check_names
-from goodlock.traces import AdmissionCheck, one_line
+from goodlock.traces import KIND_OF, AdmissionCheck, one_line
 
 MOST_LETTERS = 10_000  # of a name or a code location
-
-
-def numbers() -> defaultdict[Hashable, int]:
-    """Returns what numbers names by first appearance, from 1."""
-    return defaultdict(count(1).__next__)
 
 
 def counted(found: Counter[str]) -> str:
@@ -36,22 +30,16 @@ class Conversion:
     def __init__(self, file: IO[str]) -> None:
         self.file = file
         self.check = AdmissionCheck(most_threads=LARGEST, most_held=MOST_HELD_OF_RUN)
-        self.threads, self.locks, self.variables = numbers(), numbers(), numbers()
+        self.numbers: dict[str, dict[str, int]] = defaultdict(dict)
         self.names: dict[tuple[str, int], str] = {}
         self.named: set[tuple[str, int]] = set()
         self.dropped: Counter[str] = Counter()
         self.source, self.expected, self.where = ("", 0), 0, ""
 
-    def thread(self, key: Hashable, name: str) -> int:
-        """Returns the number of a thread. `name` is for the comments."""
-        number = self.threads[key]
-        self.names.setdefault(("thread", number), one_line(name))
-        return number
-
-    def lock(self, key: Hashable, name: str) -> int:
-        """Returns the number of a lock."""
-        number = self.locks[key]
-        self.names.setdefault(("lock", number), one_line(name))
+    def number(self, kind: str, name: str) -> int:
+        """Returns the number of a thread, a lock or a variable: by first appearance, from 1."""
+        number = self.numbers[kind].setdefault(name, len(self.numbers[kind]) + 1)
+        self.names.setdefault((kind, number), one_line(name))
         return number
 
     def offer(self, thread: int, letter: str, target: int, where: str = "") -> bool:
@@ -75,7 +63,7 @@ class Conversion:
     def write(self, thread: int, letter: str, target: int, where: str) -> None:
         self.name("thread", thread)
         if letter in "fjar":
-            self.name("thread" if letter in "fj" else "lock", target)
+            self.name(KIND_OF[letter], target)
         name, line = self.source
         if line != self.expected:
             self.file.write(f"# line {line} of {one_line(name)}\n")

@@ -4,7 +4,6 @@ without the accesses of plain values. Accesses change neither the cycles of a tr
 from __future__ import annotations
 
 import contextlib
-import shutil
 import tempfile
 from array import array
 from collections.abc import Callable, Iterable, Iterator
@@ -12,7 +11,7 @@ from typing import IO, Optional
 
 from goodlock.commandline import plural
 from goodlock.errors import InputError
-from goodlock.program import NoAnswer, built_program, lines_from
+from goodlock.program import NoAnswer, found_program, lines_from
 from goodlock.refutations import Refutation
 from goodlock.reports import NO_VALUE, WITNESS, WITNESS_NO_VALUE, AnyEvents, Cycle, Report, ValueRead, Verdict, read_reports
 from goodlock.traces import CALLED_BY, Index
@@ -23,10 +22,7 @@ Lines = Callable[[str, int], Iterator[str]]  # of the report on a trace for a bo
 
 def offline(trace: str, bound: int) -> Iterator[str]:
     """Yields the lines of the report on a trace."""
-    program = built_program()
-    if not shutil.which(program):
-        raise NoAnswer(f"there is no program {program} (make builds it, GOODLOCKD_PROGRAM names another)")
-    yield from lines_from([program, "offline", trace, "--bound", str(bound)])
+    yield from lines_from([found_program(), "offline", trace, "--bound", str(bound)])
 
 
 class WithoutValues:

@@ -1,6 +1,5 @@
 """Groups cycles by the code locations where their members hold and wait."""
 import re
-from bisect import bisect_left
 from collections import Counter
 from collections.abc import Iterable, Iterator, Sequence
 from dataclasses import dataclass, field
@@ -8,7 +7,7 @@ from typing import NamedTuple, Optional, Protocol, TypeVar
 
 from goodlock.commandline import plural
 from goodlock.parts import WRITERS_WAIT, Basis
-from goodlock.reports import Cycle, Member, Report, Verdict
+from goodlock.reports import MOST_KNOWN, Cycle, Member, Places, Report, Verdict
 from goodlock.traces import Index
 
 LOCATION = re.compile(r"(.+?):([1-9][0-9]{0,8})(?::[0-9]+)?(?: in (.*))?")
@@ -108,31 +107,34 @@ class Group:
         return self.verdict.rank
 
     def take_steps(self, index: Index) -> None:
-        witness = self.example.witness
+        witness = Places.of(self.example.witness)
         self.witness_length = len(witness)
-        shown = set(witness) if len(witness) <= SHORT else index.steps_to([side.wait for side in self.sides], near=1)
-        end = 0
-        for place in sorted(shown):
-            at = bisect_left(witness, place)
-            if at < len(witness) and witness[at] == place:
-                self.steps.append(Step(place, at - end))
-                end = at + 1
-        self.left_out = len(witness) - end
+        shown = witness if self.witness_length <= SHORT else index.steps_to([side.wait for side in self.sides], near=1)
+        self.steps = [Step(*step) for step in witness.among(sorted(shown))]
+        self.left_out = self.witness_length - sum(1 + step.left_out for step in self.steps)
 
     def locations(self, index: Index) -> list[Pair]:
         """Returns for each member of the example the locations where it holds and waits."""
         return pairs_of(index, self.sides)
 
 
+def side_of(index: Index, member: Member, wanted: int) -> Side:
+    """Returns the side of a member at its place, or at the first acquire with its dependency."""
+    place = place_of(index, member)
+    return Side(index.since_of(place, wanted), place)
+
+
 def sides_of(index: Index, members: list[Member]) -> list[Side]:
-    """Returns a side for each member, at its place, or at the first acquire with its dependency."""
-    instance = instance_of(index, members)
-    return [Side(index.since_of(place, members[at - 1].lock), place) for at, place in enumerate(instance)]
+    return [side_of(index, member, members[at - 1].lock) for at, member in enumerate(members)]
+
+
+def place_of(index: Index, member: Member) -> int:
+    return index.places_of(member.dependency)[0] if member.place is None else member.place
 
 
 def instance_of(index: Index, members: list[Member]) -> list[int]:
     """Returns the place of each member: the one that the report gives, or else the first acquire with its dependency."""
-    return [index.places_of(member.dependency)[0] if member.place is None else member.place for member in members]
+    return [place_of(index, member) for member in members]
 
 
 def pairs_of(index: Index, sides: list[Side]) -> list[Pair]:
@@ -148,6 +150,7 @@ class Groups:
     def __init__(self, index: Index, report: Report, whole: int = 0, most: int = MOST_GROUPS) -> None:
         self.index, self.report, self.whole, self.most = index, report, whole, most
         self.by_key: dict[tuple[Basis, tuple[Pair, ...]], Group] = {}
+        self.sides: dict[tuple[Member, int], tuple[Side, Pair]] = {}
         self.begun: Counter[Verdict] = Counter()
         self.with_witness: list[Group] = []
         self.witnesses: Counter[Verdict] = Counter()
@@ -162,16 +165,16 @@ class Groups:
         if basis is Basis.IMPOSSIBLE:
             self.writers_wait += 1 + cycle.more
             return False
-        sides = sides_of(self.index, cycle.members)
-        key = basis, key_of(pairs_of(self.index, sides))
-        group = Group(cycle, sides, 1 + cycle.more, cycle.count(Verdict.CONFIRMED), basis, no_value=cycle.count(Verdict.NO_VALUE))
+        sides = [self.side_of(member, cycle.members[at - 1].lock) for at, member in enumerate(cycle.members)]
+        key = basis, key_of([pair for _, pair in sides])
         if key not in self.by_key:
             if self.begun[cycle.verdict] == self.most:
-                self.further += group.cycles
-                self.further_confirmed += group.confirmed
-                self.further_no_value += group.no_value
+                self.further += 1 + cycle.more
+                self.further_confirmed += cycle.count(Verdict.CONFIRMED)
+                self.further_no_value += cycle.count(Verdict.NO_VALUE)
                 return False
             self.begun[cycle.verdict] += 1
+        group = Group(cycle, [side for side, _ in sides], 1 + cycle.more, cycle.count(Verdict.CONFIRMED), basis, no_value=cycle.count(Verdict.NO_VALUE))
         if merge(self.by_key, key, group) is group and group.verdict.is_confirmed:
             group.take_steps(self.index)
             self.with_witness.append(group)
@@ -179,6 +182,17 @@ class Groups:
             if self.witnesses[group.verdict] > self.whole:
                 cycle.witness = []
         return True
+
+    def side_of(self, member: Member, wanted: int) -> tuple[Side, Pair]:
+        """Returns where a member acquired the lock that the member before it wants, and where it waits. Many cycles have the same potential
+        members."""
+        found = self.sides.get((member, wanted))
+        if not found:
+            side = side_of(self.index, member, wanted)
+            found = side, Pair(self.index.where(side.hold), self.index.where(side.wait))
+            if member.place is None and len(self.sides) < MOST_KNOWN:
+                self.sides[member, wanted] = found
+        return found
 
     def is_tried(self, cycle: Cycle) -> bool:
         marks = self.index.marks

@@ -2,55 +2,32 @@
 from __future__ import annotations
 
 import re
-from collections.abc import Iterable, Iterator, Sequence
+from collections.abc import Sequence
 from dataclasses import dataclass, field, replace
-from itertools import islice, takewhile
+from itertools import takewhile
 from typing import Optional
 
 from goodlock.groups import advice_for, key_of
 from goodlock.locations import Root
-from goodlock.reports import HEAD_NO_VALUE, QUESTION, Verdict
+from goodlock.reports import INDENT, QUESTION, Verdict, note_in
 from goodlock.results import Result, ResultMember, Spot
 from goodlock.traces import CALLED_BY, lines_of
 
-INDENT = "    "
-HEADING = "not examined:"
 DEADLOCK = re.compile(r"deadlock of [0-9]+ threads?, which waits? for .*")
 WAITS = re.compile(r"thread ([0-9]{1,10}) waits for (lock|thread) ([0-9]{1,10}) at (.*)")
 STARTED = re.compile(r"thread ([0-9]{1,10}) from (.*)")
 HOLDS = re.compile(r"lock ([0-9]{1,10}) since (.*)")
-TIMED = "timed: "
-
-
-class NoteReader:
-    """Passes on the lines of reports, and keeps the notes between the first line of each report and its first cycle."""
-
-    def __init__(self, lines: Iterable[str]) -> None:
-        self.lines = lines
-        self.notes: list[list[str]] = []
-
-    def __iter__(self) -> Iterator[str]:
-        is_before = False
-        for line in self.lines:
-            if QUESTION.fullmatch(line):
-                self.notes.append([])
-                is_before = True
-            elif is_before and line.startswith(INDENT) and not line.strip().startswith(TIMED):
-                self.notes[-1] += [line.strip()] if line.strip() != HEADING and not HEAD_NO_VALUE.fullmatch(line) else []
-            else:
-                is_before = False
-            yield line
 
 
 def head_notes(report: str) -> list[str]:
     """Returns the notes before the first cycle of a report; none if there is no such file, or it is no report."""
     lines = lines_of(report)
     try:
-        reader = NoteReader([*islice(lines, 1), *takewhile(lambda line: line.startswith(INDENT), lines)])
+        if not QUESTION.fullmatch(next(lines, "")):
+            return []
+        return [note for line in takewhile(lambda line: line.startswith(INDENT), lines) if (note := note_in(line))]
     except OSError:
         return []
-    list(reader)
-    return reader.notes[0] if reader.notes else []
 
 
 @dataclass
@@ -79,6 +56,12 @@ def spot_of(text: str, lock: Optional[int], root: Root) -> Spot:
 
 def deadlock_of(notes: Sequence[str], root: Root) -> tuple[Optional[Result], list[str]]:
     """Returns the deadlock that happened, if the notes describe one, and the other notes."""
+    waiters, others = waiters_in(notes)
+    return (result_of(waiters, root) if waiters else None), others
+
+
+def waiters_in(notes: Sequence[str]) -> tuple[list[Waiter], list[str]]:
+    """Returns the threads of the deadlock that the notes describe, and the other notes."""
     waiters: list[Waiter] = []
     others: list[str] = []
     for note in notes:
@@ -90,7 +73,7 @@ def deadlock_of(notes: Sequence[str], root: Root) -> tuple[Optional[Result], lis
             waiters[-1].held[int(match[1])] = match[2]
         elif not DEADLOCK.fullmatch(note):
             others.append(note)
-    return (result_of(waiters, root) if waiters else None), others
+    return waiters, others
 
 
 def result_of(waiters: list[Waiter], root: Root) -> Result:

@@ -74,6 +74,8 @@ class Parts:
     def basis_of(self, members: Sequence[Waiter]) -> Basis:
         """Returns what a cycle rests on. A member that waits for one part, and holds another part of the same lock for which the member
         before it waits, is a writer in its acquire."""
+        if not self.whole and not self.wakes:
+            return Basis.EVENTS
         locks = {self.whole[member.lock] for at, member in enumerate(members) if self.is_in_acquire(members[at - 1], member)}
         if not locks <= self.prefer_writers:
             return Basis.IMPOSSIBLE

@@ -34,6 +34,14 @@ def built_program() -> str:
     return os.path.join(folder, "crates", "goodlockd", "out", "goodlockd") if is_checkout else launcher()
 
 
+def found_program(program: str = "") -> str:
+    """Returns the path of the program itself, which may be given. Raises `NoAnswer` if there is none."""
+    program = program or built_program()
+    if not shutil.which(program):
+        raise NoAnswer(f"there is no program {program} (make builds it, GOODLOCKD_PROGRAM names another)")
+    return program
+
+
 def version() -> str:
     """Returns the version of what is installed: the newest one of CHANGELOG.md, or an empty text if that page is missing."""
     try:

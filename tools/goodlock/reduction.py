@@ -11,7 +11,6 @@ import sys
 import tempfile
 from collections.abc import Iterable, Iterator
 from dataclasses import dataclass
-from types import FrameType
 from typing import Optional
 
 from goodlock.commandline import Outputs, plural, print_whole, whole_number, writing
@@ -56,13 +55,9 @@ class Job:
 def interrupted_by(*signals: signal.Signals) -> Iterator[None]:
     """Those of these signals that would end the tool interrupt it as Ctrl-C does, so that it removes its files. One that is ignored, as
     under nohup, stays so."""
-
-    def interrupt(number: int, frame: Optional[FrameType]) -> None:
-        raise KeyboardInterrupt
-
     changed = [number for number in signals if signal.getsignal(number) is signal.SIG_DFL]
     for number in changed:
-        signal.signal(number, interrupt)
+        signal.signal(number, signal.default_int_handler)
     try:
         yield
     finally:

@@ -4,14 +4,13 @@ from __future__ import annotations
 import contextlib
 import os
 import re
-import shutil
 import tempfile
 import time
 from bisect import bisect_left
 from dataclasses import dataclass, field
 from typing import NamedTuple, Optional
 
-from goodlock.program import NoAnswer, built_program, lines_from
+from goodlock.program import NoAnswer, found_program, lines_from
 from goodlock.reports import Cycle, Member, Report, Verdict, member_of
 from goodlock.traces import Index
 
@@ -74,7 +73,7 @@ def refutations_of(index: Index, report: Report, cycles: list[Cycle], program: s
     reader = Reader(index, report, cycles)
     try:
         if reader.wanted:
-            read_explained(index, report, reader, program or built_program())
+            read_explained(index, report, reader, found_program(program))
     except NoAnswer as fault:
         return reader.found, str(fault)
     except OSError as fault:
@@ -84,8 +83,6 @@ def refutations_of(index: Index, report: Report, cycles: list[Cycle], program: s
 
 def read_explained(index: Index, report: Report, reader: Reader, program: str) -> None:
     """Gives the events that the report covers to `explain`, and reads what it prints until no cycle is wanted."""
-    if not shutil.which(program):
-        raise NoAnswer(f"there is no program {program} (make builds it, GOODLOCKD_PROGRAM names another)")
     with tempfile.TemporaryDirectory(prefix="explain-") as folder:
         trace = os.path.join(folder, "trace")
         with open(trace, "w", encoding="ascii") as file:

@@ -1,7 +1,9 @@
 """Reads reports as goodlockd or an agent writes them, and tests each line against the trace."""
+from __future__ import annotations
+
 import enum
 import re
-from collections.abc import Iterable, Iterator, Sequence
+from collections.abc import Collection, Iterable, Iterator, Sequence
 from dataclasses import dataclass, field
 from itertools import islice
 from operator import lt
@@ -17,6 +19,7 @@ MEMBER = re.compile(rf"  thread {NUMBER} lock {NUMBER} holds((?: {NUMBER})+)(?: 
 WITNESS = "  witness"
 PLACES = re.compile(rf"(?: {NUMBER})*")
 NOTE = re.compile(r"    (?:  )?\S.*")
+INDENT, HEADING, TIMED = "    ", "not examined:", "timed: "  # of notes
 NO_VALUE = "    confirmed if no value decides: "  # before the first cycle: how many; under a cycle: the places of its members
 HEAD_NO_VALUE = re.compile(rf"{NO_VALUE}[0-9,]+ cycles?")
 PLACES_NO_VALUE = re.compile(rf"{NO_VALUE}places((?: {NUMBER})+)")
@@ -26,7 +29,9 @@ MORE = re.compile(rf"    and {NUMBER} more cycles? at these lines, {NUMBER} of t
 REPRODUCED, FURTHER = "    reproduced in run ", "      "
 REFUSED = re.compile(r"refused [0-9]+ \w+(?: at [0-9]+)?")
 OTHER_LINE = re.compile(r"(placed|batch|refused|opened|pending|worked|delivered|status) .*")
-FEWER_EVENTS = "the trace has fewer events"
+BEGINS = "which begins with a line such as `question 0 length 10 bound 2 cycles 1 confirmed 1`"
+MOST_KNOWN = 1 << 16  # members that are parsed and looked up once, not for each of their cycles
+FEWER_EVENTS, NOT_ASCENDING = "the trace has fewer events", "these are not ascending places of the trace"
 
 
 class Verdict(enum.Enum):
@@ -95,6 +100,63 @@ class ValueRead(NamedTuple):
     text: str
 
 
+class Places(Collection[int]):
+    """The places of a witness, ascending, as a report has them: a space is before each. There may be a million of them, so they are numbers, and
+    tested, only when they are needed. `name` and `line` are those of the report."""
+
+    def __init__(self, text: bytes, name: str = "", line: Optional[int] = None) -> None:
+        self.text, self.name, self.line = text, name, line
+
+    @classmethod
+    def of(cls, places: Collection[int]) -> Places:
+        return places if isinstance(places, Places) else cls(b"".join(b" %d" % place for place in places))
+
+    @property
+    def last(self) -> int:
+        """The last place, or -1 if there is none."""
+        return self.number_at(len(self.text)) if self.text else -1
+
+    def number_at(self, offset: int) -> int:
+        """Returns the number at an offset of the text, or after it if there is a space."""
+        begin = self.text.rfind(b" ", 0, offset + 1) + 1
+        return int(self.text[begin:begin + 10].partition(b" ")[0] or 0)
+
+    def offset_of(self, place: int, low: int = 0) -> int:
+        """Returns where the text of the first number begins, with its space, that is not less than a place. Those before `low` are."""
+        high = len(self.text)
+        while low < high:
+            middle = (low + high) // 2
+            if self.number_at(middle) < place:
+                low = middle + 1
+            else:
+                high = middle
+        return low
+
+    def among(self, places: Iterable[int]) -> Iterator[tuple[int, int]]:
+        """Yields those of some ascending places that are here, each with the number of those here that are before it and after the one before."""
+        end = 0
+        for place in places:
+            begin = self.offset_of(place, end)
+            if begin < len(self.text) and self.number_at(begin) == place:
+                yield place, self.text.count(b" ", end, begin)
+                end = begin + 1
+
+    def __len__(self) -> int:
+        return self.text.count(b" ")
+
+    def __contains__(self, place: object) -> bool:
+        return isinstance(place, int) and any(self.among([place]))
+
+    def __iter__(self) -> Iterator[int]:
+        places = places_in(self.text.decode("ascii"))
+        if places is None or not all(map(lt, places, islice(places, 1, None))):
+            raise InputError(self.name, self.line, f"witness{shown(self.text.decode('ascii'))}: does not fit the trace: {NOT_ASCENDING}")
+        return iter(places)
+
+    def __eq__(self, other: object) -> bool:
+        return isinstance(other, Collection) and list(self) == list(other)
+
+
 @dataclass
 class Cycle:
     """A cycle of a report. `numbers` are those of its dependencies; `witness` has the places of its witness, unless it is potential. That of a
@@ -106,7 +168,7 @@ class Cycle:
     numbers: tuple[int, ...]
     verdict: Verdict
     members: list[Member] = field(default_factory=list)
-    witness: list[int] = field(default_factory=list)
+    witness: Collection[int] = field(default_factory=list)
     more: int = 0
     more_confirmed: int = 0
     more_no_value: int = 0
@@ -114,7 +176,7 @@ class Cycle:
     reads: list[ValueRead] = field(default_factory=list)
     is_graded: bool = False
 
-    def confirm(self, places: Sequence[int], witness: list[int]) -> None:
+    def confirm(self, places: Sequence[int], witness: Collection[int]) -> None:
         """Takes the instance and the witness of a potential cycle that is confirmed if no value decides."""
         self.verdict, self.witness = Verdict.NO_VALUE, witness
         self.members = [member._replace(place=place) for member, place in zip(self.members, places)]
@@ -131,7 +193,7 @@ class Cycle:
 
     def count(self, verdict: Verdict) -> int:
         """Returns for how many cycles of this verdict it is printed."""
-        more = {Verdict.CONFIRMED: self.more_confirmed, Verdict.NO_VALUE: self.more_no_value}[verdict]
+        more = self.more_confirmed if verdict is Verdict.CONFIRMED else self.more_no_value
         return more + (self.verdict is verdict)
 
 
@@ -171,8 +233,15 @@ def places_in(text: str) -> Optional[list[int]]:
     return list(map(int, text.split())) if PLACES.fullmatch(text) else None
 
 
+def note_in(line: str) -> str:
+    """Returns the note on a line between the first line of a report and its first cycle; an empty text if there is none."""
+    note = line.strip() if line.startswith(INDENT) and not HEAD_NO_VALUE.fullmatch(line) else ""
+    return "" if note == HEADING or note.startswith(TIMED) else note
+
+
 class ReportReader:
-    """Reads the lines of reports one after another, and tests each against the trace. Keeps one cycle in memory."""
+    """Reads the lines of reports one after another, and tests each against the trace. Keeps one cycle in memory, and the notes of each
+    report. `known` maps lines of the report to the first potential members on them, which were tested."""
 
     def __init__(self, name: str, events: Events) -> None:
         self.name, self.events, self.number = name, events, 0
@@ -180,6 +249,8 @@ class ReportReader:
         self.cycle: Optional[Cycle] = None
         self.rows_left, self.members_left, self.wants_witness, self.is_graded = 0, 0, False, False
         self.last_refusal = ""
+        self.notes: list[list[str]] = []
+        self.known: dict[str, Member] = {}
 
     def read(self, lines: Iterable[str]) -> Iterator[tuple[Report, Optional[Cycle]]]:
         """Yields a report and None for each first line of a report, and then the report and a cycle for each of its cycles."""
@@ -187,19 +258,22 @@ class ReportReader:
             self.number += 1
             if line.startswith((WITNESS, WITNESS_NO_VALUE)):
                 self.take_witness(line)
-            elif member := member_of(line):
+            elif member := self.known.get(line) or member_of(line):
                 self.take_member(line, member)
             elif match := CYCLE.fullmatch(line):
-                yield from self.end_cycle()
-                self.take_cycle(tuple(map(int, match[1].split())), Verdict(line.rpartition(" ")[2]))
+                if ended := self.end_cycle():
+                    yield ended
+                self.take_cycle(tuple(map(int, match[1].split())), Verdict.CONFIRMED if line.endswith("confirmed") else Verdict.POTENTIAL)
             elif match := QUESTION.fullmatch(line):
-                yield from self.end_cycle()
+                if ended := self.end_cycle():
+                    yield ended
                 yield self.take_question(line, Report(*map(int, match.groups()))), None
             else:
                 self.take_other(line)
         if not self.is_between() or self.report is None:
             self.refuse_end()
-        yield from self.end_cycle()
+        if ended := self.end_cycle():
+            yield ended
 
     def refuse(self, what: str) -> InputError:
         return InputError(self.name, self.number, what)
@@ -209,7 +283,7 @@ class ReportReader:
         if self.report:
             raise self.refuse(f"the report ends within its cycles: the first line has {self.report.cycles}")
         raise self.refuse(f"there is no report: goodlockd has refused the trace: {self.last_refusal}" if self.last_refusal else
-                          "there is no report, which begins with a line such as `question 0 length 10 bound 2 cycles 1 confirmed 1`")
+                          f"there is no report, {BEGINS}")
 
     def is_between(self) -> bool:
         return self.rows_left == 0 and self.members_left == 0 and not self.wants_witness
@@ -217,10 +291,11 @@ class ReportReader:
     def is_in_members(self) -> bool:
         return bool(self.members_left or self.wants_witness)
 
-    def end_cycle(self) -> Iterator[tuple[Report, Optional[Cycle]]]:
-        if self.report and self.cycle and not self.is_in_members():
-            yield self.report, self.cycle
-            self.cycle = None
+    def end_cycle(self) -> Optional[tuple[Report, Cycle]]:
+        if not self.report or not self.cycle or self.is_in_members():
+            return None
+        ended, self.cycle = self.cycle, None
+        return self.report, ended
 
     def take_question(self, line: str, report: Report) -> Report:
         if not self.is_between():
@@ -228,6 +303,8 @@ class ReportReader:
         if report.length > len(self.events):
             raise self.refuse(f"length {report.length}: does not fit the trace: {FEWER_EVENTS}")
         self.report, self.rows_left, self.is_graded = report, report.cycles, False
+        self.notes.append([])
+        self.known = {}
         return report
 
     def take_cycle(self, numbers: tuple[int, ...], verdict: Verdict) -> None:
@@ -235,7 +312,7 @@ class ReportReader:
         if self.is_in_members():
             raise self.refuse(f"cycle {self.cycle.name}: cycle {cycle.name if cycle else ''} before it lacks a line")
         if self.rows_left == 0:
-            raise self.refuse(f"cycle {self.cycle.name}: the first line of the report has fewer cycles")
+            raise self.refuse(f"cycle {self.cycle.name}: {'the first line of the report has fewer cycles' if self.report else f'before a report, {BEGINS}'}")
         self.rows_left -= 1
         self.members_left, self.wants_witness = len(numbers), verdict is Verdict.CONFIRMED
 
@@ -245,9 +322,12 @@ class ReportReader:
             raise self.refuse(f"{shown(line.strip())}: no cycle has a member here")
         if (cycle.verdict is Verdict.CONFIRMED) != (member.place is not None):
             raise self.refuse(f"{shown(line.strip())}: the members of a confirmed cycle have places, those of a potential one have none")
-        places = self.events.places_of(member.dependency)
-        if not places or places[0] >= report.length or not (member.place is None or self.is_acquire(member, member.place)):
-            raise self.refuse(f"{shown(line.strip())}: does not fit the trace, which has no such acquire")
+        if line not in self.known:
+            places = self.events.places_of(member.dependency)
+            if not places or places[0] >= report.length or not (member.place is None or self.is_acquire(member, member.place)):
+                raise self.refuse(f"{shown(line.strip())}: does not fit the trace, which has no such acquire")
+            if member.place is None and len(self.known) < MOST_KNOWN:
+                self.known[line] = member
         cycle.members.append(member)
         self.members_left -= 1
         self.test_ring(line, cycle.members)
@@ -261,12 +341,13 @@ class ReportReader:
             raise self.refuse(f"{shown(line.strip())}: does not fit the cycle, whose members each hold the lock that the one before wants")
 
     def take_witness(self, line: str) -> None:
-        cycle, report, places = self.cycle, self.report, places_in(line.partition("witness")[2])
-        if not cycle or not report or self.members_left or not self.wants_witness or places is None:
+        """Takes a witness. Of its places the last one is tested: the others are below it, or refused when they are needed."""
+        cycle, report, text = self.cycle, self.report, line.partition("witness")[2].encode("ascii", "replace")
+        if not cycle or not report or self.members_left or not self.wants_witness or text.translate(None, b" 0123456789") or text[:1] not in b" ":
             raise self.refuse(f"{shown(line.strip())}: no witness of places is here")
-        if places and (places[-1] >= report.length or not all(map(lt, places, islice(places, 1, None)))):
-            raise self.refuse(f"{shown(line.strip())}: does not fit the trace: these are not ascending places of the trace")
-        cycle.witness = places
+        cycle.witness = places = Places(text, self.name, self.number)
+        if places.last >= report.length:
+            raise self.refuse(f"{shown(line.strip())}: does not fit the trace: {NOT_ASCENDING}")
         self.wants_witness = False
 
     def take_no_value(self, line: str, places: list[int]) -> None:
@@ -307,6 +388,8 @@ class ReportReader:
             self.last_refusal = line if REFUSED.fullmatch(line) else self.last_refusal
         elif not (NOTE.fullmatch(line) and self.report):
             raise self.refuse(f"{shown(line)}: {fault_of_text(line) or 'not a line of a report'}" if line else "an empty line")
+        elif not self.cycle and (note := note_in(line)):
+            self.notes[-1].append(note)
 
 
 def read_reports(name: str, events: Events, lines: Optional[Iterable[str]] = None) -> Iterator[tuple[Report, Optional[Cycle]]]:

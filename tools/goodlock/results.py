@@ -4,7 +4,7 @@ from __future__ import annotations
 import enum
 import hashlib
 from collections import Counter
-from collections.abc import Iterable, Sequence
+from collections.abc import Callable, Iterable, Iterator, Sequence
 from dataclasses import dataclass, replace
 from typing import NamedTuple, Optional
 
@@ -127,6 +127,16 @@ class Witness:
     events: int
     steps: tuple[WitnessStep, ...]
     left_out: int = 0
+
+    def lines(self, where: Callable[[WitnessStep], str]) -> Iterator[str]:
+        """Yields a line for each step, with where it is, and how many events are left out between them."""
+        for step in self.steps:
+            if step.left_out:
+                yield f".. {plural(step.left_out, 'event')}"
+            text = where(step)
+            yield f"{step.label}: thread {step.thread} {step.event}{text and '    '}{text}"
+        if self.left_out:
+            yield f".. {plural(self.left_out, 'event')}"
 
 
 @dataclass(frozen=True)

@@ -4,32 +4,8 @@ The agent announces each window at a Unix socket, by a line `window N first EVEN
 servers are still busy: then the window is left out. A line `roll` asks the agent to begin the next window, because the server takes no more
 questions. When the agent has closed the connection, the run is over.
 
-`Roller` keeps the file DIR/windows.json, which is replaced as a whole when something has changed. It has these fields; others may be added:
-
-    version     1
-    pid         the process that writes the file
-    is_over     whether the command has ended: then nothing changes any more
-    updated     the time of this write, in seconds since 1970
-    totals      windows, events, left_out, and the different cycles of all windows: confirmed, potential
-    left_out    ranges of windows that no server has seen, [first, last]; the last 64 of them
-    windows     the windows that are open or settling, the first 256 with a new cycle, and the last 16 others, by their numbers
-
-A window has these fields:
-
-    number      from 1 on
-    state       open, settling (complete, its last question is not settled), ended, or left out
-    address     of its server as long as it lives, else null. A server with a new cycle lives until its place is needed
-    process     the number of this server's process, or null
-    events      that its server has accepted; null if it is left out
-    first       how many events the windows before had
-    asked       how many events its last settled question covers
-    bound       of its questions
-    confirmed, potential    cycles of the last settled question as the server counts them; null before there is one
-    new         how many of these no earlier window has with this verdict: the same threads, locks and held locks
-    report      the path of the report of this question if it has a cycle, else null
-    trace       the path of the agent's trace, or null. The agent removes the trace of a window without a new cycle
-    is_settled  false if the question at its end was not settled, so that the events from `asked` on were not searched
-    fault       what went wrong with its server, as a sentence, or null"""
+`Roller` keeps the file DIR/windows.json, which is replaced as a whole when something has changed: docs/tools.md has its fields. A server with a
+new cycle lives until its place is needed."""
 from __future__ import annotations
 
 import contextlib

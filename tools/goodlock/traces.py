@@ -21,6 +21,7 @@ MARK = re.compile(rf"# mark {NUMBER}")
 VALUES = re.compile(rf"# values atomic {NUMBER} plain {NUMBER}")
 ORIGIN = re.compile(r"# (place|line) (0|[1-9][0-9]{0,18})(?: of (.+))?")
 VERBS = {"f": "forks thread", "j": "joins thread", "a": "acquires lock", "r": "releases lock", "d": "reads", "w": "writes"}
+KIND_OF = {"f": "thread", "j": "thread", "a": "lock", "r": "lock", "d": "variable", "w": "variable"}
 MOST_FILES = 5  # that a note names
 CALLED_BY = " < "  # between a source line and that of its caller
 
@@ -391,25 +392,16 @@ class Index:
         self.index_events()
 
     def index_events(self) -> None:
-        depths: dict[int, dict[int, int]] = defaultdict(dict)
-        begun: dict[int, int] = {}  # of a held lock: its outermost acquire
+        check = AdmissionCheck()
         for place, (thread, letter, target, _) in enumerate(self.events):
             self.thread_places[thread].append(place)
             if letter == "a":
-                mine = depths[thread]
-                if target not in mine:
-                    if mine:
-                        self.index_acquire(place, Dependency(thread, target, tuple(sorted(mine))), begun)
-                    mine[target] = 0
-                    begun[target] = place
-                mine[target] += 1
-            elif letter == "r":
-                mine = depths[thread]
-                mine[target] -= 1
-                if mine[target] == 0:
-                    del mine[target]
+                mine = check.depths.get(thread)
+                if mine and target not in mine:
+                    self.index_acquire(place, Dependency(thread, target, tuple(sorted(mine))), check.since)
             elif letter == "f":
                 self.fork_of[target] = place
+            check.accept(thread, letter, target)
 
     def index_acquire(self, place: int, dependency: Dependency, begun: dict[int, int]) -> None:
         places = self.dependencies[dependency]
@@ -420,19 +412,14 @@ class Index:
     @cached_property
     def sections(self) -> dict[int, Optional[int]]:
         """Maps each outermost acquire to its release, or to None."""
-        found: dict[int, Optional[int]] = {}
-        begun: dict[int, tuple[int, int]] = {}  # of a held lock: its outermost acquire and its depth
-        for place, (_, letter, target, _) in enumerate(self.events):
+        found, check = dict[int, Optional[int]](), AdmissionCheck()
+        for place, (thread, letter, target, _) in enumerate(self.events):
+            begin = check.since.get(target)
+            check.accept(thread, letter, target)
             if letter == "a":
-                begin, depth = begun.get(target, (place, 0))
-                begun[target] = begin, depth + 1
-                found.setdefault(begin, None)
-            elif letter == "r":
-                begin, depth = begun.pop(target)
-                if depth == 1:
-                    found[begin] = place
-                else:
-                    begun[target] = begin, depth - 1
+                found.setdefault(check.since[target], None)
+            elif letter == "r" and begin is not None and target not in check.since:
+                found[begin] = place
         return found
 
     @cached_property

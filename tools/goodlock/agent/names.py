@@ -2,7 +2,6 @@
 comments for the traces, and lines `lock N at PATH+0xOFFSET` for locks in the memory of a file."""
 from __future__ import annotations
 
-import contextlib
 import re
 from collections.abc import Iterator
 from typing import Optional
@@ -25,10 +24,8 @@ class Names:
         self.parts = Parts()
         self.names: dict[tuple[str, int], str] = {}
         self.addresses: dict[int, tuple[str, int]] = {}
-        with contextlib.suppress(OSError):
-            with open(run.work("names"), encoding="utf-8", errors="replace", newline="\n") as file:
-                for line in file:
-                    self.take(line.rstrip("\n"))
+        for line in run.lines("names"):
+            self.take(line)
 
     def take(self, line: str) -> None:
         line = THREAD.sub(lambda match: f"{match[1]}{self.first}{match[2] or ''}", line)

@@ -14,10 +14,9 @@ from goodlock.agent.whole import Whole, adopt, drop, search_whole
 from goodlock.errors import InputError
 from goodlock.grades import head_line, sentence, value_lines
 from goodlock.groups import key_of, merge
-from goodlock.happened import HEADING
 from goodlock.limits import FIRST_THREAD, HELPERS, MOST_BOUND, TRY_MARKERS
 from goodlock.parts import REASONS, WRITERS_WAIT
-from goodlock.reports import ValueRead, confirmed_text
+from goodlock.reports import HEADING, ValueRead, confirmed_text
 from goodlock.reproduce.calls import keep_log
 from goodlock.settings import Settings
 from goodlock.traces import CALLED_BY
@@ -136,18 +135,9 @@ def gaps_of(run: Run, summary: dict[str, int], windows: dict[int, Window], whole
         yield f"{cycles}{f' in {count} of {len(windows)} windows' if len(windows) > 1 else ''}: {why}"
 
 
-def lines_in(run: Run, name: str) -> list[str]:
-    """Returns the lines of a file of the collector; none if there is no such file."""
-    try:
-        with open(run.work(name), encoding="utf-8", errors="replace") as file:
-            return file.read().splitlines()
-    except OSError:
-        return []
-
-
 def processes_of(run: Run) -> list[tuple[int, bool, str]]:
     """Returns the number, whether it was traced, and the name of each further process with threads."""
-    words = [line.split(" ", 2) for line in lines_in(run, "processes")]
+    words = [line.split(" ", 2) for line in run.lines("processes")]
     return [(int(number), traced == "1", name) for number, traced, name in words]
 
 
@@ -175,13 +165,13 @@ def limits_of(run: Run, summary: dict[str, int], windows: dict[int, Window], who
         yield f"{plural(summary['unseen'], 'thread')} started in a way that is not seen: what came before the start is not ordered"
     if summary["cleared"]:
         yield f"{plural(summary['cleared'], 'program')} started with an environment that lacks the agent's variables"
-    libraries = sorted({match[1] for name in lines_in(run, "libraries") if (match := OWN_LOCKS.fullmatch(name))})
+    libraries = sorted({match[1] for name in run.lines("libraries") if (match := OWN_LOCKS.fullmatch(name))})
     if JAVA in libraries:
         libraries.remove(JAVA)
         yield "the monitors and locks of a program in Java, which are not seen here: agents/java records them"
     if libraries:
         yield f"the locks inside of {', '.join(libraries)}"
-    yield from lines_in(run, "unserved")
+    yield from run.lines("unserved")
     yield from unseen_by(run)
     if any(window.found for window in windows.values()):
         yield from unseen_values(summary)
@@ -191,7 +181,7 @@ def limits_of(run: Run, summary: dict[str, int], windows: dict[int, Window], who
 
 def unseen_by(run: Run) -> Iterator[str]:
     """Yields what the recorder says it could not see: the first lines, and the number of the others."""
-    lines = lines_in(run, "unseen")
+    lines = run.lines("unseen")
     yield from lines[:MOST_NAMES]
     if len(lines) > MOST_NAMES:
         yield f"and {len(lines) - MOST_NAMES} more of these"
@@ -247,7 +237,7 @@ def notes_of(summary: dict[str, int], windows: dict[int, Window]) -> Iterator[st
 
 def read_deadlock(run: Run, sites: Sites) -> list[str]:
     """Returns the lines about a deadlock that has happened."""
-    return [sites.name_all(line) for line in lines_in(run, "deadlock")]
+    return [sites.name_all(line) for line in run.lines("deadlock")]
 
 
 def write_window(run: Run, number: int, window: Window, found: list[Found], extra: Iterable[str], sites: Sites) -> None:

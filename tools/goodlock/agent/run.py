@@ -3,6 +3,7 @@ import os
 import sys
 
 from goodlock.limits import FIRST_THREAD, MOST_BOUND
+from goodlock.traces import lines_of
 
 ALL, ACROSS = 0, ".all"  # the number, and the name, of what all windows together have: see Run
 
@@ -28,6 +29,13 @@ class Run:
 
     def work(self, name: str) -> str:
         return os.path.join(f"{self.out}.tmp", name)
+
+    def lines(self, name: str) -> list[str]:
+        """Returns the lines of a file in OUT.tmp; none if there is no such file."""
+        try:
+            return list(lines_of(self.work(name)))
+        except OSError:
+            return []
 
     def window(self, number: int, kind: str) -> str:
         return f"{self.out}{'' if number == 1 else ACROSS if number == ALL else f'.{number}'}.{kind}"

@@ -27,7 +27,7 @@ from goodlock.limits import HELPERS, LEAST_BOUND, TIMED_MARKERS, TRY_MARKERS
 from goodlock.parts import condition_of
 from goodlock.program import NoAnswer, lines_from
 from goodlock.refutations import refutations_of
-from goodlock.reports import Cycle, Report, Verdict, confirmed_text, read_reports
+from goodlock.reports import Cycle, Places, Report, Verdict, confirmed_text, read_reports
 from goodlock.traces import EVENT, Index, lines_of, read_trace
 
 MOST_GROUPS = 1000
@@ -189,7 +189,7 @@ def found_of(index: Index, group: Group, is_timed: bool, not_named: str) -> Foun
         since = [site_of(index, index.since_of(side.wait, lock)) for lock in member.held]
         members.append(FoundMember(member.thread, member.lock, list(member.held), member.place, site_of(index, side.wait), since,
                                    None if fork is None else site_of(index, fork)))
-    witness = " ".join(map(str, cycle.witness)) if cycle.verdict.is_confirmed else None
+    witness = Places.of(cycle.witness).text[1:].decode("ascii") if cycle.verdict.is_confirmed else None
     found = Found(cycle.verdict.value, list(cycle.numbers), members, witness, group.cycles, group.confirmed, condition_of(group.basis),
                   no_value=group.no_value)
     if is_timed:

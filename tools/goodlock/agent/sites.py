@@ -45,15 +45,9 @@ def shortened(text: str, most: int) -> str:
     return f"{text[:most - len(CUT) - end]}{CUT}{text[-end:]}"
 
 
-def read_sites(path: str) -> dict[int, list[str]]:
+def read_sites(run: Run) -> dict[int, list[str]]:
     """Returns the callers of each site; none if there is no file."""
-    sites: dict[int, list[str]] = {}
-    with contextlib.suppress(OSError):
-        with open(path, encoding="utf-8", errors="replace") as file:
-            for line in file:
-                number, *callers = line.rstrip("\n").split("\t")
-                sites[int(number)] = callers
-    return sites
+    return {int(number): callers for number, *callers in (line.split("\t") for line in run.lines("sites"))}
 
 
 def source_of(line: str) -> Optional[Source]:
@@ -83,7 +77,7 @@ class Sites:
     than these seconds, and at least a few: then addresses stay."""
 
     def __init__(self, run: Run, shown: int, root: Optional[Root] = None, seconds: float = 0) -> None:
-        self.shown, self.callers, self.root = shown, read_sites(run.work("sites")), root or Root()
+        self.shown, self.callers, self.root = shown, read_sites(run), root or Root()
         self.end = time.monotonic() + max(seconds, LEAST_SECONDS)
         self.names: dict[int, str] = {}
         self.lines: dict[str, list[Source]] = {}  # of a caller PATH+0xOFFSET: its sources, the innermost first

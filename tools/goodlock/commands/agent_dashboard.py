@@ -20,8 +20,8 @@ from typing import NoReturn, Optional
 from goodlock.agent.run import say
 from goodlock.commandline import is_number, print_usage
 from goodlock.dashboard.web import start, work_folder
-from goodlock.program import ROOT
 from goodlock.protocol import split
+from goodlock.rolling import Server
 
 FOR_EVER, WRONG = 10**8, 2
 SWITCHES = ("--dashboard", "--no-config", "--allow-partial", "--trace-children")  # options without a value
@@ -43,24 +43,14 @@ def server_at(address: Optional[str]) -> Iterator[str]:
     if address is not None:
         yield address
         return
-    program = os.environ.get("GOODLOCKD_PROGRAM") or os.path.join(ROOT, "goodlockd")
-    command = [program, "serve", "127.0.0.1:0", "--workers", "2"]
     try:
-        server = subprocess.Popen(command, stdin=subprocess.DEVNULL, stdout=subprocess.PIPE, text=True, preexec_fn=ignore_interrupts)
+        server = Server()
     except OSError as fault:
-        refuse(f"cannot run {program}: {fault.strerror}; the program is not run")
-    with server:
-        try:
-            found = (server.stdout.readline() if server.stdout else "").split()
-            if found[:1] != ["listening"]:
-                refuse("the server does not start; the program is not run")
-            yield found[1]
-        finally:
-            server.kill()
-
-
-def ignore_interrupts() -> None:
-    signal.signal(signal.SIGINT, signal.SIG_IGN)
+        refuse(f"there is no server: {fault}; the program is not run")
+    try:
+        yield server.address
+    finally:
+        server.end()
 
 
 def is_address(word: str) -> bool:

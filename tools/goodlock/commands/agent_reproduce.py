@@ -12,28 +12,15 @@ import argparse
 import shutil
 import signal
 import sys
-from typing import NoReturn
 
 from goodlock.agent.run import say
-from goodlock.commandline import is_number, print_usage
+from goodlock.commandline import WordsParser, is_number, print_usage, whole_number
 from goodlock.errors import InputError
 from goodlock.reproduce.drive import NOT_REPRODUCED, Agent, Driver, Plan
 from goodlock.reproduce.recorded import check_builds, find_cycle
 from goodlock.reproduce.notes import note_reproduced
 
 WRONG, MOST_TRIES, MOST_PATIENCE, AGENT_FILES = 2, 1000, 3600, 4
-
-
-class Parser(argparse.ArgumentParser):
-    def error(self, message: str) -> NoReturn:
-        say(f"{message}; --help explains the options")
-        sys.exit(WRONG)
-
-
-def tries(word: str) -> int:
-    if not (is_number(word, 5) and 1 <= int(word) <= MOST_TRIES):
-        raise argparse.ArgumentTypeError(f"not 1 to {MOST_TRIES}")
-    return int(word)
 
 
 def seconds(word: str) -> float:
@@ -54,20 +41,15 @@ def numbers(word: str) -> tuple[int, ...]:
 
 
 def read_args(words: list[str]) -> argparse.Namespace:
-    parser = Parser(prog="goodlock", add_help=False, allow_abbrev=False)
+    parser = WordsParser("goodlock")
     parser.add_argument("--reproduce", required=True)
     parser.add_argument("--cycle", type=numbers)
-    parser.add_argument("--tries", type=tries, default=3)
+    parser.add_argument("--tries", type=whole_number(1, MOST_TRIES), default=3)
     parser.add_argument("--patience", type=seconds, default=2.0)
     parser.add_argument("--gdb", action="store_true")
-    parser.add_argument("program", nargs=argparse.REMAINDER)
-    args = parser.parse_args(words)
-    if args.program[:1] == ["--"]:
-        del args.program[0]
-    if not args.program:
-        parser.error("there is no program to run")
-    if not shutil.which(args.program[0]):
-        parser.error(f"cannot run {args.program[0]}: there is no such program")
+    args = parser.command_in(words, "program to run")
+    if not shutil.which(args.command[0]):
+        parser.error(f"cannot run {args.command[0]}: there is no such program")
     return args
 
 
@@ -75,8 +57,8 @@ def reproduce(words: list[str]) -> int:
     agent = Agent(*words[:AGENT_FILES])
     args = read_args(words[AGENT_FILES:])
     found = find_cycle(args.reproduce, args.cycle)
-    check_builds(found.schedule.run.log, args.program[0])
-    driver = Driver(agent, Plan(args.program, args.tries, round(args.patience * 1000), args.gdb))
+    check_builds(found.schedule.run.log, args.command[0])
+    driver = Driver(agent, Plan(args.command, args.tries, round(args.patience * 1000), args.gdb))
     status = driver.reproduce(found.schedule)
     if driver.proof:
         note_reproduced(found.report, found.schedule.cycle, driver.proof)

@@ -8,7 +8,7 @@ from goodlock.conversion import Conversion, arguments_of, converted, counted
 from goodlock.errors import InputError, fault_of_text, shown
 from goodlock.reducer import Source
 from goodlock.reduction import Job, folder_beside, run_job
-from goodlock.traces import lines_of, one_line
+from goodlock.traces import KIND_OF, lines_of, one_line
 
 HELP = """
 It writes OUT.trace without the events that change no cycle and no verdict, as tools/reduce does;
@@ -70,18 +70,11 @@ class Converter:
         if not target:
             raise self.refuse(line, f"{operation} has no target")
         letter = LETTERS[operation]
-        conversion.offer(conversion.thread(thread, thread), letter, number_of(conversion, letter, target), one_line(where))
+        conversion.offer(conversion.number("thread", thread), letter, conversion.number(KIND_OF[letter], target), one_line(where))
 
     def lines(self) -> Iterator[str]:
         if self.left_out:
             yield f"left out: {counted(self.left_out)}"
-
-
-def number_of(conversion: Conversion, letter: str, name: str) -> int:
-    """Returns the number of the thread, lock or variable that is an event's target."""
-    if letter in "fj":
-        return conversion.thread(name, name)
-    return conversion.lock(name, name) if letter in "ar" else conversion.variables[name]
 
 
 def convert() -> int:

@@ -14,7 +14,7 @@ from goodlock.formats.json import many_text as json_text
 from goodlock.formats.text import many_text
 from goodlock.jobs import TraceFile, check_hosts, do_job, run_jobs, traces_in
 from goodlock.merging import Merged
-from goodlock.program import built_program, launcher
+from goodlock.program import NoAnswer, built_program, found_program, launcher
 from goodlock.results import Run
 from goodlock.settings import Settings, settings_of
 
@@ -84,12 +84,12 @@ def find_traces(parser: argparse.ArgumentParser, args: argparse.Namespace) -> li
 
 def program_to_run(parser: argparse.ArgumentParser) -> str:
     """Returns the program itself: the launcher of a checkout builds it if it has to."""
-    program = built_program()
-    if program != launcher():
+    if built_program() != launcher():
         subprocess.run([launcher(), "script", os.devnull], stdout=subprocess.DEVNULL, check=False)
-    if not shutil.which(program):
-        parser.error(f"there is no program {program}")
-    return program
+    try:
+        return found_program()
+    except NoAnswer as fault:
+        parser.error(str(fault))
 
 
 def run_of(args: argparse.Namespace, settings: Settings, traces: Sequence[TraceFile]) -> Run:

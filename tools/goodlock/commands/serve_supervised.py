@@ -5,7 +5,7 @@ usage: tools/serve_supervised ADDRESS [OPTION ..]
 
   ADDRESS OPTION ..    the words of `goodlockd serve`; --stop-at-eof is added
 
-The exit status is that of the server, or 128 and the number of the signal that has ended it.
+The exit status is that of the server, 128 and the number of the signal that has ended it, or 2 without an address.
 """
 from __future__ import annotations
 
@@ -42,5 +42,5 @@ def supervise(words: list[str]) -> int:
 def main() -> int:
     words = sys.argv[1:]
     if words in (["--help"], ["-h"], []):
-        return print_usage(__doc__ or "")
+        return print_usage(__doc__ or "", status=2)
     return run(lambda: supervise(words))

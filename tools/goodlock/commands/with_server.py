@@ -20,6 +20,7 @@ is no server, or 2 if the command line is wrong.
 """
 from __future__ import annotations
 
+import argparse
 import os
 import signal
 import subprocess
@@ -27,12 +28,11 @@ import sys
 from types import FrameType
 from typing import Optional
 
-from goodlock.commandline import BOUNDS, plural, print_whole, run
+from goodlock.commandline import BOUNDS, WordsParser, plural, print_usage, whole_number
 from goodlock.rolling import Roller, Server
 
-WRONG, NO_SERVER, NOT_STARTED, NOT_FOUND, INTERRUPTED = 2, 1, 126, 127, 130
-OPTIONS = {"--roll": "", "--bound": "2", "--every": "2", "--settle": "60"}
-LIMITS = {"--bound": (BOUNDS[0], BOUNDS[-1]), "--every": (1, 3600), "--settle": (1, 86400)}
+NO_SERVER, NOT_STARTED, NOT_FOUND, INTERRUPTED = 1, 126, 127, 130
+OF_ROLL = (("bound", 2, whole_number(BOUNDS[0], BOUNDS[-1])), ("every", 2, whole_number(1, 3600)), ("settle", 60, whole_number(1, 86400)))
 
 
 def execute(words: list[str], **variables: str) -> int:
@@ -74,58 +74,40 @@ def summary_of(roller: Roller) -> str:
             f"{totals['potential']} potential cycles{left_out}{not_settled}: {os.path.join(roller.folder, 'windows.json')}")
 
 
-def with_many(options: dict[str, str], words: list[str]) -> int:
-    folder = options["--roll"]
+def with_many(args: argparse.Namespace) -> int:
+    folder = args.roll
     os.makedirs(folder, exist_ok=True)
     for name in os.listdir(folder):
         if name == "windows.json" or name.removesuffix(".report").isdecimal() and name.endswith(".report"):
             os.remove(os.path.join(folder, name))
-    roller = Roller(folder, int(options["--bound"]), int(options["--every"]), int(options["--settle"]))
+    roller = Roller(folder, args.bound, args.every, args.settle)
     with roller.running() as (address, path):
-        status = execute(words, GOODLOCKD=address, GOODLOCKD_ROLL=path)
+        status = execute(args.command, GOODLOCKD=address, GOODLOCKD_ROLL=path)
     print(summary_of(roller), file=sys.stderr)
     return status
 
 
-def refuse(text: str) -> int:
-    print(f"with_server: {text}; --help explains the options", file=sys.stderr)
-    return WRONG
-
-
-def read_options(words: list[str]) -> tuple[dict[str, str], list[str]]:
-    """Returns the options and the command. Raises ValueError with a text if one is wrong."""
-    options = dict(OPTIONS)
-    while words and words[0].startswith("--"):
-        name, equals, value = words[0].partition("=")
-        if name == "--" and not equals:
-            words = words[1:]
-            break
-        if name not in OPTIONS:
-            raise ValueError(f"there is no option {name}")
-        if not equals and len(words) < 2:
-            raise ValueError(f"{name} lacks its value")
-        options[name], words = (value, words[1:]) if equals else (words[1], words[2:])
-    for name, (least, most) in LIMITS.items():
-        value = options[name]
-        if not (value.isascii() and value.isdecimal() and len(value) < 8 and least <= int(value) <= most):
-            raise ValueError(f"{name} is {least} to {most}")
-        if value != OPTIONS[name] and not options["--roll"]:
-            raise ValueError(f"{name} needs --roll")
-    if not words:
-        raise ValueError("there is no command")
-    return options, words
+def read_args(words: list[str]) -> argparse.Namespace:
+    parser = WordsParser("with_server")
+    parser.add_argument("--roll")
+    for name, _, number in OF_ROLL:
+        parser.add_argument(f"--{name}", type=number)
+    args = parser.command_in(words, "command")
+    for name, default, _ in OF_ROLL:
+        if getattr(args, name) is None:
+            setattr(args, name, default)
+        elif not args.roll:
+            parser.error(f"--{name} needs --roll")
+    return args
 
 
 def main() -> int:
     words = sys.argv[1:]
     if words in (["--help"], ["-h"], []):
-        return run(lambda: print_whole(f"{(__doc__ or '').strip()}\n"))
+        return print_usage(__doc__ or "")
+    args = read_args(words)
     try:
-        options, words = read_options(words)
-    except ValueError as fault:
-        return refuse(str(fault))
-    try:
-        return with_many(options, words) if options["--roll"] else with_one(words)
+        return with_many(args) if args.roll else with_one(args.command)
     except OSError as fault:
         print(f"with_server: {fault.filename or 'no server'}: {fault.strerror or fault}", file=sys.stderr)
         return NO_SERVER

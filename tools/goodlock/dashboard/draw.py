@@ -5,6 +5,7 @@ import json
 import sys
 from collections.abc import Iterator
 from html import escape
+from itertools import islice
 
 from goodlock.commandline import plural, print_whole, run
 from goodlock.dashboard.files import notes_beside
@@ -70,8 +71,7 @@ def member_lines(member: Member, colours: dict[int, str]) -> str:
 
 
 def witness(cycle: Cycle) -> str:
-    places, count = cycle.witness, len(cycle.witness)
-    shown = " ".join(map(str, places[:MOST_PLACES])) + (" …" if count > MOST_PLACES else "")
+    shown = " ".join(map(str, islice(cycle.witness, MOST_PLACES))) + (" …" if len(cycle.witness) > MOST_PLACES else "")
     return witness_head(cycle) + f'<p class="places">{escape(shown)}</p>'
 
 

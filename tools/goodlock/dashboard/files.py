@@ -10,7 +10,6 @@ from goodlock.agent.sites import Sites, name_lines_of
 from goodlock.happened import head_notes
 
 SITE = re.compile(rb"^# at ([0-9]{1,10})$", re.M)
-LONGEST_NOTES = 1 << 20
 NO_TRACE = "Start the dashboard with --trace FILE to see source lines, the order of events, and what keeps potential cycles apart."
 MISSING = "The trace file {} cannot be read. The source lines and the order of events appear here when it can."
 
@@ -69,7 +68,4 @@ def notes_beside(trace: str) -> list[str]:
     run = Run(trace.removesuffix(".trace"))
     if not os.path.isdir(run.work("")):
         return head_notes(f"{run.out}.report") if trace else []
-    with contextlib.suppress(OSError, UnicodeError):
-        with open(run.work("happened"), encoding="utf-8") as file:
-            return [line.strip() for line in file.read(LONGEST_NOTES).splitlines()]
-    return []
+    return [line.strip() for line in run.lines("happened")]

@@ -6,11 +6,10 @@ from typing import NamedTuple, Optional
 
 from goodlock.drawing.shapes import APART, FAINT, GLYPH, INK, OTHER, SMALLEST, STUCK, Value, cut, drawing, fitting, shape, text, titled, two_lines
 from goodlock.reports import Member
-from goodlock.traces import VERBS, Event, Index, description_of, source_of
+from goodlock.traces import KIND_OF, VERBS, Event, Index, description_of, source_of
 
 GUTTER, HEAD, ROW, TALL_ROW, GAP_ROW, SCREEN = 64, 46, 31, 42, 26, 1080
 NARROWEST, WIDEST, BETWEEN, MOST_DIGITS, TALL = 200, 230, 40, 7, 1000
-KINDS = {"f": "thread", "j": "thread", "a": "lock", "r": "lock"}
 
 
 class Row(NamedTuple):
@@ -113,7 +112,7 @@ class TimeLine:
 
     def label_of(self, event: Event) -> str:
         """Returns what an event does, with the name of its thread or lock if it has one."""
-        kind = KINDS.get(event.letter, "")
+        kind = KIND_OF[event.letter]
         name = self.name_of(kind, event.target)
         return titled(kind, event.target, name, self.chip_width - 6, f"{VERBS[event.letter].split()[0]} ") if name else description_of(event)
 

@@ -11,27 +11,19 @@ SEVERITIES = {Verdict.HAPPENED: "blocker", Verdict.CONFIRMED: "critical", Verdic
 
 
 def text_of(run: Run) -> str:
-    issues = [issue(run.name, result) for result in run.shown] + [fault_issue(trace, fault) for trace, fault in run.faults]
+    issues = [issue_of(run.name, result) for result in run.shown]
+    for trace, fault in run.faults:
+        fingerprint = hashlib.sha256(trace.encode("utf-8", "replace")).hexdigest()
+        issues.append(issue(f"There is no report: {fault}", "no-report", fingerprint, "major", trace))
     return json.dumps(issues, indent=2) + "\n"
 
 
-def issue(name: str, result: Result) -> dict[str, object]:
+def issue_of(name: str, result: Result) -> dict[str, object]:
     """Returns a result as an issue. Each issue needs a file: without source lines it is the trace."""
     location, (trace, *_) = result.location, (*result.traces, name)
-    return {
-        "description": result.message,
-        "check_name": result.rule,
-        "fingerprint": result.fingerprint,
-        "severity": SEVERITIES[result.verdict],
-        "location": {"path": location.file or trace, "lines": {"begin": location.line or 1}},
-    }
+    return issue(result.message, result.rule, result.fingerprint, SEVERITIES[result.verdict], location.file or trace, location.line or 1)
 
 
-def fault_issue(trace: str, fault: str) -> dict[str, object]:
-    return {
-        "description": f"There is no report: {fault}",
-        "check_name": "no-report",
-        "fingerprint": hashlib.sha256(trace.encode("utf-8", "replace")).hexdigest(),
-        "severity": "major",
-        "location": {"path": trace, "lines": {"begin": 1}},
-    }
+def issue(description: str, check: str, fingerprint: str, severity: str, path: str, line: int = 1) -> dict[str, object]:
+    return {"description": description, "check_name": check, "fingerprint": fingerprint, "severity": severity,
+            "location": {"path": path, "lines": {"begin": line}}}

@@ -3,6 +3,7 @@ from __future__ import annotations
 
 import json
 from collections.abc import Sequence
+from dataclasses import fields
 from typing import Any, Optional
 
 from goodlock.gates import Judgement
@@ -38,12 +39,7 @@ def many_text(run: Run, traces: int, judgement: Judgement) -> str:
     return text_of({
         "version": VERSION,
         "traces": traces,
-        "events": numbers.events,
-        "cycles": numbers.cycles,
-        "confirmed": numbers.confirmed,
-        "no_value": numbers.no_value,
-        "tried": numbers.tried,
-        "writers_wait": numbers.writers_wait,
+        **{name: getattr(numbers, name) for name in ("events", "cycles", "confirmed", "no_value", "tried", "writers_wait")},
         "groups": [merged_object(result) for result in run.results],
         "faults": dict(run.faults),
         "unused_suppressions": list(run.unused),
@@ -62,12 +58,8 @@ def run_object(run: Run, judgement: Judgement) -> Object:
 
 def numbers_object(numbers: Numbers) -> Object:
     return {
-        "events": numbers.events,
-        "threads": numbers.threads,
-        "locks": numbers.locks,
-        "dependencies": numbers.dependencies,
-        "cycles": {"confirmed": numbers.confirmed, "no_value": numbers.no_value, "potential": numbers.potential, "tried": numbers.tried,
-                   "writers_wait": numbers.writers_wait},
+        **{name: getattr(numbers, name) for name in ("events", "threads", "locks", "dependencies")},
+        "cycles": {name: getattr(numbers, name) for name in ("confirmed", "no_value", "potential", "tried", "writers_wait")},
         "happened": numbers.happened,
         "seconds": round(numbers.seconds, 3),
     }
@@ -182,9 +174,8 @@ def merged_object(result: Result) -> Object:
 
 
 def numbers_from(found: Object) -> Numbers:
-    cycles = found["cycles"]
-    return Numbers(found["events"], found["threads"], found["locks"], found["dependencies"], cycles["confirmed"], cycles["potential"],
-                   cycles["tried"], found["happened"], found["seconds"], cycles["writers_wait"], cycles.get("no_value", 0))
+    known = {one.name for one in fields(Numbers)}
+    return Numbers(**{name: value for name, value in {**found, **found["cycles"]}.items() if name in known})
 
 
 def result_from(found: Object, root: Root) -> Result:

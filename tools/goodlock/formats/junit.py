@@ -12,10 +12,10 @@ NO_XML = re.compile("[^\t\n\r\x20-\ud7ff\ue000-\ufffd\U00010000-\U0010ffff]")
 
 
 def text_of(run: Run, judgement: Judgement) -> str:
-    cases = [fault_case(trace, fault) for trace, fault in run.faults] or [xml.Element("testcase", case(run.name))]
+    cases = [case(trace, "error", "no report", fault) for trace, fault in run.faults] or [xml.Element("testcase", names_of(run.name))]
     cases += [result_case(result, judgement) for result in [*run.shown, *run.with_state(State.SUPPRESSED)]]
     if judgement.unjudged:
-        cases.append(failure_case("further groups", "too many groups", f"{judgement.unjudged:,} cycles are in no group"))
+        cases.append(case("further groups", "failure", "too many groups", f"{judgement.unjudged:,} cycles are in no group"))
     counts = counts_of(cases, run.numbers.seconds)
     suites = xml.Element("testsuites", {"name": SUITE, **counts})
     suite = xml.SubElement(suites, "testsuite", {"name": SUITE, **counts})
@@ -40,8 +40,15 @@ def counts_of(cases: list[xml.Element], seconds: float) -> dict[str, str]:
     return {"tests": str(len(cases)), "failures": str(failures), "errors": str(errors), "time": f"{seconds:.3f}"}
 
 
-def case(name: str) -> dict[str, str]:
+def names_of(name: str) -> dict[str, str]:
     return {"classname": SUITE, "name": clean(name), "time": "0"}
+
+
+def case(name: str, outcome: str, kind: str, message: str) -> xml.Element:
+    """Returns a case that has not passed: with an error or a failure, or skipped."""
+    found = xml.Element("testcase", names_of(name))
+    xml.SubElement(found, outcome, {"type": kind, "message": clean(message)})
+    return found
 
 
 def name_of(result: Result) -> str:
@@ -51,29 +58,16 @@ def name_of(result: Result) -> str:
     return places if number == "1" else f"{places} ({number})"
 
 
-def fault_case(trace: str, fault: str) -> xml.Element:
-    found = xml.Element("testcase", case(trace))
-    xml.SubElement(found, "error", {"type": "no report", "message": clean(fault)})
-    return found
-
-
-def failure_case(name: str, kind: str, message: str) -> xml.Element:
-    found = xml.Element("testcase", case(name))
-    xml.SubElement(found, "failure", {"type": kind, "message": clean(message)})
-    return found
-
-
 def result_case(result: Result, judgement: Judgement) -> xml.Element:
     """Returns a result as a case: it fails if it is an error, and is skipped if it is known or suppressed."""
     if level_of(result, judgement.gate) is Level.ERROR:
-        found = failure_case(name_of(result), result.rule, result.message)
+        found = case(name_of(result), "failure", result.rule, result.message)
         found[0].text = clean("\n".join(lines_of(result)))
-        return found
-    found = xml.Element("testcase", case(name_of(result)))
-    if result.state is not State.NEW:
+    elif result.state is not State.NEW:
         why = "in the baseline" if result.state is State.KNOWN else f"line {result.suppressed_by} of the suppressions"
-        xml.SubElement(found, "skipped", {"type": result.rule, "message": f"{result.state.value}: {why}"})
+        found = case(name_of(result), "skipped", result.rule, f"{result.state.value}: {why}")
     else:
+        found = xml.Element("testcase", names_of(name_of(result)))
         xml.SubElement(found, "system-out").text = clean(result.message)
     return found
 

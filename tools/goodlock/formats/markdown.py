@@ -58,12 +58,8 @@ def details(result: Result) -> str:
 
 
 def witness_lines(result: Result) -> Iterator[str]:
-    for step in result.witness.steps if result.witness else ():
-        if step.left_out:
-            yield f".. {plural(step.left_out, 'event')}"
-        yield f"{step.label}: thread {step.thread} {step.event}{f'    {step.location.text}' if step.location else ''}"
-    if result.witness and result.witness.left_out:
-        yield f".. {plural(result.witness.left_out, 'event')}"
+    if result.witness:
+        yield from result.witness.lines(lambda step: step.location.text if step.location else "")
     for member in result.members:
         yield f"thread {member.thread} waits for {member.wait.target}    {member.wait.location.text}"
 

@@ -78,12 +78,7 @@ def witness_lines(result: Result) -> Iterator[str]:
     witness = result.witness
     assert witness
     yield f"  How it happens, in cycle {' '.join(map(str, result.example))} with {plural(witness.events, 'event')}:"
-    for step in witness.steps:
-        if step.left_out:
-            yield f"    .. {plural(step.left_out, 'event')}"
-        yield f"    {step.label}: thread {step.thread} {step.event}{f'    {step.source}' if step.source else ''}"
-    if witness.left_out:
-        yield f"    .. {plural(witness.left_out, 'event')}"
+    yield from (f"    {line}" for line in witness.lines(lambda step: step.source))
     for at, member in enumerate(result.members):
         holder = result.members[(at + 1) % len(result.members)].thread
         where = f"    {member.wait.source}" if member.wait.source else ""

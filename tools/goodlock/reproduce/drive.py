@@ -165,11 +165,11 @@ def deadlock_lines(schedule: Schedule, outcome: Outcome, sites: Sites, is_same: 
     yield f"{'' if is_same else 'another '}deadlock of {count} {waits}{'' if is_same else '; its locks have the numbers of this run'}"
     names = recorded_locks(schedule, outcome) if is_same else {}
     for at, waiter in enumerate(outcome.waiters):
-        yield f"thread {waiter.thread} waits for {waiter.kind} {names.get(waiter.target, waiter.target)} at {sites.name(waiter.wait)}"
+        yield f"thread {waiter.thread} waits for {waiter.kind} {names.get(waiter.target, waiter.target)} at {sites.name_all(waiter.wait)}"
         before = outcome.waiters[at - 1]
-        for lock, site in waiter.held.items():
+        for lock, where in waiter.held.items():
             if before.kind == "lock" and lock == before.target:
-                yield f"  lock {names.get(lock, lock)} since {sites.name(site)}"
+                yield f"  lock {names.get(lock, lock)} since {sites.name_all(where)}"
 
 
 def recorded_locks(schedule: Schedule, outcome: Outcome) -> dict[int, int]:

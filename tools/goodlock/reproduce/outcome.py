@@ -8,11 +8,11 @@ from typing import Optional
 from goodlock.agent.run import Run
 from goodlock.agent.sites import read_sites
 from goodlock.groups import Pair, key_of
+from goodlock.happened import Waiter, waiters_in
 from goodlock.reproduce.calls import CALLER
 from goodlock.reproduce.schedule import Schedule, address_text
 
-WAITS = re.compile(r"thread ([0-9]+) waits for (lock|thread) ([0-9]+) at @([0-9]+)@")
-SINCE = re.compile(r"  lock ([0-9]+) since @([0-9]+)@")
+SITE = re.compile("@([0-9]+)@")
 DEADLOCK, DIVERGED, ESCAPED, ENDED = "deadlock", "diverged", "escaped", "ended"
 PLACES = ("not started", "runs, or waits for something that is not in the trace", "waits for its turn", "is held back",
           "is before its acquire", "is in a call", "has ended")
@@ -22,19 +22,9 @@ KINDS = {1: "fork", 5: "end of the thread", 7: "join", 9: "acquire", 10: "attemp
 
 
 @dataclass
-class Waiter:
-    """A thread of a deadlock, in the numbers of its run: where it waits for what, and where it acquired its locks. These are sites."""
-
-    thread: int
-    kind: str
-    target: int
-    wait: int
-    held: dict[int, int] = field(default_factory=dict)
-
-
-@dataclass
 class Outcome:
-    """The end of a run. `lanes` has the next call and the place of each thread that was seen."""
+    """The end of a run. `lanes` has the next call and the place of each thread that was seen. The locations of `waiters` are the numbers of
+    sites between two @, and their threads and locks have the numbers of this run."""
 
     verdict: str
     milliseconds: int = 0
@@ -49,8 +39,9 @@ class Outcome:
     waiters: list[Waiter] = field(default_factory=list)
     sites: dict[int, list[str]] = field(default_factory=dict)
 
-    def caller(self, site: int) -> str:
-        caller = (self.sites.get(site) or ["?"])[0]
+    def caller(self, location: str) -> str:
+        site = SITE.fullmatch(location)
+        caller = (site and self.sites.get(int(site[1])) or ["?"])[0]
         match = CALLER.fullmatch(caller)
         return address_text(match[1], int(match[2], 16)) if match else caller
 
@@ -64,7 +55,7 @@ class Outcome:
         return bool(schedule.pause or self.closed) or wants == {(member.thread, member.lock) for member in members}
 
     def pairs(self) -> list[Pair]:
-        return [Pair(self.caller(waiter.held.get(self.waiters[at - 1].target, 0)), self.caller(waiter.wait))
+        return [Pair(self.caller(waiter.held.get(self.waiters[at - 1].target, "")), self.caller(waiter.wait))
                 for at, waiter in enumerate(self.waiters)]
 
 
@@ -78,7 +69,7 @@ def predicted_pairs(schedule: Schedule) -> list[Pair]:
 def read_outcome(run: Run) -> Optional[Outcome]:
     """Returns what the collector has written, or None if it has written nothing."""
     outcome = Outcome("")
-    for line in lines_of_work(run, "outcome"):
+    for line in run.lines("outcome"):
         word, *rest = line.split(" ")
         if word == "verdict":
             outcome.verdict = rest[0]
@@ -89,24 +80,6 @@ def read_outcome(run: Run) -> Optional[Outcome]:
             outcome.divergence = lane, following, kind, about, site
         else:
             setattr(outcome, word, int(rest[0]))
-    outcome.sites = read_sites(run.work("sites"))
-    outcome.waiters = read_waiters(lines_of_work(run, "deadlock"))
+    outcome.sites = read_sites(run)
+    outcome.waiters, _ = waiters_in([line.strip() for line in run.lines("deadlock")])
     return outcome if outcome.verdict else None
-
-
-def lines_of_work(run: Run, name: str) -> list[str]:
-    try:
-        with open(run.work(name), encoding="utf-8", errors="replace") as file:
-            return file.read().splitlines()
-    except OSError:
-        return []
-
-
-def read_waiters(lines: list[str]) -> list[Waiter]:
-    waiters: list[Waiter] = []
-    for line in lines:
-        if match := WAITS.fullmatch(line):
-            waiters.append(Waiter(int(match[1]), match[2], int(match[3]), int(match[4])))
-        elif waiters and (match := SINCE.fullmatch(line)):
-            waiters[-1].held[int(match[1])] = int(match[2])
-    return waiters
