@@ -1,6 +1,6 @@
 /* Cases of tests/agents_alone: programs that write to the memory which they share with the collector what the recorder never writes. */
 #define _GNU_SOURCE
-#include "../agents/pthread/ring.h"
+#include "../agents/pthread/shared/ring.h"
 
 #include <fcntl.h>
 #include <pthread.h>

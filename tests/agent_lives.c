@@ -1,7 +1,7 @@
 /* A test of tests/agents_alone: the collector's encoder gets the records of many threads one after another, each with locks of its own on its
  * stack and in allocated memory. Its memory must not grow with threads and locks that have ended, and nobody's name may change. The
  * dependencies of the whole run have a limit, which the early threads reach. */
-#include "../agents/pthread/collector.h"
+#include "../agents/pthread/collector/collector.h"
 
 #include <malloc.h>
 #include <stdarg.h>

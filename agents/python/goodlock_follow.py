@@ -1,5 +1,5 @@
 """Makes a program in Python follow a schedule: the calls of a recorded run, in their order. goodlock_agent uses it if GOODLOCK_SCHEDULE names
-one. It does what agents/pthread/follow.c and pause.c do, and agents/pthread/schedule.h describes the memory.
+one. It does what agents/pthread/recorder/follow.c and pause.c do, and agents/pthread/shared/schedule.h describes the memory.
 
 A call that has a turn waits until all earlier turns are done. When all turns are done and each member of the cycle is before its acquire, the
 members go on into their real calls, and nobody is held any more. A site is known by a hash of its source line.

@@ -7,6 +7,7 @@ from goodlock import limits
 from goodlock.program import ROOT
 
 AGENTS, TOOLS = os.path.join(ROOT, "agents"), os.path.join(ROOT, "tools")
+LIMITS, RING = (os.path.join("pthread", "shared", name) for name in ("limits.h", "ring.h"))
 
 
 def text_of(*path: str, folder: str = AGENTS) -> str:
@@ -21,13 +22,13 @@ def values_in(pattern: str, *path: str) -> dict[str, int]:
 
 def kinds_of_the_ring() -> dict[str, int]:
     """Returns the kinds of records in ring.h, which number themselves from 1."""
-    block = text_of("pthread", "ring.h").split("enum kind {")[1].split("};")[0]
+    block = text_of(RING).split("enum kind {")[1].split("};")[0]
     return {name: number for number, name in enumerate(re.findall(r"\bR_[A-Z_]+", re.sub(r"/\*.*?\*/", "", block, flags=re.S)), 1)}
 
 
 class Compares(unittest.TestCase):
     def test_limits_of_the_agent_for_pthreads(self) -> None:
-        found = values_in(r"^#define ([A-Z_]+) ([0-9]+)u$", "pthread", "limits.h") | values_in(r"\b(MOST_[A-Z]+) = ([0-9]+)", "pthread", "limits.h")
+        found = values_in(r"^#define ([A-Z_]+) ([0-9]+)u$", LIMITS) | values_in(r"\b(MOST_[A-Z]+) = ([0-9]+)", LIMITS)
         self.assertEqual(found, {name: getattr(limits, name) for name in (
             "MOST_EVENTS", "MOST_THREADS", "MOST_HELD", "MOST_DEPTH", "FIRST_THREAD", "HELPERS", "TRY_MARKERS", "TIMED_MARKERS",
             "ATOMIC_VALUES", "PLAIN_VALUES")})
@@ -46,19 +47,19 @@ class Compares(unittest.TestCase):
         self.assertGreater(len(found), 5)
 
     def test_flags_of_the_crate_for_rust(self) -> None:
-        flags = values_in(r"\b(READS_TRIED|PREFERS_WRITERS|BY_CONDITION) = ([0-9]+)", "pthread", "ring.h")
+        flags = values_in(r"\b(READS_TRIED|PREFERS_WRITERS|BY_CONDITION) = ([0-9]+)", RING)
         self.assertEqual(values_in(r"^const ([A-Z_]+): u32 = ([0-9]+) << 8;$", "rust", "src", "recorder.rs"),
                          {"TRIED": flags["READS_TRIED"], "WRITERS_FIRST": flags["PREFERS_WRITERS"], "BY_CONDITION": flags["BY_CONDITION"]})
 
     def test_kinds_of_the_agent_for_java(self) -> None:
         kinds = values_in(r"^    public static final int ([A-Z_]+) = ([0-9]+);$", "java", "src", "goodlock", "recorder", "Kind.java")
-        flags = values_in(r"\b(WAITS_FOR_[A-Z]+|WITHOUT_END|BY_CONDITION|BY_VALUE) = ([0-9]+)", "pthread", "ring.h") | {"WAITS_FOR_THREAD": 2}
+        flags = values_in(r"\b(WAITS_FOR_[A-Z]+|WITHOUT_END|BY_CONDITION|BY_VALUE) = ([0-9]+)", RING) | {"WAITS_FOR_THREAD": 2}
         ring = {name[2:]: number for name, number in kinds_of_the_ring().items()} | flags
         self.assertEqual(kinds, {name: ring[name] for name in kinds})
         self.assertGreater(len(kinds), 20)
 
     def test_flags_of_the_agent_for_java(self) -> None:
-        flags = values_in(r"\b(READS_TRIED|READS_TIMED|PREFERS_WRITERS) = ([0-9]+)", "pthread", "ring.h")
+        flags = values_in(r"\b(READS_TRIED|READS_TIMED|PREFERS_WRITERS) = ([0-9]+)", RING)
         self.assertEqual(values_in(r"^    public static final int ([A-Z_]+) = ([0-9]+) << 8;$", "java", "src", "goodlock", "recorder", "Kind.java"), flags)
 
     def test_kinds_of_the_recorder_for_python(self) -> None:

@@ -1,5 +1,5 @@
 """The limits of the formats (docs/formats.md), and the numbers that the agents choose (docs/agents.md). The tests compare
-agents/pthread/limits.h with it."""
+agents/pthread/shared/limits.h with it."""
 
 LARGEST = 4_294_967_295  # number of a thread, a lock or a variable
 NUMBER = r"(0|[1-9][0-9]{0,9})"  # as text; it may be larger

@@ -1,7 +1,7 @@
-/* Reads the log of a run that an agent has recorded: ../../agents/pthread/calls.h describes it. Its bytes are hostile input, too. */
+/* Reads the log of a run that an agent has recorded: ../../agents/pthread/shared/calls.h describes it. Its bytes are hostile input, too. */
 #include "reducer.h"
 
-#include "../../agents/pthread/calls.h"
+#include "../../agents/pthread/shared/calls.h"
 
 enum { MOST_ENTRY = 16, HEAD = sizeof CALLS_MAGIC - 1 + 4, MOST_COMMAND = 1 << 24 };
 

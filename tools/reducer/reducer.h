@@ -10,7 +10,7 @@
 #include <stdlib.h>
 #include <string.h>
 
-#include "../../agents/pthread/limits.h"
+#include "../../agents/pthread/shared/limits.h"
 
 /* Of the input. Each acquire adds an edge to the lock graph for each held lock, so their number is bounded. */
 enum { MOST_HELD_OF_RUN = 1024, MOST_THREADS_OF_RUN = 1 << 27, MOST_COMMENT = 1 << 16 };

@@ -6,13 +6,13 @@ use std::panic::Location;
 use std::sync::atomic::{AtomicU64, AtomicUsize, Ordering};
 use std::sync::OnceLock;
 
-/// Flags of `agents/pthread/ring.h`, as `goodlock_record` takes them: a reader does not wait; waiting writers keep readers out, as in std; a
-/// condition gives.
+/// Flags of `agents/pthread/shared/ring.h`, as `goodlock_record` takes them: a reader does not wait; waiting writers keep readers out, as in
+/// std; a condition gives.
 const TRIED: u32 = 1 << 8;
 const WRITERS_FIRST: u32 = 4 << 8;
 const BY_CONDITION: u32 = 2 << 8;
 
-/// What is recorded: the kinds of `agents/pthread/ring.h`.
+/// What is recorded: the kinds of `agents/pthread/shared/ring.h`.
 #[derive(Clone, Copy)]
 #[repr(u32)]
 pub enum Kind {
@@ -50,7 +50,7 @@ fn functions() -> Option<&'static Functions> {
 fn find_all() -> Option<Functions> {
     let (site, state) = (find(b"goodlock_site\0")?, find(b"goodlock_state\0")?);
     let (record, wait) = (find(b"goodlock_record\0")?, find(b"goodlock_wait\0")?);
-    // SAFETY: agents/pthread/recorder.c defines functions of these names with these types.
+    // SAFETY: agents/pthread/recorder/recorder.c defines functions of these names with these types.
     unsafe {
         Some(Functions {
             site: std::mem::transmute::<*mut c_void, extern "C" fn(*const c_char, u32) -> u64>(site),
@@ -99,7 +99,7 @@ impl Site {
 }
 
 const SITES: usize = 1 << 13;
-const MOST_TEXT: usize = 1000; // as in agents/pthread/recorder.c
+const MOST_TEXT: usize = 1000; // as in agents/pthread/recorder/recorder.c
 
 /// The recorder's number of a location. A hash table with open addressing keeps the numbers, each plus one. It has no lock: if two
 /// threads are at a new location at the same time, the location gets two numbers.

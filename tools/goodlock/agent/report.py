@@ -23,9 +23,9 @@ from goodlock.traces import CALLED_BY
 
 DEADLOCK, NO_REPORT, IN_PART = 1, 2, 3  # exit statuses
 MOST_NAMES = 5
-VALUES_OF_ATOMICS, VALUES_OF_MEMORY, VALUES_HOOKED, VALUES_LOST = 1, 2, 8, 16  # agents/pthread/ring.h has the same, and this number:
+VALUES_OF_ATOMICS, VALUES_OF_MEMORY, VALUES_HOOKED, VALUES_LOST = 1, 2, 8, 16  # agents/pthread/shared/ring.h has the same, and this number:
 MOST_WRITERS = 65_000
-MOST_PARTS = 8  # readers of a lock that can be members of cycles: agents/pthread/readers.c has the same
+MOST_PARTS = 8  # readers of a lock that can be members of cycles: agents/pthread/collector/events/readers.c has the same
 # Libraries with locks that are made of atomics and futex calls, also in code which the agent does not see.
 OWN_LOCKS = re.compile("(lib(?:glib-2.0|gomp|i?omp5?|Qt[56]Core|tbb|jvm|go))\\.so.*")
 JAVA = "libjvm"

@@ -1,4 +1,4 @@
-"""The log of a run, NAME.calls. agents/pthread/calls.h describes its first part, which the collector writes. After it come lines of text:
+"""The log of a run, NAME.calls. agents/pthread/shared/calls.h describes its first part, which the collector writes. After it come lines of text:
 `program PATH`, `file N BUILD-ID PATH`, for each site `site N FILE OFFSET`, or for Python `line N FILE TEXT`, and `name N TEXT`."""
 import contextlib
 import hashlib

@@ -1,4 +1,4 @@
-"""Makes the schedule of a run that follows a recorded one: agents/pthread/schedule.h describes its bytes.
+"""Makes the schedule of a run that follows a recorded one: agents/pthread/shared/schedule.h describes its bytes.
 
 The order to follow is the recorded order as far as it can come before the deadlock: without the members of the cycle from their acquires on,
 and without what needs anything that is left out. Only the witness is mandatory."""

@@ -1,6 +1,6 @@
 package goodlock.recorder;
 
-/** The kinds and flags of records, with the numbers of agents/pthread/ring.h. */
+/** The kinds and flags of records, with the numbers of agents/pthread/shared/ring.h. */
 public final class Kind {
     public static final int FORK = 1;
     public static final int NAMED = 2;

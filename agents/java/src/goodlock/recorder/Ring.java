@@ -7,8 +7,8 @@ import java.nio.ByteOrder;
 import java.nio.charset.StandardCharsets;
 
 /**
- * Writes records, waits and texts to the memory that is shared with the collector; agents/pthread/ring.h describes it. One atomic addition draws
- * the place of a record. Only a new text takes a lock.
+ * Writes records, waits and texts to the memory that is shared with the collector; agents/pthread/shared/ring.h describes it. One atomic addition
+ * draws the place of a record. Only a new text takes a lock.
  */
 public final class Ring {
     static final int MOST_CALLERS = 5;

@@ -1,7 +1,7 @@
 /* Annotations as for ThreadSanitizer: of locks of the program's own, as absl, folly and Qt have them, and of orders. What only matters for races
  * does nothing here. */
 #include "../annotations.h"
-#include "../goodlock.h"
+#include "../../goodlock.h"
 
 #include <string.h>
 

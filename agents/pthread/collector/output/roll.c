@@ -1,6 +1,6 @@
 /* Asks tools/with_server --roll for the server of each window, by lines at a Unix socket that GOODLOCKD_ROLL names. The environment
  * may name any socket: each reply is checked, and waited for 5 seconds. */
-#include "collector.h"
+#include "../collector.h"
 
 #include <errno.h>
 #include <poll.h>

@@ -5,7 +5,7 @@
  * What a thread comes after already, by forks, joins and reads, is not read again. So each read that is left adds to what its thread comes
  * after, and the most reads of a window are the number of its threads times the number of other records. Of the memory that this takes, all
  * but the places in the log is freed when the window ends. */
-#include "collector.h"
+#include "../collector.h"
 
 enum { MOST_OF_VECTORS = 64 << 20, MOST_LOGGED = 1 << 25 };
 

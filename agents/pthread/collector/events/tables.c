@@ -1,6 +1,6 @@
 /* The threads and locks that live. Each look-up takes the same time however many there are or were, and the memory is that of those that
  * live: a thread is removed when nobody can join it any more, a lock when its memory is freed or holds another one. */
-#include "collector.h"
+#include "../collector.h"
 
 enum { LEAST_SLOTS = 64, PAGE = 12, REGION = 21, MOST_LIVE = 1 << 20 };
 

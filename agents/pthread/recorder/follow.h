@@ -1,6 +1,6 @@
 /* Shared by the files of the recorder that make a run follow a schedule: follow.c its lanes, pause.c the pauses of a run without a witness. */
 #include "recorder.h"
-#include "schedule.h"
+#include "../shared/schedule.h"
 
 extern const struct schedule *schedule; /* NULL: the program runs alone */
 extern struct parts parts;

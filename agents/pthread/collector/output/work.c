@@ -1,6 +1,6 @@
 /* The names and the files of a run. OUT.tmp is a folder of this run alone: it is made anew, private, and locked until the run and its
  * reporters have ended. No file is opened through a symbolic link, and none is read that an earlier run has left. */
-#include "collector.h"
+#include "../collector.h"
 
 #include <dirent.h>
 #include <errno.h>

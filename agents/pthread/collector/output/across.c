@@ -3,7 +3,7 @@
  *
  * Of the order of the run only this is kept: a thread begins after its fork and ends before its join. Each thread that forks or joins has a
  * companion in the file, which does nothing else: so a section comes neither before nor after what its thread forks or joins. */
-#include "collector.h"
+#include "../collector.h"
 
 enum { MOST_DEPENDENCIES = 100000, MOST_LIVES = 100000, MOST_WORDS = 4 + 2 * MOST_HELD };
 #define COMPANIONS 1500000000u

@@ -12,7 +12,7 @@
  *   no event of the past: there, and where repeats are left out, they are events at once.
  * - A thread that signals the same condition next, in the section, reads no value: its signal begins with a read of the hand-over, which needs the
  *   same signals. No event is between the two reads, so a closure has both or neither. With hooks a write may be there, so the value is read. */
-#include "collector.h"
+#include "../collector.h"
 
 enum { SECTIONS = 256 };
 

@@ -2,7 +2,7 @@
  * the end of memory, stacks.c finds callers, titles.c has the names of threads, follow.c and pause.c what a run needs that follows a recorded
  * one. The files in memory/ follow values; they are in one of the two recorders that `build` makes. */
 #define _GNU_SOURCE
-#include "ring.h"
+#include "../shared/ring.h"
 
 #include <dlfcn.h>
 #include <errno.h>

@@ -3,7 +3,7 @@
  * In the first window a thread's number is the recorder's, and thread 0 is the first thread. In each later window thread 0 is an
  * artificial root, which forks each thread at its first event there, and the first thread is FIRST_THREAD. Markers are locks that only one
  * thread acquires. A helper is an artificial thread that holds a lock for a thread that holds too many. */
-#include "collector.h"
+#include "../collector.h"
 
 enum { MOST_FORKS = MOST_THREADS - 1, SLACK = 1000, FORKS = 32, GROWTH = 7, BUFFER = 1 << 16, LEAST_SEEN = 1 << 10 };
 enum { HANDED = 2, VALUE }; /* of a lock's variables: orders and releases by other threads, atomic values. readers.c has the others */

@@ -1,5 +1,5 @@
 /* The lock graph of a window: which thread has acquired a lock while it held another one. Each cycle of the window needs a ring in it. */
-#include "collector.h"
+#include "../collector.h"
 
 struct edge { struct entry entry; uint32_t held, lock, thread; };
 /* A lock, and how many edges lead to it from locks that may be on a ring. */

@@ -3,7 +3,7 @@
  *
  * What came out is in OUT.tmp/outcome, a line for each word. tools/goodlock/reproduce/outcome.py reads it. */
 #include "collector.h"
-#include "schedule.h"
+#include "../shared/schedule.h"
 
 #include <errno.h>
 #include <fcntl.h>

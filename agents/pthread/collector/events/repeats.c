@@ -9,7 +9,7 @@
  * no other thread, since it has no forks, joins and writes, and nobody else acquires its locks.
  *
  * An event waits here until its section has ended: at most MOST_PENDING events, and a moment if the program pauses. Then it is kept. */
-#include "collector.h"
+#include "../collector.h"
 
 enum { MOST_PENDING = 4096, MOST_KNOWN = 64, MOST_OF_SECTION = 32, PATIENCE_MS = 200 };
 enum state { UNDECIDED, KEPT, LEFT_OUT };

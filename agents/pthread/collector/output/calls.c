@@ -1,6 +1,6 @@
 /* Writes the log of the run to OUT.tmp/calls while the program runs. */
-#include "calls.h"
-#include "collector.h"
+#include "../../shared/calls.h"
+#include "../collector.h"
 
 #include <endian.h>
 

@@ -1,6 +1,6 @@
 /* Numbers the callers of events, and writes what is known of each to OUT.tmp/sites: a line `NUMBER`, then for each frame a tab and
  * PATH+0xOFFSET, or the text of a site that is not an address. The report finds the source lines later. */
-#include "collector.h"
+#include "../collector.h"
 
 enum { PATH = 2000, PAUSE = 100, LONG_PAUSE = 3000 };
 #define UNSEEN "unseen "

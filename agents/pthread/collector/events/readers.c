@@ -2,7 +2,7 @@
  *
  * Each reader has a lock of its own, a part of the whole one. A writer acquires the whole lock and then all parts. There are some parts more
  * than readers, for the next readers. Readers without a part are ordered by variables. */
-#include "collector.h"
+#include "../collector.h"
 
 enum { MOST_PARTS = 8, MOST_READERS = 1 << 10 };
 enum { WRITTEN, READ }; /* of a whole lock's variables: writers' ends; ends of readers without a part */

@@ -1,7 +1,7 @@
 /* Streams windows to servers, by the client in agents/client, and asks the server of the only window for its report. A server takes one window:
  * with tools/with_server --roll each window has a server of its own, else the first one has. */
-#include "../client/goodlock_client.h"
-#include "collector.h"
+#include "../../../client/goodlock_client.h"
+#include "../collector.h"
 
 enum { LOOK_EVERY = 100, MOST_UNSERVED = 2000 };
 

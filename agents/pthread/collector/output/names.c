@@ -1,5 +1,5 @@
 /* Writes what threads and locks are called, and which locks are parts of others, to OUT.tmp/names. The report adds it to the traces. */
-#include "collector.h"
+#include "../collector.h"
 
 #include <stdarg.h>
 

@@ -1,10 +1,15 @@
-/* Shared by the files of the collector: collector.c runs the program and reads its records, encode.c turns records into the events
- * of traces, readers.c those of reader-writer locks, accesses.c and predicates.c those of values, inserts.c adds events of the past, graph.c has
- * the lock graph, names.c keeps names, deadlock.c finds threads that wait for each other, tables.c keeps threads and locks, sites.c names
- * callers, server.c streams to a server, hooks.c looks whether a program was compiled with hooks. */
+/* Shared by the files of the collector. collector.c runs the program and reads its records, options.c reads the command line, processes.c follows
+ * further processes, hooks.c looks whether a program was compiled with hooks, deadlock.c finds threads that wait for each other, reproduce.c
+ * watches a run that follows a schedule.
+ *
+ * events/ makes the events of the traces: encode.c turns records into them, readers.c those of reader-writer locks, accesses.c and predicates.c
+ * those of values, inserts.c adds events of the past, repeats.c leaves out repeats, graph.c has the lock graph, tables.c keeps threads and locks.
+ *
+ * output/ writes all else that is kept of a run, and streams: work.c keeps the files of a run, calls.c writes the log, across.c the dependencies
+ * of all windows, names.c keeps names, sites.c names callers, server.c streams to a server, roll.c asks for the servers of windows. */
 #define _GNU_SOURCE
-#include "limits.h"
-#include "ring.h"
+#include "../shared/limits.h"
+#include "../shared/ring.h"
 
 #include <stddef.h>
 #include <stdio.h>
@@ -204,7 +209,7 @@ void look_at_pending(void);
 
 /* ---- accesses.c ---- */
 
-enum level { BY_ATOMICS, BY_ALL, LEVELS }; /* as in memory/memory.h */
+enum level { BY_ATOMICS, BY_ALL, LEVELS }; /* as in recorder/memory/memory.h */
 extern unsigned long values_read;
 /* Whether the program has the recorder that follows values. */
 int has_recorder_of_values(void);
@@ -282,7 +287,7 @@ void note_unseen(const char *what);
 
 /* ---- calls.c ---- */
 
-/* 0 if there is a log that is whole so far, else why there is none: see calls.h. */
+/* 0 if there is a log that is whole so far, else why there is none: see shared/calls.h. */
 uint32_t why_no_log(void);
 /* The log of a program with this command line begins, and ends. */
 void begin_calls(char **words);

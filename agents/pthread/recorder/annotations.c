@@ -1,6 +1,6 @@
 /* Locks of the program's own, as it annotates them: by goodlock.h, or in memory/annotated.c as for ThreadSanitizer. */
 #include "annotations.h"
-#include "goodlock.h"
+#include "../goodlock.h"
 
 enum { MOST_NESTED = 16 };
 

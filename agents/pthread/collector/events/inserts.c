@@ -1,6 +1,6 @@
 /* Values that are found only later: they are inserted in the past. Until a window ends its trace lacks them; then the trace is written again
  * with them. calls.c does the same for the log, when the run ends. Some are deferred: whether the window needs them is known at its end. */
-#include "collector.h"
+#include "../collector.h"
 
 #include <sys/stat.h>
 

@@ -36,7 +36,7 @@ enum kind {
     R_TITLE,     /* a thread is called so: the bytes of `address` and `other`; callers[0]: its handle, 0 for this one. If callers[0] is the
                   * number of a text, that is the name of this one */
     /* values */
-    R_SEES,      /* the thread has read what another one wrote; address: who, and how many records that one had drawn: see memory/memory.h */
+    R_SEES,      /* the thread has read what another one wrote; address: who, and how many records that one had drawn: see recorder/memory/memory.h */
 };
 
 /* In the lowest bits of a stack pointer: how a reader acquires the lock, if it does not wait without end; what the lock does. */
