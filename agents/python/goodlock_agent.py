@@ -110,9 +110,7 @@ class Recorder:
         number = self.known.get(key)
         if number is None:
             text = f"{os.path.abspath(code.co_filename)}:{line} in {code.co_name.strip('<>')}"
-            number = self.sites.get(text)
-            if number is None:
-                number = self.register(text)
+            number = self.sites.get(text) or self.register(text)
             if number:
                 self.known[key] = number
         return number
@@ -451,9 +449,12 @@ class Patches:
             self.finders.append(Finder(name, then))
             sys.meta_path.insert(0, self.finders[-1])
 
-    def put(self, where, name, make):
-        self.before.append((where, name, vars(where).get(name)))
-        setattr(where, name, make(getattr(where, name)))
+    def put(self, where, make, *names):
+        """Replaces those of these functions that are there: versions of Python differ."""
+        for name in names:
+            if hasattr(where, name):
+                self.before.append((where, name, vars(where).get(name)))
+                setattr(where, name, make(getattr(where, name)))
 
     def restore(self):
         sys.meta_path[:] = [finder for finder in sys.meta_path if finder not in self.finders]
@@ -670,25 +671,21 @@ def joins(real):
 
 def patch_queues(patches):
     all_done = operator.attrgetter("all_tasks_done")
-    patches.put(queue.Queue, "put", gives)
-    patches.put(queue.Queue, "get", lambda real: takes(real, always))
-    patches.put(queue.Queue, "task_done", lambda real: gives(real, all_done))
-    patches.put(queue.Queue, "join", lambda real: takes(real, always, all_done))
-    if hasattr(queue, "SimpleQueue"):  # since Python 3.7
-        patches.put(queue, "SimpleQueue", simple_queue)
+    patches.put(queue.Queue, gives, "put")
+    patches.put(queue.Queue, lambda real: takes(real, always), "get")
+    patches.put(queue.Queue, lambda real: gives(real, all_done), "task_done")
+    patches.put(queue.Queue, lambda real: takes(real, always, all_done), "join")
+    patches.put(queue, simple_queue, "SimpleQueue")  # since Python 3.7
 
 
 def patch_futures(patches, base):
     """`base` is concurrent.futures._base."""
-    for name in ("set_result", "set_exception", "cancel"):
-        patches.put(base.Future, name, gives)
-    for name in ("result", "exception", "done", "cancelled"):
-        patches.put(base.Future, name, takes_outcome)
-    patches.put(base.Future, "add_done_callback", calls_back)
-    for module in (base, sys.modules["concurrent.futures"]):
-        if hasattr(module, "wait"):  # the package imports these names of `base` later
-            patches.put(module, "wait", takes_all_done)
-            patches.put(module, "as_completed", takes_each)
+    patches.put(base.Future, gives, "set_result", "set_exception", "cancel")
+    patches.put(base.Future, takes_outcome, "result", "exception", "done", "cancelled")
+    patches.put(base.Future, calls_back, "add_done_callback")
+    for module in (base, sys.modules["concurrent.futures"]):  # the package may import these names of `base` later
+        patches.put(module, takes_all_done, "wait")
+        patches.put(module, takes_each, "as_completed")
 
 
 def attach(path, frames):
@@ -696,27 +693,22 @@ def attach(path, frames):
     global recorder
     recorder = Recorder(path, frames)
     patches = Patches()
-    patches.put(threading, "Lock", lambda _: TracedLock)
-    patches.put(threading, "RLock", lambda _: TracedRLock)
+    patches.put(threading, lambda _: TracedLock, "Lock")
+    patches.put(threading, lambda _: TracedRLock, "RLock")
     patch_queues(patches)
     patches.when_imported("concurrent.futures._base", lambda base: patch_futures(patches, base))
-    patches.put(threading.Thread, "start", starts)
-    patches.put(threading.Thread, "join", joins)
+    patches.put(threading.Thread, starts, "start")
+    patches.put(threading.Thread, joins, "join")
     for kind in (threading.Semaphore, threading.BoundedSemaphore):
-        patches.put(kind, "release", gives)
-        patches.put(kind, "acquire", takes)
-        patches.put(kind, "__enter__", takes)
-        patches.put(kind, "__exit__", lambda _, kind=kind: lambda self, *_: self.release())
-    patches.put(threading.Event, "set", gives)
-    patches.put(threading.Event, "wait", takes)
-    for name in ("is_set", "isSet"):
-        if hasattr(threading.Event, name):
-            patches.put(threading.Event, name, takes)
-    patches.put(threading.Barrier, "wait", meets)
-    patches.put(threading.Barrier, "abort", gives)
-    patches.put(threading.Condition, "wait", waits_for_notice)
-    patches.put(threading.Condition, "notify", notifies)
-    patches.put(threading.Condition, "notify_all", notifies)
+        patches.put(kind, gives, "release")
+        patches.put(kind, takes, "acquire", "__enter__")
+        patches.put(kind, lambda _: lambda self, *_: self.release(), "__exit__")
+    patches.put(threading.Event, gives, "set")
+    patches.put(threading.Event, takes, "wait", "is_set", "isSet")
+    patches.put(threading.Barrier, meets, "wait")
+    patches.put(threading.Barrier, gives, "abort")
+    patches.put(threading.Condition, waits_for_notice, "wait")
+    patches.put(threading.Condition, notifies, "notify", "notify_all")
     return patches
 
 

@@ -2,19 +2,19 @@
 import contextlib
 import io
 import os
-from collections.abc import Iterator
+from collections.abc import Iterator, Sequence
 from typing import Optional
 from unittest.mock import patch
 
 from goodlock.agent.gate import settings_from
 from goodlock.agent.report import finish
 from goodlock.agent.run import Run, shortly
-from goodlock.agent.search import (HELPERS_OF_TRIES, LONG, NOT_SEARCHED, SIGNAL, TIME, Limit, Stopped, Window, check, drop_part_of_line, grouped,
-                                   kind_of, results, search, without_tries)
+from goodlock.agent.search import (HELPERS_OF_TRIES, LONG, NOT_SEARCHED, SIGNAL, TIME, WOKEN, Limit, Stopped, Window, add_waits, check, check_all,
+                                   drop_part_of_line, grouped, has_waits, kind_of, results, search, without_tries)
 from goodlock.agent import names
 from goodlock.agent.sites import Sites, Source, name_lines_of, source_of
 from goodlock.errors import InputError
-from goodlock.limits import FIRST_THREAD, HELPERS, TIMED_MARKERS, TRY_MARKERS
+from goodlock.limits import ENDS_OF_THREADS, FIRST_THREAD, HELPERS, TIMED_MARKERS, TRY_MARKERS, WAKE_UPS
 from goodlock.reports import Cycle, Member, Report, Verdict, read_reports
 from goodlock.traces import Index, read_trace
 from written import END, HEADER, OPPOSITE_REPORT, InFolder, entry, event
@@ -55,10 +55,10 @@ class OfRun(InFolder):
         self.write(f"run.tmp/{number}.answer", answer)
         self.write(f"run.tmp/{number}.window", "10 0\n10 20 1\n20 10 2\nend\n")
 
-    def finish(self, windows: int = 1) -> tuple[int, str]:
+    def finish(self, windows: int = 1, gate: Sequence[str] = ()) -> tuple[int, str]:
         errors = io.StringIO()
         with contextlib.redirect_stderr(errors):
-            return finish(self.run_, windows, 60, settings_from([])), errors.getvalue()
+            return finish(self.run_, windows, 60, settings_from(gate)), errors.getvalue()
 
 
 class Finishes(OfRun):
@@ -169,6 +169,29 @@ class Finishes(OfRun):
         self.assertEqual(self.read("run.report").splitlines()[1:], [
             "    deadlock of 2 threads, which wait for each other", "    thread 1 waits for lock 20 at bank.py:35 in transfer",
             "    lock 10 since bank.py:34 in transfer"])
+
+    def test_suppressions_that_are_not_used(self) -> None:
+        """They come last, and change no status. A run that was not analysed needs none."""
+        for patterns, old, new, status, lines in [
+            ("*transfer\n", "", "", 0, ["1 suppressed"]),
+            ("*transfer\n# none\n*audit\n*transfer\n\n*journal\n", "", "", 0,
+             ["1 suppressed", "known line 3 suppresses nothing", "known line 6 suppresses nothing"]),
+            ("*audit\n", "", "", 1, ["1 new; --fail-on confirmed: 1 confirmed", "known line 1 suppresses nothing"]),
+            ("*transfer\n*audit\n", "off 0", "off 1", 3, ["1 suppressed", "known line 2 suppresses nothing"]),
+            ("*transfer\n*audit\n", "attached 1", "attached 0", 2, ["1 suppressed"]),
+        ]:
+            with self.subTest(patterns, new=new):
+                self.setUp()
+                self.write("known", patterns)
+                self.write("run.tmp/summary", SUMMARY.replace(old, new))
+                found, said = self.finish(gate=["--suppress=known"])
+                self.assertEqual((found, said.partition("run.trace\n")[2].splitlines()), (status, [f"goodlock: {line}" for line in lines]))
+
+    def test_suppressions_without_a_report(self) -> None:
+        self.write("known", "*audit\n")
+        self.window(TRACE, "broken\n")
+        status, said = self.finish(gate=["--suppress=known"])
+        self.assertEqual((status, "suppresses" in said), (2, False))
 
     def across(self, dependencies: str, answer: str) -> None:
         """The dependencies of all windows, and the report on what tools/reduce makes of them."""
@@ -425,6 +448,44 @@ class Searches(OfRun):
         self.write("x.trace", "".join(f"{word}\n" for word in words))
         self.assertEqual(len(read_trace("x.trace").events), len(words))
 
+    def test_waits(self) -> None:
+        """Thread 0 joins thread 1 while it holds lock 10, which thread 1 has acquired. The trace and the lock graph get a lock for the end of
+        thread 1, once. A report of a server is about the events without it."""
+        joined = "0f1\n1a10\n1r10\n0a10\n0j1\n0r10\n"
+        end = ENDS_OF_THREADS + 1
+        with_end = f"# lock {end} is the end of thread 1\n0f1\n1a{end}\n1a10\n1r10\n0a10\n1r{end}\n0a{end}\n0r{end}\n0j1\n0r10\n"
+        for is_of_server, trace, graph in [(False, with_end, f"6 0\n10 {end} 0\n{end} 10 1\nend\n"), (True, joined, "6 0\nend\n")]:
+            self.setUp()
+            self.write("run.trace", joined)
+            self.write("run.tmp/1.window", "6 0\nend\n")
+            self.write("run.tmp/1.waits", "1\n")
+            if not is_of_server:
+                os.remove("run.tmp/1.answer")
+            for _ in range(2):
+                add_waits(self.run_, 1)
+                self.assertEqual((self.read("run.trace"), self.read("run.tmp/1.window")), (trace, graph))
+            self.assertTrue(has_waits(self.run_, 1))
+
+    def test_wake_ups(self) -> None:
+        """Thread 1 uses lock 10 before it wakes thread 2, which waits with lock 20 while it holds lock 10."""
+        wake = WAKE_UPS + 1
+        words = "0f1 0f2 1a10 1r10 2a10 2a20 2r20 1a20 1d7 1w7 1r20 2d7 2a20 2r20 2r10".split()
+        self.write("run.trace", "".join(f"{word}\n" for word in words))
+        self.write("run.tmp/1.waits", f"{WOKEN}\n")
+        os.remove("run.tmp/1.answer")
+        add_waits(self.run_, 1)
+        self.assertEqual([line for line in self.read("run.trace").splitlines() if line.endswith(str(wake))],
+                         [f"1a{wake}", f"1r{wake}", f"2a{wake}", f"2r{wake}"])
+        self.assertTrue(self.read("run.tmp/1.window").endswith(f"10 {wake} 2\n{wake} 10 1\n{wake} 20 1\nend\n"))
+
+    def test_several_windows(self) -> None:
+        """One without a result is left for the end of the run."""
+        for number, answer in ((1, OPPOSITE_REPORT), (2, "broken\n"), (3, "question 0 length 10 bound 2 cycles 0 confirmed 0\n")):
+            self.window(TRACE, answer, number)
+        check_all(self.run_, 1, 3, 60)
+        self.assertEqual([os.path.exists(f"run.tmp/{number}.rows") for number in (1, 2, 3)], [True, False, True])
+        self.assertEqual([os.path.exists(self.run_.window(number, "trace")) for number in (1, 2, 3)], [True, True, False])
+
     def test_part_of_a_line(self) -> None:
         for text, whole in [("0f1\n1a", "0f1\n"), ("0f1\n", "0f1\n"), ("", ""), ("0f", "")]:
             drop_part_of_line(self.write("x", text))
@@ -571,6 +632,18 @@ class Names(OfRun):
             self.window(TRACE.replace("f1\n", f"f{thread}\n").replace("\n1", f"\n{thread}"), OPPOSITE_REPORT.replace("thread 1 ", f"thread {thread} "))
             self.finish()
             self.assertIn(f"    {note}\n", self.read("run.report"))
+
+    def test_names_of_the_collector(self) -> None:
+        """The first thread has another number in a later window. A lock in the memory of a file has the name of its variable there."""
+        self.write("run.tmp/names", "# thread 0 is main\n# lock 10 is accounts\n# lock 21 is a part of lock 20 for thread 0\nlock 30 at /x/bank+0x1f\n"
+                                    "lock 31 at /x/bank+0x20\nno line\n")
+        for window, first in ((1, 0), (2, FIRST_THREAD)):
+            with patch("goodlock.agent.names.name_at", side_effect=lambda path, offset: {31: "Queue<int>::lock"}.get(offset, "")):
+                found = names.Names(self.run_, window)
+                self.assertEqual([found.name_of("lock", number) for number in (10, 20, 21, 30, 31)],
+                                 ["accounts", None, "lock 20, read by main", "Queue::lock", None])
+            self.assertEqual((found.name_of("thread", first), list(found.comments_on("thread", first))), ("main", [f"# thread {first} is main"]))
+            self.assertEqual(list(found.comments_on("lock", 21)), [f"# lock 21 is a part of lock 20 for thread {first}"])
 
     def test_fault_in_raw_trace(self) -> None:
         self.write("run.trace", "0f1\nx\n")

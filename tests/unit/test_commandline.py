@@ -3,10 +3,13 @@ import argparse
 import contextlib
 import io
 import os
+import signal
+import subprocess
 from collections.abc import Callable
 from typing import Optional
+from unittest.mock import Mock
 
-from goodlock.commandline import Outputs, count, plural, run, whole_number, write_whole
+from goodlock.commandline import ENDING, Outputs, count, plural, run, wait_for, whole_number, write_whole
 from goodlock.errors import InputError, OutputError, fault_of_text, shown
 from written import InFolder
 
@@ -43,6 +46,29 @@ class Runs(InFolder):
 
     def test_plural(self) -> None:
         self.assertEqual([plural(number, "cycle") for number in (0, 1, 2000)], ["0 cycles", "1 cycle", "2,000 cycles"])
+
+
+class Waits(InFolder):
+    def setUp(self) -> None:
+        super().setUp()
+        for number in ENDING:
+            self.addCleanup(signal.signal, number, signal.getsignal(number))
+
+    def test_statuses(self) -> None:
+        for script, status in [("exit 3", 3), ("exit 0", 0), ("kill -TERM $$", 128 + signal.SIGTERM)]:
+            with subprocess.Popen(["sh", "-c", script]) as process:
+                self.assertEqual(wait_for(process), (status, False), script)
+
+    def test_passed_on(self) -> None:
+        """A signal for this process reaches the command, whose status counts."""
+
+        def wait() -> int:
+            signal.raise_signal(signal.SIGHUP)
+            return 5
+
+        process = Mock(wait=wait)
+        self.assertEqual(wait_for(process), (5, True))
+        process.send_signal.assert_called_once_with(signal.SIGHUP)
 
 
 class Writes(InFolder):

@@ -1,7 +1,7 @@
 """Tests how cycles are grouped: by locations, with the first confirmed cycle as the example; and the limit of groups."""
 import unittest
 
-from goodlock.groups import Group, Groups, Location, Pair, advice_for, key_of, location_of, merge, sides_of
+from goodlock.groups import Group, Groups, Location, Pair, advice_for, key_of, location_of, merge, pairs_of, sides_of
 from goodlock.parts import Basis
 from goodlock.reports import Cycle, Verdict
 from written import cycles_of, ends, index_of
@@ -47,7 +47,7 @@ def grouped(trace: str, report: str, **limits: int) -> tuple[Groups, list[bool]]
 class ByLocation(unittest.TestCase):
     def test_counts_and_order(self) -> None:
         groups, _ = grouped(BANK, REPORT)
-        found = [(group.cycles, group.confirmed, group.locations(groups.index)) for group in groups.ordered()]
+        found = [(group.cycles, group.confirmed, pairs_of(groups.index, group.sides)) for group in groups.ordered()]
         self.assertEqual(found, [(2, 2, [TRANSFER, TRANSFER]), (1, 0, [AUDIT, REVIEW])])
         self.assertEqual(groups.by_key.keys(), {(Basis.EVENTS, (TRANSFER, TRANSFER)), (Basis.EVENTS, (AUDIT, REVIEW))})
 
@@ -66,7 +66,7 @@ class ByLocation(unittest.TestCase):
         plain = "\n".join(line for line in BANK.split("\n") if not line.startswith("#"))
         groups, _ = grouped(plain, REPORT)
         self.assertEqual(len(groups.by_key), 3)
-        self.assertIn(Pair("thread 1 lock 2", "thread 1 lock 1"), groups.ordered()[0].locations(groups.index))
+        self.assertIn(Pair("thread 1 lock 2", "thread 1 lock 1"), pairs_of(groups.index, groups.ordered()[0].sides))
 
     def test_marks(self) -> None:
         groups, kept = grouped("# mark 2\n" + BANK, REPORT)

@@ -1,7 +1,7 @@
 """Tests the rings of a lock graph, which say what the search can find."""
 import unittest
 
-from goodlock.agent.rings import MOST_RING, Graph, WindowGraph, longest_ring, on_rings, read_graph
+from goodlock.agent.rings import MOST_RING, Edge, Graph, WindowGraph, add_edges, longest_ring, on_rings, read_graph
 from written import InFolder
 
 
@@ -54,3 +54,10 @@ class Files(InFolder):
         self.assertEqual(read_graph(one, two, three), WindowGraph(6, 3))
         self.assertEqual(read_graph(one, two), WindowGraph(3, 0))
         self.assertEqual(read_graph(one, two, "missing"), WindowGraph(1, MOST_RING))
+
+    def test_further_edges(self) -> None:
+        """They come before the end. A graph that was not written whole stays so."""
+        add_edges(self.write("x", "12 3\n1 2 7\nend\n"), [Edge(2, 3, 8), Edge(3, 1, 9)])
+        self.assertEqual((self.read("x"), read_graph("x")), ("12 3\n1 2 7\n2 3 8\n3 1 9\nend\n", WindowGraph(3, 3)))
+        add_edges(self.write("x", "12 3\n1 2 7\n"), [Edge(2, 1, 8)])
+        self.assertEqual(self.read("x"), "12 3\n1 2 7\n")

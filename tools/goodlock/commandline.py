@@ -4,15 +4,18 @@ from __future__ import annotations
 import argparse
 import contextlib
 import os
+import signal
+import subprocess
 import sys
 from collections.abc import Callable, Iterator
-from types import TracebackType
+from types import FrameType, TracebackType
 from typing import IO, NoReturn, Optional
 
 from goodlock.errors import InputError, OutputError
 from goodlock.limits import LEAST_BOUND, MOST_BOUND
 
 BOUNDS = range(LEAST_BOUND, MOST_BOUND + 1)
+ENDING = (signal.SIGTERM, signal.SIGHUP)
 
 
 def plural(number: int, one: str) -> str:
@@ -82,6 +85,21 @@ def run(command: Callable[[], Optional[int]], interrupted: str = "interrupted") 
     except KeyboardInterrupt:
         print(interrupted, file=sys.stderr)
     return 1
+
+
+def wait_for(process: subprocess.Popen[bytes]) -> tuple[int, bool]:
+    """Waits for a command, and passes the signals that end this process on to it. Returns its exit status, which is 128 and the number of the
+    signal that has ended it, and whether a signal was passed on."""
+    passed: list[int] = []
+
+    def pass_on(number: int, _frame: Optional[FrameType]) -> None:
+        passed.append(number)
+        process.send_signal(number)
+
+    for number in ENDING:
+        signal.signal(number, pass_on)
+    status = process.wait()
+    return status if status >= 0 else 128 - status, bool(passed)
 
 
 def print_whole(text: str) -> None:

@@ -113,10 +113,6 @@ class Group:
         self.steps = [Step(*step) for step in witness.among(sorted(shown))]
         self.left_out = self.witness_length - sum(1 + step.left_out for step in self.steps)
 
-    def locations(self, index: Index) -> list[Pair]:
-        """Returns for each member of the example the locations where it holds and waits."""
-        return pairs_of(index, self.sides)
-
 
 def side_of(index: Index, member: Member, wanted: int) -> Side:
     """Returns the side of a member at its place, or at the first acquire with its dependency."""
@@ -138,6 +134,7 @@ def instance_of(index: Index, members: list[Member]) -> list[int]:
 
 
 def pairs_of(index: Index, sides: list[Side]) -> list[Pair]:
+    """Returns the code locations of sides."""
     return [Pair(index.where(side.hold), index.where(side.wait)) for side in sides]
 
 

@@ -9,7 +9,7 @@ from dataclasses import dataclass, replace
 from typing import NamedTuple, Optional
 
 from goodlock.commandline import plural
-from goodlock.groups import Group, Groups, Location, Pair, advice_for
+from goodlock.groups import Group, Groups, Location, Pair, advice_for, pairs_of
 from goodlock.locations import Root
 from goodlock.parts import condition_of
 from goodlock.reports import Report, Verdict, confirmed_text
@@ -320,7 +320,12 @@ class Run:
     @property
     def unused_lines(self) -> list[str]:
         """Says which suppressions are not used."""
-        return [f"{self.suppressions} line {number} suppresses nothing" for number in self.unused]
+        return unused_lines(self.suppressions, self.unused)
+
+
+def unused_lines(suppressions: Optional[str], unused: Iterable[int]) -> list[str]:
+    """Returns a sentence for each line of a file of suppressions that suppresses nothing."""
+    return [f"{suppressions} line {number} suppresses nothing" for number in unused]
 
 
 def kept(results: Iterable[Result]) -> list[Result]:
@@ -365,7 +370,7 @@ def result_of(index: Index, group: Group, root: Root) -> Result:
             ResultMember(member.thread, spot_of(index, side.hold, members[at - 1].lock, root), spot_of(index, side.wait, member.lock, root),
                          member.held, index.names.get(("thread", member.thread)))
             for at, (member, side) in enumerate(zip(members, group.sides))),
-        advice=advice_for(group.locations(index)) if group.verdict.is_confirmed else "Acquire the locks in one order.",
+        advice=advice_for(pairs_of(index, group.sides)) if group.verdict.is_confirmed else "Acquire the locks in one order.",
         cycles=group.cycles,
         confirmed=group.confirmed,
         example=group.example.numbers,

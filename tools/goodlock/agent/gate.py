@@ -13,7 +13,7 @@ from goodlock.config import find_config, read_config
 from goodlock.gates import Gate, Judgement
 from goodlock.happened import deadlock_of, spot_of, with_happened
 from goodlock.locations import Root
-from goodlock.results import LeftOut, Result, ResultMember, headline, numbered
+from goodlock.results import LeftOut, Result, ResultMember, headline, numbered, unused_lines
 from goodlock.settings import Settings, add_gate_options, settings_of
 
 DEFAULT, NO_CONFIG = Gate("confirmed"), "--no-config"
@@ -47,6 +47,12 @@ def judge(windows: Iterable[Window], groups: Iterable[Found], deadlock: Sequence
     if results and (settings.gate is not DEFAULT or settings.suppressions.name or settings.judge.baseline is not None):
         say(f"{headline(results)}{f'; {judgement.sentence}' if judgement.sentence else ''}")
     return judgement
+
+
+def name_unused(settings: Settings) -> None:
+    """Prints which suppressions no result of the run needed, in the words of `summary`. Call it after `judge`."""
+    for line in unused_lines(settings.suppression_file, settings.suppressions.unused()):
+        say(line)
 
 
 def left_out_of(windows: Iterable[Window]) -> LeftOut:

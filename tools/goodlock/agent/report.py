@@ -5,7 +5,7 @@ import signal
 from collections import Counter
 from collections.abc import Iterable, Iterator
 
-from goodlock.agent.gate import judge
+from goodlock.agent.gate import judge, name_unused
 from goodlock.agent.names import Names
 from goodlock.agent.run import ALL, Run, say, shortly
 from goodlock.agent.search import CONFIRMED, NO_VALUE, NOT_SEARCHED, TIMED, Found, Limit, NoReport, Window, results
@@ -329,7 +329,10 @@ def finish(run: Run, count: int, seconds: float, settings: Settings) -> int:
     for note in [*causes, *notes, *(f"not examined: {line}" for line in unexamined)]:
         say(note)
     conclude(run, whole.events or sum(window.length for number, window in windows.items() if number != ALL), kept, found)
-    if judge(windows.values(), found, deadlock, sites, settings).status:
+    judgement = judge(windows.values(), found, deadlock, sites, settings)
+    if not causes:  # a run that was not analysed needs no suppression
+        name_unused(settings)
+    if judgement.status:
         return DEADLOCK
     return NO_REPORT if causes else IN_PART if gaps else 0
 

@@ -14,22 +14,16 @@ import sys
 import threading
 import time
 from collections.abc import Iterator
-from types import FrameType
 from typing import NoReturn, Optional
 
 from goodlock.agent.run import say
-from goodlock.commandline import is_number, print_usage
+from goodlock.commandline import ENDING, is_number, print_usage, wait_for
 from goodlock.dashboard.web import start, work_folder
 from goodlock.protocol import split
 from goodlock.rolling import Server
 
 FOR_EVER, WRONG = 10**8, 2
 SWITCHES = ("--dashboard", "--no-config", "--allow-partial", "--trace-children")  # options without a value
-ENDING = (signal.SIGTERM, signal.SIGHUP)
-
-
-class Interrupted(Exception):
-    """A signal has arrived that ends the page."""
 
 
 def refuse(text: str) -> NoReturn:
@@ -82,29 +76,16 @@ def open_browser(page: str) -> None:
 def run_agent(args: list[str]) -> tuple[int, bool]:
     """Runs the agent to its end. Returns its exit status, and whether a signal was passed on to it that ends all."""
     signal.signal(signal.SIGINT, lambda *_: None)  # the terminal sends it to the program too
-    passed: list[int] = []
     with subprocess.Popen(args) as agent:
-
-        def pass_on(number: int, _frame: Optional[FrameType]) -> None:
-            passed.append(number)
-            agent.send_signal(number)
-
-        for number in ENDING:
-            signal.signal(number, pass_on)
-        status = agent.wait()
-    return status if status >= 0 else 128 - status, bool(passed)
-
-
-def interrupt(_number: int, _frame: Optional[FrameType]) -> NoReturn:
-    raise Interrupted
+        return wait_for(agent)
 
 
 def stay(page: str, seconds: str) -> None:
     """Returns after this time or at a signal."""
     say(f"{page} shows the run {f'for {seconds} s' if seconds else 'until Ctrl-C'}")
-    with contextlib.suppress(Interrupted):
-        for number in (signal.SIGINT, *ENDING):
-            signal.signal(number, interrupt)
+    with contextlib.suppress(KeyboardInterrupt):
+        for number in signal.SIGINT, *ENDING:
+            signal.signal(number, signal.default_int_handler)
         time.sleep(int(seconds or FOR_EVER))
 
 

@@ -14,7 +14,7 @@ import signal
 import sys
 
 from goodlock.agent.run import say
-from goodlock.commandline import WordsParser, is_number, print_usage, whole_number
+from goodlock.commandline import ENDING, WordsParser, is_number, print_usage, whole_number
 from goodlock.errors import InputError
 from goodlock.reproduce.drive import NOT_REPRODUCED, Agent, Driver, Plan
 from goodlock.reproduce.recorded import check_builds, find_cycle
@@ -68,7 +68,7 @@ def reproduce(words: list[str]) -> int:
 def main() -> int:
     if len(sys.argv) <= AGENT_FILES + 1:
         return print_usage(__doc__, WRONG)
-    for number in (signal.SIGTERM, signal.SIGHUP):  # end as by Ctrl-C: nothing is left behind
+    for number in ENDING:  # end as by Ctrl-C: nothing is left behind
         signal.signal(number, signal.default_int_handler)
     try:
         return reproduce(sys.argv[1:])

@@ -4,7 +4,7 @@ import contextlib
 import signal
 import sys
 
-from goodlock.commandline import parser_of, run, whole_number
+from goodlock.commandline import ENDING, parser_of, run, whole_number
 from goodlock.config import add_no_config, parse_args
 from goodlock.dashboard.web import start, start_windows, work_folder
 from goodlock.protocol import split
@@ -53,7 +53,7 @@ def show() -> int:
         parser.error("one of ADDRESS and --windows FILE is needed")
     if args.windows and args.trace:
         parser.error("--trace is for ADDRESS: the file of --windows names the traces")
-    for number in (signal.SIGTERM, signal.SIGHUP):
+    for number in ENDING:
         signal.signal(number, signal.default_int_handler)
     with work_folder() as folder:
         try:

@@ -25,10 +25,8 @@ import os
 import signal
 import subprocess
 import sys
-from types import FrameType
-from typing import Optional
 
-from goodlock.commandline import BOUNDS, WordsParser, plural, print_usage, whole_number
+from goodlock.commandline import BOUNDS, ENDING, WordsParser, plural, print_usage, wait_for, whole_number
 from goodlock.rolling import Roller, Server
 
 NO_SERVER, NOT_STARTED, NOT_FOUND, INTERRUPTED = 1, 126, 127, 130
@@ -43,16 +41,10 @@ def execute(words: list[str], **variables: str) -> int:
     except OSError as fault:
         print(f"with_server: cannot run {words[0]}: {fault.strerror}", file=sys.stderr)
         return NOT_FOUND if isinstance(fault, FileNotFoundError) else NOT_STARTED
-
-    def pass_on(number: int, _frame: Optional[FrameType]) -> None:
-        process.send_signal(number)
-
-    for number in signal.SIGTERM, signal.SIGHUP:
-        signal.signal(number, pass_on)
-    status = process.wait()
-    for number in signal.SIGINT, signal.SIGTERM, signal.SIGHUP:
+    status, _ = wait_for(process)
+    for number in signal.SIGINT, *ENDING:
         signal.signal(number, signal.default_int_handler)  # from here on they end what is left to do
-    return status if status >= 0 else 128 - status
+    return status
 
 
 def with_one(words: list[str]) -> int:

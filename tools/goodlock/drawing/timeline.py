@@ -2,6 +2,7 @@
 from collections.abc import Collection, Iterable, Sequence
 from dataclasses import dataclass
 from html import escape
+from itertools import accumulate, groupby
 from typing import NamedTuple, Optional
 
 from goodlock.drawing.shapes import APART, FAINT, GLYPH, INK, OTHER, SMALLEST, STUCK, Value, cut, drawing, fitting, shape, text, titled, two_lines
@@ -59,15 +60,8 @@ class TimeLine:
         self.pitch = min(7.0, (BETWEEN - 12) / max(1, most_held))
         self.has_sources = any(event.where for event in shown)
         self.row_height = TALL_ROW if self.has_sources else ROW
-        self.tops, self.height = self.lay_out()
+        *self.tops, self.height = accumulate(map(self.height_of, rows), initial=HEAD + 12)
         self.slots: dict[int, list[Optional[Taken]]] = {thread: [] for thread in self.threads}
-
-    def lay_out(self) -> tuple[list[int], int]:
-        y, tops = HEAD + 12, []
-        for row in self.rows:
-            tops.append(y)
-            y += self.height_of(row)
-        return tops, y
 
     def height_of(self, row: Row) -> int:
         return GAP_ROW if row.is_left_out else self.row_height
@@ -276,17 +270,8 @@ def tip_of(event: Event) -> str:
 def rows_of(places: Iterable[int], important: set[int], longest_run: float = 8) -> list[Row]:
     """Returns the rows of a list of places; a long run of unimportant ones is one row."""
     rows: list[Row] = []
-    run: list[int] = []
-
-    def close() -> None:
-        rows.extend([Row(run[:], is_left_out=True)] if len(run) > longest_run else [Row([place]) for place in run])
-        run.clear()
-
-    for place in places:
-        if place in important:
-            close()
-            rows.append(Row([place]))
-        else:
-            run.append(place)
-    close()
+    for is_important, group in groupby(places, important.__contains__):
+        run = list(group)
+        is_left_out = not is_important and len(run) > longest_run
+        rows += [Row(run, is_left_out)] if is_left_out else [Row([place]) for place in run]
     return rows

@@ -198,7 +198,7 @@ def divergence_lines(schedule: Schedule, outcome: Outcome, sites: Sites) -> Iter
     assert outcome.divergence
     lane, following, kind, about, site = outcome.divergence
     call = schedule.call_at(lane, following)
-    yield f"thread {lane} diverged{'' if call is None else f' before place {schedule.run.place_of(call)}'}"
+    yield f"thread {lane} diverged{'' if call is None else f' before place {schedule.run.log.firsts[call]}'}"
     yield f"  recorded: {described(schedule, call)}"
     where = f" at {sites.name(site)}" if site else ""
     same = "" if call is None or schedule.run.log.kinds[call] != kind else ", of another object or from another place"

@@ -54,10 +54,6 @@ class Recorded:
                 return f"{'thread' if letter in 'fj' else 'lock'} {target}{f' at {where}' if where else ''}"
         return ""
 
-    def place_of(self, call: int) -> int:
-        """Returns the place of the first event of a call, or of the next one if it has none."""
-        return self.log.firsts[call]
-
 
 def recorded(log: Log, index: Index) -> Recorded:
     """Returns the run with a trace of it. Raises `InputError` if they do not fit."""
