@@ -1,5 +1,5 @@
 -- The texts of rows, with more of them.
-use Rattle.std.proofs.Common.{◌≡◌, ◌≢◌, Bool, false, nat_eq, ℕ, zero, suc, ◌+◌, ◌<◌, ◌≤◌, get_or, List, [], ◌∷◌, ◌++◌, ◌∙◌, length, take, slice_get, arith, map, option_map, inl, inr, subst, length-append, Option, Some, None, MatchOption, true, refl, sym, ap, true≢false}
+use Rattle.std.proofs.Common.{◌≡◌, ◌≢◌, Bool, false, nat_eq, ℕ, zero, suc, ◌+◌, ◌<◌, ◌≤◌, get_or, List, [], ◌∷◌, ◌++◌, ◌∙◌, length, take, slice_get, arith, map, option_map, subst, Option, Some, None, MatchOption, true, refl, sym, ap, true≢false}
 use Rattle.std.specs.Prelude.{is_some}
 use Rattle.std.specs.Global.{Vec}
 use Rattle.std.specs.List.{All, AllZip, Contains, flat_map}
@@ -9,7 +9,7 @@ use Rattle.std.proofs.Math.Seq.{take-append-add}
 use Rattle.std.proofs.lemmas.List.{append-nil, length-map, map-append}
 use Rattle.std.proofs.Common.{append_assoc}
 use Rattle.std.proofs.lemmas.List.Elements.{All-contains, All-map, Contains-get_or}
-use Rattle.std.proofs.lemmas.Option.{none-some, same_Some, slice_get-map, slice_get_within, get_or_from_slice_get}
+use Rattle.std.proofs.lemmas.Option.{slice_get-map, slice_get_within, get_or_from_slice_get}
 use Rattle.std.proofs.lemmas.List.Concat.{flat_map-append, flat_map-cons}
 use Rattle.trace_model.specs.Theory.Trace.{Trace}
 use Rattle.trace_model.specs.Theory.Rows.{AreRows, IsRow, Row}
@@ -18,7 +18,8 @@ use Rattle.trace_model.specs.Theory.Cycles.{IsCycle}
 use Rattle.reports.specs.Printed.{PrintedRow, with_dependencies}
 use Rattle.snapshots.specs.Found.{AreRowsOf}
 use Rattle.offline_report.specs.Offline.{AreTasks, printed_rows, rows_by_task}
-use Rattle.commands.specs.Explain.{Explains, ExplainsSome, IsExplanation, IsKnownRow, all_rows}
+use Rattle.commands.specs.declared.refuting.RefutedRow.{RefutedRow}
+use Rattle.commands.specs.Explain.{Explains, ExplainsSome, IsExplanation, IsKnownRow, all_rows, bare_rows}
 
 -- The second fact holds for each value, and there is one.
 pub of_some : {X : Type 0} (o : Option X) (A B : Type 0) → is_some o ≡ true → B → MatchOption o A (λ _. B)
@@ -128,6 +129,14 @@ known_tasks s bound tasks are k d within =
     let (task, at, more) = at_index tasks k within in
     let there = slice_get-map items tasks k ∙ ap (option_map items) at in
     subst (λ (t : Vec Row). All (IsKnownRow s) t.items) (sym (get_or_from_slice_get tasks k task d at)) (known_rows s bound k task.items (are.each k task.items there))
+
+-- The rows with refutations, with the dependencies of their members.
+abbrev pub shown_rows : Trace → List RefutedRow → List PrintedRow
+shown_rows s refuted = printed_rows s (bare_rows refuted)
+
+pub shown_append : (s : Trace) (some others : List RefutedRow) → shown_rows s (some ++ others) ≡ shown_rows s some ++ shown_rows s others
+shown_append s some others =
+    ap (printed_rows s) (map-append (λ (r : RefutedRow). r.row) some others) ∙ map-append (with_dependencies (dependencies s)) (bare_rows some) (bare_rows others)
 
 -- The first elements of a list are first ones of a longer list.
 first_of_more : {X : Type 0} (n : ℕ) (xs ys : List X) → (m : ℕ) × (take m (xs ++ ys) ≡ take n xs)

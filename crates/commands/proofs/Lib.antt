@@ -15,4 +15,6 @@ pub mod StepMembers
 pub mod HeadCounts
 pub mod TrueRows
 pub mod ExplainedTexts
+pub mod Refuted
+pub mod Batches
 pub mod FirstEvents

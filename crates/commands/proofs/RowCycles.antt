@@ -1,5 +1,5 @@
 -- Numbers are a cycle exactly if each member fits.
-use Rattle.std.proofs.Common.{◌≡◌, ℕ, ◌<◌, ◌≤◌, ◌↔◌, List, length}
+use Rattle.std.proofs.Common.{ℕ, ◌<◌, ◌≤◌, List, length}
 use Rattle.std.proofs.lemmas.Option.{slice_get_within}
 use Rattle.trace_model.specs.declared.limits.TheConstants.{MAX_MEMBERS}
 use Rattle.trace_model.specs.Theory.Dependencies.{Dependency}

@@ -1,5 +1,5 @@
 -- The members of steps, by their threads.
-use Rattle.std.proofs.Common.{◌≡◌, ◌+◌, Bool, cond, List, [], ◌∷◌, Some, None, ◌∙◌, length, map, refl, ap}
+use Rattle.std.proofs.Common.{◌≡◌, ◌+◌, Bool, cond, List, [], ◌∷◌, Some, None, length, map, refl, ap}
 use Rattle.std.specs.Prelude.{nat_lt, not, position, unwrap_or}
 use Rattle.std.specs.List.{prefix_len}
 use Rattle.std.proofs.lemmas.List.{length-map}

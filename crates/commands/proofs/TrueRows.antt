@@ -1,5 +1,5 @@
 -- A valid file states only true rows of the trace.
-use Rattle.std.proofs.Common.{◌≡◌, ℕ, zero, suc, ◌&&◌, Bool, true, false, List, [], ◌∷◌, ◌∙◌, Option, Some, None, length, map, slice_get, refl, sym, ap, subst, true≢false, inl, inr, ⊎_elim}
+use Rattle.std.proofs.Common.{◌≡◌, ℕ, zero, suc, ◌&&◌, Bool, true, false, List, [], ◌∷◌, ◌∙◌, Option, Some, None, length, map, slice_get, refl, sym, ap, subst, true≢false, inl, inr}
 use Rattle.std.specs.Prelude.{if◌then◌else◌}
 use Rattle.std.specs.List.{All, AllZip, list_all}
 use Rattle.std.proofs.lemmas.List.{length-map}
@@ -10,7 +10,6 @@ use Rattle.trace_model.specs.Theory.Lawful.{IsWellFormed}
 use Rattle.trace_model.specs.Theory.Cycles.{IsInstance}
 use Rattle.trace_model.proofs.Theory.Refutation.{refuted_not_confirmed}
 use Rattle.event_files.specs.ExplainedText.{IsStatedCycle, StatedCycle, StatedMember}
-use Rattle.event_files.specs.ExplainedText as explained
 use Rattle.event_files.specs.declared.explanations.ReportHead.{ReportHead}
 use Rattle.replay.specs.declared.refutation_verdict.RefutationVerdict.TheVariants.{Valid, UnknownNumber, WrongStep, AfterEnd, PlaceLeft}
 use Rattle.replay.specs.declared.verdict.Verdict.TheVariants.{Reaches, Fails}

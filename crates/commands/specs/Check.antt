@@ -1,5 +1,5 @@
 -- The check of explained cycles against a trace (this project's profile).
-use Rattle.std.specs.Prelude.{◌≡◌, ◌≢◌, ℕ, ◌<◌, ◌≤◌, ◌⊎◌, ◌==◌, ◌&&◌, Bool, true, false, List, [], ◌∷◌, ◌++◌, Option, Some, count_by, length, map, option_to_list, position, unwrap_or, if◌then◌else◌}
+use Rattle.std.specs.Prelude.{◌≡◌, ◌≢◌, ℕ, ◌≤◌, ◌⊎◌, ◌==◌, ◌&&◌, Bool, true, false, List, [], ◌∷◌, ◌++◌, Option, Some, count_by, length, map, option_to_list, position, unwrap_or, if◌then◌else◌}
 use Rattle.std.specs.List.{All, AllZip, flat_map, list_all, zip}
 use Rattle.trace_model.specs.declared.refutations.RefutationStep.{RefutationStep}
 use Rattle.trace_model.specs.Theory.Trace.{Trace}

@@ -1,11 +1,11 @@
 -- What `explain` prints (this project's profile).
-use Rattle.std.specs.Prelude.{◌≡◌, ℕ, ◌<◌, ◌≤◌, ◌^◌, ◌⊎◌, List, [], ◌++◌, codes, count_by, decimal, length, map, slice_get, take, Option, Some, None, Result, Ok, Err, MatchOption}
+use Rattle.std.specs.Prelude.{◌≡◌, ℕ, ◌<◌, ◌≤◌, ◌^◌, ◌⊎◌, List, ◌++◌, codes, decimal, length, map, slice_get, take, Option, Some, None, Result, Ok, Err, MatchOption}
 use Rattle.std.specs.List.{All, AllZip, Contains, flat_map}
 use Rattle.trace_model.specs.declared.refutations.RefutationStep.{RefutationStep}
 use Rattle.trace_model.specs.declared.limits.TheConstants.{MAX_CYCLES}
 use Rattle.trace_model.specs.declared.refusal.Refusal.TheVariants.{TooManyCycles}
 use Rattle.trace_model.specs.Theory.Trace.{Trace}
-use Rattle.trace_model.specs.Theory.Cycles.{IsConfirmed, IsCycle}
+use Rattle.trace_model.specs.Theory.Cycles.{IsCycle}
 use Rattle.trace_model.specs.Theory.Dependencies.{dependencies}
 use Rattle.trace_model.specs.Theory.Refutation.{IsRefutation}
 use Rattle.event_files.specs.Refutations.{refutation_text, label_and_number}
@@ -13,6 +13,7 @@ use Rattle.trace_model.specs.Theory.Rows.{Row, IsRow}
 use Rattle.std.specs.Global.{Vec}
 use Rattle.findings.specs.declared.computing.ComputeRefused.{ComputeRefused}
 use Rattle.findings.specs.declared.computing.ComputeRefused.TheVariants.{TooManyCycles as TooManyFound}
+use Rattle.commands.specs.declared.refuting.RefutedRow.{RefutedRow}
 use Rattle.offline_report.specs.Offline.{AreTasks, first_line_of, printed_rows, rows_by_task}
 use Rattle.cycle_search.specs.CycleSearch.{CycleFrom, MoreThan}
 use Rattle.event_files.specs.EventFile.{pieces_at}
@@ -26,11 +27,15 @@ use Rattle.commands.specs.declared.exit.Status.TheVariants.{Done, Refused, Error
 use Rattle.reports.specs.Printed.{PrintedRow, with_dependencies}
 use Rattle.reports.specs.Text.{row_text}
 
--- The row of a cycle that is not confirmed, with the dependencies of its members.
-pub record IsPotential (s : Trace) (p : PrintedRow) : Type 0 where
+-- The row has the dependencies of its numbers.
+pub record IsNamedRow (s : Trace) (p : PrintedRow) : Type 0 where
   pub known : (m : ℕ) → Contains p.row.cycle m → m < length (dependencies s)
   pub named : p ≡ with_dependencies (dependencies s) p.row
-  pub not_confirmed : IsConfirmed s p.row.cycle → ⊥
+
+-- A refutation of the row's cycle, if the row is potential.
+abbrev pub HasRefutation : Trace → Row → Option (List RefutationStep) → Type 0
+HasRefutation s row refutation = MatchOption row.found
+    (MatchOption refutation ⊥ (IsRefutation s row.cycle)) (λ found. refutation ≡ None)
 
 -- The text of a refutation of the row's cycle is appended.
 abbrev pub AddsRefutation : Trace → PrintedRow → List ℕ → List ℕ → Type 0
@@ -55,6 +60,19 @@ ExplainsSome s rows text = (n : ℕ) × Explains s (take n rows) text
 pub record IsKnownRow (s : Trace) (row : Row) : Type 0 where
   pub exact : IsRow s row
   pub known : (m : ℕ) → Contains row.cycle m → m < length (dependencies s)
+
+-- A row of the trace, with a refutation of its cycle if it is potential.
+abbrev pub IsRefutedRow : Trace → RefutedRow → Type 0
+IsRefutedRow s r = IsKnownRow s r.row × HasRefutation s r.row r.refutation
+
+-- The rows without the refutations.
+abbrev pub bare_rows : List RefutedRow → List Row
+bare_rows refuted = map (λ r. r.row) refuted
+
+-- The rows, each with a refutation if it is potential.
+pub record AreRefuted (s : Trace) (rows : List Row) (refuted : List RefutedRow) : Type 0 where
+  pub plain : bare_rows refuted ≡ rows
+  pub each : All (IsRefutedRow s) refuted
 
 -- The rows of all tasks, in order.
 abbrev pub all_rows : List (Vec Row) → List Row

@@ -1,18 +1,20 @@
 //! The command `explain`: the cycles of a file of events, each with its evidence.
-ghost use Rattle.std.specs.Prelude.{◌≡◌, ◌≢◌, ℕ, ◌<◌, ◌≤◌, List, [], length, map, slice_get, vec_capacity, Some, None, IfErr, IfOk, IfSome, MatchOption, OnErr, OnOk};
+ghost use Rattle.std.specs.Prelude.{◌≡◌, ◌≢◌, ℕ, ◌<◌, ◌≤◌, ◌++◌, List, [], length, map, slice_get, vec_capacity, Some, None, IfErr, IfOk, IfSome, MatchOption, OnErr, OnOk};
 ghost use Rattle.std.specs.List.{All};
 ghost use Rattle.std.specs.Option.{ForSome, option_copied};
 ghost use Rattle.std.specs.Arc.{arc_value};
 ghost use Rattle.trace_model.specs.Theory.Trace.{Trace};
 ghost use Rattle.trace_model.specs.Theory.Lawful.{IsWellFormed};
 ghost use Rattle.trace_model.specs.Theory.Dependencies.{dependencies};
+ghost use Rattle.trace_model.specs.Theory.Refutation.{IsRefutation};
+ghost use Rattle.event_files.specs.Refutations.{refutation_text};
 ghost use Rattle.reports.specs.Printed.{PrintedRow, with_dependencies};
 ghost use Rattle.reports.specs.Text.{row_text};
 ghost use Rattle.offline_report.specs.Offline.{IsReportRows, printed_rows};
 ghost use Rattle.snapshots.specs.Found.{AreRowsOf};
 ghost use Rattle.commands.specs.declared.exit.Status.TheVariants.{Error, NotUnderstood};
 ghost use Rattle.event_files.specs.EventFile.{pieces_at};
-ghost use Rattle.commands.specs.Explain.{AddsRefutation, ExplainTells, Explains, ExplainsSome, IsExplanation, IsChosen, IsKnownRow, IsPotential, IsTooMany, AreNumberWords, NamesCycle, NamesNone, PrintsAllOf, PrintsChosen, PrintsOneOf, all_rows, no_cycle_line};
+ghost use Rattle.commands.specs.Explain.{ExplainTells, Explains, ExplainsSome, HasRefutation, IsExplanation, IsChosen, IsKnownRow, IsNamedRow, IsRefutedRow, IsTooMany, AreNumberWords, NamesCycle, NamesNone, PrintsAllOf, PrintsChosen, PrintsOneOf, all_rows, no_cycle_line, bare_rows};
 ghost use Rattle.commands.specs.Exit.{error_status};
 ghost use Rattle.commands.specs.Output.{EndsWithResult, IsCutShort, Writes};
 
@@ -20,11 +22,11 @@ use crate::admission::admit;
 use crate::exit::{CommandError, Status, reported, write_bytes, write_text};
 use crate::files::{NamedFile, read_file};
 use crate::offline_command::write_refused;
+use crate::refuting::{RefutedRow, Refuter, batches_of};
 use crate::text::{push_last, push_number};
 use dependencies::Dependency;
 use event_files::laws::refutations_are_writable;
 use event_files::{parse_number, push_refutation};
-use explain::refutation_of;
 use findings::{Analysis, ComputeRefused, Finding, Job, RunOn, Snapshot};
 use offline_report::{Offline, OfflineRefused, ReportRows, RowPrinter};
 use reports::{BareRow, Row, TextBuffer};
@@ -33,7 +35,7 @@ use std::hash::RandomState;
 use std::io::{self, BufWriter, Write};
 use std::sync::Arc;
 use std::thread::Threads;
-use trace_model::{Bound, Cycle, Event, NoMemory};
+use trace_model::{Bound, Cycle, Event, NoMemory, Refutation};
 
 /// The number of the question that is asked about a file.
 const QUESTION: u32 = 0;
@@ -49,44 +51,37 @@ fn threads_of(alloc: Global, dependencies: &[Dependency]) -> Result<Vec<u32>, No
     Ok(threads)
 }
 
-/// Appends the text of a refutation of the row's cycle, which is not confirmed.
+/// Appends the text of a refutation of the row's cycle.
 fn push_reasons(
     alloc: Global,
-    state: RandomState,
-    snapshot: &Snapshot,
     row: &Row,
+    refutation: &Refutation,
     text: &mut Vec<u8>,
 ) -> Result<(), NoMemory>
-    requires row { IsPotential snapshot.now row.now }
-    ensures { OnOk result
-        (AddsRefutation snapshot.now row.now text.old.items text.new.items) }
+    requires { (s : Trace) × IsNamedRow s row.now × IsRefutation s row.now.row.cycle refutation.now }
+    ensures { OnOk result (text.new.items ≡ text.old.items ++
+        refutation_text (map (λ d. d.thread) row.now.dependencies) refutation.now) }
 {
     refutations_are_writable(); // for the proof
-    let (index, table) = (snapshot.index(), snapshot.table());
-    match refutation_of(alloc, state, index, table, &row.cycle)? {
-        Some(refutation) => {
-            let threads = threads_of(alloc, &row.dependencies)?;
-            push_refutation(text, &threads, refutation.steps())
-        }
-        None => unreachable!(), // the cycle is not confirmed
-    }
+    let threads = threads_of(alloc, &row.dependencies)?;
+    push_refutation(text, &threads, refutation.steps())
 }
 
-/// Returns the text of a row, which is `printed`, and if its cycle is potential a refutation of it.
+/// Returns the text of a row, which is `printed`, and after it the refutation, if there is one.
 fn explanation_of(
     alloc: Global,
-    state: RandomState,
-    snapshot: &Snapshot,
     row: &Row,
+    refutation: &Option<Refutation>,
     printed: &[u8],
 ) -> Result<Vec<u8>, NoMemory>
-    requires row { row.now.row.found ≡ None → IsPotential snapshot.now row.now }
+    requires row { (s : Trace) × IsNamedRow s row.now × HasRefutation s row.now.row refutation.now }
     requires printed { printed.now ≡ row_text row.now }
-    ensures { IfOk result (λ text. IsExplanation snapshot.now row.now text.items) }
+    ensures { IfOk result (λ text. (s : Trace) → HasRefutation s row.now.row refutation.now →
+        IsExplanation s row.now text.items) }
 {
     let mut text = Vec::from_slice(alloc, printed)?;
-    if row.found.is_none() {
-        push_reasons(alloc, state, snapshot, row, &mut text)?;
+    if let Some(refutation) = refutation {
+        push_reasons(alloc, row, refutation, &mut text)?;
     }
     Ok(text)
 }
@@ -94,81 +89,82 @@ fn explanation_of(
 /// Returns the text of the row with this index, and if its cycle is potential a refutation of it.
 fn text_of(
     alloc: Global,
-    state: RandomState,
+    refuter: &Refuter<'_>,
     finding: &Finding,
     index: usize,
 ) -> Result<Vec<u8>, NoMemory>
-    requires { index < length finding.now.rows }
+    requires events { refuter.now ≡ finding.now.events }
+    requires index { index < length finding.now.rows }
     ensures { IfOk result (λ text. (row : PrintedRow) →
         slice_get finding.now.rows index ≡ Some row →
         IsExplanation finding.now.events row text.items) }
 {
     let row = &finding.rows()[index];
+    let refutation = refuter.refutation(&row.cycle, &row.found)?;
     let mut buffer = TextBuffer::new(alloc);
     buffer.push_row(row)?;
-    let text = explanation_of(alloc, state, finding.snapshot(), row, buffer.bytes())?;
-    Ok(text)
+    explanation_of(alloc, row, &refutation, buffer.bytes())
 }
 
 /// Returns the text of a row of the trace, and if its cycle is potential a refutation of it.
 fn text_of_row(
     alloc: Global,
-    state: RandomState,
     snapshot: &Snapshot,
-    row: BareRow,
+    refuted: RefutedRow,
     printer: &mut RowPrinter,
 ) -> Result<Vec<u8>, NoMemory>
-    requires { IsKnownRow snapshot.now row }
+    requires { IsRefutedRow snapshot.now refuted }
     ensures { IfOk result (λ text. IsExplanation snapshot.now
-        (with_dependencies (dependencies snapshot.now) row) text.items) }
+        (with_dependencies (dependencies snapshot.now) refuted.row) text.items) }
 {
-    let row = printer.print(snapshot, row)?;
-    let text = explanation_of(alloc, state, snapshot, &row, printer.text())?;
+    let row = printer.print(snapshot, refuted.row)?;
+    let text = explanation_of(alloc, &row, &refuted.refutation, printer.text())?;
     printer.keep(row);
     Ok(text)
 }
 
-/// Writes the texts of the rows of a task.
+/// Writes the texts of some rows.
 fn write_rows<O: Write>(
     alloc: Global,
-    state: RandomState,
     snapshot: &Snapshot,
-    rows: Vec<BareRow>,
+    rows: Vec<RefutedRow>,
     printer: &mut RowPrinter,
     out: &mut O,
 ) -> Result<(), CommandError>
-    requires { All (IsKnownRow snapshot.now) rows.items }
+    requires { All (IsRefutedRow snapshot.now) rows.items }
     ensures written { OnOk result (Writes (O.contents out.old) (O.contents out.new)
-        (Explains snapshot.now (printed_rows snapshot.now rows.items))) }
+        (Explains snapshot.now (printed_rows snapshot.now (bare_rows rows.items)))) }
     ensures cut { OnErr result (IsCutShort (O.contents out.old) (O.contents out.new)
-        (ExplainsSome snapshot.now (printed_rows snapshot.now rows.items))) }
+        (ExplainsSome snapshot.now (printed_rows snapshot.now (bare_rows rows.items)))) }
     ensures failed { IfErr result (λ error. error_status error ≡ Error) }
 {
     for row in rows {
-        let text = text_of_row(alloc, state, snapshot, row, printer)?;
+        let text = text_of_row(alloc, snapshot, row, printer)?;
         write_bytes(out, &text)?;
     }
     Ok(())
 }
 
-/// Writes the texts of the rows of all tasks.
-fn write_tasks<O: Write>(
+/// Writes the texts of the rows of all batches. The refutations of a batch are computed on all
+/// processors.
+fn write_batches<R: Threads + Sync, O: Write>(
+    rt: &R,
     alloc: Global,
-    state: RandomState,
-    snapshot: &Snapshot,
-    tasks: Vec<Vec<BareRow>>,
+    refuter: &Refuter<'_>,
+    batches: Vec<Vec<BareRow>>,
     printer: &mut RowPrinter,
     out: &mut O,
 ) -> Result<(), CommandError>
-    requires { All (λ task. All (IsKnownRow snapshot.now) task.items) tasks.items }
+    requires { All (λ batch. All (IsKnownRow refuter.now) batch.items) batches.items }
     ensures written { OnOk result (Writes (O.contents out.old) (O.contents out.new)
-        (Explains snapshot.now (printed_rows snapshot.now (all_rows tasks.items)))) }
+        (Explains refuter.now (printed_rows refuter.now (all_rows batches.items)))) }
     ensures cut { OnErr result (IsCutShort (O.contents out.old) (O.contents out.new)
-        (ExplainsSome snapshot.now (printed_rows snapshot.now (all_rows tasks.items)))) }
+        (ExplainsSome refuter.now (printed_rows refuter.now (all_rows batches.items)))) }
     ensures failed { IfErr result (λ error. error_status error ≡ Error) }
 {
-    for rows in tasks {
-        write_rows(alloc, state, snapshot, rows, printer, out)?;
+    for rows in batches {
+        let refuted = refuter.refute_all(rt, rows)?;
+        write_rows(alloc, refuter.snapshot(), refuted, printer, out)?;
     }
     Ok(())
 }
@@ -189,7 +185,8 @@ fn write_uncomputed<O: Write>(
 }
 
 /// Writes the first line of the report and the texts of its rows.
-fn write_found<O: Write>(
+fn write_found<R: Threads + Sync, O: Write>(
+    rt: &R,
     alloc: Global,
     state: RandomState,
     snapshot: &Snapshot,
@@ -202,8 +199,10 @@ fn write_found<O: Write>(
         (O.contents out.old) (O.contents out.new) }
 {
     let mut printer = RowPrinter::new(alloc, snapshot.len() as u32, &found)?;
+    let refuter = Refuter::new(alloc, state, snapshot);
+    let batches = batches_of(alloc, found.tasks)?;
     write_bytes(out, &found.first_line)?;
-    write_tasks(alloc, state, snapshot, found.tasks, &mut printer, out)?;
+    write_batches(rt, alloc, &refuter, batches, &mut printer, out)?;
     out.flush()?;
     Ok(Status::Done)
 }
@@ -221,7 +220,7 @@ fn write_report<R: Threads + Sync, O: Write>(
         (O.contents out.old) (O.contents out.new) }
 {
     match offline.rows(rt, &RunOn) {
-        Ok(found) => write_found(alloc, state, offline.snapshot(), found, out),
+        Ok(found) => write_found(rt, alloc, state, offline.snapshot(), found, out),
         Err(OfflineRefused::NoMemory) => Err(CommandError::Memory),
         Err(refused) => write_refused(alloc, refused, out),
     }
@@ -294,7 +293,8 @@ fn write_one<O: Write>(
     };
     match index_of(&finding, cycle) {
         Some(index) => {
-            let text = text_of(alloc, state, &finding, index)?;
+            let refuter = Refuter::new(alloc, state, finding.snapshot());
+            let text = text_of(alloc, &refuter, &finding, index)?;
             write_text(out, &text, Status::Done)
         }
         None => {

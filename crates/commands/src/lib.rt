@@ -19,6 +19,7 @@ pub mod laws;
 mod offline_command;
 mod progress;
 mod progress_line;
+mod refuting;
 mod replay_command;
 mod script_command;
 mod text;

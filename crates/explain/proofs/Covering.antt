@@ -34,19 +34,19 @@ entry_up_to s places x is p c =
     (p, e.thread, refl, (e.op, here), (e.op, here), omega arith)
 
 -- the thread gets a longer prefix, and the places that it has more are a range
-module _ (s : Trace) (places : List ℕ) (x z : DerivationSearch) (t place : ℕ) (reason : Reason) (after : Option ℕ)
+module _ (s : Trace) (places : List ℕ) (x z : DerivationSearch) (t place : ℕ) (reason : Reason) (after : Option ℕ) (slice : ℕ)
     (here : OfThread s place t)
     (known : after ≡ option_map (λ (k : Prefix). k.last) (prefix_at x.threads t))
     (past : (a : ℕ) → after ≡ Some a → a < place)
     (put : (u : ℕ) → prefix_at z.threads u ≡ cond (t == u) (Some (record { last = place; reason = reason })) (prefix_at x.threads u))
-    (items : z.ranges.items ≡ x.ranges.items ++ record { prefix = record { last = place; reason = reason }; after = after } ∷ [])
+    (items : z.ranges.items ≡ x.ranges.items ++ record { prefix = record { last = place; reason = reason }; after = after; slice = slice } ∷ [])
     (is : IsSearch s places x)
     (covers : (p : ℕ) → IsUpTo s p (Some place) → Contains (derived_by x) p ⊎ Justifies s places (derived_by x) reason p) where
   abbrev prefix : Prefix
   prefix = record { last = place; reason = reason }
 
   abbrev range : Range
-  range = record { prefix = record { last = place; reason = reason }; after = after }
+  range = record { prefix = record { last = place; reason = reason }; after = after; slice = slice }
 
   abbrev y : DerivationSearch
   y = record x { threads = z.threads; ranges = z.ranges }

@@ -19,7 +19,7 @@ use Rattle.explain.specs.declared.tables.Prefix.{Prefix}
 use Rattle.explain.specs.declared.search.Range.{Range}
 use Rattle.explain.specs.declared.search.DerivationSearch.{DerivationSearch}
 use Rattle.explain.specs.Tables.{prefix_at}
-use Rattle.explain.specs.DerivationSearch.{IsUpTo, IsDerived, IsIn, InRange, Extends, HasFork, IsBefore, IsLast, HasFollowed, IsCaughtNowhere}
+use Rattle.explain.specs.DerivationSearch.{IsUpTo, IsDerived, IsIn, InRange, Extends, HasFork, IsBefore, IsLast, IsLater, HasFollowed, IsCaughtNowhere}
 use Rattle.explain.proofs.Adding.{covers_more, covers_before, has_up_to}
 use Rattle.explain.proofs.LastSections.{follows_stays}
 use Rattle.explain.proofs.Walking.{before_some, before_none}
@@ -97,19 +97,39 @@ pub walk_ends : (s : Trace) (range : Range) (next : Option ℕ) (xs : List ℕ) 
 walk_ends s range next xs h (inl none) q (up, after) = h q up (λ n k. absurd (none-some n (sym none ∙ k)))
 walk_ends s range next xs h (inr (n, is, (a, e, low))) q (up, after) = h q up (λ m k. omega (arith, low, after a e, same_Some n m (sym is ∙ k)))
 
--- the places of the first ranges are followed
+-- the places of the first k ranges are followed, or in a later range
 abbrev pub HasWalked : Trace → DerivationSearch → List ℕ → ℕ → Type 0
-HasWalked s x followed k = (i : ℕ) (r : Range) (p : ℕ) → i < k → slice_get x.ranges.items i ≡ Some r → InRange s r p → Contains followed p
+HasWalked s x followed k = (i : ℕ) (r : Range) (p : ℕ) → i < k → slice_get x.ranges.items i ≡ Some r → InRange s r p →
+    Contains followed p ⊎ IsLater s x k p
+
+-- a later range of the first search is range k or one of the second after it
+later_more : (s : Trace) (x y : DerivationSearch) (ys : List ℕ) (k : ℕ) (range : Range) → Extends s x y → slice_get x.ranges.items k ≡ Some range →
+    ((q : ℕ) → InRange s range q → Contains ys q ⊎ IsLater s y (k + 1) q) → (p : ℕ) → IsLater s x k p → Contains ys p ⊎ IsLater s y (k + 1) p
+later_more s x y ys k range e here h p (j, r, from, at, inside) = elim (cases_lt k j) [
+  | inl less ↦ inr (j, r, omega (arith, less), e.ranges j r at, inside)
+  | inr low ↦
+      let index : j ≡ k = omega (arith, low, from) in
+      let same : r ≡ range = same_Some r range (sym at ∙ subst (λ n. slice_get x.ranges.items n ≡ Some range) (sym index) here) in
+      h p (subst (λ (v : Range). InRange s v p) same inside)
+]
 
 pub walked_more : (s : Trace) (x y : DerivationSearch) (xs ys : List ℕ) (k : ℕ) (range : Range) → Extends s x y → ((q : ℕ) → Contains xs q → Contains ys q) →
-    slice_get x.ranges.items k ≡ Some range → k < length x.ranges.items → ((q : ℕ) → InRange s range q → Contains ys q) → HasWalked s x xs k → HasWalked s y ys (k + 1)
+    slice_get x.ranges.items k ≡ Some range → k < length x.ranges.items → ((q : ℕ) → InRange s range q → Contains ys q ⊎ IsLater s y (length x.ranges.items) q) →
+    HasWalked s x xs k → HasWalked s y ys (k + 1)
 walked_more s x y xs ys k range e more here within h walked i r p low is inside =
     let (z, there) = at_index x.ranges.items i (omega (arith, low, within)) in
     let same : z ≡ r = same_Some z r (sym (e.ranges i z there) ∙ is) in
+    let after : (q : ℕ) → InRange s range q → Contains ys q ⊎ IsLater s y (k + 1) q = λ q t. elim (h q t) [
+      | inl c ↦ inl c
+      | inr (j, v, from, at, v_has) ↦ inr (j, v, omega (arith, from, within), at, v_has)
+    ] in
     elim (cases_lt i k) [
-      | inl less ↦ more p (walked i z p less there (subst (λ (v : Range). InRange s v p) (sym same) inside))
+      | inl less ↦ elim (walked i z p less there (subst (λ (v : Range). InRange s v p) (sym same) inside)) [
+        | inl c ↦ inl (more p c)
+        | inr later ↦ later_more s x y ys k range e here after p later
+      ]
       | inr up ↦
           let index : i ≡ k = omega (arith, low) in
           let prefix_at : range ≡ z = same_Some range z (sym here ∙ subst (λ n. slice_get x.ranges.items n ≡ Some z) index there) in
-          h p (subst (λ (v : Range). InRange s v p) (sym (prefix_at ∙ same)) inside)
+          after p (subst (λ (v : Range). InRange s v p) (sym (prefix_at ∙ same)) inside)
     ]

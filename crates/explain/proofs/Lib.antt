@@ -1,5 +1,6 @@
 pub mod Adding
 pub mod Covering
+pub mod Postponing
 pub mod Walking
 pub mod Requiring
 pub mod LastSections

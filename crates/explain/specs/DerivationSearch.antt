@@ -1,5 +1,5 @@
 -- The state of a search for derived places.
-use Rattle.std.specs.Prelude.{◌≡◌, ℕ, ◌<◌, ◌≤◌, ◌⊎◌, List, [], ◌++◌, slice_get, nat_eq, Option, Some, None, MatchOption}
+use Rattle.std.specs.Prelude.{◌≡◌, ℕ, ◌<◌, ◌≤◌, ◌⊎◌, List, [], ◌++◌, length, slice_get, nat_eq, Option, Some, None, MatchOption}
 use Rattle.std.specs.HashMap.{get}
 use Rattle.std.specs.List.{Contains}
 use Rattle.trace_model.specs.declared.refutations.Derived.{Derived}
@@ -133,10 +133,23 @@ abbrev pub AddsFollowed : Trace → List ℕ → DerivationSearch → List ℕ �
 AddsFollowed s places old followed new = IsSearch s places new × Extends s old new
     × HasFollowed s followed new
 
--- The list has the followed places, and those of the range.
-abbrev pub HasAlso : Trace → List ℕ → Range → List ℕ → Type 0
-HasAlso s followed range all = ((q : ℕ) → Contains followed q → Contains all q)
-    × ((q : ℕ) → InRange s range q → Contains all q)
+-- The place is in a range of the search from index n on.
+abbrev pub IsLater : Trace → DerivationSearch → ℕ → ℕ → Type 0
+IsLater s x n p = (i : ℕ) × (r : Range) × (n ≤ i) × (slice_get x.ranges.items i ≡ Some r)
+    × InRange s r p
+
+-- The list has the followed places, and those of the range that are in no range which the new
+-- search has added.
+abbrev pub HasAlso : Trace → List ℕ → Range → DerivationSearch → DerivationSearch → List ℕ → Type 0
+HasAlso s followed range old new all = ((q : ℕ) → Contains followed q → Contains all q)
+    × ((q : ℕ) → InRange s range q →
+    Contains all q ⊎ IsLater s new (length old.ranges.items) q)
+
+-- The new search has added the places of the range up to place n as a range.
+abbrev pub Postpones : Trace → List ℕ → DerivationSearch → Range → ℕ → DerivationSearch → Type 0
+Postpones s places old range n new = IsSearch s places new × Extends s old new
+    × ((q : ℕ) → IsUpTo s q (Some n) → ((a : ℕ) → range.after ≡ Some a → a < q) →
+    IsLater s new (length old.ranges.items) q)
 
 -- The place of this member is derived.
 abbrev pub IsCaughtAt : Trace → DerivationSearch → List ℕ → ℕ → Type 0

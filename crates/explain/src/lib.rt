@@ -1,11 +1,10 @@
 //! Refutations of cycles that are not confirmed.
 //!
 //! [`refutation_of`] returns a refutation of a cycle exactly if the cycle is not confirmed. From
-//! the first places of the cycle's members on, a breadth-first search derives the places that each
-//! reordering has to contain: a prefix of each thread. When it derives the present place of a
-//! member, the entries that this place needs are a step of the refutation, and the member moves to
-//! its next place. If the search ends before, some reordering reaches the present places. Start
-//! reading at `search.rt`.
+//! the first places of the cycle's members on, a search derives the places that each reordering has
+//! to contain: a prefix of each thread. When it derives the present place of a member, the entries
+//! that this place needs are a step of the refutation, and the member moves to its next place. If
+//! the search ends before, some reordering reaches the present places. Start reading at `search.rt`.
 #![tactic(auto)]
 
 mod extract;

@@ -20,8 +20,8 @@ use trace_model::{Cycle, Derivation, NoMemory, Place, Refutation, RefutationStep
 
 /// Returns a refutation of the cycle exactly if the cycle is not confirmed, or `None` if some
 /// reordering reaches an instance of it. The derivation of each step has the entries that its place
-/// needs in a breadth-first search. Allocates in proportion to the refutation, and to the threads,
-/// locks and ranges of places that one search meets.
+/// needs in a search. Allocates in proportion to the refutation, and to the threads, locks and
+/// ranges of places that one search meets.
 ///
 /// The caller passes the table of the dependencies of the index's trace, and numbers below its
 /// length.

@@ -5,7 +5,7 @@ ghost use Rattle.std.specs.List.{Contains};
 ghost use Rattle.trace_model.specs.Theory.Trace.{Trace, At};
 ghost use Rattle.trace_model.specs.Theory.Reordering.{AreReached};
 ghost use Rattle.trace_model.specs.Theory.Refutation.{Justifies};
-ghost use Rattle.explain.specs.DerivationSearch.{derived_by, IsBlankSearch, IsSearch, IsDerived, Gives, IsIn, AddsEntry, CoversAll, Extends, AddsFollowed, HasAlso, IsUpTo, IsJoined, IsBefore, IsBeforeSome, HasFork, HasLastPlaces, HasFollowed, IsCaughtAt, IsCaughtIn, IsCaughtNowhere};
+ghost use Rattle.explain.specs.DerivationSearch.{derived_by, IsBlankSearch, IsSearch, IsDerived, Gives, IsIn, AddsEntry, CoversAll, Extends, AddsFollowed, HasAlso, IsUpTo, IsJoined, IsBefore, IsBeforeSome, HasFork, HasLastPlaces, HasFollowed, IsCaughtAt, IsCaughtIn, IsCaughtNowhere, Postpones};
 
 use crate::tables::{IndexTable, Prefix, PrefixTable, index_at, prefix_at, put_index, put_prefix};
 use fronts::last_place;
@@ -16,11 +16,17 @@ use std::collections::hash_map::RandomState;
 use trace_index::TraceIndex;
 use trace_model::{Derived, Event, NoMemory, Op, Place, Reason};
 
+/// How many places of a range are followed at first, before those of the next range. What derives
+/// the place of a member is mostly near the end of a range.
+const FIRST_SLICE: usize = 16;
+
 /// The places of a prefix after `after`, which an earlier range of the thread ends with.
 #[derive(Clone, Copy)]
 pub(crate) struct Range {
     pub(crate) prefix: Prefix,
     pub(crate) after: Option<Place>,
+    /// How many of the places are followed before those of the next range.
+    pub(crate) slice: usize,
 }
 
 /// The state of a search. Its derived places are a prefix of each thread. Only those that others
@@ -34,7 +40,7 @@ pub(crate) struct DerivationSearch {
     /// The derived places of each thread.
     pub(crate) threads: PrefixTable,
     /// The derived places in the order in which they were found. The search follows the ranges in
-    /// this order, each from its last place back.
+    /// this order, each from its last place back, a slice at a time.
     pub(crate) ranges: Vec<Range>,
     /// For each lock the last place that was followed at which a section on it begins.
     pub(crate) locks: PrefixTable,
@@ -154,6 +160,7 @@ impl DerivationSearch {
                 reason: *reason,
             },
             after,
+            slice: FIRST_SLICE,
         };
         put_prefix(&mut self.threads, event.thread, &range.prefix)?;
         self.ranges.push(range)?;
@@ -276,8 +283,35 @@ impl DerivationSearch {
         self.add_section(index, here)
     }
 
-    /// Follows the places of a range, from the last one back. Returns the index of a member as soon
-    /// as its place is derived, or `None` after the whole range.
+    /// Adds the places of a range from `next` back as a range at the end, if there is a next place.
+    /// Its slice is twice as long, so a range has few slices.
+    ///
+    /// # Errors
+    /// `NoMemory` if an allocation fails.
+    fn postpone(&mut self, range: &Range, next: Option<Place>) -> Result<(), NoMemory>
+        ensures locks { self.new.locks ≡ self.old.locks }
+        ensures postponed { OnOk result ((s : Trace) (places : List ℕ) (n : ℕ) → next ≡ Some n →
+            IsSearch s places self.old →
+            IsIn s places self.old (record { last = n; reason = range.now.prefix.reason }) →
+            Postpones s places self.old range.now n self.new) }
+        ensures none { OnOk result (next ≡ None → self.new ≡ self.old) }
+    {
+        let Some(place) = next else {
+            return Ok(());
+        };
+        self.ranges.push(Range {
+            prefix: Prefix {
+                last: place,
+                reason: range.prefix.reason,
+            },
+            after: range.after,
+            slice: range.slice.saturating_mul(2),
+        })?;
+        Ok(())
+    }
+
+    /// Follows the last places of a range, from the last one back, and adds the others as a range
+    /// at the end. Returns the index of a member as soon as its place is derived, or `None`.
     ///
     /// # Errors
     /// `NoMemory` if an allocation fails.
@@ -293,7 +327,7 @@ impl DerivationSearch {
             HasFollowed index.now.events followed self.old →
             MatchOption caught
             ((all : List ℕ) × AddsFollowed index.now.events places.now self.old all self.new
-            × HasAlso index.now.events followed range.now all)
+            × HasAlso index.now.events followed range.now self.old self.new all)
             (IsCaughtIn index.now.events places.now self.new)) }
     {
         let prefix = &range.prefix;
@@ -307,9 +341,12 @@ impl DerivationSearch {
             return Ok(Some(member));
         }
         let mut next = Some(prefix.last);
-        while let Some(place) = next {
+        for _count in 0..range.slice {
+            let Some(place) = next else {
+                return Ok(None);
+            };
             if is_past(&range.after, place) {
-                break;
+                return Ok(None);
             }
             let here = Prefix {
                 last: place,
@@ -322,6 +359,7 @@ impl DerivationSearch {
             }
             next = index.thread_before(place);
         }
+        self.postpone(range, next)?;
         Ok(None)
     }
 

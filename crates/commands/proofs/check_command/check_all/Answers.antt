@@ -5,7 +5,6 @@ use Rattle.event_files.specs.ExplainedText.{stated_cycle}
 use Rattle.event_files.specs.declared.explanations.Explained.{Explained}
 use Rattle.commands.specs.Check.{AddsRows, checked_lines}
 use Rattle.commands.specs.CheckWords.{head_verdict_line}
-use Rattle.commands.specs.declared.exit.Status.{Status}
 use Rattle.commands.specs.declared.exit.Status.TheVariants.{Done, Refused}
 use Rattle.std.specs.Prelude.{if◌then◌else◌}
 use Rattle.commands.proofs.check_command.check_all.Goals as goal

@@ -1,4 +1,4 @@
-use Rattle.std.proofs.Common.{◌≡◌, List, ℕ, sym, subst}
+use Rattle.std.proofs.Common.{List, ℕ, sym, subst}
 use Rattle.event_files.specs.ExplainedText.{contents_of}
 use Rattle.commands.specs.Check.{ChecksAs, IsCheckOf, IsNotExplained}
 use Rattle.commands.specs.Output.{IsJust}

@@ -1,4 +1,4 @@
-use Rattle.std.proofs.Common.{◌≡◌, ℕ, false, ◌<◌, ◌∙◌, List, [], ◌∷◌, ◌++◌, ap, map, sym, subst, take}
+use Rattle.std.proofs.Common.{ℕ, false, ◌<◌, ◌∙◌, List, [], ◌∷◌, ◌++◌, ap, map, sym, subst, take}
 use Rattle.std.proofs.Math.ListN.{get_or-map}
 use Rattle.std.proofs.lemmas.List.{length-map, map-append, take_all, take_more}
 use Rattle.event_files.specs.ExplainedText.{IsStatedCycle, StatedCycle, stated_cycle}

@@ -1,29 +1,25 @@
-use Rattle.std.proofs.Common.{◌≡◌, List, ℕ, None, MatchOption, sym, ap, subst, ◌∙◌}
-use Rattle.std.specs.Option.{is_some}
-use Rattle.reports.specs.Printed.{PrintedRow}
+use Rattle.std.proofs.Common.{◌≡◌, List, ◌++◌, Option, MatchOption, map, sym, ap, subst, ◌∙◌}
+use Rattle.trace_model.specs.declared.refutations.RefutationStep.{RefutationStep}
 use Rattle.reports.specs.Text.{row_text}
-use Rattle.commands.specs.Explain.{AddsRefutation, IsExplanation}
-use Rattle.commands.proofs.ExplainedTexts.{of_some}
-use Rattle.commands.proofs.PotentialRows.{none_of}
+use Rattle.event_files.specs.Refutations.{refutation_text}
+use Rattle.commands.proofs.PotentialRows.{explains_with, given_refutation}
 use Rattle.commands.proofs.explain_command.explanation_of.Goals as goal
-use Rattle.commands.proofs.explain_command.explanation_of.Goals.{then-is_none+in_ok-push_reasons, else-is_none}
+use Rattle.commands.proofs.explain_command.explanation_of.Goals.{in-Some+in_ok-push_reasons, in_default}
 
 pub push_reasons-requires : goal.push_reasons-requires
 push_reasons-requires c =
-    let row = c.args.row.now in
-    record { row = c.requires.row (none_of row.row.found (ap (λ (q : PrintedRow). is_some q.row.found) (sym c.row.view_is) ∙ c.if-is_none.ensures)) }
+    let (s, named, has) = c.requires.row in
+    (s, named, given_refutation s c.args.row.now.row c.args.refutation.now c.in-Some.refutation has c.in-Some.is)
 
 pub returns : goal.returns
-returns c =
-    let s = c.args.snapshot.now in
-    let own = c.args.row.now in
+returns c s has =
+    let p = c.args.row.now in
+    let text = c.match-refutation.text.items in
     let written = c.in_ok-text.ensures.items ∙ c.requires.printed in
-    elim c.if-is_none.branch [
-      | then-is_none+in_ok-push_reasons w ↦
-          let none : own.row.found ≡ None = none_of own.row.found (ap (λ (q : PrintedRow). is_some q.row.found) (sym c.row.view_is) ∙ w.if-is_none.ensures) in
-          rw w.text-is (subst (λ o. MatchOption o (AddsRefutation s own (row_text own) w.push_reasons.new.text.items) (λ found. w.push_reasons.new.text.items ≡ row_text own)) (sym none)
-          (subst (λ (old : List ℕ). AddsRefutation s own old w.push_reasons.new.text.items) written w.in_ok-push_reasons.ensures))
-      | else-is_none w ↦
-          let some = ap (λ (q : PrintedRow). is_some q.row.found) (sym c.row.view_is) ∙ w.if-is_none.ensures in
-          rw w.text-is (of_some own.row.found (AddsRefutation s own (row_text own) c.in_ok-text.text.items) (c.in_ok-text.text.items ≡ row_text own) some written)
-    ]
+    let Written : Option (List RefutationStep) → Type 0 = λ o. MatchOption o (text ≡ row_text p) (λ steps. text ≡ row_text p ++ refutation_text (map (λ d. d.thread) p.dependencies) steps) in
+    explains_with s p c.args.refutation.now text has (elim c.match-refutation.branch [
+      | in-Some+in_ok-push_reasons w ↦
+          let steps = w.in-Some.refutation in
+          subst Written (sym w.in-Some.is) (ap (λ v. v.items) w.text-is ∙ w.in_ok-push_reasons.ensures ∙ ap (λ l. l ++ refutation_text (map (λ d. d.thread) p.dependencies) steps) written)
+      | in_default w ↦ subst Written (sym w.in_default.is) (ap (λ v. v.items) w.text-is ∙ written)
+    ])

@@ -1,16 +1,20 @@
-use Rattle.std.proofs.Common.{◌≡◌, ℕ, List, Option, [], ◌++◌, length, refl, sym, ap, subst, ◌∙◌}
+use Rattle.std.proofs.Common.{ℕ, List, Option, [], ◌++◌, refl, sym, ap, subst, ◌∙◌}
 use Rattle.std.specs.Io.KnownBytes.{Appends, Keeps}
 use Rattle.std.proofs.lemmas.List.{append-nil}
 use Rattle.std.proofs.lemmas.Result.{err_from_is_err_and}
+use Rattle.std.specs.Global.{Vec}
+use Rattle.std.specs.List.{All}
 use Rattle.trace_model.specs.Theory.Trace.{Trace}
+use Rattle.trace_model.specs.Theory.Rows.{Row}
 use Rattle.reports.specs.Printed.{PrintedRow}
-use Rattle.offline_report.specs.Offline.{IsReportRows, first_line_of, printed_rows, rows_by_task}
+use Rattle.offline_report.specs.Offline.{IsReportRows, printed_rows, rows_by_task}
 use Rattle.offline_report.specs.declared.parts.ReportRows.{ReportRows}
 use Rattle.commands.specs.Exit.{error_status}
-use Rattle.commands.specs.Explain.{AreRowsOfTrace, Explains, ExplainsFirst, ExplainsSome, PrintsAllOf, all_rows}
+use Rattle.commands.specs.Explain.{AreRowsOfTrace, Explains, ExplainsSome, IsKnownRow, PrintsAllOf, all_rows}
 use Rattle.commands.specs.Output.{AppendsPart, IsCutShort, Writes}
 use Rattle.commands.specs.declared.exit.Status.{Status}
 use Rattle.commands.specs.declared.exit.Status.TheVariants.{Done, Error}
+use Rattle.commands.proofs.Batches.{known_batches}
 use Rattle.commands.proofs.ExplainedTexts.{explains_none, known_tasks}
 use Rattle.commands.proofs.Outputs.{appends_more, cut_after, cut_none, cut_part, ends_output, keeps_after, part_all}
 use Rattle.commands.proofs.explain_command.write_found.Goals as goal
@@ -62,38 +66,56 @@ returns-in_err-write_bytes g c bound are =
     ends_output (PrintsAllOf s bound) _ _ p.0 before mid p.1 (ap error_status p.2 ∙ c.in_err-write_bytes.ensures.failed)
     (cut_part before mid (Right s bound) found.first_line.items (right_head s bound found are) cut)
 
-pub write_tasks-requires : goal.write_tasks-requires
-write_tasks-requires g c = let (bound, are) = c.requires in known_tasks c.args.snapshot.now bound c.args.found.tasks.items are.tasks
+pub write_batches-requires-after_bounds : goal.write_batches-requires-after_bounds
+write_batches-requires-after_bounds g c κs bounds =
+    let (bound, are) = c.requires in
+    let s = c.args.snapshot.now in
+    let known = known_batches s c.args.found.tasks.items c.in_ok-batches.batches.items c.in_ok-batches.ensures (known_tasks s bound c.args.found.tasks.items are.tasks) in
+    subst (λ (e : Trace). All (λ (b : Vec Row). All (IsKnownRow e) b.items) c.in_ok-batches.batches.items) (sym c.new-refuter.ensures) known
 
-pub returns-in_err-write_tasks : goal.returns-in_err-write_tasks
-returns-in_err-write_tasks g c bound are =
+pub returns-in_err-batches : goal.returns-in_err-batches
+returns-in_err-batches g c bound are =
+    let before = g.O.Write.contents c.args.out.now in
+    let s = c.args.snapshot.now in
+    let p = err_from_is_err_and c.from_residual-in_err-batches.result c.from_residual-in_err-batches.ensures.1 in
+    ends_output (PrintsAllOf s bound) _ _ p.0 before before p.1 (ap error_status p.2) (cut_none before (Right s bound))
+
+pub returns-in_err-write_batches : goal.returns-in_err-write_batches
+returns-in_err-write_batches g c bound are =
     let before = g.O.Write.contents c.args.out.now in
     let mid = g.O.Write.contents c.write_bytes.new.out in
-    let end = g.O.Write.contents c.write_tasks.new.out in
+    let end = g.O.Write.contents c.write_batches.new.out in
     let s = c.args.snapshot.now in
     let found = c.args.found in
-    let p = err_from_is_err_and c.from_residual-in_err-write_tasks.result c.from_residual-in_err-write_tasks.ensures.1 in
+    let p = err_from_is_err_and c.from_residual-in_err-write_batches.result c.from_residual-in_err-write_batches.ensures.1 in
     let first = subst (Appends before mid) c.deref.ensures.value c.in_ok-write_bytes.ensures.written in
-    ends_output (PrintsAllOf s bound) _ _ p.0 before end p.1 (ap error_status p.2 ∙ c.in_err-write_tasks.ensures.failed)
-    (cut_after before mid end (ExplainsSome s (rows_in s found)) (Right s bound) found.first_line.items first (right_head s bound found are) (right_rows s bound found are) c.in_err-write_tasks.ensures.cut)
+    let cut = subst (λ (rows : List Row). IsCutShort mid end (ExplainsSome s (printed_rows s rows))) c.in_ok-batches.ensures
+    (subst (λ (e : Trace). IsCutShort mid end (ExplainsSome e (printed_rows e (all_rows c.in_ok-batches.batches.items)))) c.new-refuter.ensures c.in_err-write_batches.ensures.cut) in
+    ends_output (PrintsAllOf s bound) _ _ p.0 before end p.1 (ap error_status p.2 ∙ c.in_err-write_batches.ensures.failed)
+    (cut_after before mid end (ExplainsSome s (rows_in s found)) (Right s bound) found.first_line.items first (right_head s bound found are) (right_rows s bound found are) cut)
 
 pub returns-in_err-flush : goal.returns-in_err-flush
 returns-in_err-flush g c bound are =
     let before = g.O.Write.contents c.args.out.now in
     let mid = g.O.Write.contents c.write_bytes.new.out in
-    let end = g.O.Write.contents c.write_tasks.new.out in
+    let end = g.O.Write.contents c.write_batches.new.out in
     let after = g.O.Write.contents c.flush.new.self in
     let s = c.args.snapshot.now in
     let p = err_from_is_err_and c.from_residual-in_err-flush.result c.from_residual-in_err-flush.ensures.1 in
     let first = subst (Appends before mid) c.deref.ensures.value c.in_ok-write_bytes.ensures.written in
-    let (text, is, grew) = whole s bound c.args.found are before mid end after first c.in_ok-write_tasks.ensures.written c.in_err-flush.ensures.bytes in
+    let written = subst (λ (rows : List Row). Writes mid end (Explains s (printed_rows s rows))) c.in_ok-batches.ensures
+    (subst (λ (e : Trace). Writes mid end (Explains e (printed_rows e (all_rows c.in_ok-batches.batches.items)))) c.new-refuter.ensures c.in_ok-write_batches.ensures.written) in
+    let (text, is, grew) = whole s bound c.args.found are before mid end after first written c.in_err-flush.ensures.bytes in
     ends_output (PrintsAllOf s bound) _ _ p.0 before after p.1 (ap error_status p.2) (cut_part before after (Right s bound) text (Done, is) (part_all before after text grew))
 
 pub returns : goal.returns
 returns g c bound are =
     let before = g.O.Write.contents c.args.out.now in
     let mid = g.O.Write.contents c.write_bytes.new.out in
-    let end = g.O.Write.contents c.write_tasks.new.out in
+    let end = g.O.Write.contents c.write_batches.new.out in
     let after = g.O.Write.contents c.flush.new.self in
     let first = subst (Appends before mid) c.deref.ensures.value c.in_ok-write_bytes.ensures.written in
-    whole c.args.snapshot.now bound c.args.found are before mid end after first c.in_ok-write_tasks.ensures.written c.in_ok-flush.ensures.bytes
+    let s = c.args.snapshot.now in
+    let written = subst (λ (rows : List Row). Writes mid end (Explains s (printed_rows s rows))) c.in_ok-batches.ensures
+    (subst (λ (e : Trace). Writes mid end (Explains e (printed_rows e (all_rows c.in_ok-batches.batches.items)))) c.new-refuter.ensures c.in_ok-write_batches.ensures.written) in
+    whole s bound c.args.found are before mid end after first written c.in_ok-flush.ensures.bytes

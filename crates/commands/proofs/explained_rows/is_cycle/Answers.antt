@@ -1,4 +1,4 @@
-use Rattle.std.proofs.Common.{◌<◌, ◌∙◌, arith, refl, sym, true≢false}
+use Rattle.std.proofs.Common.{◌∙◌, arith, refl, sym, true≢false}
 use borrow.Author.Count.{below_more}
 use Rattle.std.proofs.lemmas.Bool.{false≢true}
 use Rattle.dependencies.specs.Tables.{table_dependencies}

@@ -1,9 +1,9 @@
-use Rattle.std.proofs.Common.{◌≡◌, ◌++◌, ◌∙◌, ap, subst, sym}
+use Rattle.std.proofs.Common.{◌++◌, ◌∙◌, ap}
 use Rattle.trace_model.specs.Theory.Trace.{Trace}
-use Rattle.offline_report.specs.Offline.{IsReport, rows_by_task, tasks_rows_text}
+use Rattle.offline_report.specs.Offline.{rows_by_task, tasks_rows_text}
 use Rattle.offline_report.proofs.WholeReports.{text_is}
 use Rattle.commands.specs.Offline.{ReportPrints}
-use Rattle.commands.specs.Output.{EndsWithResult, IsJust}
+use Rattle.commands.specs.Output.{IsJust}
 use Rattle.commands.specs.declared.exit.Status.TheVariants.{Done}
 use Rattle.commands.proofs.Outputs.{ends_as_weaker, just_is}
 use Rattle.commands.proofs.offline_command.report_on.Goals as goal

@@ -18,7 +18,7 @@ returns-clause-covered c places is covers =
       | in-Some-known w ↦ w.after-is ∙ ap (option_map (λ (k : Prefix). k.last)) (sym (sym c.prefix_at-known.ensures ∙ w.in-Some-known.is))
       | in-None w ↦ w.after-is ∙ ap (option_map (λ (k : Prefix). k.last)) (sym (sym c.prefix_at-known.ensures ∙ w.in-None.is))
     ] in
-    covered s places x (record x { threads = c.put_prefix.new.table; ranges = c.push.new.self }) t place c.args.reason.now after
+    covered s places x (record x { threads = c.put_prefix.new.table; ranges = c.push.new.self }) t place c.args.reason.now after 16
     (c.in-Some-event.event.op, sym c.event.ensures ∙ c.in-Some-event.is) known
     (c.is_past.ensures.not_past c.if-is_past.false) c.in_ok-put_prefix.ensures c.in_ok-push.ensures.items is
     (λ p up. covers p (subst (IsUpTo s p) (sym c.in-Some.is) up)) c.args.last c.in-Some.is

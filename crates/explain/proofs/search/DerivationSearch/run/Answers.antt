@@ -1,4 +1,4 @@
-use Rattle.std.proofs.Common.{◌≡◌, ℕ, List, [], slice_get, Some, MatchOption, sym, ap, subst, ◌∙◌, arith}
+use Rattle.std.proofs.Common.{◌≡◌, ℕ, inl, inr, List, [], slice_get, Some, MatchOption, sym, ap, subst, ◌∙◌, arith}
 use Rattle.std.proofs.lemmas.Option.{slice_get_within, slice_get-get_or}
 use Rattle.explain.specs.DerivationSearch.{AddsFollowed, HasAlso, IsCaughtIn}
 use Rattle.explain.proofs.Finished.{finished, nothing_followed, followed_stays, walked_more}
@@ -25,7 +25,11 @@ returns-then-k-len-clause-caught c =
     finished c.args.index.now.events all x f
     (λ p has.
     let (i, r, at, inside) = h.search.all p has in
-    walked i r p (omega (arith, slice_get_within x.ranges.items i r at, c.if-k-len.true, c.len.ensures, x.ranges.ok)) at inside)
+    let count = x.ranges.ok in
+    elim (walked i r p (omega (arith, slice_get_within x.ranges.items i r at, c.if-k-len.true, c.len.ensures, count)) at inside) [
+      | inl c ↦ c
+      | inr (j, v, from, there, v_has) ↦ absurd (omega (arith, from, slice_get_within x.ranges.items j v there, c.if-k-len.true, c.len.ensures, count))
+    ])
     c.len-len.ensures.well_formed c.args.places.now h.before c.in_default.ensures
 
 range_at : (c : After-walk) → slice_get c.loop-k.self.ranges.items c.loop-k.k ≡ Some c.index.result.now
@@ -42,7 +46,7 @@ returns-in-Some-2 c =
     let range = c.index.result.now in
     let here = range_at (goal.at.returns-in-Some-2 c).After-walk in
     let (xs, f, walked) = h.followed in
-    let (is, caught) = subst (λ o. MatchOption o ((all : List ℕ) × AddsFollowed s places c.loop-k.self all y × HasAlso s xs range all) (IsCaughtIn s places y)) c.in-Some-2.is
+    let (is, caught) = subst (λ o. MatchOption o ((all : List ℕ) × AddsFollowed s places c.loop-k.self all y × HasAlso s xs range c.loop-k.self y all) (IsCaughtIn s places y)) c.in-Some-2.is
     (c.in_ok-member.ensures xs h.search (h.search.ranges c.loop-k.k range here) f) in
     record { search = is; caught = caught }
 
@@ -57,7 +61,7 @@ loop-k-preserved c =
     let range = c.index.result.now in
     let here = range_at (goal.at.loop-k-preserved c).After-walk in
     let (xs, f, walked) = h.followed in
-    let (all, (is, e, g), (sub, done)) = subst (λ o. MatchOption o ((all : List ℕ) × AddsFollowed s places x all y × HasAlso s xs range all) (IsCaughtIn s places y)) c.in_default-2.is
+    let (all, (is, e, g), (sub, done)) = subst (λ o. MatchOption o ((all : List ℕ) × AddsFollowed s places x all y × HasAlso s xs range x y all) (IsCaughtIn s places y)) c.in_default-2.is
     (c.in_ok-member.ensures xs h.search (h.search.ranges k range here) f) in
     record {
       search = is;

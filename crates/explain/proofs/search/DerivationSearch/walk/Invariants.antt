@@ -1,13 +1,12 @@
-use Rattle.std.proofs.Common.{◌≡◌, ℕ, suc, ◌<◌, ◌≤◌, List, Some}
+use Rattle.std.proofs.Common.{◌≡◌, ℕ, ◌<◌, ◌≤◌, List, Some}
 use Rattle.std.specs.List.{Contains}
-use Rattle.std.specs.Option.{option_map_or}
 use Rattle.trace_model.specs.Theory.Trace.{OfThread}
 use Rattle.explain.specs.DerivationSearch.{IsUpTo, IsIn, IsSearch, HasFork, HasFollowed, AddsFollowed}
 use Rattle.explain.proofs.search.DerivationSearch.walk.Given as goal
 
 -- The places after the next one are followed.
-abbrev pub invariant-loop-next : goal.invariant-loop-next
-invariant-loop-next l = record {
+abbrev pub invariant-loop-count : goal.invariant-loop-count
+invariant-loop-count l = record {
   on : (t n : ℕ) → OfThread l.index.events l.range.prefix.last t → l.next ≡ Some n → OfThread l.index.events n t × (n ≤ l.range.prefix.last);
   followed : (followed : List ℕ) → IsSearch l.index.events l.places l.fn.self → IsIn l.index.events l.places l.fn.self l.range.prefix →
       HasFollowed l.index.events followed l.fn.self →
@@ -16,6 +15,3 @@ invariant-loop-next l = record {
       × HasFork l.index.events l.self l.range.prefix.last
       × ((q : ℕ) → IsUpTo l.index.events q (Some l.range.prefix.last) → ((n : ℕ) → l.next ≡ Some n → n < q) → Contains all q);
 }
-
-abbrev pub decreases-loop-next : goal.decreases-loop-next
-decreases-loop-next l = option_map_or (λ n. suc n) l.next 0
