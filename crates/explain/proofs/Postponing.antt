@@ -6,7 +6,6 @@ use Rattle.std.specs.List.{Contains}
 use Rattle.trace_model.specs.Theory.Trace.{Trace, OfThread}
 use Rattle.trace_model.proofs.Lists.{at_index, get-append, get-push, get-push_last}
 use Rattle.trace_model.proofs.Theory.Least.{at_thread}
-use Rattle.explain.specs.declared.tables.Prefix.{Prefix}
 use Rattle.explain.specs.declared.search.Range.{Range}
 use Rattle.explain.specs.declared.search.DerivationSearch.{DerivationSearch}
 use Rattle.explain.specs.DerivationSearch.{IsUpTo, IsIn, InRange, IsLater, IsSearch, Extends, Postpones}

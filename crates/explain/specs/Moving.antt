@@ -1,7 +1,6 @@
 -- The entries of the members' present places among the places of their dependencies.
 use Rattle.std.specs.Prelude.{◌≡◌, ℕ, ◌<◌, List, slice_get, Some}
 use Rattle.std.specs.List.Sorted.{IsStrictlyIncreasing}
-use Rattle.trace_model.specs.Theory.Dependencies.{dependencies}
 use Rattle.dependencies.specs.Tables.{DependencyTable, dependency_places}
 
 -- Each present place is that entry of the places of its member's dependency.

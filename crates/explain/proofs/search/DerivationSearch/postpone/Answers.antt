@@ -1,4 +1,4 @@
-use Rattle.std.proofs.Common.{◌≡◌, ℕ, Some, sym, subst, ◌∙◌}
+use Rattle.std.proofs.Common.{◌≡◌, sym, subst, ◌∙◌}
 use Rattle.std.proofs.lemmas.Option.{same_Some}
 use Rattle.explain.specs.declared.search.DerivationSearch.{DerivationSearch}
 use Rattle.explain.specs.DerivationSearch.{IsIn, Postpones}
