@@ -9,7 +9,6 @@ use findings::Finding;
 use sequencer::AskRefused;
 use std::alloc::{AllocError, Global};
 use std::process::Abort;
-use std::random::RandomSource;
 use std::test::*;
 use std::thread;
 use std::thread::Threads;
@@ -140,19 +139,17 @@ const LISTS: [Wanted; 4] = [
 
 /// Asks question 0, delivers each list of `LISTS` in sequence, and gets the report. Asserts that
 /// each call publishes its own step and no other, which its contract cannot exclude.
-pub(crate) fn delivers_in_turn<D: TestDesk, R: RandomSource + AllocGlobal + Abort>(
+pub(crate) fn delivers_in_turn<D: TestDesk, R: Abort>(
     rt: &R,
     desk: &D,
     reader: &mut D::Reader,
+    source: &FindingSource,
     way: Way,
 ) -> Result<(), Fail> {
     asks_about_opposite_orders(rt, desk, reader);
     // Without a receipt.
     board_shows(rt, "before the first list", reader, (0, 0, 0))?;
-    let source = FindingSource::new(rt).ok_or("a source of findings")?;
-    let delivered = delivers_lists(rt, desk, reader, &source, way);
-    drop(source);
-    delivered?;
+    delivers_lists(rt, desk, reader, source, way)?;
     assert_eq!(rt; desk.missing(), Some(None));
     assert_eq!(rt; report_in(&desk.answer()), Ok(REPORT));
     assert_eq!(rt; ask(desk, 1), Err(AskRefused::BadBound));
@@ -227,15 +224,16 @@ fn concurrent_deliveries_of_lists(rt: HostRuntime) -> Result<(), Fail> {
 
 /// Each of eight threads delivers both tasks, a finding with another bound, and one over other
 /// events. Asserts that two findings are accepted, and each other one is refused for its reason.
-pub(crate) fn delivers_concurrently<
-    D: TestDesk,
-    R: RandomSource + AllocGlobal + Threads + Abort + Sync,
->(rt: &R, alloc: Global, desk: &D, reader: &mut D::Reader, way: Way) -> Result<(), Fail> {
+pub(crate) fn delivers_concurrently<D: TestDesk, R: Threads + Abort + Sync>(
+    rt: &R,
+    desk: &D,
+    reader: &mut D::Reader,
+    source: &FindingSource,
+    way: Way,
+) -> Result<(), Fail> {
     asks_about_opposite_orders(rt, desk, reader);
-    let source = FindingSource::new(rt).ok_or("a source of findings")?;
-    let outcomes = deliver_concurrently(rt, alloc, desk, reader, &source, way);
-    drop(source);
-    has_expected_outcomes(rt, &outcomes?);
+    let outcomes = deliver_concurrently(rt, source.alloc, desk, reader, source, way)?;
+    has_expected_outcomes(rt, &outcomes);
     board_shows(rt, "after all deliveries", reader, (2, 1, 1))
 }
 

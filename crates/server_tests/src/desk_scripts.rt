@@ -3,6 +3,7 @@
 ghost use Rattle.std.specs.Prelude.{◌≡◌};
 
 use crate::allocation_failures::completes_despite_failure;
+use crate::book_tests::FindingSource;
 use crate::concurrent_offer_tests::{Offers, accepts_concurrent_offers};
 use crate::delivery_tests::{Way, delivers_concurrently, delivers_in_turn};
 use crate::desk_tests::{accepts_repetitions, places_or_refuses_each};
@@ -12,7 +13,6 @@ use crate::test_desk::{TestDesk, new_desk};
 use crate::worker_order_tests::three_workers_deliver;
 use crate::worker_tests::{reports_abandoned_tasks, two_workers_deliver};
 use board::{HistoryId, NewHistory};
-use std::alloc::Global;
 use std::hash::RandomState;
 use std::marker::Brand;
 use std::process::Abort;
@@ -58,64 +58,64 @@ pub(crate) fn run_at_desk<
     try_run_at_desk(rt, script).ok_or("a desk")?
 }
 
-/// Runs the script at a new desk. Returns `None` if an allocation for the desk or its workers
-/// fails.
+/// Runs the script at a new desk. Returns `None` if an allocation for the desk, its workers or the
+/// source of findings fails.
 pub(crate) fn try_run_at_desk<
     R: RandomSource + AllocGlobal + Threads + Wait + Abort + Copy + Send + Sync,
 >(rt: R, script: Script) -> Option<Result<(), Fail>> {
     let state = RandomState::new(&rt).ok()?;
-    run_with_history::<Brand, R>(rt, rt.alloc(), state, NewHistory::new(), LIMIT, script)
+    let source = FindingSource::new(&rt)?;
+    let history = NewHistory::new();
+    let done = run_with_history::<Brand, R>(rt, state, history, LIMIT, &source, script);
+    drop(source);
+    done
 }
 
 /// Runs the script at a new desk over the given history.
-fn run_with_history<
-    N: HistoryId + Send + Sync,
-    R: RandomSource + AllocGlobal + Threads + Wait + Abort + Copy + Send + Sync,
->(
+fn run_with_history<N: HistoryId + Send + Sync, R: Threads + Wait + Abort + Copy + Send + Sync>(
     rt: R,
-    alloc: Global,
     state: RandomState,
     history: NewHistory,
     limit: u32,
+    source: &FindingSource,
     script: Script,
 ) -> Option<Result<(), Fail>>
     requires book { history.seen.book ≡ N.book }
     requires limit { limit ≡ N.limit }
 {
-    let (desk, readers) = new_desk::<N, R>(rt, alloc, state, history, limit, script.readers())?;
-    run_at_made_desk(rt, alloc, desk, readers, script)
+    let count = script.readers();
+    let (desk, readers) = new_desk::<N, R>(rt, source.alloc, state, history, limit, count)?;
+    run_at_made_desk(rt, desk, readers, source, script)
 }
 
 /// Runs the script at this desk. Its readers are `readers`.
-fn run_at_made_desk<
-    D: TestDesk,
-    R: RandomSource + AllocGlobal + Threads + Wait + Abort + Copy + Send + Sync,
->(
+fn run_at_made_desk<D: TestDesk, R: Threads + Wait + Abort + Copy + Send + Sync>(
     rt: R,
-    alloc: Global,
     desk: D,
     readers: Vec<D::Reader>,
+    source: &FindingSource,
     script: Script,
 ) -> Option<Result<(), Fail>> {
     let mut others = readers;
     let mut reader = others.pop()?;
-    run(rt, alloc, &desk, &mut reader, &mut others, script)
+    run(rt, &desk, &mut reader, &mut others, source, script)
 }
 
-fn run<D: TestDesk, R: RandomSource + AllocGlobal + Threads + Wait + Abort + Copy + Send + Sync>(
+fn run<D: TestDesk, R: Threads + Wait + Abort + Copy + Send + Sync>(
     rt: R,
-    alloc: Global,
     desk: &D,
     reader: &mut D::Reader,
     others: &mut Vec<D::Reader>,
+    source: &FindingSource,
     script: Script,
 ) -> Option<Result<(), Fail>> {
+    let alloc = source.alloc;
     Some(match script {
         Script::Refusals => places_or_refuses_each(&rt, desk, reader),
         Script::Repetitions => accepts_repetitions(&rt, alloc, desk, reader),
         Script::EightThreads(how) => accepts_concurrent_offers(&rt, alloc, desk, reader, how),
-        Script::ListsInTurn(way) => delivers_in_turn(&rt, desk, reader, way),
-        Script::ListsConcurrently(way) => delivers_concurrently(&rt, alloc, desk, reader, way),
+        Script::ListsInTurn(way) => delivers_in_turn(&rt, desk, reader, source, way),
+        Script::ListsConcurrently(way) => delivers_concurrently(&rt, desk, reader, source, way),
         Script::AllocationFailure => Ok(completes_despite_failure(
             &rt, alloc, desk, reader, others,
         )?),

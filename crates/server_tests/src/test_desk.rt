@@ -46,10 +46,8 @@ pub(crate) trait TestDesk: Sized + Sync + Drop {
 
     fn learn(reader: &mut Self::Reader, receipt: &Self::Receipt);
 
-    /// Returns another reference to this desk, or `None` if there are too many.
-    fn shared(&self) -> Option<Self>;
-
-    fn worker(self, claimant: Claimant, reader: Self::Reader) -> Self::Worker;
+    /// Returns a worker at this desk, or `None` if there are too many references to it.
+    fn worker(&self, claimant: Claimant, reader: Self::Reader) -> Option<Self::Worker>;
 }
 
 /// A reader of the board of a desk.
@@ -72,52 +70,63 @@ pub(crate) trait TestWorker: Drop {
     fn turn_within(&mut self, hold: &impl Hold, visits: u64) -> Turn;
 }
 
-impl<N: HistoryId, R: Wait + Copy> TestWorker for Worker<N, R, BoardState<N>> {
+/// A worker at a [`SharedDesk`].
+#[derive(Drop)]
+pub(crate) struct DeskWorker<N: HistoryId, R: Wait + Copy> {
+    worker: Worker<N, R, BoardState<N>>,
+}
+
+impl<N: HistoryId, R: Wait + Copy> TestWorker for DeskWorker<N, R> {
     fn turn(&mut self, hold: &impl Hold) -> Turn {
-        Worker::turn(self, hold)
+        self.worker.turn(hold)
     }
 
     fn turn_within(&mut self, hold: &impl Hold, visits: u64) -> Turn {
-        Worker::turn_within(self, hold, visits)
+        self.worker.turn_within(hold, visits)
     }
 }
 
-impl<N: HistoryId + Send + Sync, R: Wait + Copy + Send + Sync> TestDesk
-    for Arc<Desk<N, R, BoardState<N>>> {
+/// A desk that its workers share.
+#[derive(Drop)]
+pub(crate) struct SharedDesk<N: HistoryId, R: Wait + Copy> {
+    desk: Arc<Desk<N, R, BoardState<N>>>,
+}
+
+impl<N: HistoryId + Send + Sync, R: Wait + Copy + Send + Sync> TestDesk for SharedDesk<N, R> {
     type Receipt = Receipt<N>;
 
     type Reader = BoardReader<N>;
 
-    type Worker = Worker<N, R, BoardState<N>>;
+    type Worker = DeskWorker<N, R>;
 
     fn offer(&self, event: Event) -> (Result<Place, Refusal>, Receipt<N>) {
-        Desk::offer(self, event)
+        Desk::offer(&self.desk, event)
     }
 
     fn offer_batch(&self, events: &[Event]) -> (Batched, Receipt<N>) {
-        Desk::offer_batch(self, events)
+        Desk::offer_batch(&self.desk, events)
     }
 
     fn ask(&self, bound: u8) -> (Result<Opened, AskRefused>, Receipt<N>) {
-        Desk::ask(self, bound)
+        Desk::ask(&self.desk, bound)
     }
 
     fn deliver(&self, finding: Finding) -> (Delivered, Receipt<N>) {
-        Desk::deliver(self, finding)
+        Desk::deliver(&self.desk, finding)
     }
 
     fn deliver_all(&self, findings: Vec<Finding>) -> Option<(Vec<Delivered>, Receipt<N>)> {
-        Desk::deliver_all(self, findings).ok()
+        Desk::deliver_all(&self.desk, findings).ok()
     }
 
     fn answer(&self) -> Result<Answer, AnswerRefused> {
-        let (answered, receipt) = Desk::answer(self, 0);
+        let (answered, receipt) = Desk::answer(&self.desk, 0);
         drop(receipt);
         in_memory(answered?)
     }
 
     fn missing(&self) -> Option<Option<u32>> {
-        let (missing, receipt) = Desk::missing(self, 0);
+        let (missing, receipt) = Desk::missing(&self.desk, 0);
         drop(receipt);
         missing.ok()
     }
@@ -126,12 +135,11 @@ impl<N: HistoryId + Send + Sync, R: Wait + Copy + Send + Sync> TestDesk
         reader.learn(receipt);
     }
 
-    fn shared(&self) -> Option<Self> {
-        Arc::try_clone(self).ok()
-    }
-
-    fn worker(self, claimant: Claimant, reader: BoardReader<N>) -> Worker<N, R, BoardState<N>> {
-        Worker::new(self, claimant, reader)
+    fn worker(&self, claimant: Claimant, reader: BoardReader<N>) -> Option<DeskWorker<N, R>> {
+        let desk = Arc::try_clone(&self.desk).ok()?;
+        Some(DeskWorker {
+            worker: Worker::new(desk, claimant, reader),
+        })
     }
 }
 
@@ -170,8 +178,17 @@ fn whole_text(report: ReportReply) -> Result<Vec<u8>, AllocError> {
     Ok(text)
 }
 
+/// Returns the desk for sharing, or `None` if an allocation fails.
+fn shared<N: HistoryId, R: Wait + Copy>(
+    alloc: Global,
+    desk: Desk<N, R, BoardState<N>>,
+) -> Option<SharedDesk<N, R>> {
+    let desk = Arc::new(alloc, desk).ok()?;
+    Some(SharedDesk { desk })
+}
+
 /// A desk and its readers.
-pub(crate) type NewDesk<N, R> = (Arc<Desk<N, R, BoardState<N>>>, Vec<BoardReader<N>>);
+pub(crate) type NewDesk<N, R> = (SharedDesk<N, R>, Vec<BoardReader<N>>);
 
 /// Returns a new desk with `readers` board readers. Returns `None` if the limit or the number of
 /// readers is out of range, or an allocation fails.
@@ -188,7 +205,7 @@ pub(crate) fn new_desk<N: HistoryId, R: Wait + Copy>(
 {
     let made = Desk::<N, R, BoardState<N>>::new(alloc, state, rt, history, limit, readers);
     let (desk, readers) = made.ok()?;
-    Arc::new(alloc, desk).ok().zip(Some(readers))
+    shared(alloc, desk).zip(Some(readers))
 }
 
 /// Offers the event. The reader learns the receipt.

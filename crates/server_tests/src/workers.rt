@@ -17,8 +17,8 @@ pub(crate) fn worker<D: TestDesk>(
     claims: &mut Vec<Claimant>,
     readers: &mut Vec<D::Reader>,
 ) -> Option<D::Worker> {
-    let ((desk, claimant), reader) = desk.shared().zip(claims.pop()).zip(readers.pop())?;
-    Some(desk.worker(claimant, reader))
+    let (claimant, reader) = claims.pop().zip(readers.pop())?;
+    desk.worker(claimant, reader)
 }
 
 /// Returns `count` workers at the desk, which use the last of the readers. Returns `None` if there
