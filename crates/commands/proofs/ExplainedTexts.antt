@@ -1,6 +1,5 @@
 -- The texts of rows, with more of them.
-use Rattle.std.proofs.Common.{◌≡◌, ◌≢◌, Bool, false, nat_eq, ℕ, zero, suc, ◌+◌, ◌<◌, ◌≤◌, get_or, List, [], ◌∷◌, ◌++◌, ◌∙◌, length, take, slice_get, arith, map, option_map, subst, Option, Some, None, MatchOption, true, refl, sym, ap, true≢false}
-use Rattle.std.specs.Prelude.{is_some}
+use Rattle.std.proofs.Common.{◌≡◌, ◌≢◌, Bool, false, nat_eq, ℕ, zero, suc, ◌+◌, ◌<◌, ◌≤◌, get_or, List, [], ◌∷◌, ◌++◌, ◌∙◌, length, take, slice_get, arith, map, option_map, subst, Some, refl, sym, ap, true≢false}
 use Rattle.std.specs.Global.{Vec}
 use Rattle.std.specs.List.{All, AllZip, Contains, flat_map}
 use Rattle.std.proofs.Math.ListN.{get_or-map}
@@ -20,11 +19,6 @@ use Rattle.snapshots.specs.Found.{AreRowsOf}
 use Rattle.offline_report.specs.Offline.{AreTasks, printed_rows, rows_by_task}
 use Rattle.commands.specs.declared.refuting.RefutedRow.{RefutedRow}
 use Rattle.commands.specs.Explain.{Explains, ExplainsSome, IsExplanation, IsKnownRow, all_rows, bare_rows}
-
--- The second fact holds for each value, and there is one.
-pub of_some : {X : Type 0} (o : Option X) (A B : Type 0) → is_some o ≡ true → B → MatchOption o A (λ _. B)
-of_some None A B e b = absurd (true≢false (sym e))
-of_some (Some x) A B e b = b
 
 zip_append : {X Y : Type 0} (P : X → Y → Type 0) (xs : List X) (ys : List Y) (vs : List X) (ws : List Y) → AllZip P xs ys → AllZip P vs ws → AllZip P (xs ++ vs) (ys ++ ws)
 zip_append P [] [] vs ws h k = k

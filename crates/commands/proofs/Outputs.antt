@@ -3,7 +3,7 @@ use Rattle.std.proofs.Common.{◌≡◌, ℕ, zero, suc, ◌+◌, List, [], ◌�
 use Rattle.std.specs.Io.KnownBytes.{Appends, Keeps}
 use Rattle.std.proofs.Math.Seq.{take-add, take-append-add}
 use Rattle.std.proofs.lemmas.List.{append-nil, take_all}
-use Rattle.std.specs.Prelude.{◌≢◌, Result, Ok, Err, IfErr, MatchResult, OnErr}
+use Rattle.std.specs.Prelude.{◌≢◌, Result, Ok, Err, MatchResult, OnErr}
 use Rattle.commands.specs.Exit.{error_status}
 use Rattle.commands.specs.Output.{AppendsPart, EndsWithStatus, EndsWithResult, IsCutShort, IsJust}
 use Rattle.commands.specs.declared.exit.CommandError.{CommandError}
@@ -94,16 +94,6 @@ ends_cut Prints Wrong status before after failed cut = subst (λ s. EndsWithStat
 pub ends_part : (Prints : Status → List ℕ → Type 0) (Wrong : Type 0) (status outcome : Status) (before after : Option (List ℕ)) (text : List ℕ) → status ≡ Error → Prints outcome text →
     AppendsPart before after text → EndsWithStatus Prints Wrong status before after
 ends_part Prints Wrong status outcome before after text failed is part = ends_cut Prints Wrong status before after failed (inr (text, (outcome, is), part))
-
--- Nothing is written.
-pub ends_none : (Prints : Status → List ℕ → Type 0) (Wrong : Type 0) (status : Status) (before : Option (List ℕ)) → status ≡ Error → EndsWithStatus Prints Wrong status before before
-ends_none Prints Wrong status before failed = ends_cut Prints Wrong status before before failed (inl (appends_nothing before))
-
--- The error of writing a right text.
-pub ends_failed : {A : Type 0} (Prints : Status → List ℕ → Type 0) (Wrong : Type 0) (outcome : Status) (before after : Option (List ℕ)) (text : List ℕ) (r : Result A CommandError) → Prints outcome text →
-    OnErr r (AppendsPart before after text) → IfErr r (λ error. error_status error ≡ Error) → IfErr r (λ error. EndsWithStatus Prints Wrong (error_status error) before after)
-ends_failed Prints Wrong outcome before after text (Ok x) is part failed = tt
-ends_failed Prints Wrong outcome before after text (Err error) is part failed = ends_part Prints Wrong (error_status error) outcome before after text failed is part
 
 -- What holds of right texts and wrong lines holds of a weaker choice of them.
 pub ends_weaker : (P Q : Status → List ℕ → Type 0) (V W : Type 0) (status : Status) (a b : Option (List ℕ)) → ((s : Status) (x : List ℕ) → P s x → Q s x) → (V → W) → EndsWithStatus P V status a b → EndsWithStatus Q W status a b

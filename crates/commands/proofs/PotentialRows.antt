@@ -1,6 +1,6 @@
 -- The potential rows of a task.
-use Rattle.std.proofs.Common.{◌≡◌, ℕ, ◌<◌, List, [], ◌∷◌, ◌++◌, false, length, get_or, map, slice_get, refl, sym, ap, subst, ◌∙◌, Option, None, Some, MatchOption, arith, length-append, ⊎_elim, true≢false}
-use Rattle.std.specs.Prelude.{is_some, option_to_list}
+use Rattle.std.proofs.Common.{◌≡◌, ℕ, ◌<◌, List, [], ◌∷◌, ◌++◌, length, get_or, map, slice_get, refl, sym, ap, subst, ◌∙◌, Option, None, Some, MatchOption, arith, length-append, ⊎_elim}
+use Rattle.std.specs.Prelude.{option_to_list}
 use Rattle.std.specs.List.{Contains, flat_map}
 use Rattle.std.proofs.Math.ListN.{get_or-map}
 use Rattle.std.proofs.lemmas.Option.{none-some, slice_get_cases}
@@ -37,10 +37,6 @@ known_row s bound task rows i d within are =
     (Contains-get_or (map cycle (map row rows)) i d.row.cycle (subst (λ n. i < n) (sym (length-map (map row rows) cycle ∙ length-map rows row)) within)) in
     let known = ((are.exact.cycles.exact p.row.cycle).0 listed).0.known in
     (record { exact = exact; known = known }, record { known = known; named = are.named i d within })
-
-pub none_of : {X : Type 0} (o : Option X) → is_some o ≡ false → o ≡ None
-none_of None e = refl
-none_of (Some x) e = absurd (true≢false e)
 
 one_named : (ds : List Dependency) (m : ℕ) → m < length ds → length (option_to_list (slice_get ds m)) ≡ 1
 one_named ds m within =

@@ -10,17 +10,10 @@ use Rattle.trace_model.specs.Protocol.Machine.{State}
 use Rattle.trace_model.proofs.Protocol.Readings.{frame_turn}
 use Rattle.trace_model.specs.declared.messages.session.Reply.{Reply}
 use Rattle.event_frames.specs.Reader.{Answers, IsFed, FrameReaderView, TakesRequest}
-use Rattle.event_files.specs.EventFile.{pieces_at}
 use Rattle.sequencer.specs.Called.{StepsOrMemory, WantsRightly}
-use Rattle.commands.specs.Exit.{error_status}
 use Rattle.commands.specs.Script.{reply_text}
-use Rattle.commands.specs.ScriptFile.{FitsCommand, RefusesCommands, SaysLines}
-use Rattle.commands.specs.Output.{EndsWithStatus}
-use Rattle.commands.specs.ScriptTells.{HasWrongCommand, Prints, PrintsAll, Replies, ScriptPrints}
-use Rattle.commands.proofs.Outputs.{cut_none}
-use Rattle.commands.specs.declared.exit.Status.{Status}
-use Rattle.commands.specs.declared.exit.CommandError.{CommandError}
-use Rattle.commands.specs.declared.exit.CommandError.TheVariants.{Line, Merged, Memory, Output}
+use Rattle.commands.specs.ScriptFile.{FitsCommand, SaysLines}
+use Rattle.commands.specs.ScriptTells.{Prints, PrintsAll, Replies}
 use Rattle.commands.specs.declared.script_command.reading.Command.{Command}
 
 -- ---- a request
@@ -77,11 +70,3 @@ prints_more s mid last (c ∷ commands) command text more (next, first, rest, ow
     (next, first, rest ++ more, own, prints_more next mid last commands command rest more others prints, ap (λ (t : List ℕ). t ++ more) is ∙ append_assoc first rest more)
 
 -- ---- errors
-
--- a file that is not understood prints nothing
-pub not_understood : (file : List ℕ) (limit : ℕ) (before : Option (List ℕ)) (error : CommandError) → RefusesCommands (pieces_at 10 file) error →
-    EndsWithStatus (ScriptPrints file limit) (HasWrongCommand file) (error_status error) before before
-not_understood file limit before (Line number) refused = ((number, refused), refl)
-not_understood file limit before (Merged number) refused = absurd refused
-not_understood file limit before Memory refused = cut_none before (λ text. (status : Status) × ScriptPrints file limit status text)
-not_understood file limit before (Output reason) refused = absurd refused

@@ -1,5 +1,5 @@
 //! Refutations of the cycles of potential rows, computed on all processors.
-ghost use Rattle.std.specs.Prelude.{◌≡◌, ℕ, ◌<◌, length, map, IfOk};
+ghost use Rattle.std.specs.Prelude.{◌≡◌, ℕ, ◌<◌, length, IfOk};
 ghost use Rattle.std.specs.List.{All, Contains};
 ghost use Rattle.trace_model.specs.Theory.Cycles.{IsConfirmed};
 ghost use Rattle.trace_model.specs.Theory.Dependencies.{dependencies};
@@ -10,7 +10,7 @@ use explain::refutation_of;
 use findings::Snapshot;
 use rayon::prelude::*;
 use reports::{BareRow, Found};
-use std::alloc::{AllocError, Global};
+use std::alloc::Global;
 use std::hash::RandomState;
 use std::marker::Model;
 use std::mem;
