@@ -58,7 +58,8 @@ fn push_reasons(
     refutation: &Refutation,
     text: &mut Vec<u8>,
 ) -> Result<(), NoMemory>
-    requires { (s : Trace) × IsNamedRow s row.now × IsRefutation s row.now.row.cycle refutation.now }
+    requires { (s : Trace) × IsNamedRow s row.now
+        × IsRefutation s row.now.row.cycle refutation.now }
     ensures { OnOk result (text.new.items ≡ text.old.items ++
         refutation_text (map (λ d. d.thread) row.now.dependencies) refutation.now) }
 {
