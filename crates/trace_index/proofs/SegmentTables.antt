@@ -21,7 +21,6 @@ use Rattle.trace_model.proofs.Lists.{get-take, get-take_past, get-append, get-pu
 use Rattle.trace_model.proofs.Theory.Lookups.{begins_so, begins_from, release_so, release_is}
 use Rattle.trace_model.proofs.Theory.Sections.{nobody_holds, released_between}
 use Rattle.trace_model.proofs.Theory.Deadlock.{releaser_holds}
-use Rattle.segments.specs.Linking.{IsLink}
 use Rattle.trace_index.specs.declared.row.Key.{Key}
 use Rattle.trace_index.specs.declared.row.Key.TheVariants.{OfThread, ForkOf, AcquireOf, WriteOf}
 use Rattle.trace_index.specs.declared.row.IndexRow.{IndexRow}
@@ -230,22 +229,22 @@ ends_here s w k row h is deep a = go row.event.op refl
     plain o e n = no_end_at s k (λ u l f. n l (sym e ∙ (op_at s k row.event h u (Release l) f.0).1)) a
 
     ended : (l : ℕ) → row.event.op ≡ Release l → (b : Bool) → (row.depth == 1) ≡ b →
-        ends_at s a k ≡ is_place (cond b row.object.earlier None) a
+        ends_at s a k ≡ is_place (cond b row.object None) a
     ended l e true f =
         let here : Ends s k row.event.thread l = (
           h ∙ ap (λ o. Some (event row.event.thread o)) e,
           ap (op_depth (depth s k row.event.thread)) (sym e) ∙ sym deep ∙ eqb-true row.depth 1 f,
         ) in
-        let link : row.object.earlier ≡ last_place (begins_on s l) k = (subst (λ o. IsLink (matches s (object_key o)) k row.object) e is.object_is).earlier_is in
-        same_bool (ends_at s a k) (is_place row.object.earlier a)
-        (λ g. is_place_from row.object.earlier a (link ∙ last_before s w k row.event.thread l here a (is_place_so (release s a) k g)))
-        (λ g. is_place_from (release s a) k (ends_last s w k row.event.thread l here a (sym link ∙ is_place_so row.object.earlier a g)))
+        let link : row.object ≡ last_place (begins_on s l) k = subst (λ o. row.object ≡ last_place (matches s (object_key o)) k) e is.object_is in
+        same_bool (ends_at s a k) (is_place row.object a)
+        (λ g. is_place_from row.object a (link ∙ last_before s w k row.event.thread l here a (is_place_so (release s a) k g)))
+        (λ g. is_place_from (release s a) k (ends_last s w k row.event.thread l here a (sym link ∙ is_place_so row.object a g)))
     ended l e false f = no_end_at s k (λ u m releases.
         let (thread, op) = op_at s k row.event h u (Release m) releases.0 in
         let one : row.depth ≡ 1 = deep ∙ ap (op_depth (depth s k row.event.thread)) op ∙ ap (λ v. depth s k v m) thread ∙ releases.1 in
         eqb-false row.depth 1 f one) a
 
-    go : (o : Op) → row.event.op ≡ o → ends_at s a k ≡ is_place (ended_at_depth o row.depth row.object.earlier) a
+    go : (o : Op) → row.event.op ≡ o → ends_at s a k ≡ is_place (ended_at_depth o row.depth row.object) a
     go (Release l) e = ended l e (row.depth == 1) refl
     go o e = plain o e (λ m f. cc)
 

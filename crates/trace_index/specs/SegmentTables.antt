@@ -1,5 +1,5 @@
 -- The tables of segments: the last place of each key, and the releases by acquire.
-use Rattle.std.specs.Prelude.{◌≡◌, ℕ, ◌+◌, ◌-◌, ◌*◌, ◌≤◌, List, length, map, take, slice_get, Some}
+use Rattle.std.specs.Prelude.{◌≡◌, ℕ, ◌+◌, ◌-◌, ◌*◌, ◌<◌, ◌≤◌, List, length, map, take, slice_get, Some}
 use Rattle.std.specs.Arc.{arc_value}
 use Rattle.std.specs.declared.sync.Arc.{Arc}
 use Rattle.std.specs.declared.alloc.Global.{Global}
@@ -28,10 +28,15 @@ pub record AreAllTables (s : Trace) (n : ℕ) (sealed : List (Arc SegmentTable G
   pub begun : 4096 * length sealed ≤ n
   pub few : n ≤ 4096 * length sealed + 4096
 
+-- Memory is reserved for as many places as the tables say.
+pub record HasRoomAhead (m : SegmentTable) : Type 0 where
+  pub last_room : 2 * m.room ≤ spare m.last
+  pub releases_room : HasReleaseRoom m.releases m.room
+
 -- Memory is reserved for one more place.
 pub record HasPlaceRoom (m : SegmentTable) : Type 0 where
-  pub last_room : 2 ≤ spare m.last
-  pub releases_room : HasReleaseRoom m.releases
+  pub some_room : 0 < m.room
+  pub ahead : HasRoomAhead m
 
 -- The two tables have the same places and releases.
 pub record IsSame (a b : SegmentTable) : Type 0 where

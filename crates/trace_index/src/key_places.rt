@@ -1,11 +1,12 @@
 //! The places of a key, read by index.
 
 use crate::key_list::KeyList;
-use segments::{count_passing, entry_at};
 use std::marker::Model;
 use trace_model::Place;
 
-/// The places of a key, ascending, read by index. A read follows links back from the last place.
+/// The places of a key, ascending, read by index. A read follows links back from the last place:
+/// its time is in proportion to the places after the one that it returns, and for a lock to all
+/// places.
 #[derive(Drop)]
 pub struct KeyPlaces<'a> {
     pub(crate) list: KeyList<'a>,
@@ -30,12 +31,13 @@ impl<'a> KeyPlaces<'a> {
     ghost use Rattle.std.specs.Prelude.{◌≡◌, ◌<◌, Some, length, nat_eq, slice_get};
     ghost use Rattle.std.specs.List.Sorted.{IsStrictlyIncreasing};
 
-    /// Returns the number of places.
+    /// Returns the number of places. Takes one step for a thread, and for a lock as many as there
+    /// are places.
     pub fn len(&self) -> usize
         ensures length { result ≡ length self.now }
         ensures ascends { IsStrictlyIncreasing self.now }
     {
-        count_passing(&self.list, self.last)
+        self.list.count(self.last)
     }
 
     /// Returns whether there is no place.
@@ -50,6 +52,7 @@ impl<'a> KeyPlaces<'a> {
         requires { index < length self.now }
         ensures { slice_get self.now index ≡ Some result }
     {
-        Place::new(entry_at(&self.list, self.last, index))
+        let count = self.list.count(self.last);
+        Place::new(self.list.place_at(self.last, count, index))
     }
 }

@@ -31,7 +31,7 @@ ghost use Rattle.trace_model.specs.Theory.Lookups.{writer, release};
 ghost use Rattle.trace_index.specs.Numbers.{of_thread, number_at, thread_before, acquire_before};
 ghost use Rattle.trace_index.specs.Links.{matches, written_by, begun_at_depth, taken_before};
 
-use depths::Depths;
+use growing::IndexParts;
 use key_list::KeyList;
 pub use key_places::KeyPlaces;
 use last_places::LastPlaces;
@@ -48,10 +48,10 @@ use trace_model::{Event, NoMemory, Op, Place};
 
 /// Returns the writer in a row: that of a read.
 fn writer_in(row: &IndexRow) -> Option<Place>
-    ensures { result ≡ written_by row.now.event.op row.now.object.earlier }
+    ensures { result ≡ written_by row.now.event.op row.now.object }
 {
     if let Op::Read(_) = row.event.op {
-        place_of(row.object.earlier)
+        place_of(row.object)
     } else {
         None
     }
@@ -69,10 +69,10 @@ fn begun_in(row: &IndexRow) -> Option<u32>
 
 /// Returns the previous outermost acquire of the lock in a row: that of an outermost acquire.
 fn taken_in(row: &IndexRow) -> Option<Place>
-    ensures { result ≡ taken_before row.now.event.op row.now.depth row.now.object.earlier }
+    ensures { result ≡ taken_before row.now.event.op row.now.depth row.now.object }
 {
     match begun_in(row) {
-        Some(_) => place_of(row.object.earlier),
+        Some(_) => place_of(row.object),
         None => None,
     }
 }
@@ -91,12 +91,12 @@ fn build_counted<L: Ledger>(
     ensures { IfOk result (λ index. index.events ≡ events.now) }
 {
     let mut copies = Steps::<L>::new(blank);
-    let mut index = TraceIndex::new(alloc, state);
+    let mut parts = IndexParts::new(alloc, state);
     for event in events {
-        index.reserve(event)?;
-        index.record(event, &mut copies);
+        let ready = parts.prepare(*event)?;
+        parts.put(ready, &mut copies);
     }
-    Ok(index)
+    Ok(TraceIndex { parts, next: None })
 }
 
 /// An index of a well-formed trace, which grows by `reserve` and `record`. Look-ups do not
@@ -106,13 +106,7 @@ fn build_counted<L: Ledger>(
 /// Contracts see the events, and the reserved event.
 #[derive(Drop)]
 pub struct TraceIndex {
-    alloc: Global,
-    state: RandomState,
-    rows: Segments<IndexRow>,
-    tables: SegmentTables,
-    last_places: LastPlaces,
-    depths: Depths,
-    cache: PositionCache,
+    parts: IndexParts,
     next: Option<Ready>,
 }
 
@@ -124,12 +118,11 @@ impl Model for TraceIndex {
     ghost Value = { IndexView };
 
     ghost view = { λ i. record {
-      events = trace_of i.rows.0;
+      events = trace_of i.parts.rows.0;
       reserved = option_map (λ ready. ready.row.event) i.next;
     } };
 
-    ghost invariant = { λ i. IsWhole i.rows i.tables.sealed.items i.tables.tail
-        i.last_places.places i.last_places.noted i.depths.table i.depths.noted i.next };
+    ghost invariant = { λ i. IsWhole i.parts i.next };
 }
 
 impl TraceIndex {
@@ -156,7 +149,7 @@ impl TraceIndex {
         ensures well_formed { IsWellFormed self.now.events }
         ensures short { length self.now.events ≤ MAX_EVENTS }
     {
-        self.rows.len()
+        self.parts.rows.len()
     }
 
     /// Returns the event at `place`, or `None` if the trace has no such place.
@@ -164,7 +157,7 @@ impl TraceIndex {
     pub fn event(&self, place: Place) -> Option<Event>
         ensures { result ≡ slice_get self.now.events place }
     {
-        match self.rows.get(place.get() as usize) {
+        match self.parts.rows.get(place.get() as usize) {
             Some(row) => Some(row.event),
             None => None,
         }
@@ -176,7 +169,7 @@ impl TraceIndex {
     pub fn writer(&self, place: Place) -> Option<Place>
         ensures { result ≡ writer self.now.events place }
     {
-        match self.rows.get(place.get() as usize) {
+        match self.parts.rows.get(place.get() as usize) {
             Some(row) => writer_in(&row),
             None => None,
         }
@@ -188,8 +181,8 @@ impl TraceIndex {
     pub fn number(&self, place: Place) -> Option<u32>
         ensures { result ≡ number_at self.now.events place }
     {
-        match self.rows.get(place.get() as usize) {
-            Some(row) => Some(row.thread.number),
+        match self.parts.rows.get(place.get() as usize) {
+            Some(row) => Some(row.number),
             None => None,
         }
     }
@@ -199,8 +192,8 @@ impl TraceIndex {
     pub fn thread_before(&self, place: Place) -> Option<Place>
         ensures { result ≡ thread_before self.now.events place }
     {
-        match self.rows.get(place.get() as usize) {
-            Some(row) => place_of(row.thread.earlier),
+        match self.parts.rows.get(place.get() as usize) {
+            Some(row) => place_of(row.thread),
             None => None,
         }
     }
@@ -211,7 +204,7 @@ impl TraceIndex {
     pub fn begun(&self, place: Place) -> Option<u32>
         ensures { result ≡ begun_lock self.now.events place }
     {
-        match self.rows.get(place.get() as usize) {
+        match self.parts.rows.get(place.get() as usize) {
             Some(row) => begun_in(&row),
             None => None,
         }
@@ -223,7 +216,7 @@ impl TraceIndex {
     pub fn acquire_before(&self, place: Place) -> Option<Place>
         ensures { result ≡ acquire_before self.now.events place }
     {
-        match self.rows.get(place.get() as usize) {
+        match self.parts.rows.get(place.get() as usize) {
             Some(row) => taken_in(&row),
             None => None,
         }
@@ -236,11 +229,15 @@ impl TraceIndex {
     pub fn release_of(&self, place: Place) -> Option<Place>
         ensures { result ≡ release self.now.events place }
     {
-        let Some(row) = self.rows.get(place.get() as usize) else {
+        let Some(row) = self.parts.rows.get(place.get() as usize) else {
             return None;
         };
         match begun_in(&row) {
-            Some(_) => release_in_segments(&self.tables.sealed, &self.tables.tail, place),
+            Some(_) => release_in_segments(
+                &self.parts.tables.sealed,
+                &self.parts.tables.tail,
+                place,
+            ),
             None => None,
         }
     }
@@ -250,7 +247,11 @@ impl TraceIndex {
     pub fn fork_of(&self, thread: u32) -> Option<Place>
         ensures { (p : ℕ) → (result ≡ Some p) ↔ Does self.now.events p (Fork thread) }
     {
-        last_in_segments(&self.tables.sealed, &self.tables.tail, Key::ForkOf(thread))
+        last_in_segments(
+            &self.parts.tables.sealed,
+            &self.parts.tables.tail,
+            Key::ForkOf(thread),
+        )
     }
 
     /// Returns the places of a key, ascending.
@@ -258,10 +259,14 @@ impl TraceIndex {
         ensures { result ≡ ascending_places (matches self.now.events key) (length self.now.events) }
     {
         let list = KeyList {
-            rows: &self.rows,
+            rows: &self.parts.rows,
             key,
         };
-        let last = index_of(last_in_segments(&self.tables.sealed, &self.tables.tail, key));
+        let last = index_of(last_in_segments(
+            &self.parts.tables.sealed,
+            &self.parts.tables.tail,
+            key,
+        ));
         KeyPlaces { list, last }
     }
 

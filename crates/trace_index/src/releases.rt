@@ -1,11 +1,13 @@
 //! The releases in one segment, by the acquires whose critical sections they end.
 
-ghost use Rattle.std.specs.Prelude.{◌≡◌, ◌<◌, ℕ, None, Some, OnOk, nat_eq, if◌then◌else◌};
+ghost use Rattle.std.specs.Prelude.{◌≡◌, ◌<◌, ◌≤◌, ◌+◌, vec_len, vec_capacity, ℕ, None, Some, OnOk, nat_eq, if◌then◌else◌};
 ghost use Rattle.std.specs.HashMap.{spare};
 ghost use Rattle.trace_index.specs.Links.{is_place};
 ghost use Rattle.trace_index.specs.Releases.{near_release, release_in, HasReleaseRoom};
 
+use crate::row::place_of;
 use indexmap::IndexMap;
+use segments::MaybeIndex;
 use std::alloc::Global;
 use std::collections::hash_map::RandomState;
 use trace_model::{NoMemory, Place};
@@ -15,7 +17,7 @@ use trace_model::{NoMemory, Place};
 #[derive(Drop)]
 pub(crate) struct Releases {
     first: usize,
-    near: Vec<Option<Place>>,
+    near: Vec<MaybeIndex>,
     far: IndexMap<u32, Place, RandomState>,
 }
 
@@ -38,7 +40,7 @@ impl Releases {
     {
         let index = (acquire.get() as usize).checked_sub(self.first)?;
         match self.near.get(index) {
-            Some(end) => *end,
+            Some(end) => place_of(*end),
             None => None,
         }
     }
@@ -54,27 +56,30 @@ impl Releases {
         }
     }
 
-    /// Reserves memory for one more place.
-    #[inline(always)]
-    pub(crate) fn reserve(&mut self) -> Result<(), NoMemory>
+    /// Reserves memory for `count` more places.
+    pub(crate) fn reserve(&mut self, count: usize) -> Result<(), NoMemory>
         ensures same { (a : ℕ) → release_in self.new a ≡ release_in self.old a }
-        ensures ok { OnOk result (HasReleaseRoom self.new) }
+        ensures ok { OnOk result (HasReleaseRoom self.new count) }
     {
-        self.near.reserve(1)?;
-        self.far.reserve(1)?;
+        self.near.reserve(count)?;
+        self.far.reserve(count)?;
         Ok(())
     }
 
     /// Sets the release of an acquire.
     fn release_at(&mut self, acquire: Place, place: Place)
-        requires { 0 < spare self.old.far }
-        ensures { (a : ℕ) → release_in self.new a ≡
+        requires room { 0 < spare self.old.far }
+        requires small { place < 4294967295 }
+        ensures releases { (a : ℕ) → release_in self.new a ≡
             (if nat_eq acquire a then Some place else release_in self.old a) }
+        ensures near_len { vec_len self.new.near ≡ vec_len self.old.near }
+        ensures near_room { vec_capacity self.new.near ≡ vec_capacity self.old.near }
+        ensures far_room { spare self.old.far ≤ spare self.new.far + 1 }
     {
         if let Some(index) = (acquire.get() as usize).checked_sub(self.first)
             && index < self.near.len()
         {
-            self.near[index] = Some(place);
+            self.near[index] = MaybeIndex::at(place.get());
             return;
         }
         let Ok(_before) = self.far.insert(acquire.get(), place) else {
@@ -86,11 +91,13 @@ impl Releases {
     /// any.
     #[inline(always)]
     pub(crate) fn record(&mut self, ended: Option<Place>, place: Place)
-        requires { HasReleaseRoom self.old }
-        ensures { (a : ℕ) → release_in self.new a ≡
+        requires room { HasReleaseRoom self.old 1 }
+        requires small { place < 4294967295 }
+        ensures releases { (a : ℕ) → release_in self.new a ≡
             (if is_place ended a then Some place else release_in self.old a) }
+        ensures room { (n : ℕ) → HasReleaseRoom self.old (n + 1) → HasReleaseRoom self.new n }
     {
-        self.near.push_reserved(None);
+        self.near.push_reserved(MaybeIndex::none());
         if let Some(acquire) = ended {
             self.release_at(acquire, place);
         }

@@ -6,7 +6,7 @@ ghost use Rattle.trace_model.specs.Theory.Trace.{Trace, last_place};
 ghost use Rattle.trace_index.specs.declared.row.Key.{Key as KeyValue};
 ghost use Rattle.trace_index.specs.Links.{same_key, touches, matches, ends_acquire, ends_at};
 ghost use Rattle.trace_index.specs.Releases.{release_in};
-ghost use Rattle.trace_index.specs.SegmentTables.{AreAllTables, HasPlaceRoom, IsSame};
+ghost use Rattle.trace_index.specs.SegmentTables.{AreAllTables, HasPlaceRoom, HasRoomAhead, IsSame};
 ghost use Rattle.trace_index.specs.Positions.{AreKeyPositions};
 
 use crate::growing::ended;
@@ -22,11 +22,16 @@ use std::mem;
 use std::sync::Arc;
 use trace_model::{NoMemory, Place};
 
-/// The tables of a segment: the last place of each key, and the releases by acquire.
+/// For how many places memory is reserved at once.
+const PLACES_AHEAD: usize = 16;
+
+/// The tables of a segment: the last place of each key, and the releases by acquire. Memory is
+/// reserved for `room` more places.
 #[derive(Drop)]
 pub(crate) struct SegmentTable {
     pub(crate) last: Places,
     pub(crate) releases: Releases,
+    pub(crate) room: usize,
 }
 
 /// The tables of the sealed segments, and of the open one.
@@ -41,20 +46,41 @@ impl SegmentTable {
     pub(crate) fn new(alloc: Global, state: RandomState, first: usize) -> SegmentTable
         ensures last { (q : KeyValue) → get same_key result.last q ≡ None }
         ensures releases { (a : ℕ) → release_in result.releases a ≡ None }
+        ensures room { HasRoomAhead result }
     {
         SegmentTable {
             last: IndexMap::with_hasher(alloc, state),
             releases: Releases::new(alloc, state, first),
+            room: 0,
         }
     }
 
-    /// Reserves memory for one more place.
+    /// Reserves memory for one more place, if none is reserved.
+    #[inline(always)]
     pub(crate) fn reserve(&mut self) -> Result<(), NoMemory>
+        requires { HasRoomAhead self.old }
         ensures same { IsSame self.new self.old }
+        ensures room { HasRoomAhead self.new }
         ensures ok { OnOk result (HasPlaceRoom self.new) }
     {
-        reserve(&mut self.last)?;
-        self.releases.reserve()
+        if self.room > 0 {
+            return Ok(());
+        }
+        self.reserve_ahead()
+    }
+
+    /// Reserves memory for the next places.
+    #[inline(never)]
+    fn reserve_ahead(&mut self) -> Result<(), NoMemory>
+        requires { self.old.room ≡ 0 }
+        ensures same { IsSame self.new self.old }
+        ensures room { HasRoomAhead self.new }
+        ensures ok { OnOk result (HasPlaceRoom self.new) }
+    {
+        reserve(&mut self.last, 2 * PLACES_AHEAD)?;
+        self.releases.reserve(PLACES_AHEAD)?;
+        self.room = PLACES_AHEAD;
+        Ok(())
     }
 
     /// Records one more place, with this row and these positions of its keys. Caches the positions
@@ -69,11 +95,13 @@ impl SegmentTable {
     )
         requires positions { AreKeyPositions self.old.last row.now.event positions }
         requires room { HasPlaceRoom self.old }
+        requires small { place < 4294967295 }
         ensures last { (q : KeyValue) → get same_key self.new.last q ≡
             (if touches row.now.event row.now.depth q then Some place
             else get same_key self.old.last q) }
         ensures releases { (a : ℕ) → release_in self.new.releases a ≡
             (if ends_acquire row.now a then Some place else release_in self.old.releases a) }
+        ensures ahead { HasRoomAhead self.new }
     {
         record(
             &mut self.last,
@@ -84,6 +112,7 @@ impl SegmentTable {
             place,
         );
         self.releases.record(ended(row), place);
+        self.room -= 1;
     }
 }
 
@@ -131,12 +160,15 @@ pub(crate) fn release_in_segments(
 
 impl SegmentTables {
     /// Seals the open segment if it is full.
+    #[inline(always)]
     fn seal(&mut self, alloc: Global, state: RandomState, len: usize) -> Result<(), NoMemory>
         requires begun { 4096 * length self.old.sealed.items ≤ len }
         requires few { len ≤ 4096 * length self.old.sealed.items + 4096 }
+        requires room { HasRoomAhead self.old.tail }
         ensures same { (s : Trace) → AreAllTables s len self.old.sealed.items self.old.tail →
             AreAllTables s len self.new.sealed.items self.new.tail }
         ensures more { length self.old.sealed.items ≤ length self.new.sealed.items }
+        ensures ahead { HasRoomAhead self.new.tail }
         ensures ok { OnOk result (len < 4096 * length self.new.sealed.items + 4096) }
     {
         if len - SEGMENT * self.sealed.len() >= SEGMENT {
@@ -148,12 +180,15 @@ impl SegmentTables {
 
     /// Seals the open segment, which is full, and opens the next one. Memory for the sealed one
     /// must be reserved.
+    #[inline(never)]
     fn close(&mut self, alloc: Global, state: RandomState, len: usize) -> Result<(), NoMemory>
         requires room { vec_len self.old.sealed < vec_capacity self.old.sealed }
         requires full { 4096 ≤ len - 4096 * length self.old.sealed.items }
+        requires ahead { HasRoomAhead self.old.tail }
         ensures same { (s : Trace) → AreAllTables s len self.old.sealed.items self.old.tail →
             AreAllTables s len self.new.sealed.items self.new.tail }
         ensures more { length self.old.sealed.items ≤ length self.new.sealed.items }
+        ensures ahead { HasRoomAhead self.new.tail }
         ensures ok { OnOk result
             (length self.new.sealed.items ≡ length self.old.sealed.items + 1) }
     {
@@ -172,6 +207,7 @@ impl SegmentTables {
     }
 
     /// Reserves memory for one more place. Seals the open segment if it is full.
+    #[inline(always)]
     pub(crate) fn reserve(
         &mut self,
         alloc: Global,
@@ -180,9 +216,11 @@ impl SegmentTables {
     ) -> Result<(), NoMemory>
         requires begun { 4096 * length self.old.sealed.items ≤ len }
         requires few { len ≤ 4096 * length self.old.sealed.items + 4096 }
+        requires room { HasRoomAhead self.old.tail }
         ensures same { (s : Trace) → AreAllTables s len self.old.sealed.items self.old.tail →
             AreAllTables s len self.new.sealed.items self.new.tail }
         ensures more { length self.old.sealed.items ≤ length self.new.sealed.items }
+        ensures ahead { HasRoomAhead self.new.tail }
         ensures fits { OnOk result (len < 4096 * length self.new.sealed.items + 4096) }
         ensures room { OnOk result (HasPlaceRoom self.new.tail) }
     {

@@ -8,7 +8,7 @@ use Rattle.trace_index.proofs.key_places.KeyPlaces.len.Goals as goal
 pub returns-clause-length : goal.returns-clause-length
 returns-clause-length c =
     let i = c.self.inside in
-    c.count_passing.ensures ∙ sym (length_ascending (matches (trace_of i.list.rows.now.0) i.list.key) (length i.list.rows.now.0)) ∙ ap length c.self.view_is
+    c.count.ensures ∙ sym (length_ascending (matches (trace_of i.list.rows.now.0) i.list.key) (length i.list.rows.now.0)) ∙ ap length c.self.view_is
 
 pub returns-clause-ascends : goal.returns-clause-ascends
 returns-clause-ascends c =

@@ -1,6 +1,6 @@
 use Rattle.std.proofs.Common.{length, [], ◌∷◌, ◌++◌, sym, ap, subst, ◌∙◌, arith}
 use Rattle.trace_model.proofs.Lists.{length-push}
-use Rattle.trace_index.specs.SegmentTables.{AreAllTables}
+use Rattle.trace_index.specs.SegmentTables.{AreAllTables, HasRoomAhead}
 use Rattle.trace_index.proofs.SegmentTables.{sealed_more}
 use Rattle.trace_index.proofs.segment_tables.SegmentTables.close.Goals as goal
 
@@ -16,5 +16,6 @@ returns-in-Ok c =
           (sealed_more s c.args.len old.items c.args.self.now.tail are c.new-next.result c.in-Ok.table c.requires.full (c.in-Ok.ensures.ok ∙ c.replace-full.ensures.value)
           c.new-next.ensures.last c.new-next.ensures.releases));
       more = omega arith;
+      ahead = subst HasRoomAhead (sym c.replace-full.ensures.after) c.new-next.ensures.room;
       ok = omega arith;
     }

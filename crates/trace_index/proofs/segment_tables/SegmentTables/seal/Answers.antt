@@ -10,6 +10,7 @@ returns-in_err-reserve c =
     record {
       same = λ s are. subst (λ xs. AreAllTables s c.args.len xs c.args.self.now.tail) (sym items) are;
       more = omega arith;
+      ahead = c.requires.room;
       ok = IfOk-from_err c.from_residual.result _ c.from_residual.ensures.0;
     }
 
@@ -21,6 +22,7 @@ returns-in_err-close c =
     record {
       same = λ s are. c.in_err-close.ensures.same s (subst (λ xs. AreAllTables s c.args.len xs c.args.self.now.tail) (sym items) are);
       more = omega arith;
+      ahead = c.in_err-close.ensures.ahead;
       ok = IfOk-from_err c.from_residual-in_err-close.result _ c.from_residual-in_err-close.ensures.0;
     }
 
@@ -33,6 +35,7 @@ returns-in_ok-close c =
     record {
       same = λ s are. c.in_ok-close.ensures.same s (subst (λ xs. AreAllTables s c.args.len xs c.args.self.now.tail) (sym items) are);
       more = omega arith;
+      ahead = c.in_ok-close.ensures.ahead;
       ok = omega arith;
     }
 
@@ -41,4 +44,4 @@ returns-else-len-ge-SEGMENT c =
     let below = c.if-len-ge-SEGMENT.false in
     let len = c.len.ensures in
     let begun = c.requires.begun in
-    record { same = λ s are. are; more = omega arith; ok = omega (arith, c.args.self.now.sealed.ok) }
+    record { same = λ s are. are; more = omega arith; ahead = c.requires.room; ok = omega (arith, c.args.self.now.sealed.ok) }
