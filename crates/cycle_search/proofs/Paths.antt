@@ -290,6 +290,12 @@ closed-back ds path m first last begun head at closes =
     (get_or path 0 0, get-push_kept path m 0 (get_or path 0 0) (slice_get-get_or path 0 0 begun), head)
     (m, at-end path m [], at)
 
+-- An index within a list has an element.
+pub listed : {X : Type 0} (xs : List X) (k : ℕ) → k < length xs → (x : X) × (slice_get xs k ≡ Some x)
+listed [] k l = absurd (omega (arith, l))
+listed (x ∷ xs) zero l = (x, refl)
+listed (x ∷ xs) (suc k) l = listed xs k (omega (arith, l))
+
 -- A number whose dependency acquires such a lock closes the path.
 pub closes-decided : (ds : List Dependency) (path : List ℕ) (m : ℕ) (first last : Dependency) → 0 < length path →
     slice_get ds (get_or path 0 0) ≡ Some first → slice_get ds m ≡ Some last → (b : Bool) →

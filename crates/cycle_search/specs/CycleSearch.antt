@@ -11,6 +11,7 @@ use Rattle.cycle_search.specs.declared.refused.SearchRefused.{SearchRefused}
 use Rattle.cycle_search.specs.declared.refused.SearchRefused.TheVariants.{TooMany}
 use Rattle.cycle_search.specs.declared.search.CycleSearch.{CycleSearch}
 use Rattle.cycle_search.specs.Distances.{AreDistances}
+use Rattle.cycle_search.specs.LockFilters.{PassesHeld}
 
 -- Some of the lists with a property, each once, in lexicographic order.
 pub record AreSome (P : List ℕ → Type 0) (lists : List (List ℕ)) : Type 0 where
@@ -30,10 +31,14 @@ MoreThan P n = (some : List (List ℕ)) × AreSome P some × (n < length some)
 abbrev pub IfTooMany : {T : Type 0} → Result T SearchRefused → Type 0 → Type 0
 IfTooMany result Fact = result ≡ Err TooMany → Fact
 
--- The distances are those to the first member of the path.
-abbrev pub HasDistances : CycleSearch → List ℕ → Type 0
-HasDistances search path = AreDistances search.search_input.now (slice_index path 0)
-    search.distances.now
+-- The distances are those to the root, and the filter passes the locks that the root holds.
+pub record AreTables (search : CycleSearch) (root : ℕ) : Type 0 where
+  pub distances : AreDistances search.search_input.now root search.distances.now
+  pub filter : PassesHeld search.search_input.now root search.filter
+
+-- The tables are those of the path's first member.
+abbrev pub HasTables : CycleSearch → List ℕ → Type 0
+HasTables search path = AreTables search (slice_index path 0)
 
 -- With the members that must follow the number, the path has too many members.
 abbrev pub IsTooFar : CycleSearch → List ℕ → ℕ → Type 0

@@ -1,4 +1,5 @@
 pub mod CycleSearch
+pub mod LockFilters
 pub mod LockNumbers
 pub mod Edges
 pub mod ComponentThreads

@@ -10,6 +10,7 @@
 //! Start reading at `search.rt`.
 #![tactic(auto)]
 
+mod absence;
 mod acquirers;
 mod ascending;
 mod collector;
@@ -19,6 +20,7 @@ mod costs;
 mod distances;
 mod edges;
 mod kept;
+mod lock_filter;
 mod lock_numbers;
 mod pace;
 mod paused;
@@ -27,6 +29,7 @@ mod search;
 mod search_input;
 mod tarjan;
 
+pub use absence::has_no_cycle;
 pub use collector::Collector;
 pub use components::Components;
 pub use paused::{MAX_VISITS, PausedSearch, Searched};

@@ -8,7 +8,7 @@ ghost use Rattle.cycle_search.specs.Pausing.{IsSearchOf, GoesOnTo};
 use crate::costs::closing_visits;
 use crate::kept::Kept;
 use crate::pace::{Halt, Visits};
-use crate::search::{CycleSearch, Path, distances_of, extend_from, most_members};
+use crate::search::{CycleSearch, Path, distances_of, extend_from, filter_of, most_members};
 use crate::{SearchInput, SearchRefused};
 use std::alloc::Global;
 use trace_model::{Bound, Cycle, MAX_CYCLES, NoMemory};
@@ -109,6 +109,7 @@ impl PausedSearch {
             distances: &distances,
             members,
             successors,
+            filter: filter_of(search_input, root),
         };
         let mut pace = Visits { left: visits };
         match extend_from(&search, &mut path, last, &mut kept, &mut pace) {

@@ -11,7 +11,8 @@ ghost use Rattle.guards.specs.Compatible.{IsCompatible};
 ghost use Rattle.cycle_search.specs.Acquirers.{IsLeastAbove};
 ghost use Rattle.cycle_search.specs.Collecting.{AcceptsAll, TakesAll};
 ghost use Rattle.cycle_search.specs.Distances.{AreDistances};
-ghost use Rattle.cycle_search.specs.CycleSearch.{IsPath, CompletesCycle, AboveFirst, LinksTo, CompletesAsLast, AreNexts, MoreThan, CycleFrom, HasDistances, IsTooFar, SearchedAfter, SearchedThrough, IfTooMany};
+ghost use Rattle.cycle_search.specs.CycleSearch.{IsPath, CompletesCycle, AboveFirst, LinksTo, CompletesAsLast, AreNexts, MoreThan, CycleFrom, HasTables, IsTooFar, SearchedAfter, SearchedThrough, IfTooMany};
+ghost use Rattle.cycle_search.specs.LockFilters.{PassesHeld};
 ghost use Rattle.cycle_search.specs.Pausing.{CanContinue, IfPaused, PausesAfter, PausesAt, SearchedFrom, TakesUntil, position_at};
 
 use crate::ascending::above;
@@ -19,6 +20,7 @@ use crate::collector::Collector;
 use crate::costs::{closing_visits, is_long};
 use crate::distances::distances_to;
 use crate::kept::Kept;
+use crate::lock_filter::LockFilter;
 use crate::pace::{Halt, Pace, Unpaused};
 use crate::{Components, SearchInput, SearchRefused};
 use arrayvec::ArrayVec;
@@ -41,6 +43,8 @@ pub(crate) struct CycleSearch<'a> {
     /// If the last member is missing and the path has more successors than this, the search looks
     /// up the last member by the locks that it acquires.
     pub(crate) successors: usize,
+    /// The filter of the locks that the first member of a path holds.
+    pub(crate) filter: LockFilter,
 }
 
 /// Returns all cycles with at most `bound` members whose first member is `root`, each once, in
@@ -123,6 +127,7 @@ pub fn collect_cycles<C: Collector<Cycle>>(
         distances: &distances,
         members,
         successors: closing_visits(search_input, root),
+        filter: filter_of(search_input, root),
     };
     match extend(&search, &mut path, root, collector, &mut Unpaused) {
         Ok(()) => Ok(Ok(())),
@@ -145,6 +150,14 @@ pub(crate) fn most_members(search_input: &SearchInput<'_>, root: u32, bound: Bou
     }
     let threads = search_input.components.thread_count(root);
     threads.min(bound.get() as usize)
+}
+
+/// Returns the filter of the locks that `root` holds.
+pub(crate) fn filter_of(search_input: &SearchInput<'_>, root: u32) -> LockFilter
+    requires { root < length search_input.now }
+    ensures { PassesHeld search_input.now root result }
+{
+    LockFilter::of(&search_input.table.get(root).held)
 }
 
 /// Returns the distances to the path's one member if a search from it is long, else an empty list.
@@ -183,7 +196,7 @@ pub(crate) fn extend_from<C: Collector<Cycle>, P: Pace>(
     requires room { length path.old.items < search.now.members }
     requires members { search.now.members ≤ 8 }
     requires above { slice_index path.old.items 0 ≤ last }
-    requires distances { HasDistances search.now path.old.items }
+    requires tables { HasTables search.now path.old.items }
     requires accepts { AcceptsAll C.taking (SearchedFrom search.now path.old last) collector.old }
     ensures all { TakesUntil C.taking (SearchedFrom search.now path.old last)
         collector.old result path.new.items collector.new }
@@ -218,7 +231,7 @@ pub(crate) fn extend<C: Collector<Cycle>, P: Pace>(
     requires room { length path.old.items < search.now.members }
     requires members { search.now.members ≤ 8 }
     requires above { slice_index path.old.items 0 ≤ after }
-    requires distances { HasDistances search.now path.old.items }
+    requires tables { HasTables search.now path.old.items }
     requires accepts { AcceptsAll C.taking (SearchedAfter search.now path.old after) collector.old }
     ensures path { OnOk result (path.new.items ≡ path.old.items) }
     ensures all { TakesUntil C.taking (SearchedAfter search.now path.old after)
@@ -253,7 +266,7 @@ fn close<C: Collector<Cycle>, P: Pace>(
     requires room { length path.old.items + 1 ≡ search.now.members }
     requires members { search.now.members ≤ 8 }
     requires above { slice_index path.old.items 0 ≤ after }
-    requires distances { HasDistances search.now path.old.items }
+    requires tables { HasTables search.now path.old.items }
     requires accepts { AcceptsAll C.taking (SearchedAfter search.now path.old after) collector.old }
     ensures path { OnOk result (path.new.items ≡ path.old.items) }
     ensures all { TakesUntil C.taking (SearchedAfter search.now path.old after)
@@ -275,6 +288,7 @@ fn close<C: Collector<Cycle>, P: Pace>(
 
 /// Gives to the collector all cycles that begin with the path followed by `next`.
 #[cycle(search)]
+#[inline(always)]
 fn visit<C: Collector<Cycle>, P: Pace>(
     search: &CycleSearch<'_>,
     path: &mut Path,
@@ -285,7 +299,7 @@ fn visit<C: Collector<Cycle>, P: Pace>(
     requires path { IsPath search.now.search_input.now path.old.items }
     requires room { length path.old.items < search.now.members }
     requires members { search.now.members ≤ 8 }
-    requires distances { HasDistances search.now path.old.items }
+    requires tables { HasTables search.now path.old.items }
     requires known { next < length search.now.search_input.now }
     requires above { slice_index path.old.items 0 < next }
     requires linked { LinksTo search.now.search_input.now path.old.items next }
@@ -305,7 +319,38 @@ fn visit<C: Collector<Cycle>, P: Pace>(
     if !may_follow(search, path, next) {
         return Ok(());
     }
-    let is_cycle = closes(search.search_input, path, next);
+    follow(search, path, next, collector, pace)
+}
+
+/// Gives to the collector all cycles that begin with the path followed by `next`, which is
+/// compatible with it.
+#[cycle(search)]
+fn follow<C: Collector<Cycle>, P: Pace>(
+    search: &CycleSearch<'_>,
+    path: &mut Path,
+    next: u32,
+    collector: &mut C,
+    pace: &mut P,
+) -> Result<(), Halt<C::Refused>>
+    requires path { IsPath search.now.search_input.now path.old.items }
+    requires room { length path.old.items < search.now.members }
+    requires members { search.now.members ≤ 8 }
+    requires tables { HasTables search.now path.old.items }
+    requires known { next < length search.now.search_input.now }
+    requires above { slice_index path.old.items 0 < next }
+    requires linked { LinksTo search.now.search_input.now path.old.items next }
+    requires follows { IsCompatible search.now.search_input.now path.old.items next }
+    requires accepts { AcceptsAll C.taking (SearchedThrough search.now path.old next)
+        collector.old }
+    ensures path { OnOk result (path.new.items ≡ path.old.items) }
+    ensures all { TakesUntil C.taking (SearchedThrough search.now path.old next)
+        collector.old result path.new.items collector.new }
+    ensures paused { IfPaused result (PausesAt search.now path.old next path.new) }
+    ensures later { IfPaused result (λ last.
+        ListBelow (path.old.items ++ next ∷ []) (position_at path.new.items last)) }
+    ensures pauses { IfPaused result (λ last. (some : P) × P.pauses some) }
+{
+    let is_cycle = closes(search, path, next);
     path.push(next);
     if is_cycle {
         if let Err(refused) = collector.take(cycle_of(path)) {
@@ -319,10 +364,11 @@ fn visit<C: Collector<Cycle>, P: Pace>(
 }
 
 /// Returns whether a cycle of the search may begin with the path followed by `next`.
+#[inline(always)]
 fn may_follow(search: &CycleSearch<'_>, path: &Path, next: u32) -> bool
     requires path { IsPath search.now.search_input.now path.now.items }
     requires room { length path.now.items < search.now.members }
-    requires distances { HasDistances search.now path.now.items }
+    requires tables { HasTables search.now path.now.items }
     requires known { next < length search.now.search_input.now }
     ensures follows { IsTrue result → IsCompatible search.now.search_input.now path.now.items next }
     ensures none { result ≡ false → (numbers : List ℕ) →
@@ -335,7 +381,7 @@ fn may_follow(search: &CycleSearch<'_>, path: &Path, next: u32) -> bool
     if is_too_far(search, path, next) {
         return false;
     }
-    if ends_open(search_input, search.members, path, next) {
+    if ends_open(search, path, next) {
         return false;
     }
     fits(search_input, path, next)
@@ -364,16 +410,18 @@ fn is_too_far(search: &CycleSearch<'_>, path: &Path, next: u32) -> bool
     }
 }
 
-/// Returns whether `next` would be the last member that `members` allows, and does not close the
+/// Returns whether `next` would be the last member that the bound allows, and does not close the
 /// path.
-fn ends_open(search_input: &SearchInput<'_>, members: usize, path: &Path, next: u32) -> bool
-    requires path { IsPath search_input.now path.now.items }
-    requires next { next < length search_input.now }
-    ensures last { IsTrue result → members ≤ length path.now.items + 1 }
+#[inline(always)]
+fn ends_open(search: &CycleSearch<'_>, path: &Path, next: u32) -> bool
+    requires path { IsPath search.now.search_input.now path.now.items }
+    requires next { next < length search.now.search_input.now }
+    requires tables { HasTables search.now path.now.items }
+    ensures last { IsTrue result → search.now.members ≤ length path.now.items + 1 }
     ensures is_open { IsTrue result →
-        ¬ CompletesCycle search_input.now (path.now.items ++ next ∷ []) }
+        ¬ CompletesCycle search.now.search_input.now (path.now.items ++ next ∷ []) }
 {
-    path.len() + 1 >= members && !closes(search_input, path, next)
+    path.len() + 1 >= search.members && !closes(search, path, next)
 }
 
 /// Returns whether `next` is compatible with all members of the path.
@@ -399,13 +447,20 @@ fn cycle_of(path: &Path) -> Cycle
 /// Returns whether `next` closes the path: the path's first member holds the lock that `next`
 /// acquires.
 #[inline(always)]
-fn closes(search_input: &SearchInput<'_>, path: &Path, next: u32) -> bool
-    requires path { IsPath search_input.now path.now.items }
-    requires next { next < length search_input.now }
-    ensures { IsTrue result ↔ CompletesCycle search_input.now (path.now.items ++ next ∷ []) }
+fn closes(search: &CycleSearch<'_>, path: &Path, next: u32) -> bool
+    requires path { IsPath search.now.search_input.now path.now.items }
+    requires next { next < length search.now.search_input.now }
+    requires tables { HasTables search.now path.now.items }
+    ensures { IsTrue result
+        ↔ CompletesCycle search.now.search_input.now (path.now.items ++ next ∷ []) }
 {
+    let search_input = search.search_input;
+    let lock = search_input.lock(next);
+    if search.filter.excludes(lock) {
+        return false;
+    }
     let first = search_input.table.get(path[0]);
-    first.held.contains(search_input.lock(next))
+    first.held.contains(lock)
 }
 
 /// Returns the dependencies above `after` that hold the lock of the path's last member, ascending.

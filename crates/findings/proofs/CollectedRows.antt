@@ -17,7 +17,7 @@ module _ {C E : Type 0} (taking : CollectorRules C PrintedRow E) (start old : Ro
       ((from : C) (rows : List PrintedRow) → taking.took from rows old.rows → taking.took from (rows ++ row ∷ []) new.rows) →
       TookRowsFor taking start (before ++ cycle ∷ []) new
   took_row new same takes = (
-    record { events = same.events ∙ took.0.events; requirements = same.requirements ∙ took.0.requirements },
+    record { events = same.events ∙ took.0.events; bound = same.bound ∙ took.0.bound; requirements = same.requirements ∙ took.0.requirements },
     (took.1.0 ++ row ∷ [], rows_push start.events before took.1.0 cycle row took.1.1 one_row, takes start.rows took.1.0 took.1.2),
   )
 

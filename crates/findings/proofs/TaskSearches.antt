@@ -1,5 +1,5 @@
 -- The search of a task, after it was continued.
-use Rattle.std.proofs.Common.{◌≡◌, ℕ, List, [], ◌∷◌, Some, None, refl, sym, ap, subst, ◌∙◌}
+use Rattle.std.proofs.Common.{◌≡◌, ℕ, List, [], ◌∷◌, refl, subst}
 use Rattle.trace_model.specs.Theory.Trace.{Trace}
 use Rattle.trace_model.specs.Theory.Cycles.{AreCyclesFrom, ListBelow}
 use Rattle.trace_model.specs.Theory.Dependencies.{dependencies}

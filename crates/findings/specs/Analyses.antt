@@ -14,29 +14,30 @@ use Rattle.sp_closure.specs.Scratches.{IsScratch}
 use Rattle.sp_closure.specs.Timestamps.{AreTimestamps}
 
 -- An analysis: its events, its bound, and the requirements over which closures are computed, or
--- `None` if there is no cycle.
+-- `None` if there is no cycle up to the bound.
 pub record AnalysisView : Type 0 where
   pub events : Trace
   pub bound : ℕ
   pub requirements : Option Requirements
 
--- The trace has no cycle.
-abbrev pub HasNoCycle : Trace → Type 0
-HasNoCycle s = (bound : ℕ) (numbers : List ℕ) → IsCycle (dependencies s) bound numbers → ⊥
+-- The trace has no cycle up to the bound.
+abbrev pub HasNoCycle : Trace → ℕ → Type 0
+HasNoCycle s bound = (numbers : List ℕ) → IsCycle (dependencies s) bound numbers → ⊥
 
--- No cycle begins with the dependency with this number.
-abbrev pub HasNoCycleFrom : List Dependency → ℕ → Type 0
-HasNoCycleFrom ds root = (bound : ℕ) (numbers : List ℕ) → CycleFrom ds bound root numbers → ⊥
+-- No cycle up to the bound begins with the dependency with this number.
+abbrev pub HasNoCycleFrom : List Dependency → ℕ → ℕ → Type 0
+HasNoCycleFrom ds bound root = (numbers : List ℕ) → CycleFrom ds bound root numbers → ⊥
 
--- The requirements are those of the trace; if there are none, the trace has no cycle.
-abbrev pub AreTraceRequirements : Trace → Option Requirements → Type 0
-AreTraceRequirements s requirements =
-    MatchOption requirements (HasNoCycle s) (λ d. AreRequirements s d)
+-- The requirements are those of the trace; if there are none, the trace has no cycle up to the
+-- bound.
+abbrev pub AreTraceRequirements : Trace → ℕ → Option Requirements → Type 0
+AreTraceRequirements s bound requirements =
+    MatchOption requirements (HasNoCycle s bound) (λ d. AreRequirements s d)
 
--- The tables are those of the trace.
-pub record AreAnalysisTables (s : Trace) (tables : Tables) : Type 0 where
+-- The tables are those of the trace, for cycles up to the bound.
+pub record AreAnalysisTables (s : Trace) (bound : ℕ) (tables : Tables) : Type 0 where
   pub components : AreComponents (dependencies s) tables.components
-  pub requirements : AreTraceRequirements s tables.requirements
+  pub requirements : AreTraceRequirements s bound tables.requirements
   pub timestamps : ForSome tables.timestamps (AreTimestamps s)
 
 -- The scratch is one over the trace with these requirements.

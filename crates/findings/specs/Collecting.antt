@@ -1,12 +1,14 @@
 -- Which rows of a task a collector takes (this project's profile).
-use Rattle.std.specs.Prelude.{◌≡◌, ℕ, List, [], map, Option}
+use Rattle.std.specs.Prelude.{◌≡◌, ℕ, List, [], Option}
 use Rattle.std.proofs.Common.{refl, subst, sym, arith}
 use Rattle.trace_model.specs.Theory.Trace.{Trace}
+use Rattle.trace_model.specs.Theory.Cycles.{IsCycle}
+use Rattle.trace_model.specs.Theory.Dependencies.{dependencies}
 use Rattle.reports.specs.Printed.{PrintedRow}
 use Rattle.fronts.specs.declared.requirements.Requirements.{Requirements}
 use Rattle.cycle_search.specs.Collecting.{CollectorRules}
 use Rattle.cycle_search.specs.CycleSearch.{AreAll, AreSome}
-use Rattle.findings.specs.Found.{AreRowsFor, IsSomeCycle}
+use Rattle.findings.specs.Found.{AreRowsFor}
 use Rattle.findings.specs.declared.collecting.RowsRefused.{RowsRefused}
 use Rattle.findings.specs.declared.collecting.RowsRefused.TheVariants.{Refused, NoMemory}
 
@@ -36,16 +38,18 @@ RefusesRows taking s P old (Refused refused) =
     (rows : List PrintedRow) × AreSomeRows s P rows × taking.refuses old rows refused
 RefusesRows taking s P old NoMemory = Unit {0}
 
--- A collector of cycles that computes their rows: the events and requirements that it reads, and
--- the collector of the rows.
+-- A collector of cycles that computes their rows: the events, the bound and the requirements that
+-- it reads, and the collector of the rows.
 pub record RowsView (C : Type 0) : Type 0 where
   pub events : Trace
+  pub bound : ℕ
   pub requirements : Option Requirements
   pub rows : C
 
 -- Both read the same tables.
 pub record ReadsSame {C : Type 0} (a b : RowsView C) : Type 0 where
   pub events : b.events ≡ a.events
+  pub bound : b.bound ≡ a.bound
   pub requirements : b.requirements ≡ a.requirements
 
 -- The collector took the rows of these cycles.
@@ -75,15 +79,17 @@ rows_none s = record {
 abbrev pub rows_taking : {C E : Type 0} → CollectorRules C PrintedRow E →
     CollectorRules (RowsView C) (List ℕ) (RowsRefused E)
 rows_taking taking = record {
-  accepts = λ now cycle. IsSomeCycle now.events cycle × AcceptsRows taking now.rows;
+  accepts = λ now cycle. IsCycle (dependencies now.events) now.bound cycle
+      × AcceptsRows taking now.rows;
   took = TookRowsFor taking;
   refuses = RefusesRowsFor taking;
   nothing = λ start. (
-    record { events = refl; requirements = refl },
+    record { events = refl; bound = refl; requirements = refl },
     ([], rows_none start.events, taking.nothing start.rows),
   );
   still = λ start now cycles cycle took accepts. (
-    subst (λ s. IsSomeCycle s cycle) (sym took.0.events) accepts.0,
+    subst (λ s. IsCycle (dependencies s) now.bound cycle) (sym took.0.events)
+        (subst (λ b. IsCycle (dependencies start.events) b cycle) (sym took.0.bound) accepts.0),
     λ row. taking.still start.rows now.rows took.1.0 row took.1.2 (accepts.1 row),
   );
 }

@@ -40,7 +40,7 @@ impl Model for Analysis {
       requirements = a.tables.requirements;
     } };
 
-    ghost invariant = { λ a. AreAnalysisTables (arc_value a.snapshot) a.tables };
+    ghost invariant = { λ a. AreAnalysisTables (arc_value a.snapshot) a.bound a.tables };
 }
 
 impl Analysis {
@@ -56,7 +56,7 @@ impl Analysis {
         ensures { IfOk result (λ a. ((arc_value a).events ≡ arc_value snapshot)
             × ((arc_value a).bound ≡ bound)) }
     {
-        let tables = Tables::new(alloc, &snapshot)?;
+        let tables = Tables::new(alloc, &snapshot, bound)?;
         let analysis = Analysis {
             snapshot,
             bound,

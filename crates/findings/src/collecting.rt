@@ -26,12 +26,14 @@ pub enum RowsRefused<E: Drop> {
     NoMemory,
 }
 
-/// A collector of cycles: it computes the row of each cycle and gives it to a collector of rows.
+/// A collector of cycles up to the bound: it computes the row of each and gives it to a collector
+/// of rows.
 #[derive(Drop)]
 struct RowsOf<'a, C: Drop> {
     alloc: Global,
     snapshot: &'a Snapshot,
     tables: &'a Tables,
+    bound: Bound,
     scratch: Option<ClosureScratch>,
     rows: C,
 }
@@ -45,11 +47,12 @@ impl<'a, C: Drop> Model for RowsOf<'a, C> {
 
     ghost view = { λ r. record {
       events = r.snapshot.now;
+      bound = r.bound;
       requirements = r.tables.now.requirements;
       rows = r.rows;
     } };
 
-    ghost invariant = { λ r. AreAnalysisTables r.snapshot.now r.tables.now
+    ghost invariant = { λ r. AreAnalysisTables r.snapshot.now r.bound r.tables.now
         × ForSome r.scratch (IsScratchOf r.snapshot.now r.tables.now.requirements) };
 }
 
@@ -66,6 +69,7 @@ impl<'a, C: Collector<Row> + Drop> Collector<Cycle> for RowsOf<'a, C> {
             self.snapshot,
             self.tables,
             &mut self.scratch,
+            self.bound,
             cycle,
         ) else {
             return Err(RowsRefused::NoMemory);
@@ -91,7 +95,7 @@ pub(crate) fn collect_by<C: Collector<Row> + Drop>(
     task: u32,
     rows: C,
 ) -> Result<C, RowsRefused<C::Refused>>
-    requires tables { AreAnalysisTables snapshot.now tables.now }
+    requires tables { AreAnalysisTables snapshot.now bound tables.now }
     requires scratch { ForSome scratch.old (IsScratchOf snapshot.now tables.now.requirements) }
     requires accepts { AcceptsRows C.taking rows }
     ensures scratch { ForSome scratch.new (IsScratchOf snapshot.now tables.now.requirements) }
@@ -104,6 +108,7 @@ pub(crate) fn collect_by<C: Collector<Row> + Drop>(
         alloc,
         snapshot,
         tables,
+        bound,
         scratch: scratch.take(),
         rows,
     };
@@ -113,6 +118,7 @@ pub(crate) fn collect_by<C: Collector<Row> + Drop>(
                 alloc: _,
                 snapshot: _,
                 tables: _,
+                bound: _,
                 scratch: kept,
                 rows,
             } = collector;

@@ -1,6 +1,6 @@
 //! The tables that all tasks of a question read, computed once from its snapshot.
 
-ghost use Rattle.std.specs.Prelude.{◌≡◌, ◌<◌, ◌≤◌, length, IfOk, MatchOption};
+ghost use Rattle.std.specs.Prelude.{◌≡◌, ◌<◌, ◌≤◌, length, IfOk, IsTrue, MatchOption};
 ghost use Rattle.std.specs.Option.{ForSome};
 ghost use Rattle.trace_model.specs.declared.limits.TheConstants.{MAX_CYCLES};
 ghost use Rattle.trace_model.specs.Theory.Cycles.{AreCyclesFrom};
@@ -10,13 +10,13 @@ ghost use Rattle.cycle_search.specs.CycleSearch.{CycleFrom, MoreThan, IfTooMany}
 ghost use Rattle.cycle_search.specs.Components.{AreComponents};
 ghost use Rattle.fronts.specs.Requirements.{AreRequirements};
 ghost use Rattle.sp_closure.specs.Timestamps.{AreTimestamps};
-ghost use Rattle.findings.specs.Analyses.{AreTraceRequirements, AreAnalysisTables, HasNoCycleFrom};
+ghost use Rattle.findings.specs.Analyses.{AreTraceRequirements, AreAnalysisTables, HasNoCycle, HasNoCycleFrom};
 ghost use Rattle.findings.specs.TaskSearches.{IsTaskSearch, AreSearchedCycles};
 
 use crate::task_search::TaskSearch;
 use cycle_search::{
     Collector, Components, Cycle, PausedSearch, SearchInput, SearchRefused, Searched,
-    collect_cycles, cycles_from,
+    collect_cycles, cycles_from, has_no_cycle,
 };
 use snapshots::Snapshot;
 use sp_closure::{Requirements, Steps, Timestamps};
@@ -33,23 +33,26 @@ const LEAST_CYCLIC: usize = 16;
 #[derive(Drop)]
 pub(crate) struct Tables {
     pub(crate) components: Components,
-    /// `None` if there is no cycle.
+    /// `None` if there is no cycle up to the bound.
     pub(crate) requirements: Option<Requirements>,
     /// `None` if they do not pay. No result depends on them.
     pub(crate) timestamps: Option<Timestamps>,
 }
 
 impl Tables {
-    /// Computes the tables of the snapshot.
+    /// Computes the tables of the snapshot for cycles up to the bound.
     ///
     /// # Errors
     /// `NoMemory` if an allocation fails.
-    pub(crate) fn new(alloc: Global, snapshot: &Snapshot) -> Result<Tables, NoMemory>
-        ensures { IfOk result (AreAnalysisTables snapshot.now) }
+    pub(crate) fn new(alloc: Global, snapshot: &Snapshot, bound: Bound) -> Result<Tables, NoMemory>
+        ensures { IfOk result (AreAnalysisTables snapshot.now bound) }
     {
         let components = components_of(alloc, snapshot)?;
-        let requirements = requirements_of(alloc, snapshot, &components)?;
-        let timestamps = timestamps_of(alloc, snapshot, &components, &requirements)?;
+        let requirements = requirements_of(alloc, snapshot, &components, bound)?;
+        let timestamps = match &requirements {
+            Some(requirements) => timestamps_of(alloc, snapshot, &components, requirements)?,
+            None => None,
+        };
         Ok(Tables {
             components,
             requirements,
@@ -72,14 +75,14 @@ impl Tables {
         bound: Bound,
         task: u32,
     ) -> Result<Vec<Cycle>, SearchRefused>
-        requires { AreAnalysisTables snapshot.now self.now }
+        requires { AreAnalysisTables snapshot.now bound self.now }
         ensures ok { IfOk result (λ cycles.
             AreCyclesFrom (dependencies snapshot.now) bound task cycles.items) }
         ensures few { IfOk result (λ cycles. length cycles.items ≤ MAX_CYCLES) }
         ensures too_many { IfTooMany result
             (MoreThan (CycleFrom (dependencies snapshot.now) bound task) MAX_CYCLES) }
     {
-        match self.search_input(snapshot, task) {
+        match self.search_input(snapshot, bound, task) {
             Some(search_input) => cycles_from(alloc, &search_input, task, bound),
             None => Ok(Vec::new(alloc)),
         }
@@ -102,14 +105,14 @@ impl Tables {
         search: TaskSearch,
         visits: u64,
     ) -> Result<Searched, SearchRefused>
-        requires tables { AreAnalysisTables snapshot.now self.now }
+        requires tables { AreAnalysisTables snapshot.now bound self.now }
         requires search { IsTaskSearch snapshot.now bound search }
         ensures searched { IfOk result (AreSearchedCycles snapshot.now bound visits search) }
         ensures too_many { IfTooMany result
             (MoreThan (CycleFrom (dependencies snapshot.now) bound search.task) MAX_CYCLES) }
     {
         let TaskSearch { task, search } = search;
-        let Some(search_input) = self.search_input(snapshot, task) else {
+        let Some(search_input) = self.search_input(snapshot, bound, task) else {
             return Ok(Searched::All(Vec::new(alloc)));
         };
         let begun = match search {
@@ -135,22 +138,27 @@ impl Tables {
         task: u32,
         collector: &mut C,
     ) -> Result<Result<(), C::Refused>, NoMemory>
-        requires tables { AreAnalysisTables snapshot.now self.now }
+        requires tables { AreAnalysisTables snapshot.now bound self.now }
         requires accepts { AcceptsAll C.taking (CycleFrom (dependencies snapshot.now) bound task)
             collector.old }
         ensures { IfOk result (λ taken. TakesAll C.taking
             (CycleFrom (dependencies snapshot.now) bound task) collector.old taken collector.new) }
     {
-        match self.search_input(snapshot, task) {
+        match self.search_input(snapshot, bound, task) {
             Some(search_input) => collect_cycles(alloc, &search_input, task, bound, collector),
             None => Ok(Ok(())),
         }
     }
 
     /// Returns what a search for the cycles of a task reads, or `None` if the task has none.
-    fn search_input<'a>(&'a self, snapshot: &'a Snapshot, task: u32) -> Option<SearchInput<'a>>
-        requires { AreAnalysisTables snapshot.now self.now }
-        ensures { MatchOption result (HasNoCycleFrom (dependencies snapshot.now) task)
+    fn search_input<'a>(
+        &'a self,
+        snapshot: &'a Snapshot,
+        _bound: Bound,
+        task: u32,
+    ) -> Option<SearchInput<'a>>
+        requires { AreAnalysisTables snapshot.now _bound self.now }
+        ensures { MatchOption result (HasNoCycleFrom (dependencies snapshot.now) _bound task)
             (λ search_input. (search_input ≡ dependencies snapshot.now)
             × (task < length (dependencies snapshot.now))) }
     {
@@ -174,7 +182,26 @@ fn components_of(alloc: Global, snapshot: &Snapshot) -> Result<Components, NoMem
     Components::new(alloc, snapshot.table(), snapshot.graph())
 }
 
-/// Returns the requirements of the snapshot's events, or `None` if there is no cycle.
+/// Returns `true` only if there is no cycle up to the bound: the graph has none, or a search that
+/// visits at most as many members as the trace has events finds none. `false` says nothing.
+fn is_without_cycles(
+    alloc: Global,
+    snapshot: &Snapshot,
+    components: &Components,
+    bound: Bound,
+) -> bool
+    requires { AreComponents (dependencies snapshot.now) components.now }
+    ensures { IsTrue result → HasNoCycle snapshot.now bound }
+{
+    if components.are_acyclic() {
+        return true;
+    }
+    let search_input = SearchInput::new(snapshot.table(), snapshot.graph(), components);
+    has_no_cycle(alloc, &search_input, bound, snapshot.len() as u64)
+}
+
+/// Returns the requirements of the snapshot's events, or `None` if there is no cycle up to the
+/// bound.
 ///
 /// # Errors
 /// `NoMemory` if an allocation fails.
@@ -182,11 +209,12 @@ fn requirements_of(
     alloc: Global,
     snapshot: &Snapshot,
     components: &Components,
+    bound: Bound,
 ) -> Result<Option<Requirements>, NoMemory>
     requires { AreComponents (dependencies snapshot.now) components.now }
-    ensures { IfOk result (AreTraceRequirements snapshot.now) }
+    ensures { IfOk result (AreTraceRequirements snapshot.now bound) }
 {
-    if components.are_acyclic() {
+    if is_without_cycles(alloc, snapshot, components, bound) {
         return Ok(None);
     }
     let requirements = Requirements::build(alloc, snapshot.index())?;
@@ -202,18 +230,16 @@ fn timestamps_of(
     alloc: Global,
     snapshot: &Snapshot,
     components: &Components,
-    requirements: &Option<Requirements>,
+    requirements: &Requirements,
 ) -> Result<Option<Timestamps>, NoMemory>
-    requires { AreTraceRequirements snapshot.now requirements.now }
+    requires { AreRequirements snapshot.now requirements.now }
     ensures { IfOk result (λ made. ForSome made (AreTimestamps snapshot.now)) }
 {
     let cyclic = components.cyclic();
-    match requirements {
-        Some(requirements) if cyclic.iter().filter(|it| **it).count() >= LEAST_CYCLIC => {
-            make_timestamps::<Brand>(alloc, snapshot, requirements, cyclic, Blank::new(1))
-        }
-        _ => Ok(None),
+    if cyclic.iter().filter(|it| **it).count() < LEAST_CYCLIC {
+        return Ok(None);
     }
+    make_timestamps::<Brand>(alloc, snapshot, requirements, cyclic, Blank::new(1))
 }
 
 /// Computes the timestamps, counted by a new count of steps.

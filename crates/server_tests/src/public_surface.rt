@@ -7,7 +7,7 @@ use crate::fixtures::{LIMIT, OPPOSITE_EVENTS, OPPOSITE_ORDERS, REPORT};
 use crate::table_tests::table_of_text;
 use crate::traces::gate_of;
 use board::{BoardState, BoardWriter, HistoryId, new_board};
-use cycle_search::{Components, SearchInput, SearchRefused, cycles_from};
+use cycle_search::{Components, SearchInput, SearchRefused, cycles_from, has_no_cycle};
 use dependencies::{DepTable, Dependency};
 use desk::{Desk, Locked};
 use event_frames::{FrameReader, encode_reply};
@@ -227,6 +227,37 @@ fn cycle_of_opposite_orders(rt: HostRuntime) -> Result<(), Fail> {
     let cycles = cycles?;
     assert_eq!(rt; cycles.len(), 1);
     assert_eq!(rt; cycles[0].numbers(), [0, 1].as_slice());
+    Ok(())
+}
+
+/// Opposite orders of locks 10 and 20 under the gate lock 30.
+const GATED_ORDERS: &str = "0f1 0f2
+1a30 1a10 1a20 1r20 1r10 1r30
+2a30 2a20 2a10 2r10 2r20 2r30
+";
+
+/// Returns whether a search that visits at most `visits` members finds that there is no cycle.
+fn finds_no_cycle(alloc: Global, snapshot: &Snapshot, visits: u64) -> Result<bool, NoMemory> {
+    let (table, graph) = (snapshot.table(), snapshot.graph());
+    let components = Components::new(alloc, table, graph)?;
+    let search_input = SearchInput::new(table, graph, &components);
+    let finds_none = has_no_cycle(alloc, &search_input, Bound::least(), visits);
+    drop(components);
+    Ok(finds_none)
+}
+
+/// Only the dependency of lock 20 in the first thread has a member to visit: that of lock 10 in the
+/// second thread.
+#[test]
+fn no_cycle_of_gated_orders(rt: HostRuntime) -> Result<(), Fail> {
+    let gate = gate_of(&rt, GATED_ORDERS.as_bytes()).ok_or("a gate")?;
+    let snapshot = build_snapshot(&rt, rt.alloc(), RandomState::new(&rt)?, &gate);
+    drop(gate);
+    let snapshot = snapshot?;
+    let without_visits = finds_no_cycle(rt.alloc(), &snapshot, 0);
+    let with_one = finds_no_cycle(rt.alloc(), &snapshot, 1);
+    drop(snapshot);
+    assert_eq!(rt; (without_visits?, with_one?), (false, true));
     Ok(())
 }
 

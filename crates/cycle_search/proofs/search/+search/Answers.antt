@@ -6,11 +6,10 @@ use Rattle.std.proofs.lemmas.Result.{err_from_is_err_and}
 use Rattle.std.specs.List.{Contains}
 use Rattle.trace_model.specs.Theory.Cycles.{ListBelow}
 use Rattle.trace_model.specs.Theory.Dependencies.{Dependency}
-use Rattle.cycle_search.specs.CycleSearch.{IsPath, AboveFirst, LinksTo, CompletesCycle, CompletesAsLast, CycleOver, CycleUpTo, IsAmong, AreAll, CycleThrough, HasDistances, SearchedThrough}
+use Rattle.cycle_search.specs.CycleSearch.{IsPath, AboveFirst, LinksTo, CompletesCycle, CompletesAsLast, CycleOver, CycleUpTo, IsAmong, AreAll, CycleThrough, AreTables, HasTables, SearchedThrough}
 use Rattle.cycle_search.specs.Collecting.{AcceptsAll, TakesSoFar}
 use Rattle.cycle_search.specs.Pausing.{IsListBefore, PausesAfter, PausesAt, position_at}
 use Rattle.cycle_search.specs.Acquirers.{IsLeastAbove}
-use Rattle.cycle_search.specs.Distances.{AreDistances}
 use Rattle.trace_model.proofs.Lists.{get-push_kept}
 use Rattle.trace_model.proofs.Theory.Unique.{contains_had}
 use Rattle.cycle_search.proofs.Listing.{all-none}
@@ -19,7 +18,7 @@ use Rattle.cycle_search.proofs.Positions.{below-longer, paused-later}
 use Rattle.cycle_search.proofs.Turns.{adds-more, adds-end, above-first, some-more, until-more, closers-begin, closers-more, closers-some, closers-until, closers-end, rejected, closed, one-closed, forth, deeper, deeper-some, deeper-until, full, none-before}
 use Rattle.cycle_search.proofs.Paths.{path-tested}
 use Rattle.cycle_search.proofs.search.+search.Goals as goal
-use Rattle.cycle_search.proofs.search.+search.Goals.{visit-then-is_cycle+in_default, visit-else-is_cycle+then-len-search+in_ok-extend, visit-else-is_cycle+else-len-search}
+use Rattle.cycle_search.proofs.search.+search.Goals.{follow-then-is_cycle+in_default, follow-else-is_cycle+then-len-search+in_ok-extend, follow-else-is_cycle+else-len-search}
 
 -- A number above the first one.
 above-first-of : (path : List ℕ) (m : ℕ) → get_or path 0 0 < m → AboveFirst path m
@@ -38,7 +37,7 @@ extend-visit-requires g t c =
     let accepts = accepts-through g.C.Collector.taking c.args.search.now.search_input.now c.args.search.now.members c.args.path.now.items _ m (λ next. c.args.after < next)
     (CycleOver c.args.search.now.search_input.now c.args.search.now.members c.args.path.now.items (IsAmong items i)) c.args.collector.now c.loop-next.collector
     (n.above m here) same c.loop-next.invariant.added c.requires.accepts in
-    (λ κs lives. (omega (arith, shorter), (lives.0, (lives.1.0, (lives.1.1, (subst (λ p. IsPath c.args.search.now.search_input.now p) same c.requires.path, (subst (λ (p : List ℕ). length p < c.args.search.now.members) same c.requires.room, (c.requires.members, (subst (λ p. HasDistances c.args.search.now p) same c.requires.distances, (n.known m here, (subst (λ (p : List ℕ). get_or p 0 0 < m) same over, (subst (λ p. LinksTo c.args.search.now.search_input.now p m) same (n.linked m here), accepts))))))))))))
+    (λ κs lives. (omega (arith, shorter), (lives.0, (lives.1.0, (lives.1.1, (subst (λ p. IsPath c.args.search.now.search_input.now p) same c.requires.path, (subst (λ (p : List ℕ). length p < c.args.search.now.members) same c.requires.room, (c.requires.members, (subst (λ p. HasTables c.args.search.now p) same c.requires.tables, (n.known m here, (subst (λ (p : List ℕ). get_or p 0 0 < m) same over, (subst (λ p. LinksTo c.args.search.now.search_input.now p m) same (n.linked m here), accepts))))))))))))
 
 pub extend-returns-in_err-visit-clause-all : goal.extend-returns-in_err-visit-clause-all
 extend-returns-in_err-visit-clause-all g t c =
@@ -172,7 +171,7 @@ close-visit-requires g t c =
     let accepts = accepts-through g.C.Collector.taking c.args.search.now.search_input.now c.args.search.now.members c.args.path.now.items _ c.in-Some.next (λ next. c.args.after < next)
     (CycleUpTo c.args.search.now.search_input.now c.args.search.now.members c.args.path.now.items c.args.after c.loop-next.last) c.args.collector.now c.loop-next.collector
     above same c.loop-next.invariant.added c.requires.accepts in
-    (λ κs lives. (omega (arith, shorter, c.requires.room), (lives.0, (lives.1.0, (lives.1.1, (subst (λ p. IsPath c.args.search.now.search_input.now p) same c.requires.path, (omega (arith, shorter, c.requires.room), (c.requires.members, (subst (λ p. HasDistances c.args.search.now p) same c.requires.distances, (slice_get_within c.args.search.now.search_input.now c.in-Some.next more.1.1 more.1.3, (omega (arith, head, above, c.requires.above), (c.links.ensures.0 c.if-links.true, accepts))))))))))))
+    (λ κs lives. (omega (arith, shorter, c.requires.room), (lives.0, (lives.1.0, (lives.1.1, (subst (λ p. IsPath c.args.search.now.search_input.now p) same c.requires.path, (omega (arith, shorter, c.requires.room), (c.requires.members, (subst (λ p. HasTables c.args.search.now p) same c.requires.tables, (slice_get_within c.args.search.now.search_input.now c.in-Some.next more.1.1 more.1.3, (omega (arith, head, above, c.requires.above), (c.links.ensures.0 c.if-links.true, accepts))))))))))))
 
 pub close-returns-in_err-visit-clause-all : goal.close-returns-in_err-visit-clause-all
 close-returns-in_err-visit-clause-all g t c =
@@ -294,49 +293,54 @@ visit-returns-then-not-may_follow-clause-all g t c =
     takes-none g.C.Collector.taking (SearchedThrough c.args.search.now c.args.path.now c.args.next) c.args.collector.now
     (all-none (SearchedThrough c.args.search.now c.args.path.now c.args.next) (c.may_follow.ensures.none c.if-not-may_follow.true))
 
-pub visit-take-requires : goal.visit-take-requires
-visit-take-requires g t c =
+pub visit-follow-requires : goal.visit-follow-requires
+visit-follow-requires g t c =
+    let follows = c.may_follow.ensures.follows c.if-not-may_follow.false in
+    λ κs lives. (omega (arith, c.requires.room), (lives.0, (lives.1.0, (lives.1.1, (c.requires.path, (c.requires.room, (c.requires.members, (c.requires.tables, (c.requires.known, (c.requires.above, (c.requires.linked, (follows, c.requires.accepts))))))))))))
+
+pub follow-take-requires : goal.follow-take-requires
+follow-take-requires g t c =
     let ds = c.args.search.now.search_input.now in
     let bound = c.args.search.now.members in
     let path = c.args.path.now.items in
     let cycle = path ++ c.args.next ∷ [] in
     let some = one-closed ds bound path c.args.next
-    (path-tested ds path c.args.next c.requires.path c.requires.known (above-first-of path c.args.next c.requires.above) c.requires.linked (c.may_follow.ensures.follows c.if-not-may_follow.false))
+    (path-tested ds path c.args.next c.requires.path c.requires.known (above-first-of path c.args.next c.requires.above) c.requires.linked c.requires.follows)
     (c.closes-is_cycle.ensures.0 c.if-is_cycle.true) c.requires.path.begun c.requires.room in
     subst (λ (z : List ℕ). g.C.Collector.taking.accepts c.args.collector.now z) (sym (c.cycle_of.ensures ∙ c.push.ensures.items))
     (c.requires.accepts cycle (some.sound cycle (contains_had (cycle ∷ []) cycle (0, refl))))
 
-pub visit-returns-in-Err-clause-all : goal.visit-returns-in-Err-clause-all
-visit-returns-in-Err-clause-all g t c =
+pub follow-returns-in-Err-clause-all : goal.follow-returns-in-Err-clause-all
+follow-returns-in-Err-clause-all g t c =
     let taking = g.C.Collector.taking in
     let ds = c.args.search.now.search_input.now in
     let bound = c.args.search.now.members in
     let path = c.args.path.now.items in
     let cycle = path ++ c.args.next ∷ [] in
     let some = one-closed ds bound path c.args.next
-    (path-tested ds path c.args.next c.requires.path c.requires.known (above-first-of path c.args.next c.requires.above) c.requires.linked (c.may_follow.ensures.follows c.if-not-may_follow.false))
+    (path-tested ds path c.args.next c.requires.path c.requires.known (above-first-of path c.args.next c.requires.above) c.requires.linked c.requires.follows)
     (c.closes-is_cycle.ensures.0 c.if-is_cycle.true) c.requires.path.begun c.requires.room in
     refuses-one taking (CycleThrough ds bound path c.args.next) c.args.collector.now cycle _ _ some (c.cycle_of.ensures ∙ c.push.ensures.items) c.in-Err.ensures
 
-pub visit-extend-requires : goal.visit-extend-requires
-visit-extend-requires g t c =
+pub follow-extend-requires : goal.follow-extend-requires
+follow-extend-requires g t c =
     let ds = c.args.search.now.search_input.now in
     let bound = c.args.search.now.members in
     let path = c.args.path.now.items in
     let m = c.args.next in
     let pushed = sym c.push.ensures.items in
-    let longer = path-tested ds path m c.requires.path c.requires.known (above-first-of path c.args.next c.requires.above) c.requires.linked (c.may_follow.ensures.follows c.if-not-may_follow.false) in
+    let longer = path-tested ds path m c.requires.path c.requires.known (above-first-of path c.args.next c.requires.above) c.requires.linked c.requires.follows in
     let kept = get-push_kept path m 0 (get_or path 0 0) (slice_get-get_or path 0 0 c.requires.path.begun) in
     let first = get_or_from_slice_get c.push.new.self.items 0 (get_or path 0 0) 0 (ap (λ (xs : List ℕ). slice_get xs 0) c.push.ensures.items ∙ kept) in
-    let distances = subst (λ first. AreDistances ds first c.args.search.now.distances.now) (sym first) c.requires.distances in
+    let tables = subst (AreTables c.args.search.now) (sym first) c.requires.tables in
     let after = ap (λ (xs : List ℕ). get_or xs 0 0) (sym c.deref.ensures.0) in
     let accepts = subst (λ p. AcceptsAll g.C.Collector.taking (CycleOver ds bound p (λ n. get_or c.deref.result.now 0 0 < n)) c.args.collector.now) pushed
     (λ numbers h. c.requires.accepts numbers (forth ds bound path m (get_or path 0 0) kept numbers
     (subst (λ first. CycleOver ds bound (path ++ m ∷ []) (λ n. first < n) numbers) (sym after ∙ first) h))) in
-    λ κs lives. (omega (arith, c.push.ensures.len), (lives.0, (lives.1.0, (lives.1.1, (subst (λ p. IsPath ds p) pushed longer, (omega arith, (c.requires.members, (omega (arith, after), (distances, accepts)))))))))
+    λ κs lives. (omega (arith, c.push.ensures.len), (lives.0, (lives.1.0, (lives.1.1, (subst (λ p. IsPath ds p) pushed longer, (omega arith, (c.requires.members, (omega (arith, after), (tables, accepts)))))))))
 
-pub visit-returns-in_err-extend-clause-all : goal.visit-returns-in_err-extend-clause-all
-visit-returns-in_err-extend-clause-all g t c =
+pub follow-returns-in_err-extend-clause-all : goal.follow-returns-in_err-extend-clause-all
+follow-returns-in_err-extend-clause-all g t c =
     let taking = g.C.Collector.taking in
     let ds = c.args.search.now.search_input.now in
     let bound = c.args.search.now.members in
@@ -356,8 +360,8 @@ visit-returns-in_err-extend-clause-all g t c =
     (until-for taking (λ q. CycleOver ds bound q (λ n. get_or c.deref.result.now 0 0 < n)) c.push.new.self.items (path ++ m ∷ []) c.args.collector.now c.extend.new.collector c.extend.new.path.items
     c.in_err-extend.field-0.0 c.push.ensures.items c.in_err-extend.ensures.all))
 
-pub visit-returns-in_err-extend-clause-paused : goal.visit-returns-in_err-extend-clause-paused
-visit-returns-in_err-extend-clause-paused g t c =
+pub follow-returns-in_err-extend-clause-paused : goal.follow-returns-in_err-extend-clause-paused
+follow-returns-in_err-extend-clause-paused g t c =
     let path = c.args.path.now.items in
     let m = c.args.next in
     let p = err_from_is_err_and c.from_residual.result c.from_residual.ensures.1 in
@@ -366,18 +370,18 @@ visit-returns-in_err-extend-clause-paused g t c =
     let (x, above, (can, (rest, e))) = paused-last (PausesAfter c.args.search.now c.push.new.self _ c.extend.new.path) _ last is c.in_err-extend.ensures.paused in
     (can, (x ∷ rest, e ∙ ap (λ (q : List ℕ). q ++ x ∷ rest) c.push.ensures.items ∙ append_assoc path (m ∷ []) (x ∷ rest))))
 
-pub visit-returns-in_err-extend-clause-later : goal.visit-returns-in_err-extend-clause-later
-visit-returns-in_err-extend-clause-later g t c =
+pub follow-returns-in_err-extend-clause-later : goal.follow-returns-in_err-extend-clause-later
+follow-returns-in_err-extend-clause-later g t c =
     let path = c.args.path.now.items in
     let m = c.args.next in
     let p = err_from_is_err_and c.from_residual.result c.from_residual.ensures.1 in
-    paused-as (λ last. (g.P.Pace.pauses c.args.pace.now → ⊥) → ListBelow (path ++ m ∷ []) (position_at c.extend.new.path.items last)) _ p.0 _ p.1 (sym p.2)
-    (λ last is goes.
+    paused-as (λ last. ListBelow (path ++ m ∷ []) (position_at c.extend.new.path.items last)) _ p.0 _ p.1 (sym p.2)
+    (λ last is.
     let (x, above, (can, (rest, e))) = paused-last (PausesAfter c.args.search.now c.push.new.self _ c.extend.new.path) _ last is c.in_err-extend.ensures.paused in
     subst (ListBelow (path ++ m ∷ [])) (sym (e ∙ ap (λ (q : List ℕ). q ++ x ∷ rest) c.push.ensures.items ∙ append_assoc path (m ∷ []) (x ∷ rest))) (below-longer path m x rest))
 
-pub visit-returns-clause-all : goal.visit-returns-clause-all
-visit-returns-clause-all g t c =
+pub follow-returns-clause-all : goal.follow-returns-clause-all
+follow-returns-clause-all g t c =
     let taking = g.C.Collector.taking in
     let ds = c.args.search.now.search_input.now in
     let bound = c.args.search.now.members in
@@ -385,14 +389,14 @@ visit-returns-clause-all g t c =
     let m = c.args.next in
     let pushed = c.push.ensures.items in
     elim c.if-is_cycle.branch [
-      | visit-then-is_cycle+in_default w ↦
+      | follow-then-is_cycle+in_default w ↦
           rw w.collector-is (takes-one taking (CycleThrough ds bound path m) c.args.collector.now w.take.new.self (path ++ m ∷ [])
           (closed ds bound path m
-          (path-tested ds path m c.requires.path c.requires.known (above-first-of path m c.requires.above) c.requires.linked (c.may_follow.ensures.follows c.if-not-may_follow.false))
+          (path-tested ds path m c.requires.path c.requires.known (above-first-of path m c.requires.above) c.requires.linked c.requires.follows)
           (c.closes-is_cycle.ensures.0 w.if-is_cycle.true) c.requires.path.begun c.requires.room)
           (subst (λ (z : List ℕ). (start : g.row.C.Denot) (before : List (List ℕ)) → taking.took start before c.args.collector.now → taking.took start (before ++ z ∷ []) w.take.new.self)
           (w.cycle_of.ensures ∙ pushed) w.in_default.ensures))
-      | visit-else-is_cycle+then-len-search+in_ok-extend w ↦
+      | follow-else-is_cycle+then-len-search+in_ok-extend w ↦
           let first = get_or path 0 0 in
           let kept = get-push_kept path m 0 first (slice_get-get_or path 0 0 c.requires.path.begun) in
           let start = get_or_from_slice_get c.push.new.self.items 0 first 0 (ap (λ (xs : List ℕ). slice_get xs 0) pushed ∙ kept) in
@@ -401,7 +405,7 @@ visit-returns-clause-all g t c =
           (λ before after (more, e, all). (more, e, deeper ds bound path m first kept more (λ k. true≢false (sym (c.closes-is_cycle.ensures.1 k) ∙ w.if-is_cycle.false)) all))
           (subst (λ a. TakesSoFar taking (CycleOver ds bound (path ++ m ∷ []) (λ n. a < n)) c.args.collector.now w.extend.new.collector) (sym after ∙ start)
           (subst (λ q. TakesSoFar taking (CycleOver ds bound q (λ n. get_or w.deref.result.now 0 0 < n)) c.args.collector.now w.extend.new.collector) pushed w.in_ok-extend.ensures.all)))
-      | visit-else-is_cycle+else-len-search w ↦
+      | follow-else-is_cycle+else-len-search w ↦
           rw w.collector-is (takes-none taking (CycleThrough ds bound path m) c.args.collector.now
           (full ds bound path m (λ k. true≢false (sym (c.closes-is_cycle.ensures.1 k) ∙ w.if-is_cycle.false))
           (omega (arith, w.if-len-search.false, w.len.ensures.value, ap (λ (xs : List ℕ). length xs) pushed))))

@@ -4,13 +4,16 @@ use Rattle.cycle_search.specs.CycleSearch.{CycleOver, IsAmong, CycleUpTo}
 use Rattle.cycle_search.proofs.search.+search.Given as goal
 
 abbrev pub decreases-extend : goal.decreases-extend
-decreases-extend g l = 3 * (l.search.now.members - length l.path.now.items)
+decreases-extend g l = 4 * (l.search.now.members - length l.path.now.items)
 
 abbrev pub decreases-close : goal.decreases-close
-decreases-close g l = 3 * (l.search.now.members - length l.path.now.items) - 1
+decreases-close g l = 4 * (l.search.now.members - length l.path.now.items) - 1
 
 abbrev pub decreases-visit : goal.decreases-visit
-decreases-visit g l = 3 * (l.search.now.members - length l.path.now.items) - 2
+decreases-visit g l = 4 * (l.search.now.members - length l.path.now.items) - 2
+
+abbrev pub decreases-follow : goal.decreases-follow
+decreases-follow g l = 4 * (l.search.now.members - length l.path.now.items) - 3
 
 abbrev pub invariant-extend-loop-next : goal.invariant-extend-loop-next
 invariant-extend-loop-next g l = record {

@@ -24,7 +24,7 @@ returns-then-ends_open-clause-none c off =
 pub returns-then-is_too_far-clause-none : goal.returns-then-is_too_far-clause-none
 returns-then-is_too_far-clause-none c off = none-of (CycleThrough c.args.search.now.search_input.now c.args.search.now.members c.args.path.now.items c.args.next)
     (too-far c.args.search.now.search_input.now c.args.search.now.members c.args.path.now.items c.args.next c.args.search.now.distances.now
-    c.requires.path.begun c.requires.distances c.requires.known (c.is_too_far.ensures c.if-is_too_far.true))
+    c.requires.path.begun c.requires.tables.distances c.requires.known (c.is_too_far.ensures c.if-is_too_far.true))
 
 pub returns-then-not-same_component-clause-none : goal.returns-then-not-same_component-clause-none
 returns-then-not-same_component-clause-none c off = none-of (CycleThrough c.args.search.now.search_input.now c.args.search.now.members c.args.path.now.items c.args.next)

@@ -1,4 +1,4 @@
-use Rattle.std.proofs.Common.{◌≡◌, Err, sym, ap, subst, ◌∙◌}
+use Rattle.std.proofs.Common.{Err, sym, ap, subst, ◌∙◌}
 use Rattle.std.proofs.lemmas.Result.{IfOk-from_err, err_from_is_err_and}
 use Rattle.trace_model.specs.declared.limits.TheConstants.{MAX_CYCLES}
 use Rattle.trace_model.specs.Theory.Trace.{Trace}
@@ -19,7 +19,7 @@ rows_of-requires c =
     let same = c.deref.ensures ∙ c.in-Ok.ensures in
     let view = c.analysis.view_is in
     record {
-      tables = subst (λ (s : Trace). AreAnalysisTables s c.analysis.inside.tables) (sym same) c.analysis.invariant;
+      tables = subst (λ (s : Trace). AreAnalysisTables s c.analysis.inside.bound c.analysis.inside.tables) (sym same) c.analysis.invariant;
       scratch = λ kept is d at.
           subst (λ (s : Trace). IsScratch s d kept) (sym (same ∙ ap (λ (a : AnalysisView). a.events) view))
           (c.requires.scratch kept is d (sym (ap (λ (a : AnalysisView). a.requirements) view) ∙ at));

@@ -6,7 +6,9 @@ use Rattle.trace_model.specs.Theory.Dependencies.{Dependency}
 use Rattle.cycle_search.specs.declared.refused.SearchRefused.TheVariants.{TooMany}
 use Rattle.cycle_search.specs.declared.search.CycleSearch.{CycleSearch}
 use Rattle.cycle_search.specs.CycleSearch.{AreAll, CycleFrom}
+use Rattle.cycle_search.specs.Distances.{AreDistances}
 use Rattle.cycle_search.specs.Keeping.{keeps}
+use Rattle.cycle_search.specs.LockFilters.{PassesHeld}
 use Rattle.cycle_search.specs.Pausing.{CanContinue, IsListBefore, position_at}
 use Rattle.cycle_search.proofs.Collecting.{paused-last, until-paused, until-refused}
 use Rattle.cycle_search.proofs.ComponentLemmas.{another-bound}
@@ -31,6 +33,17 @@ module _ (ds : List Dependency) (members bound root first : ℕ) (position : Lis
       AreAll (IsListBefore (IsLeft ds bound root position) until) lists
   wider-until until lists h = all-same (IsListBefore (IsLeft ds members first position) until) (IsListBefore (IsLeft ds bound root position) until) lists
       (λ n b. (wider n b.0, b.1)) (λ n b. (narrower n b.0, b.1)) h
+
+pub extend_from-requires-clause-tables : goal.extend_from-requires-clause-tables
+extend_from-requires-clause-tables c =
+    let ds = c.args.search_input.now in
+    let old = c.args.self in
+    let can = c.requires.search.can c.if-members-lt2.false in
+    let same = sym (get_or_from_slice_get old.path.items 0 old.root 0 can.begins) in
+    record {
+      distances = subst (λ n. AreDistances ds n c.deref.result.now) same (subst (AreDistances ds old.root) (sym c.deref.ensures.value) can.distances);
+      filter = subst (λ n. PassesHeld ds n c.filter_of.result) same c.filter_of.ensures;
+    }
 
 pub returns-in-Ok-clause-searched : goal.returns-in-Ok-clause-searched
 returns-in-Ok-clause-searched c =
@@ -84,7 +97,7 @@ returns-in-Err-Paused-clause-searched c =
     let given = c.in-Err-Paused.field-0 in
     let is = c.in-Err-Paused.field-0-is in
     let until = position_at longer last in
-    let tables : CycleSearch = record { search_input = c.args.search_input; distances = c.deref.result; members = old.members; successors = old.successors } in
+    let tables : CycleSearch = record { search_input = c.args.search_input; distances = c.deref.result; members = old.members; successors = old.successors; filter = c.filter_of.result } in
     let goes = paused-last (CanContinue tables longer) given last is c.in-Err-Paused.ensures.paused in
     let begins = paused-last (λ now. get_or longer 0 0 ≡ first) given last is c.in-Err-Paused.ensures.first in
     let kept = paused-last (λ now. ListBelow (position_at longer now) position → ⊥) given last is c.in-Err-Paused.ensures.kept in
