@@ -101,7 +101,8 @@ fn text_of(
         IsExplanation finding.now.events row text.items) }
 {
     let row = &finding.rows()[index];
-    let refutation = refuter.refutation(&row.cycle, &row.found)?;
+    let mut search = refuter.search();
+    let refutation = refuter.refutation(&mut search, &row.cycle, &row.found)?;
     let mut buffer = TextBuffer::new(alloc);
     buffer.push_row(row)?;
     explanation_of(alloc, row, &refutation, buffer.bytes())

@@ -6,7 +6,7 @@ ghost use Rattle.trace_model.specs.Theory.Dependencies.{dependencies};
 ghost use Rattle.trace_model.specs.Theory.Refutation.{IsRefutation};
 ghost use Rattle.commands.specs.Explain.{AreRefuted, HasRefutation, IsKnownRow, IsRefutedRow, all_rows};
 
-use explain::refutation_of;
+use explain::{DerivationSearch, refutation_of};
 use findings::Snapshot;
 use rayon::prelude::*;
 use reports::{BareRow, Found};
@@ -53,17 +53,26 @@ impl<'a> Refuter<'a> {
         }
     }
 
+    /// Returns a search for refutations, which serves one after another. Does not allocate.
+    pub(crate) fn search(&self) -> DerivationSearch {
+        DerivationSearch::new(self.alloc, self.state)
+    }
+
     /// Returns a refutation of a cycle that is not confirmed.
     ///
     /// # Errors
     /// `NoMemory` if an allocation fails.
-    pub(crate) fn refute(&self, cycle: &Cycle) -> Result<Refutation, NoMemory>
+    pub(crate) fn refute(
+        &self,
+        search: &mut DerivationSearch,
+        cycle: &Cycle,
+    ) -> Result<Refutation, NoMemory>
         requires known { (m : ℕ) → Contains cycle.now m → m < length (dependencies self.now) }
         requires not_confirmed { IsConfirmed self.now cycle.now → ⊥ }
         ensures { IfOk result (IsRefutation self.now cycle.now) }
     {
         let (index, table) = (self.snapshot.index(), self.snapshot.table());
-        match refutation_of(self.alloc, self.state, index, table, cycle)? {
+        match refutation_of(self.alloc, search, index, table, cycle)? {
             Some(refutation) => Ok(refutation),
             None => unreachable!(), // the cycle is not confirmed
         }
@@ -75,6 +84,7 @@ impl<'a> Refuter<'a> {
     /// `NoMemory` if an allocation fails.
     pub(crate) fn refutation(
         &self,
+        search: &mut DerivationSearch,
         cycle: &Cycle,
         found: &Option<Found>,
     ) -> Result<Option<Refutation>, NoMemory>
@@ -84,7 +94,7 @@ impl<'a> Refuter<'a> {
     {
         match found {
             Some(_) => Ok(None),
-            None => Ok(Some(self.refute(cycle)?)),
+            None => Ok(Some(self.refute(search, cycle)?)),
         }
     }
 
@@ -92,16 +102,16 @@ impl<'a> Refuter<'a> {
     ///
     /// # Errors
     /// `NoMemory` if an allocation fails.
-    fn refuted(&self, row: BareRow) -> Result<RefutedRow, NoMemory>
+    fn refuted(&self, search: &mut DerivationSearch, row: BareRow) -> Result<RefutedRow, NoMemory>
         requires { IsKnownRow self.now row }
         ensures { IfOk result (λ refuted. (refuted.row ≡ row) × IsRefutedRow self.now refuted) }
     {
-        let refutation = self.refutation(&row.cycle, &row.found)?;
+        let refutation = self.refutation(search, &row.cycle, &row.found)?;
         Ok(RefutedRow { row, refutation })
     }
 
     /// Returns the rows, each with a refutation if it is potential. They are computed on all
-    /// processors.
+    /// processors, and the rows of one piece by one search.
     ///
     /// # Errors
     /// `NoMemory` if an allocation fails.
@@ -114,12 +124,14 @@ impl<'a> Refuter<'a> {
         ensures { IfOk result (λ refuted. AreRefuted self.now rows.items refuted.items) }
     {
         rows.into_par_iter()
-            .map(
-                |row: BareRow| -> Result<RefutedRow, NoMemory>
+            .with_min_len(LEAST_PIECE)
+            .map_init(
+                || -> DerivationSearch { self.search() },
+                |search: &mut DerivationSearch, row: BareRow| -> Result<RefutedRow, NoMemory>
                     requires { IsKnownRow self.now row }
                     ensures { IfOk result (λ refuted.
                         (refuted.row ≡ row) × IsRefutedRow self.entry.now refuted) }
-                { self.refuted(row) },
+                { self.refuted(search, row) },
             )
             .collect(rt, self.alloc)?
     }
@@ -132,8 +144,12 @@ impl<'a> Refuter<'a> {
     }
 }
 
+/// The least number of rows of a piece. A piece has a search of its own, which looks up the threads
+/// and locks anew.
+const LEAST_PIECE: usize = 16;
+
 /// The number of rows whose refutations are in memory together.
-const BATCH: usize = 64;
+const BATCH: usize = 256;
 
 /// Returns the rows in batches, in their order.
 ///

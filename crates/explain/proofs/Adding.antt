@@ -1,9 +1,7 @@
 -- Entries that a search adds.
-use Rattle.std.proofs.Common.{◌≡◌, ℕ, ◌<◌, ◌⊎◌, inl, inr, Bool, true, false, cond, ◌==◌, List, [], ◌∷◌, ◌++◌, append_assoc, append-nil, length, slice_get, nat_eq, Option, Some, None, MatchOption, Result, Ok, Err, OnOk, refl, sym, ap, subst, ◌∙◌, arith}
-use Rattle.std.proofs.lemmas.Bool.{eqb-true, eq-eqb, false≢true}
+use Rattle.std.proofs.Common.{◌≡◌, ℕ, ◌<◌, ◌⊎◌, inl, inr, List, [], ◌∷◌, ◌++◌, append_assoc, append-nil, length, slice_get, Some, Result, Ok, Err, OnOk, refl, sym, ap, subst, ◌∙◌, arith}
 use Rattle.std.proofs.lemmas.List.{map-append, length-map}
 use Rattle.std.proofs.lemmas.Option.{same_Some, slice_get_within}
-use Rattle.std.specs.HashMap.{get}
 use Rattle.std.specs.List.{Contains}
 use Rattle.trace_model.specs.declared.refutations.Reason.{Reason}
 use Rattle.trace_model.specs.declared.refutations.Reason.TheVariants.{BeforeMember, ThreadOrder, ForkJoin, ReadsFrom, Sections}
@@ -18,7 +16,8 @@ use Rattle.trace_model.proofs.Theory.Refutation.{entry_of}
 use Rattle.explain.specs.declared.tables.Prefix.{Prefix}
 use Rattle.explain.specs.declared.search.DerivationSearch.{DerivationSearch}
 use Rattle.explain.specs.Tables.{prefix_at}
-use Rattle.explain.specs.DerivationSearch.{derived_by, HasIndices, IsUpTo, IsDerived, Covers, IsIn, IsSearch, Extends, AddsEntry, CoversAll}
+use Rattle.explain.specs.EntryTable.{AreIndices}
+use Rattle.explain.specs.DerivationSearch.{derived_by, IsUpTo, IsDerived, Covers, IsIn, IsSearch, Extends, AddsEntry, CoversAll}
 
 pub extends_refl : (s : Trace) (x : DerivationSearch) → Extends s x x
 extends_refl s x = record { entries = ([], sym (append-nil x.entries.items)); ranges = λ i r e. e; has = λ p h. h }
@@ -85,23 +84,14 @@ covers_before s places x q r (f, t, e, a, b, l) c p (g, u, k, o, h, m) =
     let thread : u ≡ t = at_thread s q u t (subst (λ z. OfThread s z u) (sym same) h) a in
     c p (f, t, e, subst (OfThread s p) thread o, b, omega (arith, l, m, same))
 
-pub found : (x : DerivationSearch) → HasIndices x → (p i : ℕ) → get nat_eq x.indices p ≡ Some i → slice_get (derived_by x) i ≡ Some p
-found x h p i e = subst (λ o. MatchOption o (Contains (derived_by x) p → ⊥) (λ i. slice_get (derived_by x) i ≡ Some p)) e (h p)
-
-pub not_found : (x : DerivationSearch) → HasIndices x → (p : ℕ) → get nat_eq x.indices p ≡ None → Contains (derived_by x) p → ⊥
-not_found x h p e = subst (λ o. MatchOption o (Contains (derived_by x) p → ⊥) (λ i. slice_get (derived_by x) i ≡ Some p)) e (h p)
-
 -- a place without an entry gets one at the end
 module _ (s : Trace) (places : List ℕ) (x y : DerivationSearch) (p : ℕ) (r : Reason)
-    (none : get nat_eq x.indices p ≡ None)
-    (put : (q : ℕ) → get nat_eq y.indices q ≡ cond (p == q) (Some (length x.entries.items)) (get nat_eq x.indices q))
+    (fresh : Contains (derived_by x) p → ⊥)
+    (put : AreIndices y.indices (derived_by x ++ p ∷ []))
     (items : y.entries.items ≡ x.entries.items ++ record { place = p; reason = r } ∷ [])
     (is : IsSearch s places x) where
   pushed : derived_by y ≡ derived_by x ++ p ∷ []
   pushed = ap derived_places items ∙ derived_push x.entries.items (record { place = p; reason = r })
-
-  fresh : Contains (derived_by x) p → ⊥
-  fresh = not_found x is.indices p none
 
   more : y.threads ≡ x.threads → y.ranges ≡ x.ranges → Extends s x y
   more threads ranges = record {
@@ -120,22 +110,11 @@ module _ (s : Trace) (places : List ℕ) (x y : DerivationSearch) (p : ℕ) (r :
   old_or_new : (k q : ℕ) → slice_get (derived_by y) k ≡ Some q → (slice_get (derived_by x) k ≡ Some q) ⊎ ((k ≡ length (derived_by x)) × (p ≡ q))
   old_or_new k q prefix_at = get-push (derived_by x) p k q (subst (λ xs. slice_get xs k ≡ Some q) pushed prefix_at)
 
-  kept_index : (q : ℕ) → (p ≡ q → ⊥) → (o : Option ℕ) → get nat_eq x.indices q ≡ o → MatchOption o (Contains (derived_by y) q → ⊥) (λ i. slice_get (derived_by y) i ≡ Some q)
-  kept_index q other None e = λ c. let (k, prefix_at) = place_of (derived_by y) q c in elim (old_or_new k q prefix_at) [
-    | inl a ↦ not_found x is.indices q e (contains_at (derived_by x) q k a)
-    | inr a ↦ other a.1
-  ]
-  kept_index q other (Some i) e = kept i q (found x is.indices q i e)
-
-  new_index : (q : ℕ) (b : Bool) → (p == q) ≡ b → MatchOption (cond b (Some (length x.entries.items)) (get nat_eq x.indices q)) (Contains (derived_by y) q → ⊥) (λ i. slice_get (derived_by y) i ≡ Some q)
-  new_index q true e = subst (λ z. slice_get (derived_by y) (length x.entries.items) ≡ Some z) (eqb-true p q e) last
-  new_index q false e = kept_index q (λ h. false≢true (sym e ∙ eq-eqb p q h)) (get nat_eq x.indices q) refl
-
   pub added : y.threads ≡ x.threads → y.ranges ≡ x.ranges → y.locks ≡ x.locks → Justifies s places (derived_by x) r p → AddsEntry s places x p y
   added threads ranges locks j = (
     record {
       derives = subst (IsDerivation s places) (sym items) (one_more_derived s places x.entries.items (record { place = p; reason = r }) is.derives j);
-      indices = λ q. subst (λ o. MatchOption o (Contains (derived_by y) q → ⊥) (λ i. slice_get (derived_by y) i ≡ Some q)) (sym (put q)) (new_index q (p == q) refl);
+      indices = subst (AreIndices y.indices) (sym pushed) put;
       distinct = λ i k q a b. elim (old_or_new i q a) [
         | inl c ↦ elim (old_or_new k q b) [
           | inl d ↦ is.distinct i k q c d
@@ -158,6 +137,22 @@ module _ (s : Trace) (places : List ℕ) (x y : DerivationSearch) (p : ℕ) (r :
     more threads ranges,
     contains_at (derived_by y) p (length x.entries.items) last,
   )
+
+-- ---- other forks
+
+pub with_forks : (s : Trace) (places : List ℕ) (x : DerivationSearch) (forks : List (ℕ × ℕ)) → IsSearch s places x → IsSearch s places (record x { forks = forks })
+with_forks s places x forks is = record {
+  derives = is.derives;
+  indices = is.indices;
+  distinct = is.distinct;
+  threads = is.threads;
+  locks = is.locks;
+  ranges = is.ranges;
+  all = is.all;
+}
+
+pub extends_forks : (s : Trace) (x y : DerivationSearch) (forks : List (ℕ × ℕ)) → Extends s (record x { forks = forks }) y → Extends s x y
+extends_forks s x y forks e = record { entries = e.entries; ranges = e.ranges; has = e.has }
 
 -- ---- one call after another
 

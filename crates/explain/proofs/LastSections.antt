@@ -4,15 +4,23 @@ use Rattle.std.proofs.lemmas.List.Elements.{Contains-append_left, Contains-push,
 use Rattle.std.proofs.lemmas.Bool.{eqb-true, eq-eqb, false≢true, cases_lt}
 use Rattle.std.proofs.lemmas.Option.{none-some, same_Some}
 use Rattle.std.specs.List.{Contains}
+use Rattle.std.specs.Option.{option_and_then}
 use Rattle.trace_model.specs.declared.refutations.Reason.{Reason}
-use Rattle.trace_model.specs.Theory.Trace.{Trace}
-use Rattle.trace_model.specs.Theory.Held.{BeginsOn, begun_lock}
+use Rattle.trace_model.specs.declared.traces.event.Event.{Event}
+use Rattle.trace_model.specs.declared.traces.event.Op.{Op}
+use Rattle.trace_model.specs.declared.traces.event.Op.TheVariants.{Acquire, Release, Read, Write, Fork, Join}
+use Rattle.trace_model.specs.Theory.Trace.{Trace, At, OfThread}
+use Rattle.trace_model.specs.Theory.Held.{BeginsOn, begun_lock, begun_of}
 use Rattle.trace_model.specs.Theory.Lookups.{release}
 use Rattle.trace_model.proofs.Theory.Begun.{begun_so, begun_from}
+use Rattle.trace_model.proofs.Theory.Least.{at_thread}
+use Rattle.trace_model.proofs.Theory.Lookups.{release_so}
 use Rattle.explain.specs.declared.tables.Prefix.{Prefix}
+use Rattle.explain.specs.declared.tables.PrefixTable.{PrefixTable}
 use Rattle.explain.specs.declared.search.DerivationSearch.{DerivationSearch}
 use Rattle.explain.specs.Tables.{prefix_at}
-use Rattle.explain.specs.DerivationSearch.{IsDerived, IsLast, IsIn, IsSearch, Extends, HasLastPlaces}
+use Rattle.explain.specs.DerivationSearch.{IsUpTo, IsDerived, IsLast, IsIn, IsSearch, Extends, HasLastPlaces}
+use Rattle.explain.proofs.Adding.{has_up_to}
 
 -- the entry of a lock
 abbrev pub Keeps : Trace → List ℕ → (ℕ → Type 0) → ℕ → Option Prefix → Type 0
@@ -83,6 +91,18 @@ pub follows_stays : (s : Trace) (followed : List ℕ) (x y : DerivationSearch) �
 follows_stays s followed x y more same h l = subst (λ (m : _). Keeps s followed (IsDerived s y) l (prefix_at m l)) (sym same)
     (kept_entry s followed (IsDerived s x) (IsDerived s y) more l (prefix_at x.locks l) (h l))
 
+-- only an acquire begins a section
+pub not_begun : (s : Trace) (q : ℕ) (e : Event) → At s q e → ((l : ℕ) → e.op ≡ Acquire l → ⊥) → begun_lock s q ≡ None
+not_begun s q e at none = ap (option_and_then (λ x. begun_of s q x.thread x.op)) at ∙ go e.op none
+  where
+    go : (o : Op) → ((l : ℕ) → o ≡ Acquire l → ⊥) → begun_of s q e.thread o ≡ None
+    go (Acquire l) h = absurd (h l refl)
+    go (Release l) h = refl
+    go (Read v) h = refl
+    go (Write v) h = refl
+    go (Fork t) h = refl
+    go (Join t) h = refl
+
 pub follows_none : (s : Trace) (followed : List ℕ) (x : DerivationSearch) (q : ℕ) → begun_lock s q ≡ None → HasLastPlaces s followed x → HasLastPlaces s (followed ++ q ∷ []) x
 follows_none s followed x q none h l =
     other_entry s followed (IsDerived s x) (IsDerived s x) (λ p c. c) q l (λ b. none-some l (sym none ∙ begun_from s q l b)) (prefix_at x.locks l) (h l)
@@ -103,7 +123,7 @@ follows_earlier s followed x y q l a is last less more same ends h k =
     go false e = other_entry s followed (IsDerived s x) (IsDerived s y) more q k (λ b. false≢true (sym e ∙ eq-eqb l k (one_lock s q l k is b))) (prefix_at x.locks k) (h k)
 
 -- the last place so far
-pub follows_later : (s : Trace) (followed : List ℕ) (x y : DerivationSearch) (l : ℕ) (here : Prefix) (locks : List (ℕ × Option Prefix)) → begun_lock s here.last ≡ Some l →
+pub follows_later : (s : Trace) (followed : List ℕ) (x y : DerivationSearch) (l : ℕ) (here : Prefix) (locks : PrefixTable) → begun_lock s here.last ≡ Some l →
     ((p : ℕ) → IsDerived s x p → IsDerived s y p) → y.locks ≡ x.locks →
     ((k : ℕ) → prefix_at locks k ≡ cond (l == k) (Some here) (prefix_at y.locks k)) →
     ((a : Prefix) → prefix_at x.locks l ≡ Some a → (a.last ≤ here.last) × (a.last < here.last → (r : ℕ) → release s a.last ≡ Some r → IsDerived s y r)) →
@@ -128,11 +148,18 @@ follows_later s followed x y l here locks is more same put ends h k =
             let r = ends a (ap (prefix_at x.locks) lock ∙ f) in
             later_entry s followed (IsDerived s x) (IsDerived s y) more here.last k here.reason a r.0 begins r.1 (subst (Keeps s followed (IsDerived s x) k) f (h k))
 
+-- the release of a section that ends up to a derived place of its thread
+pub release_within : (s : Trace) (x : DerivationSearch) (q end r : ℕ) → release s q ≡ Some r → r ≤ end → IsUpTo s q (Some end) → IsDerived s x end → IsDerived s x r
+release_within s x q end r ends low (f, u, e, a, b, less) derived =
+    let (t, l, begins, least) = release_so s q r ends in
+    let thread : t ≡ u = at_thread s q t u (Acquire l, begins.0) a in
+    has_up_to s x r end (f, u, e, subst (OfThread s r) thread (Release l, least.1.0), b, omega (arith, low, same_Some end f e)) derived
+
 pub last_is : (s : Trace) (followed : List ℕ) (x : DerivationSearch) (l : ℕ) (a : Prefix) → HasLastPlaces s followed x → prefix_at x.locks l ≡ Some a → IsLast s followed (IsDerived s x) l a.last
 last_is s followed x l a h e = subst (Keeps s followed (IsDerived s x) l) e (h l)
 
 -- the table of locks gets a prefix that is derived
-pub with_lock : (s : Trace) (places : List ℕ) (x : DerivationSearch) (l : ℕ) (here : Prefix) (locks : List (ℕ × Option Prefix)) →
+pub with_lock : (s : Trace) (places : List ℕ) (x : DerivationSearch) (l : ℕ) (here : Prefix) (locks : PrefixTable) →
     ((k : ℕ) → prefix_at locks k ≡ cond (l == k) (Some here) (prefix_at x.locks k)) → IsIn s places x here → IsSearch s places x → IsSearch s places (record x { locks = locks })
 with_lock s places x l here locks put within is = record {
   derives = is.derives;
@@ -148,5 +175,5 @@ with_lock s places x l here locks put within is = record {
     go k r true h e = subst (IsIn s places x) (same_Some here r e) within
     go k r false h e = is.locks k r e
 
-pub extends_by_lock : (s : Trace) (x y : DerivationSearch) (locks : List (ℕ × Option Prefix)) → Extends s x y → Extends s x (record y { locks = locks })
+pub extends_by_lock : (s : Trace) (x y : DerivationSearch) (locks : PrefixTable) → Extends s x y → Extends s x (record y { locks = locks })
 extends_by_lock s x y locks e = record { entries = e.entries; ranges = e.ranges; has = e.has }

@@ -1,3 +1,4 @@
+pub mod EntryTables
 pub mod Adding
 pub mod Covering
 pub mod Postponing

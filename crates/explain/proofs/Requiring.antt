@@ -53,6 +53,9 @@ joins_one s q c d e at is (t, h) =
 pub does_join : (s : Trace) (q c : ℕ) (e : Event) → At s q e → e.op ≡ Join c → Does s q (Join c)
 does_join s q c e at is = (e.thread, at ∙ ap (λ o. Some (event e.thread o)) is)
 
+pub does_fork : (s : Trace) (q c : ℕ) (e : Event) → At s q e → e.op ≡ Fork c → Does s q (Fork c)
+does_fork s q c e at is = (e.thread, at ∙ ap (λ o. Some (event e.thread o)) is)
+
 pub joined_cases : (s : Trace) (q c : ℕ) (e : Event) (fork last : Option ℕ) → At s q e → e.op ≡ Join c →
     ((p : ℕ) → Does s p (Fork c) → fork ≡ Some p) → MatchOption last ((p : ℕ) → OfThread s p c → ⊥) (IsLastOfThread s c) →
     (p : ℕ) → IsJoined s q p → (fork ≡ Some p) ⊎ IsUpTo s p last

@@ -1,6 +1,5 @@
 -- The state of a search for derived places.
-use Rattle.std.specs.Prelude.{◌≡◌, ℕ, ◌<◌, ◌≤◌, ◌⊎◌, List, [], ◌++◌, length, slice_get, nat_eq, Option, Some, None, MatchOption}
-use Rattle.std.specs.HashMap.{get}
+use Rattle.std.specs.Prelude.{◌≡◌, ℕ, ◌<◌, ◌≤◌, ◌⊎◌, List, [], ◌++◌, length, slice_get, Option, Some, None, MatchOption}
 use Rattle.std.specs.List.{Contains}
 use Rattle.trace_model.specs.declared.refutations.Derived.{Derived}
 use Rattle.trace_model.specs.declared.traces.event.Op.TheVariants.{Fork, Join}
@@ -13,6 +12,7 @@ use Rattle.explain.specs.declared.tables.Prefix.{Prefix}
 use Rattle.explain.specs.declared.search.Range.{Range}
 use Rattle.explain.specs.declared.search.DerivationSearch.{DerivationSearch}
 use Rattle.explain.specs.Tables.{prefix_at}
+use Rattle.explain.specs.EntryTable.{AreIndices}
 
 -- The places that have entries, in the order in which they were found.
 abbrev pub derived_by : DerivationSearch → List ℕ
@@ -20,9 +20,7 @@ derived_by x = derived_places x.entries.items
 
 -- The table of indices is that of the entries.
 abbrev pub HasIndices : DerivationSearch → Type 0
-HasIndices x = (p : ℕ) → MatchOption (get nat_eq x.indices p)
-    (Contains (derived_by x) p → ⊥)
-    (λ i. slice_get (derived_by x) i ≡ Some p)
+HasIndices x = AreIndices x.indices (derived_by x)
 
 -- Place p is at or before the last one, in its thread.
 abbrev pub IsUpTo : Trace → ℕ → Option ℕ → Type 0
@@ -67,7 +65,6 @@ pub record IsSearch (s : Trace) (places : List ℕ) (x : DerivationSearch) : Typ
 -- Nothing is derived.
 pub record IsBlankSearch (x : DerivationSearch) : Type 0 where
   pub entries : x.entries.items ≡ []
-  pub indices : (p : ℕ) → get nat_eq x.indices p ≡ None
   pub threads : (t : ℕ) → prefix_at x.threads t ≡ None
   pub ranges : x.ranges.items ≡ []
   pub locks : (l : ℕ) → prefix_at x.locks l ≡ None

@@ -1,4 +1,5 @@
 pub mod Tables
+pub mod EntryTable
 pub mod DerivationSearch
 pub mod Needed
 pub mod Moving

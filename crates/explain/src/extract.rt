@@ -8,7 +8,6 @@ ghost use Rattle.explain.specs.DerivationSearch.{derived_by, HasIndices, IsSearc
 ghost use Rattle.explain.specs.Needed.{Names, IsNeeded, KeepsMarks, AreClosed};
 
 use crate::search::DerivationSearch;
-use crate::tables::index_at;
 use std::alloc::Global;
 use trace_model::{Derived, NoMemory, Place, Reason};
 
@@ -23,7 +22,7 @@ fn mark(search: &DerivationSearch, needed: &mut Vec<bool>, place: Place)
         (j : ℕ) × (slice_get (derived_by search.now) j ≡ Some place)
         × IsNeeded needed.new.items j }
 {
-    match index_at(&search.indices, place.get()) {
+    match search.indices.get(&search.entries, place) {
         Some(index) if index < needed.len() => needed[index] = true,
         _ => {}
     }

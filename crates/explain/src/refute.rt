@@ -14,14 +14,14 @@ use crate::extract::derivation_of;
 use crate::search::DerivationSearch;
 use dependencies::DepTable;
 use std::alloc::Global;
-use std::collections::hash_map::RandomState;
 use trace_index::TraceIndex;
 use trace_model::{Cycle, Derivation, NoMemory, Place, Refutation, RefutationStep};
 
 /// Returns a refutation of the cycle exactly if the cycle is not confirmed, or `None` if some
 /// reordering reaches an instance of it. The derivation of each step has the entries that its place
-/// needs in a search. Allocates in proportion to the refutation, and to the threads, locks and
-/// ranges of places that one search meets.
+/// needs in a search. Allocates in proportion to the refutation. `search` serves all steps,
+/// whatever it searched before, also in another trace. It grows to the threads and locks that its
+/// searches meet, and to the ranges of places and the entries of one search.
 ///
 /// The caller passes the table of the dependencies of the index's trace, and numbers below its
 /// length.
@@ -30,7 +30,7 @@ use trace_model::{Cycle, Derivation, NoMemory, Place, Refutation, RefutationStep
 /// `NoMemory` if an allocation fails.
 pub fn refutation_of(
     alloc: Global,
-    state: RandomState,
+    search: &mut DerivationSearch,
     index: &TraceIndex,
     table: &DepTable,
     cycle: &Cycle,
@@ -48,7 +48,7 @@ pub fn refutation_of(
     let mut entries = vec![in alloc; 0; members.len()]?;
     let mut steps = Vec::new(alloc);
     for _count in 0..usize::MAX {
-        let Some(step) = step_at(alloc, state, index, places.as_slice())? else {
+        let Some(step) = step_at(alloc, search, index, places.as_slice())? else {
             return Ok(None);
         };
         let member = step.member;
@@ -107,7 +107,7 @@ fn place_after(table: &DepTable, number: u32, entry: usize) -> Option<(usize, Pl
 /// `NoMemory` if an allocation fails.
 fn step_at(
     alloc: Global,
-    state: RandomState,
+    search: &mut DerivationSearch,
     index: &TraceIndex,
     places: &[Place],
 ) -> Result<Option<RefutationStep>, NoMemory>
@@ -115,13 +115,12 @@ fn step_at(
         (AreReached index.now.events places.now)
         (Derives index.now.events places.now)) }
 {
-    let mut search = DerivationSearch::new(alloc, state);
     let Some(member) = search.run(index, places)? else {
         return Ok(None);
     };
     let place = places[member];
     search.add_entry(index, place)?;
-    let entries = derivation_of(alloc, &search, place)?;
+    let entries = derivation_of(alloc, search, place)?;
     Ok(Some(RefutationStep {
         member,
         derivation: Derivation { entries },

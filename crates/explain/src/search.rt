@@ -4,14 +4,17 @@ ghost use Rattle.std.specs.Prelude.{◌≡◌, ℕ, ◌<◌, ◌≤◌, ◌⊎�
 ghost use Rattle.std.specs.List.{Contains};
 ghost use Rattle.trace_model.specs.Theory.Trace.{Trace, At};
 ghost use Rattle.trace_model.specs.Theory.Reordering.{AreReached};
+ghost use Rattle.trace_model.specs.Theory.Held.{BeginsOn};
+ghost use Rattle.trace_model.specs.Theory.Lookups.{release, writer};
 ghost use Rattle.trace_model.specs.Theory.Refutation.{Justifies};
 ghost use Rattle.explain.specs.DerivationSearch.{derived_by, IsBlankSearch, IsSearch, IsDerived, Gives, IsIn, AddsEntry, CoversAll, Extends, AddsFollowed, HasAlso, IsUpTo, IsJoined, IsBefore, IsBeforeSome, HasFork, HasLastPlaces, HasFollowed, IsCaughtAt, IsCaughtIn, IsCaughtNowhere, Postpones};
 
-use crate::tables::{IndexTable, Prefix, PrefixTable, index_at, prefix_at, put_index, put_prefix};
+use crate::entry_table::EntryTable;
+use crate::forks::{ForkTable, fork_of};
+use crate::tables::{Prefix, PrefixTable, prefix_at, put_prefix};
 use fronts::last_place;
 use number_map::NumberMap;
 use std::alloc::Global;
-use std::collections::HashMap;
 use std::collections::hash_map::RandomState;
 use trace_index::TraceIndex;
 use trace_model::{Derived, Event, NoMemory, Op, Place, Reason};
@@ -30,13 +33,16 @@ pub(crate) struct Range {
 }
 
 /// The state of a search. Its derived places are a prefix of each thread. Only those that others
-/// need get entries; of all others the reason is known.
+/// need get entries; of all others the reason is known. One after another, a search serves any
+/// places of any traces: it is emptied in constant time, and keeps its memory.
 #[derive(Drop)]
-pub(crate) struct DerivationSearch {
+pub struct DerivationSearch {
     /// Derived places with their reasons.
     pub(crate) entries: Vec<Derived>,
     /// The index of each entry's place in `entries`.
-    pub(crate) indices: IndexTable,
+    pub(crate) indices: EntryTable,
+    /// The places at which forks of threads were found. They stay when the search is emptied.
+    pub(crate) forks: ForkTable,
     /// The derived places of each thread.
     pub(crate) threads: PrefixTable,
     /// The derived places in the order in which they were found. The search follows the ranges in
@@ -72,17 +78,28 @@ fn greatest(places: &[Place]) -> Option<Place>
 }
 
 impl DerivationSearch {
-    /// Returns the search without derived places.
-    pub(crate) fn new(alloc: Global, state: RandomState) -> DerivationSearch
+    /// Returns a search without derived places. Does not allocate.
+    pub fn new(alloc: Global, state: RandomState) -> DerivationSearch
         ensures { IsBlankSearch result }
     {
         DerivationSearch {
             entries: Vec::new(alloc),
-            indices: HashMap::with_hasher(alloc, state),
-            threads: NumberMap::new(alloc, state),
+            indices: EntryTable::new(alloc, state),
+            forks: NumberMap::new(alloc, state),
+            threads: PrefixTable::new(alloc, state),
             ranges: Vec::new(alloc),
-            locks: NumberMap::new(alloc, state),
+            locks: PrefixTable::new(alloc, state),
         }
+    }
+
+    /// Removes all derived places, and keeps the memory.
+    fn clear(&mut self)
+        ensures { IsBlankSearch self.new }
+    {
+        self.entries.clear();
+        self.threads.clear();
+        self.ranges.clear();
+        self.locks.clear();
     }
 
     /// Returns the prefix of derived places that contains the place, or `None` if it is not
@@ -109,10 +126,10 @@ impl DerivationSearch {
             ⊎ Justifies s places (derived_by self.old) reason.now place →
             AddsEntry s places self.old place self.new) }
     {
-        match index_at(&self.indices, place.get()) {
+        match self.indices.get(&self.entries, place) {
             Some(_) => Ok(()),
             None => {
-                put_index(&mut self.indices, place.get(), self.entries.len())?;
+                self.indices.put(&self.entries, place)?;
                 self.entries.push(Derived {
                     place,
                     reason: *reason,
@@ -224,25 +241,101 @@ impl DerivationSearch {
             return Ok(());
         };
         let reason = Reason::ForkJoin(here.last);
-        self.require(index, index.fork_of(child), here, here, &reason)?;
+        let fork = fork_of(&mut self.forks, index, child)?;
+        self.require(index, fork, here, here, &reason)?;
         self.add(here.last, &here.reason)?;
         self.cover(index, last_place(index, child), &reason)
     }
 
-    /// Derives the release of the earlier of two sections on one lock: the one that begins at the
-    /// last place of `here`, if one does, and the last one that was followed.
+    /// Derives the writer that a read requires. `event` is the event at the last place of `here`.
     ///
     /// # Errors
     /// `NoMemory` if an allocation fails.
-    fn add_section(&mut self, index: &TraceIndex, here: &Prefix) -> Result<(), NoMemory>
+    fn add_writer(
+        &mut self,
+        index: &TraceIndex,
+        here: &Prefix,
+        event: Event,
+    ) -> Result<(), NoMemory>
+        ensures locks { self.new.locks ≡ self.old.locks }
+        ensures written { OnOk result ((places : List ℕ) →
+            IsSearch index.now.events places self.old →
+            IsIn index.now.events places self.old here.now →
+            At index.now.events here.now.last event →
+            CoversAll index.now.events places self.old
+            (λ p. writer index.now.events here.now.last ≡ Some p) self.new) }
+    {
+        let Op::Read(_) = event.op else {
+            return Ok(());
+        };
+        let reason = Reason::ReadsFrom(here.last);
+        self.require(index, index.writer(here.last), here, here, &reason)
+    }
+
+    /// Derives the release of the section that begins at the last place of `here`, which is before
+    /// the section on the same lock that begins at the last place of `later`. `end` is a derived
+    /// place of its thread that is not before it: most releases are not after `end`, so that they
+    /// are derived already.
+    ///
+    /// # Errors
+    /// `NoMemory` if an allocation fails.
+    fn add_release(
+        &mut self,
+        index: &TraceIndex,
+        here: &Prefix,
+        later: &Prefix,
+        end: Place,
+    ) -> Result<(), NoMemory>
+        ensures locks { self.new.locks ≡ self.old.locks }
+        ensures released { OnOk result ((places : List ℕ) →
+            IsSearch index.now.events places self.old →
+            IsIn index.now.events places self.old here.now →
+            IsIn index.now.events places self.old later.now →
+            IsUpTo index.now.events here.now.last (Some end) →
+            IsDerived index.now.events self.old end →
+            here.now.last < later.now.last → (l : ℕ) →
+            BeginsOn index.now.events here.now.last l →
+            BeginsOn index.now.events later.now.last l →
+            CoversAll index.now.events places self.old
+            (λ r. release index.now.events here.now.last ≡ Some r) self.new) }
+    {
+        let Some(release) = index.release_of(here.last) else {
+            return Ok(());
+        };
+        if release.get() <= end.get() {
+            return Ok(());
+        }
+        let reason = Reason::Sections(here.last, later.last);
+        self.require(index, Some(release), here, later, &reason)
+    }
+
+    /// Derives the release of the earlier of two sections on one lock: the one that begins at the
+    /// last place of `here`, if one does, and the last one that was followed. `event` is the event at
+    /// the last place of `here`, and `end` a derived place of its thread that is not before it.
+    ///
+    /// # Errors
+    /// `NoMemory` if an allocation fails.
+    fn add_section(
+        &mut self,
+        index: &TraceIndex,
+        here: &Prefix,
+        event: Event,
+        end: Place,
+    ) -> Result<(), NoMemory>
         ensures { OnOk result ((places followed : List ℕ) →
             IsSearch index.now.events places self.old →
             IsIn index.now.events places self.old here.now →
+            At index.now.events here.now.last event →
+            IsUpTo index.now.events here.now.last (Some end) →
+            IsDerived index.now.events self.old end →
             HasLastPlaces index.now.events followed self.old →
             IsSearch index.now.events places self.new
             × Extends index.now.events self.old self.new
             × HasLastPlaces index.now.events (followed ++ here.now.last ∷ []) self.new) }
     {
+        let Op::Acquire(_) = event.op else {
+            return Ok(());
+        };
         let Some(lock) = index.begun(here.last) else {
             return Ok(());
         };
@@ -250,8 +343,7 @@ impl DerivationSearch {
             return put_prefix(&mut self.locks, lock, here);
         };
         if here.last.get() < last.last.get() {
-            let reason = Reason::Sections(here.last, last.last);
-            return self.require(index, index.release_of(here.last), here, &last, &reason);
+            return self.add_release(index, here, &last, end);
         }
         if last.last.get() < here.last.get() {
             let reason = Reason::Sections(last.last, here.last);
@@ -261,14 +353,16 @@ impl DerivationSearch {
     }
 
     /// Follows the last place of `here`, whose thread's fork is derived: derives all places that it
-    /// requires.
+    /// requires. `end` is a derived place of its thread that is not before it.
     ///
     /// # Errors
     /// `NoMemory` if an allocation fails.
-    fn follow(&mut self, index: &TraceIndex, here: &Prefix) -> Result<(), NoMemory>
+    fn follow(&mut self, index: &TraceIndex, here: &Prefix, end: Place) -> Result<(), NoMemory>
         ensures { OnOk result ((places followed : List ℕ) →
             IsSearch index.now.events places self.old →
             IsIn index.now.events places self.old here.now →
+            IsUpTo index.now.events here.now.last (Some end) →
+            IsDerived index.now.events self.old end →
             HasFork index.now.events self.old here.now.last →
             HasFollowed index.now.events followed self.old →
             AddsFollowed index.now.events places self.old
@@ -278,9 +372,8 @@ impl DerivationSearch {
             return Ok(());
         };
         self.add_joined(index, here, event)?;
-        let reason = Reason::ReadsFrom(here.last);
-        self.require(index, index.writer(here.last), here, here, &reason)?;
-        self.add_section(index, here)
+        self.add_writer(index, here, event)?;
+        self.add_section(index, here, event, end)
     }
 
     /// Adds the places of a range from `next` back as a range at the end, if there is a next place.
@@ -334,9 +427,9 @@ impl DerivationSearch {
         let Some(event) = index.event(prefix.last) else {
             return Ok(None);
         };
-        let fork = Reason::ForkJoin(prefix.last);
         let before = self.ranges.len();
-        self.require(index, index.fork_of(event.thread), prefix, prefix, &fork)?;
+        let fork = fork_of(&mut self.forks, index, event.thread)?;
+        self.require(index, fork, prefix, prefix, &Reason::ForkJoin(prefix.last))?;
         if let Some(member) = self.caught_since(index, places, before) {
             return Ok(Some(member));
         }
@@ -353,7 +446,7 @@ impl DerivationSearch {
                 reason: prefix.reason,
             };
             let count = self.ranges.len();
-            self.follow(index, &here)?;
+            self.follow(index, &here, prefix.last)?;
             if let Some(member) = self.caught_since(index, places, count) {
                 return Ok(Some(member));
             }
@@ -443,7 +536,7 @@ impl DerivationSearch {
         }
     }
 
-    /// Searches until the place of a member is derived, and returns the index of that member.
+    /// Searches anew until the place of a member is derived, and returns the index of that member.
     /// Returns `None` if none is; then some reordering reaches the places.
     ///
     /// # Errors
@@ -453,13 +546,14 @@ impl DerivationSearch {
         index: &TraceIndex,
         places: &[Place],
     ) -> Result<Option<usize>, NoMemory>
-        requires { IsBlankSearch self.old }
         ensures search { OnOk result (IsSearch index.now.events places.now self.new) }
         ensures caught { IfOk result (λ caught. MatchOption caught
             (AreReached index.now.events places.now)
             (IsCaughtAt index.now.events self.new places.now)) }
     {
         let _len = index.len(); // for the proof
+        self.clear();
+        self.indices.reserve()?;
         self.begin(index, places)?;
         for k in 0..usize::MAX {
             if let Some(member) = self.caught(index, places) {

@@ -7,20 +7,21 @@ use Rattle.explain.proofs.search.DerivationSearch.follow.Goals as goal
 
 pub returns : goal.returns
 returns c =
-    on_ok_then c.add_section.result c.add_section.ensures (λ h places followed is here fork f.
+    on_ok_then c.add_section.result c.add_section.ensures (λ h places followed is here up derived fork f.
     let s = c.args.index.now.events in
     let x = c.args.self.now in
     let y = c.add_joined.new.self in
-    let z = c.require.new.self in
+    let z = c.add_writer.new.self in
     let w = c.add_section.new.self in
     let place = c.args.here.now.last in
-    let (i1, e1, joined) = c.in_ok-add_joined.ensures.joined places is here (sym c.event.ensures ∙ c.in-Some.is) in
+    let at = sym c.event.ensures ∙ c.in-Some.is in
+    let (i1, e1, joined) = c.in_ok-add_joined.ensures.joined places is here at in
     let here1 = in_more s places x y e1 c.args.here.now here in
-    let (i2, e2, written) = c.in_ok-require.ensures.required places i1 here1 here1 (λ p k xs a b. (a, sym c.writer.ensures ∙ k)) in
+    let (i2, e2, written) = c.in_ok-add_writer.ensures.written places i1 here1 at in
     let e12 = extends_trans s x y z e1 e2 in
     let here2 = in_more s places x z e12 c.args.here.now here in
-    let (i3, e3, last) = h places followed i2 here2
-    (follows_stays s followed x z e12.has (c.in_ok-require.ensures.locks ∙ c.in_ok-add_joined.ensures.locks) f.sections) in
+    let (i3, e3, last) = h places followed i2 here2 at up (e12.has c.args.end derived)
+    (follows_stays s followed x z e12.has (c.in_ok-add_writer.ensures.locks ∙ c.in_ok-add_joined.ensures.locks) f.sections) in
     let e = extends_trans s x z w e12 e3 in
     let all : (p : ℕ) → IsDirectlyRequired s place p → IsDerived s z p = λ p r. elim r [
       | inl a ↦ has_earlier s z p place a here2.0
@@ -29,7 +30,7 @@ returns c =
           | inl (t, o, d) ↦ e12.has p (fork t p o d)
           | inr j ↦ e2.has p (joined p j)
         ]
-        | inr b ↦ written p (c.writer.ensures ∙ b)
+        | inr b ↦ written p b
       ]
     ] in (
       i3,

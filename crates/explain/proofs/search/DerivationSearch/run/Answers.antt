@@ -8,13 +8,13 @@ use Rattle.explain.proofs.search.DerivationSearch.run.Goals.{After-walk}
 pub loop-k-init : goal.loop-k-init
 loop-k-init c =
     let s = c.args.index.now.events in
-    let x = c.args.self.now in
+    let x = record c.clear.new.self { indices = c.reserve.new.self } in
     let (is, e, before) = c.in_ok-begin.ensures.covered in
     record {
       search = is;
       before = before;
       within = omega arith;
-      followed = ([], followed_stays s [] x c.begin.new.self e c.in_ok-begin.ensures.locks (nothing_followed s x c.requires.locks), λ i r p low. absurd (omega (arith, low)));
+      followed = ([], followed_stays s [] x c.begin.new.self e c.in_ok-begin.ensures.locks (nothing_followed s x c.clear.ensures.locks), λ i r p low. absurd (omega (arith, low)));
     }
 
 pub returns-then-k-len-clause-caught : goal.returns-then-k-len-clause-caught

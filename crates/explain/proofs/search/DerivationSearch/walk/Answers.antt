@@ -6,7 +6,7 @@ use Rattle.trace_model.specs.Theory.Trace.{Does, OfThread}
 use Rattle.trace_model.proofs.Theory.Least.{at_thread}
 use Rattle.explain.specs.declared.search.DerivationSearch.{DerivationSearch}
 use Rattle.explain.specs.DerivationSearch.{AddsFollowed, HasAlso, IsCaughtAt}
-use Rattle.explain.proofs.Adding.{extends_trans}
+use Rattle.explain.proofs.Adding.{extends_trans, with_forks, extends_forks}
 use Rattle.explain.proofs.Walking.{before_some}
 use Rattle.explain.proofs.Finished.{followed_stays, place_in, fork_at, walk_goes_on, walk_ends}
 use Rattle.explain.proofs.Postponing.{walked_or_later}
@@ -23,11 +23,14 @@ loop-count-init c =
     record {
       on = λ u n o e. let same : last ≡ n = same_Some last n e in (subst (λ z. OfThread s z u) same o, omega (arith, same));
       followed = λ followed is here f.
-          let (i, e, h) = c.in_ok-require.ensures.required c.args.places.now is here here (λ p k xs a b. (a, inl (t, own, (c.fork_of.ensures p).0 k))) in (
+          let forks = c.fork_of.new.forks in
+          let (i, grows, h) = c.in_ok-require.ensures.required c.args.places.now (with_forks s c.args.places.now x forks is) here here
+          (λ p k xs a b. (a, inl (t, own, (c.in_ok-fork.ensures p).0 k))) in
+          let e = extends_forks s x y forks grows in (
             followed,
             (i, e, followed_stays s followed x y e c.in_ok-require.ensures.locks f),
             λ q k. k,
-            λ u p o d. h p ((c.fork_of.ensures p).1 (subst (λ z. Does s p (Fork z)) (at_thread s last u t o own) d)),
+            λ u p o d. h p ((c.in_ok-fork.ensures p).1 (subst (λ z. Does s p (Fork z)) (at_thread s last u t o own) d)),
             λ q (f, u, e, a, b, l) after. absurd (omega (arith, after last refl, l, same_Some last f e)),
           );
     }
@@ -52,7 +55,7 @@ loop-count-preserved c =
       followed = λ followed is here f.
           let (all, (i, e, g), sub, fork, done) = h.followed followed is here f in
           let (j, k, also) = c.in_ok-follow.ensures c.args.places.now all i (place_in s c.args.places.now x y prefix t place own on e here)
-          (fork_at s y last t place own on.0 fork) g in (
+          (last, t, refl, on.0, own, on.1) (e.has last here.0) (fork_at s y last t place own on.0 fork) g in (
             all ++ place ∷ [],
             (j, extends_trans s x y z e k, also),
             λ q m. Contains-append_left all (place ∷ []) q (sub q m),
@@ -67,7 +70,8 @@ returns-in-Some-caught_since c followed is here f =
     let s = c.args.index.now.events in
     let last = c.args.range.now.prefix.last in
     let own : OfThread s last c.in-Some.event.thread = (c.in-Some.event.op, sym c.event.ensures ∙ c.in-Some.is) in
-    let (i, e, h) = c.in_ok-require.ensures.required c.args.places.now is here here (λ p k xs a b. (a, inl (c.in-Some.event.thread, own, (c.fork_of.ensures p).0 k))) in
+    let (i, e, h) = c.in_ok-require.ensures.required c.args.places.now (with_forks s c.args.places.now c.args.self.now c.fork_of.new.forks is) here here
+    (λ p k xs a b. (a, inl (c.in-Some.event.thread, own, (c.in_ok-fork.ensures p).0 k))) in
     (i, subst (λ o. IfSome o (IsCaughtAt s c.require.new.self c.args.places.now)) c.in-Some-caught_since.is c.caught_since.ensures)
 
 pub returns-in-Some-caught_since-2 : goal.returns-in-Some-caught_since-2
@@ -82,7 +86,7 @@ returns-in-Some-caught_since-2 c followed is here f =
     let on = c.loop-count.invariant.on t place own c.in-Some-next.is in
     let (all, (i, e, g), sub, fork, done) = c.loop-count.invariant.followed followed is here f in
     let (j, k, also) = c.in_ok-follow.ensures c.args.places.now all i (place_in s c.args.places.now c.args.self.now y prefix t place own on e here)
-    (fork_at s y prefix.last t place own on.0 fork) g in
+    (prefix.last, t, refl, on.0, own, on.1) (e.has prefix.last here.0) (fork_at s y prefix.last t place own on.0 fork) g in
     (j, subst (λ o. IfSome o (IsCaughtAt s z c.args.places.now)) c.in-Some-caught_since-2.is c.caught_since-in-loop-count.ensures)
 
 pub returns-then-is_past : goal.returns-then-is_past
