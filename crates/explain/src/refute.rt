@@ -19,9 +19,9 @@ use trace_model::{Cycle, Derivation, NoMemory, Place, Refutation, RefutationStep
 
 /// Returns a refutation of the cycle exactly if the cycle is not confirmed, or `None` if some
 /// reordering reaches an instance of it. The derivation of each step has the entries that its place
-/// needs in a search. Allocates in proportion to the refutation. `search` serves all steps,
-/// whatever it searched before, also in another trace. It grows to the threads and locks that its
-/// searches meet, and to the ranges of places and the entries of one search.
+/// needs in a search. Allocates in proportion to the refutation. `search` serves all steps. It may
+/// have searched before, also in another trace. It grows to the threads and locks that its searches
+/// meet, and to the ranges of places and the entries of one search.
 ///
 /// The caller passes the table of the dependencies of the index's trace, and numbers below its
 /// length.

@@ -31,8 +31,8 @@ impl<'a> KeyPlaces<'a> {
     ghost use Rattle.std.specs.Prelude.{◌≡◌, ◌<◌, Some, length, nat_eq, slice_get};
     ghost use Rattle.std.specs.List.Sorted.{IsStrictlyIncreasing};
 
-    /// Returns the number of places. Takes one step for a thread, and for a lock as many as there
-    /// are places.
+    /// Returns the number of places. Takes one step for a thread, and for a lock one step for each
+    /// place.
     pub fn len(&self) -> usize
         ensures length { result ≡ length self.now }
         ensures ascends { IsStrictlyIncreasing self.now }
