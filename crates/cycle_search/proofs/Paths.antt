@@ -110,6 +110,10 @@ only : (root k m : ℕ) → slice_get (root ∷ []) k ≡ Some m → root ≡ m
 only root zero m h = same_Some root m h
 only root (suc k) m h = absurd (none-some m h)
 
+-- A new path with one number is that number alone.
+pub root-alone : (root : ℕ) (new pushed : List ℕ) → new ≡ [] → pushed ≡ new ++ root ∷ [] → pushed ≡ root ∷ []
+root-alone root new pushed none more = more ∙ ap (λ xs. xs ++ root ∷ []) none
+
 pub path-one : (ds : List Dependency) (root : ℕ) → root < length ds → IsPath ds (root ∷ [])
 path-one ds root inside = record {
   begun = omega arith;

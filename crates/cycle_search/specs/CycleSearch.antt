@@ -11,7 +11,7 @@ use Rattle.cycle_search.specs.declared.refused.SearchRefused.{SearchRefused}
 use Rattle.cycle_search.specs.declared.refused.SearchRefused.TheVariants.{TooMany}
 use Rattle.cycle_search.specs.declared.search.CycleSearch.{CycleSearch}
 use Rattle.cycle_search.specs.Distances.{AreDistances}
-use Rattle.cycle_search.specs.LockFilters.{PassesHeld}
+use Rattle.cycle_search.specs.LockFilters.{MarksHeld}
 
 -- Some of the lists with a property, each once, in lexicographic order.
 pub record AreSome (P : List ℕ → Type 0) (lists : List (List ℕ)) : Type 0 where
@@ -34,7 +34,7 @@ IfTooMany result Fact = result ≡ Err TooMany → Fact
 -- The distances are those to the root, and the filter passes the locks that the root holds.
 pub record AreTables (search : CycleSearch) (root : ℕ) : Type 0 where
   pub distances : AreDistances search.search_input.now root search.distances.now
-  pub filter : PassesHeld search.search_input.now root search.filter
+  pub filter : MarksHeld search.search_input.now root search.filter
 
 -- The tables are those of the path's first member.
 abbrev pub HasTables : CycleSearch → List ℕ → Type 0

@@ -3,15 +3,15 @@
 
 ghost use Rattle.std.specs.Prelude.{ℕ, IsTrue};
 ghost use Rattle.std.specs.List.{Contains};
-ghost use Rattle.cycle_search.specs.LockFilters.{Passes};
+ghost use Rattle.cycle_search.specs.LockFilters.{MarksLock};
 
 use held_sets::HeldSet;
 
 /// The number of marks of a filter.
 const MARKS: usize = 64;
 
-/// A filter of the locks of a held set: each of them passes, and most others do not (Bloom 1970,
-/// with one hash function).
+/// A filter of the locks of a held set: it marks each of them, and few others (Bloom 1970, with one
+/// hash function).
 #[derive(Clone, Copy)]
 pub(crate) struct LockFilter {
     /// Whether a lock of the set has this residue modulo 64.
@@ -21,7 +21,7 @@ pub(crate) struct LockFilter {
 impl LockFilter {
     /// Returns the filter of the locks of `held`. Does not allocate.
     pub(crate) fn of(held: &HeldSet) -> LockFilter
-        ensures { (lock : ℕ) → Contains held.now lock → Passes result lock }
+        ensures { (lock : ℕ) → Contains held.now lock → MarksLock result lock }
     {
         let mut marks = [false; MARKS];
         for lock in held.locks() {
@@ -30,10 +30,10 @@ impl LockFilter {
         LockFilter { marks }
     }
 
-    /// Returns whether `lock` does not pass. Then it is not in the held set.
+    /// Returns whether `lock` is not marked. Then it is not in the held set.
     #[inline(always)]
     pub(crate) fn excludes(&self, lock: u32) -> bool
-        ensures { IsTrue result → ¬ Passes self.now lock }
+        ensures { IsTrue result → ¬ MarksLock self.now lock }
     {
         !self.marks[lock as usize % MARKS]
     }

@@ -12,7 +12,7 @@ ghost use Rattle.cycle_search.specs.Acquirers.{IsLeastAbove};
 ghost use Rattle.cycle_search.specs.Collecting.{AcceptsAll, TakesAll};
 ghost use Rattle.cycle_search.specs.Distances.{AreDistances};
 ghost use Rattle.cycle_search.specs.CycleSearch.{IsPath, CompletesCycle, AboveFirst, LinksTo, CompletesAsLast, AreNexts, MoreThan, CycleFrom, HasTables, IsTooFar, SearchedAfter, SearchedThrough, IfTooMany};
-ghost use Rattle.cycle_search.specs.LockFilters.{PassesHeld};
+ghost use Rattle.cycle_search.specs.LockFilters.{MarksHeld};
 ghost use Rattle.cycle_search.specs.Pausing.{CanContinue, IfPaused, PausesAfter, PausesAt, SearchedFrom, TakesUntil, position_at};
 
 use crate::ascending::above;
@@ -155,7 +155,7 @@ pub(crate) fn most_members(search_input: &SearchInput<'_>, root: u32, bound: Bou
 /// Returns the filter of the locks that `root` holds.
 pub(crate) fn filter_of(search_input: &SearchInput<'_>, root: u32) -> LockFilter
     requires { root < length search_input.now }
-    ensures { PassesHeld search_input.now root result }
+    ensures { MarksHeld search_input.now root result }
 {
     LockFilter::of(&search_input.table.get(root).held)
 }

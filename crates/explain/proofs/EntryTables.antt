@@ -6,8 +6,8 @@ use Rattle.std.specs.List.{Contains}
 use Rattle.trace_model.proofs.Lists.{get-append, get-push, get-set_same, get-set_other}
 use Rattle.trace_model.proofs.Theory.Ascending.{contains_at}
 use Rattle.explain.specs.declared.entry_table.EntryTable.{EntryTable}
-use Rattle.explain.specs.Tables.{position_at}
-use Rattle.explain.specs.EntryTable.{AreIndices, IsTaken, slot_of}
+use Rattle.explain.specs.Tables.{position_of_key}
+use Rattle.explain.specs.EntryTable.{AreIndices, IsSlotTaken, slot_of}
 
 eqb_false : (a b : ℕ) → (a ≡ b → ⊥) → (a == b) ≡ false
 eqb_false a b n = go (a == b) refl
@@ -25,21 +25,21 @@ module _ (t : EntryTable) (places : List ℕ) (p n : ℕ) (last : n ≡ length p
   other i q at same = fresh (contains_at places p i (at ∙ ap Some (sym same)))
 
   -- its slot is taken
-  pub listed_beside : (others : List (ℕ × Option ℕ)) → IsTaken t places p →
-      ((q : ℕ) → position_at others q ≡ cond (p == q) (Some n) (position_at t.others q)) →
+  pub listed_beside : (others : List (ℕ × Option ℕ)) → IsSlotTaken t places p →
+      ((q : ℕ) → position_of_key others q ≡ cond (p == q) (Some n) (position_of_key t.others q)) →
       AreIndices (record t { others = others }) (places ++ p ∷ [])
   listed_beside others taken put i q at = elim (get-push places p i q at) [
     | inl old ↦ elim (are i q old) [
       | inl slot ↦ inl slot
       | inr (is, beside) ↦ inr (
         λ j e. let (z, there, same) = is j e in (z, more j z there, same),
-        put q ∙ ap (λ b. cond b (Some n) (position_at t.others q)) (eqb_false p q (other i q old)) ∙ beside,
+        put q ∙ ap (λ b. cond b (Some n) (position_of_key t.others q)) (eqb_false p q (other i q old)) ∙ beside,
       )
     ]
     | inr (here, same) ↦ inr (
       λ j e. let (z, there, slot) = taken j (subst (λ x. slice_get t.slots.items (slot_of x) ≡ Some j) (sym same) e) in
           (z, more j z there, slot ∙ ap slot_of same),
-      put q ∙ ap (λ b. cond b (Some n) (position_at t.others q)) (eq-eqb p q same) ∙ ap Some (last ∙ sym here),
+      put q ∙ ap (λ b. cond b (Some n) (position_of_key t.others q)) (eq-eqb p q same) ∙ ap Some (last ∙ sym here),
     )
   ]
 
@@ -48,7 +48,7 @@ module _ (t : EntryTable) (places : List ℕ) (p n : ℕ) (last : n ≡ length p
       (was : slice_get t.slots.items (slot_of p) ≡ Some i0)
       (free : (q : ℕ) → slice_get places i0 ≡ Some q → slot_of q ≡ slot_of p → ⊥) where
     apart : (i q : ℕ) → slice_get places i ≡ Some q →
-        (slice_get t.slots.items (slot_of q) ≡ Some i) ⊎ (IsTaken t places q × (position_at t.others q ≡ Some i)) → slot_of p ≡ slot_of q → ⊥
+        (slice_get t.slots.items (slot_of q) ≡ Some i) ⊎ (IsSlotTaken t places q × (position_of_key t.others q ≡ Some i)) → slot_of p ≡ slot_of q → ⊥
     apart i q at (inl slot) same =
         let here : i0 ≡ i = same_Some i0 i (sym was ∙ ap (slice_get t.slots.items) same ∙ slot) in
         free q (ap (slice_get places) here ∙ at) (sym same)
@@ -67,7 +67,7 @@ module _ (t : EntryTable) (places : List ℕ) (p n : ℕ) (last : n ≡ length p
             | inl slot ↦ inl (ap (λ xs. slice_get xs (slot_of q)) in_u ∙ kept q differs ∙ slot)
             | inr (taken, beside) ↦ inr (
               λ j e. let (z, there, same) = taken j (sym (kept q differs) ∙ ap (λ xs. slice_get xs (slot_of q)) (sym in_u) ∙ e) in (z, more j z there, same),
-              ap (λ (v : List (ℕ × Option ℕ)). position_at v q) others ∙ beside,
+              ap (λ (v : List (ℕ × Option ℕ)). position_of_key v q) others ∙ beside,
             )
           ]
       | inr (here, same) ↦ inl (ap (λ xs. slice_get xs (slot_of q)) in_u ∙ ap (λ xs. slice_get xs (slot_of q)) is

@@ -7,8 +7,8 @@ use Rattle.explain.specs.declared.tables.KeyPrefix.{KeyPrefix}
 use Rattle.explain.specs.declared.tables.PrefixTable.{PrefixTable}
 
 -- The position of a key, or none.
-abbrev pub position_at : List (ℕ × Option ℕ) → ℕ → Option ℕ
-position_at table key = unwrap_or (lookup (nat_eq key) table) None
+abbrev pub position_of_key : List (ℕ × Option ℕ) → ℕ → Option ℕ
+position_of_key table key = unwrap_or (lookup (nat_eq key) table) None
 
 -- The prefix that is listed at the position, or none unless it is the key's.
 abbrev pub listed_at : List KeyPrefix → ℕ → ℕ → Option Prefix
@@ -18,4 +18,4 @@ listed_at listed key position = option_and_then
 -- The prefix of a key, or none.
 abbrev pub prefix_at : PrefixTable → ℕ → Option Prefix
 prefix_at table key = option_and_then (listed_at table.listed.items key)
-    (position_at table.positions key)
+    (position_of_key table.positions key)

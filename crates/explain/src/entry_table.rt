@@ -3,9 +3,9 @@
 ghost use Rattle.std.specs.Prelude.{◌≡◌, ℕ, [], ◌∷◌, ◌++◌, true, false, slice_get, Some, OnOk, MatchOption};
 ghost use Rattle.std.specs.List.{Contains};
 ghost use Rattle.trace_model.specs.Theory.Refutation.{derived_places};
-ghost use Rattle.explain.specs.EntryTable.{AreIndices, IsTaken, slot_of};
+ghost use Rattle.explain.specs.EntryTable.{AreIndices, IsSlotTaken, slot_of};
 
-use crate::tables::{PositionTable, position_at, put_position};
+use crate::tables::{PositionTable, position_of_key, put_position};
 use number_map::NumberMap;
 use std::alloc::Global;
 use std::collections::hash_map::RandomState;
@@ -65,7 +65,7 @@ impl EntryTable {
 
     /// Returns whether the slot of a place is taken. It is if there are no slots.
     fn is_taken(&self, entries: &[Derived], place: Place) -> bool
-        ensures taken { result ≡ true → IsTaken self.now (derived_places entries.now) place }
+        ensures taken { result ≡ true → IsSlotTaken self.now (derived_places entries.now) place }
         ensures free { result ≡ false →
             (i : ℕ) × (slice_get self.now.slots.items (slot_of place) ≡ Some i)
             × ((q : ℕ) → slice_get (derived_places entries.now) i ≡ Some q →
@@ -94,7 +94,7 @@ impl EntryTable {
         if !self.is_taken(entries, place) {
             return None;
         }
-        match position_at(&self.others, place.get()) {
+        match position_of_key(&self.others, place.get()) {
             Some(index) if is_about(entries, index, place) => Some(index),
             _ => None,
         }

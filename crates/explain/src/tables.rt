@@ -6,7 +6,7 @@
 
 ghost use Rattle.std.specs.Prelude.{◌≡◌, ◌==◌, ℕ, true, false, slice_get, None, OnOk, Some, if◌then◌else◌};
 ghost use Rattle.explain.specs.declared.tables.KeyPrefix.{KeyPrefix};
-ghost use Rattle.explain.specs.Tables.{listed_at, position_at, prefix_at};
+ghost use Rattle.explain.specs.Tables.{listed_at, position_of_key, prefix_at};
 
 use number_map::NumberMap;
 use std::alloc::Global;
@@ -25,8 +25,8 @@ pub(crate) fn put_position(
     key: u32,
     position: usize,
 ) -> Result<(), NoMemory>
-    ensures { OnOk result ((other : ℕ) → position_at table.new other ≡
-        (if key == other then Some position else position_at table.old other)) }
+    ensures { OnOk result ((other : ℕ) → position_of_key table.new other ≡
+        (if key == other then Some position else position_of_key table.old other)) }
 {
     table.reserve(key, None)?;
     table.set(key, Some(position));
@@ -34,8 +34,8 @@ pub(crate) fn put_position(
 }
 
 /// Returns the position of a key, or `None` if there is none.
-pub(crate) fn position_at(table: &PositionTable, key: u32) -> Option<usize>
-    ensures { result ≡ position_at table.now key }
+pub(crate) fn position_of_key(table: &PositionTable, key: u32) -> Option<usize>
+    ensures { result ≡ position_of_key table.now key }
 {
     match table.get_ref(key) {
         Some(position) => *position,
@@ -135,7 +135,7 @@ pub(crate) fn put_prefix(table: &mut PrefixTable, key: u32, prefix: &Prefix) -> 
 pub(crate) fn prefix_at(table: &PrefixTable, key: u32) -> Option<Prefix>
     ensures { result ≡ prefix_at table.now key }
 {
-    match position_at(&table.positions, key) {
+    match position_of_key(&table.positions, key) {
         Some(position) => listed_at(&table.listed, key, position),
         None => None,
     }

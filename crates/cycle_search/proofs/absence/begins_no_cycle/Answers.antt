@@ -1,15 +1,12 @@
-use Rattle.std.proofs.Common.{◌≡◌, ◌<◌, ◌∙◌, [], ◌∷◌, ◌++◌, List, ℕ, length, refl, sym, ap, subst, arith}
+use Rattle.std.proofs.Common.{◌≡◌, ◌<◌, ◌∙◌, [], ◌∷◌, ◌++◌, length, refl, ap, subst, arith}
 use Rattle.cycle_search.specs.Collecting.{TakesSoFar}
-use Rattle.cycle_search.specs.CycleSearch.{CycleFrom, CycleOver}
+use Rattle.cycle_search.specs.CycleSearch.{CycleOver}
 use Rattle.cycle_search.specs.Keeping.{keeps}
+use Rattle.cycle_search.proofs.Paths.{root-alone}
 use Rattle.cycle_search.proofs.ComponentLemmas.{another-bound}
 use Rattle.cycle_search.proofs.Keeping.{kept-more}
 use Rattle.cycle_search.proofs.Turns.{all-from_root}
 use Rattle.cycle_search.proofs.absence.begins_no_cycle.Goals as goal
-
--- The path is the root alone.
-begins : (root : ℕ) (new pushed : List ℕ) → new ≡ [] → pushed ≡ new ++ root ∷ [] → pushed ≡ root ∷ []
-begins root new pushed none more = more ∙ ap (λ xs. xs ++ root ∷ []) none
 
 pub returns-in-Ok : goal.returns-in-Ok
 returns-in-Ok c t numbers cycle =
@@ -18,7 +15,7 @@ returns-in-Ok c t numbers cycle =
     let members = c.most_members-members.result in
     let old = c.new-none.result in
     let new = c.extend.new.collector in
-    let one = begins root _ _ c.new-path.ensures c.push.ensures.items in
+    let one = root-alone root _ _ c.new-path.ensures c.push.ensures.items in
     let over = CycleOver ds members (root ∷ []) (λ x. root < x) in
     let (most, (more, e, all)) = kept-more over old new (subst (λ p. TakesSoFar keeps (CycleOver ds members p (λ x. root < x)) old new) one c.in-Ok.ensures.all) in
     let (found, same, are) = all-from_root ds members root [] more (more, refl, all) in

@@ -3,7 +3,7 @@ use Rattle.std.proofs.lemmas.Option.{slice_get-get_or}
 use Rattle.trace_model.specs.Theory.Dependencies.{Dependency}
 use Rattle.trace_model.specs.Theory.Held.{has}
 use Rattle.dependencies.specs.Tables.{table_dependencies}
-use Rattle.cycle_search.specs.LockFilters.{Passes}
+use Rattle.cycle_search.specs.LockFilters.{MarksLock}
 use Rattle.cycle_search.proofs.Paths.{closes-decided, has-decided, listed}
 use Rattle.cycle_search.proofs.search.closes.Goals as goal
 
@@ -31,5 +31,5 @@ returns-then-excludes c =
     closes-decided ds path c.args.next first last begun there at false (
       (λ t. absurd (true≢false (sym t))),
       (λ holds. absurd (c.excludes.ensures c.if-excludes.true
-          (subst (Passes c.args.search.now.filter) (sym (c.lock-lock.ensures last at)) (c.requires.tables.filter first last.lock there holds)))),
+          (subst (MarksLock c.args.search.now.filter) (sym (c.lock-lock.ensures last at)) (c.requires.tables.filter first last.lock there holds)))),
     )

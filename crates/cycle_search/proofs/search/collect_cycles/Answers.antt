@@ -1,16 +1,13 @@
-use Rattle.std.proofs.Common.{◌≡◌, ◌<◌, ◌≤◌, ◌∙◌, [], ◌∷◌, ◌++◌, List, ℕ, length, ap, subst, arith}
+use Rattle.std.proofs.Common.{◌<◌, ◌≤◌, [], ◌∷◌, List, ℕ, length, subst, arith}
 use Rattle.trace_model.specs.Theory.Dependencies.{Dependency}
 use Rattle.cycle_search.specs.Collecting.{CollectsAll, AddsSome, TakesSoFar}
 use Rattle.cycle_search.specs.CycleSearch.{CycleFrom, CycleOver}
+use Rattle.cycle_search.proofs.Paths.{root-alone}
 use Rattle.cycle_search.proofs.Collecting.{takes-as, refuses-as, refuses-for, until-refused}
 use Rattle.cycle_search.proofs.ComponentLemmas.{another-bound}
 use Rattle.cycle_search.proofs.Listing.{all-same, some-weaker}
 use Rattle.cycle_search.proofs.Turns.{all-from_root, some-from_root}
 use Rattle.cycle_search.proofs.search.collect_cycles.Goals as goal
-
--- The path is the root alone.
-begins : (root : ℕ) (new pushed : List ℕ) → new ≡ [] → pushed ≡ new ++ root ∷ [] → pushed ≡ root ∷ []
-begins root new pushed none more = more ∙ ap (λ xs. xs ++ root ∷ []) none
 
 module _ (ds : List Dependency) (members bound root : ℕ) (within : members ≤ bound) where
   -- A cycle of the search is one up to the bound.
@@ -35,7 +32,7 @@ returns-in-Ok g c =
     let root = c.args.root in
     let members = c.most_members-members.result in
     let most = c.most_members-members.ensures in
-    let one = begins root _ _ c.new-path.ensures c.push.ensures.items in
+    let one = root-alone root _ _ c.new-path.ensures c.push.ensures.items in
     takes-as taking (CycleOver ds members (root ∷ []) (λ x. root < x)) (CycleFrom ds c.args.bound root) c.args.collector.now c.extend.new.collector
     (wider-all ds members c.args.bound root most.within most.all)
     (subst (λ p. TakesSoFar taking (CycleOver ds members p (λ x. root < x)) c.args.collector.now c.extend.new.collector) one c.in-Ok.ensures.all)
@@ -47,7 +44,7 @@ returns-in-Err-Refused g c =
     let root = c.args.root in
     let members = c.most_members-members.result in
     let most = c.most_members-members.ensures in
-    let one = begins root _ _ c.new-path.ensures c.push.ensures.items in
+    let one = root-alone root _ _ c.new-path.ensures c.push.ensures.items in
     refuses-as taking (CycleOver ds members (root ∷ []) (λ x. root < x)) (CycleFrom ds c.args.bound root) c.args.collector.now c.in-Err-Refused.refused
     (wider-some ds members c.args.bound root most.within)
     (refuses-for taking (λ p. CycleOver ds members p (λ x. root < x)) c.push.new.self.items (root ∷ []) c.args.collector.now c.in-Err-Refused.refused one

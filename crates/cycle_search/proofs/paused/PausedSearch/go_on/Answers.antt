@@ -8,7 +8,7 @@ use Rattle.cycle_search.specs.declared.search.CycleSearch.{CycleSearch}
 use Rattle.cycle_search.specs.CycleSearch.{AreAll, CycleFrom}
 use Rattle.cycle_search.specs.Distances.{AreDistances}
 use Rattle.cycle_search.specs.Keeping.{keeps}
-use Rattle.cycle_search.specs.LockFilters.{PassesHeld}
+use Rattle.cycle_search.specs.LockFilters.{MarksHeld}
 use Rattle.cycle_search.specs.Pausing.{CanContinue, IsListBefore, position_at}
 use Rattle.cycle_search.proofs.Collecting.{paused-last, until-paused, until-refused}
 use Rattle.cycle_search.proofs.ComponentLemmas.{another-bound}
@@ -42,7 +42,7 @@ extend_from-requires-clause-tables c =
     let same = sym (get_or_from_slice_get old.path.items 0 old.root 0 can.begins) in
     record {
       distances = subst (λ n. AreDistances ds n c.deref.result.now) same (subst (AreDistances ds old.root) (sym c.deref.ensures.value) can.distances);
-      filter = subst (λ n. PassesHeld ds n c.filter_of.result) same c.filter_of.ensures;
+      filter = subst (λ n. MarksHeld ds n c.filter_of.result) same c.filter_of.ensures;
     }
 
 pub returns-in-Ok-clause-searched : goal.returns-in-Ok-clause-searched

@@ -1,14 +1,10 @@
-use Rattle.std.proofs.Common.{◌≡◌, ◌∙◌, [], ◌∷◌, ◌++◌, List, ℕ, length, get_or, slice_get, refl, sym, ap, subst, arith}
+use Rattle.std.proofs.Common.{◌≡◌, List, ℕ, length, get_or, slice_get, refl, sym, ap, subst, arith}
 use Rattle.cycle_search.specs.CycleSearch.{AreAll, CycleFrom, IsPath}
 use Rattle.cycle_search.specs.Distances.{AreDistances}
 use Rattle.cycle_search.specs.Pausing.{IsListBefore, position_at}
 use Rattle.cycle_search.proofs.Continuing.{first-none}
-use Rattle.cycle_search.proofs.Paths.{path-one}
+use Rattle.cycle_search.proofs.Paths.{path-one, root-alone}
 use Rattle.cycle_search.proofs.paused.PausedSearch.new.Goals as goal
-
--- The path is the root alone.
-begins : (root : ℕ) (new pushed : List ℕ) → new ≡ [] → pushed ≡ new ++ root ∷ [] → pushed ≡ root ∷ []
-begins root new pushed none more = more ∙ ap (λ xs. xs ++ root ∷ []) none
 
 pub returns : goal.returns
 returns c =
@@ -16,7 +12,7 @@ returns c =
     let root = c.args.root in
     let bound = c.args.bound in
     let most = c.most_members-members.ensures in
-    let one = begins root _ _ c.new-path.ensures c.push.ensures.items in
+    let one = root-alone root _ _ c.new-path.ensures c.push.ensures.items in
     let path = c.push.new.self.items in
     let first : get_or path 0 0 ≡ root = ap (λ (xs : List ℕ). get_or xs 0 0) one in
     record {

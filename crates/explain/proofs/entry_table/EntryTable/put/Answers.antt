@@ -4,7 +4,7 @@ use Rattle.std.proofs.lemmas.Option.{slice_get_within}
 use Rattle.std.specs.Vec.{with_item}
 use Rattle.trace_model.specs.declared.refutations.Derived.{Derived}
 use Rattle.trace_model.specs.Theory.Refutation.{derived_places}
-use Rattle.explain.specs.Tables.{position_at}
+use Rattle.explain.specs.Tables.{position_of_key}
 use Rattle.explain.specs.EntryTable.{slot_of}
 use Rattle.explain.proofs.Adding.{on_ok_then}
 use Rattle.explain.proofs.EntryTables.{listed_beside, listed_in_slot}
@@ -18,7 +18,7 @@ returns-then-is_taken c =
     let count = length entries in
     listed_beside t (derived_places entries) c.args.place count (sym (length-map entries (λ (d : Derived). d.place))) are fresh c.put_position.new.table
     (c.is_taken.ensures.taken c.if-is_taken.true)
-    (λ q. put q ∙ ap (λ n. cond (n == q) (Some count) (position_at t.others q)) c.get.ensures))
+    (λ q. put q ∙ ap (λ n. cond (n == q) (Some count) (position_of_key t.others q)) c.get.ensures))
 
 pub returns : goal.returns
 returns c are fresh =
