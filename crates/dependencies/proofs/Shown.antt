@@ -2,7 +2,7 @@
 use Rattle.std.proofs.Common.{◌≡◌, ◌≢◌, ◌<◌, ◌≤◌, ◌+◌, ◌==◌, nat_eq, nat_lt, inl, inr, ℕ, zero, suc, Bool, true, false, cond, List, [], ◌∷◌, ◌++◌, length, take, map, get_or, slice_get, position, Option, Some, None, is_some, subst, refl, sym, ap, ◌∙◌, arith}
 use Rattle.std.proofs.lemmas.Bool.{true≢false, cases_lt, cases_eq, eq-eqb, ne_eqb, lt-ltb}
 use Rattle.std.proofs.lemmas.Map.Made.{is_some-lookup}
-use Rattle.indexmap.proofs.MapLemmas.{some_index, absent_before, distinct-take}
+use Rattle.indexmap.proofs.MapLemmas.{some_index}
 use Rattle.std.proofs.lemmas.Option.{none-some, same_Some, slice_get-get_or, slice_get_within}
 use Rattle.std.proofs.lemmas.Map.Keys.{apart_from_distinct}
 use Rattle.std.proofs.lemmas.List.Sums.{position_or_len_is}
@@ -10,12 +10,10 @@ use Rattle.std.proofs.lemmas.List.Quantifiers.{position-Some}
 use Rattle.std.specs.List.{position_or_len, list_any, filter, Contains, IsDistinct}
 use Rattle.std.specs.Cmp.{IsEquivalence}
 use Rattle.std.specs.Map.{keys_of, lookup}
-use Rattle.indexmap.specs.IndexMap.{IndexMap, insert_entry}
-use Rattle.indexmap.proofs.CallerLemmas.{insert_entry-new}
 use Rattle.segments.specs.Notes.{noted_places, Ascend}
 use Rattle.trace_model.specs.Theory.Dependencies.{Dependency, same_dependency}
 use Rattle.trace_model.proofs.Theory.Dependencies.{same_dependency_so, same_dependency_itself}
-use Rattle.trace_model.proofs.Lists.{length-push, same_bool, take_next}
+use Rattle.trace_model.proofs.Lists.{length-push, same_bool}
 use Rattle.trace_model.proofs.Theory.Ascending.{place_of, contains_at}
 use Rattle.std.specs.List.Sorted.{IsStrictlyIncreasing}
 use Rattle.dependencies.specs.Tables.{listing_dependencies, listing_places, EndBelow, HaveOneMore}
@@ -69,14 +67,6 @@ pub unlisted : (d : Dependency) (ds : List Dependency) → position (same_depend
 unlisted d ds h =
     subst (λ (ks : List Dependency). list_any (same_dependency d) ks ≡ false) (keys_numbered ds)
     (absent d (numbered_all ds) (ap (position (same_dependency d)) (keys_numbered ds) ∙ h))
-
-keys_push : {V : Type 0} → (es : List (Dependency × V)) (d : Dependency) (v : V) → keys_of (es ++ (d, v) ∷ []) ≡ keys_of es ++ d ∷ []
-keys_push {V} [] d v = refl
-keys_push {V} (e ∷ es) d v = ap (λ ks. e.0 ∷ ks) (keys_push es d v)
-
-pub inserted : {V S : Type 0} → (m : IndexMap Dependency V S) (es : List (Dependency × V)) (d : Dependency) (v : V) →
-    position (same_dependency d) (keys_of m.entries) ≡ None → es ≡ insert_entry same_dependency m.entries d v → keys_of es ≡ keys_of m.entries ++ d ∷ []
-inserted {V} {S} m es d v gone after = ap keys_of (after ∙ insert_entry-new same_dependency m d v (absent_lookup d m.entries gone)) ∙ keys_push m.entries d v
 
 -- ---- tables
 
@@ -277,14 +267,3 @@ dependencies_are = record {
   where
     turned : (a b : Dependency) → same_dependency a b ≡ true → same_dependency b a ≡ true
     turned a b h = subst (λ x. same_dependency x a ≡ true) (same_dependency_so a b h) (same_dependency_itself a)
-
--- the next element of a distinct list is not in a map of the elements before it
-pub next_key : {V S : Type 0} → (ds : List Dependency) (m : IndexMap Dependency V S) (after : List (Dependency × V)) (n : ℕ) (d : Dependency) (v : V) →
-    IsDistinct same_dependency ds → keys_of m.entries ≡ take n ds → slice_get ds n ≡ Some d → after ≡ insert_entry same_dependency m.entries d v →
-    keys_of after ≡ take (suc n) ds
-next_key {V} {S} ds m after n d v once first at is =
-    let next = take_next n ds d at in
-    let pushed : keys_of (m.entries ++ (d, v) ∷ []) ≡ take (suc n) ds = keys_push m.entries d v ∙ ap (λ ks. ks ++ d ∷ []) first ∙ sym next in
-    let apart : IsDistinct same_dependency (keys_of (m.entries ++ (d, v) ∷ [])) =
-    subst (IsDistinct same_dependency) (sym pushed) (distinct-take dependencies_are (suc n) ds once) in
-    ap keys_of (is ∙ insert_entry-new same_dependency m d v (absent_before dependencies_are m.entries [] (d, v) apart)) ∙ pushed

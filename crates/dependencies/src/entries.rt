@@ -79,18 +79,9 @@ impl Entries {
         ensures kept { AreRightEntries self.new }
     {
         let _index = place.get(); // for the proof: the range of a place bounds the numbers
-        match self.keys.number_of(&dependency) {
-            Some(number) => {
-                self.places.record(number as u32, place);
-                number
-            }
-            None => {
-                let number = self.keys.len();
-                self.places.record(number as u32, place);
-                self.keys.add(dependency);
-                number
-            }
-        }
+        let number = self.keys.record(dependency);
+        self.places.record(number as u32, place);
+        number
     }
 
     /// Returns the dependencies below `total`, with their places below `bound`.

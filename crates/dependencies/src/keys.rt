@@ -2,11 +2,13 @@
 //! numbers.
 
 ghost use Rattle.std.specs.Prelude.{◌≡◌, ◌≤◌, ◌<◌, ◌+◌, [], ◌∷◌, ◌++◌, length, take, Some, None, slice_get, true, OnOk, IfOk, position};
-ghost use Rattle.std.specs.Map.{keys_of};
-ghost use Rattle.trace_model.specs.Theory.Dependencies.{same_dependency};
+ghost use Rattle.trace_model.specs.Theory.Dependencies.{same_dependency, with_new};
+ghost use Rattle.dependencies.specs.Hashing.{dependency_hash};
+ghost use Rattle.dependencies.specs.HashedNumbers.{passes_at};
 
 use crate::Dependency;
-use indexmap::IndexMap;
+use crate::hashed_numbers::HashedNumbers;
+use crate::hashing::hash_of;
 use number_map::PositionCache;
 use segments::Segments;
 use std::alloc::Global;
@@ -14,13 +16,15 @@ use std::collections::hash_map::RandomState;
 use std::marker::Model;
 use trace_model::NoMemory;
 
-/// Distinct dependencies in order, and a hash map from each to its number. A shared copy fills its
-/// hash map in `reserve`. A position cache by thread and lock finds recent dependencies without
-/// hashing their held sets.
+/// Distinct dependencies in order, and a hash map from the hash of each to its number. The map has
+/// no dependency: a look-up compares with the listed ones. A shared copy fills its hash map in
+/// `reserve`. A position cache by thread and lock finds recent dependencies without hashing them.
 #[derive(Drop)]
 pub(crate) struct Keys {
+    alloc: Global,
+    state: RandomState,
     list: Segments<Dependency>,
-    numbers: IndexMap<Dependency, (), RandomState>,
+    numbers: HashedNumbers,
     cache: PositionCache,
 }
 
@@ -32,15 +36,13 @@ fn cache_key(dependency: &Dependency) -> u32 {
 }
 
 impl Model for Keys {
-    ghost use Rattle.std.specs.Map.{keys_of};
-    ghost use Rattle.indexmap.specs.IndexMap.{spare};
     ghost use Rattle.dependencies.specs.Keys.{KeysView, listed_by, AreListed};
 
     ghost Value = { KeysView };
 
-    ghost view = { λ k. listed_by k.list (keys_of k.numbers.entries) (spare k.numbers) };
+    ghost view = { λ k. listed_by k.list k.numbers k.state };
 
-    ghost invariant = { λ k. AreListed k.list.0 (keys_of k.numbers.entries) };
+    ghost invariant = { λ k. AreListed k.list.0 k.numbers.hashes k.state };
 }
 
 impl Keys {
@@ -49,8 +51,10 @@ impl Keys {
         ensures { result.keys ≡ [] }
     {
         Keys {
+            alloc,
+            state,
             list: Segments::new(alloc),
-            numbers: IndexMap::with_hasher(alloc, state),
+            numbers: HashedNumbers::new(alloc, state),
             cache: PositionCache::new(),
         }
     }
@@ -76,26 +80,61 @@ impl Keys {
 
     /// Returns whether `dependency` has this number.
     fn is_at(&self, number: usize, dependency: &Dependency) -> bool
-        ensures { result ≡ true →
+        ensures there { result ≡ passes_at (same_dependency dependency.now) self.now.keys number }
+        ensures first { result ≡ true →
             position (same_dependency dependency.now) self.now.keys ≡ Some number }
     {
         match self.list.item(number) {
-            Some(known) => *known == *dependency,
+            Some(known) => *dependency == *known,
             None => false,
         }
     }
 
-    /// Returns the number of `dependency`, or `None` if it has none. Memory must be reserved, so
-    /// that the hash map is complete.
-    pub(crate) fn number_of(&self, dependency: &Dependency) -> Option<usize>
-        requires { self.now.room ≡ true }
+    /// Returns the number of `dependency`, which has this hash, or `None` if it has none. Memory
+    /// must be reserved, so that the hash map is complete.
+    fn number_of(&self, hash: u32, dependency: &Dependency) -> Option<usize>
+        requires hash { hash ≡ dependency_hash self.now.state dependency.now }
+        requires room { self.now.room ≡ true }
         ensures { result ≡ position (same_dependency dependency.now) self.now.keys }
     {
-        let candidate = self.cache.candidate(cache_key(dependency));
-        if self.is_at(candidate, dependency) {
-            return Some(candidate);
+        let mut at = self.numbers.last(hash);
+        while let Some(number) = at {
+            if self.is_at(number as usize, dependency) {
+                return Some(number as usize);
+            }
+            at = self.numbers.earlier(number);
         }
-        self.numbers.get_index_of(dependency)
+        None
+    }
+
+    /// Returns the number of `dependency`. A new one is added at the end. Memory must be reserved.
+    pub(crate) fn record(&mut self, dependency: Dependency) -> usize
+        requires { self.old.room ≡ true }
+        ensures keys { self.new.keys ≡ with_new self.old.keys (Some dependency) }
+        ensures number { position (same_dependency dependency) self.new.keys ≡ Some result }
+    {
+        let key = cache_key(&dependency);
+        let candidate = self.cache.candidate(key);
+        if self.is_at(candidate, &dependency) {
+            return candidate;
+        }
+        let hash = hash_of(&self.state, &dependency);
+        let number = self.record_hashed(hash, dependency);
+        self.cache.record(key, number);
+        number
+    }
+
+    /// Returns the number of `dependency`, which has this hash. A new one is added at the end.
+    fn record_hashed(&mut self, hash: u32, dependency: Dependency) -> usize
+        requires hash { hash ≡ dependency_hash self.old.state dependency }
+        requires room { self.old.room ≡ true }
+        ensures keys { self.new.keys ≡ with_new self.old.keys (Some dependency) }
+        ensures number { position (same_dependency dependency) self.new.keys ≡ Some result }
+    {
+        match self.number_of(hash, &dependency) {
+            Some(number) => number,
+            None => self.add(hash, dependency),
+        }
     }
 
     /// Completes the hash map, and reserves memory for one more dependency.
@@ -107,23 +146,23 @@ impl Keys {
         for number in self.numbers.len()..self.list.len() {
             self.number_next(number)?;
         }
-        self.numbers.reserve(1)?;
+        self.numbers.reserve()?;
         self.list.reserve()?;
         Ok(())
     }
 
-    /// Adds a new dependency at the end. Memory must be reserved.
-    pub(crate) fn add(&mut self, dependency: Dependency)
+    /// Adds a new dependency, which has this hash, at the end, and returns its number.
+    fn add(&mut self, hash: u32, dependency: Dependency) -> usize
+        requires hash { hash ≡ dependency_hash self.old.state dependency }
         requires new { position (same_dependency dependency) self.old.keys ≡ None }
         requires room { self.old.room ≡ true }
-        ensures { self.new.keys ≡ self.old.keys ++ dependency ∷ [] }
+        ensures keys { self.new.keys ≡ self.old.keys ++ dependency ∷ [] }
+        ensures number { position (same_dependency dependency) self.new.keys ≡ Some result }
     {
-        self.cache
-            .record(cache_key(&dependency), self.numbers.len());
-        self.list.put(dependency.copied());
-        let Ok(_) = self.numbers.insert(dependency, ()) else {
-            unreachable!()
-        };
+        let number = self.numbers.len();
+        self.numbers.push(hash);
+        self.list.put(dependency);
+        number
     }
 
     /// Returns the first `total` dependencies. Sealed segments are shared, and at most 4,096
@@ -133,16 +172,16 @@ impl Keys {
         requires few { length self.now.keys ≤ 4294967296 }
         ensures { IfOk result (λ part. part.keys ≡ take total self.now.keys) }
     {
-        let alloc = *self.numbers.allocator();
-        let state = *self.numbers.hasher();
         let mut list = self.list.share(total)?;
         for number in list.len()..total {
             list.reserve()?;
             list.put(self.get(number).copied());
         }
         Ok(Keys {
+            alloc: self.alloc,
+            state: self.state,
             list,
-            numbers: IndexMap::with_hasher(alloc, state),
+            numbers: HashedNumbers::new(self.alloc, self.state),
             cache: PositionCache::new(),
         })
     }
@@ -154,8 +193,9 @@ impl Keys {
         ensures shown { self.new.keys ≡ self.old.keys }
         ensures ok { OnOk result (self.new.numbered ≡ self.old.numbered + 1) }
     {
-        let dependency = self.get(number).copied();
-        self.numbers.insert(dependency, ())?;
+        let hash = hash_of(&self.state, self.get(number));
+        self.numbers.reserve()?;
+        self.numbers.push(hash);
         Ok(())
     }
 }

@@ -1,59 +1,55 @@
-use Rattle.std.proofs.Common.{◌≡◌, ◌<◌, ◌≤◌, ℕ, Fits, w32, sym, arith}
+use Rattle.std.proofs.Common.{◌≡◌, ◌<◌, ◌≤◌, ℕ, Fits, w32, List, length, inl, inr, sym, subst, arith}
 use Rattle.std.proofs.Math.Facts.{Fits-below}
 use Rattle.std.proofs.lemmas.Option.{slice_get_within}
-use Rattle.dependencies.specs.Entries.{listing_of}
+use Rattle.trace_model.specs.Theory.Dependencies.{Dependency}
+use Rattle.dependencies.specs.Tables.{HaveOneMore}
+use Rattle.dependencies.specs.Entries.{listing_of, listing_from, IsKeptOf}
 use Rattle.dependencies.proofs.Noting.{number_small}
-use Rattle.dependencies.proofs.Shown.{at_position, unlisted, length_from, few_notes, known_noted, new_noted, kept_known, kept_new}
+use Rattle.dependencies.proofs.Shown.{length_from, few_notes, known_noted, new_noted, kept_known, kept_new}
+use Rattle.dependencies.proofs.Numbering.{IsRecorded, recorded}
 use Rattle.dependencies.proofs.entries.Entries.record.Goals as goal
 
 fits : (n p q : ℕ) → n ≤ p → q ≡ p → q < 4294967296 → Fits w32 n
 fits n p q l e h = Fits-below {w = w32} {m = n} {n = 4294967295} tt (omega arith)
 
+within : (ds new : List Dependency) (d : Dependency) (n : ℕ) → IsRecorded ds new d n → n ≤ length ds
+within ds new d n r = elim r [ inl a ↦ omega (arith, slice_get_within ds n d a.1) | inr a ↦ omega (arith, a.1) ]
+
 pub overflow_cast-number : goal.overflow_cast-number
 overflow_cast-number c =
     let e = c.args.self.now in
-    let at = at_position c.args.dependency e.keys.keys c.in-Some.number (sym c.in-Some.ensures) in
-    let within = slice_get_within e.keys.keys c.in-Some.number c.args.dependency at in
+    let most = within e.keys.keys c.record-number.new.self.keys c.args.dependency c.record-number.result
+    (recorded e.keys.keys c.record-number.new.self.keys c.args.dependency c.record-number.result c.record-number.ensures.keys c.record-number.ensures.number) in
     let len = length_from 0 e.keys.keys e.places.notes in
-    fits c.in-Some.number c.args.place c.get-index.result (number_small (listing_of e) c.args.place c.in-Some.number c.requires.listing c.requires.below (omega arith)) c.get-index.ensures c.get-index.type_inv
+    fits c.record-number.result c.args.place c.get-index.result (number_small (listing_of e) c.args.place c.record-number.result c.requires.listing c.requires.below (omega (arith, most, len))) c.get-index.ensures c.get-index.type_inv
 
-pub overflow_cast-number-in-None : goal.overflow_cast-number-in-None
-overflow_cast-number-in-None c =
-    let e = c.args.self.now in
-    let len = length_from 0 e.keys.keys e.places.notes in
-    let n = c.len-number.ensures in
-    fits c.len-number.result c.args.place c.get-index.result (number_small (listing_of e) c.args.place c.len-number.result c.requires.listing c.requires.below (omega arith)) c.get-index.ensures c.get-index.type_inv
-
-pub returns-in-Some-clause-noted : goal.returns-in-Some-clause-noted
-returns-in-Some-clause-noted c =
+pub returns-clause-noted : goal.returns-clause-noted
+returns-clause-noted c =
     let e = c.args.self.now in
     let ds = e.keys.keys in
-    let at = at_position c.args.dependency ds c.in-Some.number (sym c.in-Some.ensures) in
-    let within = slice_get_within ds c.in-Some.number c.args.dependency at in
-    known_noted ds e.places.notes c.record.new.self.notes c.args.place c.args.dependency c.in-Some.number c.requires.kept.beyond at within c.record.ensures.notes
+    let n = c.record-number.result in
+    let notes = c.record.new.self.notes in
+    elim (recorded e.keys.keys c.record-number.new.self.keys c.args.dependency c.record-number.result c.record-number.ensures.keys c.record-number.ensures.number) [
+      | inl a ↦
+          subst (λ ks. HaveOneMore (listing_of e) c.args.place c.args.dependency n (listing_from 0 ks notes)) (sym a.0)
+          (known_noted ds e.places.notes notes c.args.place c.args.dependency n c.requires.kept.beyond a.1 (slice_get_within ds n c.args.dependency a.1) c.record.ensures.notes)
+      | inr a ↦ new_noted ds c.record-number.new.self.keys e.places.notes notes c.args.place c.args.dependency n c.requires.kept.beyond a.2 a.1 c.record.ensures.notes a.0
+    ]
 
-pub returns-in-Some-clause-kept : goal.returns-in-Some-clause-kept
-returns-in-Some-clause-kept c =
+pub returns-clause-kept : goal.returns-clause-kept
+returns-clause-kept c =
     let e = c.args.self.now in
     let ds = e.keys.keys in
-    let at = at_position c.args.dependency ds c.in-Some.number (sym c.in-Some.ensures) in
-    kept_known ds e.places.notes c.record.new.self.notes c.args.place c.in-Some.number e.places.numbers c.record.new.self.numbers c.requires.kept c.requires.below
-    (slice_get_within ds c.in-Some.number c.args.dependency at) c.record.ensures.notes c.record.ensures.numbers
-
-pub returns-in-None-clause-noted : goal.returns-in-None-clause-noted
-returns-in-None-clause-noted c =
-    let e = c.args.self.now in
-    let ds = e.keys.keys in
-    new_noted ds (c.add.new.self.keys) e.places.notes c.record-in-None.new.self.notes c.args.place c.args.dependency c.len-number.result c.requires.kept.beyond
-    (unlisted c.args.dependency ds (sym c.in-None.ensures)) c.len-number.ensures c.record-in-None.ensures.notes c.add.ensures
-
-pub returns-in-None-clause-kept : goal.returns-in-None-clause-kept
-returns-in-None-clause-kept c =
-    let e = c.args.self.now in
-    let ds = e.keys.keys in
-    kept_new ds (c.add.new.self.keys) e.places.notes c.record-in-None.new.self.notes c.args.place c.args.dependency c.len-number.result e.places.numbers
-    c.record-in-None.new.self.numbers c.requires.kept c.requires.below c.len-number.ensures c.record-in-None.ensures.notes c.add.ensures
-    c.record-in-None.ensures.numbers
+    let n = c.record-number.result in
+    let notes = c.record.new.self.notes in
+    let numbers = c.record.new.self.numbers in
+    elim (recorded e.keys.keys c.record-number.new.self.keys c.args.dependency c.record-number.result c.record-number.ensures.keys c.record-number.ensures.number) [
+      | inl a ↦
+          subst (λ ks. IsKeptOf ks notes numbers) (sym a.0)
+          (kept_known ds e.places.notes notes c.args.place n e.places.numbers numbers c.requires.kept c.requires.below (slice_get_within ds n c.args.dependency a.1) c.record.ensures.notes c.record.ensures.numbers)
+      | inr a ↦
+          kept_new ds c.record-number.new.self.keys e.places.notes notes c.args.place c.args.dependency n e.places.numbers numbers c.requires.kept c.requires.below a.1 c.record.ensures.notes a.0 c.record.ensures.numbers
+    ]
 
 pub record-requires-clause-few : goal.record-requires-clause-few
 record-requires-clause-few c =
@@ -61,15 +57,9 @@ record-requires-clause-few c =
     let few = few_notes e.keys.keys e.places.notes e.places.numbers c.args.place c.requires.kept c.requires.below in
     omega (arith, few, c.get-index.ensures, c.get-index.type_inv)
 
-pub record-requires-in-None-clause-few : goal.record-requires-in-None-clause-few
-record-requires-in-None-clause-few c =
+pub record-requires-clause-number : goal.record-requires-clause-number
+record-requires-clause-number c =
     let e = c.args.self.now in
-    let few = few_notes e.keys.keys e.places.notes e.places.numbers c.args.place c.requires.kept c.requires.below in
-    omega (arith, few, c.get-index.ensures, c.get-index.type_inv)
-
-pub len-number-requires : goal.len-number-requires
-len-number-requires c =
-    let e = c.args.self.now in
-    let len = length_from 0 e.keys.keys e.places.notes in
-    let few = c.requires.listing.few in
-    omega arith
+    let most = within e.keys.keys c.record-number.new.self.keys c.args.dependency c.record-number.result
+    (recorded e.keys.keys c.record-number.new.self.keys c.args.dependency c.record-number.result c.record-number.ensures.keys c.record-number.ensures.number) in
+    omega (arith, most, c.requires.kept.counted)

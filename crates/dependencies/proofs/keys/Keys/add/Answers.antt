@@ -1,29 +1,37 @@
-use Rattle.std.proofs.Common.{◌≡◌, ℕ, Bool, true, ◌&&◌, nat_eq, nat_lt, inl, inr, position, ◌++◌, ◌∷◌, [], length, sym, ap, subst, ◌∙◌, arith}
-use Rattle.std.proofs.lemmas.Bool.{true≢false, cases_eq, ne_eqb}
+use Rattle.std.proofs.Common.{◌≡◌, position, ◌++◌, ◌∷◌, [], length, map, slice_get, Some, sym, ap, subst, ◌∙◌, arith}
+use Rattle.std.proofs.lemmas.List.{map-append, length-map}
 use Rattle.std.specs.List.{IsDistinct}
-use Rattle.std.specs.Map.{keys_of}
-use Rattle.indexmap.specs.IndexMap.{spare}
 use Rattle.trace_model.specs.Theory.Dependencies.{same_dependency}
-use Rattle.dependencies.proofs.Shown.{inserted, take_past}
+use Rattle.trace_model.proofs.Lists.{get-push_last}
+use Rattle.dependencies.specs.Hashing.{dependency_hash}
+use Rattle.dependencies.proofs.Shown.{take_past, unlisted, position_of}
+use Rattle.dependencies.proofs.Numbering.{distinct_push, room_tells}
 use Rattle.dependencies.proofs.keys.Keys.add.Goals as goal
 
-all_numbered : (a b s : ℕ) (r : Bool) → (nat_eq a b && nat_lt 0 s && r) ≡ true → a ≡ b
-all_numbered a b s r h = elim (cases_eq a b) [
-  | inl e ↦ e
-  | inr e ↦ absurd (true≢false (sym h ∙ ap (λ c. c && nat_lt 0 s && r) (ne_eqb a b e)))
-]
+all : (c : goal.After-put) → length c.self.inside.numbers.hashes ≡ length c.self.inside.list.0
+all c = room_tells c.self.inside.list c.self.inside.numbers c.self.inside.state (ap (λ l. l.room) c.self.view_is ∙ c.requires.room)
+
+once : (c : goal.After-put) → IsDistinct same_dependency c.put.new.self.0
+once c =
+    let gone = ap (position (same_dependency c.args.dependency)) (ap (λ l. l.keys) c.self.view_is) ∙ c.requires.new in
+    subst (IsDistinct same_dependency) (sym c.put.ensures) (distinct_push c.self.inside.list.0 c.args.dependency c.self.invariant.once (unlisted c.args.dependency c.self.inside.list.0 gone))
 
 pub invariant_of-self : goal.invariant_of-self
 invariant_of-self c =
     let s = c.self.inside in
-    let ks = keys_of s.numbers.entries in
-    let count = all_numbered (length ks) (length s.list.0) (spare s.numbers) s.list.1 (ap (λ l. l.room) c.self.view_is ∙ c.requires.room) in
-    let all = c.self.invariant.first ∙ take_past (length ks) s.list.0 (omega arith) in
-    let absent = ap (position (same_dependency c.args.dependency)) (all ∙ ap (λ l. l.keys) c.self.view_is) ∙ c.requires.new in
-    let new = inserted s.numbers c.insert.new.self.entries c.args.dependency tt absent c.in-Ok.ensures.entries in
-    let one_more : c.put.new.self.0 ≡ s.list.0 ++ c.args.dependency ∷ [] = c.put.ensures ∙ ap (λ d. s.list.0 ++ d ∷ []) c.copied.ensures in
-    let same : c.put.new.self.0 ≡ keys_of c.insert.new.self.entries = one_more ∙ ap (λ xs. xs ++ c.args.dependency ∷ []) (sym all) ∙ sym new in
-    record {
-      once = subst (IsDistinct same_dependency) (sym same) c.in-Ok.ensures.unique;
-      first = sym same ∙ sym (take_past (length (keys_of c.insert.new.self.entries)) c.put.new.self.0 (let l = ap length same in omega arith));
-    }
+    let hs = s.numbers.hashes in
+    let ds = s.list.0 in
+    let f = dependency_hash s.state in
+    let count : length hs ≡ length ds = all c in
+    let hash : c.args.hash ≡ f c.args.dependency = c.requires.hash ∙ ap (λ l. dependency_hash l.state c.args.dependency) (sym c.self.view_is) in
+    let whole : c.push.new.self.hashes ≡ map f c.put.new.self.0 =
+    c.push.ensures ∙ ap (λ xs. xs ++ c.args.hash ∷ []) (c.self.invariant.first ∙ ap (map f) (take_past (length hs) ds (omega arith)))
+    ∙ ap (λ x. map f ds ++ x ∷ []) hash ∙ sym (map-append f ds (c.args.dependency ∷ [])) ∙ ap (map f) (sym c.put.ensures) in
+    let long = ap length whole ∙ length-map c.put.new.self.0 f in
+    record { once = once c; first = whole ∙ ap (map f) (sym (take_past (length c.push.new.self.hashes) c.put.new.self.0 (omega arith))) }
+
+pub returns-clause-number : goal.returns-clause-number
+returns-clause-number c =
+    let ds = c.self.inside.list.0 in
+    let here = ap (λ ks. slice_get ks (length ds)) c.put.ensures ∙ get-push_last ds c.args.dependency in
+    position_of c.args.dependency c.put.new.self.0 (length ds) (once c) here ∙ ap Some (sym (c.len-number.ensures ∙ all c))

@@ -1,33 +1,23 @@
-use Rattle.std.proofs.Common.{◌≡◌, suc, length, take, slice_get, Some, sym, ap, ◌∙◌, arith}
-use Rattle.std.proofs.lemmas.List.{length-take-le}
-use Rattle.std.specs.Map.{keys_of}
-use Rattle.std.proofs.lemmas.Result.{IfOk-from_err}
-use Rattle.dependencies.proofs.Shown.{next_key}
+use Rattle.std.proofs.Common.{◌≡◌, suc, ◌++◌, ◌∷◌, [], length, map, take, slice_get, Some, sym, ap, ◌∙◌, arith}
+use Rattle.std.proofs.lemmas.List.{map-append, length_push}
+use Rattle.trace_model.proofs.Lists.{take_next}
+use Rattle.dependencies.specs.Hashing.{dependency_hash}
 use Rattle.dependencies.proofs.keys.Keys.number_next.Goals as goal
-
-next_is : (c : goal.In_ok-insert) → keys_of c.insert.new.self.entries ≡ take (suc c.args.number) c.self.inside.list.0
-next_is c =
-    let s = c.self.inside in
-    let keys = ap (λ l. l.keys) c.self.view_is in
-    let count = ap (λ l. l.numbered) c.self.view_is ∙ c.requires.next in
-    let at : slice_get s.list.0 c.args.number ≡ Some c.copied-dependency.result =
-    ap (λ ds. slice_get ds c.args.number) keys ∙ c.get.ensures ∙ ap Some (sym c.copied-dependency.ensures) in
-    next_key s.list.0 s.numbers c.insert.new.self.entries c.args.number c.copied-dependency.result tt c.self.invariant.once
-    (c.self.invariant.first ∙ ap (λ n. take n s.list.0) count) at c.in_ok-insert.ensures.entries
 
 pub invariant_of-self-2 : goal.invariant_of-self-2
 invariant_of-self-2 c =
-    let keys = ap (λ l. length l.keys) c.self.view_is in
-    let next = next_is c in
-    let len = ap length next ∙ length-take-le (suc c.args.number) c.self.inside.list.0 (let w = c.requires.within in omega arith) in
-    record { once = c.self.invariant.once; first = next ∙ ap (λ n. take n c.self.inside.list.0) (sym len) }
-
-pub returns-clause-ok : goal.returns-clause-ok
-returns-clause-ok c =
-    let keys = ap (λ l. length l.keys) c.self.view_is in
-    let len = ap length (next_is c) ∙ length-take-le (suc c.args.number) c.self.inside.list.0 (let w = c.requires.within in omega arith) in
-    let next = c.requires.next in
-    omega arith
-
-pub returns-in_err-insert-clause-ok : goal.returns-in_err-insert-clause-ok
-returns-in_err-insert-clause-ok c = IfOk-from_err c.from_residual.result _ c.from_residual.ensures.0
+    let s = c.self.inside in
+    let hs = s.numbers.hashes in
+    let ds = s.list.0 in
+    let f = dependency_hash s.state in
+    let d = c.get.result.now in
+    let hashes : c.push.new.self.hashes ≡ hs ++ c.hash_of-hash.result ∷ [] = c.push.ensures ∙ ap (λ xs. xs ++ c.hash_of-hash.result ∷ []) c.reserve.ensures.hashes in
+    let count : length hs ≡ c.args.number = ap (λ l. l.numbered) c.self.view_is ∙ c.requires.next in
+    let at : slice_get ds (length hs) ≡ Some d = ap (slice_get ds) count ∙ ap (λ l. slice_get l.keys c.args.number) c.self.view_is ∙ c.get.ensures in
+    let next : take (suc (length hs)) ds ≡ take (length hs) ds ++ d ∷ [] = take_next (length hs) ds d at in
+    let long : length c.push.new.self.hashes ≡ suc (length hs) = omega (arith, ap length hashes, length_push hs c.hash_of-hash.result) in
+    record {
+      once = c.self.invariant.once;
+      first = hashes ∙ ap (λ xs. xs ++ c.hash_of-hash.result ∷ []) c.self.invariant.first ∙ ap (λ x. map f (take (length hs) ds) ++ x ∷ []) c.hash_of-hash.ensures
+          ∙ sym (map-append f (take (length hs) ds) (d ∷ [])) ∙ ap (map f) (sym next) ∙ ap (λ n. map f (take n ds)) (sym long);
+    }

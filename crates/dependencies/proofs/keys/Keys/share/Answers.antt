@@ -1,6 +1,6 @@
-use Rattle.std.proofs.Common.{◌≡◌, ◌+◌, ◌++◌, ◌∷◌, [], suc, length, take, slice_get, Some, refl, sym, ap, subst, ◌∙◌, arith}
+use Rattle.std.proofs.Common.{◌≡◌, ◌+◌, ◌++◌, ◌∷◌, [], suc, take, slice_get, Some, refl, sym, ap, subst, ◌∙◌, arith}
 use Rattle.std.specs.List.{IsDistinct}
-use Rattle.std.specs.Map.{keys_of}
+use Rattle.dependencies.specs.Keys.{AreListed}
 use Rattle.indexmap.proofs.MapLemmas.{distinct-take}
 use Rattle.trace_model.specs.Theory.Dependencies.{same_dependency}
 use Rattle.trace_model.proofs.Lists.{take_next}
@@ -18,12 +18,9 @@ loop-number-preserved c =
 pub invariant_of-result : goal.invariant_of-result
 invariant_of-result c =
     let keys = ap (λ l. l.keys) c.self.view_is in
-    let none : keys_of c.with_hasher.result.entries ≡ [] = ap keys_of c.with_hasher.ensures.empty in
-    record {
-      once = subst (IsDistinct same_dependency) (sym (c.loop-number.invariant ∙ ap (take c.loop-number.number) (sym keys)))
-          (distinct-take dependencies_are c.loop-number.number c.self.inside.list.0 c.self.invariant.once);
-      first = subst (λ ks. ks ≡ take (length ks) c.loop-number.list.0) (sym none) refl;
-    }
+    let once = subst (IsDistinct same_dependency) (sym (c.loop-number.invariant ∙ ap (take c.loop-number.number) (sym keys)))
+    (distinct-take dependencies_are c.loop-number.number c.self.inside.list.0 c.self.invariant.once) in
+    subst (λ hs. AreListed c.loop-number.list.0 hs c.self.inside.state) (sym c.new.ensures) (record { once = once; first = refl })
 
 pub returns-in_err-list : goal.returns-in_err-list
 returns-in_err-list c = IfOk-from_err c.from_residual.result _ c.from_residual.ensures.0
