@@ -88,6 +88,6 @@ module _ (lasts after : IndexMap ℕ ℕ RandomState) (links : List Link) (x : L
   }
 
 -- the last number is one of the first n
-pub is_below : (test : ℕ → Bool) (n : ℕ) (o : Option ℕ) → o ≡ last_place test n → n < 4294967295 → IfSome o (λ m. m < 4294967295)
+pub is_below : (test : ℕ → Bool) (n : ℕ) (o : Option ℕ) → o ≡ last_place test n → n < 4294967296 → IfSome o (λ m. m < 4294967295)
 is_below test n None h few = tt
 is_below test n (Some m) h few = let s = last_place_some test n m (sym h) in let below = s.0 in omega arith

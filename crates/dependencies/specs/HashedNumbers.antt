@@ -1,5 +1,5 @@
 -- Hashes by number, and the numbers that have a hash.
-use Rattle.std.specs.Prelude.{◌≡◌, ℕ, ◌==◌, Bool, false, min, nat_lt, ◌&&◌, List, map, length, slice_get, Option, Some, vec_len, vec_capacity}
+use Rattle.std.specs.Prelude.{◌≡◌, ℕ, ◌==◌, Bool, false, nat_lt, ◌&&◌, List, map, length, slice_get, Option, Some, vec_len, vec_capacity}
 use Rattle.std.specs.Global.{Vec}
 use Rattle.std.specs.Option.{option_map_or}
 use Rattle.std.specs.HashMap.{get, spare}
@@ -35,4 +35,4 @@ pub record AreLinked (lasts : IndexMap ℕ ℕ RandomState) (links : List Link) 
 -- Memory is reserved for one more number.
 abbrev pub has_number_room : IndexMap ℕ ℕ RandomState → Vec Link → Bool
 has_number_room lasts links =
-    nat_lt 0 (spare lasts) && nat_lt (vec_len links) (min 4294967295 (vec_capacity links))
+    nat_lt 0 (spare lasts) && nat_lt (vec_len links) (vec_capacity links)

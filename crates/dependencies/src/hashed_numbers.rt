@@ -5,13 +5,10 @@ ghost use Rattle.dependencies.specs.HashedNumbers.{last_passing};
 
 use indexmap::IndexMap;
 use segments::MaybeIndex;
-use std::alloc::{AllocError, Global};
+use std::alloc::Global;
 use std::collections::hash_map::RandomState;
 use std::marker::Model;
 use trace_model::NoMemory;
-
-/// How many numbers there are at most: `MaybeIndex` has no larger ones.
-const MOST_NUMBERS: usize = 4_294_967_295;
 
 /// The hash of a number, and the last earlier number with the same hash.
 #[derive(Clone, Copy)]
@@ -94,17 +91,16 @@ impl HashedNumbers {
         ensures hashes { self.new.hashes ≡ self.old.hashes }
         ensures ok { OnOk result (self.new.room ≡ true) }
     {
-        if self.links.len() >= MOST_NUMBERS {
-            return Err(NoMemory::from(AllocError));
-        }
         self.lasts.reserve(1)?;
         self.links.reserve(1)?;
         Ok(())
     }
 
-    /// Adds the next number, with its hash. Memory must be reserved. Does not allocate.
+    /// Adds the next number, with its hash. Memory must be reserved, and the number must have 32
+    /// bits. Does not allocate.
     pub(crate) fn push(&mut self, hash: u32)
-        requires { self.old.room ≡ true }
+        requires room { self.old.room ≡ true }
+        requires few { length self.old.hashes < 4294967296 }
         ensures { self.new.hashes ≡ self.old.hashes ++ hash ∷ [] }
     {
         let number = self.links.len() as u32;

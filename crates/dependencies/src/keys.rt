@@ -107,9 +107,11 @@ impl Keys {
         None
     }
 
-    /// Returns the number of `dependency`. A new one is added at the end. Memory must be reserved.
+    /// Returns the number of `dependency`. A new one is added at the end. Memory must be reserved,
+    /// and its number must have 32 bits.
     pub(crate) fn record(&mut self, dependency: Dependency) -> usize
-        requires { self.old.room ≡ true }
+        requires room { self.old.room ≡ true }
+        requires few { length self.old.keys < 4294967296 }
         ensures keys { self.new.keys ≡ with_new self.old.keys (Some dependency) }
         ensures number { position (same_dependency dependency) self.new.keys ≡ Some result }
     {
@@ -128,6 +130,7 @@ impl Keys {
     fn record_hashed(&mut self, hash: u32, dependency: Dependency) -> usize
         requires hash { hash ≡ dependency_hash self.old.state dependency }
         requires room { self.old.room ≡ true }
+        requires few { length self.old.keys < 4294967296 }
         ensures keys { self.new.keys ≡ with_new self.old.keys (Some dependency) }
         ensures number { position (same_dependency dependency) self.new.keys ≡ Some result }
     {
@@ -156,6 +159,7 @@ impl Keys {
         requires hash { hash ≡ dependency_hash self.old.state dependency }
         requires new { position (same_dependency dependency) self.old.keys ≡ None }
         requires room { self.old.room ≡ true }
+        requires few { length self.old.keys < 4294967296 }
         ensures keys { self.new.keys ≡ self.old.keys ++ dependency ∷ [] }
         ensures number { position (same_dependency dependency) self.new.keys ≡ Some result }
     {
@@ -190,6 +194,7 @@ impl Keys {
     fn number_next(&mut self, number: usize) -> Result<(), NoMemory>
         requires next { self.old.numbered ≡ number }
         requires within { number < length self.old.keys }
+        requires few { length self.old.keys ≤ 4294967296 }
         ensures shown { self.new.keys ≡ self.old.keys }
         ensures ok { OnOk result (self.new.numbered ≡ self.old.numbered + 1) }
     {

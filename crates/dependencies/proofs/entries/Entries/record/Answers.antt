@@ -15,6 +15,12 @@ fits n p q l e h = Fits-below {w = w32} {m = n} {n = 4294967295} tt (omega arith
 within : (ds new : List Dependency) (d : Dependency) (n : ℕ) → IsRecorded ds new d n → n ≤ length ds
 within ds new d n r = elim r [ inl a ↦ omega (arith, slice_get_within ds n d a.1) | inr a ↦ omega (arith, a.1) ]
 
+pub record-number-requires-clause-few : goal.record-number-requires-clause-few
+record-number-requires-clause-few c =
+    let e = c.args.self.now in
+    let len = length_from 0 e.keys.keys e.places.notes in
+    omega (arith, number_small (listing_of e) c.args.place (length e.keys.keys) c.requires.listing c.requires.below (omega (arith, len)), c.get-index.ensures, c.get-index.type_inv)
+
 pub overflow_cast-number : goal.overflow_cast-number
 overflow_cast-number c =
     let e = c.args.self.now in

@@ -1,25 +1,16 @@
-use Rattle.std.proofs.Common.{◌≡◌, ◌<◌, ◌==◌, ℕ, true, cond, length, nat_lt, Some, sym, ap, subst, ◌∙◌, arith}
-use Rattle.std.proofs.lemmas.Bool.{ltb-true, and_parts}
-use Rattle.std.specs.Global.{Vec}
-use Rattle.std.specs.HashMap.{get, spare}
-use Rattle.std.specs.declared.random_state.RandomState.{RandomState}
-use Rattle.indexmap.specs.IndexMap.{IndexMap}
+use Rattle.std.proofs.Common.{◌≡◌, ◌==◌, ℕ, cond, length, Some, sym, ap, subst, ◌∙◌, arith}
+use Rattle.std.proofs.lemmas.List.{length-map}
+use Rattle.std.specs.HashMap.{get}
 use Rattle.dependencies.specs.declared.hashed_numbers.Link.{Link}
-use Rattle.dependencies.specs.HashedNumbers.{AreLinked, passes_at, hashes_of, has_number_room}
+use Rattle.dependencies.specs.HashedNumbers.{AreLinked, passes_at, hashes_of}
 use Rattle.dependencies.proofs.Hashed.{linked_push, is_below}
 use Rattle.dependencies.proofs.hashed_numbers.HashedNumbers.push.Goals as goal
-
-few : (lasts : IndexMap ℕ ℕ RandomState) (links : Vec Link) → has_number_room lasts links ≡ true → length links.items < 4294967295
-few lasts links room =
-    let within = ltb-true _ _ (and_parts (nat_lt 0 (spare lasts)) _ room).1 in
-    let len = links.ok.0 in
-    omega arith
 
 pub maybe_index-earlier-requires : goal.maybe_index-earlier-requires
 maybe_index-earlier-requires c =
     let i = c.self.inside in
-    let room = ap (λ v. v.room) c.self.view_is ∙ c.requires in
-    is_below (passes_at (◌==◌ c.args.hash) (hashes_of i.links.items)) (length i.links.items) c.in-Ok.before (c.in-Ok.ensures.old ∙ c.self.invariant.last c.args.hash) (few i.lasts i.links room)
+    is_below (passes_at (◌==◌ c.args.hash) (hashes_of i.links.items)) (length i.links.items) c.in-Ok.before (c.in-Ok.ensures.old ∙ c.self.invariant.last c.args.hash)
+    (omega (arith, c.requires.few, ap (λ v. length v.hashes) c.self.view_is, length-map i.links.items (λ (x : Link). x.hash)))
 
 pub invariant_of-self : goal.invariant_of-self
 invariant_of-self c =
