@@ -84,7 +84,11 @@ fn cycles_in(parts: &[Part]) -> u64
     requires { sum_by (λ part. length (part_rows part)) parts.now < 2 ^ 64 }
     ensures { result ≡ sum_by (λ part. length (part_rows part)) parts.now }
 {
-    parts.iter().map(|part| part.rows.len() as u64).sum()
+    let mut count = 0;
+    for part in parts {
+        count += part.rows.len() as u64;
+    }
+    count
 }
 
 /// Returns the number of confirmed rows of the parts.
@@ -92,7 +96,11 @@ fn confirmed_among(parts: &[Part]) -> u64
     requires { sum_by (λ part. part.confirmed) parts.now < 2 ^ 64 }
     ensures { result ≡ sum_by (λ part. part.confirmed) parts.now }
 {
-    parts.iter().map(|part| part.confirmed).sum()
+    let mut count = 0;
+    for part in parts {
+        count += part.confirmed;
+    }
+    count
 }
 
 /// Returns the number of bytes of the longest text of a row.
