@@ -1,5 +1,5 @@
 -- The tables while they are built, place by place.
-use Rattle.std.proofs.Common.{◌≡◌, ℕ, zero, suc, ◌+◌, ◌<◌, ◌≤◌, ◌⊎◌, inl, inr, Vec, List, [], ◌∷◌, ◌++◌, length, slice_get, slice_set, Option, Some, None, refl, sym, ap, subst, ◌∙◌, arith}
+use Rattle.std.proofs.Common.{◌≡◌, ℕ, zero, suc, ◌+◌, ◌<◌, ◌≤◌, ◌⊎◌, inl, inr, Vec, List, [], ◌∷◌, ◌++◌, length, slice_get, slice_set, Option, Some, None, refl, sym, ap, subst, ◌∙◌, arith, append-nil}
 use Rattle.std.specs.Global.{Global}
 use Rattle.std.specs.List.{Contains}
 use Rattle.std.specs.Option.{option_and_then}
@@ -10,17 +10,17 @@ use Rattle.trace_model.specs.Theory.Trace.{Trace, OfThread}
 use Rattle.trace_model.specs.Theory.Held.{BeginsOn}
 use Rattle.trace_model.proofs.Lists.{at_index, length-push, get-push, get-set_same, get-set_other}
 use Rattle.trace_index.specs.Numbers.{number_at}
-use Rattle.std.specs.Arc.{arc_value}
 use Rattle.fronts.specs.declared.slot_table.SlotTable.{SlotTable}
+use Rattle.fronts.specs.declared.slot_table.LockSlots.{LockSlots}
 use Rattle.fronts.specs.declared.requirements.Requirement.TheVariants.{Reach, Begin}
 use Rattle.fronts.specs.declared.requirements.Item.{Item}
 use Rattle.fronts.specs.declared.requirements.Requirements.{Requirements}
-use Rattle.fronts.specs.Slots.{slots_of, AreSlots, AreSlotPlaces, AreThreadSlots, HasSlotPosition}
-use Rattle.fronts.specs.Requirements.{Needs, AreLockSlots, AreItems, AreRequirements, item, item_at}
-use Rattle.fronts.specs.Pushing.{SlottedTrace, with_slots, IsRequirement, IsForkLater, IsIncluded, AreUpTo, IsBegun, AddsRequirements, AreBuilt, AreAllBuilt}
+use Rattle.fronts.specs.Slots.{slot_in, slots_of, AreSlots, AreTablePlaces, AreThreadSlots, HasSlotPosition}
+use Rattle.fronts.specs.Requirements.{Needs, AreLocks, AreLockSlots, AreItems, AreRequirements, item, item_at}
+use Rattle.fronts.specs.Pushing.{SlottedTrace, with_slots, IsRequirement, IsForkLater, IsIncluded, AreUpTo, IsBegun, IsBare, AddsRequirements, AreBuilt, AreAllBuilt}
 use Rattle.fronts.proofs.SlotLemmas.{before_position, earlier_position, has_upto}
 use Rattle.fronts.proofs.ThreadLemmas.{place_below}
-use Rattle.fronts.proofs.PushLemmas.{included_left, begun_left, begun_right}
+use Rattle.fronts.proofs.PushLemmas.{included_left, begun_left, begun_right, no_needs, requirements_from}
 
 found_at : {X : Type 0} (xs : List X) (x : X) → Contains xs x → (k : ℕ) × (slice_get xs k ≡ Some x)
 found_at xs x (k, l, e) = (k, slice_get-get_or xs k x l ∙ ap Some e)
@@ -144,6 +144,28 @@ all_pushed v count p a lists old new k slot at adds all b zs h = elim (cases_lt 
         subst (λ z. AreBuilt v (suc p) b z.items) is
         (subst (λ z. AreBuilt v (suc p) z new.items) e (built_pushed v count p a old.items new.items k slot (all a old at) adds))
 
+-- A place that needs nothing more adds no items.
+pub bare_added : (v : SlottedTrace) (q n : ℕ) (xs : List Item) → number_at v.trace q ≡ Some n → IsBare v q → AddsRequirements v q xs xs
+bare_added v q n xs num bare =
+    requirements_from v q n None None None None xs xs xs xs xs num bare.start bare.first bare.last bare.begin (no_needs v q n xs) (no_needs v q n xs) (no_needs v q n xs) (sym (append-nil xs))
+
+-- One more place, which needs nothing more.
+pub all_bare : (v : SlottedTrace) (count p a n : ℕ) (lists : List (Vec Item Global)) → AreSlots v.trace v.slots count → v.slots p ≡ Some a → number_at v.trace p ≡ Some n →
+    IsBare v p → AreAllBuilt v p lists → AreAllBuilt v (suc p) lists
+all_bare v count p a n lists k slot num bare all b zs h = elim (cases_lt a b) [
+  | inl less ↦ other (λ e. omega (arith, less, e))
+  | inr not ↦ elim (cases_lt b a) [
+    | inl more ↦ other (λ e. omega (arith, more, e))
+    | inr also ↦ same (omega (arith, not, also))
+  ]
+]
+  where
+    other : (a ≡ b → ⊥) → AreBuilt v (suc p) b zs.items
+    other ne = built_other v p b zs.items (λ e. ne (same_Some a b (sym slot ∙ e))) (all b zs h)
+
+    same : a ≡ b → AreBuilt v (suc p) b zs.items
+    same e = built_pushed v count p b zs.items zs.items k (slot ∙ ap Some e) (all b zs h) (bare_added v p n zs.items num bare)
+
 item_so : (d : Requirements) (a j : ℕ) (x : Item) → item_at d a j ≡ Some x → (xs : Vec Item Global) × (slice_get d.items.items a ≡ Some xs) × (slice_get xs.items j ≡ Some x)
 item_so d a j x h = go (slice_get d.items.items a) refl h
   where
@@ -214,7 +236,12 @@ each_pushed P old new n x is len each last k y at = elim (get-push old x k y (ap
 pub length_pushed : {X : Type 0} (old new : List X) (n : ℕ) (x : X) → new ≡ old ++ x ∷ [] → length old ≡ n → length new ≡ n + 1
 length_pushed old new n x is len = ap length is ∙ (length-push old x ∙ omega (arith, len))
 
-pub requirements_built : (s : Trace) (d : Requirements) → AreThreadSlots s d.threads → AreLockSlots s d.locks → AreSlotPlaces s (slots_of d.threads) (arc_value d.positions).items → length d.items.items ≡ d.threads.count →
-    AreAllBuilt (with_slots s d.threads d.locks) (length s) d.items.items → AreRequirements s d
-requirements_built s d slots locks positions len all =
-    record { slots = slots; locks = locks; positions = positions; items = items_built (with_slots s d.threads d.locks) d d.threads.count slots len all }
+pub requirements_built : (s : Trace) (d : Requirements) (lock_slots : LockSlots) → AreThreadSlots s d.threads → AreTablePlaces s d.threads → AreLockSlots s lock_slots → d.lock_count ≡ lock_slots.count →
+    length d.items.items ≡ d.threads.count → AreAllBuilt (with_slots s d.threads lock_slots) (length s) d.items.items → AreRequirements s d
+requirements_built s d lock_slots slots positions locks count len all = record {
+  slots = slots;
+  lock_slots = slot_in lock_slots.slots.items;
+  locks = subst (AreLocks s (slot_in lock_slots.slots.items)) (sym count) locks;
+  positions = positions;
+  items = items_built (with_slots s d.threads lock_slots) d d.threads.count slots len all;
+}

@@ -181,6 +181,15 @@ some_within None n f = tt
 some_within (Some p) n f = f p refl
 
 -- From the previous place.
+pub thread_old_some : (s : Trace) (p q count : ℕ) (e : Event) (slot_table : ℕ → Option ℕ) → At s p e → Some q ≡ thread_before s p → AreSlotNumbers (first_of_thread s) slot_table count p →
+    (a : ℕ) × (slot_table q ≡ Some a)
+thread_old_some s p q count e slot_table a some known =
+    let last : last_place (of_thread s e.thread) p ≡ Some q = sym (some ∙ ap (option_and_then (λ x. last_place (of_thread s x.thread) p)) a) in
+    let is = last_place_some (of_thread s e.thread) p q last in
+    let (x, first, l, ox) = first_on (OfThread s) (of_thread s) (first_of_thread s) (length s) (threads_have s) q e.thread (of_thread_so s e.thread q is.1) in
+    let (b, has, less) = known.each q x is.0 first in
+    (b, has)
+
 pub thread_new_slot : (s : Trace) (p count : ℕ) (e : Event) (slot_table : ℕ → Option ℕ) → At s p e → None ≡ thread_before s p → Some count ≡ next_slot slot_table (first_of_thread s p) p count
 thread_new_slot s p count e slot_table a none =
     new_slot (OfThread s) (of_thread s) (first_of_thread s) (length s) (threads_have s) p e.thread count slot_table (e.op, a) (sym (none ∙ ap (option_and_then (λ x. last_place (of_thread s x.thread) p)) a))

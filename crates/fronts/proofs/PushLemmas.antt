@@ -220,6 +220,15 @@ prefix_added v count q p position prefix old new k here need through (inr (is, r
       subst (IsIncluded v.trace v.slots q position.count r) (sym is) (redundant_holds v.trace v.slots count q r m position prefix old k here upto redundant at less);
 }
 
+-- No place is added.
+pub no_needs : (v : SlottedTrace) (q n : ℕ) (xs : List Item) → Adds v q n None xs xs
+no_needs v q n xs = record {
+  added = [];
+  is = sym (append-nil xs);
+  only = λ i h. absurd (none_in i h);
+  holds = λ upto p r t e oz or l. absurd (none-some p e);
+}
+
 pub reach_added : (v : SlottedTrace) (count q : ℕ) (o : Option ℕ) (position : ThreadPrefix) (old new : List Item) → AreSlots v.trace v.slots count →
     HasSlotPosition v.trace v.slots q position.slot position.count → ((r : ℕ) → o ≡ Some r → Needs v.trace q r) →
     AddsReach v.trace v.slots position o old new → Adds v q position.count o old new

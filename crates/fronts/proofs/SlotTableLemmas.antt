@@ -1,11 +1,12 @@
 -- The slots with one more place.
-use Rattle.std.proofs.Common.{◌≡◌, ◌≢◌, ℕ, ◌+◌, ◌<◌, ◌≤◌, ◌⊎◌, get_or, inl, inr, cond, List, [], ◌∷◌, ◌++◌, length, slice_get, Option, Some, None, refl, sym, ap, subst, ◌∙◌, arith}
+use Rattle.std.proofs.Common.{◌≡◌, ◌≢◌, ℕ, zero, suc, ◌+◌, ◌<◌, ◌≤◌, ◌⊎◌, get_or, inl, inr, cond, List, [], ◌∷◌, ◌++◌, map, length, slice_get, Option, Some, None, refl, sym, ap, subst, ◌∙◌, arith}
 use Rattle.std.proofs.lemmas.Bool.{cases_lt, eq-eqb}
 use Rattle.std.proofs.lemmas.Bool.Decides.{eqb_tells}
 use Rattle.std.proofs.lemmas.Option.{none-some, same_Some, slice_get_within, slice_get-get_or}
 use Rattle.trace_model.proofs.Lists.{get-push_kept, get-push_last, length-push}
-use Rattle.std.specs.Option.{option_and_then}
-use Rattle.fronts.specs.Slots.{slot_in}
+use Rattle.std.specs.Option.{option_map, option_and_then}
+use Rattle.fronts.specs.declared.requirements.ThreadPrefix.{ThreadPrefix}
+use Rattle.fronts.specs.Slots.{slot_in, place_slot}
 use Rattle.fronts.specs.SlotTable.{AreFirsts, AreSlotNumbers, next_slot, slot_count_after}
 
 class_within : (of : List (Option ℕ)) (p a : ℕ) → slot_in of p ≡ Some a → p < length of
@@ -222,3 +223,39 @@ slot_pushed firsts slots new count more n slot are len old is_slot is_more pushe
   where
     all_more : more ≡ slot_count_after (firsts n) n count
     all_more = is_more ∙ count_by_slot firsts (slot_in slots) count n slot are old is_slot
+
+-- The slots of listed places, as a list.
+abbrev listed_slots : List ThreadPrefix → List (Option ℕ)
+listed_slots positions = map (λ to. Some to.slot) positions
+
+listed_are : (positions : List ThreadPrefix) (p : ℕ) → slot_in (listed_slots positions) p ≡ place_slot positions p
+listed_are [] p = refl
+listed_are (to ∷ tos) zero = refl
+listed_are (to ∷ tos) (suc p) = listed_are tos p
+
+listed_push : (positions : List ThreadPrefix) (to : ThreadPrefix) → listed_slots (positions ++ to ∷ []) ≡ listed_slots positions ++ Some to.slot ∷ []
+listed_push [] to = refl
+listed_push (x ∷ xs) to = ap (λ z. Some x.slot ∷ z) (listed_push xs to)
+
+listed_length : (positions : List ThreadPrefix) → length (listed_slots positions) ≡ length positions
+listed_length [] = refl
+listed_length (x ∷ xs) = ap suc (listed_length xs)
+
+-- The thread slot of one more place, as the loop pushes it with the place's number.
+pub position_pushed : (firsts : ℕ → Option ℕ) (positions new : List ThreadPrefix) (count more n : ℕ) (to : ThreadPrefix) → AreFirsts firsts → length positions ≡ n →
+    AreSlotNumbers firsts (place_slot positions) count n → Some to.slot ≡ next_slot (place_slot positions) (firsts n) n count → more ≡ slot_count_after (Some to.slot) count count →
+    new ≡ positions ++ to ∷ [] → AreSlotNumbers firsts (place_slot new) more (n + 1)
+position_pushed firsts positions new count more n to are len old is_slot is_more pushed =
+    subst (λ f. AreSlotNumbers firsts f more (n + 1)) (λ i p. listed_are new p i)
+    (slot_pushed firsts (listed_slots positions) (listed_slots new) count more n (Some to.slot) are (listed_length positions ∙ len)
+    (subst (λ f. AreSlotNumbers firsts f count n) (λ i p. sym (listed_are positions p) i) old)
+    (is_slot ∙ ap (λ f. next_slot f (firsts n) n count) (λ i p. sym (listed_are positions p) i))
+    is_more (ap listed_slots pushed ∙ listed_push positions to))
+
+-- The entry of a place that has a slot.
+pub listed_at : (positions : List ThreadPrefix) (p a : ℕ) → place_slot positions p ≡ Some a → (to : ThreadPrefix) × (slice_get positions p ≡ Some to) × (to.slot ≡ a)
+listed_at positions p a h = go (slice_get positions p) refl h
+  where
+    go : (o : Option ThreadPrefix) → slice_get positions p ≡ o → option_map (λ to. to.slot) o ≡ Some a → (to : ThreadPrefix) × (slice_get positions p ≡ Some to) × (to.slot ≡ a)
+    go None e k = absurd (none-some a k)
+    go (Some to) e k = (to, e, same_Some to.slot a k)

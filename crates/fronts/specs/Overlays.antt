@@ -42,8 +42,8 @@ pub record IsEmptyOverlay (threads locks : ℕ) (overlay : Overlay) : Type 0 whe
 
 -- Memory for the threads and locks of these requirements.
 abbrev pub HasRequirementRoom : Requirements → Overlay → Type 0
-HasRequirementRoom d overlay = HasOverlayRoom d.threads.count d.locks.count overlay
+HasRequirementRoom d overlay = HasOverlayRoom d.threads.count d.lock_count overlay
 
 -- An overlay without changes, with memory for these requirements.
 abbrev pub IsEmptyFor : Requirements → Overlay → Type 0
-IsEmptyFor d overlay = IsEmptyOverlay d.threads.count d.locks.count overlay
+IsEmptyFor d overlay = IsEmptyOverlay d.threads.count d.lock_count overlay

@@ -9,12 +9,13 @@ use Rattle.trace_model.specs.Theory.Held.{BeginsOn}
 use Rattle.trace_model.specs.Theory.Lookups.{writer}
 use Rattle.trace_index.specs.Numbers.{number_at}
 use Rattle.fronts.specs.declared.slot_table.SlotTable.{SlotTable}
+use Rattle.fronts.specs.declared.slot_table.LockSlots.{LockSlots}
 use Rattle.fronts.specs.declared.requirements.ThreadPrefix.{ThreadPrefix}
 use Rattle.fronts.specs.declared.requirements.Section.{Section}
 use Rattle.fronts.specs.declared.requirements.Requirement.{Requirement}
 use Rattle.fronts.specs.declared.requirements.Requirement.TheVariants.{Reach, Begin}
 use Rattle.fronts.specs.declared.requirements.Item.{Item}
-use Rattle.fronts.specs.Slots.{slots_of, HasSlotPosition}
+use Rattle.fronts.specs.Slots.{slot_in, slots_of, HasSlotPosition}
 use Rattle.fronts.specs.Requirements.{Needs, IsPrefixThrough, EndsSection, item}
 
 -- A trace, with the slots of its threads and of its locks.
@@ -24,8 +25,12 @@ pub record SlottedTrace : Type 0 where
   pub locks : ℕ → Option ℕ
 
 -- A trace with these slots.
-abbrev pub with_slots : Trace → SlotTable → SlotTable → SlottedTrace
-with_slots s threads locks = record { trace = s; slots = slots_of threads; locks = slots_of locks }
+abbrev pub with_slots : Trace → SlotTable → LockSlots → SlottedTrace
+with_slots s threads locks = record {
+  trace = s;
+  slots = slots_of threads;
+  locks = slot_in locks.slots.items;
+}
 
 -- The item of a requirement, if there is one.
 abbrev pub requirement_items : ℕ → Option Requirement → List Item
@@ -79,6 +84,13 @@ pub record IsBegin (v : SlottedTrace) (q : ℕ) (o : Option Requirement) : Type 
       (requirement ≡ Begin l c) × (c.place ≡ q) × BeginsOn v.trace q k × (v.locks q ≡ Some l)
       × EndsSection v.trace v.slots c
   pub begun : (k : ℕ) → BeginsOn v.trace q k → (requirement : Requirement) × (o ≡ Some requirement)
+
+-- The place `q` needs no place but those before it in its thread, and begins no section.
+pub record IsBare (v : SlottedTrace) (q : ℕ) : Type 0 where
+  pub start : IsStart v.trace q None
+  pub first : IsFirstNeed v.trace q None
+  pub last : IsLastNeed v.trace q None
+  pub begin : IsBegin v q None
 
 -- A requirement of the place `q`, which has number `n`.
 pub record IsRequirement (v : SlottedTrace) (q n : ℕ) (i : Item) : Type 0 where

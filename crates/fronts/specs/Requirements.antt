@@ -1,19 +1,18 @@
 -- The requirements of the places of a trace, as tables.
 use Rattle.std.specs.Prelude.{◌≡◌, ℕ, suc, ◌<◌, ◌≤◌, ◌⊎◌, slice_get, Option, Some, MatchOption}
 use Rattle.std.specs.Option.{option_and_then}
-use Rattle.std.specs.Arc.{arc_value}
 use Rattle.trace_model.specs.Theory.Trace.{Trace, EarlierInThread}
 use Rattle.trace_model.specs.Theory.Held.{BeginsOn}
 use Rattle.trace_model.specs.Theory.Lookups.{writer, release}
 use Rattle.trace_model.specs.Theory.Reordering.{ForkOrJoin}
-use Rattle.fronts.specs.declared.slot_table.SlotTable.{SlotTable}
+use Rattle.fronts.specs.declared.slot_table.LockSlots.{LockSlots}
 use Rattle.fronts.specs.declared.requirements.ThreadPrefix.{ThreadPrefix}
 use Rattle.fronts.specs.declared.requirements.Section.{Section}
 use Rattle.fronts.specs.declared.requirements.Requirement.{Requirement}
 use Rattle.fronts.specs.declared.requirements.Requirement.TheVariants.{Reach, Begin}
 use Rattle.fronts.specs.declared.requirements.Item.{Item}
 use Rattle.fronts.specs.declared.requirements.Requirements.{Requirements}
-use Rattle.fronts.specs.Slots.{slots_of, AreThreadSlots, AreSlotPlaces, HasSlotPosition}
+use Rattle.fronts.specs.Slots.{slot_in, slots_of, AreThreadSlots, AreTablePlaces, HasSlotPosition}
 
 -- The slots of the places that begin sections: one slot for each lock.
 pub record AreLocks (s : Trace) (locks : ℕ → Option ℕ) (count : ℕ) : Type 0 where
@@ -22,8 +21,8 @@ pub record AreLocks (s : Trace) (locks : ℕ → Option ℕ) (count : ℕ) : Typ
   pub alike : (p q l k : ℕ) → locks p ≡ Some l → BeginsOn s p k → BeginsOn s q k → locks q ≡ Some l
 
 -- The slots are those of the trace's locks.
-abbrev pub AreLockSlots : Trace → SlotTable → Type 0
-AreLockSlots s locks = AreLocks s (slots_of locks) locks.count
+abbrev pub AreLockSlots : Trace → LockSlots → Type 0
+AreLockSlots s locks = AreLocks s (slot_in locks.slots.items) locks.count
 
 -- A set that contains `q` has to contain `r`.
 abbrev pub Needs : Trace → ℕ → ℕ → Type 0
@@ -70,9 +69,10 @@ pub record AreItems (s : Trace) (slots locks : ℕ → Option ℕ) (items : ℕ 
   pub begins : (q k a n : ℕ) → BeginsOn s q k → HasSlotPosition s slots q a n →
       (j : ℕ) × (l : ℕ) × (c : Section) × (items a j ≡ Some (item n (Begin l c))) × (c.place ≡ q)
 
--- The tables are those of the trace.
+-- The tables are those of the trace. The lock slots are those in the items.
 pub record AreRequirements (s : Trace) (d : Requirements) : Type 0 where
   pub slots : AreThreadSlots s d.threads
-  pub locks : AreLockSlots s d.locks
-  pub positions : AreSlotPlaces s (slots_of d.threads) (arc_value d.positions).items
-  pub items : AreItems s (slots_of d.threads) (slots_of d.locks) (item_at d)
+  pub lock_slots : ℕ → Option ℕ
+  pub locks : AreLocks s lock_slots d.lock_count
+  pub positions : AreTablePlaces s d.threads
+  pub items : AreItems s (slots_of d.threads) lock_slots (item_at d)

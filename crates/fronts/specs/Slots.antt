@@ -1,6 +1,7 @@
 -- Places by the slot of their thread and their number in it.
 use Rattle.std.specs.Prelude.{◌≡◌, ℕ, ◌<◌, nat_lt, Bool, false, IsTrue, List, length, slice_get, Option, Some}
-use Rattle.std.specs.Option.{option_map_or, option_and_then}
+use Rattle.std.specs.Option.{option_map, option_map_or, option_and_then}
+use Rattle.std.specs.Arc.{arc_value}
 use Rattle.trace_model.specs.Theory.Trace.{Trace, OfThread}
 use Rattle.trace_model.specs.Theory.Closure.{Places}
 use Rattle.trace_index.specs.Numbers.{number_at}
@@ -11,9 +12,13 @@ use Rattle.fronts.specs.declared.requirements.ThreadPrefix.{ThreadPrefix}
 abbrev pub slot_in : List (Option ℕ) → ℕ → Option ℕ
 slot_in slots p = option_and_then (λ c. c) (slice_get slots p)
 
--- The slot of each place, of its thread or of its lock.
+-- The slot of each listed place.
+abbrev pub place_slot : List ThreadPrefix → ℕ → Option ℕ
+place_slot positions p = option_map (λ to. to.slot) (slice_get positions p)
+
+-- The slot of each place's thread.
 abbrev pub slots_of : SlotTable → ℕ → Option ℕ
-slots_of slot_table = slot_in slot_table.slots.items
+slots_of slot_table = place_slot (arc_value slot_table.positions).items
 
 -- The slots number the threads: each place has one, below the count, and two places have the same
 -- slot if and only if they are of the same thread.
@@ -49,6 +54,11 @@ pub record AreSlotPlaces (s : Trace) (slots : ℕ → Option ℕ)
       HasSlotPosition s slots p
       to.slot to.count
   pub all : length positions ≡ length s
+
+-- The table lists each place of the trace with its slot and its number.
+abbrev pub AreTablePlaces : Trace → SlotTable → Type 0
+AreTablePlaces s threads =
+    AreSlotPlaces s (slots_of threads) (arc_value threads.positions).items
 
 -- The set of listed places that the fronts include.
 abbrev pub among : List ThreadPrefix → (ℕ → ℕ) → Places

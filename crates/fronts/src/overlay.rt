@@ -37,7 +37,7 @@ impl Overlay {
         Ok(Overlay {
             fronts: EpochArray::new(alloc, threads, Front::new())?,
             done: EpochArray::new(alloc, threads, 0)?,
-            last: EpochArray::new(alloc, requirements.locks.count as usize, blank)?,
+            last: EpochArray::new(alloc, requirements.lock_count as usize, blank)?,
         })
     }
 

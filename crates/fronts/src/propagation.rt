@@ -121,7 +121,7 @@ impl Propagation {
         steps: &mut Steps<L>,
     ) -> Result<bool, NoMemory>
         requires ready { IsReadyContext context.now self.old members.old }
-        requires lock { lock < context.now.requirements.now.locks.count }
+        requires lock { lock < context.now.requirements.now.lock_count }
         requires end { HasPlaces (context_events context.now) (slots context.now) section.end }
         requires last_end { (d : Section) → last context.now self.old lock ≡ Some d →
             HasPlaces (context_events context.now) (slots context.now) d.end }

@@ -1,20 +1,20 @@
 //! What each place of a trace requires, in tables that are built once for the trace.
 
 ghost use Rattle.std.specs.Prelude.{◌≡◌, ℕ, ◌+◌, ◌<◌, ◌^◌, length, ◌++◌, slice_get, Some, IfSome, OnOk, IfOk, IsTrue};
-ghost use Rattle.std.specs.Arc.{arc_value};
-ghost use Rattle.trace_index.specs.Numbers.{number_at};
-ghost use Rattle.fronts.specs.Slots.{slot_in, slots_of, AreSlotPlaces, AreThreadSlots, HasSlotPosition};
+ghost use Rattle.trace_index.specs.Numbers.{thread_before};
+ghost use Rattle.trace_index.specs.Facts.{ArePlaceFacts};
+ghost use Rattle.fronts.specs.Slots.{slot_in, place_slot, slots_of, AreTablePlaces, AreThreadSlots, HasSlotPosition};
 ghost use Rattle.fronts.specs.Requirements.{AreLockSlots, IsPrefixThrough, EndsSection};
-ghost use Rattle.fronts.specs.Pushing.{SlottedTrace, IsRequired, IsRedundant, AddsReach, requirement_items, with_slots, IsStart, IsFirstNeed, IsLastNeed, IsBegin, AddsRequirements, AreAllBuilt};
+ghost use Rattle.fronts.specs.Pushing.{SlottedTrace, IsRequired, IsRedundant, AddsReach, requirement_items, with_slots, IsStart, IsFirstNeed, IsLastNeed, IsBegin, IsBare, AddsRequirements, AreAllBuilt};
 ghost use Rattle.fronts.specs.SlotTable.{AreSlotNumbers, next_slot};
 ghost use Rattle.fronts.specs.Firsts.{first_of_thread, first_of_lock};
 
 use crate::item_cache::ItemCache;
-use crate::slot_table::{SlotTable, next_count, slot_at};
+use crate::slot_table::{LockSlots, SlotTable, count_with, next_count, prefix_at, slot_at};
 use segments::MaybeIndex;
 use std::alloc::Global;
 use std::sync::Arc;
-use trace_index::TraceIndex;
+use trace_index::{PlaceFacts, TraceIndex};
 use trace_model::{Event, NoMemory, Op, Place};
 
 /// The first places of a thread.
@@ -56,11 +56,9 @@ pub(crate) struct Item {
 /// dense numbers, their slots.
 #[derive(Drop)]
 pub struct Requirements {
-    /// The slots of the threads.
+    /// The places of the threads.
     pub threads: SlotTable,
-    pub(crate) locks: SlotTable,
-    /// For each place the prefix of its thread that is before it. Shared with the fronts.
-    pub positions: Arc<Vec<ThreadPrefix>, Global>,
+    pub(crate) lock_count: u32,
     pub(crate) items: Vec<Vec<Item>>,
 }
 
@@ -68,51 +66,63 @@ pub struct Requirements {
 #[derive(Drop)]
 struct SlotTables {
     threads: SlotTable,
-    locks: SlotTable,
+    locks: LockSlots,
 }
 
-/// Returns the event at `place`, or `None` past the end of the trace.
-fn event_at(index: &TraceIndex, place: usize) -> Option<Event>
+/// Returns the facts of `place`.
+#[inline(always)]
+fn facts_at(index: &TraceIndex, place: usize) -> PlaceFacts
     requires { place < length index.now.events }
-    ensures { result ≡ slice_get index.now.events place }
+    ensures { ArePlaceFacts index.now.events place result }
 {
     let _len = index.len(); // for the proof
-    index.event(Place::new(place as u32))
+    index.facts(Place::new(place as u32)).unwrap()
 }
 
 /// Returns the thread slot of the next place: that of the place before it in its thread, or a new
-/// one.
-fn thread_slot(index: &TraceIndex, slots: &[MaybeIndex], place: usize, count: u32) -> MaybeIndex
-    requires within { place < length index.now.events }
-    requires slot_table { AreSlotNumbers (first_of_thread index.now.events)
-        (slot_in slots.now) count place }
-    requires few { count < 4294967295 }
-    ensures { result ≡ next_slot (slot_in slots.now)
-        (first_of_thread index.now.events place) place count }
+/// one. `before` is that place.
+#[inline(always)]
+fn thread_slot(
+    _index: &TraceIndex,
+    positions: &[ThreadPrefix],
+    before: Option<Place>,
+    _place: usize,
+    count: u32,
+) -> u32
+    requires within { _place < length _index.now.events }
+    requires slots { AreSlotNumbers (first_of_thread _index.now.events)
+        (place_slot positions.now) count _place }
+    requires before { thread_before _index.now.events _place ≡ before }
+    ensures { Some result ≡ next_slot (place_slot positions.now)
+        (first_of_thread _index.now.events _place) _place count }
 {
-    let _len = index.len(); // for the proof
-    match index.thread_before(Place::new(place as u32)) {
-        Some(before) => slot_at(slots, before),
-        None => MaybeIndex::at(count),
+    match before {
+        Some(before) => prefix_at(positions, before).unwrap().slot,
+        None => count,
     }
 }
 
 /// Returns the lock slot of the next place: that of the outermost acquire of the lock before it, or
-/// a new one. `none` if the place does not begin a section.
-fn lock_slot(index: &TraceIndex, slots: &[MaybeIndex], place: usize, count: u32) -> MaybeIndex
-    requires within { place < length index.now.events }
-    requires slot_table { AreSlotNumbers (first_of_lock index.now.events)
-        (slot_in slots.now) count place }
+/// a new one. `none` if the place does not begin a section. `facts` are those of the place.
+#[inline(always)]
+fn lock_slot(
+    _index: &TraceIndex,
+    slots: &[MaybeIndex],
+    facts: &PlaceFacts,
+    _place: usize,
+    count: u32,
+) -> MaybeIndex
+    requires slots { AreSlotNumbers (first_of_lock _index.now.events)
+        (slot_in slots.now) count _place }
+    requires facts { ArePlaceFacts _index.now.events _place facts.now }
     requires few { count < 4294967295 }
     ensures { result ≡ next_slot (slot_in slots.now)
-        (first_of_lock index.now.events place) place count }
+        (first_of_lock _index.now.events _place) _place count }
 {
-    let _len = index.len(); // for the proof
-    let here = Place::new(place as u32);
-    let Some(_lock) = index.begun(here) else {
+    let Some(_lock) = facts.begun else {
         return MaybeIndex::none();
     };
-    match index.acquire_before(here) {
+    match facts.acquire_before {
         Some(before) => slot_at(slots, before),
         None => MaybeIndex::at(count),
     }
@@ -122,29 +132,36 @@ fn lock_slot(index: &TraceIndex, slots: &[MaybeIndex], place: usize, count: u32)
 ///
 /// # Errors
 /// `NoMemory` if an allocation fails.
+#[inline(never)]
 fn slot_tables(alloc: Global, index: &TraceIndex) -> Result<SlotTables, NoMemory>
     ensures threads { IfOk result (λ tables. AreThreadSlots index.now.events tables.threads) }
+    ensures positions { IfOk result (λ tables. AreTablePlaces index.now.events tables.threads) }
     ensures locks { IfOk result (λ tables. AreLockSlots index.now.events tables.locks) }
 {
     let _len = index.len(); // for the proof
-    let mut threads: Vec<MaybeIndex> = Vec::with_capacity(alloc, index.len())?;
+    let mut positions: Vec<ThreadPrefix> = Vec::with_capacity(alloc, index.len())?;
     let mut locks: Vec<MaybeIndex> = Vec::with_capacity(alloc, index.len())?;
     let mut thread_count = 0;
     let mut lock_count = 0;
     for place in 0..index.len() {
-        let thread = thread_slot(index, threads.as_slice(), place, thread_count);
-        let lock = lock_slot(index, locks.as_slice(), place, lock_count);
-        threads.push_reserved(thread);
+        let facts = facts_at(index, place);
+        let before = facts.thread_before;
+        let slot = thread_slot(index, positions.as_slice(), before, place, thread_count);
+        let lock = lock_slot(index, locks.as_slice(), &facts, place, lock_count);
+        positions.push_reserved(ThreadPrefix {
+            slot,
+            count: facts.number,
+        });
         locks.push_reserved(lock);
-        thread_count = next_count(thread, thread_count);
+        thread_count = count_with(slot, thread_count);
         lock_count = next_count(lock, lock_count);
     }
     Ok(SlotTables {
         threads: SlotTable {
-            slots: threads,
+            positions: Arc::new(alloc, positions)?,
             count: thread_count,
         },
-        locks: SlotTable {
+        locks: LockSlots {
             slots: locks,
             count: lock_count,
         },
@@ -166,15 +183,26 @@ pub fn prefix_before(index: &TraceIndex, threads: &SlotTable, place: Place) -> T
     }
 }
 
+/// Returns the prefix of its thread that is before `place`. Reads only the table.
+#[inline(always)]
+fn position_of(_index: &TraceIndex, threads: &SlotTable, place: Place) -> ThreadPrefix
+    requires positions { AreTablePlaces _index.now.events threads.now }
+    requires in_trace { place < length _index.now.events }
+    ensures { HasSlotPosition _index.now.events
+        (slots_of threads.now) place result.slot result.count }
+{
+    prefix_at(&threads.positions, place).unwrap()
+}
+
 /// Returns the prefix of its thread that ends with `place`.
 #[inline(always)]
-pub(crate) fn prefix_through(index: &TraceIndex, threads: &SlotTable, place: Place) -> ThreadPrefix
-    requires slots { AreThreadSlots index.now.events threads.now }
+fn prefix_through(index: &TraceIndex, threads: &SlotTable, place: Place) -> ThreadPrefix
+    requires positions { AreTablePlaces index.now.events threads.now }
     requires in_trace { place < length index.now.events }
     ensures { IsPrefixThrough index.now.events (slots_of threads.now) result place }
 {
     let _len = index.len(); // for the proof
-    let before = prefix_before(index, threads, place);
+    let before = position_of(index, threads, place);
     ThreadPrefix {
         slot: before.slot,
         count: before.count + 1,
@@ -223,7 +251,7 @@ fn push_place(
     position: ThreadPrefix,
     place: Place,
 ) -> Result<(), NoMemory>
-    requires slots { AreThreadSlots index.now.events threads.now }
+    requires positions { AreTablePlaces index.now.events threads.now }
     requires in_trace { place < length index.now.events }
     ensures { OnOk result (AddsReach index.now.events (slots_of threads.now) position (Some place)
         items.old.items items.new.items) }
@@ -251,7 +279,7 @@ fn push_reach(
     position: ThreadPrefix,
     place: Option<Place>,
 ) -> Result<(), NoMemory>
-    requires slots { AreThreadSlots index.now.events threads.now }
+    requires positions { AreTablePlaces index.now.events threads.now }
     requires in_trace { IfSome place (λ p. p < length index.now.events) }
     ensures { OnOk result (AddsReach index.now.events (slots_of threads.now) position place
         items.old.items items.new.items) }
@@ -264,7 +292,7 @@ fn push_reach(
 
 /// Returns the section that begins at `place`.
 fn section_at(index: &TraceIndex, threads: &SlotTable, place: Place) -> Section
-    requires slots { AreThreadSlots index.now.events threads.now }
+    requires positions { AreTablePlaces index.now.events threads.now }
     ensures place { result.place ≡ place }
     ensures end { EndsSection index.now.events (slots_of threads.now) result }
 {
@@ -275,70 +303,84 @@ fn section_at(index: &TraceIndex, threads: &SlotTable, place: Place) -> Section
     Section { place, end }
 }
 
-/// Returns the fork of the place's thread if `place` is the first of its thread. `event` is the
-/// event at `place`, and `number` its number in its thread.
-fn start_of(index: &TraceIndex, place: Place, event: Event, number: u32) -> Option<Place>
-    requires event { slice_get index.now.events place ≡ Some event }
-    requires number { number_at index.now.events place ≡ Some number }
-    ensures { IsStart index.now.events place result }
+/// Returns the fork of the place's thread if `place` is the first of its thread. `facts` are those
+/// of the place.
+fn start_of(index: &TraceIndex, _place: Place, facts: &PlaceFacts) -> Option<Place>
+    requires { ArePlaceFacts index.now.events _place facts.now }
+    ensures { IsStart index.now.events _place result }
 {
-    if number == 0 {
-        index.fork_of(event.thread)
+    if facts.number == 0 {
+        index.fork_of(facts.event.thread)
     } else {
         None
     }
 }
 
-/// Returns the writer of a read, or the fork of a joined thread. `event` is the event at `place`.
+/// Returns the writer of a read, or the fork of a joined thread. `facts` are those of the place.
 #[inline(always)]
-fn first_need(index: &TraceIndex, place: Place, event: Event) -> Option<Place>
-    requires { slice_get index.now.events place ≡ Some event }
-    ensures { IsFirstNeed index.now.events place result }
+fn first_need(index: &TraceIndex, _place: Place, facts: &PlaceFacts) -> Option<Place>
+    requires { ArePlaceFacts index.now.events _place facts.now }
+    ensures { IsFirstNeed index.now.events _place result }
 {
-    match event.op {
+    match facts.event.op {
         Op::Join(child) => index.fork_of(child),
-        Op::Read(_) => index.writer(place),
+        Op::Read(_) => facts.writer,
         _ => None,
     }
 }
 
-/// Returns the last place of a joined thread. `event` is the event at `place`.
-fn last_need(index: &TraceIndex, place: Place, event: Event) -> Option<Place>
-    requires { slice_get index.now.events place ≡ Some event }
-    ensures { IsLastNeed index.now.events place result }
+/// Returns the last place of a joined thread. `facts` are those of the place.
+fn last_need(index: &TraceIndex, _place: Place, facts: &PlaceFacts) -> Option<Place>
+    requires { ArePlaceFacts index.now.events _place facts.now }
+    ensures { IsLastNeed index.now.events _place result }
 {
-    match event.op {
+    match facts.event.op {
         Op::Join(child) => crate::threads::last_place(index, child),
         _ => None,
     }
 }
 
-/// Returns the requirement of the section that begins at `place`, if one does. `event` is the event
-/// at `place`.
+/// Returns the requirement of the section that begins at `place`, if one does. `facts` are those of
+/// the place.
 #[inline(always)]
 fn begin_of(
     index: &TraceIndex,
     threads: &SlotTable,
-    locks: &SlotTable,
+    locks: &LockSlots,
     place: Place,
-    event: Event,
+    facts: &PlaceFacts,
 ) -> Option<Requirement>
-    requires event { slice_get index.now.events place ≡ Some event }
-    requires slots { AreThreadSlots index.now.events threads.now }
+    requires facts { ArePlaceFacts index.now.events place facts.now }
+    requires positions { AreTablePlaces index.now.events threads.now }
     requires locks { AreLockSlots index.now.events locks.now }
-    requires in_trace { place < length index.now.events }
     ensures { IsBegin (with_slots index.now.events threads.now locks.now) place result }
 {
-    let Op::Acquire(_lock) = event.op else {
-        return None;
-    };
-    match index.begun(place) {
+    match facts.begun {
         Some(_) => {
             let section = section_at(index, threads, place);
             let lock = locks.get(place).unwrap();
             Some(Requirement::Begin(lock, section))
         }
         None => None,
+    }
+}
+
+/// Returns `true` only if the place requires nothing but what thread order includes: it is not the
+/// first of its thread, and forks, writes or releases. `facts` are those of the place.
+#[inline(always)]
+fn is_bare(
+    _index: &TraceIndex,
+    _threads: &SlotTable,
+    _locks: &LockSlots,
+    _place: Place,
+    facts: &PlaceFacts,
+) -> bool
+    requires { ArePlaceFacts _index.now.events _place facts.now }
+    ensures { IsTrue result → IsBare (with_slots _index.now.events _threads.now _locks.now) _place }
+{
+    match facts.event.op {
+        Op::Fork(_) | Op::Write(_) | Op::Release(_) => facts.number > 0,
+        _ => false,
     }
 }
 
@@ -360,33 +402,35 @@ fn push_requirement(
     Ok(())
 }
 
-/// Appends the requirements of `place`, which is at `position`. `cache` finds redundant ones, which
-/// are left out.
+/// Appends the requirements of `place`, which is at `position`. `facts` are those of the place, and
+/// `cache` finds redundant requirements, which are left out.
 ///
 /// # Errors
 /// `NoMemory` if an allocation fails; some may have been appended.
 fn push_requirements(
     index: &TraceIndex,
     threads: &SlotTable,
-    locks: &SlotTable,
+    locks: &LockSlots,
     items: &mut Vec<Item>,
     cache: &mut ItemCache,
     place: Place,
     position: ThreadPrefix,
+    facts: &PlaceFacts,
 ) -> Result<(), NoMemory>
     requires slots { AreThreadSlots index.now.events threads.now }
+    requires positions { AreTablePlaces index.now.events threads.now }
     requires locks { AreLockSlots index.now.events locks.now }
     requires in_trace { place < length index.now.events }
+    requires facts { ArePlaceFacts index.now.events place facts.now }
     requires position { HasSlotPosition index.now.events
         (slots_of threads.now) place position.slot position.count }
     ensures { OnOk result (AddsRequirements (with_slots index.now.events threads.now locks.now)
         place items.old.items items.new.items) }
 {
-    let event = index.event(place).unwrap();
-    let start = start_of(index, place, event, position.count);
-    let first = first_need(index, place, event);
-    let last = last_need(index, place, event);
-    let begin = begin_of(index, threads, locks, place, event);
+    let start = start_of(index, place, facts);
+    let first = first_need(index, place, facts);
+    let last = last_need(index, place, facts);
+    let begin = begin_of(index, threads, locks, place, facts);
     push_reach(index, threads, items, cache, position, start)?;
     push_reach(index, threads, items, cache, position, first)?;
     push_reach(index, threads, items, cache, position, last)?;
@@ -416,46 +460,75 @@ fn no_items(alloc: Global, count: u32) -> Result<Vec<Vec<Item>>, NoMemory>
     Ok(lists)
 }
 
-/// Appends the requirements of all places to the lists of their threads, and returns for each place
-/// the prefix before it.
+/// Appends the requirements of `place` to the list of its thread.
 ///
 /// # Errors
 /// `NoMemory` if an allocation fails.
-fn fill(
-    alloc: Global,
+#[inline(never)]
+fn fill_place(
     index: &TraceIndex,
     threads: &SlotTable,
-    locks: &SlotTable,
+    locks: &LockSlots,
     lists: &mut Vec<Vec<Item>>,
-) -> Result<Arc<Vec<ThreadPrefix>, Global>, NoMemory>
+    cache: &mut ItemCache,
+    place: Place,
+) -> Result<(), NoMemory>
     requires slots { AreThreadSlots index.now.events threads.now }
+    requires positions { AreTablePlaces index.now.events threads.now }
+    requires locks { AreLockSlots index.now.events locks.now }
+    requires in_trace { place < length index.now.events }
+    requires length { length lists.old.items ≡ threads.now.count }
+    requires built { AreAllBuilt (with_slots index.now.events threads.now locks.now)
+        place lists.old.items }
+    ensures length { length lists.new.items ≡ threads.now.count }
+    ensures built { OnOk result (AreAllBuilt (with_slots index.now.events threads.now locks.now)
+        (place + 1) lists.new.items) }
+{
+    let facts = facts_at(index, place.get() as usize);
+    let position = position_of(index, threads, place);
+    push_requirements(
+        index,
+        threads,
+        locks,
+        &mut lists[position.slot as usize],
+        cache,
+        place,
+        position,
+        &facts,
+    )
+}
+
+/// Appends the requirements of all places to the lists of their threads. Most places have none.
+///
+/// # Errors
+/// `NoMemory` if an allocation fails.
+#[inline(never)]
+fn fill(
+    index: &TraceIndex,
+    threads: &SlotTable,
+    locks: &LockSlots,
+    lists: &mut Vec<Vec<Item>>,
+) -> Result<(), NoMemory>
+    requires slots { AreThreadSlots index.now.events threads.now }
+    requires positions { AreTablePlaces index.now.events threads.now }
     requires locks { AreLockSlots index.now.events locks.now }
     requires length { length lists.old.items ≡ threads.now.count }
     requires built { AreAllBuilt (with_slots index.now.events threads.now locks.now)
         0 lists.old.items }
-    ensures positions { IfOk result (λ positions.
-        AreSlotPlaces index.now.events (slots_of threads.now) (arc_value positions).items) }
     ensures length { length lists.new.items ≡ threads.now.count }
     ensures built { OnOk result (AreAllBuilt (with_slots index.now.events threads.now locks.now)
         (length index.now.events) lists.new.items) }
 {
-    let mut positions = Vec::with_capacity(alloc, index.len())?;
+    let _len = index.len(); // for the proof
     let mut cache = ItemCache::new();
     for place in 0..index.len() {
+        let facts = facts_at(index, place);
         let place = Place::new(place as u32);
-        let position = prefix_before(index, threads, place);
-        push_requirements(
-            index,
-            threads,
-            locks,
-            &mut lists[position.slot as usize],
-            &mut cache,
-            place,
-            position,
-        )?;
-        positions.push_reserved(position);
+        if !is_bare(index, threads, locks, place, &facts) {
+            fill_place(index, threads, locks, lists, &mut cache, place)?;
+        }
     }
-    Ok(Arc::new(alloc, positions)?)
+    Ok(())
 }
 
 impl Requirements {
@@ -481,11 +554,10 @@ impl Requirements {
     {
         let SlotTables { threads, locks } = slot_tables(alloc, index)?;
         let mut items = no_items(alloc, threads.count)?;
-        let positions = fill(alloc, index, &threads, &locks, &mut items)?;
+        fill(index, &threads, &locks, &mut items)?;
         Ok(Requirements {
             threads,
-            locks,
-            positions,
+            lock_count: locks.count,
             items,
         })
     }

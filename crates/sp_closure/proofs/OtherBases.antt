@@ -1,5 +1,5 @@
 -- The bases that a scratch keeps besides the present one.
-use Rattle.std.proofs.Common.{◌≡◌, ℕ, zero, suc, List, [], ◌∷◌, ◌++◌, set, Option, Some, None, inl, inr, ◌⊎◌, slice_get, sym, ap, ◌∙◌}
+use Rattle.std.proofs.Common.{◌≡◌, ℕ, zero, suc, List, [], ◌∷◌, ◌++◌, set, Option, Some, None, inl, inr, ◌⊎◌, slice_get, sym, ◌∙◌}
 use Rattle.std.proofs.lemmas.Option.{same_Some, none-some}
 use Rattle.sp_closure.specs.declared.base.Base.{Base}
 use Rattle.fronts.specs.declared.propagation.Propagation.{Propagation}

@@ -336,7 +336,7 @@ impl ClosureScratch {
     {
         let _len = index.len(); // for the proof
         let instance = Instance::new(places).unwrap();
-        let positions = Arc::try_clone(&requirements.positions)?;
+        let positions = Arc::try_clone(&requirements.threads.positions)?;
         let fronts = gathered(
             self.alloc,
             positions,
@@ -446,7 +446,7 @@ fn close_over<L: Ledger>(
         under: none,
     };
     reach_all(&context, propagation, places, steps)?;
-    let positions = Arc::try_clone(&requirements.positions)?;
+    let positions = Arc::try_clone(&requirements.threads.positions)?;
     gathered(
         alloc,
         positions,

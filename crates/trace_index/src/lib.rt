@@ -9,6 +9,7 @@
 #![tactic(auto)]
 
 mod depths;
+mod facts;
 mod growing;
 mod key_cache;
 mod key_list;
@@ -31,6 +32,7 @@ ghost use Rattle.trace_model.specs.Theory.Lookups.{writer, release};
 ghost use Rattle.trace_index.specs.Numbers.{of_thread, number_at, thread_before, acquire_before};
 ghost use Rattle.trace_index.specs.Links.{matches, written_by, begun_at_depth, taken_before};
 
+pub use facts::PlaceFacts;
 use growing::IndexParts;
 use key_list::KeyList;
 pub use key_places::KeyPlaces;

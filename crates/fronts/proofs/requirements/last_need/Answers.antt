@@ -5,5 +5,5 @@ use Rattle.fronts.proofs.requirements.last_need.Goals as goal
 
 pub returns-in-Join : goal.returns-in-Join
 returns-in-Join c =
-    let v = c.args.event in
-    last_join c.args.index.now.events c.args.place v.thread c.in-Join.child c.last_place.result (c.requires ∙ ap (λ o. Some (event v.thread o)) c.in-Join.is) c.last_place.ensures
+    let v = c.args.facts.now.event in
+    last_join c.args.index.now.events c.args._place v.thread c.in-Join.child c.last_place.result (c.requires.event ∙ ap (λ o. Some (event v.thread o)) c.in-Join.is) c.last_place.ensures

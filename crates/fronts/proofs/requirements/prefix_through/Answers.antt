@@ -10,6 +10,6 @@ overflow_add-result c =
     let s = c.args.index.now.events in
     let p = c.args.place in
     let (e, h) = at_index s p c.requires.in_trace in
-    let n = number_is s p e.thread c.prefix_before-before.result.count (e.op, h) c.prefix_before-before.ensures.number in
-    let small : c.prefix_before-before.result.count + 1 ≤ 1048576 = omega (arith, n, count_max (of_thread s e.thread) p, c.requires.in_trace, c.len-len.ensures.short) in
+    let n = number_is s p e.thread c.position_of-before.result.count (e.op, h) c.position_of-before.ensures.number in
+    let small : c.position_of-before.result.count + 1 ≤ 1048576 = omega (arith, n, count_max (of_thread s e.thread) p, c.requires.in_trace, c.len-len.ensures.short) in
     search rules

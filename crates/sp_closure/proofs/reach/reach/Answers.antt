@@ -6,7 +6,7 @@ use Rattle.std.proofs.lemmas.List.{take_more, take_all}
 use Rattle.std.proofs.lemmas.Option.{slice_get-get_or, none-some}
 use Rattle.trace_model.specs.Theory.Closure.{Places, IsClosed}
 use Rattle.dependencies.specs.Tables.{dependency_places}
-use Rattle.fronts.specs.Slots.{slots_of}
+
 use Rattle.fronts.specs.Members.{lists}
 use Rattle.fronts.specs.Context.{fronts, slots, state, items, inside, context_events}
 use Rattle.fronts.proofs.InvariantLemmas.{done_closes}
@@ -131,7 +131,7 @@ returns g c =
             known = c.requires.fixpoint.sound.slots;
             follows = c.requires.one_trace;
             numbers_known = c.requires.known;
-            closed = done_closes s (slots gr) (slots_of d.locks) d.threads.count d.locks.count (items gr) (state gr new) c.requires.fixpoint.sound.slots c.requires.fixpoint.sound.locks c.requires.fixpoint.sound.items
+            closed = done_closes s (slots gr) c.requires.fixpoint.sound.lock_slots d.threads.count d.lock_count (items gr) (state gr new) c.requires.fixpoint.sound.slots c.requires.fixpoint.sound.locks c.requires.fixpoint.sound.items
                 (IfOk-at_ok _ ok ran.consistent is) (IfOk-at_ok _ ok ran.nothing is);
             behind = IfOk-at_ok _ ok ran.carries.behind is;
             listed = same_lists c.as_mut_slice.result.now ms ran.carries.same ∙ (ap lists value ∙ (inv.listed ∙ ap (map (dependency_places table)) whole));

@@ -36,7 +36,7 @@ gathered g c =
     let front = front_of c.args.none.now c.reach_all.new.propagation.overlay in
     if_ok_three c.gathered.result (λ f. f.positions ≡ c.in_ok-positions.positions) (λ f. (a : ℕ) → a < d.threads.count → included_count f a ≡ front a)
     (λ f. (p : ℕ) → Contains c.args.places.now p → p ≤ f.end) (AreGathered s d.threads front) (λ (fronts : Fronts). λ is same most.
-    let kept : (arc_value fronts.positions).items ≡ (arc_value d.positions).items =
+    let kept : (arc_value fronts.positions).items ≡ (arc_value d.threads.positions).items =
     (λ i. (arc_value (is i)).items) ∙ (λ i. (c.in_ok-positions.ensures i).items) in
     let are = subst (AreSlotPlaces s (slots_of d.threads)) (sym kept) c.requires.requirements.positions in
     all_gathered s c.args.places.now d.threads front fronts c.len-len.ensures.well_formed c.requires.requirements.slots are same most
@@ -47,7 +47,7 @@ pub returns : goal.returns
 returns g c =
     let s = c.args.index.now.events in
     let k = c.args.requirements.now.threads.count in
-    let l = c.args.requirements.now.locks.count in
+    let l = c.args.requirements.now.lock_count in
     let none = c.args.none.now in
     let empty = c.args.propagation.now.overlay in
     let nothing = sum_none (front_of none empty) k (front_none k l k l none empty c.requires.none c.requires.empty) in

@@ -3,7 +3,7 @@ use Rattle.std.proofs.lemmas.Option.{same_Some}
 use Rattle.std.proofs.lemmas.Result.{IfOk-weaker}
 use Rattle.fronts.specs.declared.propagation.Propagation.{Propagation}
 use Rattle.fronts.specs.EpochArrays.{size}
-use Rattle.fronts.specs.Slots.{slots_of, HoldsPlaces}
+use Rattle.fronts.specs.Slots.{HoldsPlaces}
 use Rattle.fronts.specs.Requirements.{item}
 use Rattle.fronts.specs.Context.{Any, HoldsEnd, fronts, slots, state, items, processed_count, context_events}
 use Rattle.fronts.proofs.RaiseLemmas.{front_in, last_in}
@@ -78,7 +78,7 @@ returns-in-Reach-clause-carries g c =
     let known = c.requires.ready.sound in
     let at = c.requires.next ∙ ap (λ n. Some (item c.args.item.number n)) c.in-Reach.is in
     carries_from gr (HoldsPlaces (context_events gr) (slots gr) c.in-Reach.prefix) Any old (record { overlay = c.count_met.new.self; pending = old.pending }) c.args.members.now c.args.steps.now _ _ c.count_met.ensures.fronts
-    (λ set b any. reach_holds gr.index.now.events (slots gr) (slots_of gr.requirements.now.locks) gr.requirements.now.threads.count (items gr) c.args.slot (processed_count gr old c.args.slot)
+    (λ set b any. reach_holds gr.index.now.events (slots gr) known.lock_slots gr.requirements.now.threads.count (items gr) c.args.slot (processed_count gr old c.args.slot)
     c.args.item.number c.in-Reach.prefix set (fronts gr old) known.slots known.items at c.requires.number b.ahead.closed b.holds) c.include.ensures.carries
 
 pub returns-in-Begin-clause-meets : goal.returns-in-Begin-clause-meets
@@ -110,18 +110,18 @@ returns-in-Begin-clause-carries g c =
     let known = c.requires.ready.sound in
     let l = c.in-Begin.lock in
     let e = c.in-Begin.section in
-    let locks = slots_of gr.requirements.now.locks in
+    let locks = known.lock_slots in
     let passed : Propagation = record { overlay = c.count_met.new.self; pending = old.pending } in
     let at = c.requires.next ∙ ap (λ n. Some (item c.args.item.number n)) c.in-Begin.is in
     carries_from gr (HoldsEnd gr passed l e) Any old passed c.args.members.now c.args.steps.now _ _ c.count_met.ensures.fronts (λ set b any. record {
       of_last = λ d h before.
           let was = ap (λ epoch_array. last_in gr.under.now epoch_array l) (sym c.count_met.ensures.last) ∙ h in
           let (a, j, n, less, at_d) = c.requires.consistent.lasts l d was in
-          sections_hold s (slots gr) locks gr.requirements.now.threads.count gr.requirements.now.locks.count (items gr) a c.args.slot j (processed_count gr old c.args.slot) n c.args.item.number l d e set (fronts gr old)
+          sections_hold s (slots gr) locks gr.requirements.now.threads.count gr.requirements.now.lock_count (items gr) a c.args.slot j (processed_count gr old c.args.slot) n c.args.item.number l d e set (fronts gr old)
           known.slots known.locks known.items at_d at (c.requires.consistent.inside a j _ at_d less) c.requires.number before b.ahead.closed b.holds;
       of_new = λ d h before.
           let was = ap (λ epoch_array. last_in gr.under.now epoch_array l) (sym c.count_met.ensures.last) ∙ h in
           let (a, j, n, less, at_d) = c.requires.consistent.lasts l d was in
-          sections_hold s (slots gr) locks gr.requirements.now.threads.count gr.requirements.now.locks.count (items gr) c.args.slot a (processed_count gr old c.args.slot) j c.args.item.number n l e d set (fronts gr old)
+          sections_hold s (slots gr) locks gr.requirements.now.threads.count gr.requirements.now.lock_count (items gr) c.args.slot a (processed_count gr old c.args.slot) j c.args.item.number n l e d set (fronts gr old)
           known.slots known.locks known.items at at_d c.requires.number (c.requires.consistent.inside a j _ at_d less) before b.ahead.closed b.holds;
     }) (rw c.in-Begin.is at c.begin.ensures.carries)

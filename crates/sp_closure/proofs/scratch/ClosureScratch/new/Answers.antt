@@ -8,7 +8,7 @@ pub returns-clause-scratch : goal.returns-clause-scratch
 returns-clause-scratch c = λ s are.
     let d = c.args.requirements.now in
     let k = d.threads.count in
-    let l = d.locks.count in
+    let l = d.lock_count in
     let none = c.in_ok-none.ensures in
     let base = c.in_ok-base.ensures.overlay in
     let upper = c.in_ok-upper.ensures.overlay in

@@ -24,7 +24,7 @@ returns-clause-scratch c =
     let old = c.requires.scratch in
     let d = c.args.requirements.now in
     let k = d.threads.count in
-    let l = d.locks.count in
+    let l = d.lock_count in
     let none = c.args.self.now.none in
     let empty = c.in_ok-propagation.ensures.overlay in
     record {
